@@ -1,0 +1,139 @@
+-- What a litmus test says, as lists and trees: the whole language, of which the reader makes a part so far.
+-- The accesses are those of ECMA-262 (2024), clause 25; the text around them is this project's own.
+use Rattle.std.specs.Prelude.{◌≡◌, ◌≢◌, ℕ, ◌+◌, ◌/◌, ◌^◌, ◌<◌, ◌≤◌, ◌==◌, Bool, true, false, IsTrue, ◌||◌, List, [], length, slice_index_or}
+use Rattle.lit_read.specs.declared.limits.TheConstants.{BLOCK_LIMIT, AGENT_LIMIT, REGISTERS, COMPARED_LIMIT}
+
+-- how an access sees the block: as an element of a typed array, or by a DataView call
+pub data Window : Type 0 where
+  Uint8 : Window
+  Uint16 : Window
+  Uint32 : Window
+  DataView8 : Window
+  DataView16 : Window
+  DataView32 : Window
+
+-- A statement. Registers are numbered from 0. An index counts elements, or bytes in a DataView call.
+mutual
+  pub data Statement : Type 0 where
+    Load : (reg : ℕ) → (window : Window) → (index : ℕ) → (atomic : Bool) → Statement
+    Store : (window : Window) → (index value : ℕ) → (atomic : Bool) → Statement
+    Exchange : (reg : ℕ) → (window : Window) → (index value : ℕ) → Statement
+    CompareExchange : (reg : ℕ) → (window : Window) → (index expected value : ℕ) → Statement
+    If : (reg : ℕ) → (equal : Bool) → (value : ℕ) → (body other : Statements) → Statement
+
+  -- statements, one after the other
+  pub data Statements : Type 0 where
+    End : Statements
+    Then : Statement → Statements → Statements
+
+-- A condition on the registers at the end. Agents are numbered from 0.
+mutual
+  pub data Condition : Type 0 where
+    Any : Conditions → Condition
+    All : Conditions → Condition
+    Not : Condition → Condition
+    Is : (agent reg : ℕ) → (equal : Bool) → (value : ℕ) → Condition
+
+  -- the members of an Any or an All
+  pub data Conditions : Type 0 where
+    NoMore : Conditions
+    Also : Condition → Conditions → Conditions
+
+pub record Agent : Type 0 where
+  pub name : List ℕ
+  pub body : Statements
+
+-- a test
+pub record Litmus : Type 0 where
+  pub name : List ℕ
+  pub bytes : ℕ
+  pub agents : List Agent
+  pub check : Condition
+
+-- the agent with a number; past the last one, an agent with no name and no statement
+abbrev pub agent_of : Litmus → ℕ → Agent
+agent_of t i = slice_index_or t.agents i (record { name = []; body = End })
+
+-- how many bytes an access has
+abbrev pub window_size : Window → ℕ
+window_size Uint8 = 1
+window_size Uint16 = 2
+window_size Uint32 = 4
+window_size DataView8 = 1
+window_size DataView16 = 2
+window_size DataView32 = 4
+
+-- whether it is a DataView call
+abbrev pub is_data_view : Window → Bool
+is_data_view Uint8 = false
+is_data_view Uint16 = false
+is_data_view Uint32 = false
+is_data_view DataView8 = true
+is_data_view DataView16 = true
+is_data_view DataView32 = true
+
+-- The whole access lies in a block of so many bytes. A typed array has as many elements as fit.
+abbrev pub IsInBlock : ℕ → Window → ℕ → Type 0
+IsInBlock bytes Uint8 index = index < bytes
+IsInBlock bytes Uint16 index = index < bytes / 2
+IsInBlock bytes Uint32 index = index < bytes / 4
+IsInBlock bytes DataView8 index = index + 1 ≤ bytes
+IsInBlock bytes DataView16 index = index + 2 ≤ bytes
+IsInBlock bytes DataView32 index = index + 4 ≤ bytes
+
+-- a number that the access can write
+abbrev pub FitsWindow : Window → ℕ → Type 0
+FitsWindow window value = value < 256 ^ window_size window
+
+-- what a text can say in an agent, over a block of so many bytes
+abbrev mutual
+  pub IsStatementIn : ℕ → Statement → Type 0
+  IsStatementIn bytes (Load reg window index atomic) = (reg < REGISTERS) × IsInBlock bytes window index × (IsTrue atomic → is_data_view window ≡ false)
+  IsStatementIn bytes (Store window index value atomic) = IsInBlock bytes window index × FitsWindow window value × (IsTrue atomic → is_data_view window ≡ false)
+  IsStatementIn bytes (Exchange reg window index value) = (reg < REGISTERS) × IsInBlock bytes window index × FitsWindow window value × (is_data_view window ≡ false)
+  IsStatementIn bytes (CompareExchange reg window index expected value) = (reg < REGISTERS) × IsInBlock bytes window index × FitsWindow window expected × FitsWindow window value × (is_data_view window ≡ false)
+  IsStatementIn bytes (If reg equal value body other) = (reg < REGISTERS) × (value ≤ COMPARED_LIMIT) × AreStatementsIn bytes body × AreStatementsIn bytes other
+
+  pub AreStatementsIn : ℕ → Statements → Type 0
+  AreStatementsIn bytes End = Unit {0}
+  AreStatementsIn bytes (Then s ss) = IsStatementIn bytes s × AreStatementsIn bytes ss
+
+-- whether a register is written anywhere in a text
+abbrev mutual
+  pub statement_writes : Statement → ℕ → Bool
+  statement_writes (Load r window index atomic) reg = r == reg
+  statement_writes (Store window index value atomic) reg = false
+  statement_writes (Exchange r window index value) reg = r == reg
+  statement_writes (CompareExchange r window index expected value) reg = r == reg
+  statement_writes (If r equal value body other) reg = writes body reg || writes other reg
+
+  pub writes : Statements → ℕ → Bool
+  writes End reg = false
+  writes (Then s ss) reg = statement_writes s reg || writes ss reg
+
+abbrev pub condition_count : Conditions → ℕ
+condition_count NoMore = 0
+condition_count (Also c cs) = condition_count cs + 1
+
+-- what a text can ask of the registers of these agents; an Any or an All has two members at least
+abbrev mutual
+  pub IsConditionOn : Litmus → Condition → Type 0
+  IsConditionOn t (Any cs) = (2 ≤ condition_count cs) × AreConditionsOn t cs
+  IsConditionOn t (All cs) = (2 ≤ condition_count cs) × AreConditionsOn t cs
+  IsConditionOn t (Not c) = IsConditionOn t c
+  IsConditionOn t (Is agent reg equal value) = (agent < length t.agents) × (reg < REGISTERS) × IsTrue (writes (agent_of t agent).body reg) × (value ≤ COMPARED_LIMIT)
+
+  pub AreConditionsOn : Litmus → Conditions → Type 0
+  AreConditionsOn t NoMore = Unit {0}
+  AreConditionsOn t (Also c cs) = IsConditionOn t c × AreConditionsOn t cs
+
+-- What a text can say: the limits, distinct names of agents, accesses in the block, literals in range, a check on
+-- registers that are written.
+pub record IsLitmus (t : Litmus) : Type 0 where
+  pub some_byte : 1 ≤ t.bytes
+  pub block : t.bytes ≤ BLOCK_LIMIT
+  pub some_agent : 1 ≤ length t.agents
+  pub few_agents : length t.agents ≤ AGENT_LIMIT
+  pub distinct : (i j : ℕ) → i < j → j < length t.agents → (agent_of t i).name ≢ (agent_of t j).name
+  pub bodies : (i : ℕ) → i < length t.agents → AreStatementsIn t.bytes (agent_of t i).body
+  pub check : IsConditionOn t t.check

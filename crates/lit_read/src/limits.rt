@@ -1,0 +1,22 @@
+//! What a text may have at the most.
+
+/// Bytes of a text.
+pub const TEXT_LIMIT: usize = 65_536;
+
+/// Bytes of a word, so of a name.
+pub const WORD_LIMIT: usize = 32;
+
+/// Digits of a number.
+pub const DIGIT_LIMIT: usize = 10;
+
+/// Bytes of the block.
+pub const BLOCK_LIMIT: usize = 16;
+
+/// Agents of a test.
+pub const AGENT_LIMIT: usize = 4;
+
+/// Registers of an agent: `r0` up to `r7`.
+pub const REGISTERS: usize = 8;
+
+/// The greatest number that a condition may compare with.
+pub const COMPARED_LIMIT: u64 = 4_294_967_295;

@@ -1,0 +1,94 @@
+//! A litmus test.
+
+ghost use Rattle.std.specs.Prelude.{◌≡◌, ◌<◌, length};
+ghost use Rattle.lit_read.specs.Syntax.{agent_of, IsLitmus};
+ghost use Rattle.lit_read.specs.Litmus.{statements_of, condition_of};
+
+use crate::syntax::{Cond, Stmt};
+use indexmap::IndexMap;
+use std::marker::Model;
+
+/// A litmus test: only what a text can say. A clause sees it as a `Litmus`.
+#[derive(Drop)]
+pub struct Test {
+    name: String,
+    bytes: u8,
+    agents: IndexMap<String, Vec<Stmt>>,
+    check: Cond,
+}
+
+impl Model for Test {
+    ghost use Rattle.lit_read.specs.Syntax.{Litmus};
+    ghost use Rattle.lit_read.specs.SyntaxCodes.{coded_litmus};
+
+    ghost Value = { Litmus };
+
+    ghost coded = { coded_litmus };
+
+    ghost use Rattle.lit_read.specs.Syntax.{IsLitmus};
+    ghost use Rattle.lit_read.specs.Litmus.{litmus_of};
+
+    ghost view = { litmus_of };
+
+    ghost invariant = { λ t. IsLitmus (litmus_of t) };
+}
+
+impl Test {
+    ghost use Rattle.std.specs.Prelude.{◌≡◌, ◌<◌, length};
+    ghost use Rattle.lit_read.specs.Syntax.{agent_of, IsLitmus};
+    ghost use Rattle.lit_read.specs.Litmus.{statements_of, condition_of};
+
+    /// The name in the text's `test` line.
+    pub fn name(&self) -> &str
+        ensures { result.now ≡ self.now.name }
+    {
+        self.name.as_str()
+    }
+
+    /// How many bytes the block has: 1 to 16.
+    pub fn bytes(&self) -> u8
+        ensures value { result ≡ self.now.bytes }
+        ensures litmus { IsLitmus self.now }
+    {
+        self.bytes
+    }
+
+    /// How many agents there are: 1 to 4.
+    pub fn agents(&self) -> usize
+        ensures value { result ≡ length self.now.agents }
+        ensures litmus { IsLitmus self.now }
+    {
+        self.agents.len()
+    }
+
+    /// The name of an agent, by its number from 0 in the order of the text.
+    pub fn agent_name(&self, agent: usize) -> &str
+        requires { agent < length self.now.agents }
+        ensures { result.now ≡ (agent_of self.now agent).name }
+    {
+        let Some((name, _)) = self.agents.get_index(agent) else {
+            unreachable!()
+        };
+        name.as_str()
+    }
+
+    /// The statements of an agent, by its number.
+    pub fn body(&self, agent: usize) -> &[Stmt]
+        requires { agent < length self.now.agents }
+        ensures value { statements_of result.now ≡ (agent_of self.now agent).body }
+        ensures litmus { IsLitmus self.now }
+    {
+        let Some((_, body)) = self.agents.get_index(agent) else {
+            unreachable!()
+        };
+        body.as_slice()
+    }
+
+    /// The condition in the text's `check` line.
+    pub fn check(&self) -> &Cond
+        ensures value { condition_of result.now ≡ self.now.check }
+        ensures litmus { IsLitmus self.now }
+    {
+        &self.check
+    }
+}
