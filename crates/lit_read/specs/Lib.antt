@@ -1,3 +1,13 @@
 pub mod Syntax
 pub mod SyntaxCodes
 pub mod Litmus
+pub mod Lines
+pub mod Tokens
+pub mod Forms
+pub mod Faults
+pub mod Spelling
+pub mod FirstToken
+pub mod FormOfTokens
+pub mod State
+pub mod Views
+pub mod LineSteps

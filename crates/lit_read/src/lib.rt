@@ -1,9 +1,33 @@
 //! Reads a litmus text: the test that it spells, or its first fault.
+//!
+//! `read` ensures that an `Ok` test is the one that the text spells, and that an `Err` is its first fault or want of
+//! memory. The definitions stand in specs/: `Lines`, `Tokens`, `Forms`, `Faults` and `Spelling`, and in `Syntax` what a
+//! test is. `FirstToken`, `FormOfTokens`, `State`, `LineSteps` and `Views` serve private contracts alone.
 #![tactic(auto)]
 
+mod checking;
+mod cursor;
+mod draft;
+mod fault;
+mod forms;
+mod laws;
 mod limits;
+mod lines;
 mod litmus;
+mod reading;
+mod symbols;
 mod syntax;
+mod tokens;
 
+pub use fault::{ReadFault, ReadKind};
+pub use laws::{
+    cuts_one_way, each_text_is_told, has_one_first_fault, has_one_form, lines_are_joined,
+    spells_one_test, spells_or_is_faulty,
+};
+pub use limits::{AGENT_LIMIT, REGISTERS, TEXT_LIMIT};
 pub use litmus::Test;
+pub use reading::read;
 pub use syntax::{Cond, Stmt, View};
+
+#[cfg(test)]
+mod tests;

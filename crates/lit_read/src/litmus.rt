@@ -11,10 +11,10 @@ use std::marker::Model;
 /// A litmus test: only what a text can say. A clause sees it as a `Litmus`.
 #[derive(Drop)]
 pub struct Test {
-    name: String,
-    bytes: u8,
-    agents: IndexMap<String, Vec<Stmt>>,
-    check: Cond,
+    pub(crate) name: String,
+    pub(crate) bytes: u8,
+    pub(crate) agents: IndexMap<String, Vec<Stmt>>,
+    pub(crate) check: Cond,
 }
 
 impl Model for Test {

@@ -1,0 +1,134 @@
+-- The draft's parts, and what they stand for.
+use Rattle.std.proofs.Common.{◌≡◌, ℕ, ◌+◌, Bool, true, false, cond, ◌||◌, List, [], ◌∷◌, ◌++◌, Some, None, refl, ap, sym, ◌∙◌, arith, is_some, not, ltb, length, ◌≢◌}
+use Rattle.std.specs.Prelude.{String, string_bytes}
+use Rattle.std.specs.Global.{Vec, Global}
+use Rattle.std.specs.List.{list_any, prefix_len, position, AllByRecursion}
+use Rattle.std.proofs.lemmas.Slice.Eq.{bytes_eq-Decides}
+use Rattle.std.specs.String.{string_eq}
+use Rattle.indexmap.specs.IndexMap.{insert_entry}
+use Rattle.std.specs.Map.{lookup, keys_of}
+use Rattle.std.specs.Str.{bytes_eq}
+use Rattle.lit_read.specs.declared.syntax.Stmt.{Stmt}
+use Rattle.lit_read.specs.Syntax.{Agent, Statements, End, Then, Is, writes, statement_writes}
+use Rattle.lit_read.specs.Litmus.{statement_of, statements_of}
+use Rattle.lit_read.specs.State.{followed_by, with_agent, AreDistinct}
+use Rattle.lit_read.specs.Faults.{body_named, is_known}
+use Rattle.lit_read.specs.Forms.{Comparison}
+use Rattle.lit_read.specs.Spelling.{place_of, IsAgent, numbered}
+use Rattle.lit_read.specs.Views.{agent_view, agents_view}
+
+pub statements_pushed : (body : List Stmt) (s : Stmt) → statements_of (body ++ s ∷ []) ≡ followed_by (statements_of body) (statement_of s)
+statements_pushed [] s = refl
+statements_pushed (t ∷ ts) s = ap (λ (ss : Statements). Then (statement_of t) ss) (statements_pushed ts s)
+
+pub any_writes : (body : List Stmt) (reg : ℕ) → list_any (λ s. statement_writes (statement_of s) reg) body ≡ writes (statements_of body) reg
+any_writes [] reg = refl
+any_writes (s ∷ ss) reg = ap (λ (b : Bool). statement_writes (statement_of s) reg || b) (any_writes ss reg)
+
+pub any_pushed : {A : Type 0} (p : A → Bool) (xs : List A) (x : A) → list_any p (xs ++ x ∷ []) ≡ (list_any p xs || p x)
+any_pushed p [] x = elim (p x) as (λ b. (b || false) ≡ (false || b)) [ true ↦ refl | false ↦ refl ]
+any_pushed p (y ∷ ys) x = elim (p y) as (λ b. (b || list_any p (ys ++ x ∷ [])) ≡ ((b || list_any p ys) || p x)) [ true ↦ refl | false ↦ any_pushed p ys x ]
+
+pub contains_any : (name : List ℕ) (entries : List (String Global × Vec Stmt)) → is_some (lookup (λ k. bytes_eq name (string_bytes k)) entries) ≡ list_any (λ a. bytes_eq name a.name) (agents_view entries)
+contains_any name [] = refl
+contains_any name (e ∷ es) =
+    elim (bytes_eq name (string_bytes e.0)) as (λ b. is_some (cond b (Some e.1) (lookup (λ k. bytes_eq name (string_bytes k)) es)) ≡ (b || list_any (λ a. bytes_eq name a.name) (agents_view es)))
+    [ true ↦ refl | false ↦ contains_any name es ]
+
+pub taken_before : (name : List ℕ) (entries : List (String Global × Vec Stmt)) (agent : List ℕ) (body : Statements) (b : Bool)
+    → b ≡ is_some (lookup (λ k. bytes_eq name (string_bytes k)) entries) → b ≡ true → b ≡ list_any (λ a. bytes_eq name a.name) (with_agent (agents_view entries) agent body)
+taken_before name entries agent body b is found =
+    let e : list_any (λ a. bytes_eq name a.name) (agents_view entries) ≡ true = sym (contains_any name entries) ∙ sym is ∙ found in
+    found ∙ sym (any_pushed (λ a. bytes_eq name a.name) (agents_view entries) (record { name = agent; body = body }) ∙ ap (λ (x : Bool). x || bytes_eq name agent) e)
+
+pub taken_here : (name : List ℕ) (entries : List (String Global × Vec Stmt)) (agent : List ℕ) (body : Statements) (b c : Bool)
+    → b ≡ is_some (lookup (λ k. bytes_eq name (string_bytes k)) entries) → b ≡ false → c ≡ bytes_eq name agent → c ≡ list_any (λ a. bytes_eq name a.name) (with_agent (agents_view entries) agent body)
+taken_here name entries agent body b c is absent here =
+    let e : list_any (λ a. bytes_eq name a.name) (agents_view entries) ≡ false = sym (contains_any name entries) ∙ sym is ∙ absent in
+    here ∙ sym (any_pushed (λ a. bytes_eq name a.name) (agents_view entries) (record { name = agent; body = body }) ∙ ap (λ (x : Bool). x || bytes_eq name agent) e)
+
+-- a new agent goes behind the others
+pub new_last : (entries : List (String Global × Vec Stmt)) (agent : String Global) (body : Vec Stmt) → list_any (λ a. bytes_eq (string_bytes agent) a.name) (agents_view entries) ≡ false
+    → agents_view (insert_entry string_eq entries agent body) ≡ with_agent (agents_view entries) (string_bytes agent) (statements_of body.items)
+new_last [] agent body h = refl
+new_last (e ∷ es) agent body h = by (bytes_eq (string_bytes agent) (string_bytes e.0)) h (new_last es agent body)
+  where
+    by : (b : Bool) → (b || list_any (λ a. bytes_eq (string_bytes agent) a.name) (agents_view es)) ≡ false
+        → (list_any (λ a. bytes_eq (string_bytes agent) a.name) (agents_view es) ≡ false → agents_view (insert_entry string_eq es agent body) ≡ with_agent (agents_view es) (string_bytes agent) (statements_of body.items))
+        → agents_view (cond b ((e.0, body) ∷ es) (e ∷ insert_entry string_eq es agent body)) ≡ with_agent (agents_view (e ∷ es)) (string_bytes agent) (statements_of body.items)
+    by true g others = absurd cc
+    by false g others = ap (λ (l : List Agent). agent_view (string_bytes e.0) e.1.items ∷ l) (others g)
+
+place_counts : (name : List ℕ) (entries : List (String Global × Vec Stmt)) → place_of name (agents_view entries) ≡ prefix_len (λ k. not (bytes_eq name (string_bytes k))) (keys_of entries)
+place_counts name [] = refl
+place_counts name (e ∷ es) =
+    elim (bytes_eq name (string_bytes e.0)) as (λ b. cond b 0 (place_of name (agents_view es) + 1) ≡ cond (not b) (1 + prefix_len (λ k. not (bytes_eq name (string_bytes k))) (keys_of es)) 0)
+    [ true ↦ refl | false ↦ omega (arith, place_counts name es) ]
+
+position_counts : {A : Type 0} (p : A → Bool) (xs : List A) (i : ℕ) → position p xs ≡ Some i → i ≡ prefix_len (λ x. not (p x)) xs
+position_counts p xs i = by (ltb (prefix_len (λ x. not (p x)) xs) (length xs)) (prefix_len (λ x. not (p x)) xs)
+  where
+    by : (b : Bool) (n : ℕ) → cond b (Some n) None ≡ Some i → i ≡ n
+    by true n h = cc
+    by false n h = absurd cc
+
+pub place_is : (name : List ℕ) (entries : List (String Global × Vec Stmt)) (i : ℕ) → position (λ k. bytes_eq name (string_bytes k)) (keys_of entries) ≡ Some i → i ≡ place_of name (agents_view entries)
+place_is name entries i h = position_counts (λ k. bytes_eq name (string_bytes k)) (keys_of entries) i h ∙ sym (place_counts name entries)
+
+pub body_is : (name : List ℕ) (entries : List (String Global × Vec Stmt)) (body : Vec Stmt) → lookup (λ k. bytes_eq name (string_bytes k)) entries ≡ Some body → statements_of body.items ≡ body_named name (agents_view entries)
+body_is name [] body h = absurd cc
+body_is name (e ∷ es) body h = by (bytes_eq name (string_bytes e.0)) h (body_is name es body)
+  where
+    by : (b : Bool) → cond b (Some e.1) (lookup (λ k. bytes_eq name (string_bytes k)) es) ≡ Some body
+        → (lookup (λ k. bytes_eq name (string_bytes k)) es ≡ Some body → statements_of body.items ≡ body_named name (agents_view es)) → statements_of body.items ≡ cond b (statements_of e.1.items) (body_named name (agents_view es))
+    by true g others = let same : body ≡ e.1 = cc in ap (λ (v : Vec Stmt). statements_of v.items) same
+    by false g others = others g
+
+pub body_absent : (name : List ℕ) (entries : List (String Global × Vec Stmt)) → is_some (lookup (λ k. bytes_eq name (string_bytes k)) entries) ≡ false → body_named name (agents_view entries) ≡ End
+body_absent name [] h = refl
+body_absent name (e ∷ es) h = by (bytes_eq name (string_bytes e.0)) h (body_absent name es)
+  where
+    by : (b : Bool) → is_some (cond b (Some e.1) (lookup (λ k. bytes_eq name (string_bytes k)) es)) ≡ false
+        → (is_some (lookup (λ k. bytes_eq name (string_bytes k)) es) ≡ false → body_named name (agents_view es) ≡ End) → cond b (statements_of e.1.items) (body_named name (agents_view es)) ≡ End
+    by true g others = absurd cc
+    by false g others = others g
+
+-- ---- comparisons
+
+pub known_is : (agents : List Agent) (c : Comparison) (place : ℕ) (body : List Stmt) (w : Bool) → IsAgent agents c.agent place (statements_of body)
+    → w ≡ list_any (λ s. statement_writes (statement_of s) c.reg) body → w ≡ true
+    → Some (Is place c.reg c.equal c.value) ≡ cond (is_known agents c) (Some (numbered agents c)) None
+known_is agents c place body w found is writing =
+    let e : is_known agents c ≡ true = ap (λ (b : Statements). writes b c.reg) (sym found.1) ∙ sym (any_writes body c.reg) ∙ sym is ∙ writing in
+    rw e (ap (λ (p : ℕ). Some (Is p c.reg c.equal c.value)) found.0)
+
+pub unknown_is : (agents : List Agent) (c : Comparison) (place : ℕ) (body : List Stmt) (w : Bool) → IsAgent agents c.agent place (statements_of body)
+    → w ≡ list_any (λ s. statement_writes (statement_of s) c.reg) body → w ≡ false
+    → None ≡ cond (is_known agents c) (Some (numbered agents c)) None
+unknown_is agents c place body w found is writing =
+    let e : is_known agents c ≡ false = ap (λ (b : Statements). writes b c.reg) (sym found.1) ∙ sym (any_writes body c.reg) ∙ sym is ∙ writing in
+    rw e refl
+
+pub absent_is : (agents : List Agent) (c : Comparison) → body_named c.agent agents ≡ End → None ≡ cond (is_known agents c) (Some (numbered agents c)) None
+absent_is agents c absent =
+    let e : is_known agents c ≡ false = ap (λ (b : Statements). writes b c.reg) absent in
+    rw e refl
+
+-- ---- agents with different names
+
+last_holds : (P : Agent → Type 0) (agents : List Agent) (a : Agent) → AllByRecursion P (agents ++ a ∷ []) → P a
+last_holds P [] a h = h.0
+last_holds P (b ∷ bs) a h = last_holds P bs a h.1
+
+bytes_differ : (xs ys : List ℕ) → ys ≢ xs → bytes_eq xs ys ≡ false
+bytes_differ xs ys ne = by (bytes_eq xs ys) refl
+  where
+    by : (b : Bool) → bytes_eq xs ys ≡ b → b ≡ false
+    by true e = absurd (ne (sym ((bytes_eq-Decides xs ys).0 e)))
+    by false e = refl
+
+pub last_is_new : (agents : List Agent) (agent : List ℕ) (body : Statements) → AreDistinct (with_agent agents agent body) → list_any (λ a. bytes_eq agent a.name) agents ≡ false
+last_is_new [] agent body h = refl
+last_is_new (a ∷ others) agent body h =
+    let differs : bytes_eq agent a.name ≡ false = bytes_differ agent a.name (last_holds (λ b. a.name ≢ b.name) others (record { name = agent; body = body }) h.0) in
+    rw differs (last_is_new others agent body h.1)

@@ -1,0 +1,226 @@
+-- Each text spells one test or has a first fault, and neither two.
+use Rattle.std.proofs.Common.{◌≡◌, ◌≢◌, ℕ, zero, suc, ◌+◌, ◌<◌, ◌≤◌, Bool, true, false, cond, not, eqb, List, [], ◌∷◌, ◌++◌, length, take, drop, ◌⊎◌, inl, inr, refl, sym, ap, subst, ◌∙◌, Option, Some, None, Result, Ok, Err, arith, append_assoc}
+use Rattle.std.specs.Prelude.{codes}
+use Rattle.std.specs.List.{list_all, prefix_len, flat_map}
+use Rattle.std.proofs.lemmas.Bool.{cases_lt}
+use Rattle.std.proofs.lemmas.List.{length-append, length-drop}
+use Rattle.lit_read.specs.declared.fault.ReadKind.{ReadKind}
+use Rattle.lit_read.specs.declared.fault.ReadKind.TheVariants.{TooLong, NotAscii, Syntax, Misplaced, BlockSize, TooManyAgents, DuplicateAgent, LiteralRange, OutOfBlock, UnknownName, MissingPart, OutOfMemory}
+use Rattle.lit_read.specs.declared.symbols.Symbol.TheVariants.{And}
+use Rattle.lit_read.specs.declared.limits.TheConstants.{TEXT_LIMIT}
+use Rattle.lit_read.specs.Syntax.{Agent, Condition, Litmus, Statements, End, Then}
+use Rattle.lit_read.specs.Lines.{lines_of}
+use Rattle.lit_read.specs.Tokens.{Token, Sign, CutsInto, is_comment}
+use Rattle.lit_read.specs.Forms.{Comparison, Form, TestLine, BytesLine, CheckLine, IsSpelling, SpellsCondition, comparison_tokens, without_blanks}
+use Rattle.lit_read.specs.FirstToken.{token_front, after_blanks}
+use Rattle.lit_read.specs.FormOfTokens.{after_sign, after_word, comparison_of, plain_form}
+use Rattle.lit_read.specs.Faults.{number_of, is_allowed, agents_of, HasFault, IsFirstFault}
+use Rattle.lit_read.specs.Spelling.{statement_lines, agent_lines, condition_from, forms_of, Spells}
+use Rattle.lit_read.specs.State.{State, Empty, Named, Sized, Open, Whole, step}
+use Rattle.lit_read.specs.LineSteps.{IsLine, IsNoLine}
+use Rattle.lit_read.proofs.LineLemmas.{behind, lines_split}
+use Rattle.lit_read.proofs.Cuttings.{Cutting, cutting_begins, cutting_goes_on, cutting_ends, cutting_fails, cut_shorter}
+use Rattle.lit_read.proofs.FormLemmas.{comparison_is, sign_is, plain_form_is}
+use Rattle.lit_read.proofs.ConditionLemmas.{Pending, pending_begins, pending_goes_on, pending_ends, pending_stuck, pending_cut, no_check, check_found, check_absent, form_absent}
+use Rattle.lit_read.proofs.DraftForms.{agents_back}
+use Rattle.lit_read.proofs.StepFaults.{Outcome, outcome}
+use Rattle.lit_read.proofs.ReadLemmas.{forms_once, no_form, no_cut}
+use Rattle.lit_read.proofs.Progress.{Progress, progress_begins, progress_goes_on, progress_fails, progress_spells, progress_ends, too_long, faulty_kind}
+
+-- ---- one test
+
+tail_is : (x y : Form) (xs ys : List Form) → x ∷ xs ≡ y ∷ ys → xs ≡ ys
+tail_is x y xs ys e = cc
+
+test_name : (a b : List ℕ) (xs ys : List Form) → TestLine a ∷ xs ≡ TestLine b ∷ ys → a ≡ b
+test_name a b xs ys e = cc
+
+block_size : (a b : ℕ) (xs ys : List Form) → BytesLine a ∷ xs ≡ BytesLine b ∷ ys → a ≡ b
+block_size a b xs ys e = cc
+
+-- the comparisons of the check line at the end
+abbrev checked_of : List Form → List Comparison
+checked_of [] = []
+checked_of (CheckLine cs ∷ fs) = cs
+checked_of (f ∷ fs) = checked_of fs
+
+checked_statements : (body : Statements) (rest : List Form) → checked_of (statement_lines body ++ rest) ≡ checked_of rest
+checked_statements End rest = refl
+checked_statements (Then s ss) rest = checked_statements ss rest
+
+checked_back : (agents : List Agent) (cs : List Comparison) → checked_of (flat_map agent_lines agents ++ CheckLine cs ∷ []) ≡ cs
+checked_back [] cs = refl
+checked_back (a ∷ others) cs =
+    ap checked_of (append_assoc (agent_lines a) (flat_map agent_lines others) (CheckLine cs ∷ [])) ∙ checked_statements a.body (flat_map agent_lines others ++ CheckLine cs ∷ []) ∙ checked_back others cs
+
+abbrev litmus : List ℕ → ℕ → List Agent → Condition → Litmus
+litmus name bytes agents check = record { name = name; bytes = bytes; agents = agents; check = check }
+
+same_forms : (t u : Litmus) (cs ds : List Comparison) → forms_of t cs ≡ forms_of u ds → t.check ≡ condition_from t.agents cs → u.check ≡ condition_from u.agents ds → t ≡ u
+same_forms t u cs ds e t_check u_check =
+    let name : t.name ≡ u.name = test_name _ _ _ _ e in
+    let rest = tail_is _ _ _ _ e in
+    let bytes : t.bytes ≡ u.bytes = block_size _ _ _ _ rest in
+    let last : flat_map agent_lines t.agents ++ CheckLine cs ∷ [] ≡ flat_map agent_lines u.agents ++ CheckLine ds ∷ [] = tail_is _ _ _ _ rest in
+    let agents : t.agents ≡ u.agents = sym (agents_back t.agents (CheckLine cs ∷ []) refl refl) ∙ ap agents_of last ∙ agents_back u.agents (CheckLine ds ∷ []) refl refl in
+    let comparisons : cs ≡ ds = sym (checked_back t.agents cs) ∙ ap checked_of last ∙ checked_back u.agents ds in
+    let check : t.check ≡ u.check = t_check ∙ ap (λ (l : List Agent). condition_from l cs) agents ∙ ap (condition_from u.agents) comparisons ∙ sym u_check in
+    ap (λ (n : List ℕ). litmus n t.bytes t.agents t.check) name ∙ ap (λ (b : ℕ). litmus u.name b t.agents t.check) bytes ∙ ap (λ (l : List Agent). litmus u.name u.bytes l t.check) agents ∙ ap (litmus u.name u.bytes u.agents) check
+
+pub one_test : (text : List ℕ) (t u : Litmus) → Spells text t → Spells text u → t ≡ u
+one_test text t u a b =
+    let same : a.forms ≡ b.forms = forms_once (lines_of text) a.forms b.forms a.lines b.lines in
+    same_forms t u a.comparisons b.comparisons (sym a.parts ∙ ap without_blanks same ∙ b.parts) a.check b.check
+
+-- ---- one first fault
+
+kind_of : ℕ → ReadKind
+kind_of n =
+    cond (eqb n 1) TooLong (cond (eqb n 2) NotAscii (cond (eqb n 3) Syntax (cond (eqb n 4) Misplaced (cond (eqb n 5) BlockSize (cond (eqb n 6) TooManyAgents
+    (cond (eqb n 7) DuplicateAgent (cond (eqb n 8) LiteralRange (cond (eqb n 9) OutOfBlock (cond (eqb n 10) UnknownName (cond (eqb n 12) MissingPart OutOfMemory))))))))))
+
+kind_back : (k : ReadKind) → kind_of (number_of k) ≡ k
+unfolding kind_of
+kind_back TooLong = refl
+kind_back NotAscii = refl
+kind_back Syntax = refl
+kind_back Misplaced = refl
+kind_back BlockSize = refl
+kind_back TooManyAgents = refl
+kind_back DuplicateAgent = refl
+kind_back LiteralRange = refl
+kind_back OutOfBlock = refl
+kind_back UnknownName = refl
+kind_back MissingPart = refl
+kind_back OutOfMemory = refl
+
+pub one_first : (text : List ℕ) (k l : ReadKind) (m n : ℕ) → IsFirstFault text k m → IsFirstFault text l n → (k ≡ l) × (m ≡ n)
+one_first text k l m n a b =
+    let lines : m ≡ n = omega (arith, a.no_earlier l n b.there, b.no_earlier k m a.there) in
+    let there : HasFault text l m = subst (λ (x : ℕ). HasFault text l x) (sym lines) b.there in
+    let here : HasFault text k n = subst (λ (x : ℕ). HasFault text k x) lines a.there in
+    let numbers : number_of k ≡ number_of l = omega (arith, a.no_lower l there, b.no_lower k here) in
+    (sym (kind_back k) ∙ ap kind_of numbers ∙ kind_back l, lines)
+
+-- ---- each line is told
+
+tokens_told : (n : ℕ) (line rest : List ℕ) (done : List Token) → length rest < n → Cutting line rest done → ((ts : List Token) × CutsInto line ts) ⊎ ((ts : List Token) → CutsInto line ts → ⊥)
+tokens_told zero line rest done lt so_far = absurd (omega arith)
+tokens_told (suc n) line rest done lt so_far =
+    by (is_comment (after_blanks rest)) refl (token_front (after_blanks rest)) refl (λ t after e. tokens_told n line after (done ++ t ∷ []) (omega (arith, cut_shorter rest t after e)) (cutting_goes_on line rest after done t e so_far))
+  where
+    by : (b : Bool) → is_comment (after_blanks rest) ≡ b → (o : Option (Token × List ℕ)) → token_front (after_blanks rest) ≡ o
+        → ((t : Token) (after : List ℕ) → token_front (after_blanks rest) ≡ Some (t, after) → ((ts : List Token) × CutsInto line ts) ⊎ ((ts : List Token) → CutsInto line ts → ⊥))
+        → ((ts : List Token) × CutsInto line ts) ⊎ ((ts : List Token) → CutsInto line ts → ⊥)
+    by true over o front more = inl (done, cutting_ends line rest done over so_far)
+    by false left None front more = inr (cutting_fails line rest done left front so_far)
+    by false left (Some p) front more = more p.0 p.1 front
+
+condition_told : (n : ℕ) (tokens rest : List Token) (done : List Comparison) → length rest < n → Pending tokens rest done
+    → ((cs : List Comparison) × SpellsCondition tokens cs) ⊎ ((cs : List Comparison) → SpellsCondition tokens cs → ⊥)
+condition_told zero tokens rest done lt so_far = absurd (omega arith)
+condition_told (suc n) tokens rest done lt so_far =
+    by (comparison_of rest) refl (λ c next e. condition_told n tokens next (done ++ c ∷ []) (next_short c next e) (pending_goes_on tokens rest next done c e so_far))
+  where
+    next_short : (c : Comparison) (next : List Token) → comparison_of rest ≡ Some (c, Sign And ∷ next) → length next < n
+    next_short c next e = omega (arith, ap length (comparison_is rest c (Sign And ∷ next) e).0, length-append (comparison_tokens c) (Sign And ∷ next))
+
+    behind_told : (c : Comparison) (after : List Token) → comparison_of rest ≡ Some (c, after)
+        → ((c : Comparison) (next : List Token) → comparison_of rest ≡ Some (c, Sign And ∷ next) → ((cs : List Comparison) × SpellsCondition tokens cs) ⊎ ((cs : List Comparison) → SpellsCondition tokens cs → ⊥))
+        → (o : Option (List Token)) → after_sign after And ≡ o → ((cs : List Comparison) × SpellsCondition tokens cs) ⊎ ((cs : List Comparison) → SpellsCondition tokens cs → ⊥)
+    behind_told c [] e more o is = inl (done ++ c ∷ [], pending_ends tokens rest done c e so_far)
+    behind_told c (t ∷ ts) e more None is = inr (pending_cut tokens rest (t ∷ ts) done c e (omega arith) is so_far)
+    behind_told c (t ∷ ts) e more (Some next) is = more c next (subst (λ (x : List Token). comparison_of rest ≡ Some (c, x)) (sign_is (t ∷ ts) And next is) e)
+
+    by : (o : Option (Comparison × List Token)) → comparison_of rest ≡ o
+        → ((c : Comparison) (next : List Token) → comparison_of rest ≡ Some (c, Sign And ∷ next) → ((cs : List Comparison) × SpellsCondition tokens cs) ⊎ ((cs : List Comparison) → SpellsCondition tokens cs → ⊥))
+        → ((cs : List Comparison) × SpellsCondition tokens cs) ⊎ ((cs : List Comparison) → SpellsCondition tokens cs → ⊥)
+    by None e more = inr (pending_stuck tokens rest done e so_far)
+    by (Some p) e more = behind_told p.0 p.1 e more (after_sign p.1 And) refl
+
+form_told : (ts : List Token) → ((f : Form) × IsSpelling ts f) ⊎ ((f : Form) → IsSpelling ts f → ⊥)
+form_told ts = by (plain_form ts) refl (after_word ts (codes "check")) refl
+  where
+    behind_check : (rest : List Token) → after_word ts (codes "check") ≡ Some rest → plain_form ts ≡ None
+        → ((cs : List Comparison) × SpellsCondition rest cs) ⊎ ((cs : List Comparison) → SpellsCondition rest cs → ⊥) → ((f : Form) × IsSpelling ts f) ⊎ ((f : Form) → IsSpelling ts f → ⊥)
+    behind_check rest e none (inl p) = inl (CheckLine p.0, check_found ts rest p.0 e p.1)
+    behind_check rest e none (inr other) = inr (form_absent ts none (check_absent ts rest e other))
+
+    by : (o : Option Form) → plain_form ts ≡ o → (w : Option (List Token)) → after_word ts (codes "check") ≡ w → ((f : Form) × IsSpelling ts f) ⊎ ((f : Form) → IsSpelling ts f → ⊥)
+    by (Some f) e w is = inl (f, plain_form_is ts f e)
+    by None e None is = inr (form_absent ts e (no_check ts is))
+    by None e (Some rest) is = behind_check rest is e (condition_told (suc (length rest)) rest rest [] (omega arith) (pending_begins rest))
+
+line_told : (line : List ℕ) → ((f : Form) × IsLine line f) ⊎ ((k : ReadKind) × (k ≢ OutOfMemory) × IsNoLine line k)
+line_told line = by (list_all is_allowed line) refl (tokens_told (suc (length line)) line line [] (omega arith) (cutting_begins line))
+  where
+    formed : list_all is_allowed line ≡ true → (ts : List Token) → CutsInto line ts → ((f : Form) × IsSpelling ts f) ⊎ ((f : Form) → IsSpelling ts f → ⊥)
+        → ((f : Form) × IsLine line f) ⊎ ((k : ReadKind) × (k ≢ OutOfMemory) × IsNoLine line k)
+    formed allowed ts cut (inl p) = inl (p.0, record { allowed = allowed; has = record { tokens = ts; cut = cut; spelling = p.1 } })
+    formed allowed ts cut (inr other) = inr (Syntax, (λ e. absurd cc), inr (inr (refl, allowed, no_form line ts cut other)))
+
+    by : (b : Bool) → list_all is_allowed line ≡ b → ((ts : List Token) × CutsInto line ts) ⊎ ((ts : List Token) → CutsInto line ts → ⊥)
+        → ((f : Form) × IsLine line f) ⊎ ((k : ReadKind) × (k ≢ OutOfMemory) × IsNoLine line k)
+    by false bad cut = inr (NotAscii, (λ e. absurd cc), inr (inl (refl, bad)))
+    by true allowed (inl p) = formed allowed p.0 p.1 (form_told p.0)
+    by true allowed (inr other) = inr (Syntax, (λ e. absurd cc), inr (inr (refl, allowed, no_cut line other)))
+
+-- ---- each text is told
+
+abbrev Told : List ℕ → Type 0
+Told text = ((t : Litmus) × Spells text t) ⊎ ((kind : ReadKind) × (line : ℕ) × IsFirstFault text kind line)
+
+no_memory : (k : ReadKind) (given : List Form) (f : Form) → Outcome given f (Err k) → k ≢ OutOfMemory
+no_memory k given f out e = (faulty_kind k given f out.1).0.2 e
+
+ended_told : (text : List ℕ) (number : ℕ) (s : State) → Progress text number s None → Told text
+ended_told text number Empty p = inr (MissingPart, number, progress_ends text number Empty p tt)
+ended_told text number (Named m) p = inr (MissingPart, number, progress_ends text number (Named m) p tt)
+ended_told text number (Sized m b) p = inr (MissingPart, number, progress_ends text number (Sized m b) p tt)
+ended_told text number (Open m b agents agent body) p = inr (MissingPart, number, progress_ends text number (Open m b agents agent body) p tt)
+ended_told text number (Whole t) p = inl (t, progress_spells text number t p)
+
+failed : (text : List ℕ) (k : ReadKind) (n : ℕ) → k ≢ OutOfMemory → (k ≡ OutOfMemory) ⊎ IsFirstFault text k n → Told text
+failed text k n ne (inl e) = absurd (ne e)
+failed text k n ne (inr first) = inr (k, n, first)
+
+abbrev size : Option (List ℕ) → ℕ
+size None = 0
+size (Some left) = suc (length left)
+
+behind_short : (xs : List ℕ) → size (behind xs) ≤ length xs
+behind_short [] = omega arith
+behind_short (x ∷ []) = omega arith
+behind_short (x ∷ y ∷ ys) = omega arith
+
+rest_told : (n : ℕ) (text : List ℕ) (number : ℕ) (s : State) (rest : Option (List ℕ)) → size rest < n → Progress text number s rest → Told text
+rest_told zero text number s rest lt p = absurd (omega arith)
+rest_told (suc n) text number s None lt p = ended_told text number s p
+rest_told (suc n) text number s (Some left) lt p =
+    by (line_told line) (λ t q. rest_told n text (number + 1) t after (omega (arith, behind_short (drop len left), length-drop len left)) q)
+  where
+    len : ℕ
+    len = prefix_len (λ b. not (eqb b 10)) left
+
+    line : List ℕ
+    line = take len left
+
+    after : Option (List ℕ)
+    after = behind (drop len left)
+
+    stepped : (f : Form) → IsLine line f → (r : Result State ReadKind) → step s f ≡ r → ((t : State) → Progress text (number + 1) t after → Told text) → Told text
+    stepped f is (Ok t) e more = more t (progress_goes_on text left line number s after p (lines_split left) t (record { form = f; is = is; steps = e }))
+    stepped f is (Err k) e more =
+        failed text k (number + 1) (no_memory k (without_blanks p.before) f (subst (Outcome (without_blanks p.before) f) e (outcome s (without_blanks p.before) f p.holds)))
+        (progress_fails text left line number s after p (lines_split left) k (inr (record { form = f; is = is; steps = e })))
+
+    by : ((f : Form) × IsLine line f) ⊎ ((k : ReadKind) × (k ≢ OutOfMemory) × IsNoLine line k) → ((t : State) → Progress text (number + 1) t after → Told text) → Told text
+    by (inl q) more = stepped q.0 q.1 (step s q.0) refl more
+    by (inr q) more = failed text q.0 (number + 1) q.1 (progress_fails text left line number s after p (lines_split left) q.0 (inl q.2))
+
+pub text_told : (text : List ℕ) → Told text
+text_told text =
+    elim (cases_lt TEXT_LIMIT (length text)) [
+      | inl long ↦ inr (TooLong, 1, too_long text long)
+      | inr short ↦ rest_told (suc (suc (suc (length text)))) text 0 Empty (Some text) (omega arith) (progress_begins text short)
+    ]

@@ -1,0 +1,16 @@
+pub mod LineLemmas
+pub mod DraftLemmas
+pub mod TokenLemmas
+pub mod CutLemmas
+pub mod Cuttings
+pub mod FormLemmas
+pub mod ConditionLemmas
+pub mod CheckLemmas
+pub mod StepLemmas
+pub mod CheckSteps
+pub mod ReadLemmas
+pub mod DraftForms
+pub mod StepFaults
+pub mod StepHolds
+pub mod Progress
+pub mod LawLemmas

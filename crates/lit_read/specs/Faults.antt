@@ -1,0 +1,179 @@
+-- The faults of a text (this project's own). The first faulty line decides, and of one line's faults the lowest number.
+use Rattle.std.specs.Prelude.{◌≡◌, ◌⊎◌, ℕ, ◌+◌, ◌-◌, ◌/◌, ◌^◌, ◌<◌, ◌≤◌, ◌==◌, ◌&&◌, ◌||◌, nat_lt, nat_le, Bool, true, false, IsTrue, if◌then◌else◌, List, [], ◌∷◌, length, slice_index_or, take, not}
+use Rattle.std.specs.List.{list_any, list_all}
+use Rattle.std.specs.Str.{bytes_eq}
+use Rattle.lit_read.specs.declared.fault.ReadKind.{ReadKind}
+use Rattle.lit_read.specs.declared.fault.ReadKind.TheVariants.{TooLong, NotAscii, Syntax, Misplaced, BlockSize, TooManyAgents, DuplicateAgent, LiteralRange, OutOfBlock, UnknownName, MissingPart, OutOfMemory}
+use Rattle.lit_read.specs.declared.limits.TheConstants.{TEXT_LIMIT, BLOCK_LIMIT, AGENT_LIMIT, COMPARED_LIMIT}
+use Rattle.lit_read.specs.Syntax.{Window, Uint8, Uint16, Uint32, DataView8, DataView16, DataView32, window_size, Statement, Load, Store, Exchange, CompareExchange, If, Statements, End, Then, Agent, writes}
+use Rattle.lit_read.specs.Lines.{lines_of}
+use Rattle.lit_read.specs.Forms.{Comparison, Form, Blank, TestLine, BytesLine, AgentLine, StatementLine, CheckLine, HasForm, HaveForms, without_blanks}
+
+-- the numbers of the faults
+abbrev pub number_of : ReadKind → ℕ
+number_of TooLong = 1
+number_of NotAscii = 2
+number_of Syntax = 3
+number_of Misplaced = 4
+number_of BlockSize = 5
+number_of TooManyAgents = 6
+number_of DuplicateAgent = 7
+number_of LiteralRange = 8
+number_of OutOfBlock = 9
+number_of UnknownName = 10
+number_of MissingPart = 12
+number_of OutOfMemory = 16
+
+-- the bytes that may stand in a line
+abbrev pub is_allowed : ℕ → Bool
+is_allowed b = b == 9 || b == 10 || b == 13 || (nat_le 32 b && nat_le b 126)
+
+-- ---- what the forms so far say: none of them is blank
+
+abbrev pub is_block_line : Form → Bool
+is_block_line (BytesLine bytes) = true
+is_block_line _ = false
+
+abbrev pub is_agent_line : Form → Bool
+is_agent_line (AgentLine name) = true
+is_agent_line _ = false
+
+abbrev pub is_check_line : Form → Bool
+is_check_line (CheckLine cs) = true
+is_check_line _ = false
+
+-- whether the last of the forms is a test line
+abbrev pub ends_in_test : List Form → Bool
+ends_in_test [] = false
+ends_in_test (TestLine name ∷ []) = true
+ends_in_test (f ∷ []) = false
+ends_in_test (f ∷ g ∷ fs) = ends_in_test (g ∷ fs)
+
+-- how many bytes the block has: 0 before the bytes line
+abbrev pub block_of : List Form → ℕ
+block_of [] = 0
+block_of (BytesLine bytes ∷ fs) = bytes
+block_of (f ∷ fs) = block_of fs
+
+-- the statements up to the first form that is none
+abbrev pub body_of : List Form → Statements
+body_of (StatementLine s ∷ fs) = Then s (body_of fs)
+body_of _ = End
+
+-- the agents, each with the statements behind its line
+abbrev pub agents_of : List Form → List Agent
+agents_of [] = []
+agents_of (AgentLine name ∷ fs) = record { name = name; body = body_of fs } ∷ agents_of fs
+agents_of (f ∷ fs) = agents_of fs
+
+-- what the agent with a name says: nothing where no agent has it
+abbrev pub body_named : List ℕ → List Agent → Statements
+body_named name [] = End
+body_named name (a ∷ others) = if bytes_eq name a.name then a.body else body_named name others
+
+-- ---- the faults of a form behind these forms
+
+abbrev pub is_misplaced : List Form → Form → Bool
+is_misplaced given Blank = false
+is_misplaced given (TestLine name) = not (length given == 0)
+is_misplaced given (BytesLine bytes) = not (ends_in_test given)
+is_misplaced given (AgentLine name) = not (list_any is_block_line given) || list_any is_check_line given
+is_misplaced given (StatementLine s) = not (list_any is_agent_line given) || list_any is_check_line given
+is_misplaced given (CheckLine cs) = not (list_any is_agent_line given) || list_any is_check_line given
+
+-- the block has no byte, or too many
+abbrev pub is_wrong_block : Form → Bool
+is_wrong_block (BytesLine bytes) = bytes == 0 || nat_lt BLOCK_LIMIT bytes
+is_wrong_block _ = false
+
+abbrev pub is_one_agent_more : List Form → Form → Bool
+is_one_agent_more given (AgentLine name) = nat_le AGENT_LIMIT (length (agents_of given))
+is_one_agent_more given _ = false
+
+abbrev pub is_known_agent : List Form → Form → Bool
+is_known_agent given (AgentLine name) = list_any (λ a. bytes_eq name a.name) (agents_of given)
+is_known_agent given _ = false
+
+-- a number that the access can write
+abbrev pub fits_window : Window → ℕ → Bool
+fits_window window value = nat_lt value (256 ^ window_size window)
+
+abbrev pub has_fitting_literals : Statement → Bool
+has_fitting_literals (Load reg window index atomic) = true
+has_fitting_literals (Store window index value atomic) = fits_window window value
+has_fitting_literals (Exchange reg window index value) = fits_window window value
+has_fitting_literals (CompareExchange reg window index expected value) = fits_window window expected && fits_window window value
+has_fitting_literals (If reg equal value body other) = nat_le value COMPARED_LIMIT
+
+abbrev pub has_large_literal : Form → Bool
+has_large_literal (StatementLine s) = not (has_fitting_literals s)
+has_large_literal (CheckLine cs) = not (list_all (λ c. nat_le c.value COMPARED_LIMIT) cs)
+has_large_literal _ = false
+
+-- the whole access lies in a block of so many bytes
+abbrev pub is_in_block : ℕ → Window → ℕ → Bool
+is_in_block bytes Uint8 index = nat_lt index bytes
+is_in_block bytes Uint16 index = nat_lt index (bytes / 2)
+is_in_block bytes Uint32 index = nat_lt index (bytes / 4)
+is_in_block bytes DataView8 index = nat_le (index + 1) bytes
+is_in_block bytes DataView16 index = nat_le (index + 2) bytes
+is_in_block bytes DataView32 index = nat_le (index + 4) bytes
+
+abbrev pub stays_in_block : ℕ → Statement → Bool
+stays_in_block bytes (Load reg window index atomic) = is_in_block bytes window index
+stays_in_block bytes (Store window index value atomic) = is_in_block bytes window index
+stays_in_block bytes (Exchange reg window index value) = is_in_block bytes window index
+stays_in_block bytes (CompareExchange reg window index expected value) = is_in_block bytes window index
+stays_in_block bytes (If reg equal value body other) = true
+
+abbrev pub leaves_block : List Form → Form → Bool
+leaves_block given (StatementLine s) = not (stays_in_block (block_of given) s)
+leaves_block given _ = false
+
+-- the comparison names an agent that writes the register
+abbrev pub is_known : List Agent → Comparison → Bool
+is_known agents c = writes (body_named c.agent agents) c.reg
+
+abbrev pub has_unknown_name : List Form → Form → Bool
+has_unknown_name given (CheckLine cs) = not (list_all (is_known (agents_of given)) cs)
+has_unknown_name given _ = false
+
+-- whether a form has a fault, behind forms none of which is blank
+unfoldable pub is_faulty : ReadKind → List Form → Form → Bool
+is_faulty Misplaced given form = is_misplaced given form
+is_faulty BlockSize given form = is_wrong_block form
+is_faulty TooManyAgents given form = is_one_agent_more given form
+is_faulty DuplicateAgent given form = is_known_agent given form
+is_faulty LiteralRange given form = has_large_literal form
+is_faulty OutOfBlock given form = leaves_block given form
+is_faulty UnknownName given form = has_unknown_name given form
+is_faulty _ given form = false
+
+-- ---- the faults of a line, and of a text
+
+-- the line has the fault behind lines of these forms
+unfoldable pub HasLineFault : ReadKind → List Form → List ℕ → Type 0
+HasLineFault NotAscii before line = list_all is_allowed line ≡ false
+HasLineFault Syntax before line = (form : Form) → ¬ HasForm line form
+HasLineFault kind before line = (form : Form) × HasForm line form × IsTrue (is_faulty kind (without_blanks before) form)
+
+-- the lines with lesser numbers have these forms
+abbrev pub AreFormsBefore : List ℕ → ℕ → List Form → Type 0
+AreFormsBefore text line before = (1 ≤ line) × (line ≤ length (lines_of text)) × HaveForms (take (line - 1) (lines_of text)) before
+
+-- The text has the fault at this line, from 1. The lines before it have forms, which the fault may go by.
+unfoldable pub HasFault : List ℕ → ReadKind → ℕ → Type 0
+HasFault text TooLong line = (TEXT_LIMIT < length text) × (line ≡ 1)
+HasFault text MissingPart line =
+    (line ≡ length (lines_of text)) × ((forms : List Form) × HaveForms (lines_of text) forms × (list_any is_check_line forms ≡ false))
+HasFault text OutOfMemory line = ⊥
+HasFault text kind line = (before : List Form) × AreFormsBefore text line before × HasLineFault kind before (slice_index_or (lines_of text) (line - 1) [])
+
+pub record IsFirstFault (text : List ℕ) (kind : ReadKind) (line : ℕ) : Type 0 where
+  pub there : HasFault text kind line
+  pub no_earlier : (k : ReadKind) (n : ℕ) → HasFault text k n → line ≤ n
+  pub no_lower : (k : ReadKind) → HasFault text k line → number_of kind ≤ number_of k
+
+-- memory ran out, or this is the first fault
+abbrev pub IsRefusal : List ℕ → ReadKind → ℕ → Type 0
+IsRefusal text kind line = ((kind ≡ OutOfMemory) × (line ≡ 0)) ⊎ IsFirstFault text kind line

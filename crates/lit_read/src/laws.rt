@@ -1,0 +1,48 @@
+//! What holds of texts and tests by the definitions alone, so that each answer of `read` comes exactly where it is due.
+
+ghost use Rattle.std.specs.Prelude.{◌≡◌, ◌≤◌, ◌⊎◌, ◌∷◌, ◌++◌, [], ℕ, List, length, true};
+ghost use Rattle.std.specs.List.{list_all};
+ghost use Rattle.lit_read.specs.declared.fault.ReadKind.{ReadKind};
+ghost use Rattle.lit_read.specs.Syntax.{Litmus};
+ghost use Rattle.lit_read.specs.Lines.{lines_of, ended_lines, is_whole_line};
+ghost use Rattle.lit_read.specs.Tokens.{Token, CutsInto};
+ghost use Rattle.lit_read.specs.Forms.{Form, HasForm};
+ghost use Rattle.lit_read.specs.Faults.{HasFault, IsFirstFault};
+ghost use Rattle.lit_read.specs.Spelling.{Spells};
+
+/// A text is its lines, none of which has a byte 10, each with a byte 10 behind it. The last byte may be left out.
+pub fn lines_are_joined()
+    ensures some { (text : List ℕ) → 1 ≤ length (lines_of text) }
+    ensures whole { (text : List ℕ) → list_all is_whole_line (lines_of text) ≡ true }
+    ensures joined { (text : List ℕ) → (text ≡ ended_lines (lines_of text)) ⊎ (text ++ 10 ∷ [] ≡ ended_lines (lines_of text)) }
+{}
+
+/// A line is cut into tokens in one way at most.
+pub fn cuts_one_way()
+    ensures { (line : List ℕ) (tokens others : List Token) → CutsInto line tokens → CutsInto line others → tokens ≡ others }
+{}
+
+/// A line has one form at most.
+pub fn has_one_form()
+    ensures { (line : List ℕ) (form other : Form) → HasForm line form → HasForm line other → form ≡ other }
+{}
+
+/// No text spells two tests.
+pub fn spells_one_test()
+    ensures { (text : List ℕ) (t u : Litmus) → Spells text t → Spells text u → t ≡ u }
+{}
+
+/// No text spells a test and has a fault.
+pub fn spells_or_is_faulty()
+    ensures { (text : List ℕ) (t : Litmus) (kind : ReadKind) (line : ℕ) → Spells text t → ¬ HasFault text kind line }
+{}
+
+/// No text has two first faults.
+pub fn has_one_first_fault()
+    ensures { (text : List ℕ) (kind other : ReadKind) (line n : ℕ) → IsFirstFault text kind line → IsFirstFault text other n → (kind ≡ other) × (line ≡ n) }
+{}
+
+/// Each text spells a test or has a first fault.
+pub fn each_text_is_told()
+    ensures { (text : List ℕ) → ((t : Litmus) × Spells text t) ⊎ ((kind : ReadKind) × (line : ℕ) × IsFirstFault text kind line) }
+{}

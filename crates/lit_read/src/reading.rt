@@ -1,0 +1,109 @@
+//! Reading a whole text.
+
+ghost use Rattle.std.specs.Prelude.{◌≡◌, ◌≢◌, Ok, IfOk, IfErr, IfSome, IfNone};
+ghost use Rattle.std.specs.List.{list_all};
+ghost use Rattle.lit_read.specs.Faults.{is_allowed, IsRefusal};
+ghost use Rattle.lit_read.specs.Spelling.{Spells};
+ghost use Rattle.lit_read.specs.State.{IsState, IsUnfinished, Whole};
+ghost use Rattle.lit_read.specs.Views.{state_view, form_view};
+ghost use Rattle.lit_read.specs.LineSteps.{IsLine, IsNoLine, LineStep, LineFails};
+
+use crate::draft::Draft;
+use crate::fault::{ReadFault, ReadKind};
+use crate::forms::{Form, form_of};
+use crate::limits::TEXT_LIMIT;
+use crate::lines::split_line;
+use crate::litmus::Test;
+use crate::tokens::tokens_of;
+use std::alloc::Global;
+
+/// Whether a byte may stand in a text: 9, 10, 13 and 32 to 126.
+fn is_allowed(byte: u8) -> bool
+    ensures { result ≡ is_allowed byte }
+{
+    byte == b'\t' || byte == b'\n' || byte == b'\r' || (byte >= 32 && byte <= 126)
+}
+
+/// Whether each byte of a line may stand in a text.
+fn are_allowed(line: &[u8]) -> bool
+    ensures { result ≡ list_all is_allowed line.now }
+{
+    line.iter().all(|byte| is_allowed(*byte))
+}
+
+/// The form of a line.
+fn line_form(alloc: Global, line: &[u8]) -> Result<Form<'_>, ReadKind>
+    ensures ok { IfOk result (λ f. IsLine line.now (form_view f)) }
+    ensures err { IfErr result (IsNoLine line.now) }
+{
+    if !are_allowed(line) {
+        return Err(ReadKind::NotAscii);
+    }
+    let Some(tokens) = tokens_of(alloc, line)? else {
+        return Err(ReadKind::Syntax);
+    };
+    let found = form_of(alloc, &tokens)?;
+    match found {
+        Some(form) => Ok(form),
+        None => Err(ReadKind::Syntax),
+    }
+}
+
+/// What the lines so far and this line say.
+fn add_line(alloc: Global, draft: Draft, line: &[u8]) -> Result<Draft, ReadKind>
+    requires { IsState (state_view draft) }
+    ensures ok { IfOk result (λ d. LineStep (state_view draft) line.now (Ok (state_view d))) }
+    ensures err { IfErr result (LineFails (state_view draft) line.now) }
+{
+    let form = line_form(alloc, line)?;
+    Ok(draft.add(alloc, form)?)
+}
+
+/// The fault with its line, which is 0 where memory ran out.
+fn fault_at(kind: ReadKind, line: usize) -> ReadFault
+    ensures kind { result.kind ≡ kind }
+    ensures memory { kind ≡ ReadKind.OutOfMemory → result.line ≡ 0 }
+    ensures line { kind ≢ ReadKind.OutOfMemory → result.line ≡ line }
+{
+    match kind {
+        ReadKind::OutOfMemory => ReadFault { kind, line: 0 },
+        _ => ReadFault { kind, line },
+    }
+}
+
+/// The test, if a `check` line has ended it.
+fn finished(draft: Draft) -> Option<Test>
+    ensures whole { IfSome result (λ t. state_view draft ≡ Whole t) }
+    ensures unfinished { IfNone result (IsUnfinished (state_view draft)) }
+{
+    match draft {
+        Draft::Whole(test) => Some(test),
+        _ => None,
+    }
+}
+
+/// The test that a text spells, or the text's first fault.
+pub fn read(alloc: Global, text: &[u8]) -> Result<Test, ReadFault>
+    ensures spells { IfOk result (λ t. Spells text.now t) }
+    ensures fault { IfErr result (λ e. IsRefusal text.now e.kind e.line) }
+{
+    if text.len() > TEXT_LIMIT {
+        return Err(fault_at(ReadKind::TooLong, 1));
+    }
+    let mut draft = Draft::Empty;
+    let mut number: usize = 0;
+    let mut rest = Some(text);
+    while let Some(left) = rest {
+        let (line, after) = split_line(left);
+        number += 1;
+        draft = match add_line(alloc, draft, line) {
+            Ok(next) => next,
+            Err(kind) => return Err(fault_at(kind, number)),
+        };
+        rest = after;
+    }
+    match finished(draft) {
+        Some(test) => Ok(test),
+        None => Err(fault_at(ReadKind::MissingPart, number)),
+    }
+}
