@@ -1,0 +1,142 @@
+//! The outcomes found, each with its example.
+
+ghost use Rattle.std.specs.Prelude.{◌≡◌, length};
+ghost use Rattle.std.specs.List.Sorted.{IsBinarySearchResult, IsSearchInRange};
+ghost use Rattle.std.specs.Cmp.Lexicographic.{slice_cmp};
+ghost use Rattle.std.specs.Ordering.{nat_cmp};
+ghost use Rattle.lit_search.specs.KeptEntry.{entry_of};
+
+use crate::event::Order;
+use crate::limits::NAME_LIMIT;
+use arrayvec::ArrayVec;
+use std::alloc::{AllocError, Global};
+use std::cmp::Ordering;
+use std::marker::Model;
+use thiserror::Error;
+
+/// The last values of the registers of an outcome, in the order of the plan's names.
+pub type Outcome = ArrayVec<u32, NAME_LIMIT>;
+
+/// An execution that shows an outcome: the number of its choice, and its memory-order.
+#[derive(Debug, Drop)]
+pub struct Example {
+    pub choice: u64,
+    pub order: Order,
+}
+
+/// Why a search gave no report.
+#[derive(Clone, Copy, Debug, PartialEq, Eq, Error)]
+pub enum SearchFault {
+    #[error("out_of_memory")]
+    OutOfMemory,
+}
+
+impl From<AllocError> for SearchFault {
+    ghost use Rattle.std.specs.Prelude.{◌≡◌};
+    ghost use Rattle.lit_search.specs.declared.found.SearchFault.TheVariants.{OutOfMemory};
+
+    ghost from_gives = { λ _ e. e ≡ OutOfMemory };
+
+    fn from(_e: AllocError) -> SearchFault {
+        SearchFault::OutOfMemory
+    }
+}
+
+#[derive(Debug, Drop)]
+struct Kept {
+    outcome: Outcome,
+    example: Example,
+}
+
+/// How a kept outcome compares with another one, as lists.
+fn compared(kept: &Kept, outcome: &[u32]) -> Ordering
+    ensures { result ≡ slice_cmp nat_cmp (entry_of kept.now).outcome outcome.now }
+{
+    kept.outcome.as_slice().cmp(&outcome)
+}
+
+/// Where an outcome is kept, or where it would be.
+fn place_of(kept: &[Kept], outcome: &[u32]) -> Result<usize, usize>
+    ensures bound { IsSearchInRange result (length kept.now) }
+    ensures position { IsBinarySearchResult (λ k. slice_cmp nat_cmp (entry_of k).outcome outcome.now) kept.now result }
+{
+    kept.binary_search_by(|k| compared(k, outcome))
+}
+
+/// The outcomes of a range of choices, rising, each with its example. A clause sees it as a `Report`.
+#[derive(Drop)]
+pub struct Found {
+    kept: Vec<Kept>,
+}
+
+impl Model for Found {
+    ghost use Rattle.lit_search.specs.Report.{Report};
+
+    ghost Value = { Report };
+
+    ghost use Rattle.lit_search.specs.Found.{report_of};
+    ghost use Rattle.lit_search.specs.Kept.{AreRising};
+
+    ghost view = { report_of };
+
+    ghost invariant = { λ f. AreRising (report_of f).entries };
+}
+
+impl Found {
+    ghost use Rattle.std.specs.Prelude.{◌≡◌, ◌<◌, ◌==◌, [], length, OnOk, OnErr};
+    ghost use Rattle.lit_search.specs.Report.{entry_at};
+    ghost use Rattle.lit_search.specs.Kept.{AreRising, with_entry};
+
+    /// Nothing found yet.
+    pub(crate) fn new(alloc: Global) -> Self
+        ensures { result.entries ≡ [] }
+    {
+        Found {
+            kept: Vec::new(alloc),
+        }
+    }
+
+    /// How many outcomes there are.
+    pub fn len(&self) -> usize
+        ensures { result ≡ length self.now.entries }
+    {
+        self.kept.len()
+    }
+
+    /// Whether there is no outcome.
+    pub fn is_empty(&self) -> bool
+        ensures { result ≡ (length self.now.entries == 0) }
+    {
+        self.kept.is_empty()
+    }
+
+    /// The values of an outcome, by its place in the rising order.
+    pub fn outcome(&self, place: usize) -> &[u32]
+        requires { place < length self.now.entries }
+        ensures { result.now ≡ (entry_at self.now place).outcome }
+    {
+        &self.kept[place].outcome
+    }
+
+    /// The example of an outcome, by its place in the rising order.
+    pub fn example(&self, place: usize) -> &Example
+        requires { place < length self.now.entries }
+        ensures choice { result.now.choice ≡ (entry_at self.now place).choice }
+        ensures order { result.now.order.items ≡ (entry_at self.now place).order }
+    {
+        &self.kept[place].example
+    }
+
+    /// Takes in one more choice: its outcome gets its place, unless it is there already.
+    pub(crate) fn keep(&mut self, outcome: Outcome, example: Example) -> Result<(), AllocError>
+        ensures ok { OnOk result (self.new.entries ≡ with_entry (record { outcome = outcome.items; choice = example.choice; order = example.order.items }) self.old.entries) }
+        ensures err { OnErr result (self.new ≡ self.old) }
+        ensures was_rising { AreRising self.old.entries }
+        ensures rising { AreRising self.new.entries }
+    {
+        match place_of(&self.kept, &outcome) {
+            Ok(_) => Ok(()),
+            Err(place) => Ok(self.kept.insert(place, Kept { outcome, example })?),
+        }
+    }
+}

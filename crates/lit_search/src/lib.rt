@@ -1,0 +1,39 @@
+//! The outcomes of a litmus test: its choices, the relations of each, the memory-orders.
+//!
+//! `plan` counts the choices of a test, and `search_range` gives the report of a range of them: the outcomes of the
+//! valid executions, each with its least example. The definitions stand in `specs/`, from `Event` to `Report`.
+#![tactic(auto)]
+
+mod accesses;
+mod byte_sources;
+mod choices;
+mod event;
+mod forbidding;
+mod found;
+mod laws;
+mod limits;
+mod making;
+mod names;
+mod orders;
+mod outcomes;
+mod planning;
+mod ranges;
+mod reading_checks;
+mod relation;
+mod relations;
+mod searching;
+mod triples;
+mod values;
+mod wide_events;
+mod words;
+
+pub use event::{Event, Events, Kind, Order, Order3, Sources};
+pub use found::{Example, Found, Outcome, SearchFault};
+pub use laws::choices_are_listed;
+pub use making::plan;
+pub use planning::{Plan, PlanFault};
+pub use searching::search_range;
+pub use wide_events::{
+    mixed_sizes_never_synchronize, never_reads_itself, typed_load_mixes_with_init_only,
+    viewed_load_mixes,
+};

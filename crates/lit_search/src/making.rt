@@ -1,0 +1,38 @@
+//! Makes the plan of a test.
+
+ghost use Rattle.std.specs.Prelude.{◌≡◌, ◌≤◌, length, IfOk, OnOk, IfErr};
+ghost use Rattle.lit_search.specs.declared.limits.TheConstants.{CHOICE_LIMIT};
+ghost use Rattle.lit_search.specs.Choice.{choices_of};
+ghost use Rattle.lit_search.specs.Plan.{HasFewEvents, IsRefusal};
+
+use crate::accesses::{combined_events, has_too_many_events};
+use crate::choices::{byte_reads_of, count_sources};
+use crate::names::written_names;
+use crate::planning::{Plan, PlanFault};
+use lit_read::Test;
+use std::alloc::Global;
+
+/// The plan of a test, or why it has none: first where some combination of paths has too many access events, and then
+/// where there are too many choices. Nothing grows, so memory is never short.
+pub fn plan<'t>(alloc: Global, test: &'t Test) -> Result<Plan<'t>, PlanFault>
+    ensures ok { IfOk result (λ p. p ≡ test.now) }
+    ensures few_events { OnOk result (HasFewEvents test.now) }
+    ensures few_choices { OnOk result (length (choices_of test.now) ≤ CHOICE_LIMIT) }
+    ensures refused { IfErr result (IsRefusal test.now) }
+{
+    // Room of a fixed size is all that today's tests take.
+    let _ = alloc;
+    if has_too_many_events(test) {
+        return Err(PlanFault::TooManyEvents);
+    }
+    let events = combined_events(test);
+    let reads = byte_reads_of(events.as_slice());
+    let Some(total) = count_sources(events.as_slice(), reads.as_slice()) else {
+        return Err(PlanFault::TooManyChoices);
+    };
+    let names = written_names(test);
+    Ok(Plan::new(test, events, reads, total, names))
+}
+
+#[cfg(test)]
+mod tests;

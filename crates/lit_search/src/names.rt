@@ -1,0 +1,98 @@
+//! The registers of an outcome, and the value of a condition on them.
+
+ghost use Rattle.std.specs.Prelude.{◌≡◌, ◌+◌, ◌≤◌, ◌++◌, [], length};
+ghost use Rattle.std.specs.List.{zip};
+ghost use Rattle.arrayvec.specs.ArrayVec.{array_vec_len};
+ghost use Rattle.lit_read.specs.Syntax.{writes, statement_writes};
+ghost use Rattle.lit_read.specs.Litmus.{statement_of, statements_of, condition_of};
+ghost use Rattle.lit_search.specs.declared.limits.TheConstants.{REGISTERS, NAME_LIMIT};
+ghost use Rattle.lit_search.specs.Outcome.{names_in, names_of, value_in as value_among, holds as holds_of};
+
+use crate::limits::{NAME_LIMIT, REGISTERS};
+use arrayvec::ArrayVec;
+use lit_read::{Cond, Stmt, Test};
+
+/// The registers of an outcome, as agent and register.
+pub type Names = ArrayVec<(u8, u8), NAME_LIMIT>;
+
+/// Whether a statement writes a register.
+fn does_write(statement: &Stmt, register: u8) -> bool
+    ensures { result ≡ statement_writes (statement_of statement.now) register }
+{
+    match *statement {
+        Stmt::Load { reg, .. } => reg == register,
+        Stmt::Store { .. } => false,
+    }
+}
+
+/// Whether some statement writes a register.
+fn is_written(body: &[Stmt], register: u8) -> bool
+    ensures { result ≡ writes (statements_of body.now) register }
+{
+    for statement in body {
+        if does_write(statement, register) {
+            return true;
+        }
+    }
+    false
+}
+
+/// Adds the registers that an agent writes.
+fn push_names(names: &mut Names, agent: u8, body: &[Stmt])
+    requires { array_vec_len names.old + REGISTERS ≤ NAME_LIMIT }
+    ensures value { names.new.items ≡ names.old.items ++ names_in agent (record { name = []; body = statements_of body.now }) }
+    ensures few { array_vec_len names.new ≤ array_vec_len names.old + REGISTERS }
+{
+    for register in 0..REGISTERS {
+        if is_written(body, register) {
+            names.push((agent, register));
+        }
+    }
+}
+
+/// Each register that is written anywhere in its agent's text: agents in order, registers rising.
+pub(crate) fn written_names(test: &Test) -> Names
+    ensures { result.items ≡ names_of test.now }
+{
+    let mut names = Names::new();
+    for agent in 0..test.agents() {
+        push_names(&mut names, agent as u8, test.body(agent));
+    }
+    names
+}
+
+/// What a register has in an outcome, or 0 where it isn't named.
+fn value_in(names: &[(u8, u8)], outcome: &[u32], agent: u8, register: u8) -> u32
+    requires { length outcome.now ≡ length names.now }
+    ensures { result ≡ value_among (zip names.now outcome.now) agent register }
+{
+    for (place, name) in names.iter().enumerate() {
+        if name.0 == agent && name.1 == register {
+            return outcome[place];
+        }
+    }
+    0
+}
+
+/// Whether a condition holds of an outcome.
+pub(crate) fn holds(names: &[(u8, u8)], outcome: &[u32], condition: &Cond) -> bool
+    requires { length outcome.now ≡ length names.now }
+    ensures { result ≡ holds_of (zip names.now outcome.now) (condition_of condition.now) }
+{
+    match condition {
+        Cond::All(members) => {
+            for member in members {
+                if !holds(names, outcome, member) {
+                    return false;
+                }
+            }
+            true
+        }
+        Cond::Is {
+            agent,
+            reg,
+            equal,
+            value,
+        } => (value_in(names, outcome, *agent, *reg) == *value) == *equal,
+    }
+}

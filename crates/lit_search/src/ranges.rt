@@ -1,0 +1,78 @@
+//! What an event does to which bytes (ECMA-262, 2024, 29.1 and 29.2).
+
+ghost use Rattle.std.specs.Prelude.{◌≡◌, ◌↔◌, ◌<◌, IsTrue, length};
+ghost use Rattle.lit_search.specs.declared.event.Order3.TheVariants.{SeqCst};
+ghost use Rattle.lit_search.specs.Event.{HasByte, HasSameRange, SharesByte, does_read, does_write, event_at};
+
+use crate::event::{Event, Kind, Order3};
+
+/// The event with a number.
+pub(crate) fn event_at(events: &[Event], number: usize) -> &Event
+    requires { number < length events.now }
+    ensures { result.now ≡ event_at events.now number }
+{
+    &events[number]
+}
+
+/// Whether an event of this kind reads.
+pub(crate) fn does_read(kind: Kind) -> bool
+    ensures { result ≡ does_read kind }
+{
+    match kind {
+        Kind::Read | Kind::Modify => true,
+        Kind::Write => false,
+    }
+}
+
+/// Whether an event of this kind writes.
+pub(crate) fn does_write(kind: Kind) -> bool
+    ensures { result ≡ does_write kind }
+{
+    match kind {
+        Kind::Write | Kind::Modify => true,
+        Kind::Read => false,
+    }
+}
+
+/// Whether a byte, from the block's start, is in the event's range.
+pub(crate) fn has_byte(event: &Event, byte: u16) -> bool
+    ensures { IsTrue result ↔ HasByte event.now byte }
+{
+    u16::from(event.first) <= byte && byte < u16::from(event.first) + u16::from(event.size)
+}
+
+/// Whether the ranges of two events are the same bytes.
+pub(crate) fn has_same_range(event: &Event, other: &Event) -> bool
+    ensures { IsTrue result ↔ HasSameRange event.now other.now }
+{
+    if event.size == 0 {
+        other.size == 0
+    } else {
+        event.first == other.first && event.size == other.size
+    }
+}
+
+/// Whether the ranges of the events with two numbers are the same bytes.
+pub(crate) fn have_same_range(events: &[Event], first: usize, second: usize) -> bool
+    requires first { first < length events.now }
+    requires second { second < length events.now }
+    ensures { IsTrue result ↔ HasSameRange (event_at events.now first) (event_at events.now second) }
+{
+    has_same_range(event_at(events, first), event_at(events, second))
+}
+
+/// Whether the event with a number is sequentially consistent.
+pub(crate) fn is_seq_cst(events: &[Event], number: usize) -> bool
+    requires { number < length events.now }
+    ensures { IsTrue result ↔ ((event_at events.now number).order ≡ SeqCst) }
+{
+    event_at(events, number).order == Order3::SeqCst
+}
+
+/// Whether some byte is in the ranges of both events.
+pub(crate) fn shares_byte(event: &Event, other: &Event) -> bool
+    ensures { IsTrue result ↔ SharesByte event.now other.now }
+{
+    let start = u16::from(event.first).max(u16::from(other.first));
+    has_byte(event, start) && has_byte(other, start)
+}
