@@ -1,0 +1,57 @@
+-- What an entry of a report says of its outcome, its choice and its order.
+use Rattle.std.proofs.Common.{◌≡◌, ℕ, ◌+◌, ◌<◌, ◌≤◌, List, [], ◌∷◌, ◌++◌, length, take, get_or, Some, sym, ap, subst, ◌∙◌, append_assoc, arith}
+use Rattle.std.specs.Prelude.{All, slice_get}
+use Rattle.std.specs.List.{flat_map}
+use Rattle.std.proofs.lemmas.List.{length-map, append-nil, take_more, take_all}
+use Rattle.std.proofs.lemmas.Grind.{flat_map-append}
+use Rattle.std.proofs.lemmas.Option.{slice_get-get_or, get_or_from_slice_get}
+use Rattle.lit_read.specs.Syntax.{Litmus}
+use Rattle.lit_search.specs.declared.event.Event.{Event}
+use Rattle.lit_search.specs.ReadsFrom.{byte_reads}
+use Rattle.lit_search.specs.Choice.{Choice, AreSources, choices_of}
+use Rattle.lit_search.specs.ChoiceEvents.{choice_at}
+use Rattle.lit_search.specs.Outcome.{names_of}
+use Rattle.lit_search.specs.ValidExecution.{Execution, execution_events, execution_choice, IsCandidateExecution}
+use Rattle.lit_search.specs.Report.{Entry, Report, entry_at, Gives, HasLeastOrder, IsEntry, IsReport}
+
+-- an outcome has a value for each register
+pub length-outcome : (t : Litmus) (n : ℕ) (outcome : List ℕ) → Gives t n outcome → length outcome ≡ length (names_of t)
+length-outcome t n outcome g = sym (ap length g.result) ∙ length-map (names_of t) _
+
+-- the order is one of the events
+pub order_known : (t : Litmus) (n : ℕ) (outcome order : List ℕ) (events : List Event) → Gives t n outcome → HasLeastOrder t n order → ((x : Execution) → IsCandidateExecution t x → slice_get (choices_of t) n ≡ Some (execution_choice x) → execution_events t x ≡ events) → All (λ e. e < length events) order
+order_known t n outcome order events g least same k d lt =
+    let x = g.execution in
+    let e = get_or order k d in
+    let below = (least x g.valid g.chosen).is_order.complete.only k e (slice_get-get_or order k d lt) in
+    let P : List Event → Type 0 = λ es. e < length es in
+    subst P (same x g.valid.candidate g.chosen) below
+
+-- the sources are events
+pub sources_known : (events : List Event) (sources : List ℕ) → AreSources events sources → All (λ w. w < length events) sources
+sources_known events sources sourced k d lt =
+    let read = get_or (byte_reads events) k (0, 0) in
+    (sourced.each k read.0 read.1 (get_or sources k d) (slice_get-get_or (byte_reads events) k (0, 0) (omega (arith, sourced.one_each, lt))) (slice_get-get_or sources k d lt)).known
+
+pub choice_at-is : (t : Litmus) (n : ℕ) (choice : Choice) → slice_get (choices_of t) n ≡ Some choice → choice_at t n ≡ choice
+choice_at-is t n choice at = get_or_from_slice_get (choices_of t) n choice _ at
+
+-- an entry is written piece by piece
+pub entry_joined : (o a r l f w n o1 o2 o3 o4 o5 o6 o7 : List ℕ) → o1 ≡ o ++ a → o2 ≡ o1 ++ r → o3 ≡ o2 ++ l → o4 ≡ o3 ++ f → o5 ≡ o4 ++ w → o6 ≡ o5 ++ n → o7 ≡ o6 ++ l → o7 ≡ o ++ ((((a ++ r) ++ l) ++ f) ++ ((w ++ n) ++ l))
+entry_joined o a r l f w n o1 o2 o3 o4 o5 o6 o7 e1 e2 e3 e4 e5 e6 e7 = rw (e7, e6, e5, e4, e3, e2, e1) (simp append_assoc)
+
+-- an entry of a report is one of its entries
+pub entry_in : (t : Litmus) (to : ℕ) (report : Report) (i : ℕ) → IsReport t 0 to report → i < length report.entries → IsEntry t 0 to (entry_at report i)
+entry_in t to report i is lt = is.each i (entry_at report i) (slice_get-get_or report.entries i _ lt)
+
+-- the text of one more entry
+pub entries_more : (f : Entry → List ℕ) (xs : List Entry) (k : ℕ) (d : Entry) → k < length xs → flat_map f (take (k + 1) xs) ≡ flat_map f (take k xs) ++ f (get_or xs k d)
+entries_more f xs k d lt = ap (flat_map f) (take_more xs k d lt) ∙ flat_map-append f (take k xs) (get_or xs k d ∷ []) ∙ ap (λ (bs : List ℕ). flat_map f (take k xs) ++ bs) (append-nil (f (get_or xs k d)))
+
+pub report_more : (f : Entry → List ℕ) (xs : List Entry) (k : ℕ) (d entry : Entry) (head out new : List ℕ) → k < length xs → out ≡ head ++ flat_map f (take k xs) → new ≡ out ++ f entry → entry ≡ get_or xs k d → new ≡ head ++ flat_map f (take (k + 1) xs)
+report_more f xs k d entry head out new lt so_far more is =
+    more ∙ ap (λ (x : Entry). out ++ f x) is ∙ ap (λ (o : List ℕ). o ++ f (get_or xs k d)) so_far ∙ append_assoc head (flat_map f (take k xs)) (f (get_or xs k d)) ∙ ap (λ (bs : List ℕ). head ++ bs) (sym (entries_more f xs k d lt))
+
+pub report_end : (f : Entry → List ℕ) (xs : List Entry) (k : ℕ) (head out new a b : List ℕ) → length xs ≤ k → out ≡ head ++ flat_map f (take k xs) → new ≡ out ++ (a ++ b) → new ≡ ((head ++ flat_map f xs) ++ a) ++ b
+report_end f xs k head out new a b le so_far end =
+    end ∙ ap (λ (o : List ℕ). o ++ (a ++ b)) (so_far ∙ ap (λ (ys : List Entry). head ++ flat_map f ys) (take_all k xs le)) ∙ sym (append_assoc (head ++ flat_map f xs) a b)

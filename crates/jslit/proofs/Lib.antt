@@ -1,0 +1,6 @@
+pub mod Written
+pub mod SourceLines
+pub mod Registers
+pub mod EntryFacts
+pub mod Judging
+pub mod Refusals

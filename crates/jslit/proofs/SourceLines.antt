@@ -1,0 +1,188 @@
+-- The lines of the reads, one event after the other.
+use Rattle.std.proofs.Common.{◌≡◌, ◌≢◌, ℕ, zero, suc, ◌+◌, ◌<◌, ◌≤◌, Bool, true, false, cond, eqb, List, [], ◌∷◌, ◌++◌, length, map, filter, take, drop, get_or, refl, sym, ap, ◌∙◌, arith, append_assoc, ne_eqb, eq-eqb}
+use Rattle.std.specs.Prelude.{All}
+use Rattle.std.specs.List.{AllByRecursion, flat_map, zip, range_with_len}
+use Rattle.std.proofs.lemmas.List.{append-nil, length-append, length-take, length-drop, at_drop_more}
+use Rattle.std.proofs.lemmas.List.Elements.{filter-append, All-drop}
+use Rattle.lit_read.specs.Syntax.{Litmus}
+use Rattle.lit_search.specs.declared.event.Event.{Event}
+use Rattle.lit_search.specs.Event.{does_read, event_at}
+use Rattle.lit_search.specs.ReadsFrom.{bytes_read_by, byte_reads_from, byte_reads, reads_from}
+use Rattle.jslit.specs.ReportText.{source_line, from_lines}
+use Rattle.jslit.specs.ReadText.{read_text, rest_after}
+
+-- the lines of the reads among these events, where the sources are those of their bytes
+abbrev pub lines_from : Litmus → List Event → List Event → List ℕ → List ℕ
+lines_from t events [] sources = []
+lines_from t events (e ∷ es) sources = read_text t events e sources ++ lines_from t events es (rest_after e sources)
+
+abbrev Pair : Type 0
+Pair = (ℕ × ℕ) × ℕ
+
+-- each pair is of a read with this property
+abbrev AreOf : (ℕ → Type 0) → List Pair → Type 0
+AreOf P ps = AllByRecursion (λ p. P p.0.0) ps
+
+abbrev is_of : ℕ → Pair → Bool
+is_of r p = eqb p.0.0 r
+
+none_of : (r : ℕ) (ps : List Pair) → AreOf (λ k. k ≢ r) ps → filter (is_of r) ps ≡ []
+none_of r [] h = refl
+none_of r (p ∷ ps) h = rw (ne_eqb p.0.0 r h.0) (none_of r ps h.1)
+
+all_of : (r : ℕ) (ps : List Pair) → AreOf (λ k. k ≡ r) ps → filter (is_of r) ps ≡ ps
+all_of r [] h = refl
+all_of r (p ∷ ps) h = rw (eq-eqb p.0.0 r h.0) (ap (λ (qs : List Pair). p ∷ qs) (all_of r ps h.1))
+
+weaker : (P Q : ℕ → Type 0) (ps : List Pair) → ((k : ℕ) → P k → Q k) → AreOf P ps → AreOf Q ps
+weaker P Q [] f h = tt
+weaker P Q (p ∷ ps) f h = (f p.0.0 h.0, weaker P Q ps f h.1)
+
+both : (P : ℕ → Type 0) (ps qs : List Pair) → AreOf P ps → AreOf P qs → AreOf P (ps ++ qs)
+both P [] qs h k = k
+both P (p ∷ ps) qs h k = (h.0, both P ps qs h.1 k)
+
+-- the pairs of bytes of one event
+of_event : (n first low count : ℕ) (ws : List ℕ) → AreOf (λ k. k ≡ n) (zip (map (λ i. (n, first + i)) (range_with_len low count)) ws)
+of_event n first low zero ws = tt
+of_event n first low (suc count) [] = tt
+of_event n first low (suc count) (w ∷ ws) = (refl, of_event n first (low + 1) count ws)
+
+of_bytes : (n : ℕ) (e : Event) (ws : List ℕ) → AreOf (λ k. k ≡ n) (zip (bytes_read_by n e) ws)
+of_bytes n e ws = by (does_read e.kind)
+  where
+    by : (b : Bool) → AreOf (λ k. k ≡ n) (zip (cond b (map (λ i. (n, e.first + i)) (range_with_len 0 e.size)) []) ws)
+    by true = of_event n e.first 0 e.size ws
+    by false = tt
+
+zip-nil : {A B : Type 0} (xs : List A) → zip xs (let ys : List B = [] in ys) ≡ []
+zip-nil [] = refl
+zip-nil (x ∷ xs) = refl
+
+zip-append : (xs ys : List (ℕ × ℕ)) (ws : List ℕ) → zip (xs ++ ys) ws ≡ zip xs (take (length xs) ws) ++ zip ys (drop (length xs) ws)
+zip-append [] ys ws = refl
+zip-append (x ∷ xs) ys [] = sym (zip-nil ys)
+zip-append (x ∷ xs) ys (w ∷ ws) = ap (λ (ps : List Pair). (x, w) ∷ ps) (zip-append xs ys ws)
+
+from_later : (n : ℕ) (es : List Event) (ws : List ℕ) → AreOf (λ k. n ≤ k) (zip (byte_reads_from n es) ws)
+from_later n [] ws = tt
+from_later n (e ∷ es) ws =
+    let first = weaker (λ k. k ≡ n) (λ k. n ≤ k) (zip (bytes_read_by n e) (take (length (bytes_read_by n e)) ws)) (λ k is. omega arith) (of_bytes n e (take (length (bytes_read_by n e)) ws)) in
+    let others = weaker (λ k. n + 1 ≤ k) (λ k. n ≤ k) (zip (byte_reads_from (n + 1) es) (drop (length (bytes_read_by n e)) ws)) (λ k le. omega arith) (from_later (n + 1) es (drop (length (bytes_read_by n e)) ws)) in
+    rw (zip-append (bytes_read_by n e) (byte_reads_from (n + 1) es) ws) (both (λ k. n ≤ k) (zip (bytes_read_by n e) (take (length (bytes_read_by n e)) ws)) (zip (byte_reads_from (n + 1) es) (drop (length (bytes_read_by n e)) ws)) first others)
+
+length-bytes : (n first low count : ℕ) → length (map {A = ℕ} {B = ℕ × ℕ} (λ i. (n, first + i)) (range_with_len low count)) ≡ count
+length-bytes n first low zero = refl
+length-bytes n first low (suc count) = ap suc (length-bytes n first (low + 1) count)
+
+seconds : (xs : List (ℕ × ℕ)) (ws : List ℕ) → length ws ≡ length xs → map (λ p. p.1) (zip xs ws) ≡ ws
+seconds [] [] h = refl
+seconds [] (w ∷ ws) h = absurd (omega arith)
+seconds (x ∷ xs) [] h = absurd (omega arith)
+seconds (x ∷ xs) (w ∷ ws) h = ap (λ (vs : List ℕ). w ∷ vs) (seconds xs ws (omega arith))
+
+length-read_by : (n : ℕ) (e : Event) → does_read e.kind ≡ true → length (bytes_read_by n e) ≡ e.size
+length-read_by n e is = rw is (length-bytes n e.first 0 e.size)
+
+-- what is behind the event with number i
+abbrev At : List Event → ℕ → Event → List Event → Type 0
+At events i e es = drop i events ≡ e ∷ es
+
+at_event : (events : List Event) (i : ℕ) (e : Event) (es : List Event) → At events i e es → event_at events i ≡ e
+at_event [] zero e es is = absurd cc
+at_event [] (suc i) e es is = absurd cc
+at_event (x ∷ xs) zero e es is = cc
+at_event (x ∷ xs) (suc i) e es is = at_event xs i e es is
+
+at_more : (events : List Event) (i : ℕ) (e : Event) (es : List Event) → At events i e es → drop (i + 1) events ≡ es
+at_more [] zero e es is = absurd cc
+at_more [] (suc i) e es is = absurd cc
+at_more (x ∷ xs) zero e es is = cc
+at_more (x ∷ xs) (suc i) e es is = let one : suc i + 1 ≡ suc (i + 1) = omega arith in ap (λ (k : ℕ). drop k (x ∷ xs)) one ∙ at_more xs i e es is
+
+module _ (t : Litmus) (events : List Event) where
+  -- the line of a read, by pairs of bytes and sources
+  abbrev line_of : List Pair → ℕ → List ℕ
+  line_of ps r = source_line t events (event_at events r) (map (λ p. p.1) (filter (is_of r) ps))
+
+  own_sources : (n : ℕ) (e : Event) (es : List Event) (ws : List ℕ) (before : List Pair) → does_read e.kind ≡ true → AreOf (λ k. k < n) before → length ws ≡ length (byte_reads_from n (e ∷ es))
+      → map (λ p. p.1) (filter (is_of n) (before ++ zip (byte_reads_from n (e ∷ es)) ws)) ≡ take e.size ws
+  own_sources n e es ws before reads lower long =
+      let own = bytes_read_by n e in
+      let size : length own ≡ e.size = length-read_by n e reads in
+      let rest = byte_reads_from (n + 1) es in
+      let first : filter (is_of n) before ≡ [] = none_of n before (weaker (λ k. k < n) (λ k. k ≢ n) before (λ k lt is. omega arith) lower) in
+      let mid : filter (is_of n) (zip own (take (length own) ws)) ≡ zip own (take (length own) ws) = all_of n (zip own (take (length own) ws)) (of_bytes n e (take (length own) ws)) in
+      let last : filter (is_of n) (zip rest (drop (length own) ws)) ≡ [] = none_of n (zip rest (drop (length own) ws)) (weaker (λ k. n + 1 ≤ k) (λ k. k ≢ n) (zip rest (drop (length own) ws)) (λ k le is. omega arith) (from_later (n + 1) es (drop (length own) ws))) in
+      let whole : filter (is_of n) (before ++ zip (own ++ rest) ws) ≡ zip own (take (length own) ws) =
+      ap (λ (ps : List Pair). filter (is_of n) (before ++ ps)) (zip-append own rest ws)
+      ∙ filter-append (is_of n) before (zip own (take (length own) ws) ++ zip rest (drop (length own) ws))
+      ∙ ap (λ (ps : List Pair). ps ++ filter (is_of n) (zip own (take (length own) ws) ++ zip rest (drop (length own) ws))) first
+      ∙ filter-append (is_of n) (zip own (take (length own) ws)) (zip rest (drop (length own) ws))
+      ∙ ap (λ (ps : List Pair). ps ++ filter (is_of n) (zip rest (drop (length own) ws))) mid
+      ∙ ap (λ (ps : List Pair). zip own (take (length own) ws) ++ ps) last
+      ∙ append-nil (zip own (take (length own) ws)) in
+      ap (map (λ p. p.1)) whole
+      ∙ seconds own (take (length own) ws) (omega (arith, long, length-append own rest, length-take (length own) ws))
+      ∙ ap (λ (k : ℕ). take k ws) size
+
+  regroup : (n : ℕ) (e : Event) (es : List Event) (ws : List ℕ) (before : List Pair)
+      → before ++ zip (byte_reads_from n (e ∷ es)) ws ≡ (before ++ zip (bytes_read_by n e) (take (length (bytes_read_by n e)) ws)) ++ zip (byte_reads_from (n + 1) es) (drop (length (bytes_read_by n e)) ws)
+  regroup n e es ws before =
+      ap (λ (ps : List Pair). before ++ ps) (zip-append (bytes_read_by n e) (byte_reads_from (n + 1) es) ws)
+      ∙ sym (append_assoc before (zip (bytes_read_by n e) (take (length (bytes_read_by n e)) ws)) (zip (byte_reads_from (n + 1) es) (drop (length (bytes_read_by n e)) ws)))
+
+  none_read : (n : ℕ) (e : Event) → does_read e.kind ≡ false → length (bytes_read_by n e) ≡ 0
+  none_read n e is = rw is refl
+
+  step : (n : ℕ) (e : Event) (es : List Event) (ws : List ℕ) (ps : List Pair) (b : Bool) → does_read e.kind ≡ b → At events n e es
+      → (does_read e.kind ≡ true → map (λ p. p.1) (filter (is_of n) ps) ≡ take e.size ws)
+      → flat_map (line_of ps) (reads_from (n + 1) es) ≡ lines_from t events es (drop (length (bytes_read_by n e)) ws)
+      → flat_map (line_of ps) (cond b (n ∷ reads_from (n + 1) es) (reads_from (n + 1) es)) ≡ cond b (source_line t events e (take e.size ws)) [] ++ lines_from t events es (cond b (drop e.size ws) ws)
+  step n e es ws ps true is at own tail =
+      ap (λ (us : List ℕ). source_line t events (event_at events n) us ++ flat_map (line_of ps) (reads_from (n + 1) es)) (own is)
+      ∙ ap (λ (x : Event). source_line t events x (take e.size ws) ++ flat_map (line_of ps) (reads_from (n + 1) es)) (at_event events n e es at)
+      ∙ ap (λ (bs : List ℕ). source_line t events e (take e.size ws) ++ bs) (tail ∙ ap (λ (k : ℕ). lines_from t events es (drop k ws)) (length-read_by n e is))
+  step n e es ws ps false is at own tail = tail ∙ ap (λ (k : ℕ). lines_from t events es (drop k ws)) (none_read n e is)
+
+  lines_are : (n : ℕ) (es : List Event) (ws : List ℕ) (before : List Pair) → drop n events ≡ es → AreOf (λ k. k < n) before → length ws ≡ length (byte_reads_from n es)
+      → flat_map (line_of (before ++ zip (byte_reads_from n es) ws)) (reads_from n es) ≡ lines_from t events es ws
+  lines_are n [] ws before at lower long = refl
+  lines_are n (e ∷ es) ws before at lower long =
+      let own = bytes_read_by n e in
+      let rest = drop (length own) ws in
+      let seen = before ++ zip own (take (length own) ws) in
+      let lower' : AreOf (λ k. k < n + 1) seen = both (λ k. k < n + 1) before (zip own (take (length own) ws)) (weaker (λ k. k < n) (λ k. k < n + 1) before (λ k lt. omega arith) lower) (weaker (λ k. k ≡ n) (λ k. k < n + 1) (zip own (take (length own) ws)) (λ k is. omega arith) (of_bytes n e (take (length own) ws))) in
+      let long' : length rest ≡ length (byte_reads_from (n + 1) es) = omega (arith, long, length-append own (byte_reads_from (n + 1) es), length-drop (length own) ws) in
+      let tail = ap (λ (ps : List Pair). flat_map (line_of ps) (reads_from (n + 1) es)) (regroup n e es ws before) ∙ lines_are (n + 1) es rest seen (at_more events n e es at) lower' long' in
+      step n e es ws (before ++ zip (byte_reads_from n (e ∷ es)) ws) (does_read e.kind) refl at (λ reads. own_sources n e es ws before reads lower long) tail
+
+  -- the lines of all reads, one event after the other
+  pub from_lines-is : (ws : List ℕ) → length ws ≡ length (byte_reads events) → from_lines t events ws ≡ lines_from t events events ws
+  from_lines-is ws long = lines_are 0 events ws [] refl tt long
+
+  pub lines_more : (i : ℕ) (d : Event) (ws : List ℕ) → i < length events → lines_from t events (drop i events) ws ≡ read_text t events (get_or events i d) ws ++ lines_from t events (drop (i + 1) events) (rest_after (get_or events i d) ws)
+  lines_more i d ws lt = at_drop_more (λ (es : List Event). lines_from t events es ws) events i d lt
+
+-- how many sources are left
+by_kind : (n : ℕ) (e : Event) (ws : List ℕ) (rest : List (ℕ × ℕ)) (b : Bool) → does_read e.kind ≡ b → length ws ≡ length (bytes_read_by n e ++ rest) → length (cond b (drop e.size ws) ws) ≡ length rest
+by_kind n e ws rest true is long = omega (arith, long, length-append (bytes_read_by n e) rest, length-read_by n e is, length-drop e.size ws)
+by_kind n e ws rest false is long = let none : length (bytes_read_by n e) ≡ 0 = rw is refl in omega (arith, long, length-append (bytes_read_by n e) rest)
+
+pub left_more : (events : List Event) (i : ℕ) (d : Event) (ws : List ℕ) → i < length events → length ws ≡ length (byte_reads_from i (drop i events)) → length (rest_after (get_or events i d) ws) ≡ length (byte_reads_from (i + 1) (drop (i + 1) events))
+left_more events i d ws lt long =
+    let e = get_or events i d in
+    by_kind i e ws (byte_reads_from (i + 1) (drop (i + 1) events)) (does_read e.kind) refl (long ∙ ap length (at_drop_more (byte_reads_from i) events i d lt))
+
+pub room : (events : List Event) (i : ℕ) (d : Event) (ws : List ℕ) → i < length events → length ws ≡ length (byte_reads_from i (drop i events)) → does_read (get_or events i d).kind ≡ true → (get_or events i d).size ≤ length ws
+room events i d ws lt long reads =
+    let e = get_or events i d in
+    omega (arith, long ∙ ap length (at_drop_more (byte_reads_from i) events i d lt), length-append (bytes_read_by i e) (byte_reads_from (i + 1) (drop (i + 1) events)), length-read_by i e reads)
+
+-- the sources that are left are known, as all of them are
+known_by : (n size : ℕ) (ws : List ℕ) (b : Bool) → All (λ w. w < n) ws → All (λ w. w < n) (cond b (drop size ws) ws)
+known_by n size ws true h = All-drop (λ w. w < n) size ws h
+known_by n size ws false h = h
+
+pub known_after : (n : ℕ) (e : Event) (ws : List ℕ) → All (λ w. w < n) ws → All (λ w. w < n) (rest_after e ws)
+known_after n e ws h = known_by n e.size ws (does_read e.kind) h

@@ -1,0 +1,6 @@
+pub mod Counted
+pub mod Devices
+pub mod Verdict
+pub mod ReportText
+pub mod ReadText
+pub mod Answer

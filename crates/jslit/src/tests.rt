@@ -1,0 +1,48 @@
+//! What no proof sees: the printed texts, and each call once.
+
+use crate::command::program;
+use crate::counted::Counted;
+use crate::engine::{Options, run};
+use std::alloc::AllocGlobal;
+use std::process::Abort;
+use std::test::Fail;
+use std::thread::Threads;
+
+mod devices;
+mod independent_reads;
+mod refusals;
+mod reports;
+
+const ONE_WORKER: Options = Options {
+    workers: 1,
+    cut: 4_096,
+};
+
+/// That `run` and the program answer a text with these bytes, and that the program gives this status.
+fn same_output(
+    rt: &(impl Threads + Abort + AllocGlobal),
+    text: &[u8],
+    expected: &[u8],
+    status: u8,
+) -> Result<(), Fail> {
+    let alloc = rt.alloc();
+    let mut input = Counted::new(text);
+    let mut output = Counted::new(Vec::new(alloc));
+    let mut errors = Vec::new(alloc);
+    let given = program(rt, alloc, &["jslit"], &mut input, &mut output, &mut errors);
+    assert_eq!(rt; given, status);
+    assert_eq!(rt; output.into_inner().as_slice(), expected);
+    assert!(rt; errors.is_empty());
+
+    let mut input = Counted::new(text);
+    let mut output = Counted::new(Vec::new(alloc));
+    let outcome = run(rt, alloc, &mut input, &mut output, ONE_WORKER);
+    let mut written = output.into_inner();
+    if let Err(fault) = outcome {
+        assert!(rt; written.is_empty());
+        let line = format!(in alloc; "{fault}\n")?;
+        written.extend_from_slice(line.as_bytes())?;
+    }
+    assert_eq!(rt; written.as_slice(), expected);
+    Ok(())
+}

@@ -1,0 +1,236 @@
+//! Whole reports, byte for byte.
+
+use super::same_output;
+use std::test::Fail;
+
+#[test]
+fn independent_reads(rt: HostRuntime) -> Result<(), Fail> {
+    let text = b"test iriw
+bytes 2
+agent A
+Atomics.store(U8, 0, 1)
+agent B
+Atomics.store(U8, 1, 1)
+agent C
+r0 = Atomics.load(U8, 0)
+r1 = Atomics.load(U8, 1)
+agent D
+r0 = Atomics.load(U8, 1)
+r1 = Atomics.load(U8, 0)
+check C.r0 == 1 && C.r1 == 0 && D.r0 == 1 && D.r1 == 0
+";
+    let report = b"test iriw
+outcome C.r0=0 C.r1=0 D.r0=0 D.r1=0
+  from C.0 init[0]
+  from C.1 init[1]
+  from D.0 init[1]
+  from D.1 init[0]
+  order init[0] init[1] C.0 C.1 D.0 B.0 D.1 A.0
+outcome C.r0=0 C.r1=0 D.r0=0 D.r1=1
+  from C.0 init[0]
+  from C.1 init[1]
+  from D.0 init[1]
+  from D.1 A.0
+  order init[0] init[1] C.0 A.0 C.1 D.0 B.0 D.1
+outcome C.r0=0 C.r1=0 D.r0=1 D.r1=0
+  from C.0 init[0]
+  from C.1 init[1]
+  from D.0 B.0
+  from D.1 init[0]
+  order init[0] init[1] C.0 C.1 B.0 D.0 D.1 A.0
+outcome C.r0=0 C.r1=0 D.r0=1 D.r1=1
+  from C.0 init[0]
+  from C.1 init[1]
+  from D.0 B.0
+  from D.1 A.0
+  order init[0] init[1] C.0 A.0 C.1 B.0 D.0 D.1
+outcome C.r0=0 C.r1=1 D.r0=0 D.r1=0
+  from C.0 init[0]
+  from C.1 B.0
+  from D.0 init[1]
+  from D.1 init[0]
+  order init[0] init[1] C.0 D.0 B.0 C.1 D.1 A.0
+outcome C.r0=0 C.r1=1 D.r0=0 D.r1=1
+  from C.0 init[0]
+  from C.1 B.0
+  from D.0 init[1]
+  from D.1 A.0
+  order init[0] init[1] C.0 A.0 D.0 B.0 C.1 D.1
+outcome C.r0=0 C.r1=1 D.r0=1 D.r1=0
+  from C.0 init[0]
+  from C.1 B.0
+  from D.0 B.0
+  from D.1 init[0]
+  order init[0] init[1] B.0 C.0 C.1 D.0 D.1 A.0
+outcome C.r0=0 C.r1=1 D.r0=1 D.r1=1
+  from C.0 init[0]
+  from C.1 B.0
+  from D.0 B.0
+  from D.1 A.0
+  order init[0] init[1] B.0 C.0 A.0 C.1 D.0 D.1
+outcome C.r0=1 C.r1=0 D.r0=0 D.r1=0
+  from C.0 A.0
+  from C.1 init[1]
+  from D.0 init[1]
+  from D.1 init[0]
+  order init[0] init[1] D.0 D.1 A.0 C.0 C.1 B.0
+outcome C.r0=1 C.r1=0 D.r0=0 D.r1=1
+  from C.0 A.0
+  from C.1 init[1]
+  from D.0 init[1]
+  from D.1 A.0
+  order init[0] init[1] A.0 C.0 C.1 D.0 B.0 D.1
+outcome C.r0=1 C.r1=0 D.r0=1 D.r1=1
+  from C.0 A.0
+  from C.1 init[1]
+  from D.0 B.0
+  from D.1 A.0
+  order init[0] init[1] A.0 C.0 C.1 B.0 D.0 D.1
+outcome C.r0=1 C.r1=1 D.r0=0 D.r1=0
+  from C.0 A.0
+  from C.1 B.0
+  from D.0 init[1]
+  from D.1 init[0]
+  order init[0] init[1] D.0 B.0 D.1 A.0 C.0 C.1
+outcome C.r0=1 C.r1=1 D.r0=0 D.r1=1
+  from C.0 A.0
+  from C.1 B.0
+  from D.0 init[1]
+  from D.1 A.0
+  order init[0] init[1] A.0 C.0 D.0 B.0 C.1 D.1
+outcome C.r0=1 C.r1=1 D.r0=1 D.r1=0
+  from C.0 A.0
+  from C.1 B.0
+  from D.0 B.0
+  from D.1 init[0]
+  order init[0] init[1] B.0 D.0 D.1 A.0 C.0 C.1
+outcome C.r0=1 C.r1=1 D.r0=1 D.r1=1
+  from C.0 A.0
+  from C.1 B.0
+  from D.0 B.0
+  from D.1 A.0
+  order init[0] init[1] A.0 B.0 C.0 C.1 D.0 D.1
+outcomes 15
+verdict never
+";
+    same_output(&rt, text, report, 0)
+}
+
+#[test]
+fn independent_reads_plain(rt: HostRuntime) -> Result<(), Fail> {
+    let text = b"test iriw
+bytes 2
+agent A
+Atomics.store(U8, 0, 1)
+agent B
+Atomics.store(U8, 1, 1)
+agent C
+r0 = U8[0]
+r1 = U8[1]
+agent D
+r0 = U8[1]
+r1 = U8[0]
+check C.r0 == 1 && C.r1 == 0 && D.r0 == 1 && D.r1 == 0
+";
+    let report = b"test iriw
+outcome C.r0=0 C.r1=0 D.r0=0 D.r1=0
+  from C.0 init[0]
+  from C.1 init[1]
+  from D.0 init[1]
+  from D.1 init[0]
+  order init[0] init[1] A.0 B.0 C.0 C.1 D.0 D.1
+outcome C.r0=0 C.r1=0 D.r0=0 D.r1=1
+  from C.0 init[0]
+  from C.1 init[1]
+  from D.0 init[1]
+  from D.1 A.0
+  order init[0] init[1] A.0 B.0 C.0 C.1 D.0 D.1
+outcome C.r0=0 C.r1=0 D.r0=1 D.r1=0
+  from C.0 init[0]
+  from C.1 init[1]
+  from D.0 B.0
+  from D.1 init[0]
+  order init[0] init[1] A.0 B.0 C.0 C.1 D.0 D.1
+outcome C.r0=0 C.r1=0 D.r0=1 D.r1=1
+  from C.0 init[0]
+  from C.1 init[1]
+  from D.0 B.0
+  from D.1 A.0
+  order init[0] init[1] A.0 B.0 C.0 C.1 D.0 D.1
+outcome C.r0=0 C.r1=1 D.r0=0 D.r1=0
+  from C.0 init[0]
+  from C.1 B.0
+  from D.0 init[1]
+  from D.1 init[0]
+  order init[0] init[1] A.0 B.0 C.0 C.1 D.0 D.1
+outcome C.r0=0 C.r1=1 D.r0=0 D.r1=1
+  from C.0 init[0]
+  from C.1 B.0
+  from D.0 init[1]
+  from D.1 A.0
+  order init[0] init[1] A.0 B.0 C.0 C.1 D.0 D.1
+outcome C.r0=0 C.r1=1 D.r0=1 D.r1=0
+  from C.0 init[0]
+  from C.1 B.0
+  from D.0 B.0
+  from D.1 init[0]
+  order init[0] init[1] A.0 B.0 C.0 C.1 D.0 D.1
+outcome C.r0=0 C.r1=1 D.r0=1 D.r1=1
+  from C.0 init[0]
+  from C.1 B.0
+  from D.0 B.0
+  from D.1 A.0
+  order init[0] init[1] A.0 B.0 C.0 C.1 D.0 D.1
+outcome C.r0=1 C.r1=0 D.r0=0 D.r1=0
+  from C.0 A.0
+  from C.1 init[1]
+  from D.0 init[1]
+  from D.1 init[0]
+  order init[0] init[1] A.0 B.0 C.0 C.1 D.0 D.1
+outcome C.r0=1 C.r1=0 D.r0=0 D.r1=1
+  from C.0 A.0
+  from C.1 init[1]
+  from D.0 init[1]
+  from D.1 A.0
+  order init[0] init[1] A.0 B.0 C.0 C.1 D.0 D.1
+outcome C.r0=1 C.r1=0 D.r0=1 D.r1=0
+  from C.0 A.0
+  from C.1 init[1]
+  from D.0 B.0
+  from D.1 init[0]
+  order init[0] init[1] A.0 B.0 C.0 C.1 D.0 D.1
+outcome C.r0=1 C.r1=0 D.r0=1 D.r1=1
+  from C.0 A.0
+  from C.1 init[1]
+  from D.0 B.0
+  from D.1 A.0
+  order init[0] init[1] A.0 B.0 C.0 C.1 D.0 D.1
+outcome C.r0=1 C.r1=1 D.r0=0 D.r1=0
+  from C.0 A.0
+  from C.1 B.0
+  from D.0 init[1]
+  from D.1 init[0]
+  order init[0] init[1] A.0 B.0 C.0 C.1 D.0 D.1
+outcome C.r0=1 C.r1=1 D.r0=0 D.r1=1
+  from C.0 A.0
+  from C.1 B.0
+  from D.0 init[1]
+  from D.1 A.0
+  order init[0] init[1] A.0 B.0 C.0 C.1 D.0 D.1
+outcome C.r0=1 C.r1=1 D.r0=1 D.r1=0
+  from C.0 A.0
+  from C.1 B.0
+  from D.0 B.0
+  from D.1 init[0]
+  order init[0] init[1] A.0 B.0 C.0 C.1 D.0 D.1
+outcome C.r0=1 C.r1=1 D.r0=1 D.r1=1
+  from C.0 A.0
+  from C.1 B.0
+  from D.0 B.0
+  from D.1 A.0
+  order init[0] init[1] A.0 B.0 C.0 C.1 D.0 D.1
+outcomes 16
+verdict sometimes
+";
+    same_output(&rt, text, report, 0)
+}
