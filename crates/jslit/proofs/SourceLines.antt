@@ -7,7 +7,7 @@ use Rattle.std.proofs.lemmas.List.Elements.{filter-append, All-drop}
 use Rattle.lit_read.specs.Syntax.{Litmus}
 use Rattle.lit_search.specs.declared.event.Event.{Event}
 use Rattle.lit_search.specs.Event.{does_read, event_at}
-use Rattle.lit_search.specs.ReadsFrom.{bytes_read_by, byte_reads_from, byte_reads, reads_from}
+use Rattle.lit_search.specs.ReadsFrom.{bytes_read_by, byte_reads_from, byte_reads, read_numbers_from}
 use Rattle.jslit.specs.ReportText.{source_line, from_lines}
 use Rattle.jslit.specs.ReadText.{read_text, rest_after}
 
@@ -137,16 +137,16 @@ module _ (t : Litmus) (events : List Event) where
 
   step : (n : ℕ) (e : Event) (es : List Event) (ws : List ℕ) (ps : List Pair) (b : Bool) → does_read e.kind ≡ b → At events n e es
       → (does_read e.kind ≡ true → map (λ p. p.1) (filter (is_of n) ps) ≡ take e.size ws)
-      → flat_map (line_of ps) (reads_from (n + 1) es) ≡ lines_from t events es (drop (length (bytes_read_by n e)) ws)
-      → flat_map (line_of ps) (cond b (n ∷ reads_from (n + 1) es) (reads_from (n + 1) es)) ≡ cond b (source_line t events e (take e.size ws)) [] ++ lines_from t events es (cond b (drop e.size ws) ws)
+      → flat_map (line_of ps) (read_numbers_from (n + 1) es) ≡ lines_from t events es (drop (length (bytes_read_by n e)) ws)
+      → flat_map (line_of ps) (cond b (n ∷ read_numbers_from (n + 1) es) (read_numbers_from (n + 1) es)) ≡ cond b (source_line t events e (take e.size ws)) [] ++ lines_from t events es (cond b (drop e.size ws) ws)
   step n e es ws ps true is at own tail =
-      ap (λ (us : List ℕ). source_line t events (event_at events n) us ++ flat_map (line_of ps) (reads_from (n + 1) es)) (own is)
-      ∙ ap (λ (x : Event). source_line t events x (take e.size ws) ++ flat_map (line_of ps) (reads_from (n + 1) es)) (at_event events n e es at)
+      ap (λ (us : List ℕ). source_line t events (event_at events n) us ++ flat_map (line_of ps) (read_numbers_from (n + 1) es)) (own is)
+      ∙ ap (λ (x : Event). source_line t events x (take e.size ws) ++ flat_map (line_of ps) (read_numbers_from (n + 1) es)) (at_event events n e es at)
       ∙ ap (λ (bs : List ℕ). source_line t events e (take e.size ws) ++ bs) (tail ∙ ap (λ (k : ℕ). lines_from t events es (drop k ws)) (length-read_by n e is))
   step n e es ws ps false is at own tail = tail ∙ ap (λ (k : ℕ). lines_from t events es (drop k ws)) (none_read n e is)
 
   lines_are : (n : ℕ) (es : List Event) (ws : List ℕ) (before : List Pair) → drop n events ≡ es → AreOf (λ k. k < n) before → length ws ≡ length (byte_reads_from n es)
-      → flat_map (line_of (before ++ zip (byte_reads_from n es) ws)) (reads_from n es) ≡ lines_from t events es ws
+      → flat_map (line_of (before ++ zip (byte_reads_from n es) ws)) (read_numbers_from n es) ≡ lines_from t events es ws
   lines_are n [] ws before at lower long = refl
   lines_are n (e ∷ es) ws before at lower long =
       let own = bytes_read_by n e in
@@ -154,7 +154,7 @@ module _ (t : Litmus) (events : List Event) where
       let seen = before ++ zip own (take (length own) ws) in
       let lower' : AreOf (λ k. k < n + 1) seen = both (λ k. k < n + 1) before (zip own (take (length own) ws)) (weaker (λ k. k < n) (λ k. k < n + 1) before (λ k lt. omega arith) lower) (weaker (λ k. k ≡ n) (λ k. k < n + 1) (zip own (take (length own) ws)) (λ k is. omega arith) (of_bytes n e (take (length own) ws))) in
       let long' : length rest ≡ length (byte_reads_from (n + 1) es) = omega (arith, long, length-append own (byte_reads_from (n + 1) es), length-drop (length own) ws) in
-      let tail = ap (λ (ps : List Pair). flat_map (line_of ps) (reads_from (n + 1) es)) (regroup n e es ws before) ∙ lines_are (n + 1) es rest seen (at_more events n e es at) lower' long' in
+      let tail = ap (λ (ps : List Pair). flat_map (line_of ps) (read_numbers_from (n + 1) es)) (regroup n e es ws before) ∙ lines_are (n + 1) es rest seen (at_more events n e es at) lower' long' in
       step n e es ws (before ++ zip (byte_reads_from n (e ∷ es)) ws) (does_read e.kind) refl at (λ reads. own_sources n e es ws before reads lower long) tail
 
   -- the lines of all reads, one event after the other

@@ -5,7 +5,7 @@ use Rattle.std.specs.Fmt.{decimal}
 use Rattle.lit_read.specs.Syntax.{Litmus, agent_of}
 use Rattle.lit_search.specs.declared.event.Event.{Event}
 use Rattle.lit_search.specs.Event.{event_at}
-use Rattle.lit_search.specs.ReadsFrom.{byte_reads, reads_of}
+use Rattle.lit_search.specs.ReadsFrom.{byte_reads, read_numbers}
 use Rattle.lit_search.specs.ChoiceEvents.{choice_at, choice_events}
 use Rattle.lit_search.specs.Outcome.{names_of}
 use Rattle.lit_search.specs.Report.{Entry, Report}
@@ -39,7 +39,7 @@ source_line t events read sources = line (codes "  from" ++ (codes " " ++ event_
 -- a line for each read, with its sources
 abbrev pub from_lines : Litmus → List Event → List ℕ → List ℕ
 from_lines t events sources =
-    flat_map (λ read. source_line t events (event_at events read) (sources_of_read events sources read)) (reads_of events)
+    flat_map (λ read. source_line t events (event_at events read) (sources_of_read events sources read)) (read_numbers events)
 
 -- a register of an outcome with its value
 abbrev pub register_text : Litmus → (ℕ × ℕ) × ℕ → List ℕ

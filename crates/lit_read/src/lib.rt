@@ -24,7 +24,7 @@ pub use laws::{
     cuts_one_way, each_text_is_told, has_one_first_fault, has_one_form, lines_are_joined,
     spells_one_test, spells_or_is_faulty,
 };
-pub use limits::{AGENT_LIMIT, REGISTERS, TEXT_LIMIT};
+pub use limits::{AGENT_LIMIT, BLOCK_LIMIT, REGISTERS, TEXT_LIMIT};
 pub use litmus::Test;
 pub use reading::read;
 pub use syntax::{Cond, Stmt, View};

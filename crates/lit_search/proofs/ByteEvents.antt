@@ -11,11 +11,12 @@ use Rattle.lit_search.specs.Event.{HasByte, does_read, does_write, init_event, i
 use Rattle.lit_search.specs.Path.{payload_of}
 use Rattle.lit_search.specs.ReadsFrom.{byte_reads, IsCandidate}
 use Rattle.lit_search.specs.Choice.{candidates_of}
-use Rattle.lit_search.specs.Plan.{accesses_from, accesses_of, ArePlain, IsPlain, AreByteEvents}
+use Rattle.lit_search.specs.Plan.{accesses_from, accesses_of, AreByteEvents}
+use Rattle.lit_search.specs.Supported.{AreSupported, IsSupported}
 use Rattle.lit_search.proofs.AccessLists.{length-init_events}
 use Rattle.lit_search.proofs.ByteReads.{byte_reads-known, length-byte_reads_from}
 use Rattle.lit_search.proofs.Candidates.{candidates_of-found}
-use Rattle.lit_search.proofs.PlainTests.{AllPlain, AllPlain-from_index}
+use Rattle.lit_search.proofs.SupportedTests.{AllSupported, AllSupported-from_index}
 use Rattle.std.proofs.lemmas.Option.{slice_get_within}
 
 -- an event of one byte of the block
@@ -34,21 +35,21 @@ IsByteEvent-init bytes b inside = record {
 pub payload_of-bytes : (value : ℕ) → All (λ b. b < 256) (payload_of value)
 payload_of-bytes value = All-from_recursion (λ (x : ℕ). x < 256) (payload_of value) (omega arith, (omega arith, (omega arith, (omega arith, tt))))
 
-pub accesses_from-bytes : (bytes owner place : ℕ) (ss : Statements) → ArePlain ss → AreStatementsIn bytes ss → All (IsByteEvent bytes) (accesses_from owner place ss)
-accesses_from-bytes bytes owner place End plain within = All-nil (IsByteEvent bytes)
-accesses_from-bytes bytes owner place (Then (Load reg Uint8 index atomic) ss) plain within =
+pub accesses_from-bytes : (bytes owner place : ℕ) (ss : Statements) → AreSupported ss → AreStatementsIn bytes ss → All (IsByteEvent bytes) (accesses_from owner place ss)
+accesses_from-bytes bytes owner place End supported within = All-nil (IsByteEvent bytes)
+accesses_from-bytes bytes owner place (Then (Load reg Uint8 index atomic) ss) supported within =
     All-cons (IsByteEvent bytes) _ _
     (record {
       single = refl;
       in_block = omega (arith, within.0.1);
       payload = All-from_recursion (λ (x : ℕ). x < 256) (0 ∷ 0 ∷ 0 ∷ 0 ∷ []) (omega arith, (omega arith, (omega arith, (omega arith, tt))));
     })
-    (accesses_from-bytes bytes owner (place + 1) ss plain within.1)
-accesses_from-bytes bytes owner place (Then (Store Uint8 index value atomic) ss) plain within =
+    (accesses_from-bytes bytes owner (place + 1) ss supported within.1)
+accesses_from-bytes bytes owner place (Then (Store Uint8 index value atomic) ss) supported within =
     All-cons (IsByteEvent bytes) _ _
     (record { single = refl; in_block = omega (arith, within.0.0); payload = payload_of-bytes value })
-    (accesses_from-bytes bytes owner (place + 1) ss plain within.1)
-accesses_from-bytes bytes owner place (Then _ ss) plain within = absurd plain
+    (accesses_from-bytes bytes owner (place + 1) ss supported within.1)
+accesses_from-bytes bytes owner place (Then _ ss) supported within = absurd supported
 
 abbrev pub AllWithin : ℕ → List Agent → Type 0
 AllWithin bytes agents = AllByRecursion (λ a. AreStatementsIn bytes a.body) agents
@@ -57,11 +58,11 @@ AllWithin-from_index : (bytes : ℕ) (agents : List Agent) (d : Agent) → ((i :
 AllWithin-from_index bytes [] d each = tt
 AllWithin-from_index bytes (a ∷ agents) d each = (each 0 (omega arith), AllWithin-from_index bytes agents d (λ i h. each (suc i) (omega (arith, h))))
 
-pub accesses_of-bytes : (bytes n : ℕ) (agents : List Agent) → AllPlain agents → AllWithin bytes agents → All (IsByteEvent bytes) (accesses_of n agents)
-accesses_of-bytes bytes n [] plain within = All-nil (IsByteEvent bytes)
-accesses_of-bytes bytes n (a ∷ agents) plain within =
+pub accesses_of-bytes : (bytes n : ℕ) (agents : List Agent) → AllSupported agents → AllWithin bytes agents → All (IsByteEvent bytes) (accesses_of n agents)
+accesses_of-bytes bytes n [] supported within = All-nil (IsByteEvent bytes)
+accesses_of-bytes bytes n (a ∷ agents) supported within =
     All-append (IsByteEvent bytes) (accesses_from n 0 a.body) (accesses_of (n + 1) agents)
-    (accesses_from-bytes bytes n 0 a.body plain.0 within.0) (accesses_of-bytes bytes (n + 1) agents plain.1 within.1)
+    (accesses_from-bytes bytes n 0 a.body supported.0 within.0) (accesses_of-bytes bytes (n + 1) agents supported.1 within.1)
 
 pub get_or-init_events : (bytes b : ℕ) (d : Event) → b < bytes → get_or (init_events bytes) b d ≡ init_event b
 get_or-init_events bytes b d inside = get_or-map-range_with_len init_event 0 bytes b b d inside (omega arith)
@@ -75,10 +76,10 @@ init_events-bytes bytes = λ k d inside.
 abbrev pub test_events : Litmus → List Event
 test_events t = init_events t.bytes ++ accesses_of 0 t.agents
 
-pub test_events-bytes : (t : Litmus) → IsLitmus t → IsPlain t → All (IsByteEvent t.bytes) (test_events t)
-test_events-bytes t litmus plain =
+pub test_events-bytes : (t : Litmus) → IsLitmus t → IsSupported t → All (IsByteEvent t.bytes) (test_events t)
+test_events-bytes t litmus supported =
     All-append (IsByteEvent t.bytes) (init_events t.bytes) (accesses_of 0 t.agents) (init_events-bytes t.bytes)
-    (accesses_of-bytes t.bytes 0 t.agents (AllPlain-from_index t.agents _ plain) (AllWithin-from_index t.bytes t.agents _ litmus.bodies))
+    (accesses_of-bytes t.bytes 0 t.agents (AllSupported-from_index t.agents _ supported) (AllWithin-from_index t.bytes t.agents _ litmus.bodies))
 
 pub length-test_events : (t : Litmus) → length (test_events t) ≡ t.bytes + length (accesses_of 0 t.agents)
 length-test_events t = length-append (init_events t.bytes) (accesses_of 0 t.agents) ∙ ap (λ n. n + length (accesses_of 0 t.agents)) (length-init_events t.bytes)
@@ -87,9 +88,9 @@ pub test_events-making : (t : Litmus) (b : ℕ) → b < t.bytes → event_at (te
 test_events-making t b inside =
     get_or_append_left (init_events t.bytes) (accesses_of 0 t.agents) no_event b (omega (arith, inside, length-init_events t.bytes)) ∙ get_or-init_events t.bytes b no_event inside
 
-pub AreByteEvents-test : (t : Litmus) → IsLitmus t → IsPlain t → length (accesses_of 0 t.agents) ≤ ACCESS_LIMIT → AreByteEvents t.bytes (test_events t)
-AreByteEvents-test t litmus plain few =
-    let each = test_events-bytes t litmus plain in
+pub AreByteEvents-test : (t : Litmus) → IsLitmus t → IsSupported t → length (accesses_of 0 t.agents) ≤ ACCESS_LIMIT → AreByteEvents t.bytes (test_events t)
+AreByteEvents-test t litmus supported few =
+    let each = test_events-bytes t litmus supported in
     let long : length (test_events t) ≤ EVENT_LIMIT = omega (arith, length-test_events t, litmus.block, few) in
     let sizes : AllByRecursion (λ (e : Event). e.size ≡ 1) (test_events t) =
     recursion_from_All (λ (e : Event). e.size ≡ 1) (test_events t) (All-weaker (IsByteEvent t.bytes) (λ (e : Event). e.size ≡ 1) (λ e is. is.single) (test_events t) each) in

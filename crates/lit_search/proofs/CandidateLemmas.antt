@@ -4,7 +4,7 @@ use Rattle.std.proofs.Common.{◌≡◌, ◌↔◌, ℕ, ◌≤◌, List, length
 use Rattle.std.proofs.lemmas.Option.{slice_get-get_or}
 use Rattle.lit_search.specs.declared.event.Event.{Event}
 use Rattle.lit_search.specs.declared.limits.TheConstants.{BYTE_READ_LIMIT, EVENT_LIMIT}
-use Rattle.lit_search.specs.declared.relation.Rows.{Rows}
+use Rattle.lit_search.specs.declared.bit_rows.Rows.{Rows}
 use Rattle.lit_search.specs.declared.triples.Between.{Between}
 use Rattle.lit_search.specs.Between.{Forbids}
 use Rattle.lit_search.specs.Choice.{AreSources}

@@ -8,7 +8,7 @@ use Rattle.lit_read.specs.Syntax.{Litmus, Agent, agent_of, End}
 use Rattle.lit_search.specs.declared.event.Event.{Event}
 use Rattle.lit_search.specs.Event.{init_events}
 use Rattle.lit_search.specs.Run.{IsRun}
-use Rattle.lit_search.specs.ReadsFrom.{byte_reads, value_of, reads_from, reads_of}
+use Rattle.lit_search.specs.ReadsFrom.{byte_reads, value_of, read_numbers_from, read_numbers}
 use Rattle.lit_search.specs.HappensBefore.{HappensBefore}
 use Rattle.lit_search.specs.Coherent.{HasCoherentReads}
 use Rattle.lit_search.specs.TearFree.{HasTearFreeReads}
@@ -18,18 +18,19 @@ use Rattle.lit_search.specs.Choice.{Choice, AreSources, choices_of, combinations
 use Rattle.lit_search.specs.Outcome.{outcome_of}
 use Rattle.lit_search.specs.Path.{Path}
 use Rattle.lit_search.specs.Given.{AreGiven}
-use Rattle.lit_search.specs.Plan.{AreByteEvents, accesses_of, IsPlain, IsOfCombination, events_in, combination_at}
+use Rattle.lit_search.specs.Plan.{AreByteEvents, accesses_of, IsOfCombination, events_in, combination_at}
+use Rattle.lit_search.specs.Supported.{IsSupported}
 use Rattle.lit_search.specs.Running.{statement_count, statement_total, all_registers}
 use Rattle.lit_search.specs.ValidExecution.{Execution, execution_events, execution_choice, execution_outcome, IsCandidateExecution, HasValidChosenReads, IsValidExecution}
 use Rattle.lit_search.specs.Report.{Gives}
 use Rattle.lit_search.specs.Examined.{IsAllowed, IsOrdered, IsExample, IsInvalid}
-use Rattle.lit_search.proofs.PlainTests.{AllPlain, AllPlain-from_index, plain_paths, combinations_of-plain, events_in-plain}
-use Rattle.lit_search.proofs.Executions.{AreRuns, runs_each, each_run, runs_of, runs_of-are, values-runs_of, AreStraight, all_straight, reads_of-accesses, length-all_accesses}
+use Rattle.lit_search.proofs.SupportedTests.{AllSupported, AllSupported-from_index, plain_paths, combinations_of-supported, events_in-supported}
+use Rattle.lit_search.proofs.Executions.{AreRuns, runs_each, each_run, runs_of, runs_of-are, values-runs_of, AreStraight, all_straight, read_numbers-accesses, length-all_accesses}
 use Rattle.lit_search.proofs.ByteEvents.{length-test_events}
 
 -- choice n of a test of loads and stores, with its events and its sources
 pub record IsPlaced (t : Litmus) (n : ℕ) (events : List Event) (sources : List ℕ) : Type 0 where
-  pub plain : AllPlain t.agents
+  pub supported : AllSupported t.agents
   pub events_are : events ≡ init_events t.bytes ++ accesses_of 0 t.agents
   pub choice : Choice
   pub listed : slice_get (choices_of t) n ≡ Some choice
@@ -48,8 +49,8 @@ module _ (t : Litmus) (n : ℕ) (events : List Event) (sources : List ℕ) (plac
   placed_outcome = outcome_of t (all_registers events sources t.bytes t.agents)
 
   -- the reads of all agents
-  reads_are : map (value_of events sources) (reads_of events) ≡ map (value_of events sources) (reads_from t.bytes (accesses_of 0 t.agents))
-  reads_are = ap (λ (es : List Event). map (value_of events sources) (reads_of es)) placed.events_are ∙ ap (map (value_of events sources)) (reads_of-accesses t.bytes (accesses_of 0 t.agents))
+  reads_are : map (value_of events sources) (read_numbers events) ≡ map (value_of events sources) (read_numbers_from t.bytes (accesses_of 0 t.agents))
+  reads_are = ap (λ (es : List Event). map (value_of events sources) (read_numbers es)) placed.events_are ∙ ap (map (value_of events sources)) (read_numbers-accesses t.bytes (accesses_of 0 t.agents))
 
   -- what a valid execution of the choice has
   pub record IsSame (x : Execution) : Type 0 where
@@ -62,10 +63,10 @@ module _ (t : Litmus) (n : ℕ) (events : List Event) (sources : List ℕ) (plac
       let same : execution_choice x ≡ placed.choice = choice_is (execution_choice x) placed.choice (sym at ∙ placed.listed) in
       let same_sources : x.sources ≡ sources = ap (λ (c : Choice). c.sources) same ∙ placed.sources_are in
       let are : AreRuns 0 t.agents x.runs = runs_each 0 t.agents nobody x.runs candidate.one_each (λ i r is. let P : ℕ → Type 0 = λ k. IsRun k (agent_of t i).body r in subst P (omega arith) (candidate.each i r is)) in
-      let s : AreStraight events sources 0 t.bytes t.agents x.runs = all_straight events sources 0 t.bytes t.agents x.runs placed.plain are in
+      let s : AreStraight events sources 0 t.bytes t.agents x.runs = all_straight events sources 0 t.bytes t.agents x.runs placed.supported are in
       let same_events : execution_events t x ≡ events = ap (λ (es : List Event). init_events t.bytes ++ es) s.made ∙ sym placed.events_are in
-      let values : flat_map (λ run. run.values) x.runs ≡ map (value_of events sources) (reads_from t.bytes (accesses_of 0 t.agents)) =
-      chosen ∙ ap (λ (es : List Event). map (value_of es x.sources) (reads_of es)) same_events ∙ ap (λ (ws : List ℕ). map (value_of events ws) (reads_of events)) same_sources ∙ reads_are in
+      let values : flat_map (λ run. run.values) x.runs ≡ map (value_of events sources) (read_numbers_from t.bytes (accesses_of 0 t.agents)) =
+      chosen ∙ ap (λ (es : List Event). map (value_of es x.sources) (read_numbers es)) same_events ∙ ap (λ (ws : List ℕ). map (value_of events ws) (read_numbers events)) same_sources ∙ reads_are in
       record { same_events = same_events; same_sources = same_sources; same_outcome = ap (outcome_of t) (s.registers values) }
 
   -- what holds of the execution's events and sources holds of the choice's
@@ -79,10 +80,10 @@ module _ (t : Litmus) (n : ℕ) (events : List Event) (sources : List ℕ) (plac
   example = record { runs = runs_of events sources 0 t.bytes t.agents; sources = sources }
 
   example_runs : AreRuns 0 t.agents example.runs
-  example_runs = runs_of-are events sources 0 t.bytes t.agents placed.plain
+  example_runs = runs_of-are events sources 0 t.bytes t.agents placed.supported
 
   example_straight : AreStraight events sources 0 t.bytes t.agents example.runs
-  example_straight = all_straight events sources 0 t.bytes t.agents example.runs placed.plain example_runs
+  example_straight = all_straight events sources 0 t.bytes t.agents example.runs placed.supported example_runs
 
   example_events : execution_events t example ≡ events
   example_events = ap (λ (es : List Event). init_events t.bytes ++ es) example_straight.made ∙ sym placed.events_are
@@ -103,7 +104,7 @@ module _ (t : Litmus) (n : ℕ) (events : List Event) (sources : List ℕ) (plac
   }
 
   example_reads : HasValidChosenReads t example
-  example_reads = to_example (λ es. flat_map (λ run. run.values) example.runs ≡ map (value_of es sources) (reads_of es)) (values-runs_of events sources 0 t.bytes t.agents ∙ sym reads_are)
+  example_reads = to_example (λ es. flat_map (λ run. run.values) example.runs ≡ map (value_of es sources) (read_numbers es)) (values-runs_of events sources 0 t.bytes t.agents ∙ sym reads_are)
 
   example_choice : execution_choice example ≡ placed.choice
   example_choice = let d : map (λ run. run.decisions) example.runs ≡ placed.choice.decisions = example_straight.decisions ∙ sym placed.decided in let s : sources ≡ placed.choice.sources = sym placed.sources_are in
@@ -163,14 +164,14 @@ same_least n before after banned forbidden f g order o = record {
   least = λ other is. o.least other (same_order n after before forbidden banned (λ a d. (f a d).0) (λ w r v. (g w r v).0) other is);
 }
 
-decisions_of-plain : (n : ℕ) (agents : List Agent) → map (λ path. path.decisions) (plain_paths n agents) ≡ map (λ a. []) agents
-decisions_of-plain n [] = refl
-decisions_of-plain n (a ∷ agents) = ap (λ (ds : List (List ℕ)). [] ∷ ds) (decisions_of-plain (n + 1) agents)
+decisions_of-supported : (n : ℕ) (agents : List Agent) → map (λ path. path.decisions) (plain_paths n agents) ≡ map (λ a. []) agents
+decisions_of-supported n [] = refl
+decisions_of-supported n (a ∷ agents) = ap (λ (ds : List (List ℕ)). [] ∷ ds) (decisions_of-supported (n + 1) agents)
 
 -- a choice with the events and the sources that a plan gives
-pub placed_of : (t : Litmus) (n c : ℕ) (events : List Event) (sources : List ℕ) → IsPlain t → IsOfCombination t n c → events ≡ events_in t c → (choice : Choice) → slice_get (choices_of t) n ≡ Some choice → choice.sources ≡ sources → AreSources (events_in t c) sources → IsPlaced t n events sources
-placed_of t n c events sources plain of is choice listed same sourced =
-    let one = combinations_of-plain t plain in
+pub placed_of : (t : Litmus) (n c : ℕ) (events : List Event) (sources : List ℕ) → IsSupported t → IsOfCombination t n c → events ≡ events_in t c → (choice : Choice) → slice_get (choices_of t) n ≡ Some choice → choice.sources ≡ sources → AreSources (events_in t c) sources → IsPlaced t n events sources
+placed_of t n c events sources supported of is choice listed same sourced =
+    let one = combinations_of-supported t supported in
     let first : 0 ≡ c = omega (arith, of.known, ap (λ (cs : List (List Path)). length cs) one) in
     let P : ℕ → Type 0 = λ k. events ≡ events_in t k in
     let Q : ℕ → Type 0 = λ k. map (λ path. path.decisions) (combination_at t k) ≡ of.choice.decisions in
@@ -178,11 +179,11 @@ placed_of t n c events sources plain of is choice listed same sourced =
     let the : of.choice ≡ choice = choice_is of.choice choice (sym of.listed ∙ listed) in
     let R : List Event → Type 0 = λ es. AreSources es sources in
     record {
-      plain = AllPlain-from_index t.agents nobody plain;
-      events_are = subst P (sym first) is ∙ events_in-plain t plain;
+      supported = AllSupported-from_index t.agents nobody supported;
+      events_are = subst P (sym first) is ∙ events_in-supported t supported;
       choice = choice;
       listed = listed;
-      decided = ap (λ (x : Choice). x.decisions) (sym the) ∙ sym (subst Q (sym first) of.decided) ∙ ap (map (λ path. path.decisions)) only ∙ decisions_of-plain 0 t.agents;
+      decided = ap (λ (x : Choice). x.decisions) (sym the) ∙ sym (subst Q (sym first) of.decided) ∙ ap (map (λ path. path.decisions)) only ∙ decisions_of-supported 0 t.agents;
       sources_are = same;
       sourced = subst R (sym is) sourced;
     }
@@ -213,8 +214,8 @@ given_of bytes events sources single sourced = record {
       (sourced.each k read.0 read.1 (get_or sources k d) (slice_get-get_or (byte_reads events) k (0, 0) (omega (arith, sourced.one_each, lt))) (slice_get-get_or sources k d lt)).known;
 }
 
-pub total_of : (t : Litmus) (c : ℕ) (events : List Event) → IsPlain t → c < length (combinations_of t) → events ≡ events_in t c → length events ≡ t.bytes + statement_total t.agents
-total_of t c events plain known is =
-    let first : 0 ≡ c = omega (arith, known, ap (λ (cs : List (List Path)). length cs) (combinations_of-plain t plain)) in
+pub total_of : (t : Litmus) (c : ℕ) (events : List Event) → IsSupported t → c < length (combinations_of t) → events ≡ events_in t c → length events ≡ t.bytes + statement_total t.agents
+total_of t c events supported known is =
+    let first : 0 ≡ c = omega (arith, known, ap (λ (cs : List (List Path)). length cs) (combinations_of-supported t supported)) in
     let P : ℕ → Type 0 = λ k. events ≡ events_in t k in
-    ap length (subst P (sym first) is ∙ events_in-plain t plain) ∙ length-test_events t ∙ ap (λ (n : ℕ). t.bytes + n) (length-all_accesses 0 t.agents)
+    ap length (subst P (sym first) is ∙ events_in-supported t supported) ∙ length-test_events t ∙ ap (λ (n : ℕ). t.bytes + n) (length-all_accesses 0 t.agents)

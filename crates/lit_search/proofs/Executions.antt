@@ -9,9 +9,10 @@ use Rattle.lit_search.specs.declared.event.Event.{Event}
 use Rattle.lit_search.specs.Event.{init_event, init_events, does_read}
 use Rattle.lit_search.specs.Path.{read_event, write_event}
 use Rattle.lit_search.specs.Run.{Run, RunsFrom, IsRun}
-use Rattle.lit_search.specs.ReadsFrom.{value_of, reads_from, reads_of}
-use Rattle.lit_search.specs.Plan.{ArePlain, accesses_from, accesses_of}
-use Rattle.lit_search.proofs.PlainTests.{AllPlain}
+use Rattle.lit_search.specs.ReadsFrom.{value_of, read_numbers_from, read_numbers}
+use Rattle.lit_search.specs.Plan.{accesses_from, accesses_of}
+use Rattle.lit_search.specs.Supported.{AreSupported}
+use Rattle.lit_search.proofs.SupportedTests.{AllSupported}
 use Rattle.lit_search.specs.Running.{statement_count, statement_total, registers_at, registers_in, all_registers}
 
 -- ---- one agent
@@ -22,15 +23,15 @@ module _ (events : List Event) (sources : List ℕ) where
 
   -- the values of the reads among statements whose accesses are the events from number n on
   abbrev pub values_in : ℕ → ℕ → ℕ → Statements → List ℕ
-  values_in owner place n ss = map value (reads_from n (accesses_from owner place ss))
+  values_in owner place n ss = map value (read_numbers_from n (accesses_from owner place ss))
 
-  pub runs : (owner place n : ℕ) (ss : Statements) (before : List ℕ) → ArePlain ss → RunsFrom owner place ss before (values_in owner place n ss) [] (accesses_from owner place ss) (registers_in events sources n ss before)
-  runs owner place n End before plain = (refl, refl, refl, refl)
-  runs owner place n (Then (Load reg Uint8 index atomic) ss) before plain =
-      (value n, values_in owner (place + 1) (n + 1) ss, accesses_from owner (place + 1) ss, refl, refl, runs owner (place + 1) (n + 1) ss (registers_at events sources n (Load reg Uint8 index atomic) before) plain)
-  runs owner place n (Then (Store Uint8 index stored atomic) ss) before plain =
-      (accesses_from owner (place + 1) ss, refl, runs owner (place + 1) (n + 1) ss before plain)
-  runs owner place n (Then _ ss) before plain = absurd plain
+  pub runs : (owner place n : ℕ) (ss : Statements) (before : List ℕ) → AreSupported ss → RunsFrom owner place ss before (values_in owner place n ss) [] (accesses_from owner place ss) (registers_in events sources n ss before)
+  runs owner place n End before supported = (refl, refl, refl, refl)
+  runs owner place n (Then (Load reg Uint8 index atomic) ss) before supported =
+      (value n, values_in owner (place + 1) (n + 1) ss, accesses_from owner (place + 1) ss, refl, refl, runs owner (place + 1) (n + 1) ss (registers_at events sources n (Load reg Uint8 index atomic) before) supported)
+  runs owner place n (Then (Store Uint8 index stored atomic) ss) before supported =
+      (accesses_from owner (place + 1) ss, refl, runs owner (place + 1) (n + 1) ss before supported)
+  runs owner place n (Then _ ss) before supported = absurd supported
 
   -- what a run of loads and stores is
   pub record IsStraight (owner place n : ℕ) (ss : Statements) (before values decisions : List ℕ) (made : List Event) (after : List ℕ) : Type 0 where
@@ -58,27 +59,27 @@ module _ (events : List Event) (sources : List ℕ) where
         s.registers (tail_is got (value n) others (values_in owner (place + 1) (n + 1) ss) both) ∙ ap (λ (x : ℕ). registers_in events sources (n + 1) ss (slice_set before reg x)) head;
   }
 
-  pub straight : (owner place n : ℕ) (ss : Statements) (before values decisions : List ℕ) (made : List Event) (after : List ℕ) → ArePlain ss → RunsFrom owner place ss before values decisions made after → IsStraight owner place n ss before values decisions made after
-  straight owner place n End before values decisions made after plain r = record { no_decision = r.1; made_is = r.2; one_each = ap length r.0; registers = λ is. r.3 }
-  straight owner place n (Then (Load reg Uint8 index atomic) ss) before values decisions made after plain r =
-      straight_load owner place n reg index atomic ss before values decisions made after r.0 r.1 r.2 r.3 r.4 (straight owner (place + 1) (n + 1) ss (slice_set before reg r.0) r.1 decisions r.2 after plain r.5)
-  straight owner place n (Then (Store Uint8 index stored atomic) ss) before values decisions made after plain r =
-      let s = straight owner (place + 1) (n + 1) ss before values decisions r.0 after plain r.2 in
+  pub straight : (owner place n : ℕ) (ss : Statements) (before values decisions : List ℕ) (made : List Event) (after : List ℕ) → AreSupported ss → RunsFrom owner place ss before values decisions made after → IsStraight owner place n ss before values decisions made after
+  straight owner place n End before values decisions made after supported r = record { no_decision = r.1; made_is = r.2; one_each = ap length r.0; registers = λ is. r.3 }
+  straight owner place n (Then (Load reg Uint8 index atomic) ss) before values decisions made after supported r =
+      straight_load owner place n reg index atomic ss before values decisions made after r.0 r.1 r.2 r.3 r.4 (straight owner (place + 1) (n + 1) ss (slice_set before reg r.0) r.1 decisions r.2 after supported r.5)
+  straight owner place n (Then (Store Uint8 index stored atomic) ss) before values decisions made after supported r =
+      let s = straight owner (place + 1) (n + 1) ss before values decisions r.0 after supported r.2 in
       record { no_decision = s.no_decision; made_is = r.1 ∙ ap (λ (es : List Event). write_event owner place Uint8 index stored atomic ∷ es) s.made_is; one_each = s.one_each; registers = s.registers }
-  straight owner place n (Then _ ss) before values decisions made after plain r = absurd plain
+  straight owner place n (Then _ ss) before values decisions made after supported r = absurd supported
 
 -- ---- reads of lists of events
 
-pub reads_from-append : (n : ℕ) (xs ys : List Event) → reads_from n (xs ++ ys) ≡ reads_from n xs ++ reads_from (n + length xs) ys
-reads_from-append n [] ys = ap (λ (k : ℕ). reads_from k ys) (omega arith)
-reads_from-append n (x ∷ xs) ys = by (does_read x.kind) (reads_from-append (n + 1) xs ys ∙ ap (λ (k : ℕ). reads_from (n + 1) xs ++ reads_from k ys) (omega arith))
+pub read_numbers_from-append : (n : ℕ) (xs ys : List Event) → read_numbers_from n (xs ++ ys) ≡ read_numbers_from n xs ++ read_numbers_from (n + length xs) ys
+read_numbers_from-append n [] ys = ap (λ (k : ℕ). read_numbers_from k ys) (omega arith)
+read_numbers_from-append n (x ∷ xs) ys = by (does_read x.kind) (read_numbers_from-append (n + 1) xs ys ∙ ap (λ (k : ℕ). read_numbers_from (n + 1) xs ++ read_numbers_from k ys) (omega arith))
   where
-    by : (b : Bool) → reads_from (n + 1) (xs ++ ys) ≡ reads_from (n + 1) xs ++ reads_from (n + suc (length xs)) ys
-        → cond b (n ∷ reads_from (n + 1) (xs ++ ys)) (reads_from (n + 1) (xs ++ ys)) ≡ cond b (n ∷ reads_from (n + 1) xs) (reads_from (n + 1) xs) ++ reads_from (n + suc (length xs)) ys
+    by : (b : Bool) → read_numbers_from (n + 1) (xs ++ ys) ≡ read_numbers_from (n + 1) xs ++ read_numbers_from (n + suc (length xs)) ys
+        → cond b (n ∷ read_numbers_from (n + 1) (xs ++ ys)) (read_numbers_from (n + 1) (xs ++ ys)) ≡ cond b (n ∷ read_numbers_from (n + 1) xs) (read_numbers_from (n + 1) xs) ++ read_numbers_from (n + suc (length xs)) ys
     by true e = ap (λ (ns : List ℕ). n ∷ ns) e
     by false e = e
 
-no_reads : (n low count : ℕ) → reads_from n (map init_event (range_with_len low count)) ≡ []
+no_reads : (n low count : ℕ) → read_numbers_from n (map init_event (range_with_len low count)) ≡ []
 no_reads n low zero = refl
 no_reads n low (suc count) = no_reads (n + 1) (low + 1) count
 
@@ -87,11 +88,11 @@ length-made low zero = refl
 length-made low (suc count) = ap suc (length-made (low + 1) count)
 
 -- the reads of a block's events and then others are those of the others
-pub reads_of-accesses : (bytes : ℕ) (accesses : List Event) → reads_of (init_events bytes ++ accesses) ≡ reads_from bytes accesses
-reads_of-accesses bytes accesses =
-    reads_from-append 0 (init_events bytes) accesses
-    ∙ ap (λ (ns : List ℕ). ns ++ reads_from (0 + length (init_events bytes)) accesses) (no_reads 0 0 bytes)
-    ∙ ap (λ (k : ℕ). reads_from k accesses) (omega (arith, length-made 0 bytes))
+pub read_numbers-accesses : (bytes : ℕ) (accesses : List Event) → read_numbers (init_events bytes ++ accesses) ≡ read_numbers_from bytes accesses
+read_numbers-accesses bytes accesses =
+    read_numbers_from-append 0 (init_events bytes) accesses
+    ∙ ap (λ (ns : List ℕ). ns ++ read_numbers_from (0 + length (init_events bytes)) accesses) (no_reads 0 0 bytes)
+    ∙ ap (λ (k : ℕ). read_numbers_from k accesses) (omega (arith, length-made 0 bytes))
 
 length-accesses : (owner place : ℕ) (ss : Statements) → length (accesses_from owner place ss) ≡ statement_count ss
 length-accesses owner place End = refl
@@ -161,17 +162,17 @@ module _ (events : List Event) (sources : List ℕ) where
   runs_of owner n [] = []
   runs_of owner n (a ∷ agents) = run_of owner n a.body ∷ runs_of (owner + 1) (n + statement_count a.body) agents
 
-  pub runs_of-are : (owner n : ℕ) (agents : List Agent) → AllPlain agents → AreRuns owner agents (runs_of owner n agents)
-  runs_of-are owner n [] plain = tt
-  runs_of-are owner n (a ∷ agents) plain = (runs events sources owner 0 n a.body (replicate REGISTERS 0) plain.0, runs_of-are (owner + 1) (n + statement_count a.body) agents plain.1)
+  pub runs_of-are : (owner n : ℕ) (agents : List Agent) → AllSupported agents → AreRuns owner agents (runs_of owner n agents)
+  runs_of-are owner n [] supported = tt
+  runs_of-are owner n (a ∷ agents) supported = (runs events sources owner 0 n a.body (replicate REGISTERS 0) supported.0, runs_of-are (owner + 1) (n + statement_count a.body) agents supported.1)
 
-  all_values : (owner n : ℕ) (body : Statements) (others : List Event) → map (value events sources) (reads_from n (accesses_from owner 0 body ++ others)) ≡ values_in events sources owner 0 n body ++ map (value events sources) (reads_from (n + statement_count body) others)
+  all_values : (owner n : ℕ) (body : Statements) (others : List Event) → map (value events sources) (read_numbers_from n (accesses_from owner 0 body ++ others)) ≡ values_in events sources owner 0 n body ++ map (value events sources) (read_numbers_from (n + statement_count body) others)
   all_values owner n body others =
-      ap (map (value events sources)) (reads_from-append n (accesses_from owner 0 body) others)
-      ∙ map-append (value events sources) (reads_from n (accesses_from owner 0 body)) (reads_from (n + length (accesses_from owner 0 body)) others)
-      ∙ ap (λ (k : ℕ). values_in events sources owner 0 n body ++ map (value events sources) (reads_from (n + k) others)) (length-accesses owner 0 body)
+      ap (map (value events sources)) (read_numbers_from-append n (accesses_from owner 0 body) others)
+      ∙ map-append (value events sources) (read_numbers_from n (accesses_from owner 0 body)) (read_numbers_from (n + length (accesses_from owner 0 body)) others)
+      ∙ ap (λ (k : ℕ). values_in events sources owner 0 n body ++ map (value events sources) (read_numbers_from (n + k) others)) (length-accesses owner 0 body)
 
-  pub values-runs_of : (owner n : ℕ) (agents : List Agent) → flat_map (λ run. run.values) (runs_of owner n agents) ≡ map (value events sources) (reads_from n (accesses_of owner agents))
+  pub values-runs_of : (owner n : ℕ) (agents : List Agent) → flat_map (λ run. run.values) (runs_of owner n agents) ≡ map (value events sources) (read_numbers_from n (accesses_of owner agents))
   values-runs_of owner n [] = refl
   values-runs_of owner n (a ∷ agents) =
       ap (λ (vs : List ℕ). values_in events sources owner 0 n a.body ++ vs) (values-runs_of (owner + 1) (n + statement_count a.body) agents)
@@ -181,19 +182,19 @@ module _ (events : List Event) (sources : List ℕ) where
   pub record AreStraight (owner n : ℕ) (agents : List Agent) (rs : List Run) : Type 0 where
     pub decisions : map (λ run. run.decisions) rs ≡ map (λ a. []) agents
     pub made : flat_map (λ es. es) (map (λ run. run.events) rs) ≡ accesses_of owner agents
-    pub registers : flat_map (λ run. run.values) rs ≡ map (value events sources) (reads_from n (accesses_of owner agents)) → map (λ run. run.registers) rs ≡ all_registers events sources n agents
+    pub registers : flat_map (λ run. run.values) rs ≡ map (value events sources) (read_numbers_from n (accesses_of owner agents)) → map (λ run. run.registers) rs ≡ all_registers events sources n agents
 
-  pub all_straight : (owner n : ℕ) (agents : List Agent) (rs : List Run) → AllPlain agents → AreRuns owner agents rs → AreStraight owner n agents rs
-  all_straight owner n [] [] plain h = record { decisions = refl; made = refl; registers = λ is. refl }
-  all_straight owner n [] (r ∷ rs) plain h = absurd h
-  all_straight owner n (a ∷ agents) [] plain h = absurd h
-  all_straight owner n (a ∷ agents) (r ∷ rs) plain h =
-      let first = straight events sources owner 0 n a.body (replicate REGISTERS 0) r.values r.decisions r.events r.registers plain.0 h.0 in
-      let others = all_straight (owner + 1) (n + statement_count a.body) agents rs plain.1 h.1 in
+  pub all_straight : (owner n : ℕ) (agents : List Agent) (rs : List Run) → AllSupported agents → AreRuns owner agents rs → AreStraight owner n agents rs
+  all_straight owner n [] [] supported h = record { decisions = refl; made = refl; registers = λ is. refl }
+  all_straight owner n [] (r ∷ rs) supported h = absurd h
+  all_straight owner n (a ∷ agents) [] supported h = absurd h
+  all_straight owner n (a ∷ agents) (r ∷ rs) supported h =
+      let first = straight events sources owner 0 n a.body (replicate REGISTERS 0) r.values r.decisions r.events r.registers supported.0 h.0 in
+      let others = all_straight (owner + 1) (n + statement_count a.body) agents rs supported.1 h.1 in
       record {
         decisions = ap (λ (ds : List ℕ). ds ∷ map (λ run. run.decisions) rs) first.no_decision ∙ ap (λ (dss : List (List ℕ)). [] ∷ dss) others.decisions;
         made = ap (λ (es : List Event). es ++ flat_map (λ fs. fs) (map (λ run. run.events) rs)) first.made_is ∙ ap (λ (es : List Event). accesses_from owner 0 a.body ++ es) others.made;
         registers = λ is.
-            let s = split r.values (flat_map (λ run. run.values) rs) (values_in events sources owner 0 n a.body) (map (value events sources) (reads_from (n + statement_count a.body) (accesses_of (owner + 1) agents))) first.one_each (is ∙ all_values owner n a.body (accesses_of (owner + 1) agents)) in
+            let s = split r.values (flat_map (λ run. run.values) rs) (values_in events sources owner 0 n a.body) (map (value events sources) (read_numbers_from (n + statement_count a.body) (accesses_of (owner + 1) agents))) first.one_each (is ∙ all_values owner n a.body (accesses_of (owner + 1) agents)) in
             ap (λ (regs : List ℕ). regs ∷ map (λ run. run.registers) rs) (first.registers s.first) ∙ ap (λ (all : List (List ℕ)). registers_in events sources n a.body (replicate REGISTERS 0) ∷ all) (others.registers s.second);
       }

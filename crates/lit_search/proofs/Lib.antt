@@ -15,7 +15,7 @@ pub mod SourceLemmas
 pub mod ValueLemmas
 pub mod WordLemmas
 pub mod RunningLemmas
-pub mod PlainTests
+pub mod SupportedTests
 pub mod Stepped
 pub mod Conditions
 pub mod Reports

@@ -7,14 +7,15 @@ use Rattle.lit_search.specs.declared.limits.TheConstants.{ACCESS_LIMIT}
 use Rattle.lit_search.specs.declared.event.Event.{Event}
 use Rattle.lit_search.specs.ReadsFrom.{byte_reads}
 use Rattle.lit_search.specs.Choice.{Choice, AreSources, product, candidates_of, sources_of, choices_of, combinations_of}
-use Rattle.lit_search.specs.Plan.{accesses_of, accesses_on, events_in, IsPlain, IsPlanned, IsOfCombination, AreByteEvents, HasTooManyEvents, HasFewEvents}
+use Rattle.lit_search.specs.Plan.{accesses_of, accesses_on, events_in, IsPlanned, IsOfCombination, AreByteEvents, HasTooManyEvents, HasFewEvents}
+use Rattle.lit_search.specs.Supported.{IsSupported}
 use Rattle.lit_search.proofs.Products.{product-known}
 use Rattle.lit_search.proofs.Candidates.{candidates_of-known}
-use Rattle.lit_search.proofs.PlainTests.{plain_paths, plain_choice, combinations_of-plain, events_in-plain, flat_map-plain_paths, length-choices_of-plain, slice_get-choices_of-plain}
+use Rattle.lit_search.proofs.SupportedTests.{plain_paths, plain_choice, combinations_of-supported, events_in-supported, flat_map-plain_paths, length-choices_of-supported, slice_get-choices_of-supported}
 use Rattle.lit_search.proofs.ByteEvents.{AreByteEvents-test}
 
-pub AreByteEvents-plain : (t : Litmus) → IsLitmus t → IsPlain t → length (accesses_of 0 t.agents) ≤ ACCESS_LIMIT → AreByteEvents t.bytes (events_in t 0)
-AreByteEvents-plain t litmus plain few = subst (λ (es : List Event). AreByteEvents t.bytes es) (sym (events_in-plain t plain)) (AreByteEvents-test t litmus plain few)
+pub AreByteEvents-supported : (t : Litmus) → IsLitmus t → IsSupported t → length (accesses_of 0 t.agents) ≤ ACCESS_LIMIT → AreByteEvents t.bytes (events_in t 0)
+AreByteEvents-supported t litmus supported few = subst (λ (es : List Event). AreByteEvents t.bytes es) (sym (events_in-supported t supported)) (AreByteEvents-test t litmus supported few)
 
 -- the sources with a number are candidates, each of its byte
 pub AreSources-sources_of : (events : List Event) (n : ℕ) (sources : List ℕ) → slice_get (sources_of events) n ≡ Some sources → AreSources events sources
@@ -30,50 +31,50 @@ AreSources-sources_of events n sources at =
     }
 
 -- ---- the number of access events
-pub accesses_on-plain : (t : Litmus) → length (accesses_on (plain_paths 0 t.agents)) ≡ length (accesses_of 0 t.agents)
-accesses_on-plain t = ap (λ (es : List Event). length es) (flat_map-plain_paths 0 t.agents)
+pub accesses_on-supported : (t : Litmus) → length (accesses_on (plain_paths 0 t.agents)) ≡ length (accesses_of 0 t.agents)
+accesses_on-supported t = ap (λ (es : List Event). length es) (flat_map-plain_paths 0 t.agents)
 
-pub HasTooManyEvents-plain : (t : Litmus) → IsPlain t → ACCESS_LIMIT < length (accesses_of 0 t.agents) → HasTooManyEvents t
-HasTooManyEvents-plain t plain many =
-    let only = combinations_of-plain t plain in
+pub HasTooManyEvents-supported : (t : Litmus) → IsSupported t → ACCESS_LIMIT < length (accesses_of 0 t.agents) → HasTooManyEvents t
+HasTooManyEvents-supported t supported many =
+    let only = combinations_of-supported t supported in
     let paths = plain_paths 0 t.agents in
-    (0, paths, omega (arith, ap (λ cs. length cs) only), ap (λ cs. get_or cs 0 paths) only, omega (arith, many, accesses_on-plain t))
+    (0, paths, omega (arith, ap (λ cs. length cs) only), ap (λ cs. get_or cs 0 paths) only, omega (arith, many, accesses_on-supported t))
 
-pub HasFewEvents-plain : (t : Litmus) → IsPlain t → length (accesses_of 0 t.agents) ≤ ACCESS_LIMIT → HasFewEvents t
-HasFewEvents-plain t plain few = λ k d inside.
-    let only = combinations_of-plain t plain in
+pub HasFewEvents-supported : (t : Litmus) → IsSupported t → length (accesses_of 0 t.agents) ≤ ACCESS_LIMIT → HasFewEvents t
+HasFewEvents-supported t supported few = λ k d inside.
+    let only = combinations_of-supported t supported in
     let first : k ≡ 0 = omega (arith, inside, ap (λ cs. length cs) only) in
     let same : plain_paths 0 t.agents ≡ get_or (combinations_of t) k d = sym (ap (λ cs. get_or cs k d) only ∙ ap (λ m. get_or (plain_paths 0 t.agents ∷ []) m d) first) in
-    omega (arith, few, accesses_on-plain t, ap (λ ps. length (accesses_on ps)) same)
+    omega (arith, few, accesses_on-supported t, ap (λ ps. length (accesses_on ps)) same)
 
 module _ (t : Litmus) (events : List Event) (reads : List (ℕ × ℕ)) (total : ℕ) (names : List (ℕ × ℕ)) (is : IsPlanned t events reads total names) where
   pub planned-events : AreByteEvents t.bytes (events_in t 0)
-  planned-events = AreByteEvents-plain t is.litmus is.plain is.few
+  planned-events = AreByteEvents-supported t is.litmus is.supported is.few
 
   pub planned-one : length (combinations_of t) ≡ 1
-  planned-one = ap (λ cs. length cs) (combinations_of-plain t is.plain)
+  planned-one = ap (λ cs. length cs) (combinations_of-supported t is.supported)
 
   planned-lists : product (map (candidates_of events) reads) ≡ sources_of (events_in t 0)
   planned-lists =
       ap (λ rs. product (map (candidates_of events) rs)) is.all_reads ∙ ap (λ es. sources_of es) is.all_events
 
   pub planned-total : total ≡ length (product (map (candidates_of events) reads))
-  planned-total = is.all_choices ∙ length-choices_of-plain t is.plain ∙ sym (ap (λ l. length l) planned-lists)
+  planned-total = is.all_choices ∙ length-choices_of-supported t is.supported ∙ sym (ap (λ l. length l) planned-lists)
 
   pub planned-choice : (n : ℕ) (sources : List ℕ) → slice_get (product (map (candidates_of events) reads)) n ≡ Some sources
       → slice_get (choices_of t) n ≡ Some (plain_choice t sources)
-  planned-choice n sources at = slice_get-choices_of-plain t n sources is.plain (sym (ap (λ l. slice_get l n) planned-lists) ∙ at)
+  planned-choice n sources at = slice_get-choices_of-supported t n sources is.supported (sym (ap (λ l. slice_get l n) planned-lists) ∙ at)
 
   pub planned-combination : (n : ℕ) → n < length (choices_of t) → IsOfCombination t n 0
   planned-combination n inside =
-      let within : n < length (sources_of (events_in t 0)) = omega (arith, inside, length-choices_of-plain t is.plain) in
+      let within : n < length (sources_of (events_in t 0)) = omega (arith, inside, length-choices_of-supported t is.supported) in
       let sources : List ℕ = get_or (sources_of (events_in t 0)) n [] in
       let at : slice_get (sources_of (events_in t 0)) n ≡ Some sources = slice_get-get_or (sources_of (events_in t 0)) n [] within in
       record {
         choice = plain_choice t sources;
-        listed = slice_get-choices_of-plain t n sources is.plain at;
+        listed = slice_get-choices_of-supported t n sources is.supported at;
         known = omega (arith, planned-one);
-        decided = ap (λ cs. map (λ path. path.decisions) (get_or cs 0 [])) (combinations_of-plain t is.plain);
+        decided = ap (λ cs. map (λ path. path.decisions) (get_or cs 0 [])) (combinations_of-supported t is.supported);
         sourced = AreSources-sources_of (events_in t 0) n sources at;
       }
 

@@ -1,15 +1,15 @@
 -- The events of a candidate execution are those of its choice's combination of paths.
-use Rattle.std.proofs.Common.{◌≡◌, ℕ, ◌+◌, ◌<◌, List, [], ◌∷◌, length, map, get_or, slice_get, Some, arith, sym, ap, ◌∙◌, subst}
+use Rattle.std.proofs.Common.{◌≡◌, ℕ, ◌+◌, ◌<◌, List, [], ◌∷◌, length, map, get_or, slice_get, Some, arith, refl, sym, ap, ◌∙◌, subst}
 use Rattle.std.proofs.lemmas.List.{length-map, same_lists, get_or-map}
 use Rattle.std.proofs.lemmas.Option.{slice_get-get_or}
 use Rattle.lit_read.specs.Syntax.{Agent, Statements, Load, Store, Exchange, CompareExchange, If, Then, End, Litmus, agent_of}
 use Rattle.lit_search.specs.declared.event.Event.{Event}
 use Rattle.lit_search.specs.Path.{Path, IsPathFrom, IsPath, read_event, write_event}
 use Rattle.lit_search.specs.Run.{Run, RunsFrom, IsRun}
-use Rattle.lit_search.specs.Choice.{Choice, IsChoice, AreCombined, events_of, combinations_of, choices_of}
+use Rattle.lit_search.specs.Choice.{Choice, IsChoice, AreCombined, AreSources, events_of, combinations_of, choices_of}
 use Rattle.lit_search.specs.Plan.{combination_at, events_in, IsOfCombination}
 use Rattle.lit_search.specs.ValidExecution.{Execution, execution_events, execution_choice, IsCandidateExecution}
-use Rattle.lit_search.proofs.PathLists.{combinations_of-known}
+use Rattle.lit_search.proofs.PathLists.{slice_get-map-known, combinations_of-known}
 use Rattle.lit_search.proofs.ChoiceLists.{choices_of-known}
 
 -- a run follows a path
@@ -105,3 +105,30 @@ choices_of-undecided t n choice at =
     get_or-map (λ (p : Path). p.decisions) is.paths k no_path d here
     ∙ IsPathFrom-undecided k 0 (agent_of t k).body path.decisions path.events path_is
     ∙ sym (get_or-map (λ (a : Agent). no_decisions) t.agents k (agent_of t k) d there))
+
+-- the path that a run follows
+abbrev path_of : Run → Path
+path_of run = record { decisions = run.decisions; events = run.events }
+
+decisions-path_of : (runs : List Run) → map (λ path. path.decisions) (map path_of runs) ≡ map (λ run. run.decisions) runs
+decisions-path_of [] = refl
+decisions-path_of (run ∷ runs) = ap (λ (ds : List (List ℕ)). run.decisions ∷ ds) (decisions-path_of runs)
+
+events-path_of : (runs : List Run) → map (λ path. path.events) (map path_of runs) ≡ map (λ run. run.events) runs
+events-path_of [] = refl
+events-path_of (run ∷ runs) = ap (λ (ess : List (List Event)). run.events ∷ ess) (events-path_of runs)
+
+-- the decisions and sources of a candidate execution are a choice
+pub IsChoice-execution : (t : Litmus) (x : Execution) → IsCandidateExecution t x → IsChoice t (execution_choice x)
+IsChoice-execution t x is = record {
+  paths = map path_of x.runs;
+  combined = record {
+    one_each = length-map x.runs path_of ∙ is.one_each;
+    each = λ i path at.
+        let from = slice_get-map-known path_of x.runs i path at in
+        let P : Path → Type 0 = λ p. IsPath i (agent_of t i).body p in
+        subst P from.2 (IsPathFrom-run i 0 (agent_of t i).body _ from.0.values from.0.decisions from.0.events from.0.registers (is.each i from.0 from.1));
+  };
+  decided = decisions-path_of x.runs;
+  sourced = subst (λ (ess : List (List Event)). AreSources (events_of t.bytes ess) x.sources) (sym (events-path_of x.runs)) is.sourced;
+}

@@ -1,4 +1,5 @@
--- Events and their ranges (ECMA-262, 2024, 29.1 and 29.2). An event's number is its place in the list of all events.
+-- Events and their ranges (ECMA-262, 2024, clause 29, "Memory Model Fundamentals"). An event's number is its place in
+-- the list of all events.
 use Rattle.std.specs.Prelude.{ℕ, ◌+◌, ◌-◌, ◌<◌, ◌≤◌, ◌↔◌, Bool, true, false, None, List, [], ◌∷◌, map, slice_index, slice_index_or}
 use Rattle.std.specs.List.{range_with_len}
 use Rattle.lit_search.specs.declared.event.Kind.{Kind}
@@ -6,7 +7,7 @@ use Rattle.lit_search.specs.declared.event.Kind.TheVariants.{Read, Write, Modify
 use Rattle.lit_search.specs.declared.event.Order3.TheVariants.{Unordered, Init}
 use Rattle.lit_search.specs.declared.event.Event.{Event}
 
--- the byte is in the event's range (29.1)
+-- the byte is in the event's range
 abbrev pub HasByte : Event → ℕ → Type 0
 HasByte e b = (e.first ≤ b) × (b < e.first + e.size)
 
@@ -42,7 +43,7 @@ no_event = record { kind = Read; order = Unordered; no_tear = false; first = 0; 
 abbrev pub event_at : List Event → ℕ → Event
 event_at events n = slice_index_or events n no_event
 
--- the write that makes byte b (29.2; this project's own: one event a byte)
+-- the write that makes byte b (CreateSharedByteDataBlock); that these are a list of their own is this project's own
 abbrev pub init_event : ℕ → Event
 init_event b = record { kind = Write; order = Init; no_tear = true; first = b; size = 1; payload = 0 ∷ 0 ∷ 0 ∷ 0 ∷ []; owner = None; place = b }
 

@@ -4,6 +4,7 @@ pub mod Run
 pub mod Choice
 pub mod ChoiceEvents
 pub mod Outcome
+pub mod Supported
 pub mod Plan
 pub mod ReadsFrom
 pub mod AgentOrder

@@ -1,5 +1,6 @@
--- The paths of an agent through its text, and the events that each makes (ECMA-262, 2024, 25.1.3, 25.2.2 and 29.2;
--- that a path may go either way at a decision is this project's own). The forms that take a decision have no path yet.
+-- The paths of an agent through its text, and the events that each makes (ECMA-262, 2024, "Abstract Operations For
+-- ArrayBuffer Objects" and "Agent Events Records"; that a path may go either way at a decision is this project's own).
+-- The forms that take a decision have no path yet.
 use Rattle.std.specs.Prelude.{◌≡◌, ℕ, ◌+◌, ◌*◌, ◌/◌, ◌%◌, Bool, true, false, not, if◌then◌else◌, Some, List, [], ◌∷◌, map}
 use Rattle.lit_read.specs.Syntax.{Window, window_size, is_data_view, Statements, Load, Store, Exchange, CompareExchange, If, End, Then}
 use Rattle.lit_search.specs.declared.event.Kind.TheVariants.{Read, Write}

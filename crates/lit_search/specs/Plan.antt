@@ -2,7 +2,7 @@
 -- choice (this project's own).
 use Rattle.std.specs.Prelude.{◌≡◌, ℕ, ◌+◌, ◌<◌, ◌≤◌, All, List, [], ◌∷◌, ◌++◌, length, map, Some, slice_get, slice_index_or}
 use Rattle.std.specs.List.{Any, flat_map}
-use Rattle.lit_read.specs.Syntax.{Litmus, IsLitmus, Agent, agent_of, Uint8, Statement, Statements, Load, Store, End, Then}
+use Rattle.lit_read.specs.Syntax.{Litmus, IsLitmus, Agent, Statement, Statements, Load, Store, End, Then}
 use Rattle.lit_search.specs.declared.limits.TheConstants.{ACCESS_LIMIT, EVENT_LIMIT, BYTE_READ_LIMIT, CHOICE_LIMIT}
 use Rattle.lit_search.specs.declared.event.Event.{Event}
 use Rattle.lit_search.specs.declared.planning.PlanFault.{PlanFault}
@@ -12,6 +12,7 @@ use Rattle.lit_search.specs.Path.{Path, read_event, write_event}
 use Rattle.lit_search.specs.ReadsFrom.{byte_reads}
 use Rattle.lit_search.specs.Choice.{Choice, AreSources, events_of, combinations_of, choices_of}
 use Rattle.lit_search.specs.Outcome.{names_of}
+use Rattle.lit_search.specs.Supported.{IsSupported}
 
 -- the events of the accesses on a combination of paths: agents in order
 abbrev pub accesses_on : List Path → List Event
@@ -58,13 +59,6 @@ IsRefusal t TooManyEvents = HasTooManyEvents t
 IsRefusal t TooManyChoices = HasFewEvents t × (CHOICE_LIMIT < length (choices_of t))
 IsRefusal t OutOfMemory = ⊥
 
--- the statements are loads and stores of single bytes of a typed array
-abbrev pub ArePlain : Statements → Type 0
-ArePlain End = Unit {0}
-ArePlain (Then (Load reg Uint8 index atomic) ss) = ArePlain ss
-ArePlain (Then (Store Uint8 index value atomic) ss) = ArePlain ss
-ArePlain (Then _ ss) = ⊥
-
 -- the event of a load or a store
 abbrev pub access_of : ℕ → ℕ → Statement → Event
 access_of owner place (Load reg window index atomic) = read_event owner place window index atomic
@@ -81,15 +75,11 @@ abbrev pub accesses_of : ℕ → List Agent → List Event
 accesses_of n [] = []
 accesses_of n (a ∷ agents) = accesses_from n 0 a.body ++ accesses_of (n + 1) agents
 
--- every agent has loads and stores of single bytes alone
-abbrev pub IsPlain : Litmus → Type 0
-IsPlain t = (i : ℕ) → i < length t.agents → ArePlain (agent_of t i).body
-
 -- What a plan keeps of a test: the events of its combination of paths, their byte reads, how many choices there are,
 -- and the registers of an outcome.
 pub record IsPlanned (t : Litmus) (events : List Event) (reads : List (ℕ × ℕ)) (total : ℕ) (names : List (ℕ × ℕ)) : Type 0 where
   pub litmus : IsLitmus t
-  pub plain : IsPlain t
+  pub supported : IsSupported t
   pub few : length (accesses_of 0 t.agents) ≤ ACCESS_LIMIT
   pub all_events : events ≡ events_in t 0
   pub all_reads : reads ≡ byte_reads events

@@ -49,9 +49,9 @@ abbrev pub value_of : List Event → List ℕ → ℕ → ℕ
 value_of events sources r = composed (bytes_of_read events sources r)
 
 -- the numbers of the reads, rising, of the events from number n on
-abbrev pub reads_from : ℕ → List Event → List ℕ
-reads_from n [] = []
-reads_from n (e ∷ es) = if does_read e.kind then n ∷ reads_from (n + 1) es else reads_from (n + 1) es
+abbrev pub read_numbers_from : ℕ → List Event → List ℕ
+read_numbers_from n [] = []
+read_numbers_from n (e ∷ es) = if does_read e.kind then n ∷ read_numbers_from (n + 1) es else read_numbers_from (n + 1) es
 
-abbrev pub reads_of : List Event → List ℕ
-reads_of events = reads_from 0 events
+abbrev pub read_numbers : List Event → List ℕ
+read_numbers events = read_numbers_from 0 events

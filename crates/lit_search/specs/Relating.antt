@@ -3,7 +3,7 @@ use Rattle.std.specs.Prelude.{◌≡◌, ◌≢◌, ◌⊎◌, ◌↔◌, ℕ, I
 use Rattle.lit_search.specs.declared.byte_sources.ByteRead.{ByteRead}
 use Rattle.lit_search.specs.declared.event.Event.{Event}
 use Rattle.lit_search.specs.declared.event.Order3.TheVariants.{SeqCst}
-use Rattle.lit_search.specs.declared.relation.Rows.{Rows}
+use Rattle.lit_search.specs.declared.bit_rows.Rows.{Rows}
 use Rattle.lit_search.specs.AgentOrder.{IsAgentOrdered}
 use Rattle.lit_search.specs.Event.{HasByte, HasSameRange, does_write, event_at}
 use Rattle.lit_search.specs.HappensBefore.{IsMadeBefore, HappensBefore}

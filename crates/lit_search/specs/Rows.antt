@@ -1,6 +1,6 @@
 -- Relations on events as rows of bits (this project's own).
 use Rattle.std.specs.Prelude.{ℕ, ◌<◌, slice_index}
-use Rattle.lit_search.specs.declared.relation.Rows.{Rows}
+use Rattle.lit_search.specs.declared.bit_rows.Rows.{Rows}
 use Rattle.lit_search.specs.Words.{HasBit}
 
 -- on how many events it is

@@ -6,7 +6,7 @@ use Rattle.lit_search.specs.declared.event.Event.{Event}
 use Rattle.lit_search.specs.Run.{Run, IsRun}
 use Rattle.lit_search.specs.Choice.{Choice, events_of, AreSources}
 use Rattle.lit_search.specs.Outcome.{outcome_of}
-use Rattle.lit_search.specs.ReadsFrom.{value_of, reads_of}
+use Rattle.lit_search.specs.ReadsFrom.{value_of, read_numbers}
 use Rattle.lit_search.specs.HappensBefore.{HappensBefore}
 use Rattle.lit_search.specs.Coherent.{HasCoherentReads}
 use Rattle.lit_search.specs.TearFree.{HasTearFreeReads}
@@ -38,7 +38,7 @@ pub record IsCandidateExecution (t : Litmus) (x : Execution) : Type 0 where
 -- statements of the runs, agent after agent, are the reads by rising number.
 abbrev pub HasValidChosenReads : Litmus → Execution → Type 0
 HasValidChosenReads t x =
-    flat_map (λ run. run.values) x.runs ≡ map (value_of (execution_events t x) x.sources) (reads_of (execution_events t x))
+    flat_map (λ run. run.values) x.runs ≡ map (value_of (execution_events t x) x.sources) (read_numbers (execution_events t x))
 
 -- a valid execution (29.7.5)
 pub record IsValidExecution (t : Litmus) (x : Execution) : Type 0 where

@@ -8,7 +8,8 @@ ghost use Rattle.lit_read.specs.Litmus.{statement_of, statements_of};
 ghost use Rattle.lit_search.specs.declared.limits.TheConstants.{EVENT_LIMIT};
 ghost use Rattle.lit_search.specs.Event.{init_events};
 ghost use Rattle.lit_search.specs.Path.{order_of};
-ghost use Rattle.lit_search.specs.Plan.{access_of, accesses_from, accesses_of, events_in, AreByteEvents, IsPlain};
+ghost use Rattle.lit_search.specs.Plan.{access_of, accesses_from, accesses_of, events_in, AreByteEvents};
+ghost use Rattle.lit_search.specs.Supported.{IsSupported};
 
 use crate::event::{Event, Events, Kind, Order3};
 use crate::limits::ACCESS_LIMIT;
@@ -91,7 +92,7 @@ pub(crate) fn push_accesses(events: &mut Events, owner: u8, body: &[Stmt])
 
 /// Whether a test's only combination of paths has too many access events.
 pub(crate) fn has_too_many_events(test: &Test) -> bool
-    ensures plain { IsPlain test.now }
+    ensures supported { IsSupported test.now }
     ensures value { IsTrue result ↔ (ACCESS_LIMIT < length (accesses_of 0 test.now.agents)) }
 {
     let mut count: usize = 0;
@@ -103,7 +104,7 @@ pub(crate) fn has_too_many_events(test: &Test) -> bool
 
 /// The events of a test's only combination of paths.
 pub(crate) fn combined_events(test: &Test) -> Events
-    requires plain { IsPlain test.now }
+    requires supported { IsSupported test.now }
     requires few { length (accesses_of 0 test.now.agents) ≤ ACCESS_LIMIT }
     ensures value { result.items ≡ events_in test.now 0 }
     ensures single { AreByteEvents test.now.bytes result.items }

@@ -6,7 +6,6 @@ ghost use Rattle.lit_search.specs.Given.{AreGiven, AreSourced, IsKnown, range_by
 
 use crate::event::Event;
 use crate::limits::BYTE_READ_LIMIT;
-use crate::ranges::does_read;
 use arrayvec::ArrayVec;
 
 /// A byte that is read, and its source.
@@ -31,7 +30,7 @@ pub(crate) fn sourced_bytes(events: &[Event], sources: &[u8]) -> ByteReads
 {
     let mut bytes = ByteReads::new();
     for (number, event) in events.iter().enumerate() {
-        if does_read(event.kind) {
+        if event.kind.does_read() {
             push_bytes(&mut bytes, number as u8, event, sources);
         }
     }

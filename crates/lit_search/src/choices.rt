@@ -2,30 +2,16 @@
 
 ghost use Rattle.std.specs.Prelude.{◌≡◌, ℕ, ◌+◌, ◌<◌, ◌≤◌, ◌^◌, ◌++◌, length, map, Some, MatchOption, slice_get};
 ghost use Rattle.arrayvec.specs.ArrayVec.{array_vec_len};
-ghost use Rattle.lit_search.specs.Event.{event_at, does_read as reads_memory, does_write as writes_memory};
+ghost use Rattle.lit_search.specs.Event.{event_at};
 ghost use Rattle.lit_search.specs.ReadsFrom.{bytes_read_by, byte_reads};
 ghost use Rattle.lit_search.specs.Choice.{product, candidates_of, is_candidate as may_be_source};
 
-use crate::event::{Event, Kind, Sources};
+use crate::event::{Event, Sources};
 use crate::limits::{BYTE_READ_LIMIT, CHOICE_LIMIT};
 use arrayvec::ArrayVec;
 
 /// Each byte that is read, as the number of the read and the byte: reads by rising number, bytes rising within a read.
 pub type ByteReads = ArrayVec<(u8, u8), BYTE_READ_LIMIT>;
-
-/// Whether an event of this kind reads.
-fn does_read(kind: Kind) -> bool
-    ensures { result ≡ reads_memory kind }
-{
-    matches!(kind, Kind::Read | Kind::Modify)
-}
-
-/// Whether an event of this kind writes.
-fn does_write(kind: Kind) -> bool
-    ensures { result ≡ writes_memory kind }
-{
-    matches!(kind, Kind::Write | Kind::Modify)
-}
 
 /// Adds the bytes that the event with this number reads.
 fn push_bytes(reads: &mut ByteReads, number: u8, event: &Event)
@@ -33,7 +19,7 @@ fn push_bytes(reads: &mut ByteReads, number: u8, event: &Event)
     requires range { event.now.first + event.now.size ≤ 2 ^ 8 }
     ensures { reads.new.items ≡ reads.old.items ++ bytes_read_by number event.now }
 {
-    if does_read(event.kind) {
+    if event.kind.does_read() {
         for k in 0..event.size {
             reads.push((number, event.first + k));
         }
@@ -58,7 +44,7 @@ pub(crate) fn byte_reads_of(events: &[Event]) -> ByteReads
 fn is_candidate(number: usize, event: &Event, read: u8, byte: u8) -> bool
     ensures { result ≡ may_be_source read byte (number, event.now) }
 {
-    does_write(event.kind)
+    event.kind.does_write()
         && event.first <= byte
         && usize::from(byte) < usize::from(event.first) + usize::from(event.size)
         && number != usize::from(read)

@@ -9,10 +9,10 @@ ghost use Rattle.lit_search.specs.Relating.{IsForbiddenBy, IsAfterSourceBy, IsBe
 ghost use Rattle.lit_search.specs.Rows.{Holds, rows_len};
 ghost use Rattle.lit_search.specs.Words.{HasBit};
 
+use crate::bit_rows::Rows;
 use crate::byte_sources::{ByteRead, sourced_bytes};
 use crate::event::Event;
-use crate::ranges::{does_write, event_at, have_same_range, is_seq_cst};
-use crate::relation::Rows;
+use crate::ranges::{event_at, have_same_range, is_seq_cst};
 use crate::relations::can_synchronize;
 use crate::triples::{Between, Pair, Pairs};
 use crate::words::{EMPTY, with_bit};
@@ -65,7 +65,7 @@ fn is_forbidden(events: &[Event], byte: ByteRead, other: usize, happens_before: 
     let read = usize::from(byte.read);
     other != source
         && other != read
-        && does_write(event_at(events, other).kind)
+        && event_at(events, other).kind.does_write()
         && is_seq_cst(events, other)
         && is_in_pattern(events, source, read, other, happens_before)
 }

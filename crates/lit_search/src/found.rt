@@ -14,19 +14,22 @@ use std::cmp::Ordering;
 use std::marker::Model;
 use thiserror::Error;
 
-/// The last values of the registers of an outcome, in the order of the plan's names.
+/// The last values of the registers of an outcome, one for each of `Plan::names` and in that order.
 pub type Outcome = ArrayVec<u32, NAME_LIMIT>;
 
-/// An execution that shows an outcome: the number of its choice, and its memory-order.
+/// An execution that shows an outcome.
 #[derive(Debug, Drop)]
 pub struct Example {
+    /// The number of its choice, below `Plan::total`.
     pub choice: u64,
+    /// Its memory-order: the number of each event of the choice, once.
     pub order: Order,
 }
 
 /// Why a search gave no report.
 #[derive(Clone, Copy, Debug, PartialEq, Eq, Error)]
 pub enum SearchFault {
+    /// A growth was refused.
     #[error("out_of_memory")]
     OutOfMemory,
 }
@@ -110,7 +113,7 @@ impl Found {
         self.kept.is_empty()
     }
 
-    /// The values of an outcome, by its place in the rising order.
+    /// The values of an outcome, by its place in the rising order, from 0. The place is below `len()`.
     pub fn outcome(&self, place: usize) -> &[u32]
         requires { place < length self.now.entries }
         ensures { result.now ≡ (entry_at self.now place).outcome }
@@ -118,7 +121,7 @@ impl Found {
         &self.kept[place].outcome
     }
 
-    /// The example of an outcome, by its place in the rising order.
+    /// The example of an outcome, by its place in the rising order, from 0. The place is below `len()`.
     pub fn example(&self, place: usize) -> &Example
         requires { place < length self.now.entries }
         ensures choice { result.now.choice ≡ (entry_at self.now place).choice }

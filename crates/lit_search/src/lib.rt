@@ -5,6 +5,7 @@
 #![tactic(auto)]
 
 mod accesses;
+mod bit_rows;
 mod byte_sources;
 mod choices;
 mod event;
@@ -19,7 +20,6 @@ mod outcomes;
 mod planning;
 mod ranges;
 mod reading_checks;
-mod relation;
 mod relations;
 mod searching;
 mod triples;
@@ -29,7 +29,7 @@ mod words;
 
 pub use event::{Event, Events, Kind, Order, Order3, Sources};
 pub use found::{Example, Found, Outcome, SearchFault};
-pub use laws::choices_are_listed;
+pub use laws::{candidate_executions_have_choices, choices_are_listed};
 pub use making::plan;
 pub use planning::{Plan, PlanFault};
 pub use searching::search_range;

@@ -1,9 +1,10 @@
-//! Makes the plan of a test.
+//! Makes the plan of a test. `planning` has the `Plan` and its calls.
 
 ghost use Rattle.std.specs.Prelude.{◌≡◌, ◌≤◌, length, IfOk, OnOk, IfErr};
 ghost use Rattle.lit_search.specs.declared.limits.TheConstants.{CHOICE_LIMIT};
 ghost use Rattle.lit_search.specs.Choice.{choices_of};
 ghost use Rattle.lit_search.specs.Plan.{HasFewEvents, IsRefusal};
+ghost use Rattle.lit_search.specs.Supported.{IsSupported};
 
 use crate::accesses::{combined_events, has_too_many_events};
 use crate::choices::{byte_reads_of, count_sources};
@@ -12,9 +13,11 @@ use crate::planning::{Plan, PlanFault};
 use lit_read::Test;
 use std::alloc::Global;
 
-/// The plan of a test, or why it has none: first where some combination of paths has too many access events, and then
-/// where there are too many choices. Nothing grows, so memory is never short.
+/// The plan of a test, or why it has none. `PlanFault::TooManyEvents` comes first: some combination of paths has more
+/// than `ACCESS_LIMIT` access events. `PlanFault::TooManyChoices` is next: there are more than `CHOICE_LIMIT` choices.
+/// Nothing grows today, so `PlanFault::OutOfMemory` is never answered.
 pub fn plan<'t>(alloc: Global, test: &'t Test) -> Result<Plan<'t>, PlanFault>
+    ensures supported { IsSupported test.now }
     ensures ok { IfOk result (λ p. p ≡ test.now) }
     ensures few_events { OnOk result (HasFewEvents test.now) }
     ensures few_choices { OnOk result (length (choices_of test.now) ≤ CHOICE_LIMIT) }

@@ -5,18 +5,19 @@ ghost use Rattle.std.specs.List.{zip};
 ghost use Rattle.arrayvec.specs.ArrayVec.{array_vec_len};
 ghost use Rattle.lit_read.specs.Syntax.{writes, statement_writes};
 ghost use Rattle.lit_read.specs.Litmus.{statement_of, statements_of, condition_of};
-ghost use Rattle.lit_search.specs.declared.limits.TheConstants.{REGISTERS, NAME_LIMIT};
+ghost use Rattle.lit_read.specs.declared.limits.TheConstants.{REGISTERS};
+ghost use Rattle.lit_search.specs.declared.limits.TheConstants.{NAME_LIMIT};
 ghost use Rattle.lit_search.specs.Outcome.{names_in, names_of, value_in as value_among, holds as holds_of};
 
-use crate::limits::{NAME_LIMIT, REGISTERS};
+use crate::limits::NAME_LIMIT;
 use arrayvec::ArrayVec;
-use lit_read::{Cond, Stmt, Test};
+use lit_read::{Cond, REGISTERS, Stmt, Test};
 
 /// The registers of an outcome, as agent and register.
 pub type Names = ArrayVec<(u8, u8), NAME_LIMIT>;
 
 /// Whether a statement writes a register.
-fn does_write(statement: &Stmt, register: u8) -> bool
+fn is_written_by(statement: &Stmt, register: u8) -> bool
     ensures { result ≡ statement_writes (statement_of statement.now) register }
 {
     match *statement {
@@ -30,7 +31,7 @@ fn is_written(body: &[Stmt], register: u8) -> bool
     ensures { result ≡ writes (statements_of body.now) register }
 {
     for statement in body {
-        if does_write(statement, register) {
+        if is_written_by(statement, register) {
             return true;
         }
     }
@@ -43,7 +44,7 @@ fn push_names(names: &mut Names, agent: u8, body: &[Stmt])
     ensures value { names.new.items ≡ names.old.items ++ names_in agent (record { name = []; body = statements_of body.now }) }
     ensures few { array_vec_len names.new ≤ array_vec_len names.old + REGISTERS }
 {
-    for register in 0..REGISTERS {
+    for register in 0..REGISTERS as u8 {
         if is_written(body, register) {
             names.push((agent, register));
         }

@@ -8,8 +8,8 @@ ghost use Rattle.lit_search.specs.MemoryOrder.{IsOrderOf, IsLeastOrderOf};
 ghost use Rattle.lit_search.specs.Rows.{rows_len, Holds};
 ghost use Rattle.lit_search.specs.Words.{HasBit};
 
+use crate::bit_rows::Rows;
 use crate::event::Order;
-use crate::relation::Rows;
 use crate::triples::Between;
 use crate::words::{EMPTY, has_bit, with_bit};
 

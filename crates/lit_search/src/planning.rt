@@ -1,4 +1,4 @@
-//! The plan of a test: its events, its choices by number, and its outcomes' registers.
+//! The plan of a test: its events, its choices by number, and its outcomes' registers. `making` makes it.
 
 ghost use Rattle.std.specs.Prelude.{◌≡◌, ℕ, ◌<◌, ◌≤◌, [], length, map, All, Some, IfSome, slice_get};
 ghost use Rattle.lit_read.specs.declared.limits.TheConstants.{REGISTERS};
@@ -18,10 +18,10 @@ use thiserror::Error;
 /// Why a test has no plan.
 #[derive(Clone, Copy, Debug, PartialEq, Eq, Error)]
 pub enum PlanFault {
-    /// Some combination of paths has more access events than are allowed.
+    /// Some combination of paths has more than 12 access events.
     #[error("14 too_many_events")]
     TooManyEvents,
-    /// The choices are more than are allowed.
+    /// The test has more than 2^48 choices.
     #[error("15 too_many_choices")]
     TooManyChoices,
     /// A growth was refused.
@@ -29,7 +29,8 @@ pub enum PlanFault {
     OutOfMemory,
 }
 
-/// The choices of a test, by number, and what all of them share. A clause sees it as the test's value.
+/// The choices of a test, numbered from 0, and what all of them share. No call on it takes memory. A clause sees it as
+/// the test's value.
 #[derive(Drop)]
 pub struct Plan<'t> {
     test: &'t Test,
@@ -70,7 +71,8 @@ fn copied(events: &[Event]) -> Events
 
 impl<'t> Plan<'t> {
     ghost use Rattle.lit_search.specs.declared.limits.TheConstants.{CHOICE_LIMIT};
-    ghost use Rattle.lit_search.specs.Plan.{events_in, AreByteEvents, IsPlanned, IsOfCombination, IsPlain};
+    ghost use Rattle.lit_search.specs.Plan.{events_in, AreByteEvents, IsPlanned, IsOfCombination};
+    ghost use Rattle.lit_search.specs.Supported.{IsSupported};
 
     /// The plan of a test, from what it keeps of it.
     pub(crate) fn new(
@@ -95,12 +97,12 @@ impl<'t> Plan<'t> {
     /// The test.
     pub(crate) fn test(&self) -> &'t Test
         ensures value { result.now ≡ self.now }
-        ensures plain { IsPlain self.now }
+        ensures supported { IsSupported self.now }
     {
         self.test
     }
 
-    /// How many choices there are: at least 1.
+    /// How many choices there are: 1 to 2^48.
     pub fn total(&self) -> u64
         ensures value { result ≡ length (choices_of self.now) }
         ensures some { 1 ≤ result }
@@ -109,7 +111,7 @@ impl<'t> Plan<'t> {
         self.total
     }
 
-    /// The combination of paths of a choice, by number.
+    /// The number of the combination of paths that a choice is of, from 0. `n` is a choice's number, below `total()`.
     pub fn combination(&self, n: u64) -> usize
         requires { n < length (choices_of self.now) }
         ensures value { IsOfCombination self.now n result }
@@ -122,7 +124,7 @@ impl<'t> Plan<'t> {
         ONLY
     }
 
-    /// The sources of a choice, by number.
+    /// The sources of a choice, one event number for each byte read. `n` is the choice's number, below `total()`.
     pub fn sources(&self, n: u64) -> Sources
         requires { n < length (choices_of self.now) }
         ensures listed { (choice : Choice) × (slice_get (choices_of self.now) n ≡ Some choice) × (choice.sources ≡ result.items) }
@@ -131,7 +133,8 @@ impl<'t> Plan<'t> {
         sources_at(self.events.as_slice(), self.reads.as_slice(), self.total, n)
     }
 
-    /// All events of a combination of paths, by number.
+    /// All events of a combination of paths, in the order of their numbers. The combination is one that `combination`
+    /// gives.
     pub fn events(&self, combination: usize) -> Events
         requires { combination < length (combinations_of self.now) }
         ensures value { result.items ≡ events_in self.now combination }
@@ -143,7 +146,7 @@ impl<'t> Plan<'t> {
         events
     }
 
-    /// The registers of an outcome, as agent and register.
+    /// The registers of an outcome, as pairs of an agent's and a register's number: agents in order, registers rising.
     pub fn names(&self) -> &[(u8, u8)]
         ensures value { result.now ≡ names_of self.now }
         ensures known { All (λ name. (name.0 < length self.now.agents) × (name.1 < REGISTERS)) result.now }
@@ -151,7 +154,7 @@ impl<'t> Plan<'t> {
         self.names.as_slice()
     }
 
-    /// Whether an outcome meets the test's condition.
+    /// Whether an outcome meets the test's condition. It has a value for each of `names()`, in that order.
     pub fn meets(&self, outcome: &[u32]) -> bool
         requires { length outcome.now ≡ length (names_of self.now) }
         ensures { result ≡ is_met self.now outcome.now }

@@ -1,10 +1,10 @@
-//! What an event does to which bytes (ECMA-262, 2024, 29.1 and 29.2).
+//! The bytes of an event (ECMA-262, 2024, clause 29, "Memory Model Fundamentals").
 
 ghost use Rattle.std.specs.Prelude.{◌≡◌, ◌↔◌, ◌<◌, IsTrue, length};
 ghost use Rattle.lit_search.specs.declared.event.Order3.TheVariants.{SeqCst};
-ghost use Rattle.lit_search.specs.Event.{HasByte, HasSameRange, SharesByte, does_read, does_write, event_at};
+ghost use Rattle.lit_search.specs.Event.{HasByte, HasSameRange, SharesByte, event_at};
 
-use crate::event::{Event, Kind, Order3};
+use crate::event::{Event, Order3};
 
 /// The event with a number.
 pub(crate) fn event_at(events: &[Event], number: usize) -> &Event
@@ -12,26 +12,6 @@ pub(crate) fn event_at(events: &[Event], number: usize) -> &Event
     ensures { result.now ≡ event_at events.now number }
 {
     &events[number]
-}
-
-/// Whether an event of this kind reads.
-pub(crate) fn does_read(kind: Kind) -> bool
-    ensures { result ≡ does_read kind }
-{
-    match kind {
-        Kind::Read | Kind::Modify => true,
-        Kind::Write => false,
-    }
-}
-
-/// Whether an event of this kind writes.
-pub(crate) fn does_write(kind: Kind) -> bool
-    ensures { result ≡ does_write kind }
-{
-    match kind {
-        Kind::Write | Kind::Modify => true,
-        Kind::Read => false,
-    }
 }
 
 /// Whether a byte, from the block's start, is in the event's range.

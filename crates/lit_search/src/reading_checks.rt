@@ -8,10 +8,10 @@ ghost use Rattle.lit_search.specs.Relating.{CanReadWhole, Hides, IsCoherentBy, I
 ghost use Rattle.lit_search.specs.Rows.{Holds, rows_len};
 ghost use Rattle.lit_search.specs.TearFree.{HasTearFreeReads};
 
+use crate::bit_rows::Rows;
 use crate::byte_sources::{ByteRead, sourced_bytes};
 use crate::event::Event;
-use crate::ranges::{does_write, event_at, has_byte, has_same_range};
-use crate::relation::Rows;
+use crate::ranges::{event_at, has_byte, has_same_range};
 
 /// Coherent reads (29.7.2), by happens-before.
 pub fn is_coherent(events: &[Event], sources: &[u8], happens_before: &Rows) -> bool
@@ -53,7 +53,7 @@ fn hides(events: &[Event], byte: ByteRead, other: usize, happens_before: &Rows) 
     ensures { IsTrue result ↔ Hides events.now (Holds happens_before.now) byte.read byte.byte byte.source other }
 {
     let event = event_at(events, other);
-    does_write(event.kind)
+    event.kind.does_write()
         && has_byte(event, byte.byte)
         && happens_before.holds(usize::from(byte.source), other)
         && happens_before.holds(other, usize::from(byte.read))

@@ -1,4 +1,5 @@
-//! The relations of a candidate execution (ECMA-262, 2024, 29.6), for the sources given so far.
+//! The relations of a candidate execution (ECMA-262, 2024, 29.6), for the sources given so far, as `Rows` of
+//! `bit_rows`.
 
 ghost use Rattle.std.specs.Prelude.{◌≡◌, ◌⊎◌, ◌↔◌, ℕ, ◌<◌, IsTrue, List, length};
 ghost use Rattle.lit_search.specs.AgentOrder.{IsAgentOrdered};
@@ -10,10 +11,10 @@ ghost use Rattle.lit_search.specs.Relating.{CanSynchronize, IsFixedStep, IsHappe
 ghost use Rattle.lit_search.specs.Rows.{Holds, rows_len};
 ghost use Rattle.lit_search.specs.SynchronizesWith.{Synchronizes};
 
+use crate::bit_rows::Rows;
 use crate::byte_sources::sourced_bytes;
 use crate::event::{Event, Order3};
 use crate::ranges::{event_at, have_same_range, is_seq_cst, shares_byte};
-use crate::relation::Rows;
 
 /// reads-from (29.6.3), as pairs of a read and a source.
 pub fn reads_from(events: &[Event], sources: &[u8]) -> Rows

@@ -7,6 +7,7 @@ ghost use Rattle.lit_search.specs.Given.{AreGiven};
 ghost use Rattle.lit_search.specs.Relating.{IsHappensBefore};
 ghost use Rattle.lit_search.specs.Report.{IsReport};
 
+use crate::bit_rows::Rows;
 use crate::event::{Event, Order};
 use crate::forbidding::between;
 use crate::found::{Example, Found, Outcome, SearchFault};
@@ -14,7 +15,6 @@ use crate::orders::least_order;
 use crate::outcomes::outcome_of;
 use crate::planning::Plan;
 use crate::reading_checks::{is_coherent, is_tear_free};
-use crate::relation::Rows;
 use crate::relations::{happens_before, is_acyclic};
 use std::alloc::Global;
 
@@ -61,7 +61,8 @@ fn examine(plan: &Plan<'_>, choice: u64) -> Option<(Outcome, Order)>
     }
 }
 
-/// The report of the choices from `from` up to and without `to`.
+/// The report of the choices with numbers from `from` up to and without `to`: `from` is at most `to`, and `to` at most
+/// `plan.total()`. Answers `SearchFault::OutOfMemory` where a growth was refused, and no other fault.
 pub fn search_range(
     alloc: Global,
     plan: &Plan<'_>,

@@ -3,9 +3,10 @@ use Rattle.std.proofs.lemmas.List.{drop_all}
 use Rattle.lit_read.specs.Syntax.{Litmus}
 use Rattle.lit_search.specs.declared.event.Event.{Event}
 use Rattle.lit_search.specs.Event.{init_events}
-use Rattle.lit_search.specs.Plan.{accesses_of, events_in, AreByteEvents, IsPlain}
-use Rattle.lit_search.proofs.PlainTests.{events_in-plain}
-use Rattle.lit_search.proofs.PlanFacts.{AreByteEvents-plain}
+use Rattle.lit_search.specs.Plan.{accesses_of, events_in, AreByteEvents}
+use Rattle.lit_search.specs.Supported.{IsSupported}
+use Rattle.lit_search.proofs.SupportedTests.{events_in-supported}
+use Rattle.lit_search.proofs.PlanFacts.{AreByteEvents-supported}
 use Rattle.lit_search.proofs.AccessLists.{length-init_events}
 use Rattle.lit_search.proofs.Stepped.{length-accesses_of_more}
 use Rattle.lit_search.proofs.accesses.combined_events.Goals as goal
@@ -24,17 +25,17 @@ push_accesses-requires c =
       length-init_events c.args.test.now.bytes,
     )
 
-made : (t : Litmus) (events : List Event) (n : ℕ) → length t.agents ≤ n → IsPlain t
+made : (t : Litmus) (events : List Event) (n : ℕ) → length t.agents ≤ n → IsSupported t
     → events ++ accesses_of n (drop n t.agents) ≡ init_events t.bytes ++ accesses_of 0 t.agents → events ≡ events_in t 0
-made t events n past plain before =
-    sym (append-nil events) ∙ sym (ap (λ rest. events ++ accesses_of n rest) (drop_all n t.agents past)) ∙ before ∙ sym (events_in-plain t plain)
+made t events n past supported before =
+    sym (append-nil events) ∙ sym (ap (λ rest. events ++ accesses_of n rest) (drop_all n t.agents past)) ∙ before ∙ sym (events_in-supported t supported)
 
 pub returns-clause-value : goal.returns-clause-value
 returns-clause-value c =
-    made c.args.test.now _ c.loop-agent.agent (omega (arith, c.loop-agent-test.false, c.agents-agent-end.ensures.value)) c.requires.plain c.loop-agent.invariant
+    made c.args.test.now _ c.loop-agent.agent (omega (arith, c.loop-agent-test.false, c.agents-agent-end.ensures.value)) c.requires.supported c.loop-agent.invariant
 
 pub returns-clause-single : goal.returns-clause-single
 returns-clause-single c =
     subst (λ (es : List Event). AreByteEvents c.args.test.now.bytes es)
-    (sym (made c.args.test.now _ c.loop-agent.agent (omega (arith, c.loop-agent-test.false, c.agents-agent-end.ensures.value)) c.requires.plain c.loop-agent.invariant))
-    (AreByteEvents-plain c.args.test.now c.bytes.ensures.litmus c.requires.plain c.requires.few)
+    (sym (made c.args.test.now _ c.loop-agent.agent (omega (arith, c.loop-agent-test.false, c.agents-agent-end.ensures.value)) c.requires.supported c.loop-agent.invariant))
+    (AreByteEvents-supported c.args.test.now c.bytes.ensures.litmus c.requires.supported c.requires.few)

@@ -7,9 +7,9 @@ use Rattle.lit_search.specs.Event.{event_at}
 use Rattle.lit_search.specs.ReadsFrom.{byte_reads}
 use Rattle.lit_search.specs.Choice.{product, candidates_of, sources_of}
 use Rattle.lit_search.specs.Plan.{accesses_of, events_in}
-use Rattle.lit_search.proofs.PlainTests.{length-choices_of-plain}
+use Rattle.lit_search.proofs.SupportedTests.{length-choices_of-supported}
 use Rattle.lit_search.proofs.ByteEvents.{AreByteEvents-candidate, AreByteEvents-range}
-use Rattle.lit_search.proofs.PlanFacts.{HasTooManyEvents-plain, HasFewEvents-plain}
+use Rattle.lit_search.proofs.PlanFacts.{HasTooManyEvents-supported, HasFewEvents-supported}
 use Rattle.lit_search.proofs.making.plan.Goals as goal
 
 le_of_not : {m n : ℕ} → (m < n → ⊥) → n ≤ m
@@ -17,7 +17,7 @@ le_of_not {m} {n} h = ⊎_elim (λ l. absurd (h l)) (λ l. l) (cases_lt m n)
 
 pub returns-then-has_too_many_events-clause-refused : goal.returns-then-has_too_many_events-clause-refused
 returns-then-has_too_many_events-clause-refused c =
-    HasTooManyEvents-plain c.args.test.now c.has_too_many_events.ensures.plain (c.has_too_many_events.ensures.value.0 c.if-has_too_many_events.true)
+    HasTooManyEvents-supported c.args.test.now c.has_too_many_events.ensures.supported (c.has_too_many_events.ensures.value.0 c.if-has_too_many_events.true)
 
 pub byte_reads_of-reads-requires-clause-room : goal.byte_reads_of-reads-requires-clause-room
 byte_reads_of-reads-requires-clause-room c =
@@ -44,8 +44,8 @@ pub returns-in_default-clause-refused : goal.returns-in_default-clause-refused
 returns-in_default-clause-refused c =
     let few : length (accesses_of 0 c.args.test.now.agents) ≤ ACCESS_LIMIT = le_of_not (λ h. true≢false (sym (c.has_too_many_events.ensures.value.1 h) ∙ c.if-has_too_many_events.false)) in
     let same = lists c.args.test.now _ _ _ _ _ c.combined_events-events.ensures.value c.as_slice-2.ensures.value c.as_slice.ensures.value c.as_slice-3.ensures.value c.byte_reads_of-reads.ensures in (
-      HasFewEvents-plain c.args.test.now c.has_too_many_events.ensures.plain few,
-      omega (arith, c.in_default.ensures, ap (λ l. length l) same, length-choices_of-plain c.args.test.now c.has_too_many_events.ensures.plain),
+      HasFewEvents-supported c.args.test.now c.has_too_many_events.ensures.supported few,
+      omega (arith, c.in_default.ensures, ap (λ l. length l) same, length-choices_of-supported c.args.test.now c.has_too_many_events.ensures.supported),
     )
 
 pub new-requires : goal.new-requires
@@ -54,11 +54,11 @@ new-requires c =
     let same = lists c.args.test.now _ _ _ _ _ c.combined_events-events.ensures.value c.as_slice-2.ensures.value c.as_slice.ensures.value c.as_slice-3.ensures.value c.byte_reads_of-reads.ensures in
     record {
       litmus = c.combined_events-events.ensures.litmus;
-      plain = c.has_too_many_events.ensures.plain;
+      supported = c.has_too_many_events.ensures.supported;
       few = few;
       all_events = c.combined_events-events.ensures.value;
       all_reads = c.byte_reads_of-reads.ensures ∙ ap (λ es. byte_reads es) c.as_slice.ensures.value;
-      all_choices = omega (arith, c.in-Some.ensures.0, ap (λ l. length l) same, length-choices_of-plain c.args.test.now c.has_too_many_events.ensures.plain);
+      all_choices = omega (arith, c.in-Some.ensures.0, ap (λ l. length l) same, length-choices_of-supported c.args.test.now c.has_too_many_events.ensures.supported);
       some_choice = c.in-Some.ensures.1;
       few_choices = c.in-Some.ensures.2;
       all_names = c.written_names-names.ensures;
@@ -67,9 +67,9 @@ new-requires c =
 pub returns-clause-few_events : goal.returns-clause-few_events
 returns-clause-few_events c =
     let few : length (accesses_of 0 c.args.test.now.agents) ≤ ACCESS_LIMIT = le_of_not (λ h. true≢false (sym (c.has_too_many_events.ensures.value.1 h) ∙ c.if-has_too_many_events.false)) in
-    HasFewEvents-plain c.args.test.now c.has_too_many_events.ensures.plain few
+    HasFewEvents-supported c.args.test.now c.has_too_many_events.ensures.supported few
 
 pub returns-clause-few_choices : goal.returns-clause-few_choices
 returns-clause-few_choices c =
     let same = lists c.args.test.now _ _ _ _ _ c.combined_events-events.ensures.value c.as_slice-2.ensures.value c.as_slice.ensures.value c.as_slice-3.ensures.value c.byte_reads_of-reads.ensures in
-    omega (arith, c.in-Some.ensures.0, c.in-Some.ensures.2, ap (λ l. length l) same, length-choices_of-plain c.args.test.now c.has_too_many_events.ensures.plain)
+    omega (arith, c.in-Some.ensures.0, c.in-Some.ensures.2, ap (λ l. length l) same, length-choices_of-supported c.args.test.now c.has_too_many_events.ensures.supported)

@@ -1,6 +1,6 @@
 use Rattle.std.proofs.Common.{◌≡◌, ◌*◌, ◌≤◌, ◌++◌, drop}
 use Rattle.arrayvec.specs.ArrayVec.{array_vec_len}
-use Rattle.lit_search.specs.declared.limits.TheConstants.{REGISTERS}
+use Rattle.lit_read.specs.declared.limits.TheConstants.{REGISTERS}
 use Rattle.lit_search.specs.Outcome.{names_from, names_of}
 use Rattle.lit_search.proofs.names.written_names.Given as goal
 

@@ -1,6 +1,6 @@
 use Rattle.std.proofs.Common.{◌≡◌, ◌↔◌, ◌⊎◌, ◌<◌, ◌+◌, ℕ, refl, sym, subst, ◌∙◌}
 use Rattle.std.proofs.lemmas.Bool.{false≢true}
-use Rattle.lit_search.specs.declared.relation.Rows.{Rows}
+use Rattle.lit_search.specs.declared.bit_rows.Rows.{Rows}
 use Rattle.lit_search.specs.Rows.{Holds, rows_len}
 use Rattle.lit_search.proofs.RelatingLemmas.{lead_more, lead_skip}
 use Rattle.lit_search.proofs.relations.lead_through.Goals as goal

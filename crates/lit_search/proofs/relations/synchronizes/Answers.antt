@@ -1,7 +1,7 @@
 use Rattle.std.proofs.Common.{◌≡◌, ◌↔◌, ◌+◌, ℕ, length, get_or, refl, sym, subst, ◌∙◌}
 use Rattle.std.proofs.lemmas.Bool.{false≢true}
 use Rattle.lit_search.specs.declared.byte_sources.ByteRead.{ByteRead}
-use Rattle.lit_search.specs.declared.relation.Rows.{Rows}
+use Rattle.lit_search.specs.declared.bit_rows.Rows.{Rows}
 use Rattle.lit_search.specs.Event.{event_at}
 use Rattle.lit_search.specs.Relating.{CanSynchronize}
 use Rattle.lit_search.specs.Rows.{Holds, rows_len}

@@ -1,8 +1,9 @@
 use Rattle.std.proofs.Common.{sym, subst, ◌<◌, length}
 use Rattle.lit_read.specs.Syntax.{Litmus}
 use Rattle.lit_search.specs.Choice.{choices_of}
-use Rattle.lit_search.specs.Plan.{IsOfCombination, IsPlain}
-use Rattle.lit_search.proofs.ChosenEvents.{choice_events-plain}
+use Rattle.lit_search.specs.Plan.{IsOfCombination}
+use Rattle.lit_search.specs.Supported.{IsSupported}
+use Rattle.lit_search.proofs.ChosenEvents.{choice_events-supported}
 use Rattle.lit_search.proofs.PlanFacts.{planned-combination}
 use Rattle.lit_search.proofs.RunPaths.{choices_of-undecided, execution_events-of_choice}
 use Rattle.lit_search.proofs.planning.Plan.combination.Goals as goal
@@ -22,5 +23,5 @@ returns-clause-undecided c = λ choice at. choices_of-undecided c.args.self.now 
 
 pub returns-clause-chosen : goal.returns-clause-chosen
 returns-clause-chosen c =
-    let plain : IsPlain c.args.self.now = subst IsPlain c.self.view_is c.self.invariant.plain in
-    λ choice at. choice_events-plain c.args.self.now choice plain (choices_of-undecided c.args.self.now c.args.n choice at)
+    let supported : IsSupported c.args.self.now = subst IsSupported c.self.view_is c.self.invariant.supported in
+    λ choice at. choice_events-supported c.args.self.now choice supported (choices_of-undecided c.args.self.now c.args.n choice at)

@@ -2,7 +2,8 @@ use Rattle.std.proofs.Common.{List, ap, sym, ◌∙◌, subst, arith, length}
 use Rattle.lit_read.specs.Syntax.{Litmus}
 use Rattle.lit_search.specs.declared.event.Event.{Event}
 use Rattle.lit_search.specs.Choice.{combinations_of}
-use Rattle.lit_search.specs.Plan.{events_in, AreByteEvents, IsPlain}
+use Rattle.lit_search.specs.Plan.{events_in, AreByteEvents}
+use Rattle.lit_search.specs.Supported.{IsSupported}
 use Rattle.std.specs.Prelude.{All}
 use Rattle.lit_search.proofs.ChosenEvents.{IsOwned, events_in-owned}
 use Rattle.lit_search.proofs.PlanFacts.{planned-events, planned-one}
@@ -23,4 +24,4 @@ pub returns-clause-owned : goal.returns-clause-owned
 returns-clause-owned c =
     let P : List Event → Type 0 = All (IsOwned (length c.args.self.now.agents)) in
     subst P (sym (c.copied-events.ensures ∙ c.as_slice.ensures.value ∙ c.self.invariant.all_events ∙ ap (λ (t : Litmus). events_in t 0) c.self.view_is))
-    (events_in-owned c.args.self.now (subst IsPlain c.self.view_is c.self.invariant.plain))
+    (events_in-owned c.args.self.now (subst IsSupported c.self.view_is c.self.invariant.supported))

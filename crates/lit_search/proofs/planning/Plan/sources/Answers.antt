@@ -2,7 +2,7 @@ use Rattle.std.proofs.Common.{◌≡◌, ℕ, ap, ap₂, sym, ◌∙◌, refl, l
 use Rattle.lit_read.specs.Syntax.{Litmus}
 use Rattle.lit_search.specs.declared.event.Event.{Event}
 use Rattle.lit_search.specs.Choice.{product, candidates_of, choices_of}
-use Rattle.lit_search.proofs.PlainTests.{plain_choice}
+use Rattle.lit_search.proofs.SupportedTests.{plain_choice}
 use Rattle.lit_search.proofs.PlanFacts.{planned-total, planned-choice, IsOfCombination-sourced}
 use Rattle.lit_search.proofs.planning.Plan.sources.Goals as goal
 

@@ -1,4 +1,4 @@
-//! Relations on the events of a candidate execution.
+//! A relation on the events of a candidate execution, as rows of bits. `relations` has the relations of clause 29.
 
 ghost use Rattle.std.specs.Prelude.{◌≡◌, ◌⊎◌, ◌↔◌, ℕ, ◌<◌, ◌≤◌, IsTrue};
 ghost use Rattle.lit_search.specs.declared.limits.TheConstants.{EVENT_LIMIT};
