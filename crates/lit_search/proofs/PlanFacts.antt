@@ -3,11 +3,13 @@ use Rattle.std.proofs.Common.{◌≡◌, ℕ, ◌<◌, ◌≤◌, List, [], ◌�
 use Rattle.std.proofs.lemmas.List.{length-map}
 use Rattle.std.proofs.lemmas.Option.{slice_get-get_or, slice_get-map}
 use Rattle.lit_read.specs.Syntax.{Litmus, IsLitmus}
-use Rattle.lit_search.specs.declared.limits.TheConstants.{ACCESS_LIMIT}
+use Rattle.lit_search.specs.declared.limits.TheConstants.{ACCESS_LIMIT, CHOICE_LIMIT}
 use Rattle.lit_search.specs.declared.event.Event.{Event}
+use Rattle.lit_search.specs.declared.planning.PlanFault.{PlanFault}
+use Rattle.lit_search.specs.declared.planning.PlanFault.TheVariants.{TooManyEvents, TooManyChoices, OutOfMemory}
 use Rattle.lit_search.specs.ReadsFrom.{byte_reads}
 use Rattle.lit_search.specs.Choice.{Choice, AreSources, product, candidates_of, sources_of, choices_of, combinations_of}
-use Rattle.lit_search.specs.Plan.{accesses_of, accesses_on, events_in, IsPlanned, IsOfCombination, AreByteEvents, HasTooManyEvents, HasFewEvents}
+use Rattle.lit_search.specs.Plan.{accesses_of, accesses_on, events_in, IsPlanned, IsOfCombination, AreByteEvents, HasTooManyEvents, HasFewEvents, IsRefusal}
 use Rattle.lit_search.specs.Supported.{IsSupported}
 use Rattle.lit_search.proofs.Products.{product-known}
 use Rattle.lit_search.proofs.Candidates.{candidates_of-known}
@@ -46,6 +48,13 @@ HasFewEvents-supported t supported few = λ k d inside.
     let first : k ≡ 0 = omega (arith, inside, ap (λ cs. length cs) only) in
     let same : plain_paths 0 t.agents ≡ get_or (combinations_of t) k d = sym (ap (λ cs. get_or cs k d) only ∙ ap (λ m. get_or (plain_paths 0 t.agents ∷ []) m d) first) in
     omega (arith, few, accesses_on-supported t, ap (λ ps. length (accesses_on ps)) same)
+
+-- a test of few events and few choices is not refused
+pub IsRefusal-none : (t : Litmus) → HasFewEvents t → length (choices_of t) ≤ CHOICE_LIMIT → (fault : PlanFault) → ¬ IsRefusal t fault
+IsRefusal-none t few_events few_choices TooManyEvents some =
+    omega (arith, few_events some.0 some.1 some.2, ap (λ ps. length (accesses_on ps)) some.3, some.4)
+IsRefusal-none t few_events few_choices TooManyChoices some = omega (arith, few_choices, some.1)
+IsRefusal-none t few_events few_choices OutOfMemory none = none
 
 module _ (t : Litmus) (events : List Event) (reads : List (ℕ × ℕ)) (total : ℕ) (names : List (ℕ × ℕ)) (is : IsPlanned t events reads total names) where
   pub planned-events : AreByteEvents t.bytes (events_in t 0)

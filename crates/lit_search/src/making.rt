@@ -1,9 +1,7 @@
 //! Makes the plan of a test. `planning` has the `Plan` and its calls.
 
-ghost use Rattle.std.specs.Prelude.{◌≡◌, ◌≤◌, length, IfOk, OnOk, IfErr};
-ghost use Rattle.lit_search.specs.declared.limits.TheConstants.{CHOICE_LIMIT};
-ghost use Rattle.lit_search.specs.Choice.{choices_of};
-ghost use Rattle.lit_search.specs.Plan.{HasFewEvents, IsRefusal};
+ghost use Rattle.std.specs.Prelude.{◌≡◌, IfOk, OnOk, IfErr};
+ghost use Rattle.lit_search.specs.Plan.{IsRefusal};
 ghost use Rattle.lit_search.specs.Supported.{IsSupported};
 
 use crate::accesses::{combined_events, has_too_many_events};
@@ -19,8 +17,7 @@ use std::alloc::Global;
 pub fn plan<'t>(alloc: Global, test: &'t Test) -> Result<Plan<'t>, PlanFault>
     ensures supported { IsSupported test.now }
     ensures ok { IfOk result (λ p. p ≡ test.now) }
-    ensures few_events { OnOk result (HasFewEvents test.now) }
-    ensures few_choices { OnOk result (length (choices_of test.now) ≤ CHOICE_LIMIT) }
+    ensures planned { OnOk result ((fault : PlanFault) → ¬ IsRefusal test.now fault) }
     ensures refused { IfErr result (IsRefusal test.now) }
 {
     // Room of a fixed size is all that today's tests take.

@@ -9,7 +9,7 @@ use Rattle.lit_search.specs.Choice.{product, candidates_of, sources_of}
 use Rattle.lit_search.specs.Plan.{accesses_of, events_in}
 use Rattle.lit_search.proofs.SupportedTests.{length-choices_of-supported}
 use Rattle.lit_search.proofs.ByteEvents.{AreByteEvents-candidate, AreByteEvents-range}
-use Rattle.lit_search.proofs.PlanFacts.{HasTooManyEvents-supported, HasFewEvents-supported}
+use Rattle.lit_search.proofs.PlanFacts.{HasTooManyEvents-supported, HasFewEvents-supported, IsRefusal-none}
 use Rattle.lit_search.proofs.making.plan.Goals as goal
 
 le_of_not : {m n : ℕ} → (m < n → ⊥) → n ≤ m
@@ -64,12 +64,9 @@ new-requires c =
       all_names = c.written_names-names.ensures;
     }
 
-pub returns-clause-few_events : goal.returns-clause-few_events
-returns-clause-few_events c =
+pub returns-clause-planned : goal.returns-clause-planned
+returns-clause-planned c =
     let few : length (accesses_of 0 c.args.test.now.agents) ≤ ACCESS_LIMIT = le_of_not (λ h. true≢false (sym (c.has_too_many_events.ensures.value.1 h) ∙ c.if-has_too_many_events.false)) in
-    HasFewEvents-supported c.args.test.now c.has_too_many_events.ensures.supported few
-
-pub returns-clause-few_choices : goal.returns-clause-few_choices
-returns-clause-few_choices c =
     let same = lists c.args.test.now _ _ _ _ _ c.combined_events-events.ensures.value c.as_slice-2.ensures.value c.as_slice.ensures.value c.as_slice-3.ensures.value c.byte_reads_of-reads.ensures in
-    omega (arith, c.in-Some.ensures.0, c.in-Some.ensures.2, ap (λ l. length l) same, length-choices_of-supported c.args.test.now c.has_too_many_events.ensures.supported)
+    IsRefusal-none c.args.test.now (HasFewEvents-supported c.args.test.now c.has_too_many_events.ensures.supported few)
+    (omega (arith, c.in-Some.ensures.0, c.in-Some.ensures.2, ap (λ l. length l) same, length-choices_of-supported c.args.test.now c.has_too_many_events.ensures.supported))
