@@ -4,3 +4,5 @@ pub mod Registers
 pub mod EntryFacts
 pub mod Judging
 pub mod Refusals
+pub mod Completeness
+pub mod Told

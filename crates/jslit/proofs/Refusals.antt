@@ -1,19 +1,24 @@
 -- A fault of the reader or of the plan, as a fault of a run.
-use Rattle.std.proofs.Common.{◌≡◌, ◌≢◌, inl, inr, ℕ, List, Option, Some, None, IfSome, IfErr, Ok, Err, sym, subst, ◌∙◌}
+use Rattle.std.proofs.Common.{◌≡◌, ◌≢◌, ◌+◌, inl, inr, ℕ, List, [], take, Option, Some, None, IfErr, OnErr, IsErrOf, Ok, Err, refl, sym, subst, ◌∙◌}
 use Rattle.std.specs.declared.result.Result.{Result}
 use Rattle.std.specs.Result.{IsErrAnd}
 use Rattle.lit_read.specs.Syntax.{Litmus}
 use Rattle.lit_read.specs.Faults.{IsRefusal, IsFirstFault, HasFault}
 use Rattle.lit_read.specs.Spelling.{Spells}
+use Rattle.lit_read.specs.declared.limits.TheConstants.{TEXT_LIMIT}
 use Rattle.lit_read.specs.declared.fault.ReadFault.{ReadFault}
 use Rattle.lit_read.specs.declared.fault.ReadKind.{ReadKind}
 use Rattle.lit_read.specs.declared.fault.ReadKind.TheVariants as kinds
 use Rattle.lit_search.specs.declared.planning.PlanFault.{PlanFault}
 use Rattle.lit_search.specs.declared.planning.PlanFault.TheVariants as plan_faults
 use Rattle.lit_search.specs.Plan as plan
+use Rattle.lit_search.specs.Supported.{IsSupported}
 use Rattle.jslit.specs.declared.engine.RunFault.{RunFault}
 use Rattle.jslit.specs.declared.engine.RunFault.TheVariants as faults
-use Rattle.jslit.specs.Answer.{IsFaultOn, IsOfText}
+use Rattle.jslit.specs.Answer.{IsFaultOn}
+use Rattle.jslit.specs.Devices.{IsTold, OfToldText}
+use Rattle.jslit.specs.Steps.Faults.{IsOfText}
+use Rattle.jslit.specs.Steps.Reading.{IsReadFailure}
 
 -- want of memory is no fault of a text
 not_memory : (text : List ℕ) (kind : ReadKind) (n : ℕ) → IsFirstFault text kind n → kind ≢ kinds.OutOfMemory
@@ -33,12 +38,12 @@ module _ (text : List ℕ) (fault : ReadFault) (result : RunFault) (refused : Is
   pub read_of_text : IsOfText result
   read_of_text = as_run IsOfText tt (λ first. tt)
 
-module _ (text : List ℕ) (t : Litmus) (fault : PlanFault) (result : RunFault) (spelled : Spells text t) (refused : plan.IsRefusal t fault) (given : fault ≢ plan_faults.OutOfMemory → result ≡ faults.Plan fault) where
+module _ (text : List ℕ) (t : Litmus) (fault : PlanFault) (result : RunFault) (spelled : Spells text t) (supported : IsSupported t) (refused : plan.IsRefusal t fault) (given : fault ≢ plan_faults.OutOfMemory → result ≡ faults.Plan fault) where
   is_plan : result ≡ faults.Plan fault
   is_plan = given (λ is. subst (plan.IsRefusal t) is refused)
 
   pub plan_refused : IsFaultOn text result
-  plan_refused = subst (IsFaultOn text) (sym is_plan) (record { test = t; spelled = spelled; refused = refused })
+  plan_refused = subst (IsFaultOn text) (sym is_plan) (record { test = t; spelled = spelled; supported = supported; refused = refused })
 
   pub plan_of_text : IsOfText result
   plan_of_text = subst IsOfText (sym is_plan) tt
@@ -48,7 +53,36 @@ pub if_err : {X F : Type 0} (r : Result X F) (P Q : F → Type 0) → IsErrAnd r
 if_err (Ok x) P Q is to = tt
 if_err (Err e) P Q is to = to e is
 
--- what a fault says of the bytes that were read, it says of those that are told
-pub fault_on_told : (told : Option (List ℕ)) (items bytes : List ℕ) (e fault : RunFault) → IfSome told (λ text. items ≡ text) → bytes ≡ items → e ≡ fault → IsFaultOn bytes fault → IfSome told (λ text. IsFaultOn text e)
-fault_on_told None items bytes e fault known same is on = tt
-fault_on_told (Some text) items bytes e fault known same is on = subst (λ x. IsFaultOn text x) (sym is) (subst (λ bs. IsFaultOn bs fault) (same ∙ known) on)
+-- what a fault says of the text that was read
+pub fault_on_told : (remaining : Option (List ℕ)) (items bytes : List ℕ) (e fault : RunFault) → IsTold remaining items → bytes ≡ items → e ≡ fault → IsFaultOn bytes fault
+    → OfToldText remaining (λ text. IsFaultOn text e)
+fault_on_told remaining items bytes e fault known same is on = record {
+  text = items;
+  is_told = known;
+  holds = subst (λ x. IsFaultOn items x) (sym is) (subst (λ bs. IsFaultOn bs fault) same on);
+}
+
+-- what holds of each text holds of the one that is told
+pub of_any_text : (remaining : Option (List ℕ)) (Holds : List ℕ → Type 0) → ((text : List ℕ) → Holds text) → OfToldText remaining Holds
+of_any_text None Holds holds = record { text = []; is_told = tt; holds = holds [] }
+of_any_text (Some bytes) Holds holds = record { text = take (TEXT_LIMIT + 1) bytes; is_told = refl; holds = holds (take (TEXT_LIMIT + 1) bytes) }
+
+-- a failure of reading is a fault on any text, and no failure to write
+pub read_failed : (before after : ℕ) (fault : RunFault) → IsReadFailure before after fault → (text : List ℕ) → IsFaultOn text fault
+read_failed before after (faults.Read f) failed text = absurd failed
+read_failed before after (faults.Plan f) failed text = absurd failed
+read_failed before after faults.OutOfMemory failed text = tt
+read_failed before after faults.InputFailed failed text = tt
+read_failed before after faults.OutputFailed failed text = absurd failed
+
+-- what is not said of a failure to write is said of another fault
+pub not_output : {X : Type 0} (r : Result X RunFault) (fault : RunFault) (P : RunFault → Type 0) → IsErrAnd r (λ e. e ≡ fault) → P fault → ¬ P faults.OutputFailed → ¬ IsErrOf r faults.OutputFailed
+not_output (Ok x) fault P is holds never failed = absurd is
+not_output (Err e) fault P is holds never failed =
+    let same : e ≡ faults.OutputFailed = cc in
+    never (subst P (sym is ∙ same) holds)
+
+-- what an error ensures holds where there is one
+pub on_err : {X : Type 0} (r : Result X RunFault) (fault : RunFault) (A : Type 0) → OnErr r A → IsErrOf r fault → A
+on_err (Ok x) fault A holds failed = absurd cc
+on_err (Err e) fault A holds failed = holds

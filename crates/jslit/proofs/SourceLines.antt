@@ -9,12 +9,12 @@ use Rattle.lit_search.specs.declared.event.Event.{Event}
 use Rattle.lit_search.specs.Event.{does_read, event_at}
 use Rattle.lit_search.specs.ReadsFrom.{bytes_read_by, byte_reads_from, byte_reads, read_numbers_from}
 use Rattle.jslit.specs.ReportText.{source_line, from_lines}
-use Rattle.jslit.specs.ReadText.{read_text, rest_after}
+use Rattle.jslit.specs.Steps.ReadLine.{read_line, rest_after}
 
 -- the lines of the reads among these events, where the sources are those of their bytes
 abbrev pub lines_from : Litmus → List Event → List Event → List ℕ → List ℕ
 lines_from t events [] sources = []
-lines_from t events (e ∷ es) sources = read_text t events e sources ++ lines_from t events es (rest_after e sources)
+lines_from t events (e ∷ es) sources = read_line t events e sources ++ lines_from t events es (rest_after e sources)
 
 abbrev Pair : Type 0
 Pair = (ℕ × ℕ) × ℕ
@@ -161,7 +161,7 @@ module _ (t : Litmus) (events : List Event) where
   pub from_lines-is : (ws : List ℕ) → length ws ≡ length (byte_reads events) → from_lines t events ws ≡ lines_from t events events ws
   from_lines-is ws long = lines_are 0 events ws [] refl tt long
 
-  pub lines_more : (i : ℕ) (d : Event) (ws : List ℕ) → i < length events → lines_from t events (drop i events) ws ≡ read_text t events (get_or events i d) ws ++ lines_from t events (drop (i + 1) events) (rest_after (get_or events i d) ws)
+  pub lines_more : (i : ℕ) (d : Event) (ws : List ℕ) → i < length events → lines_from t events (drop i events) ws ≡ read_line t events (get_or events i d) ws ++ lines_from t events (drop (i + 1) events) (rest_after (get_or events i d) ws)
   lines_more i d ws lt = at_drop_more (λ (es : List Event). lines_from t events es ws) events i d lt
 
 -- how many sources are left

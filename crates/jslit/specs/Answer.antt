@@ -1,14 +1,15 @@
 -- What a run answers for the bytes of a text (this project's own).
-use Rattle.std.specs.Prelude.{◌≡◌, ℕ, ◌≤◌, Option, List, length}
+use Rattle.std.specs.Prelude.{◌≡◌, ◌⊎◌, ℕ, Option, List, length, map, Contains}
 use Rattle.std.specs.Io.KnownBytes.{Appends}
 use Rattle.lit_read.specs.Syntax.{Litmus}
 use Rattle.lit_read.specs.Faults.{IsFirstFault}
 use Rattle.lit_read.specs.Spelling.{Spells}
-use Rattle.lit_search.specs.declared.limits.TheConstants.{CHOICE_LIMIT}
 use Rattle.lit_search.specs.Choice.{choices_of}
 use Rattle.lit_search.specs.declared.planning.PlanFault.{PlanFault}
-use Rattle.lit_search.specs.Plan.{HasFewEvents, IsRefusal}
+use Rattle.lit_search.specs.Plan.{IsRefusal}
 use Rattle.lit_search.specs.Report.{Report, IsReport}
+use Rattle.lit_search.specs.Supported.{IsSupported}
+use Rattle.lit_search.specs.ValidExecution.{Execution, execution_outcome, IsValidExecution}
 use Rattle.jslit.specs.declared.engine.RunFault.{RunFault}
 use Rattle.jslit.specs.declared.engine.RunFault.TheVariants as faults
 use Rattle.jslit.specs.declared.verdict.Verdict.{Verdict}
@@ -16,23 +17,29 @@ use Rattle.jslit.specs.Devices.{AppendsBeginning}
 use Rattle.jslit.specs.ReportText.{report_text}
 use Rattle.jslit.specs.Verdict.{IsVerdict}
 
--- The text spells a test whose plan is not refused, and the answer is the text of the test's report on all its
--- choices and of the verdict that is true of it.
+-- each valid execution of the test has its outcome in the report
+abbrev pub IsComplete : Litmus → Report → Type 0
+IsComplete t report = (x : Execution) → IsValidExecution t x → Contains (map (λ entry. entry.outcome) report.entries) (execution_outcome t x)
+
+-- The text spells a test that the search takes and whose plan is not refused, and the answer is the text of the test's
+-- report on all its choices and of the verdict that is true of it.
 pub record IsReportOn (text answer : List ℕ) : Type 0 where
   pub test : Litmus
   pub spelled : Spells text test
-  pub few_events : HasFewEvents test
-  pub few_choices : length (choices_of test) ≤ CHOICE_LIMIT
+  pub supported : IsSupported test
+  pub planned : (fault : PlanFault) → ¬ IsRefusal test fault
   pub report : Report
   pub reported : IsReport test 0 (length (choices_of test)) report
+  pub complete : IsComplete test report
   pub verdict : Verdict
   pub judged : IsVerdict test report verdict
   pub is : answer ≡ report_text test report verdict
 
--- the text spells a test that is refused so
+-- the text spells a test that the search takes and that is refused so
 pub record IsPlanRefused (text : List ℕ) (fault : PlanFault) : Type 0 where
   pub test : Litmus
   pub spelled : Spells text test
+  pub supported : IsSupported test
   pub refused : IsRefusal test fault
 
 -- what a fault says of the text
@@ -43,21 +50,13 @@ IsFaultOn text faults.OutOfMemory = Unit {0}
 IsFaultOn text faults.InputFailed = Unit {0}
 IsFaultOn text faults.OutputFailed = Unit {0}
 
--- no device has failed
-abbrev pub IsOfText : RunFault → Type 0
-IsOfText (faults.Read fault) = Unit {0}
-IsOfText (faults.Plan fault) = Unit {0}
-IsOfText faults.OutOfMemory = Unit {0}
-IsOfText faults.InputFailed = ⊥
-IsOfText faults.OutputFailed = ⊥
-
--- the bytes that are told are those of a report, which known bytes grew by
+-- known bytes grew by a report on the text
 pub record HasReported (text : List ℕ) (old new : Option (List ℕ)) : Type 0 where
   pub answer : List ℕ
   pub on : IsReportOn text answer
   pub written : Appends old new answer
 
--- known bytes grew by a beginning of a report
+-- known bytes grew by a beginning of a report on the text
 pub record HasBegun (text : List ℕ) (old new : Option (List ℕ)) : Type 0 where
   pub answer : List ℕ
   pub on : IsReportOn text answer
@@ -76,3 +75,7 @@ pub record IsRefused (text : List ℕ) : Type 0 where
   pub fault : RunFault
   pub of_text : status_of fault ≡ 1
   pub on : IsFaultOn text fault
+
+-- what the program can give as its status
+abbrev pub IsStatus : ℕ → Type 0
+IsStatus n = (n ≡ 0) ⊎ (n ≡ 1) ⊎ (n ≡ 3) ⊎ (n ≡ 4)

@@ -1,14 +1,32 @@
 -- What a run does to the devices that it reads from and writes to.
-use Rattle.std.specs.Prelude.{◌≡◌, ℕ, ◌+◌, ◌<◌, ◌≤◌, ◌++◌, Option, List, take}
+use Rattle.std.specs.Prelude.{◌≡◌, ℕ, ◌+◌, ◌≤◌, ◌++◌, Option, IfSome, List, length, take}
 use Rattle.std.specs.Option.{option_map}
-use Rattle.std.specs.Io.KnownBytes.{Appends}
+use Rattle.std.specs.Io.KnownBytes.{Appends, Consumes}
 use Rattle.lit_read.specs.declared.limits.TheConstants.{TEXT_LIMIT}
-use Rattle.jslit.specs.declared.engine.RunFault.{RunFault}
-use Rattle.jslit.specs.declared.engine.RunFault.TheVariants.{InputFailed, OutOfMemory}
 
 -- the bytes that a reader tells: up to its end, or to one more than a text may have
 abbrev pub told : Option (List ℕ) → Option (List ℕ)
 told remaining = option_map (take (TEXT_LIMIT + 1)) remaining
+
+-- where the reader tells bytes, the text is those
+abbrev pub IsTold : Option (List ℕ) → List ℕ → Type 0
+IsTold remaining text = IfSome (told remaining) (λ bytes. text ≡ bytes)
+
+-- there is a text of which this holds, and where the reader tells bytes, it is those
+pub record OfToldText (remaining : Option (List ℕ)) (Holds : List ℕ → Type 0) : Type 0 where
+  pub text : List ℕ
+  pub is_told : IsTold remaining text
+  pub holds : Holds text
+
+-- known bytes lose a beginning of at most so many
+pub record ConsumesBeginning (old new : Option (List ℕ)) (limit : ℕ) : Type 0 where
+  pub front : List ℕ
+  pub few : length front ≤ limit
+  pub consumed : Consumes old new front
+
+-- known bytes lose those that are told, and no more
+abbrev pub ConsumesTold : Option (List ℕ) → Option (List ℕ) → Type 0
+ConsumesTold old new = IfSome (told old) (Consumes old new)
 
 -- known bytes grow by a beginning of these
 pub record AppendsBeginning (old new : Option (List ℕ)) (bytes : List ℕ) : Type 0 where
@@ -16,9 +34,3 @@ pub record AppendsBeginning (old new : Option (List ℕ)) (bytes : List ℕ) : T
   pub rest : List ℕ
   pub parts : front ++ rest ≡ bytes
   pub appended : Appends old new front
-
--- the input's count of failures rose, or memory ran out
-abbrev pub IsReadFailure : (before after : ℕ) → RunFault → Type 0
-IsReadFailure before after InputFailed = before < after
-IsReadFailure before after OutOfMemory = after ≤ before
-IsReadFailure before after _ = ⊥

@@ -2,5 +2,5 @@ pub mod Counted
 pub mod Devices
 pub mod Verdict
 pub mod ReportText
-pub mod ReadText
 pub mod Answer
+pub mod Steps

@@ -1,10 +1,9 @@
 //! The program: what it prints, and its status.
 
-ghost use Rattle.std.specs.Prelude.{◌≡◌, ◌<◌, ◌^◌, ◌-◌, OnOk, IfErr, IfSome};
-ghost use Rattle.std.specs.Io.KnownBytes.{Keeps};
-ghost use Rattle.jslit.specs.Answer.{HasReported, IsRefused, status_of};
+ghost use Rattle.std.specs.Prelude.{◌≡◌, ◌<◌, ◌^◌, ◌-◌};
+ghost use Rattle.jslit.specs.Answer.{HasReported, IsRefused, IsStatus, status_of};
 ghost use Rattle.jslit.specs.Counted.{device_of, failures_of};
-ghost use Rattle.jslit.specs.Devices.{told};
+ghost use Rattle.jslit.specs.Devices.{OfToldText};
 
 use crate::counted::Counted;
 use crate::engine::{Options, RunFault, run};
@@ -30,10 +29,12 @@ pub fn program<T: Threads, R: Read, W: Write, E: Write>(
 ) -> u8
     requires input { failures_of input.old < 2 ^ 64 - 1 }
     requires output { failures_of output.old < 2 ^ 64 - 1 }
-    ensures reported { result ≡ 0 → IfSome (told (R.remaining (device_of input.old))) (λ text.
+    ensures status { IsStatus result }
+    ensures reported { result ≡ 0 → OfToldText (R.remaining (device_of input.old)) (λ text.
         HasReported text (W.contents (device_of output.old)) (W.contents (device_of output.new))) }
-    ensures refused { result ≡ 1 → IfSome (told (R.remaining (device_of input.old))) IsRefused }
+    ensures refused { result ≡ 1 → OfToldText (R.remaining (device_of input.old)) IsRefused }
     ensures memory { result ≡ 3 → output.new ≡ output.old }
+    ensures input_failed { failures_of input.old < failures_of input.new → (result ≡ 4) × (output.new ≡ output.old) }
 {
     match run(rt, alloc, input, output, USUAL) {
         Ok(()) => match output.flush() {
@@ -47,7 +48,8 @@ pub fn program<T: Threads, R: Read, W: Write, E: Write>(
 /// Prints the line of a fault, and gives the status. Where printing it fails, the status stays the same.
 fn say<W: Write, E: Write>(output: &mut Counted<W>, errors: &mut E, fault: RunFault) -> u8
     ensures status { result ≡ status_of fault }
-    ensures unwritten { result ≡ 3 → output.new ≡ output.old }
+    ensures memory { fault ≡ RunFault.OutOfMemory → output.new ≡ output.old }
+    ensures input { fault ≡ RunFault.InputFailed → output.new ≡ output.old }
 {
     match fault {
         RunFault::Read(_) | RunFault::Plan(_) => {

@@ -1,24 +1,24 @@
 //! From the bytes of a litmus text to the bytes of its report.
 
-ghost use Rattle.std.specs.Prelude.{◌≡◌, ◌≢◌, ◌≤◌, ◌<◌, ◌^◌, ◌-◌, ◌↔◌, IfOk, IfErr, OnOk, OnErr, IfSome, IsErrOf, Err, string_bytes};
+ghost use Rattle.std.specs.Prelude.{◌≡◌, ◌≢◌, ◌+◌, ◌≤◌, ◌<◌, ◌^◌, ◌-◌, ◌↔◌, IfOk, IfErr, OnOk, OnErr, IsErrOf, string_bytes};
 ghost use Rattle.std.specs.Io.KnownBytes.{Appends};
-ghost use Rattle.lit_read.specs.Faults.{IsFirstFault};
-ghost use Rattle.jslit.specs.Answer.{IsReportOn, IsFaultOn, IsOfText, HasReported, HasBegun};
+ghost use Rattle.lit_read.specs.declared.limits.TheConstants.{TEXT_LIMIT};
+ghost use Rattle.jslit.specs.Answer.{IsReportOn, IsFaultOn, HasReported, HasBegun};
 ghost use Rattle.jslit.specs.Counted.{device_of, failures_of};
-ghost use Rattle.jslit.specs.Devices.{told, AppendsBeginning, IsReadFailure};
+ghost use Rattle.jslit.specs.Devices.{OfToldText, ConsumesBeginning, ConsumesTold, AppendsBeginning};
+ghost use Rattle.jslit.specs.Steps.Faults.{IsOfText};
 
 use crate::counted::Counted;
+use crate::laws::reports_are_complete;
+use crate::reading::read_text;
 use crate::reporting::report_text;
 use crate::verdict::verdict_on;
 use lit_read::{ReadFault, ReadKind, read};
-use lit_search::{PlanFault, SearchFault, plan, search_range};
-use std::alloc::{AllocError, Global};
+use lit_search::{PlanFault, plan, search_range};
+use std::alloc::Global;
 use std::io::{Read, Write};
 use std::thread::Threads;
 use thiserror::Error;
-
-/// How many bytes are read at the most: one more than a text may have.
-const READ_LIMIT: u64 = 65_537;
 
 /// How the work is done. The answer does not depend on it.
 #[derive(Clone, Copy, Debug, PartialEq, Eq)]
@@ -48,24 +48,6 @@ pub enum RunFault {
     OutputFailed,
 }
 
-/// The bytes of the input, up to its end or to `READ_LIMIT`.
-fn read_text<R: Read>(alloc: Global, input: &mut Counted<R>) -> Result<Vec<u8>, RunFault>
-    ensures bytes { IfOk result (λ text. IfSome (told (R.remaining (device_of input.old))) (λ bytes. text.items ≡ bytes)) }
-    ensures not_failed { OnOk result (failures_of input.new ≤ failures_of input.old) }
-    ensures failed { IfErr result (λ fault. IsReadFailure (failures_of input.old) (failures_of input.new) fault) }
-{
-    let before = input.failures();
-    let mut text = Vec::new(alloc);
-    let outcome = (&mut *input).take(READ_LIMIT).read_to_end(&mut text);
-    if input.failures() > before {
-        return Err(RunFault::InputFailed);
-    }
-    match outcome {
-        Ok(_) => Ok(text),
-        Err(_) => Err(RunFault::OutOfMemory),
-    }
-}
-
 /// What is answered for a text: the report on the test that it spells, or a fault.
 fn answer(alloc: Global, text: &[u8]) -> Result<String, RunFault>
     ensures report { IfOk result (λ report. IsReportOn text.now (string_bytes report)) }
@@ -84,6 +66,7 @@ fn answer(alloc: Global, text: &[u8]) -> Result<String, RunFault>
         return Err(RunFault::OutOfMemory);
     };
     let verdict = verdict_on(&plan, &found);
+    reports_are_complete();
     match report_text(alloc, &test, &plan, &found, verdict) {
         Ok(report) => Ok(report),
         Err(_) => Err(RunFault::OutOfMemory),
@@ -131,7 +114,13 @@ fn put<W: Write>(output: &mut Counted<W>, bytes: &[u8]) -> Result<(), RunFault>
     Ok(())
 }
 
-/// Reads a litmus text, and writes the report on its test once it is whole.
+/// Reads a litmus text, to the end of the input or to one byte more than a text may have, and writes the report on its
+/// test once it is whole. Neither count of failures stands at `u64::MAX` before.
+///
+/// Answers `RunFault::Read` with the first fault of a text that spells no test, and `RunFault::Plan` with the limit that
+/// a test passes. `RunFault::InputFailed` and `RunFault::OutputFailed` come where a read or a write failed, and then
+/// alone; `RunFault::OutOfMemory` where a growth was refused. Nothing is written but after `RunFault::OutputFailed`, which
+/// leaves a beginning of the report.
 pub fn run<T: Threads, R: Read, W: Write>(
     _rt: &T,
     alloc: Global,
@@ -142,21 +131,28 @@ pub fn run<T: Threads, R: Read, W: Write>(
     requires input { failures_of input.old < 2 ^ 64 - 1 }
     requires output { failures_of output.old < 2 ^ 64 - 1 }
 
-    // The writer holds what it held, and then the report on the test that the bytes spell.
-    ensures reported { OnOk result (IfSome (told (R.remaining (device_of input.old))) (λ text.
+    // The writer holds what it held, and then the report on the test that the text spells.
+    ensures reported { OnOk result (OfToldText (R.remaining (device_of input.old)) (λ text.
         HasReported text (W.contents (device_of output.old)) (W.contents (device_of output.new)))) }
 
     // A text is refused for its first fault, and a test for the limit that it passes.
-    ensures refused { IfErr result (λ fault. IfSome (told (R.remaining (device_of input.old))) (λ text. IsFaultOn text fault)) }
+    ensures refused { IfErr result (λ fault. OfToldText (R.remaining (device_of input.old)) (λ text. IsFaultOn text fault)) }
 
     // A device is said to have failed exactly where it did, in this call.
     ensures input_failed { IsErrOf result RunFault.InputFailed ↔ (failures_of input.old < failures_of input.new) }
     ensures output_failed { IsErrOf result RunFault.OutputFailed ↔ (failures_of output.old < failures_of output.new) }
+    ensures input_count { failures_of input.old ≤ failures_of input.new }
+    ensures output_count { failures_of output.old ≤ failures_of output.new }
 
     // Where a write failed, a beginning of the report was written, and else a refusal writes nothing.
-    ensures begun { IsErrOf result RunFault.OutputFailed → IfSome (told (R.remaining (device_of input.old))) (λ text.
+    ensures begun { IsErrOf result RunFault.OutputFailed → OfToldText (R.remaining (device_of input.old)) (λ text.
         HasBegun text (W.contents (device_of output.old)) (W.contents (device_of output.new))) }
     ensures unwritten { IfErr result (λ fault. fault ≢ RunFault.OutputFailed → output.new ≡ output.old) }
+
+    // No byte behind the text is read, and where the text was read whole, each byte of it is.
+    ensures consumed { ConsumesBeginning (R.remaining (device_of input.old)) (R.remaining (device_of input.new)) (TEXT_LIMIT + 1) }
+    ensures whole { ¬ IsErrOf result RunFault.InputFailed → ¬ IsErrOf result RunFault.OutOfMemory →
+        ConsumesTold (R.remaining (device_of input.old)) (R.remaining (device_of input.new)) }
 {
     let text = read_text(alloc, input)?;
     let report = answer(alloc, &text)?;

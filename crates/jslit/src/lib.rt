@@ -1,31 +1,23 @@
 //! jslit: the outcomes that the memory model of ECMAScript allows a litmus test, and whether its condition holds.
 //!
-//! The program reads a litmus text from standard input and prints its report. Its theorem is the contract of
-//! `engine::run`: from the bytes in to the bytes out.
+//! `run` reads a litmus text from a reader and writes its report to a writer: its contract is the theorem of this
+//! repository, from the bytes in to the bytes out. `program` is the program around it. The definitions stand in specs/:
+//! `Answer` (what a run answers for a text), `ReportText`, `Verdict`, `Devices` and `Counted`; those in `Steps` serve
+//! private contracts alone.
 #![tactic(auto)]
 
 mod command;
 mod counted;
 mod engine;
+mod laws;
+mod reading;
 mod reporting;
 mod verdict;
 
-use counted::Counted;
-use std::process::ExitCode;
-
-fn main(rt: HostRuntime) -> ExitCode {
-    let mut input = Counted::new(rt.stdin());
-    let mut output = Counted::new(rt.stdout());
-    let status = command::program(
-        &rt,
-        rt.alloc(),
-        &["jslit"],
-        &mut input,
-        &mut output,
-        &mut rt.stderr(),
-    );
-    ExitCode::from(status)
-}
+pub use command::program;
+pub use counted::Counted;
+pub use engine::{Options, RunFault, run};
+pub use laws::reports_are_complete;
 
 #[cfg(test)]
 mod tests;

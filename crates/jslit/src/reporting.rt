@@ -7,7 +7,7 @@ ghost use Rattle.lit_search.specs.ReadsFrom.{byte_reads};
 ghost use Rattle.lit_search.specs.Report.{IsEntry, IsReport};
 ghost use Rattle.std.specs.Fmt.{decimal};
 ghost use Rattle.jslit.specs.ReportText.{line, verdict_text, event_name, names_text, source_line, from_lines, register_text, registers_text, entry_text, report_text as text_of};
-ghost use Rattle.jslit.specs.ReadText.{read_text, rest_after};
+ghost use Rattle.jslit.specs.Steps.ReadLine.{read_line, rest_after};
 
 use crate::verdict::Verdict;
 use lit_read::Test;
@@ -74,7 +74,7 @@ fn put_read<'s>(
     requires owned { All (λ e. IfSome e.owner (λ agent. agent < length test.now.agents)) events.now }
     requires known { All (λ n. n < length events.now) sources.now }
     requires room { does_read event.now.kind ≡ true → event.now.size ≤ length sources.now }
-    ensures text { OnOk result (string_bytes out.new ≡ string_bytes out.old ++ read_text test.now events.now event.now sources.now) }
+    ensures text { OnOk result (string_bytes out.new ≡ string_bytes out.old ++ read_line test.now events.now event.now sources.now) }
     ensures rest { IfOk result (λ rest. rest.now ≡ rest_after event.now sources.now) }
 {
     match event.kind {

@@ -6,8 +6,8 @@ use Rattle.lit_search.specs.Event.{does_read}
 use Rattle.jslit.specs.ReportText.{source_line}
 
 -- the line of an event that reads; nothing of another event
-abbrev pub read_text : Litmus → List Event → Event → List ℕ → List ℕ
-read_text t events e sources = if does_read e.kind then source_line t events e (take e.size sources) else []
+abbrev pub read_line : Litmus → List Event → Event → List ℕ → List ℕ
+read_line t events e sources = if does_read e.kind then source_line t events e (take e.size sources) else []
 
 -- the sources behind those of the event
 abbrev pub rest_after : Event → List ℕ → List ℕ

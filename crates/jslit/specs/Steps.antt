@@ -1,0 +1,4 @@
+-- Notions of the contracts of private functions. No public contract names them.
+pub mod Faults
+pub mod Reading
+pub mod ReadLine

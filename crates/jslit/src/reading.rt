@@ -1,0 +1,66 @@
+//! The bytes of the input, up to one more than a text may have.
+
+ghost use Rattle.std.specs.Prelude.{◌≡◌, ◌+◌, ◌-◌, ◌^◌, ◌<◌, ◌≤◌, length, vec_len, IfOk, OnOk, IfErr};
+ghost use Rattle.std.specs.Io.KnownBytes.{Consumes};
+ghost use Rattle.jslit.specs.Counted.{device_of, failures_of};
+ghost use Rattle.jslit.specs.Devices.{IsTold, ConsumesBeginning};
+ghost use Rattle.jslit.specs.Steps.Reading.{HasRead, IsReadFailure};
+
+use crate::counted::Counted;
+use crate::engine::RunFault;
+use lit_read::TEXT_LIMIT;
+use std::alloc::Global;
+use std::io::Read;
+
+/// How many bytes are read at the most: one more than a text may have.
+const READ_LIMIT: usize = TEXT_LIMIT + 1;
+
+/// How many bytes are asked for at a time.
+const CHUNK: usize = 4_096;
+
+/// Reads once, into this room, and puts what was read behind the text. Gives how many bytes that were, which is none
+/// at the input's end alone.
+fn read_some<R: Read>(
+    input: &mut Counted<R>,
+    room: &mut [u8],
+    text: &mut Vec<u8>,
+) -> Result<usize, RunFault>
+    requires some { 0 < length room.old }
+    requires count { failures_of input.old < 2 ^ 64 - 1 }
+    ensures bytes { IfOk result (HasRead (R.remaining (device_of input.old)) (R.remaining (device_of input.new)) text.old.items text.new.items) }
+    ensures few { IfOk result (λ taken. taken ≤ length room.old) }
+    ensures not_failed { OnOk result (failures_of input.new ≡ failures_of input.old) }
+    ensures consumed { ConsumesBeginning (R.remaining (device_of input.old)) (R.remaining (device_of input.new)) (length room.old) }
+    ensures failed { IfErr result (IsReadFailure (failures_of input.old) (failures_of input.new)) }
+{
+    match input.read(room) {
+        Ok(taken) => match text.extend_from_slice(&room[..taken]) {
+            Ok(()) => Ok(taken),
+            Err(_) => Err(RunFault::OutOfMemory),
+        },
+        Err(_) => Err(RunFault::InputFailed),
+    }
+}
+
+/// The bytes of the input, up to its end or to `READ_LIMIT`. No byte behind them is asked for.
+pub(crate) fn read_text<R: Read>(
+    alloc: Global,
+    input: &mut Counted<R>,
+) -> Result<Vec<u8>, RunFault>
+    requires { failures_of input.old < 2 ^ 64 - 1 }
+    ensures text { IfOk result (λ text. IsTold (R.remaining (device_of input.old)) text.items) }
+    ensures whole { IfOk result (λ text. Consumes (R.remaining (device_of input.old)) (R.remaining (device_of input.new)) text.items) }
+    ensures not_failed { OnOk result (failures_of input.new ≡ failures_of input.old) }
+    ensures consumed { ConsumesBeginning (R.remaining (device_of input.old)) (R.remaining (device_of input.new)) READ_LIMIT }
+    ensures failed { IfErr result (IsReadFailure (failures_of input.old) (failures_of input.new)) }
+{
+    let mut text = Vec::new(alloc);
+    let mut chunk = [0; CHUNK];
+    'reading: while text.len() < READ_LIMIT {
+        let room = CHUNK.min(READ_LIMIT - text.len());
+        if read_some(input, &mut chunk[..room], &mut text)? == 0 {
+            return Ok(text);
+        }
+    }
+    Ok(text)
+}
