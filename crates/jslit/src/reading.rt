@@ -43,10 +43,7 @@ fn read_some<R: Read>(
 }
 
 /// The bytes of the input, up to its end or to `READ_LIMIT`. No byte behind them is asked for.
-pub(crate) fn read_text<R: Read>(
-    alloc: Global,
-    input: &mut Counted<R>,
-) -> Result<Vec<u8>, RunFault>
+pub(crate) fn read_text<R: Read>(alloc: Global, input: &mut Counted<R>) -> Result<Vec<u8>, RunFault>
     requires { failures_of input.old < 2 ^ 64 - 1 }
     ensures text { IfOk result (λ text. IsTold (R.remaining (device_of input.old)) text.items) }
     ensures whole { IfOk result (λ text. Consumes (R.remaining (device_of input.old)) (R.remaining (device_of input.new)) text.items) }

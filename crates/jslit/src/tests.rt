@@ -3,6 +3,7 @@
 use crate::command::program;
 use crate::counted::Counted;
 use crate::engine::{Options, run};
+use reports::REPORTS;
 use std::alloc::AllocGlobal;
 use std::process::Abort;
 use std::test::Fail;
@@ -18,8 +19,28 @@ const ONE_WORKER: Options = Options {
     cut: 4_096,
 };
 
-/// That `run` and the program answer a text with these bytes, and that the program gives this status.
-fn same_output(
+/// That `run` answers a text with these bytes: what it writes, or the line of its fault.
+fn writes(
+    rt: &(impl Threads + Abort + AllocGlobal),
+    text: &[u8],
+    expected: &[u8],
+) -> Result<(), Fail> {
+    let alloc = rt.alloc();
+    let mut input = Counted::new(text);
+    let mut output = Counted::new(Vec::new(alloc));
+    let outcome = run(rt, alloc, &mut input, &mut output, ONE_WORKER);
+    let mut written = output.into_inner();
+    if let Err(fault) = outcome {
+        assert!(rt; written.is_empty());
+        let line = format!(in alloc; "{fault}\n")?;
+        written.extend_from_slice(line.as_bytes())?;
+    }
+    assert_eq!(rt; written.as_slice(), expected);
+    Ok(())
+}
+
+/// That the program answers a text with these bytes and this status, and says nothing else.
+fn prints(
     rt: &(impl Threads + Abort + AllocGlobal),
     text: &[u8],
     expected: &[u8],
@@ -33,16 +54,21 @@ fn same_output(
     assert_eq!(rt; given, status);
     assert_eq!(rt; output.into_inner().as_slice(), expected);
     assert!(rt; errors.is_empty());
+    Ok(())
+}
 
-    let mut input = Counted::new(text);
-    let mut output = Counted::new(Vec::new(alloc));
-    let outcome = run(rt, alloc, &mut input, &mut output, ONE_WORKER);
-    let mut written = output.into_inner();
-    if let Err(fault) = outcome {
-        assert!(rt; written.is_empty());
-        let line = format!(in alloc; "{fault}\n")?;
-        written.extend_from_slice(line.as_bytes())?;
+#[test]
+fn run_reports(rt: HostRuntime) -> Result<(), Fail> {
+    for (text, report) in REPORTS {
+        writes(&rt, text.as_bytes(), report.as_bytes())?;
     }
-    assert_eq!(rt; written.as_slice(), expected);
+    Ok(())
+}
+
+#[test]
+fn program_reports(rt: HostRuntime) -> Result<(), Fail> {
+    for (text, report) in REPORTS {
+        prints(&rt, text.as_bytes(), report.as_bytes(), 0)?;
+    }
     Ok(())
 }

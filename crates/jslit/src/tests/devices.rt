@@ -1,17 +1,13 @@
 //! Readers and writers that are slow or fail.
 
-use super::{ONE_WORKER, same_output};
+use super::ONE_WORKER;
+use super::reports::UNTOUCHED_BYTE;
 use crate::command::program;
 use crate::counted::Counted;
 use crate::engine::{RunFault, run};
 use std::io;
 use std::io::{Read, Write};
 use std::test::Fail;
-
-const TEXT: &[u8] = b"test still\nbytes 1\nagent A\nr0 = U8[0]\ncheck A.r0 == 0\n";
-
-const REPORT: &[u8] =
-    b"test still\noutcome A.r0=0\n  from A.0 init[0]\n  order init[0] A.0\noutcomes 1\nverdict always\n";
 
 /// Gives one byte a call.
 #[derive(Drop)]
@@ -57,24 +53,28 @@ impl Read for Broken {
 #[test]
 fn byte_by_byte(rt: HostRuntime) -> Result<(), Fail> {
     let alloc = rt.alloc();
-    let mut input = Counted::new(ByteByByte { rest: TEXT });
+    let (text, report) = UNTOUCHED_BYTE;
+    let mut input = Counted::new(ByteByByte {
+        rest: text.as_bytes(),
+    });
     let mut output = Counted::new(Vec::new(alloc));
     let outcome = run(&rt, alloc, &mut input, &mut output, ONE_WORKER);
     assert!(rt; outcome.is_ok());
-    assert_eq!(rt; output.into_inner().as_slice(), REPORT);
-    same_output(&rt, TEXT, REPORT, 0)
+    assert_eq!(rt; output.into_inner().as_slice(), report.as_bytes());
+    Ok(())
 }
 
 #[test]
 fn output_is_full(rt: HostRuntime) -> Result<(), Fail> {
     let alloc = rt.alloc();
-    let mut input = Counted::new(TEXT);
+    let text = UNTOUCHED_BYTE.0.as_bytes();
+    let mut input = Counted::new(text);
     let mut output = Counted::new(Full { room: 10 });
     let outcome = run(&rt, alloc, &mut input, &mut output, ONE_WORKER);
     assert!(rt; outcome == Err(RunFault::OutputFailed));
     assert_eq!(rt; output.failures(), 1);
 
-    let mut input = Counted::new(TEXT);
+    let mut input = Counted::new(text);
     let mut output = Counted::new(Full { room: 10 });
     let mut errors = Vec::new(alloc);
     let status = program(&rt, alloc, &["jslit"], &mut input, &mut output, &mut errors);

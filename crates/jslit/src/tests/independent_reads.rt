@@ -1,11 +1,9 @@
-//! Whole reports, byte for byte.
+//! Independent reads of independent writes: the litmus texts with the longest reports.
 
-use super::same_output;
-use std::test::Fail;
+use super::reports::Reported;
 
-#[test]
-fn independent_reads(rt: HostRuntime) -> Result<(), Fail> {
-    let text = b"test iriw
+pub(super) const INDEPENDENT_READS: Reported = (
+    "test iriw
 bytes 2
 agent A
 Atomics.store(U8, 0, 1)
@@ -18,8 +16,8 @@ agent D
 r0 = Atomics.load(U8, 1)
 r1 = Atomics.load(U8, 0)
 check C.r0 == 1 && C.r1 == 0 && D.r0 == 1 && D.r1 == 0
-";
-    let report = b"test iriw
+",
+    "test iriw
 outcome C.r0=0 C.r1=0 D.r0=0 D.r1=0
   from C.0 init[0]
   from C.1 init[1]
@@ -112,13 +110,11 @@ outcome C.r0=1 C.r1=1 D.r0=1 D.r1=1
   order init[0] init[1] A.0 B.0 C.0 C.1 D.0 D.1
 outcomes 15
 verdict never
-";
-    same_output(&rt, text, report, 0)
-}
+",
+);
 
-#[test]
-fn independent_reads_plain(rt: HostRuntime) -> Result<(), Fail> {
-    let text = b"test iriw
+pub(super) const INDEPENDENT_READS_PLAIN: Reported = (
+    "test iriw
 bytes 2
 agent A
 Atomics.store(U8, 0, 1)
@@ -131,8 +127,8 @@ agent D
 r0 = U8[1]
 r1 = U8[0]
 check C.r0 == 1 && C.r1 == 0 && D.r0 == 1 && D.r1 == 0
-";
-    let report = b"test iriw
+",
+    "test iriw
 outcome C.r0=0 C.r1=0 D.r0=0 D.r1=0
   from C.0 init[0]
   from C.1 init[1]
@@ -231,6 +227,5 @@ outcome C.r0=1 C.r1=1 D.r0=1 D.r1=1
   order init[0] init[1] A.0 B.0 C.0 C.1 D.0 D.1
 outcomes 16
 verdict sometimes
-";
-    same_output(&rt, text, report, 0)
-}
+",
+);

@@ -1,11 +1,12 @@
-//! Whole reports, byte for byte.
+//! Litmus texts with the whole report on each, byte for byte.
 
-use super::same_output;
-use std::test::Fail;
+use super::independent_reads::{INDEPENDENT_READS, INDEPENDENT_READS_PLAIN};
 
-#[test]
-fn store_buffering(rt: HostRuntime) -> Result<(), Fail> {
-    let text = b"test sb
+/// A text and its report.
+pub(super) type Reported = (&'static str, &'static str);
+
+pub(super) const STORE_BUFFERING: Reported = (
+    "test sb
 bytes 2
 agent A
 Atomics.store(U8, 0, 1)
@@ -14,8 +15,8 @@ agent B
 Atomics.store(U8, 1, 1)
 r0 = Atomics.load(U8, 0)
 check A.r0 == 0 && B.r0 == 0
-";
-    let report = b"test sb
+",
+    "test sb
 outcome A.r0=0 B.r0=1
   from A.1 init[1]
   from B.1 A.0
@@ -30,13 +31,11 @@ outcome A.r0=1 B.r0=1
   order init[0] init[1] A.0 B.0 A.1 B.1
 outcomes 3
 verdict never
-";
-    same_output(&rt, text, report, 0)
-}
+",
+);
 
-#[test]
-fn store_buffering_plain(rt: HostRuntime) -> Result<(), Fail> {
-    let text = b"test sbplain
+pub(super) const STORE_BUFFERING_PLAIN: Reported = (
+    "test sbplain
 bytes 2
 agent A
 U8[0] = 1
@@ -45,8 +44,8 @@ agent B
 U8[1] = 1
 r0 = U8[0]
 check A.r0 == 0 && B.r0 == 0
-";
-    let report = b"test sbplain
+",
+    "test sbplain
 outcome A.r0=0 B.r0=0
   from A.1 init[1]
   from B.1 init[0]
@@ -65,13 +64,11 @@ outcome A.r0=1 B.r0=1
   order init[0] init[1] A.0 A.1 B.0 B.1
 outcomes 4
 verdict sometimes
-";
-    same_output(&rt, text, report, 0)
-}
+",
+);
 
-#[test]
-fn message_passing(rt: HostRuntime) -> Result<(), Fail> {
-    let text = b"test mp
+pub(super) const MESSAGE_PASSING: Reported = (
+    "test mp
 bytes 2
 agent A
 U8[0] = 1
@@ -80,8 +77,8 @@ agent B
 r0 = Atomics.load(U8, 1)
 r1 = U8[0]
 check B.r0 == 1 && B.r1 == 0
-";
-    let report = b"test mp
+",
+    "test mp
 outcome B.r0=0 B.r1=0
   from B.0 init[1]
   from B.1 init[0]
@@ -96,13 +93,11 @@ outcome B.r0=1 B.r1=1
   order init[0] init[1] A.0 A.1 B.0 B.1
 outcomes 3
 verdict never
-";
-    same_output(&rt, text, report, 0)
-}
+",
+);
 
-#[test]
-fn message_passing_plain(rt: HostRuntime) -> Result<(), Fail> {
-    let text = b"test mpplain
+pub(super) const MESSAGE_PASSING_PLAIN: Reported = (
+    "test mpplain
 bytes 2
 agent A
 U8[0] = 1
@@ -111,8 +106,8 @@ agent B
 r0 = U8[1]
 r1 = U8[0]
 check B.r0 == 1 && B.r1 == 0
-";
-    let report = b"test mpplain
+",
+    "test mpplain
 outcome B.r0=0 B.r1=0
   from B.0 init[1]
   from B.1 init[0]
@@ -131,13 +126,11 @@ outcome B.r0=1 B.r1=1
   order init[0] init[1] A.0 A.1 B.0 B.1
 outcomes 4
 verdict sometimes
-";
-    same_output(&rt, text, report, 0)
-}
+",
+);
 
-#[test]
-fn read_read_coherence_plain(rt: HostRuntime) -> Result<(), Fail> {
-    let text = b"test corr
+pub(super) const READ_READ_COHERENCE_PLAIN: Reported = (
+    "test corr
 bytes 1
 agent A
 U8[0] = 1
@@ -145,8 +138,8 @@ agent B
 r0 = U8[0]
 r1 = U8[0]
 check B.r0 == 1 && B.r1 == 0
-";
-    let report = b"test corr
+",
+    "test corr
 outcome B.r0=0 B.r1=0
   from B.0 init[0]
   from B.1 init[0]
@@ -165,13 +158,11 @@ outcome B.r0=1 B.r1=1
   order init[0] A.0 B.0 B.1
 outcomes 4
 verdict sometimes
-";
-    same_output(&rt, text, report, 0)
-}
+",
+);
 
-#[test]
-fn read_read_coherence_atomic(rt: HostRuntime) -> Result<(), Fail> {
-    let text = b"test corr
+pub(super) const READ_READ_COHERENCE_ATOMIC: Reported = (
+    "test corr
 bytes 1
 agent A
 Atomics.store(U8, 0, 1)
@@ -179,8 +170,8 @@ agent B
 r0 = Atomics.load(U8, 0)
 r1 = Atomics.load(U8, 0)
 check B.r0 == 1 && B.r1 == 0
-";
-    let report = b"test corr
+",
+    "test corr
 outcome B.r0=0 B.r1=0
   from B.0 init[0]
   from B.1 init[0]
@@ -195,50 +186,44 @@ outcome B.r0=1 B.r1=1
   order init[0] A.0 B.0 B.1
 outcomes 3
 verdict never
-";
-    same_output(&rt, text, report, 0)
-}
+",
+);
 
-#[test]
-fn own_store(rt: HostRuntime) -> Result<(), Fail> {
-    let text = b"test own
+pub(super) const OWN_STORE: Reported = (
+    "test own
 bytes 1
 agent A
 U8[0] = 1
 r0 = U8[0]
 check A.r0 == 1
-";
-    let report = b"test own
+",
+    "test own
 outcome A.r0=1
   from A.1 A.0
   order init[0] A.0 A.1
 outcomes 1
 verdict always
-";
-    same_output(&rt, text, report, 0)
-}
+",
+);
 
-#[test]
-fn untouched_byte(rt: HostRuntime) -> Result<(), Fail> {
-    let text = b"test still
+pub(super) const UNTOUCHED_BYTE: Reported = (
+    "test still
 bytes 1
 agent A
 r0 = U8[0]
 check A.r0 == 0
-";
-    let report = b"test still
+",
+    "test still
 outcome A.r0=0
   from A.0 init[0]
   order init[0] A.0
 outcomes 1
 verdict always
-";
-    same_output(&rt, text, report, 0)
-}
+",
+);
 
-#[test]
-fn equal_stores(rt: HostRuntime) -> Result<(), Fail> {
-    let text = b"test twin
+pub(super) const EQUAL_STORES: Reported = (
+    "test twin
 bytes 1
 agent A
 U8[0] = 1
@@ -247,8 +232,8 @@ U8[0] = 1
 agent C
 r0 = U8[0]
 check C.r0 == 1
-";
-    let report = b"test twin
+",
+    "test twin
 outcome C.r0=0
   from C.0 init[0]
   order init[0] A.0 B.0 C.0
@@ -257,6 +242,19 @@ outcome C.r0=1
   order init[0] A.0 B.0 C.0
 outcomes 2
 verdict sometimes
-";
-    same_output(&rt, text, report, 0)
-}
+",
+);
+
+pub(super) const REPORTS: [Reported; 11] = [
+    STORE_BUFFERING,
+    STORE_BUFFERING_PLAIN,
+    MESSAGE_PASSING,
+    MESSAGE_PASSING_PLAIN,
+    READ_READ_COHERENCE_PLAIN,
+    READ_READ_COHERENCE_ATOMIC,
+    OWN_STORE,
+    UNTOUCHED_BYTE,
+    EQUAL_STORES,
+    INDEPENDENT_READS,
+    INDEPENDENT_READS_PLAIN,
+];
