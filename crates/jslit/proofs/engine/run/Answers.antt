@@ -1,4 +1,4 @@
-use Rattle.std.proofs.Common.{string_bytes, sym, ap, subst, ◌∙◌, List, ℕ}
+use Rattle.std.proofs.Common.{string_bytes, sym, subst, List, ℕ}
 use Rattle.jslit.specs.Answer.{IsFaultOn, IsReportOn}
 use Rattle.jslit.specs.Counted.{failures_of}
 use Rattle.jslit.specs.Devices.{AppendsBeginning}
