@@ -7,17 +7,17 @@ use Rattle.std.proofs.lemmas.List.{map-append, get_or_default}
 use Rattle.std.proofs.lemmas.List.Folds.{list_all_at, list_all-map}
 use Rattle.lit_read.specs.declared.forms.Comparison as raw
 use Rattle.std.specs.Global.{Vec}
-use mathlib.Core.Former.{Count}
-use Rattle.lit_read.specs.declared.syntax.Cond.{Cond, Row_of-Cond, end_of-Cond, more_of-Cond, items-the_row-Cond, items_hidden-the_row-Cond-0}
+use Rattle.lit_read.specs.declared.syntax.Cond.{Cond}
 use Rattle.lit_read.specs.declared.syntax.Cond as code
 use Rattle.lit_read.specs.declared.fault.ReadKind.TheVariants.{UnknownName}
 use Rattle.lit_read.specs.declared.limits.TheConstants.{COMPARED_LIMIT}
 use Rattle.lit_read.specs.Syntax.{Agent, Condition, Conditions, All, NoMore, Also}
-use Rattle.lit_read.specs.Litmus.{condition_of, conditions_of}
+use Rattle.lit_read.specs.Litmus.{condition_of}
 use Rattle.lit_read.specs.Forms.{Comparison}
 use Rattle.lit_read.specs.Faults.{is_known}
 use Rattle.lit_read.specs.Spelling.{numbered, all_numbered, condition_from}
 use Rattle.lit_read.specs.Views.{comparison_view, conditions_view}
+use Rattle.lit_read.proofs.TreeViews.{all_views}
 
 abbrev pushed : Conditions → Condition → Conditions
 pushed NoMore c = Also c NoMore
@@ -100,19 +100,6 @@ pub item_unknown : (agents : List Agent) (xs : List raw.Comparison) (i : ℕ) �
 item_unknown agents xs i lt e = unknown_at agents xs i (get_or xs i no_comparison) lt (item_is xs i lt) e
 
 -- ---- a condition of several members
-
-abbrev row_of : Cond → (n : Count) × Row_of-Cond n
-row_of (code.All' shape row) = (_, row)
-row_of (code.Is agent reg equal value) = (_, end_of-Cond)
-
-row_is : (n : Count) (row : Row_of-Cond n) → conditions_of row ≡ conditions_view (items-the_row-Cond n row)
-row_is n end_of-Cond = refl
-row_is n (more_of-Cond c rest) = ap (λ (x : Conditions). Also (condition_of c) x) (row_is _ rest)
-
-pub all_views : (v : Vec Cond) → condition_of (code.All v) ≡ All (conditions_view v.items)
-all_views v =
-    let row = row_of (code.All v) in
-    ap (λ (x : Conditions). All x) (row_is row.0 row.1 ∙ ap conditions_view (items_hidden-the_row-Cond-0 v))
 
 views_len : (xs : List raw.Comparison) → length (map comparison_view xs) ≡ length xs
 views_len [] = refl

@@ -9,7 +9,7 @@ use Rattle.indexmap.specs.IndexMap.{insert_entry}
 use Rattle.std.specs.Map.{lookup, keys_of}
 use Rattle.std.specs.Str.{bytes_eq}
 use Rattle.lit_read.specs.declared.syntax.Stmt.{Stmt}
-use Rattle.lit_read.specs.Syntax.{Agent, Statements, End, Then, Is, writes, statement_writes}
+use Rattle.lit_read.specs.Syntax.{Agent, Statements, End, Then, Is, writes}
 use Rattle.lit_read.specs.Litmus.{statement_of, statements_of}
 use Rattle.lit_read.specs.State.{followed_by, with_agent, AreDistinct}
 use Rattle.lit_read.specs.Faults.{body_named, is_known}
@@ -20,10 +20,6 @@ use Rattle.lit_read.specs.Views.{agent_view, agents_view}
 pub statements_pushed : (body : List Stmt) (s : Stmt) → statements_of (body ++ s ∷ []) ≡ followed_by (statements_of body) (statement_of s)
 statements_pushed [] s = refl
 statements_pushed (t ∷ ts) s = ap (λ (ss : Statements). Then (statement_of t) ss) (statements_pushed ts s)
-
-pub any_writes : (body : List Stmt) (reg : ℕ) → list_any (λ s. statement_writes (statement_of s) reg) body ≡ writes (statements_of body) reg
-any_writes [] reg = refl
-any_writes (s ∷ ss) reg = ap (λ (b : Bool). statement_writes (statement_of s) reg || b) (any_writes ss reg)
 
 pub any_pushed : {A : Type 0} (p : A → Bool) (xs : List A) (x : A) → list_any p (xs ++ x ∷ []) ≡ (list_any p xs || p x)
 any_pushed p [] x = elim (p x) as (λ b. (b || false) ≡ (false || b)) [ true ↦ refl | false ↦ refl ]
@@ -96,17 +92,17 @@ body_absent name (e ∷ es) h = by (bytes_eq name (string_bytes e.0)) h (body_ab
 -- ---- comparisons
 
 pub known_is : (agents : List Agent) (c : Comparison) (place : ℕ) (body : List Stmt) (w : Bool) → IsAgent agents c.agent place (statements_of body)
-    → w ≡ list_any (λ s. statement_writes (statement_of s) c.reg) body → w ≡ true
+    → w ≡ writes (statements_of body) c.reg → w ≡ true
     → Some (Is place c.reg c.equal c.value) ≡ cond (is_known agents c) (Some (numbered agents c)) None
 known_is agents c place body w found is writing =
-    let e : is_known agents c ≡ true = ap (λ (b : Statements). writes b c.reg) (sym found.1) ∙ sym (any_writes body c.reg) ∙ sym is ∙ writing in
+    let e : is_known agents c ≡ true = ap (λ (b : Statements). writes b c.reg) (sym found.1) ∙ sym is ∙ writing in
     rw e (ap (λ (p : ℕ). Some (Is p c.reg c.equal c.value)) found.0)
 
 pub unknown_is : (agents : List Agent) (c : Comparison) (place : ℕ) (body : List Stmt) (w : Bool) → IsAgent agents c.agent place (statements_of body)
-    → w ≡ list_any (λ s. statement_writes (statement_of s) c.reg) body → w ≡ false
+    → w ≡ writes (statements_of body) c.reg → w ≡ false
     → None ≡ cond (is_known agents c) (Some (numbered agents c)) None
 unknown_is agents c place body w found is writing =
-    let e : is_known agents c ≡ false = ap (λ (b : Statements). writes b c.reg) (sym found.1) ∙ sym (any_writes body c.reg) ∙ sym is ∙ writing in
+    let e : is_known agents c ≡ false = ap (λ (b : Statements). writes b c.reg) (sym found.1) ∙ sym is ∙ writing in
     rw e refl
 
 pub absent_is : (agents : List Agent) (c : Comparison) → body_named c.agent agents ≡ End → None ≡ cond (is_known agents c) (Some (numbered agents c)) None

@@ -1,4 +1,5 @@
 pub mod LineLemmas
+pub mod TreeViews
 pub mod DraftLemmas
 pub mod TokenLemmas
 pub mod CutLemmas

@@ -2,19 +2,35 @@
 use Rattle.std.specs.Prelude.{List, [], ◌∷◌, map, string_bytes}
 use Rattle.lit_read.specs.declared.syntax.View.{View}
 use Rattle.lit_read.specs.declared.syntax.View.TheVariants as view
-use Rattle.lit_read.specs.declared.syntax.Stmt.{Stmt}
-use Rattle.lit_read.specs.declared.syntax.Stmt.TheVariants as stmt
+use Rattle.lit_read.specs.declared.syntax.Stmt.{Stmt, Row_of-Stmt, end_of-Stmt, more_of-Stmt}
+use Rattle.lit_read.specs.declared.syntax.Stmt as stmt
 use Rattle.lit_read.specs.declared.syntax.Cond.{Cond, Row_of-Cond, end_of-Cond, more_of-Cond}
 use Rattle.lit_read.specs.declared.syntax.Cond as cond
-use Rattle.lit_read.specs.Syntax.{Window, Uint8, Statement, Statements, Load, Store, End, Then, Condition, Conditions, All, Is, NoMore, Also, Litmus}
+use Rattle.lit_read.specs.Syntax.{Window, Uint8, Uint16, Uint32, DataView8, DataView16, DataView32}
+use Rattle.lit_read.specs.Syntax.{Statement, Statements, Load, Store, Exchange, CompareExchange, If, End, Then}
+use Rattle.lit_read.specs.Syntax.{Condition, Conditions, Any, All, Not, Is, NoMore, Also, Litmus}
 use Rattle.lit_read.specs.declared.litmus.Test.TheInside.{Inside}
 
 abbrev pub window_of : View → Window
 window_of view.U8 = Uint8
+window_of view.U16 = Uint16
+window_of view.U32 = Uint32
+window_of view.D8 = DataView8
+window_of view.D16 = DataView16
+window_of view.D32 = DataView32
 
-abbrev pub statement_of : Stmt → Statement
-statement_of (stmt.Load reg view index atomic) = Load reg (window_of view) index atomic
-statement_of (stmt.Store view index value atomic) = Store (window_of view) index value atomic
+abbrev mutual
+  pub statement_of : Stmt → Statement
+  statement_of (stmt.Load reg view index atomic) = Load reg (window_of view) index atomic
+  statement_of (stmt.Store view index value atomic) = Store (window_of view) index value atomic
+  statement_of (stmt.Exchange reg view index value) = Exchange reg (window_of view) index value
+  statement_of (stmt.CompareExchange reg view index expected value) = CompareExchange reg (window_of view) index expected value
+  statement_of (stmt.If' reg equal value _ body _ other) = If reg equal value (part_of body) (part_of other)
+
+  -- the statements of a part of an `if`
+  pub part_of : {m : _} → Row_of-Stmt m → Statements
+  part_of end_of-Stmt = End
+  part_of (more_of-Stmt s rest) = Then (statement_of s) (part_of rest)
 
 abbrev pub statements_of : List Stmt → Statements
 statements_of [] = End
@@ -22,9 +38,12 @@ statements_of (s ∷ ss) = Then (statement_of s) (statements_of ss)
 
 abbrev mutual
   pub condition_of : Cond → Condition
+  condition_of (cond.Any' _ members) = Any (conditions_of members)
+  condition_of (cond.All' _ members) = All (conditions_of members)
+  condition_of (cond.Not' _ member) = Not (condition_of member)
   condition_of (cond.Is agent reg equal value) = Is agent reg equal value
-  condition_of (cond.All' shape all) = All (conditions_of all)
 
+  -- the members of an Any or an All
   pub conditions_of : {m : _} → Row_of-Cond m → Conditions
   conditions_of end_of-Cond = NoMore
   conditions_of (more_of-Cond c rest) = Also (condition_of c) (conditions_of rest)

@@ -1,8 +1,8 @@
 //! The condition of a test, from the comparisons of its `check` line.
 
 ghost use Rattle.std.specs.Prelude.{◌≡◌, ◌<◌, ◌≤◌, nat_le, true, IfSome, IfNone, Ok, Err, length, map, option_map, IsTrue, Some, None, if◌then◌else◌};
-ghost use Rattle.std.specs.List.{list_all, list_any};
-ghost use Rattle.lit_read.specs.Syntax.{End, statement_writes};
+ghost use Rattle.std.specs.List.{list_all};
+ghost use Rattle.lit_read.specs.Syntax.{End, statement_writes, writes};
 ghost use Rattle.lit_read.specs.Litmus.{statement_of, statements_of, condition_of};
 ghost use Rattle.lit_read.specs.Faults.{is_known, body_named};
 ghost use Rattle.lit_read.specs.Spelling.{condition_from, numbered, all_numbered, place_of, IsAgent};
@@ -23,20 +23,30 @@ pub fn are_in_range(comparisons: &[Comparison<'_>]) -> bool
 }
 
 /// Whether a statement writes the register.
+#[cycle(writing)]
 fn statement_writes(stmt: &Stmt, reg: u8) -> bool
     ensures { result ≡ statement_writes (statement_of stmt.now) reg }
 {
     match stmt {
-        Stmt::Load { reg: written, .. } => *written == reg,
+        Stmt::Load { reg: written, .. }
+        | Stmt::Exchange { reg: written, .. }
+        | Stmt::CompareExchange { reg: written, .. } => *written == reg,
         Stmt::Store { .. } => false,
+        Stmt::If { body, other, .. } => writes(body, reg) || writes(other, reg),
     }
 }
 
 /// Whether one of the statements writes the register.
+#[cycle(writing)]
 fn writes(body: &[Stmt], reg: u8) -> bool
-    ensures { result ≡ list_any (λ s. statement_writes (statement_of s) reg) body.now }
+    ensures { result ≡ writes (statements_of body.now) reg }
 {
-    body.iter().any(|stmt| statement_writes(stmt, reg))
+    for stmt in body {
+        if statement_writes(stmt, reg) {
+            return true;
+        }
+    }
+    false
 }
 
 /// The number of the agent with a name, and its statements.

@@ -42,7 +42,9 @@ fn fits(view: View, value: u64) -> bool
     ensures { result ≡ fits_window (window_of view) value }
 {
     match view {
-        View::U8 => value < 256,
+        View::U8 | View::D8 => value < 256,
+        View::U16 | View::D16 => value < 65_536,
+        View::U32 | View::D32 => value < 4_294_967_296,
     }
 }
 
@@ -50,8 +52,14 @@ fn fits(view: View, value: u64) -> bool
 fn is_in_block(bytes: u8, view: View, index: u64) -> bool
     ensures { result ≡ is_in_block bytes (window_of view) index }
 {
+    let bytes = bytes as u64;
     match view {
-        View::U8 => index < bytes as u64,
+        View::U8 => index < bytes,
+        View::U16 => index < bytes / 2,
+        View::U32 => index < bytes / 4,
+        View::D8 => index < bytes,
+        View::D16 => bytes >= 2 && index <= bytes - 2,
+        View::D32 => bytes >= 4 && index <= bytes - 4,
     }
 }
 

@@ -64,33 +64,57 @@ fn sb(rt: HostRuntime) {
     assert_eq!(rt; test.agents(), 2);
     assert!(rt; test.agent_name(0) == "A");
     assert!(rt; test.agent_name(1) == "B");
-    let store = |index: u8| Stmt::Store {
-        view: View::U8,
-        index,
-        value: 1,
-        atomic: true,
-    };
-    let load = |index: u8| Stmt::Load {
-        reg: 0,
-        view: View::U8,
-        index,
-        atomic: true,
-    };
     let first = test.body(0);
     assert_eq!(rt; first.len(), 2);
-    assert!(rt; first[0] == store(0));
-    assert!(rt; first[1] == load(1));
+    is_store(&rt, &first[0], 0, 1, true);
+    is_load(&rt, &first[1], 0, 1, true);
     let second = test.body(1);
     assert_eq!(rt; second.len(), 2);
-    assert!(rt; second[0] == store(1));
-    assert!(rt; second[1] == load(0));
+    is_store(&rt, &second[0], 1, 1, true);
+    is_load(&rt, &second[1], 0, 0, true);
     match test.check() {
         Cond::All(members) => {
             assert_eq!(rt; members.len(), 2);
             is_comparison(&rt, &members[0], 0, 0, true, 0);
             is_comparison(&rt, &members[1], 1, 0, true, 0);
         }
-        Cond::Is { .. } => panic!(rt; "two comparisons"),
+        _ => panic!(rt; "two comparisons"),
+    }
+}
+
+/// That a statement is this load of a `Uint8Array`.
+fn is_load(rt: &impl Abort, stmt: &Stmt, in_reg: u8, at: u8, is_atomic: bool) {
+    match stmt {
+        Stmt::Load {
+            reg,
+            view,
+            index,
+            atomic,
+        } => {
+            assert_eq!(rt; *reg, in_reg);
+            assert!(rt; *view == View::U8);
+            assert_eq!(rt; *index, at);
+            assert!(rt; *atomic == is_atomic);
+        }
+        _ => panic!(rt; "a load"),
+    }
+}
+
+/// That a statement is this store to a `Uint8Array`.
+fn is_store(rt: &impl Abort, stmt: &Stmt, at: u8, of: u32, is_atomic: bool) {
+    match stmt {
+        Stmt::Store {
+            view,
+            index,
+            value,
+            atomic,
+        } => {
+            assert!(rt; *view == View::U8);
+            assert_eq!(rt; *index, at);
+            assert_eq!(rt; *value, of);
+            assert!(rt; *atomic == is_atomic);
+        }
+        _ => panic!(rt; "a store"),
     }
 }
 
@@ -107,7 +131,7 @@ fn is_comparison(rt: &impl Abort, cond: &Cond, in_agent: u8, of_reg: u8, is_equa
             assert!(rt; *equal == is_equal);
             assert_eq!(rt; *value, to);
         }
-        Cond::All(_) => panic!(rt; "one comparison"),
+        _ => panic!(rt; "one comparison"),
     }
 }
 
@@ -123,42 +147,10 @@ fn each_form(rt: HostRuntime) {
     assert_eq!(rt; test.body(1).len(), 0);
     let body = test.body(0);
     assert_eq!(rt; body.len(), 4);
-    assert!(rt;
-        body[0]
-            == Stmt::Load {
-                reg: 7,
-                view: View::U8,
-                index: 15,
-                atomic: false
-            }
-    );
-    assert!(rt;
-        body[1]
-            == Stmt::Store {
-                view: View::U8,
-                index: 0,
-                value: 255,
-                atomic: false
-            }
-    );
-    assert!(rt;
-        body[2]
-            == Stmt::Load {
-                reg: 0,
-                view: View::U8,
-                index: 3,
-                atomic: true
-            }
-    );
-    assert!(rt;
-        body[3]
-            == Stmt::Store {
-                view: View::U8,
-                index: 4,
-                value: 0,
-                atomic: true
-            }
-    );
+    is_load(&rt, &body[0], 7, 15, false);
+    is_store(&rt, &body[1], 0, 255, false);
+    is_load(&rt, &body[2], 0, 3, true);
+    is_store(&rt, &body[3], 4, 0, true);
     is_comparison(&rt, test.check(), 0, 7, false, 4294967295);
 }
 
