@@ -70,6 +70,7 @@ of_any_text (Some bytes) Holds holds = record { text = take (TEXT_LIMIT + 1) byt
 -- a failure of reading is a fault on any text, and no failure to write
 pub read_failed : (before after : ℕ) (fault : RunFault) → IsReadFailure before after fault → (text : List ℕ) → IsFaultOn text fault
 read_failed before after (faults.Read f) failed text = absurd failed
+read_failed before after faults.Unsupported failed text = absurd failed
 read_failed before after (faults.Plan f) failed text = absurd failed
 read_failed before after faults.OutOfMemory failed text = tt
 read_failed before after faults.InputFailed failed text = tt

@@ -35,6 +35,12 @@ pub record IsReportOn (text answer : List ℕ) : Type 0 where
   pub judged : IsVerdict test report verdict
   pub is : answer ≡ report_text test report verdict
 
+-- the text spells a test that the search does not take
+pub record IsUnsupported (text : List ℕ) : Type 0 where
+  pub test : Litmus
+  pub spelled : Spells text test
+  pub unsupported : ¬ IsSupported test
+
 -- the text spells a test that the search takes and that is refused so
 pub record IsPlanRefused (text : List ℕ) (fault : PlanFault) : Type 0 where
   pub test : Litmus
@@ -45,6 +51,7 @@ pub record IsPlanRefused (text : List ℕ) (fault : PlanFault) : Type 0 where
 -- what a fault says of the text
 abbrev pub IsFaultOn : List ℕ → RunFault → Type 0
 IsFaultOn text (faults.Read fault) = IsFirstFault text fault.kind fault.line
+IsFaultOn text faults.Unsupported = IsUnsupported text
 IsFaultOn text (faults.Plan fault) = IsPlanRefused text fault
 IsFaultOn text faults.OutOfMemory = Unit {0}
 IsFaultOn text faults.InputFailed = Unit {0}
@@ -65,6 +72,7 @@ pub record HasBegun (text : List ℕ) (old new : Option (List ℕ)) : Type 0 whe
 -- the status that the program gives for a fault
 abbrev pub status_of : RunFault → ℕ
 status_of (faults.Read fault) = 1
+status_of faults.Unsupported = 1
 status_of (faults.Plan fault) = 1
 status_of faults.OutOfMemory = 3
 status_of faults.InputFailed = 4

@@ -52,7 +52,7 @@ fn say<W: Write, E: Write>(output: &mut Counted<W>, errors: &mut E, fault: RunFa
     ensures input { fault ≡ RunFault.InputFailed → output.new ≡ output.old }
 {
     match fault {
-        RunFault::Read(_) | RunFault::Plan(_) => {
+        RunFault::Read(_) | RunFault::Unsupported | RunFault::Plan(_) => {
             let _ = writeln!(output, "{fault}");
             let _ = output.flush();
             1

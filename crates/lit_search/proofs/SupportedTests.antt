@@ -1,13 +1,11 @@
 -- A test whose statements are loads and stores of single bytes: its only combination of paths, its events and choices.
-use Rattle.std.proofs.Common.{◌≡◌, ℕ, suc, ◌+◌, ◌<◌, List, [], ◌∷◌, ◌++◌, length, map, flat_map, get_or, slice_get, Some, option_map, arith, refl, sym, ap, ◌∙◌, append-nil}
+use Rattle.std.proofs.Common.{◌≡◌, ℕ, zero, suc, ◌+◌, ◌<◌, List, [], ◌∷◌, ◌++◌, length, map, flat_map, drop, get_or, slice_get, Some, option_map, arith, refl, sym, ap, ◌∙◌, subst, append-nil}
 use Rattle.std.specs.List.{AllByRecursion}
-use Rattle.std.proofs.lemmas.List.{length-map}
+use Rattle.std.proofs.lemmas.List.{length-map, drop_more}
 use Rattle.std.proofs.lemmas.Option.{slice_get-map}
 use Rattle.lit_read.specs.declared.syntax.Stmt.{Stmt}
-use Rattle.lit_read.specs.declared.syntax.Stmt.TheVariants as stmt
-use Rattle.lit_read.specs.declared.syntax.View.TheVariants as view
-use Rattle.lit_read.specs.Syntax.{Uint8, Agent, Statements, Load, Store, Then, End, Litmus}
-use Rattle.lit_read.specs.Litmus.{statements_of}
+use Rattle.lit_read.specs.Syntax.{Uint8, Agent, Statement, Statements, Load, Store, Then, End, Litmus}
+use Rattle.lit_read.specs.Litmus.{statement_of, statements_of}
 use Rattle.lit_search.specs.declared.event.Event.{Event}
 use Rattle.lit_search.specs.Event.{init_events}
 use Rattle.lit_search.specs.Path.{Path, paths_from, with_event, read_event, write_event}
@@ -15,11 +13,35 @@ use Rattle.lit_search.specs.Choice.{Choice, product, events_of, paths_of_agents,
 use Rattle.lit_search.specs.Plan.{accesses_from, accesses_of, events_in}
 use Rattle.lit_search.specs.Supported.{AreSupported, IsSupported}
 
--- what today's reader makes is supported
-pub AreSupported-statements_of : (ss : List Stmt) → AreSupported (statements_of ss)
-AreSupported-statements_of [] = tt
-AreSupported-statements_of (stmt.Load reg view.U8 index atomic ∷ ss) = AreSupported-statements_of ss
-AreSupported-statements_of (stmt.Store view.U8 index value atomic ∷ ss) = AreSupported-statements_of ss
+-- the first of such statements is one by itself, and so are the others
+supported_parts : (s : Statement) (ss : Statements) → AreSupported (Then s ss) → AreSupported (Then s End) × AreSupported ss
+supported_parts (Load reg Uint8 index atomic) ss supported = (tt, supported)
+supported_parts (Store Uint8 index value atomic) ss supported = (tt, supported)
+supported_parts _ ss supported = absurd supported
+
+supported_both : (s : Statement) (ss : Statements) → AreSupported (Then s End) → AreSupported ss → AreSupported (Then s ss)
+supported_both (Load reg Uint8 index atomic) ss first others = others
+supported_both (Store Uint8 index value atomic) ss first others = others
+supported_both _ ss first others = absurd first
+
+-- a test whose statements are such ones takes each statement, one after the other
+module _ (xs : List Stmt) (i : ℕ) (x : Stmt) (inside : i < length xs) (is : x ≡ get_or xs i x) where
+  next : statements_of (drop i xs) ≡ Then (statement_of x) (statements_of (drop (i + 1) xs))
+  next = ap statements_of (drop_more xs i x inside) ∙ ap (λ (s : Stmt). Then (statement_of s) (statements_of (drop (i + 1) xs))) (sym is)
+
+  pub supported_next : AreSupported (statements_of (drop i xs)) → AreSupported (Then (statement_of x) End) × AreSupported (statements_of (drop (i + 1) xs))
+  supported_next supported = supported_parts (statement_of x) (statements_of (drop (i + 1) xs)) (subst (λ (ss : Statements). AreSupported ss) next supported)
+
+  pub supported_with : AreSupported (Then (statement_of x) End) → AreSupported (statements_of (drop (i + 1) xs)) → AreSupported (statements_of (drop i xs))
+  supported_with first others = subst (λ (ss : Statements). AreSupported ss) (sym next) (supported_both (statement_of x) (statements_of (drop (i + 1) xs)) first others)
+
+supported_from : (xs : List Stmt) (i : ℕ) → AreSupported (statements_of xs) → AreSupported (statements_of (drop i xs))
+supported_from xs zero supported = supported
+supported_from [] (suc i) supported = tt
+supported_from (x ∷ xs) (suc i) supported = supported_from xs i (supported_parts (statement_of x) (statements_of xs) supported).1
+
+pub supported_at : (xs : List Stmt) (i : ℕ) (x : Stmt) → i < length xs → x ≡ get_or xs i x → AreSupported (statements_of xs) → AreSupported (Then (statement_of x) End)
+supported_at xs i x inside is supported = (supported_next xs i x inside is (supported_from xs i supported)).0
 
 -- such statements have one path
 pub paths_from-supported : (owner place : ℕ) (ss : Statements) → AreSupported ss → paths_from owner place ss ≡ record { decisions = []; events = accesses_from owner place ss } ∷ []

@@ -118,6 +118,3 @@ pub(crate) fn sources_at(events: &[Event], reads: &[(u8, u8)], total: u64, numbe
     }
     sources
 }
-
-#[cfg(test)]
-mod tests;

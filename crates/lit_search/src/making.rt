@@ -11,11 +11,11 @@ use crate::planning::{Plan, PlanFault};
 use lit_read::Test;
 use std::alloc::Global;
 
-/// The plan of a test, or why it has none. `PlanFault::TooManyEvents` comes first: some combination of paths has more
+/// The plan of a test that `supported` takes, or why it has none. `PlanFault::TooManyEvents` comes first: some combination of paths has more
 /// than `ACCESS_LIMIT` access events. `PlanFault::TooManyChoices` is next: there are more than `CHOICE_LIMIT` choices.
 /// Nothing grows today, so `PlanFault::OutOfMemory` is never answered.
 pub fn plan<'t>(alloc: Global, test: &'t Test) -> Result<Plan<'t>, PlanFault>
-    ensures supported { IsSupported test.now }
+    requires { IsSupported test.now }
     ensures ok { IfOk result (λ p. p ≡ test.now) }
     ensures planned { OnOk result ((fault : PlanFault) → ¬ IsRefusal test.now fault) }
     ensures refused { IfErr result (IsRefusal test.now) }

@@ -3,11 +3,12 @@
 ghost use Rattle.std.specs.Prelude.{◌≡◌, ◌+◌, ◌≤◌, ◌++◌, [], length};
 ghost use Rattle.std.specs.List.{zip};
 ghost use Rattle.arrayvec.specs.ArrayVec.{array_vec_len};
-ghost use Rattle.lit_read.specs.Syntax.{writes, statement_writes};
+ghost use Rattle.lit_read.specs.Syntax.{End, Then, writes, statement_writes};
 ghost use Rattle.lit_read.specs.Litmus.{statement_of, statements_of, condition_of};
 ghost use Rattle.lit_read.specs.declared.limits.TheConstants.{REGISTERS};
 ghost use Rattle.lit_search.specs.declared.limits.TheConstants.{NAME_LIMIT};
 ghost use Rattle.lit_search.specs.Outcome.{names_in, names_of, value_in as value_among, holds as holds_of};
+ghost use Rattle.lit_search.specs.Supported.{AreSupported, IsSupported};
 
 use crate::limits::NAME_LIMIT;
 use arrayvec::ArrayVec;
@@ -18,16 +19,19 @@ pub type Names = ArrayVec<(u8, u8), NAME_LIMIT>;
 
 /// Whether a statement writes a register.
 fn is_written_by(statement: &Stmt, register: u8) -> bool
+    requires { AreSupported (Then (statement_of statement.now) End) }
     ensures { result ≡ statement_writes (statement_of statement.now) register }
 {
-    match *statement {
-        Stmt::Load { reg, .. } => reg == register,
+    match statement {
+        Stmt::Load { reg, .. } => *reg == register,
         Stmt::Store { .. } => false,
+        _ => unreachable!(),
     }
 }
 
 /// Whether some statement writes a register.
 fn is_written(body: &[Stmt], register: u8) -> bool
+    requires { AreSupported (statements_of body.now) }
     ensures { result ≡ writes (statements_of body.now) register }
 {
     for statement in body {
@@ -40,7 +44,8 @@ fn is_written(body: &[Stmt], register: u8) -> bool
 
 /// Adds the registers that an agent writes.
 fn push_names(names: &mut Names, agent: u8, body: &[Stmt])
-    requires { array_vec_len names.old + REGISTERS ≤ NAME_LIMIT }
+    requires room { array_vec_len names.old + REGISTERS ≤ NAME_LIMIT }
+    requires supported { AreSupported (statements_of body.now) }
     ensures value { names.new.items ≡ names.old.items ++ names_in agent (record { name = []; body = statements_of body.now }) }
     ensures few { array_vec_len names.new ≤ array_vec_len names.old + REGISTERS }
 {
@@ -53,6 +58,7 @@ fn push_names(names: &mut Names, agent: u8, body: &[Stmt])
 
 /// Each register that is written anywhere in its agent's text: agents in order, registers rising.
 pub(crate) fn written_names(test: &Test) -> Names
+    requires { IsSupported test.now }
     ensures { result.items ≡ names_of test.now }
 {
     let mut names = Names::new();
@@ -81,14 +87,23 @@ pub(crate) fn holds(names: &[(u8, u8)], outcome: &[u32], condition: &Cond) -> bo
     ensures { result ≡ holds_of (zip names.now outcome.now) (condition_of condition.now) }
 {
     match condition {
+        Cond::Any(members) => {
+            'any: for member in members {
+                if holds(names, outcome, member) {
+                    return true;
+                }
+            }
+            false
+        }
         Cond::All(members) => {
-            for member in members {
+            'all: for member in members {
                 if !holds(names, outcome, member) {
                     return false;
                 }
             }
             true
         }
+        Cond::Not(member) => !holds(names, outcome, member),
         Cond::Is {
             agent,
             reg,

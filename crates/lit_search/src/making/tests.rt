@@ -1,5 +1,6 @@
 use super::*;
 use crate::event::{Kind, Order3};
+use crate::support::supported;
 use lit_read::read;
 use std::test::Fail;
 
@@ -17,6 +18,7 @@ check A.r0 == 0 && B.r0 == 0
 #[test]
 fn store_buffering_sources(rt: HostRuntime) -> Result<(), Fail> {
     let test = read(rt.alloc(), STORE_BUFFERING)?;
+    assert!(rt; supported(&test));
     let plan = plan(rt.alloc(), &test)?;
     assert_eq!(rt; plan.total(), 4);
     for (n, expected) in [[1, 0], [1, 2], [4, 0], [4, 2]].iter().enumerate() {
@@ -31,6 +33,7 @@ fn store_buffering_sources(rt: HostRuntime) -> Result<(), Fail> {
 #[test]
 fn store_buffering_events(rt: HostRuntime) -> Result<(), Fail> {
     let test = read(rt.alloc(), STORE_BUFFERING)?;
+    assert!(rt; supported(&test));
     let plan = plan(rt.alloc(), &test)?;
     assert_eq!(rt; plan.total(), 4);
     let events = plan.events(plan.combination(0));
@@ -49,6 +52,7 @@ fn store_buffering_events(rt: HostRuntime) -> Result<(), Fail> {
 #[test]
 fn store_buffering_condition(rt: HostRuntime) -> Result<(), Fail> {
     let test = read(rt.alloc(), STORE_BUFFERING)?;
+    assert!(rt; supported(&test));
     let plan = plan(rt.alloc(), &test)?;
     let names = plan.names();
     assert_eq!(rt; names.len(), 2);
@@ -79,6 +83,7 @@ r7 = U8[0]
 check B.r0 == 4
 ";
     let test = read(rt.alloc(), text)?;
+    assert!(rt; supported(&test));
     let plan = plan(rt.alloc(), &test)?;
     assert_eq!(rt; plan.total(), 390_625);
     let last = plan.sources(390_624);
@@ -107,6 +112,7 @@ r0 = U8[0]
 check B.r0 == 4
 ";
     let test = read(rt.alloc(), text)?;
+    assert!(rt; supported(&test));
     let plan = plan(rt.alloc(), &test)?;
     assert_eq!(rt; plan.total(), 12);
     Ok(())
@@ -134,6 +140,7 @@ r0 = U8[0]
 check B.r0 == 4
 ";
     let test = read(rt.alloc(), text)?;
+    assert!(rt; supported(&test));
     let plan = plan(rt.alloc(), &test);
     assert!(rt; matches!(plan, Err(PlanFault::TooManyEvents)));
     Ok(())

@@ -1,18 +1,18 @@
 use Rattle.std.proofs.Common.{◌≡◌, ℕ, ◌≤◌, List, ◌++◌, arith, ap, sym, ◌∙◌, subst, length, length-append, append-nil, drop}
 use Rattle.std.proofs.lemmas.List.{drop_all}
-use Rattle.lit_read.specs.Syntax.{Litmus}
+use Rattle.lit_read.specs.Syntax.{Litmus, Statements}
 use Rattle.lit_search.specs.declared.event.Event.{Event}
 use Rattle.lit_search.specs.Event.{init_events}
 use Rattle.lit_search.specs.Plan.{accesses_of, events_in, AreByteEvents}
-use Rattle.lit_search.specs.Supported.{IsSupported}
+use Rattle.lit_search.specs.Supported.{AreSupported, IsSupported}
 use Rattle.lit_search.proofs.SupportedTests.{events_in-supported}
 use Rattle.lit_search.proofs.PlanFacts.{AreByteEvents-supported}
 use Rattle.lit_search.proofs.AccessLists.{length-init_events}
 use Rattle.lit_search.proofs.Stepped.{length-accesses_of_more}
 use Rattle.lit_search.proofs.accesses.combined_events.Goals as goal
 
-pub push_accesses-requires : goal.push_accesses-requires
-push_accesses-requires c =
+pub push_accesses-requires-clause-room : goal.push_accesses-requires-clause-room
+push_accesses-requires-clause-room c =
     let left = length-accesses_of_more c.args.test.now.agents c.loop-agent.agent _ c.body.result.now (omega (arith, c.agents-agent-end.ensures.value, c.loop-agent-test.true)) c.body.ensures.value in
     omega (
       arith,
@@ -24,6 +24,10 @@ push_accesses-requires c =
       length-append (init_events c.args.test.now.bytes) (accesses_of 0 c.args.test.now.agents),
       length-init_events c.args.test.now.bytes,
     )
+
+pub push_accesses-requires-clause-supported : goal.push_accesses-requires-clause-supported
+push_accesses-requires-clause-supported c =
+    subst (λ (ss : Statements). AreSupported ss) (sym c.body.ensures.value) (c.requires.supported c.loop-agent.agent (omega (arith, c.agents-agent-end.ensures.value, c.loop-agent-test.true)))
 
 made : (t : Litmus) (events : List Event) (n : ℕ) → length t.agents ≤ n → IsSupported t
     → events ++ accesses_of n (drop n t.agents) ≡ init_events t.bytes ++ accesses_of 0 t.agents → events ≡ events_in t 0

@@ -17,7 +17,7 @@ le_of_not {m} {n} h = ⊎_elim (λ l. absurd (h l)) (λ l. l) (cases_lt m n)
 
 pub returns-then-has_too_many_events-clause-refused : goal.returns-then-has_too_many_events-clause-refused
 returns-then-has_too_many_events-clause-refused c =
-    HasTooManyEvents-supported c.args.test.now c.has_too_many_events.ensures.supported (c.has_too_many_events.ensures.value.0 c.if-has_too_many_events.true)
+    HasTooManyEvents-supported c.args.test.now c.requires (c.has_too_many_events.ensures.0 c.if-has_too_many_events.true)
 
 pub byte_reads_of-reads-requires-clause-room : goal.byte_reads_of-reads-requires-clause-room
 byte_reads_of-reads-requires-clause-room c =
@@ -42,23 +42,23 @@ lists t made slice reads rest first is here there again read =
 
 pub returns-in_default-clause-refused : goal.returns-in_default-clause-refused
 returns-in_default-clause-refused c =
-    let few : length (accesses_of 0 c.args.test.now.agents) ≤ ACCESS_LIMIT = le_of_not (λ h. true≢false (sym (c.has_too_many_events.ensures.value.1 h) ∙ c.if-has_too_many_events.false)) in
+    let few : length (accesses_of 0 c.args.test.now.agents) ≤ ACCESS_LIMIT = le_of_not (λ h. true≢false (sym (c.has_too_many_events.ensures.1 h) ∙ c.if-has_too_many_events.false)) in
     let same = lists c.args.test.now _ _ _ _ _ c.combined_events-events.ensures.value c.as_slice-2.ensures.value c.as_slice.ensures.value c.as_slice-3.ensures.value c.byte_reads_of-reads.ensures in (
-      HasFewEvents-supported c.args.test.now c.has_too_many_events.ensures.supported few,
-      omega (arith, c.in_default.ensures, ap (λ l. length l) same, length-choices_of-supported c.args.test.now c.has_too_many_events.ensures.supported),
+      HasFewEvents-supported c.args.test.now c.requires few,
+      omega (arith, c.in_default.ensures, ap (λ l. length l) same, length-choices_of-supported c.args.test.now c.requires),
     )
 
 pub new-requires : goal.new-requires
 new-requires c =
-    let few : length (accesses_of 0 c.args.test.now.agents) ≤ ACCESS_LIMIT = le_of_not (λ h. true≢false (sym (c.has_too_many_events.ensures.value.1 h) ∙ c.if-has_too_many_events.false)) in
+    let few : length (accesses_of 0 c.args.test.now.agents) ≤ ACCESS_LIMIT = le_of_not (λ h. true≢false (sym (c.has_too_many_events.ensures.1 h) ∙ c.if-has_too_many_events.false)) in
     let same = lists c.args.test.now _ _ _ _ _ c.combined_events-events.ensures.value c.as_slice-2.ensures.value c.as_slice.ensures.value c.as_slice-3.ensures.value c.byte_reads_of-reads.ensures in
     record {
       litmus = c.combined_events-events.ensures.litmus;
-      supported = c.has_too_many_events.ensures.supported;
+      supported = c.requires;
       few = few;
       all_events = c.combined_events-events.ensures.value;
       all_reads = c.byte_reads_of-reads.ensures ∙ ap (λ es. byte_reads es) c.as_slice.ensures.value;
-      all_choices = omega (arith, c.in-Some.ensures.0, ap (λ l. length l) same, length-choices_of-supported c.args.test.now c.has_too_many_events.ensures.supported);
+      all_choices = omega (arith, c.in-Some.ensures.0, ap (λ l. length l) same, length-choices_of-supported c.args.test.now c.requires);
       some_choice = c.in-Some.ensures.1;
       few_choices = c.in-Some.ensures.2;
       all_names = c.written_names-names.ensures;
@@ -66,7 +66,7 @@ new-requires c =
 
 pub returns-clause-planned : goal.returns-clause-planned
 returns-clause-planned c =
-    let few : length (accesses_of 0 c.args.test.now.agents) ≤ ACCESS_LIMIT = le_of_not (λ h. true≢false (sym (c.has_too_many_events.ensures.value.1 h) ∙ c.if-has_too_many_events.false)) in
+    let few : length (accesses_of 0 c.args.test.now.agents) ≤ ACCESS_LIMIT = le_of_not (λ h. true≢false (sym (c.has_too_many_events.ensures.1 h) ∙ c.if-has_too_many_events.false)) in
     let same = lists c.args.test.now _ _ _ _ _ c.combined_events-events.ensures.value c.as_slice-2.ensures.value c.as_slice.ensures.value c.as_slice-3.ensures.value c.byte_reads_of-reads.ensures in
-    IsRefusal-none c.args.test.now (HasFewEvents-supported c.args.test.now c.has_too_many_events.ensures.supported few)
-    (omega (arith, c.in-Some.ensures.0, c.in-Some.ensures.2, ap (λ l. length l) same, length-choices_of-supported c.args.test.now c.has_too_many_events.ensures.supported))
+    IsRefusal-none c.args.test.now (HasFewEvents-supported c.args.test.now c.requires few)
+    (omega (arith, c.in-Some.ensures.0, c.in-Some.ensures.2, ap (λ l. length l) same, length-choices_of-supported c.args.test.now c.requires))
