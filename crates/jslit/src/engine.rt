@@ -32,7 +32,7 @@ pub struct Options {
 /// Why there is no report.
 #[derive(Clone, Copy, Debug, PartialEq, Eq, Error)]
 pub enum RunFault {
-    /// The text spells no test.
+    /// The text spells no test: its first fault.
     #[error("refused {0}")]
     Read(ReadFault),
     /// The search does not take the test: it has another statement than loads and stores of one byte of a `Uint8Array`.
@@ -41,6 +41,7 @@ pub enum RunFault {
     /// The test has too many events or choices.
     #[error("refused {0}")]
     Plan(PlanFault),
+    /// A growth was refused, in any layer.
     #[error("out_of_memory")]
     OutOfMemory,
     /// A read failed.
