@@ -61,7 +61,7 @@ impl Test {
         self.agents.len()
     }
 
-    /// The name of an agent, by its number from 0 in the order of the text.
+    /// The name of an agent, by its number from 0 in the order of the text, below `agents()`.
     pub fn agent_name(&self, agent: usize) -> &str
         requires { agent < length self.now.agents }
         ensures { result.now ≡ (agent_of self.now agent).name }
@@ -72,7 +72,7 @@ impl Test {
         name.as_str()
     }
 
-    /// The statements of an agent, by its number.
+    /// The statements of an agent, by its number from 0 in the order of the text, below `agents()`.
     pub fn body(&self, agent: usize) -> &[Stmt]
         requires { agent < length self.now.agents }
         ensures value { statements_of result.now ≡ (agent_of self.now agent).body }

@@ -1,4 +1,5 @@
 use Rattle.std.proofs.Common.{◌<◌, length, arith, ap}
+use Rattle.lit_search.specs.declared.limits.TheConstants.{NAME_LIMIT}
 use Rattle.lit_search.specs.Outcome.{names_from}
 use Rattle.lit_search.proofs.RunningLemmas.{names_from-within, length-names_from, length-all_registers, length-picked}
 use Rattle.lit_search.proofs.outcomes.outcome_of.Goals as goal
@@ -20,5 +21,5 @@ value_in-requires-clause-reg c =
 
 pub push-requires : goal.push-requires
 push-requires c =
-    let few : length c.loop-name.outcome.items < 32 = omega (arith, length-picked _ c.loop-name.name-index _ _ c.loop-name.invariant, length-names_from 0 c.args.test.now.agents, c.registers_of_agents-all.ensures.few, ap length c.requires.names, c.loop-name-test.true) in
+    let few : length c.loop-name.outcome.items < NAME_LIMIT = omega (arith, length-picked _ c.loop-name.name-index _ _ c.loop-name.invariant, length-names_from 0 c.args.test.now.agents, c.registers_of_agents-all.ensures.few, ap length c.requires.names, c.loop-name-test.true) in
     (omega arith, few)
