@@ -1,9 +1,9 @@
 -- A fault of the reader or of the plan, as a fault of a run.
-use Rattle.std.proofs.Common.{◌≡◌, ◌≢◌, ◌+◌, inl, inr, ℕ, List, [], take, Option, Some, None, IfErr, OnErr, IsErrOf, Ok, Err, refl, sym, subst, ◌∙◌}
+use Rattle.std.proofs.Common.{◌≡◌, ◌≢◌, ◌⊎◌, ◌+◌, inl, inr, ℕ, List, [], take, Option, Some, None, IfErr, OnErr, IsErrOf, Ok, Err, refl, sym, subst, ◌∙◌}
 use Rattle.std.specs.declared.result.Result.{Result}
 use Rattle.std.specs.Result.{IsErrAnd}
 use Rattle.lit_read.specs.Syntax.{Litmus}
-use Rattle.lit_read.specs.Faults.{IsRefusal, IsFirstFault, HasFault}
+use Rattle.lit_read.specs.Faults.{IsFirstFault, HasFault}
 use Rattle.lit_read.specs.Spelling.{Spells}
 use Rattle.lit_read.specs.declared.limits.TheConstants.{TEXT_LIMIT}
 use Rattle.lit_read.specs.declared.fault.ReadFault.{ReadFault}
@@ -25,7 +25,7 @@ not_memory : (text : List ℕ) (kind : ReadKind) (n : ℕ) → IsFirstFault text
 unfolding HasFault
 not_memory text kind n first is = subst (λ (k : ReadKind). HasFault text k n) is first.there
 
-module _ (text : List ℕ) (fault : ReadFault) (result : RunFault) (refused : IsRefusal text fault.kind fault.line) (memory : fault.kind ≡ kinds.OutOfMemory → result ≡ faults.OutOfMemory) (given : fault.kind ≢ kinds.OutOfMemory → result ≡ faults.Read fault) where
+module _ (text : List ℕ) (fault : ReadFault) (result : RunFault) (refused : ((fault.kind ≡ kinds.OutOfMemory) × (fault.line ≡ 0)) ⊎ IsFirstFault text fault.kind fault.line) (memory : fault.kind ≡ kinds.OutOfMemory → result ≡ faults.OutOfMemory) (given : fault.kind ≢ kinds.OutOfMemory → result ≡ faults.Read fault) where
   as_run : (P : RunFault → Type 0) → P faults.OutOfMemory → (IsFirstFault text fault.kind fault.line → P (faults.Read fault)) → P result
   as_run P at_memory at_fault = elim refused [
     | inl none ↦ subst P (sym (memory none.0)) at_memory
