@@ -36,14 +36,14 @@ pub late_joins : (pieces : ℕ) (old new : Account) (found : ℕ) → new ≡ to
 late_joins pieces old new found is late = subst (λ (a : Account). Any (λ n. pieces ≤ n) a.tickets) (sym is) (Any-push (λ n. pieces ≤ n) old.tickets found late)
 
 -- after a draw the flag of a place still says whether it took a late ticket
-pub sound_after_draw : (p : Inside) (seat : Seat (Unit {0}) Account) (found : ℕ) → seat.me.0 ≡ took p.seat.me.0 found → seat.me.1 ≡ p.seat.me.1 → p.is_done ≡ false → found < p.terms.value.pieces → IsSound p → IsSound record { seat = seat; terms = p.terms; is_done = p.is_done }
+pub sound_after_draw : (p : Inside) (seat : Seat (Unit {0}) Account) (found : ℕ) → seat.me.0 ≡ took p.seat.me.0 found → seat.me.1 ≡ p.seat.me.1 → p.is_done ≡ false → found < p.terms.pieces → IsSound p → IsSound record { seat = seat; terms = p.terms; is_done = p.is_done }
 sound_after_draw p seat found is slots fresh small h = record {
   slots = slots ∙ h.slots;
   places = ap (λ (a : Account). a.places) is ∙ h.places;
   done =
-      let before = subst (λ b. MatchBool b (Any (λ n. p.terms.value.pieces ≤ n) p.seat.me.0.tickets) (All (λ n. n < p.terms.value.pieces) p.seat.me.0.tickets)) fresh h.done in
-      subst (λ b. MatchBool b (Any (λ n. p.terms.value.pieces ≤ n) seat.me.0.tickets) (All (λ n. n < p.terms.value.pieces) seat.me.0.tickets)) (sym fresh)
-      (subst (λ (a : Account). All (λ n. n < p.terms.value.pieces) a.tickets) (sym is) (All-push (λ n. n < p.terms.value.pieces) p.seat.me.0.tickets found before small));
+      let before = subst (λ b. MatchBool b (Any (λ n. p.terms.pieces ≤ n) p.seat.me.0.tickets) (All (λ n. n < p.terms.pieces) p.seat.me.0.tickets)) fresh h.done in
+      subst (λ b. MatchBool b (Any (λ n. p.terms.pieces ≤ n) seat.me.0.tickets) (All (λ n. n < p.terms.pieces) seat.me.0.tickets)) (sym fresh)
+      (subst (λ (a : Account). All (λ n. n < p.terms.pieces) a.tickets) (sym is) (All-push (λ n. n < p.terms.pieces) p.seat.me.0.tickets found before small));
 }
 
 -- a step that takes no ticket leaves a place as sound as it was
@@ -51,7 +51,7 @@ pub sound_after : (p : Inside) (seat : Seat (Unit {0}) Account) → (seat.me.0.t
 sound_after p seat same slots h = record {
   slots = slots ∙ h.slots;
   places = same.1 ∙ h.places;
-  done = subst (λ l. MatchBool p.is_done (Any (λ n. p.terms.value.pieces ≤ n) l) (All (λ n. n < p.terms.value.pieces) l)) (sym same.0) h.done;
+  done = subst (λ l. MatchBool p.is_done (Any (λ n. p.terms.pieces ≤ n) l) (All (λ n. n < p.terms.pieces) l)) (sym same.0) h.done;
 }
 
 pub told_same : (class : Class2) (v w : Account) (k : ℕ) → w ≡ told class v k → (w.tickets ≡ v.tickets) × (w.places ≡ v.places)

@@ -1,6 +1,6 @@
 //! The desk.
 
-ghost use Rattle.std.specs.Prelude.{◌≡◌, ◌≢◌, ◌<◌, ◌≤◌, ◌↔◌, ◌⊎◌, ℕ, [], length, All, AllPairs, Any, Contains, IfSome, IfNone, IfOk, None, replicate};
+ghost use Rattle.std.specs.Prelude.{◌≡◌, ◌≢◌, ◌<◌, ◌≤◌, ◌↔◌, ◌⊎◌, ℕ, [], ◌∷◌, ◌++◌, length, All, AllPairs, Any, Contains, IfSome, IfNone, IfOk, None, replicate};
 
 use crate::class::Class2;
 use crate::fault::DeskFault;
@@ -17,7 +17,7 @@ use std::marker::Model;
 #[derive(Drop)]
 pub struct Desk {
     table: Board,
-    pieces: u64,
+    terms: Terms,
 }
 
 /// What all places of a desk did: how many numbers were drawn, and the least told in each class.
@@ -56,10 +56,10 @@ impl Desk {
         let (table, mut seat) = Table::of_words(alloc, &[0, NONE_TOLD, NONE_TOLD], &terms)?;
         for _ in 1..seats {
             let other = table.shared.split_seat::<Leaves>(&mut seat);
-            places.push_reserved(Place::new(other, &terms));
+            places.push_reserved(Place::new(other, terms));
         }
-        places.push_reserved(Place::new(seat, &terms));
-        Ok((Desk { table, pieces }, places))
+        places.push_reserved(Place::new(seat, terms));
+        Ok((Desk { table, terms }, places))
     }
 
     /// A number that no other place draws, above all that this place drew. After `None` the place always gets `None`.
@@ -67,9 +67,10 @@ impl Desk {
         requires { IsPlaceOf self.now place.old }
         ensures below { IfSome result (λ n. n < self.now.pieces) }
         ensures above { IfSome result (λ n. All (λ m. m < n) (draws_of place.old)) }
+        ensures joins { IfSome result (λ n. draws_of place.new ≡ draws_of place.old ++ n ∷ []) }
         ensures taken { IfSome result (λ n. place.new ≡ with_ticket place.old n) }
         ensures done { IfNone result (IsDone place.new × (draws_of place.new ≡ draws_of place.old)) }
-        ensures late { IfNone result ((place.new ≡ place.old) ⊎ ((n : ℕ) × (place.new ≡ with_ticket place.old n))) }
+        ensures late { IfNone result ((place.new ≡ place.old) ⊎ ((n : ℕ) × (self.now.pieces ≤ n) × (place.new ≡ with_ticket place.old n))) }
         ensures stays { IsDone place.old → (result ≡ None) × (place.new ≡ place.old) }
     {
         if place.is_done {
@@ -79,7 +80,7 @@ impl Desk {
             .table
             .shared
             .fetch_add::<Draws>(&mut place.seat, TICKET_WORD, 1);
-        if number < self.pieces {
+        if number < self.terms.pieces {
             Some(number)
         } else {
             place.is_done = true;
@@ -124,10 +125,10 @@ impl Desk {
         ensures seen { (class : Class2) → All (Contains (all_told class places.items)) (all_seen class places.items) }
     {
         let seat = self.gather(places);
-        let Desk { table, pieces } = self;
+        let Desk { table, terms } = self;
         let closed = table.close_with(seat);
         let totals = Totals {
-            drawn: closed.word(TICKET_WORD).min(pieces),
+            drawn: closed.word(TICKET_WORD).min(terms.pieces),
             met: number_in_word(closed.word(MET_WORD)),
             unmet: number_in_word(closed.word(UNMET_WORD)),
         };

@@ -4,13 +4,12 @@ ghost use Rattle.std.specs.Prelude.{◌≡◌, []};
 
 use crate::rule::{DeskSeat, Terms};
 use std::marker::Model;
-use std::snapshot::Snapshot;
 
 /// A place at a desk. A contract sees its desk, and the tickets that it took, what it told and what it saw.
 #[derive(Drop)]
 pub struct Place {
     pub(crate) seat: DeskSeat,
-    pub(crate) terms: Snapshot<Terms>,
+    pub(crate) terms: Terms,
     pub(crate) is_done: bool,
 }
 
@@ -32,13 +31,13 @@ impl Place {
     ghost use Rattle.lit_desk.specs.Accounts.{new_account};
 
     /// A place where nothing was done yet.
-    pub(crate) fn new(seat: DeskSeat, terms: &Terms) -> Place
+    pub(crate) fn new(seat: DeskSeat, terms: Terms) -> Place
         requires { (seat.me.0 ≡ new_account 1) × (seat.me.1 ≡ []) }
-        ensures { result ≡ new_place (desk_name seat.table_id terms.now.pieces terms.now.seats) }
+        ensures { result ≡ new_place (desk_name seat.table_id terms.pieces terms.seats) }
     {
         Place {
             seat,
-            terms: Snapshot::of(terms),
+            terms,
             is_done: false,
         }
     }

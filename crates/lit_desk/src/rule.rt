@@ -5,7 +5,7 @@ use atomic_table::{Join, Play, Seat, Split, Table, TableRule};
 use std::alloc::Global;
 
 /// What a desk was opened with.
-#[derive(Drop)]
+#[derive(Clone, Copy)]
 pub struct Terms {
     pub pieces: u64,
     pub seats: usize,

@@ -5,12 +5,12 @@ use Rattle.lit_desk.specs.declared.limits.TheConstants.{MOST_PIECES, MOST_SEATS}
 use Rattle.lit_desk.specs.Desk.{DeskName, desk_name}
 
 abbrev pub name_of : Inside → DeskName
-name_of d = desk_name d.table.shared.table_id d.table.shared.key.pieces d.table.shared.key.seats
+name_of d = desk_name d.table.shared.table_id d.terms.pieces d.terms.seats
 
 -- its table has the three words, no slot, and terms within the limits
 pub record IsOpen (d : Inside) : Type 0 where
   pub words : d.table.shared.table_id.words ≡ 3
   pub slots : d.table.shared.table_id.slots ≡ 0
-  pub pieces : d.table.shared.key.pieces ≡ d.pieces
-  pub few_pieces : d.pieces ≤ MOST_PIECES
-  pub few_seats : d.table.shared.key.seats ≤ MOST_SEATS
+  pub key : d.table.shared.key ≡ d.terms
+  pub few_pieces : d.terms.pieces ≤ MOST_PIECES
+  pub few_seats : d.terms.seats ≤ MOST_SEATS

@@ -35,8 +35,6 @@ loop-preserved c =
 pub returns-clause-places : goal.returns-clause-places
 returns-clause-places c =
     let inv = c.loop.invariant in
-    let key = c.in_ok-table.ensures.5 in
     let desk = desk_name c.in_ok-table.table.shared.table_id c.args.pieces c.args.seats in
     one_more_place c.loop.places.items c.push_reserved-2.new.self.items (c.loop.counter - 1) c.args.seats c.new-2.result (new_place desk) (omega arith) inv.places
     (c.new-2.ensures ∙ ap (λ t. new_place (desk_name t c.args.pieces c.args.seats)) inv.table) c.push_reserved-2.ensures.items
-    ∙ ap (λ (k : Terms). replicate c.args.seats (new_place (desk_name c.in_ok-table.table.shared.table_id k.pieces k.seats))) (sym key)
