@@ -49,7 +49,9 @@ impl Desk {
         requires pieces { pieces ≤ MOST_PIECES }
         requires seats { (0 < seats) × (seats ≤ MOST_SEATS) }
         ensures desk { IfOk result (λ r. (r.0.pieces ≡ pieces) × (r.0.seats ≡ seats)) }
-        ensures places { IfOk result (λ r. r.1.items ≡ replicate seats (new_place r.0)) }
+        ensures count { IfOk result (λ r. length r.1.items ≡ seats) }
+        ensures own { IfOk result (λ r. All (IsPlaceOf r.0) r.1.items) }
+        ensures new { IfOk result (λ r. r.1.items ≡ replicate seats (new_place r.0)) }
     {
         let terms = Terms { pieces, seats };
         let mut places = Vec::with_capacity(alloc, seats)?;
@@ -72,6 +74,7 @@ impl Desk {
         ensures done { IfNone result (IsDone place.new × (draws_of place.new ≡ draws_of place.old)) }
         ensures late { IfNone result ((place.new ≡ place.old) ⊎ ((n : ℕ) × (self.now.pieces ≤ n) × (place.new ≡ with_ticket place.old n))) }
         ensures stays { IsDone place.old → (result ≡ None) × (place.new ≡ place.old) }
+        ensures place { IsPlaceOf self.now place.new }
     {
         if place.is_done {
             return None;
@@ -105,6 +108,7 @@ impl Desk {
         ensures seen { IfSome result (λ n. place.new ≡ with_seen class place.old n) }
         ensures least { IfSome result (λ n. All (λ m. n ≤ m) (told_by class place.old) × All (λ m. n ≤ m) (seen_by class place.old)) }
         ensures none { IfNone result ((place.new ≡ place.old) × (told_by class place.old ≡ []) × (seen_by class place.old ≡ [])) }
+        ensures place { IsPlaceOf self.now place.new }
     {
         let word = self
             .table

@@ -1,7 +1,5 @@
-use Rattle.std.proofs.Common.{◌≡◌, suc, ◌+◌, ◌-◌, sym, ap, ◌∙◌, arith}
-use Rattle.std.specs.Prelude.{replicate}
+use Rattle.std.proofs.Common.{◌≡◌, suc, ◌+◌, ◌-◌, ap, ◌∙◌, arith}
 use Rattle.lit_desk.specs.declared.account.Account.{Account}
-use Rattle.lit_desk.specs.declared.rule.Terms.{Terms}
 use Rattle.lit_desk.specs.Accounts.{new_account}
 use Rattle.lit_desk.specs.Desk.{desk_name, new_place}
 use Rattle.lit_desk.proofs.Moves.{leaves_as}
@@ -32,8 +30,8 @@ loop-preserved c =
           (c.new.ensures ∙ ap (λ t. new_place (desk_name t c.args.pieces c.args.seats)) table) c.push_reserved.ensures.items;
     }
 
-pub returns-clause-places : goal.returns-clause-places
-returns-clause-places c =
+pub returns-clause-new : goal.returns-clause-new
+returns-clause-new c =
     let inv = c.loop.invariant in
     let desk = desk_name c.in_ok-table.table.shared.table_id c.args.pieces c.args.seats in
     one_more_place c.loop.places.items c.push_reserved-2.new.self.items (c.loop.counter - 1) c.args.seats c.new-2.result (new_place desk) (omega arith) inv.places
