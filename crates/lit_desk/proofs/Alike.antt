@@ -2,7 +2,7 @@
 use Rattle.std.proofs.Common.{◌≡◌, ◌≢◌, ℕ, zero, suc, List, [], ◌∷◌, ◌++◌, set, refl, sym, ap, subst, append_assoc}
 use Rattle.std.specs.List.{flat_map}
 use Rattle.std.specs.List.Sorted.{IsPermutation}
-use Rattle.std.proofs.lemmas.List.Sorted.{IsPermutation-refl, IsPermutation-sym, IsPermutation-cons, IsPermutation-trans, IsPermutation-middle, IsPermutation-append_left, IsPermutation-append_right, IsPermutation-append_comm}
+use Rattle.std.proofs.lemmas.List.Sorted.{IsPermutation-refl, IsPermutation-cons, IsPermutation-trans, IsPermutation-middle, IsPermutation-append_left, IsPermutation-append_right, IsPermutation-append_comm}
 use mathlib.Core.Option.{some, some-ne-none, some-injective}
 use lib.ListN.{get_elem?}
 
@@ -17,9 +17,6 @@ module _ {X : Type 0} where
 
   pub alike_same : (xs : List X) → AreAlike xs xs
   alike_same xs = record { moved = IsPermutation-refl xs; joined = λ f. IsPermutation-refl (flat_map f xs) }
-
-  pub alike_back : (xs ys : List X) → AreAlike xs ys → AreAlike ys xs
-  alike_back xs ys h = record { moved = IsPermutation-sym xs ys h.moved; joined = λ f. IsPermutation-sym (flat_map f xs) (flat_map f ys) (h.joined f) }
 
   pub alike_then : (xs ys zs : List X) → AreAlike xs ys → AreAlike ys zs → AreAlike xs zs
   alike_then xs ys zs h k = record { moved = IsPermutation-trans xs ys zs h.moved k.moved; joined = λ f. IsPermutation-trans (flat_map f xs) (flat_map f ys) (flat_map f zs) (h.joined f) (k.joined f) }

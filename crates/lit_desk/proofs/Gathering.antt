@@ -57,10 +57,6 @@ whole t n m u v vs all h =
       unmet_kept = subst (λ l. IsKept u l v.unmet.seen) (alone (λ x. x.unmet.told) refl v vs none) (subst (λ l. IsKept u (all_told_in Unmet (v ∷ vs)) l) (alone (λ x. x.unmet.seen) refl v vs none) h.unmet_kept);
     }
 
-gathered_tickets : (ps : List PlaceLists) → (gathered_account ps).tickets ≡ flat_map (λ (p : PlaceLists). p.account.tickets) ps
-gathered_tickets [] = refl
-gathered_tickets (p ∷ ps) = ap (λ l. p.account.tickets ++ l) (gathered_tickets ps)
-
 gathered_told : (class : Class2) (ps : List PlaceLists) → (numbers_in class (gathered_account ps)).told ≡ all_told class ps
 gathered_told Met [] = refl
 gathered_told Met (p ∷ ps) = ap (λ l. p.account.met.told ++ l) (gathered_told Met ps)

@@ -13,7 +13,7 @@ use Rattle.lit_desk.specs.declared.rule.Terms.{Terms}
 use Rattle.lit_desk.specs.declared.words.TheConstants.{NONE_TOLD, TICKET_WORD, MET_WORD, UNMET_WORD}
 use Rattle.lit_desk.specs.Accounts.{new_account, numbers_in, took, told, saw}
 use Rattle.lit_desk.specs.Desk.Gathered.{joined}
-use Rattle.lit_desk.specs.Desk.Words.{number_in, word_of, class_of}
+use Rattle.lit_desk.specs.Desk.Words.{number_in, word_of}
 use Rattle.lit_desk.specs.Desk.Rule.{late_of, all_told_in, all_seen_in, AreFair, IsFair}
 use Rattle.lit_desk.specs.Desk.Steps.{Takes, Tells, Sees, SeesIn}
 use Rattle.lit_desk.proofs.Alike.{AreAlike, alike_then, alike_below, without, front_alike, set_alike, last_alike, other_place}
@@ -158,8 +158,3 @@ leaves_as t id v k is = subst (λ (x : Account). Splits (Holds t) id x (new_acco
   where
     less_one : (j : ℕ) → suc j - 1 ≡ j
     less_one j = omega arith
-
--- a word that was given as a class's is of that class
-pub class_of-word_of : (class : Class2) (word : ℕ) → word ≡ word_of class → class_of word ≡ class
-class_of-word_of Met word is = ap class_of is
-class_of-word_of Unmet word is = ap class_of is

@@ -1,20 +1,19 @@
 -- Of a place's tickets and flag.
-use Rattle.std.proofs.Common.{◌≡◌, ℕ, zero, suc, ◌+◌, ◌<◌, ◌≤◌, true, false, cond, leb, ltb, Option, Some, None, List, [], ◌∷◌, ◌++◌, length, filter, ⊎_elim, refl, sym, ap, ◌∙◌, subst, append-nil, arith}
+use Rattle.std.proofs.Common.{Bool, ◌≡◌, ℕ, zero, suc, ◌+◌, ◌<◌, ◌≤◌, true, false, cond, leb, ltb, Option, Some, None, List, [], ◌∷◌, ◌++◌, length, filter, ⊎_elim, refl, sym, ap, ◌∙◌, subst, append-nil, arith}
 use Rattle.std.specs.Prelude.{All, Any, MatchBool, MatchOption, replicate}
 use Rattle.lit_desk.specs.Desk.{PlaceLists}
-use Rattle.std.proofs.lemmas.List.Elements.{All-weaker, All-push, filter-append}
+use Rattle.std.proofs.lemmas.List.Elements.{All-weaker, filter-append}
 use Rattle.std.proofs.lemmas.List.Quantifiers.{Any-push}
 use Rattle.std.proofs.lemmas.Bool.Decides.{leb_tells}
-use Rattle.atomic_table.specs.declared.shared.Seat.{Seat}
+use Rattle.atomic_table.specs.Table.{Me}
 use Rattle.lit_desk.specs.declared.account.Account.{Account}
 use Rattle.lit_desk.specs.declared.class.Class2.{Class2}
 use Rattle.lit_desk.specs.declared.class.Class2.TheVariants.{Met, Unmet}
-use Rattle.lit_desk.specs.declared.place.Place.TheInside.{Inside}
 use Rattle.lit_desk.specs.Accounts.{numbers_in, took, told, saw}
 use Rattle.lit_desk.specs.Desk.Words.{number_in, word_of}
 use Rattle.lit_desk.specs.Desk.Rule.{late_of}
 use Rattle.lit_desk.specs.Desk.Steps.{SeesIn}
-use Rattle.lit_desk.specs.Desk.Place.{IsSound}
+use Rattle.lit_desk.specs.Desk.Place.{IsTaken}
 use Rattle.lit_desk.proofs.Lists.{filter_none}
 
 not_at_most : (a b : ℕ) → b < a → leb a b ≡ false
@@ -35,23 +34,12 @@ draws_after_late pieces old new found is late =
 pub late_joins : (pieces : ℕ) (old new : Account) (found : ℕ) → new ≡ took old found → pieces ≤ found → Any (λ n. pieces ≤ n) new.tickets
 late_joins pieces old new found is late = subst (λ (a : Account). Any (λ n. pieces ≤ n) a.tickets) (sym is) (Any-push (λ n. pieces ≤ n) old.tickets found late)
 
--- after a draw the flag of a place still says whether it took a late ticket
-pub sound_after_draw : (p : Inside) (seat : Seat (Unit {0}) Account) (found : ℕ) → seat.me.0 ≡ took p.seat.me.0 found → seat.me.1 ≡ p.seat.me.1 → p.is_done ≡ false → found < p.terms.pieces → IsSound p → IsSound record { seat = seat; terms = p.terms; is_done = p.is_done }
-sound_after_draw p seat found is slots fresh small h = record {
-  slots = slots ∙ h.slots;
-  places = ap (λ (a : Account). a.places) is ∙ h.places;
-  done =
-      let before = subst (λ b. MatchBool b (Any (λ n. p.terms.pieces ≤ n) p.seat.me.0.tickets) (All (λ n. n < p.terms.pieces) p.seat.me.0.tickets)) fresh h.done in
-      subst (λ b. MatchBool b (Any (λ n. p.terms.pieces ≤ n) seat.me.0.tickets) (All (λ n. n < p.terms.pieces) seat.me.0.tickets)) (sym fresh)
-      (subst (λ (a : Account). All (λ n. n < p.terms.pieces) a.tickets) (sym is) (All-push (λ n. n < p.terms.pieces) p.seat.me.0.tickets found before small));
-}
-
 -- a step that takes no ticket leaves a place as sound as it was
-pub sound_after : (p : Inside) (seat : Seat (Unit {0}) Account) → (seat.me.0.tickets ≡ p.seat.me.0.tickets) × (seat.me.0.places ≡ p.seat.me.0.places) → seat.me.1 ≡ p.seat.me.1 → IsSound p → IsSound record { seat = seat; terms = p.terms; is_done = p.is_done }
-sound_after p seat same slots h = record {
+pub taken_after : (me now : Me (Unit {0}) Account) (pieces : ℕ) (is_done : Bool) → (now.0.tickets ≡ me.0.tickets) × (now.0.places ≡ me.0.places) → now.1 ≡ me.1 → IsTaken me pieces is_done → IsTaken now pieces is_done
+taken_after me now pieces is_done same slots h = record {
   slots = slots ∙ h.slots;
   places = same.1 ∙ h.places;
-  done = subst (λ l. MatchBool p.is_done (Any (λ n. p.terms.pieces ≤ n) l) (All (λ n. n < p.terms.pieces) l)) (sym same.0) h.done;
+  done = subst (λ l. MatchBool is_done (Any (λ n. pieces ≤ n) l) (All (λ n. n < pieces) l)) (sym same.0) h.done;
 }
 
 pub told_same : (class : Class2) (v w : Account) (k : ℕ) → w ≡ told class v k → (w.tickets ≡ v.tickets) × (w.places ≡ v.places)

@@ -3,7 +3,7 @@ use Rattle.std.specs.Prelude.{All}
 use Rattle.std.proofs.lemmas.List.Elements.{All-contains, Contains-push}
 use Rattle.lit_desk.specs.Desk.{DeskName, PlaceLists, IsPlaceOf}
 use Rattle.lit_desk.proofs.Kept.{All-front}
-use Rattle.lit_desk.proofs.Moves.{gathers}
+use Rattle.lit_desk.proofs.Moves.{gathers, sits}
 use Rattle.lit_desk.proofs.desk.Desk.gather.Goals as goal
 
 pub join_seat-requires : goal.join_seat-requires
@@ -20,3 +20,6 @@ join_seat-requires c =
       omega arith,
       gathers c.self.inside.table.shared.key c.loop-place.all.id c.loop-place.all.me.0 c.place.inside.seat.id c.place.inside.seat.me.0,
     )
+
+pub load_new_seat-requires : goal.load_new_seat-requires
+load_new_seat-requires c = (omega arith, sits c.self.inside.table.shared.key c.self.inside.table.shared.table_id.slots 0)

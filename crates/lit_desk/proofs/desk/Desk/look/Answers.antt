@@ -2,7 +2,7 @@ use Rattle.std.proofs.Common.{◌<◌, sym, ap, ◌∙◌, arith}
 use Rattle.lit_desk.specs.Desk.{DeskName, PlaceLists}
 use Rattle.lit_desk.specs.Desk.Words.{class_of}
 use Rattle.lit_desk.proofs.Moves.{looks_as}
-use Rattle.lit_desk.proofs.Places.{sees_same, sound_after, word_is_small}
+use Rattle.lit_desk.proofs.Places.{sees_same, taken_after, word_is_small}
 use Rattle.lit_desk.proofs.desk.Desk.look.Goals as goal
 
 pub load-word-requires : goal.load-word-requires
@@ -18,4 +18,4 @@ load-word-requires c =
 pub invariant_of-place : goal.invariant_of-place
 invariant_of-place c =
     let step = c.load-word.ensures.2 in
-    sound_after c.place.inside c.load-word.new.seat (sees_same (class_of c.word_of_class.result) c.place.inside.seat.me.0 c.load-word.new.seat.me.0 c.load-word.result step.0) step.1 c.place.invariant
+    taken_after c.place.inside.seat.me c.load-word.new.seat.me c.place.inside.terms.pieces c.place.inside.is_done (sees_same (class_of c.word_of_class.result) c.place.inside.seat.me.0 c.load-word.new.seat.me.0 c.load-word.result step.0) step.1 c.place.invariant

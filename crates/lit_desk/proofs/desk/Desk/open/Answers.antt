@@ -1,7 +1,8 @@
-use Rattle.std.proofs.Common.{◌≡◌, suc, ◌+◌, ◌-◌, ap, ◌∙◌, arith}
+use Rattle.std.proofs.Common.{refl, replicate, ◌≡◌, suc, ◌+◌, ◌-◌, ap, ◌∙◌, arith}
 use Rattle.lit_desk.specs.declared.account.Account.{Account}
 use Rattle.lit_desk.specs.Accounts.{new_account}
-use Rattle.lit_desk.specs.Desk.{desk_name, new_place}
+use Rattle.std.proofs.lemmas.List.Elements.{All-same, All-replicate}
+use Rattle.lit_desk.specs.Desk.{IsPlaceOf, desk_name, new_place}
 use Rattle.lit_desk.proofs.Moves.{leaves_as}
 use Rattle.lit_desk.proofs.Places.{one_more_place}
 use Rattle.lit_desk.proofs.desk.Desk.open.Goals as goal
@@ -36,3 +37,8 @@ returns-clause-new c =
     let desk = desk_name c.in_ok-table.table.shared.table_id c.args.pieces c.args.seats in
     one_more_place c.loop.places.items c.push_reserved-2.new.self.items (c.loop.counter - 1) c.args.seats c.new-2.result (new_place desk) (omega arith) inv.places
     (c.new-2.ensures ∙ ap (λ t. new_place (desk_name t c.args.pieces c.args.seats)) inv.table) c.push_reserved-2.ensures.items
+
+pub returns-clause-own : goal.returns-clause-own
+returns-clause-own c =
+    let desk = desk_name c.in_ok-table.table.shared.table_id c.args.pieces c.args.seats in
+    All-same (IsPlaceOf desk) c.push_reserved-2.new.self.items (replicate c.args.seats (new_place desk)) (returns-clause-new c) (All-replicate (IsPlaceOf desk) c.args.seats (new_place desk) refl)

@@ -2,7 +2,7 @@ use Rattle.std.proofs.Common.{◌<◌, sym, ap, ◌∙◌, arith}
 use Rattle.lit_desk.specs.Desk.{DeskName, PlaceLists}
 use Rattle.lit_desk.specs.Desk.Words.{class_of}
 use Rattle.lit_desk.proofs.Moves.{tells_as}
-use Rattle.lit_desk.proofs.Places.{told_same, sound_after, word_is_small}
+use Rattle.lit_desk.proofs.Places.{told_same, taken_after, word_is_small}
 use Rattle.lit_desk.proofs.desk.Desk.tell.Goals as goal
 
 pub fetch_min-requires : goal.fetch_min-requires
@@ -18,4 +18,4 @@ fetch_min-requires c =
 pub invariant_of-place : goal.invariant_of-place
 invariant_of-place c =
     let step = c.fetch_min.ensures.2 in
-    sound_after c.place.inside c.fetch_min.new.seat (told_same (class_of c.word_of_class.result) c.place.inside.seat.me.0 c.fetch_min.new.seat.me.0 c.args.number step.0) step.1 c.place.invariant
+    taken_after c.place.inside.seat.me c.fetch_min.new.seat.me c.place.inside.terms.pieces c.place.inside.is_done (told_same (class_of c.word_of_class.result) c.place.inside.seat.me.0 c.fetch_min.new.seat.me.0 c.args.number step.0) step.1 c.place.invariant
