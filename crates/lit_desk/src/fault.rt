@@ -12,6 +12,10 @@ pub enum DeskFault {
 }
 
 impl fmt::Display for DeskFault {
+    ghost use Rattle.std.specs.Prelude.{Some, codes};
+
+    ghost output = { λ _. Some (codes "out_of_memory") };
+
     fn fmt<W: fmt::Write>(&self, f: &mut fmt::Formatter<W>) -> fmt::Result {
         f.write_str("out_of_memory")
     }

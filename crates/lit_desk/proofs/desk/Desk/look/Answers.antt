@@ -8,11 +8,11 @@ use Rattle.lit_desk.proofs.desk.Desk.look.Goals as goal
 pub load-word-requires : goal.load-word-requires
 load-word-requires c =
     let same = ap (λ (p : PlaceLists). p.desk) c.place.view_is ∙ c.requires ∙ sym c.self.view_is in
-    let small = word_is_small c.args.class c.word_of_class.result c.word_of_class.ensures in
+    let small = word_is_small _ _ c.word_of_class.ensures in
     let stands : 0 < c.place.inside.seat.me.0.places = omega arith in (
       ap (λ (d : DeskName). d.table) same,
       omega arith,
-      looks_as c.self.inside.table.shared.key c.self.inside.table.shared.table_id.slots c.place.inside.seat.id c.place.inside.seat.me c.args.class c.word_of_class.result c.word_of_class.ensures c.place.invariant.slots stands,
+      looks_as c.self.inside.table.shared.key c.self.inside.table.shared.table_id.slots c.place.inside.seat.id c.place.inside.seat.me _ _ c.word_of_class.ensures c.place.invariant.slots stands,
     )
 
 pub invariant_of-place : goal.invariant_of-place
