@@ -1,0 +1,160 @@
+-- Each step of a desk keeps the rule.
+use Rattle.std.proofs.Common.{◌≡◌, ◌≢◌, ℕ, suc, ◌+◌, ◌-◌, ◌%◌, ◌^◌, ◌<◌, ◌≤◌, min, Option, Some, None, List, [], ◌∷◌, ◌++◌, length, set, ⊎_elim, refl, sym, ap, ◌∙◌, subst, add-one, arith}
+use Rattle.std.specs.Prelude.{All, slice_index, MatchOption}
+use Rattle.std.proofs.Math.Nat.{mod-eq_of_lt}
+use mathlib.Core.Option.{some}
+use lib.ListN.{get_elem?}
+use Rattle.atomic_table.specs.Table.{State, Me, keeps, Allows, Splits, Joins, Enters}
+use Rattle.atomic_table.proofs.Lists.{at_set}
+use Rattle.lit_desk.specs.declared.account.Account.{Account}
+use Rattle.lit_desk.specs.declared.class.Class2.{Class2}
+use Rattle.lit_desk.specs.declared.class.Class2.TheVariants.{Met, Unmet}
+use Rattle.lit_desk.specs.declared.rule.Terms.{Terms}
+use Rattle.lit_desk.specs.declared.words.TheConstants.{NONE_TOLD, TICKET_WORD, MET_WORD, UNMET_WORD}
+use Rattle.lit_desk.specs.Accounts.{new_account, numbers_in, took, told, saw}
+use Rattle.lit_desk.specs.Desk.Gathered.{joined}
+use Rattle.lit_desk.specs.Desk.Words.{number_in, word_of}
+use Rattle.lit_desk.specs.Desk.Rule.{late_of, all_told_in, all_seen_in, AreFair, IsFair}
+use Rattle.lit_desk.specs.Desk.Steps.{Takes, Tells, Sees, SeesIn}
+use Rattle.lit_desk.proofs.Alike.{AreAlike, alike_then, alike_below, without, front_alike, set_alike, last_alike, other_place}
+use Rattle.lit_desk.proofs.Kept.{kept_own, number_cases}
+use Rattle.lit_desk.proofs.Fair.{fair_alike, fair_bound, fair_took, fair_above, fair_told_met, fair_told_unmet, fair_saw_met, fair_saw_unmet, fair_left, fair_joined, fair_sat}
+
+-- the rule, as the table states it
+abbrev pub Holds : Terms → State (Unit {0}) Account → Type 0
+Holds t s = IsFair t s.words s.views
+
+-- a seat's account put in front, and another one put in its place
+fair_front : (t : Terms) (n m u : ℕ) (views : List Account) (id : ℕ) (v : Account) → get_elem? views id ≡ some v → AreFair t n m u views → AreFair t n m u (v ∷ without views id)
+fair_front t n m u views id v at h = fair_alike t n m u views (v ∷ without views id) (front_alike views id v at) h
+
+fair_set : (t : Terms) (n m u : ℕ) (views : List Account) (id : ℕ) (v w : Account) → get_elem? views id ≡ some v → AreFair t n m u (w ∷ without views id) → AreFair t n m u (set views id w)
+fair_set t n m u views id v w at h = fair_alike t n m u (w ∷ without views id) (set views id w) (set_alike views id v w at) h
+
+pub draws : (t : Terms) (slots id : ℕ) (v : Account) → t.pieces + t.seats + 1 < 2 ^ 64 → length (late_of t.pieces v) ≡ 0 → 0 < v.places
+    → Allows (Holds t) slots id (v, []) TICKET_WORD (λ n. (n + 1) % 2 ^ 64) (λ found now. Takes v found now.0 × (now.1 ≡ []))
+draws t slots id v small none stands s h homes at below =
+    let (n, m, u, is, fair) = h in
+    let front = fair_front t n m u s.views id v at fair in
+    let bound = fair_bound t n m u s.views fair in
+    let found : slice_index s.words TICKET_WORD ≡ n = ap (λ ws. slice_index ws TICKET_WORD) is in
+    let fits : n + 1 < 2 ^ 64 = omega arith in
+    let next : (n + 1) % 2 ^ 64 ≡ suc n = mod-eq_of_lt fits ∙ add-one n in
+    let words : set s.words TICKET_WORD ((slice_index s.words TICKET_WORD + 1) % 2 ^ 64) ≡ suc n ∷ m ∷ u ∷ [] = ap (λ ws. set ws TICKET_WORD ((slice_index ws TICKET_WORD + 1) % 2 ^ 64)) is ∙ ap (λ k. k ∷ m ∷ u ∷ []) next in (
+      took v n,
+      keeps,
+      tt,
+      (suc n, m, u, words, fair_set t (suc n) m u s.views id v (took v n) at (fair_took t n m u v (without s.views id) none stands front)),
+      (subst (λ k. Takes v k (took v n)) (sym found) (refl, fair_above t n m u v (without s.views id) front), refl),
+    )
+
+pub tells : (t : Terms) (slots id : ℕ) (v : Account) (class : Class2) (k : ℕ) → k < NONE_TOLD → 0 < v.places
+    → Allows (Holds t) slots id (v, []) (word_of class) (λ n. min n k) (λ found now. Tells (word_of class) v k now.0 × (now.1 ≡ []))
+tells t slots id v Met k small stands s h homes at below =
+    let (n, m, u, is, fair) = h in
+    let front = fair_front t n m u s.views id v at fair in (
+      told Met v k,
+      keeps,
+      tt,
+      (n, min m k, u, ap (λ ws. set ws MET_WORD (min (slice_index ws MET_WORD) k)) is, fair_set t n (min m k) u s.views id v (told Met v k) at (fair_told_met t n m u k v (without s.views id) small stands front)),
+      (refl, refl),
+    )
+tells t slots id v Unmet k small stands s h homes at below =
+    let (n, m, u, is, fair) = h in
+    let front = fair_front t n m u s.views id v at fair in (
+      told Unmet v k,
+      keeps,
+      tt,
+      (n, m, min u k, ap (λ ws. set ws UNMET_WORD (min (slice_index ws UNMET_WORD) k)) is, fair_set t n m (min u k) s.views id v (told Unmet v k) at (fair_told_unmet t n m u k v (without s.views id) small stands front)),
+      (refl, refl),
+    )
+
+-- what a seat finds in its own lists, and what it then knows
+sees_none : (class : Class2) (v : Account) (w : ℕ) → number_in w ≡ None → MatchOption (number_in w) (((numbers_in class v).told ≡ []) × ((numbers_in class v).seen ≡ [])) (λ n. All (λ m. n ≤ m) (numbers_in class v).told × All (λ m. n ≤ m) (numbers_in class v).seen) → SeesIn class v w v
+sees_none class v w none own =
+    let here = subst (λ (o : Option ℕ). MatchOption o (((numbers_in class v).told ≡ []) × ((numbers_in class v).seen ≡ [])) (λ n. All (λ m. n ≤ m) (numbers_in class v).told × All (λ m. n ≤ m) (numbers_in class v).seen)) none own in
+    subst (λ (o : Option ℕ). MatchOption o ((v ≡ v) × ((numbers_in class v).told ≡ []) × ((numbers_in class v).seen ≡ [])) (λ n. (v ≡ saw class v n) × All (λ m. n ≤ m) (numbers_in class v).told × All (λ m. n ≤ m) (numbers_in class v).seen)) (sym none) (refl, here.0, here.1)
+
+sees_some : (class : Class2) (v : Account) (w : ℕ) → number_in w ≡ Some w → MatchOption (number_in w) (((numbers_in class v).told ≡ []) × ((numbers_in class v).seen ≡ [])) (λ n. All (λ m. n ≤ m) (numbers_in class v).told × All (λ m. n ≤ m) (numbers_in class v).seen) → SeesIn class v w (saw class v w)
+sees_some class v w told own =
+    let here = subst (λ (o : Option ℕ). MatchOption o (((numbers_in class v).told ≡ []) × ((numbers_in class v).seen ≡ [])) (λ n. All (λ m. n ≤ m) (numbers_in class v).told × All (λ m. n ≤ m) (numbers_in class v).seen)) told own in
+    subst (λ (o : Option ℕ). MatchOption o ((saw class v w ≡ v) × ((numbers_in class v).told ≡ []) × ((numbers_in class v).seen ≡ [])) (λ n. (saw class v w ≡ saw class v n) × All (λ m. n ≤ m) (numbers_in class v).told × All (λ m. n ≤ m) (numbers_in class v).seen)) (sym told) (refl, here.0, here.1)
+
+pub looks : (t : Terms) (slots id : ℕ) (v : Account) (class : Class2) → 0 < v.places
+    → Allows (Holds t) slots id (v, []) (word_of class) (λ n. n) (λ found now. Sees (word_of class) v found now.0 × (now.1 ≡ []))
+looks t slots id v Met stands s h homes at below =
+    let (n, m, u, is, fair) = h in
+    let front = fair_front t n m u s.views id v at fair in
+    let own = kept_own m v.met.told (all_told_in Met (without s.views id)) v.met.seen (all_seen_in Met (without s.views id)) front.met_kept in
+    let found : slice_index s.words MET_WORD ≡ m = ap (λ ws. slice_index ws MET_WORD) is in
+    let words : set s.words MET_WORD (slice_index s.words MET_WORD) ≡ n ∷ m ∷ u ∷ [] = ap (λ ws. set ws MET_WORD (slice_index ws MET_WORD)) is in
+    ⊎_elim
+    (λ (c : (m ≡ NONE_TOLD) × (number_in m ≡ None)). (v, keeps, tt, (n, m, u, words, fair_set t n m u s.views id v v at front), (subst (λ k. SeesIn Met v k v) (sym found) (sees_none Met v m c.1 own), refl)))
+    (λ (c : number_in m ≡ Some m). (saw Met v m, keeps, tt, (n, m, u, words, fair_set t n m u s.views id v (saw Met v m) at (fair_saw_met t n m u v (without s.views id) c stands front)), (subst (λ k. SeesIn Met v k (saw Met v m)) (sym found) (sees_some Met v m c own), refl)))
+    (number_cases m)
+looks t slots id v Unmet stands s h homes at below =
+    let (n, m, u, is, fair) = h in
+    let front = fair_front t n m u s.views id v at fair in
+    let own = kept_own u v.unmet.told (all_told_in Unmet (without s.views id)) v.unmet.seen (all_seen_in Unmet (without s.views id)) front.unmet_kept in
+    let found : slice_index s.words UNMET_WORD ≡ u = ap (λ ws. slice_index ws UNMET_WORD) is in
+    let words : set s.words UNMET_WORD (slice_index s.words UNMET_WORD) ≡ n ∷ m ∷ u ∷ [] = ap (λ ws. set ws UNMET_WORD (slice_index ws UNMET_WORD)) is in
+    ⊎_elim
+    (λ (c : (u ≡ NONE_TOLD) × (number_in u ≡ None)). (v, keeps, tt, (n, m, u, words, fair_set t n m u s.views id v v at front), (subst (λ k. SeesIn Unmet v k v) (sym found) (sees_none Unmet v u c.1 own), refl)))
+    (λ (c : number_in u ≡ Some u). (saw Unmet v u, keeps, tt, (n, m, u, words, fair_set t n m u s.views id v (saw Unmet v u) at (fair_saw_unmet t n m u v (without s.views id) c stands front)), (subst (λ k. SeesIn Unmet v k (saw Unmet v u)) (sym found) (sees_some Unmet v u c own), refl)))
+    (number_cases u)
+
+pub leaves : (t : Terms) (id k : ℕ) → Splits (Holds t) id (new_account (suc k)) (new_account k) (new_account 1)
+leaves t id k s h at =
+    let (n, m, u, is, fair) = h in
+    let R = without s.views id in
+    let now = fair_left t n m u k R (fair_front t n m u s.views id (new_account (suc k)) at fair) in
+    let seats = set s.views id (new_account k) in
+    let there = alike_then (new_account 1 ∷ new_account k ∷ R) (new_account 1 ∷ seats) (seats ++ new_account 1 ∷ []) (alike_below (new_account 1) (new_account k ∷ R) seats (set_alike s.views id (new_account (suc k)) (new_account k) at)) (last_alike (new_account 1) seats) in
+    (n, m, u, is, fair_alike t n m u (new_account 1 ∷ new_account k ∷ R) (seats ++ new_account 1 ∷ []) there now)
+
+pub gathers : (t : Terms) (id : ℕ) (v : Account) (other : ℕ) (w : Account) → Joins (Holds t) id v other w (joined w v) (new_account 0)
+gathers t id v other w s h at apart there =
+    let (n, m, u, is, fair) = h in
+    let both = joined w v in
+    let was : get_elem? s.views other ≡ some w = ⊎_elim (λ (x : (other ≡ id) × (both ≡ w)). absurd (apart x.0)) (λ (x : (other ≢ id) × (get_elem? s.views other ≡ some w)). x.1) (at_set s.views id other both w there) in
+    let (k, found, moved) = other_place s.views id other v w apart at was in
+    let R = without s.views other in
+    let rest = without R k in
+    let before = alike_then s.views (w ∷ R) (w ∷ v ∷ rest) (front_alike s.views other w was) (alike_below w R (v ∷ rest) (front_alike R k v found)) in
+    let seats = set s.views id both in
+    let taken = set_alike seats other w (new_account 0) there in
+    let after = alike_then (new_account 0 ∷ both ∷ rest) (new_account 0 ∷ without seats other) (set seats other (new_account 0))
+    (subst (λ l. AreAlike (new_account 0 ∷ both ∷ rest) (new_account 0 ∷ l)) (sym (moved both)) (alike_below (new_account 0) (both ∷ rest) (set R k both) (set_alike R k v both found))) taken in
+    (n, m, u, is, fair_alike t n m u (new_account 0 ∷ both ∷ rest) (set seats other (new_account 0)) after (fair_joined t n m u v w rest (fair_alike t n m u s.views (w ∷ v ∷ rest) before fair)))
+
+pub sits : (t : Terms) (slots i : ℕ) → Enters (Holds t) slots i (λ _ w. w ≡ new_account 0)
+sits t slots i s h homes below =
+    let (n, m, u, is, fair) = h in
+    (new_account 0, (n, m, u, is, fair_alike t n m u (new_account 0 ∷ s.views) (s.views ++ new_account 0 ∷ []) (last_alike (new_account 0) s.views) (fair_sat t n m u s.views fair)), refl)
+
+-- the same of a seat that holds no slot
+empty_handed : (me : Me (Unit {0}) Account) → me.1 ≡ [] → (me.0, []) ≡ me
+empty_handed me none = λ i. (me.0, sym none i)
+
+pub draws_as : (t : Terms) (slots id : ℕ) (me : Me (Unit {0}) Account) → me.1 ≡ [] → t.pieces + t.seats + 1 < 2 ^ 64 → length (late_of t.pieces me.0) ≡ 0 → 0 < me.0.places
+    → Allows (Holds t) slots id me TICKET_WORD (λ n. (n + 1) % 2 ^ 64) (λ found now. Takes me.0 found now.0 × (now.1 ≡ me.1))
+draws_as t slots id me none small early stands =
+    subst (λ (x : Me (Unit {0}) Account). Allows (Holds t) slots id x TICKET_WORD (λ n. (n + 1) % 2 ^ 64) (λ found now. Takes x.0 found now.0 × (now.1 ≡ x.1))) (empty_handed me none) (draws t slots id me.0 small early stands)
+
+pub tells_as : (t : Terms) (slots id : ℕ) (me : Me (Unit {0}) Account) (class : Class2) (word k : ℕ) → word ≡ word_of class → me.1 ≡ [] → k < NONE_TOLD → 0 < me.0.places
+    → Allows (Holds t) slots id me word (λ n. min n k) (λ found now. Tells word me.0 k now.0 × (now.1 ≡ me.1))
+tells_as t slots id me class word k is none small stands =
+    subst (λ w. Allows (Holds t) slots id me w (λ n. min n k) (λ found now. Tells w me.0 k now.0 × (now.1 ≡ me.1))) (sym is)
+    (subst (λ (x : Me (Unit {0}) Account). Allows (Holds t) slots id x (word_of class) (λ n. min n k) (λ found now. Tells (word_of class) x.0 k now.0 × (now.1 ≡ x.1))) (empty_handed me none) (tells t slots id me.0 class k small stands))
+
+pub looks_as : (t : Terms) (slots id : ℕ) (me : Me (Unit {0}) Account) (class : Class2) (word : ℕ) → word ≡ word_of class → me.1 ≡ [] → 0 < me.0.places
+    → Allows (Holds t) slots id me word (λ n. n) (λ found now. Sees word me.0 found now.0 × (now.1 ≡ me.1))
+looks_as t slots id me class word is none stands =
+    subst (λ w. Allows (Holds t) slots id me w (λ n. n) (λ found now. Sees w me.0 found now.0 × (now.1 ≡ me.1))) (sym is)
+    (subst (λ (x : Me (Unit {0}) Account). Allows (Holds t) slots id x (word_of class) (λ n. n) (λ found now. Sees (word_of class) x.0 found now.0 × (now.1 ≡ x.1))) (empty_handed me none) (looks t slots id me.0 class stands))
+
+pub leaves_as : (t : Terms) (id : ℕ) (v : Account) (k : ℕ) → v ≡ new_account (suc k) → Splits (Holds t) id v (new_account (v.places - 1)) (new_account 1)
+leaves_as t id v k is = subst (λ (x : Account). Splits (Holds t) id x (new_account (x.places - 1)) (new_account 1)) (sym is) (subst (λ j. Splits (Holds t) id (new_account (suc k)) (new_account j) (new_account 1)) (sym (less_one k)) (leaves t id k))
+  where
+    less_one : (j : ℕ) → suc j - 1 ≡ j
+    less_one j = omega arith
