@@ -36,9 +36,9 @@ fn statement_writes(stmt: &Stmt, reg: u8) -> bool
     }
 }
 
-/// Whether one of the statements writes the register.
+/// Whether some statement, also in a part of an `if`, writes a register, by its number.
 #[cycle(writing)]
-fn writes(body: &[Stmt], reg: u8) -> bool
+pub fn writes(body: &[Stmt], reg: u8) -> bool
     ensures { result ≡ writes (statements_of body.now) reg }
 {
     for stmt in body {

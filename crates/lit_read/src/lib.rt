@@ -19,6 +19,7 @@ mod symbols;
 mod syntax;
 mod tokens;
 
+pub use checking::writes;
 pub use fault::{ReadFault, ReadKind};
 pub use laws::{
     cuts_one_way, each_text_is_told, has_one_first_fault, has_one_form, lines_are_joined,

@@ -1,0 +1,17 @@
+use Rattle.std.proofs.Common.{arith, ◌+◌}
+use Rattle.lit_paths.proofs.PlanFacts.{before_mono}
+use Rattle.lit_paths.proofs.planning.Plan.enter.Goals as goal
+
+pub overflow_sub-total : goal.overflow_sub-total
+overflow_sub-total c =
+    omega (arith, c.first_of-first.ensures, c.end_of.ensures.value, before_mono c.args.self.now c.args.combination (c.args.combination + 1) (omega arith))
+
+pub new-requires-clause-few : goal.new-requires-clause-few
+new-requires-clause-few c =
+    omega (
+      arith,
+      c.first_of-first.ensures,
+      c.end_of.ensures.value,
+      c.end_of.ensures.few,
+      before_mono c.args.self.now c.args.combination (c.args.combination + 1) (omega arith),
+    )

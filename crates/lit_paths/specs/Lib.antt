@@ -1,0 +1,10 @@
+pub mod Event
+pub mod Path
+pub mod Run
+pub mod ByteReads
+pub mod Choice
+pub mod Outcome
+pub mod Execution
+pub mod Told
+pub mod Plan
+pub mod Planning

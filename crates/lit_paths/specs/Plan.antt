@@ -1,0 +1,89 @@
+-- What a plan says of a test: the combinations of paths and the events of each, when a test is refused, and which
+-- combination a choice is of (this project's own).
+use Rattle.std.specs.Prelude.{◌≡◌, ◌⊎◌, ℕ, ◌+◌, ◌<◌, ◌≤◌, All, List, [], length, map, take, Some, slice_get, slice_index_or}
+use Rattle.std.specs.List.{flat_map}
+use Rattle.lit_read.specs.Syntax.{Litmus, agent_of}
+use Rattle.lit_paths.specs.declared.limits.TheConstants.{ACCESS_LIMIT, EVENT_LIMIT, BYTE_READ_LIMIT, COMBINATION_LIMIT, CHOICE_LIMIT}
+use Rattle.lit_paths.specs.declared.event.Event.{Event}
+use Rattle.lit_paths.specs.declared.planning.PlanFault.{PlanFault}
+use Rattle.lit_paths.specs.declared.planning.PlanFault.TheVariants.{TooManyEvents, TooManyPaths, TooManyChoices, OutOfMemory}
+use Rattle.lit_paths.specs.Event.{event_at, init_event}
+use Rattle.lit_paths.specs.Path.{Path}
+use Rattle.lit_paths.specs.Run.{run_path}
+use Rattle.lit_paths.specs.ByteReads.{byte_reads, IsCandidate}
+use Rattle.lit_paths.specs.Choice.{Choice, AreCombined, AreSources, events_of, choices_on, combinations_of, choices_of}
+use Rattle.lit_paths.specs.Execution.{Execution, execution_choice, IsCandidateExecution}
+use Rattle.lit_paths.specs.Told.{Told, TellsRuns}
+
+-- the events of the accesses on a combination of paths: agents in order
+abbrev pub accesses_on : List Path → List Event
+accesses_on paths = flat_map (λ events. events) (map (λ path. path.events) paths)
+
+-- some combination of paths has more access events than are allowed
+abbrev pub HasTooManyEvents : Litmus → Type 0
+HasTooManyEvents t = (paths : List Path) × AreCombined t paths × (ACCESS_LIMIT < length (accesses_on paths))
+
+-- each combination of paths has as many access events as are allowed
+abbrev pub HasFewEvents : Litmus → Type 0
+HasFewEvents t = (paths : List Path) → AreCombined t paths → length (accesses_on paths) ≤ ACCESS_LIMIT
+
+-- when a test is refused: of several refusals the first decides
+abbrev pub IsRefusal : Litmus → PlanFault → Type 0
+IsRefusal t TooManyEvents = HasTooManyEvents t
+IsRefusal t TooManyPaths = HasFewEvents t × (COMBINATION_LIMIT < length (combinations_of t))
+IsRefusal t TooManyChoices = HasFewEvents t × (length (combinations_of t) ≤ COMBINATION_LIMIT) × (CHOICE_LIMIT < length (choices_of t))
+IsRefusal t OutOfMemory = ⊥
+
+-- memory ran out, or the test is refused
+abbrev pub IsPlanFault : Litmus → PlanFault → Type 0
+IsPlanFault t fault = (fault ≡ OutOfMemory) ⊎ IsRefusal t fault
+
+-- the combination of paths with a number
+abbrev pub combination_at : Litmus → ℕ → List Path
+combination_at t c = slice_index_or (combinations_of t) c []
+
+-- all events of the combination of paths with a number
+abbrev pub events_in : Litmus → ℕ → List Event
+events_in t c = events_of t.bytes (map (λ path. path.events) (combination_at t c))
+
+-- how many choices the combinations before one have
+abbrev pub choices_before : Litmus → ℕ → ℕ
+choices_before t c = length (flat_map (choices_on t.bytes) (take c (combinations_of t)))
+
+-- the choice with a number has these sources
+pub record HasSources (t : Litmus) (n : ℕ) (sources : List ℕ) : Type 0 where
+  pub choice : Choice
+  pub listed : slice_get (choices_of t) n ≡ Some choice
+  pub same : choice.sources ≡ sources
+
+-- Choice n is one of those of combination c, and the runs of its executions are on the combination's paths.
+pub record IsOfCombination (t : Litmus) (n c : ℕ) : Type 0 where
+  pub choice : Choice
+  pub listed : slice_get (choices_of t) n ≡ Some choice
+  pub known : c < length (combinations_of t)
+  pub decided : map (λ path. path.decisions) (combination_at t c) ≡ choice.decisions
+  pub sourced : AreSources (events_in t c) choice.sources
+  pub on_paths : (x : Execution) → IsCandidateExecution t x → slice_get (choices_of t) n ≡ Some (execution_choice x) → map run_path x.runs ≡ combination_at t c
+
+-- The events of a combination, in a block of so many bytes: first one event a byte, which makes it, and then accesses
+-- that lie in the block.
+pub record AreEventsIn (bytes : ℕ) (events : List Event) : Type 0 where
+  pub few : length events ≤ EVENT_LIMIT
+  pub few_reads : length (byte_reads events) ≤ BYTE_READ_LIMIT
+  pub made : bytes ≤ length events
+  pub making : (b : ℕ) → b < bytes → event_at events b ≡ init_event b
+  pub sized : (n : ℕ) → n < length events → ((event_at events n).size ≡ 1) ⊎ (((event_at events n).size ≡ 2) ⊎ ((event_at events n).size ≡ 4))
+  pub in_block : (n : ℕ) → n < length events → (event_at events n).first + (event_at events n).size ≤ bytes
+  pub payload : (n : ℕ) → n < length events → All (λ b. b < 256) (event_at events n).payload
+
+-- This is what the path of an agent in a combination tells.
+pub record TellsPath (t : Litmus) (c agent : ℕ) (told : Told) : Type 0 where
+  pub path : Path
+  pub listed : slice_get (combination_at t c) agent ≡ Some path
+  pub tells : TellsRuns agent (agent_of t agent).body path told
+
+-- exactly the candidates of a byte of a read, rising
+pub record ListsCandidates (events : List Event) (r b : ℕ) (candidates : List ℕ) : Type 0 where
+  pub only : (k w : ℕ) → slice_get candidates k ≡ Some w → IsCandidate events r b w
+  pub all : (w : ℕ) → IsCandidate events r b w → (k : ℕ) × (slice_get candidates k ≡ Some w)
+  pub rising : (i j v w : ℕ) → i < j → slice_get candidates i ≡ Some v → slice_get candidates j ≡ Some w → v < w

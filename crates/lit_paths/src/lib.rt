@@ -1,0 +1,37 @@
+//! The paths and choices of a litmus test, planned and counted.
+//!
+//! `plan` ensures that the choices below `total` are exactly the choices of the test, in their order: a path for each
+//! agent, and a source for each byte read. The definitions stand in `specs/`, from `Event` to `Execution`.
+#![tactic(auto)]
+
+mod accesses;
+mod agents;
+mod combining;
+mod counting;
+mod entered;
+mod event;
+mod laws;
+mod limits;
+mod making;
+mod names;
+mod planning;
+mod sources;
+#[cfg(test)]
+mod tests;
+mod walked;
+mod walking;
+
+pub use entered::Combination;
+pub use event::{Event, Events, Kind, Order3, Sources};
+pub use laws::{
+    candidate_executions_have_choices, choices_are_listed, combinations_are_listed,
+    values_have_one_choice,
+};
+pub use limits::{
+    ACCESS_LIMIT, BYTE_READ_LIMIT, CHOICE_LIMIT, COMBINATION_LIMIT, EVENT_LIMIT, NAME_LIMIT,
+};
+pub use making::plan;
+pub use names::Names;
+pub use planning::{Plan, PlanFault};
+pub use sources::{ByteRead, ByteReads, Candidates};
+pub use walked::{Path, Tested};

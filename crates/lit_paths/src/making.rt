@@ -1,0 +1,105 @@
+//! Makes the plan of a test. `planning` has the `Plan` and its calls.
+
+ghost use Rattle.std.specs.Prelude.{◌≡◌, ◌↔◌, ◌⊎◌, ◌<◌, ◌≤◌, length, min, IsTrue, IfOk, IfErr, OnOk, MatchOption};
+ghost use Rattle.lit_read.specs.Syntax.{IsLitmus};
+ghost use Rattle.lit_paths.specs.declared.limits.TheConstants.{ACCESS_LIMIT as ACCESSES, COMBINATION_LIMIT as COMBINATIONS, CHOICE_LIMIT as CHOICES};
+ghost use Rattle.lit_paths.specs.declared.planning.PlanFault.TheVariants.{OutOfMemory, TooManyChoices};
+ghost use Rattle.lit_paths.specs.Choice.{sources_of, combinations_of, choices_of};
+ghost use Rattle.lit_paths.specs.Plan.{events_in, HasFewEvents, IsPlanFault};
+ghost use Rattle.lit_paths.specs.Planning.Walks.{longest_of, count_of, many_walks};
+ghost use Rattle.lit_paths.specs.Planning.Combining.{IsWalked};
+ghost use Rattle.lit_paths.specs.Planning.Planned.{totals_below};
+
+use crate::agents::paths_of_agents;
+use crate::combining::events_of;
+use crate::counting::{longest_walk, walk_count};
+use crate::limits::{ACCESS_LIMIT, CHOICE_LIMIT, COMBINATION_LIMIT};
+use crate::names::written_names;
+use crate::planning::{Plan, PlanFault};
+use crate::sources::{byte_reads_of, count_sources};
+use crate::walked::Path;
+use lit_read::Test;
+use std::alloc::Global;
+
+/// Whether some combination of paths has too many access events.
+fn has_too_many_events(test: &Test) -> bool
+    ensures { IsTrue result ↔ (ACCESSES < longest_of test.now.agents) }
+{
+    let mut count = 0;
+    for agent in 0..test.agents() {
+        count = (count + longest_walk(test.body(agent))).min(ACCESS_LIMIT + 1);
+    }
+    count > ACCESS_LIMIT
+}
+
+/// How many combinations of paths there are, as far as one more than there may be.
+fn combination_count(test: &Test) -> usize
+    ensures value { result ≡ min (count_of test.now.agents) many_walks }
+    ensures litmus { IsLitmus test.now }
+{
+    let mut count = 1;
+    for agent in 0..test.agents() {
+        count = (count * walk_count(test.body(agent))).min(COMBINATION_LIMIT + 1);
+    }
+    count
+}
+
+/// How many choices a combination has, or `None` where these are more than there may be.
+fn choice_count(test: &Test, lists: &[Vec<Path>], combination: usize) -> Option<u64>
+    requires walked { IsWalked test.now lists.now }
+    requires known { combination < count_of test.now.agents }
+    ensures { MatchOption result (CHOICES < length (sources_of (events_in test.now combination)))
+        (λ count. (count ≡ length (sources_of (events_in test.now combination))) × (count ≤ CHOICES)) }
+{
+    let events = events_of(test, lists, combination);
+    let reads = byte_reads_of(events.as_slice());
+    count_sources(events.as_slice(), reads.as_slice())
+}
+
+/// How many choices the first combinations have, up to each.
+fn running_totals(alloc: Global, test: &Test, lists: &[Vec<Path>]) -> Result<Vec<u64>, PlanFault>
+    requires { IsWalked test.now lists.now }
+    ensures totals { IfOk result (λ totals. totals.items ≡ totals_below test.now (length (combinations_of test.now))) }
+    ensures few { OnOk result (length (choices_of test.now) ≤ CHOICES) }
+    ensures many { IfErr result (λ e. (e ≡ OutOfMemory) ⊎ ((e ≡ TooManyChoices) × (CHOICES < length (choices_of test.now)))) }
+{
+    let count = combination_count(test);
+    let mut totals = Vec::with_capacity(alloc, count)?;
+    let mut total = 0;
+    for combination in 0..count {
+        let Some(choices) = choice_count(test, lists, combination) else {
+            return Err(PlanFault::TooManyChoices);
+        };
+        total += choices;
+        if total > CHOICE_LIMIT {
+            return Err(PlanFault::TooManyChoices);
+        }
+        totals.push(total)?;
+    }
+    Ok(totals)
+}
+
+/// The plan of a test, or why it has none. `PlanFault::TooManyEvents` comes first: some combination of paths has more
+/// than `ACCESS_LIMIT` access events. `PlanFault::TooManyPaths` is next: there are more than `COMBINATION_LIMIT`
+/// combinations. Both are decided before anything grows. `PlanFault::TooManyChoices` is last: there are more than
+/// `CHOICE_LIMIT` choices. `PlanFault::OutOfMemory` may stand in place of an answer after the first two.
+pub fn plan<'t>(alloc: Global, test: &'t Test) -> Result<Plan<'t>, PlanFault>
+    ensures ok { IfOk result (λ p. p ≡ test.now) }
+    ensures few_events { OnOk result (HasFewEvents test.now) }
+    ensures few_paths { OnOk result (length (combinations_of test.now) ≤ COMBINATIONS) }
+    ensures few_choices { OnOk result (length (choices_of test.now) ≤ CHOICES) }
+    ensures refused { IfErr result (IsPlanFault test.now) }
+{
+    if has_too_many_events(test) {
+        return Err(PlanFault::TooManyEvents);
+    }
+    if combination_count(test) > COMBINATION_LIMIT {
+        return Err(PlanFault::TooManyPaths);
+    }
+    let lists = paths_of_agents(alloc, test)?;
+    let totals = match running_totals(alloc, test, lists.as_slice()) {
+        Ok(totals) => totals,
+        Err(fault) => return Err(fault),
+    };
+    Ok(Plan::new(test, lists, totals, written_names(test)))
+}

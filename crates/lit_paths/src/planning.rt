@@ -1,0 +1,254 @@
+//! The plan of a test: its choices by number, and what they are made of. `making` makes it.
+
+ghost use Rattle.std.specs.Prelude.{◌≡◌, ℕ, ◌+◌, ◌<◌, ◌≤◌, length, All, nat_le, slice_index};
+ghost use Rattle.std.specs.List.Sorted.{IsNonDecreasingBy};
+ghost use Rattle.lit_read.specs.declared.limits.TheConstants.{REGISTERS};
+ghost use Rattle.lit_paths.specs.Choice.{choices_of, combinations_of};
+ghost use Rattle.lit_paths.specs.declared.limits.TheConstants.{CHOICE_LIMIT, COMBINATION_LIMIT};
+ghost use Rattle.lit_paths.specs.Event.{event_at};
+ghost use Rattle.lit_paths.specs.Outcome.{names_of, meets as is_met};
+ghost use Rattle.lit_paths.specs.Plan.{events_in, choices_before, AreEventsIn, HasSources, IsOfCombination, ListsCandidates, TellsPath};
+ghost use Rattle.lit_paths.specs.Told.{told_of};
+
+use crate::combining::{events_of, path_in};
+use crate::entered::Combination;
+use crate::event::{Event, Events, Sources};
+use crate::names::{Names, holds};
+use crate::sources::{ByteRead, Candidates, candidates_of};
+use crate::walked::Path;
+use lit_read::Test;
+use std::alloc::{AllocError, AllocFailed};
+use std::marker::Model;
+use thiserror::Error;
+
+/// Why a test has no plan, in the order in which this is decided.
+#[derive(Clone, Copy, Debug, PartialEq, Eq, Error)]
+pub enum PlanFault {
+    /// Some combination of paths has more than `ACCESS_LIMIT` access events: 12.
+    #[error("14 too_many_events")]
+    TooManyEvents,
+    /// There are more than `COMBINATION_LIMIT` combinations of paths: 4,096.
+    #[error("13 too_many_paths")]
+    TooManyPaths,
+    /// There are more than `CHOICE_LIMIT` choices: 2^48.
+    #[error("15 too_many_choices")]
+    TooManyChoices,
+    /// A growth was refused.
+    #[error("out_of_memory")]
+    OutOfMemory,
+}
+
+impl From<AllocError> for PlanFault {
+    ghost use Rattle.std.specs.Prelude.{◌≡◌};
+    ghost use Rattle.lit_paths.specs.declared.planning.PlanFault.TheVariants.{OutOfMemory};
+
+    ghost from_gives = { λ _ e. e ≡ OutOfMemory };
+
+    fn from(_e: AllocError) -> PlanFault {
+        PlanFault::OutOfMemory
+    }
+}
+
+impl<T: Drop> From<AllocFailed<T>> for PlanFault {
+    ghost use Rattle.std.specs.Prelude.{◌≡◌};
+    ghost use Rattle.lit_paths.specs.declared.planning.PlanFault.TheVariants.{OutOfMemory};
+
+    ghost from_gives = { λ _ e. e ≡ OutOfMemory };
+
+    fn from(_e: AllocFailed<T>) -> PlanFault {
+        PlanFault::OutOfMemory
+    }
+}
+
+/// The choices of a test, by number, and what all of them share. A clause sees it as the test's value.
+#[derive(Drop)]
+pub struct Plan<'t> {
+    test: &'t Test,
+    lists: Vec<Vec<Path>>,
+    totals: Vec<u64>,
+    names: Names,
+}
+
+impl<'t> Model for Plan<'t> {
+    ghost use Rattle.lit_read.specs.Syntax.{Litmus};
+    ghost use Rattle.lit_read.specs.SyntaxCodes.{coded_litmus};
+    ghost use Rattle.lit_paths.specs.Planning.Planned.{IsPlanned};
+
+    ghost Value = { Litmus };
+
+    ghost coded = { coded_litmus };
+
+    ghost view = { λ p. p.test.now };
+
+    ghost invariant = { λ p. IsPlanned p.test.now p.lists.items p.totals.items p.names.items };
+}
+
+/// The event with a number.
+fn event_at(events: &[Event], number: usize) -> &Event
+    requires { number < length events.now }
+    ensures { result.now ≡ event_at events.now number }
+{
+    &events[number]
+}
+
+/// The number of the combination that a choice is of: the first one whose choices end behind it.
+fn combination_of(totals: &[u64], n: u64) -> usize
+    requires { IsNonDecreasingBy (λ x. x) totals.now }
+    ensures bound { result ≤ length totals.now }
+    ensures before { (c : ℕ) → c < result → slice_index totals.now c ≤ n }
+    ensures behind { (c : ℕ) → result ≤ c → c < length totals.now → n < slice_index totals.now c }
+{
+    totals.partition_point(
+        |end: &u64| -> bool
+            ensures { result ≡ nat_le end.now n }
+        { *end <= n },
+    )
+}
+
+impl<'t> Plan<'t> {
+    ghost use Rattle.lit_paths.specs.Planning.Planned.{IsPlanned};
+
+    /// The plan of a test, from what it keeps of it.
+    pub(crate) fn new(test: &'t Test, lists: Vec<Vec<Path>>, totals: Vec<u64>, names: Names) -> Self
+        requires { IsPlanned test.now lists.items totals.items names.items }
+        ensures { result ≡ test.now }
+    {
+        Plan {
+            test,
+            lists,
+            totals,
+            names,
+        }
+    }
+
+    /// The test.
+    pub fn test(&self) -> &'t Test
+        ensures { result.now ≡ self.now }
+    {
+        self.test
+    }
+
+    /// How many combinations of paths there are: 1 to `COMBINATION_LIMIT`.
+    pub fn combinations(&self) -> usize
+        ensures value { result ≡ length (combinations_of self.now) }
+        ensures some { 1 ≤ result }
+        ensures few { result ≤ COMBINATION_LIMIT }
+    {
+        self.totals.as_slice().len()
+    }
+
+    /// How many choices there are: 1 to `CHOICE_LIMIT`.
+    pub fn total(&self) -> u64
+        ensures value { result ≡ length (choices_of self.now) }
+        ensures some { 1 ≤ result }
+        ensures few { result ≤ CHOICE_LIMIT }
+    {
+        self.end_of(self.combinations() - 1)
+    }
+
+    /// How many choices there are up to the end of a combination.
+    fn end_of(&self, combination: usize) -> u64
+        requires { combination < length (combinations_of self.now) }
+        ensures value { result ≡ choices_before self.now (combination + 1) }
+        ensures some { 1 ≤ result }
+        ensures few { result ≤ CHOICE_LIMIT }
+    {
+        self.totals.as_slice()[combination]
+    }
+
+    /// How many choices the combinations before one have.
+    fn first_of(&self, combination: usize) -> u64
+        requires { combination < length (combinations_of self.now) }
+        ensures { result ≡ choices_before self.now combination }
+    {
+        if combination == 0 {
+            0
+        } else {
+            self.end_of(combination - 1)
+        }
+    }
+
+    /// The combination of paths of a choice, by the choice's number: below `total`.
+    pub fn combination(&self, n: u64) -> usize
+        requires { n < length (choices_of self.now) }
+        ensures value { IsOfCombination self.now n result }
+        ensures low { choices_before self.now result ≤ n }
+        ensures high { n < choices_before self.now (result + 1) }
+    {
+        combination_of(self.totals.as_slice(), n)
+    }
+
+    /// A combination of paths, by its number: below `combinations`.
+    pub fn enter(&self, combination: usize) -> Combination<'t>
+        requires { combination < length (combinations_of self.now) }
+        ensures { result ≡ (self.now, combination) }
+    {
+        let first = self.first_of(combination);
+        let total = self.end_of(combination) - first;
+        Combination::new(
+            self.test,
+            combination,
+            self.events(combination),
+            first,
+            total,
+        )
+    }
+
+    /// The sources of a choice, by its number: below `total`.
+    pub fn sources(&self, n: u64) -> Sources
+        requires { n < length (choices_of self.now) }
+        ensures { HasSources self.now n result.items }
+    {
+        self.enter(self.combination(n)).sources(n)
+    }
+
+    /// All events of a combination of paths, by its number: below `combinations`.
+    pub fn events(&self, combination: usize) -> Events
+        requires { combination < length (combinations_of self.now) }
+        ensures value { result.items ≡ events_in self.now combination }
+        ensures sound { AreEventsIn self.now.bytes result.items }
+    {
+        events_of(self.test, self.lists.as_slice(), combination)
+    }
+
+    /// The path of an agent in a combination. The combination is below `combinations`, the agent below the number of
+    /// agents.
+    pub fn path(&self, combination: usize, agent: usize) -> &Path
+        requires combination { combination < length (combinations_of self.now) }
+        requires agent { agent < length self.now.agents }
+        ensures { TellsPath self.now combination agent (told_of result.now) }
+    {
+        path_in(self.test, self.lists.as_slice(), combination, agent)
+    }
+
+    /// The candidates of a byte of a read, by rising event number. The combination is below `combinations`, `read` the
+    /// number of an event of it that reads, and `byte` below that event's size.
+    pub fn candidates(&self, combination: usize, read: u8, byte: u8) -> Candidates
+        requires combination { combination < length (combinations_of self.now) }
+        requires known { read < length (events_in self.now combination) }
+        requires byte { byte < (event_at (events_in self.now combination) read).size }
+        ensures { ListsCandidates (events_in self.now combination) read ((event_at (events_in self.now combination) read).first + byte) result.items }
+    {
+        let events = self.events(combination);
+        let events = events.as_slice();
+        let first = event_at(events, usize::from(read)).first;
+        let byte = first + byte;
+        candidates_of(events, ByteRead { read, byte })
+    }
+
+    /// The registers of an outcome, as agent and register: agents in order, registers rising.
+    pub fn names(&self) -> &[(u8, u8)]
+        ensures value { result.now ≡ names_of self.now }
+        ensures known { All (λ name. (name.0 < length self.now.agents) × (name.1 < REGISTERS)) result.now }
+    {
+        self.names.as_slice()
+    }
+
+    /// Whether an outcome, with as many values as `names`, meets the test's condition.
+    pub fn meets(&self, outcome: &[u32]) -> bool
+        requires { length outcome.now ≡ length (names_of self.now) }
+        ensures { result ≡ is_met self.now outcome.now }
+    {
+        holds(self.names.as_slice(), outcome, self.test.check())
+    }
+}
