@@ -69,39 +69,49 @@ tells t slots id v Unmet k small stands s h homes at below =
       (refl, refl),
     )
 
--- what a seat finds in its own lists, and what it then knows
-sees_none : (class : Class2) (v : Account) (w : ℕ) → number_in w ≡ None → MatchOption (number_in w) (((numbers_in class v).told ≡ []) × ((numbers_in class v).seen ≡ [])) (λ n. All (λ m. n ≤ m) (numbers_in class v).told × All (λ m. n ≤ m) (numbers_in class v).seen) → SeesIn class v w v
-sees_none class v w none own =
-    let here = subst (λ (o : Option ℕ). MatchOption o (((numbers_in class v).told ≡ []) × ((numbers_in class v).seen ≡ [])) (λ n. All (λ m. n ≤ m) (numbers_in class v).told × All (λ m. n ≤ m) (numbers_in class v).seen)) none own in
-    subst (λ (o : Option ℕ). MatchOption o ((v ≡ v) × ((numbers_in class v).told ≡ []) × ((numbers_in class v).seen ≡ [])) (λ n. (v ≡ saw class v n) × All (λ m. n ≤ m) (numbers_in class v).told × All (λ m. n ≤ m) (numbers_in class v).seen)) (sym none) (refl, here.0, here.1)
+-- what a word tells a seat of its own numbers in a class
+abbrev KnowsOwn : Class2 → Account → Option ℕ → Type 0
+KnowsOwn class v o = MatchOption o (((numbers_in class v).told ≡ []) × ((numbers_in class v).seen ≡ [])) (λ n. All (λ m. n ≤ m) (numbers_in class v).told × All (λ m. n ≤ m) (numbers_in class v).seen)
 
-sees_some : (class : Class2) (v : Account) (w : ℕ) → number_in w ≡ Some w → MatchOption (number_in w) (((numbers_in class v).told ≡ []) × ((numbers_in class v).seen ≡ [])) (λ n. All (λ m. n ≤ m) (numbers_in class v).told × All (λ m. n ≤ m) (numbers_in class v).seen) → SeesIn class v w (saw class v w)
-sees_some class v w told own =
-    let here = subst (λ (o : Option ℕ). MatchOption o (((numbers_in class v).told ≡ []) × ((numbers_in class v).seen ≡ [])) (λ n. All (λ m. n ≤ m) (numbers_in class v).told × All (λ m. n ≤ m) (numbers_in class v).seen)) told own in
-    subst (λ (o : Option ℕ). MatchOption o ((saw class v w ≡ v) × ((numbers_in class v).told ≡ []) × ((numbers_in class v).seen ≡ [])) (λ n. (saw class v w ≡ saw class v n) × All (λ m. n ≤ m) (numbers_in class v).told × All (λ m. n ≤ m) (numbers_in class v).seen)) (sym told) (refl, here.0, here.1)
+sees_none : (class : Class2) (v : Account) (o : Option ℕ) → o ≡ None → KnowsOwn class v o → MatchOption o ((v ≡ v) × ((numbers_in class v).told ≡ []) × ((numbers_in class v).seen ≡ [])) (λ n. (v ≡ saw class v n) × All (λ m. n ≤ m) (numbers_in class v).told × All (λ m. n ≤ m) (numbers_in class v).seen)
+sees_none class v None none own = (refl, own.0, own.1)
+sees_none class v (Some n) none own = absurd (cc)
+
+sees_some : (class : Class2) (v : Account) (w : ℕ) (o : Option ℕ) → o ≡ Some w → KnowsOwn class v o → MatchOption o ((saw class v w ≡ v) × ((numbers_in class v).told ≡ []) × ((numbers_in class v).seen ≡ [])) (λ n. (saw class v w ≡ saw class v n) × All (λ m. n ≤ m) (numbers_in class v).told × All (λ m. n ≤ m) (numbers_in class v).seen)
+sees_some class v w None told own = absurd (cc)
+sees_some class v w (Some n) told own = let same : w ≡ n = cc in (ap (λ k. saw class v k) same, own.0, own.1)
+
+-- a look that finds w, where the rule holds with the same account and, if w is a number, with it seen
+looks_at : (t : Terms) (words : List ℕ) (views : List Account) (id found w : ℕ) (v : Account) (class : Class2) → found ≡ w → KnowsOwn class v (number_in w)
+    → IsFair t words (set views id v) → (number_in w ≡ Some w → IsFair t words (set views id (saw class v w)))
+    → (x : Account) × IsFair t words (set views id x) × SeesIn class v found x
+looks_at t words views id found w v class is own same seen = ⊎_elim
+    (λ (c : (w ≡ NONE_TOLD) × (number_in w ≡ None)). (v, same, subst (λ k. SeesIn class v k v) (sym is) (sees_none class v (number_in w) c.1 own)))
+    (λ (c : number_in w ≡ Some w). (saw class v w, seen c, subst (λ k. SeesIn class v k (saw class v w)) (sym is) (sees_some class v w (number_in w) c own)))
+    (number_cases w)
 
 pub looks : (t : Terms) (slots id : ℕ) (v : Account) (class : Class2) → 0 < v.places
     → Allows (Holds t) slots id (v, []) (word_of class) (λ n. n) (λ found now. Sees (word_of class) v found now.0 × (now.1 ≡ []))
 looks t slots id v Met stands s h homes at below =
     let (n, m, u, is, fair) = h in
+    let rest = without s.views id in
     let front = fair_front t n m u s.views id v at fair in
-    let own = kept_own m v.met.told (all_told_in Met (without s.views id)) v.met.seen (all_seen_in Met (without s.views id)) front.met_kept in
-    let found : slice_index s.words MET_WORD ≡ m = ap (λ ws. slice_index ws MET_WORD) is in
     let words : set s.words MET_WORD (slice_index s.words MET_WORD) ≡ n ∷ m ∷ u ∷ [] = ap (λ ws. set ws MET_WORD (slice_index ws MET_WORD)) is in
-    ⊎_elim
-    (λ (c : (m ≡ NONE_TOLD) × (number_in m ≡ None)). (v, keeps, tt, (n, m, u, words, fair_set t n m u s.views id v v at front), (subst (λ k. SeesIn Met v k v) (sym found) (sees_none Met v m c.1 own), refl)))
-    (λ (c : number_in m ≡ Some m). (saw Met v m, keeps, tt, (n, m, u, words, fair_set t n m u s.views id v (saw Met v m) at (fair_saw_met t n m u v (without s.views id) c stands front)), (subst (λ k. SeesIn Met v k (saw Met v m)) (sym found) (sees_some Met v m c own), refl)))
-    (number_cases m)
+    let own = kept_own m v.met.told (all_told_in Met rest) v.met.seen (all_seen_in Met rest) front.met_kept in
+    let (x, keeps_rule, learned) =
+    looks_at t (set s.words MET_WORD (slice_index s.words MET_WORD)) s.views id (slice_index s.words MET_WORD) m v Met (ap (λ ws. slice_index ws MET_WORD) is) own (n, m, u, words, fair_set t n m u s.views id v v at front)
+    (λ told. (n, m, u, words, fair_set t n m u s.views id v (saw Met v m) at (fair_saw_met t n m u v rest told stands front))) in
+    (x, keeps, tt, keeps_rule, (learned, refl))
 looks t slots id v Unmet stands s h homes at below =
     let (n, m, u, is, fair) = h in
+    let rest = without s.views id in
     let front = fair_front t n m u s.views id v at fair in
-    let own = kept_own u v.unmet.told (all_told_in Unmet (without s.views id)) v.unmet.seen (all_seen_in Unmet (without s.views id)) front.unmet_kept in
-    let found : slice_index s.words UNMET_WORD ≡ u = ap (λ ws. slice_index ws UNMET_WORD) is in
     let words : set s.words UNMET_WORD (slice_index s.words UNMET_WORD) ≡ n ∷ m ∷ u ∷ [] = ap (λ ws. set ws UNMET_WORD (slice_index ws UNMET_WORD)) is in
-    ⊎_elim
-    (λ (c : (u ≡ NONE_TOLD) × (number_in u ≡ None)). (v, keeps, tt, (n, m, u, words, fair_set t n m u s.views id v v at front), (subst (λ k. SeesIn Unmet v k v) (sym found) (sees_none Unmet v u c.1 own), refl)))
-    (λ (c : number_in u ≡ Some u). (saw Unmet v u, keeps, tt, (n, m, u, words, fair_set t n m u s.views id v (saw Unmet v u) at (fair_saw_unmet t n m u v (without s.views id) c stands front)), (subst (λ k. SeesIn Unmet v k (saw Unmet v u)) (sym found) (sees_some Unmet v u c own), refl)))
-    (number_cases u)
+    let own = kept_own u v.unmet.told (all_told_in Unmet rest) v.unmet.seen (all_seen_in Unmet rest) front.unmet_kept in
+    let (x, keeps_rule, learned) =
+    looks_at t (set s.words UNMET_WORD (slice_index s.words UNMET_WORD)) s.views id (slice_index s.words UNMET_WORD) u v Unmet (ap (λ ws. slice_index ws UNMET_WORD) is) own (n, m, u, words, fair_set t n m u s.views id v v at front)
+    (λ told. (n, m, u, words, fair_set t n m u s.views id v (saw Unmet v u) at (fair_saw_unmet t n m u v rest told stands front))) in
+    (x, keeps, tt, keeps_rule, (learned, refl))
 
 pub leaves : (t : Terms) (id k : ℕ) → Splits (Holds t) id (new_account (suc k)) (new_account k) (new_account 1)
 leaves t id k s h at =
