@@ -1,82 +1,111 @@
 -- The forms that a draft holds, and which form can follow them.
-use Rattle.std.proofs.Common.{◌≡◌, ℕ, suc, ◌≤◌, Bool, true, false, not, eqb, ◌||◌, List, [], ◌∷◌, ◌++◌, length, refl, ap, sym, subst, ◌∙◌, arith, append_assoc}
-use Rattle.std.specs.List.{list_any, flat_map}
+use Rattle.std.proofs.Common.{◌≡◌, ℕ, suc, ◌+◌, ◌≤◌, Bool, true, false, not, cond, eqb, ◌||◌, ◌&&◌, List, [], ◌∷◌, ◌++◌, length, map, Option, Some, None, is_some, refl, ap, sym, subst, ◌∙◌, arith, append_assoc}
+use Rattle.std.specs.Prelude.{fold}
+use Rattle.std.specs.List.{list_any, list_all}
+use Rattle.std.specs.Str.{bytes_eq}
 use Rattle.std.proofs.lemmas.Bool.{eqb-true}
-use Rattle.lit_read.specs.Syntax.{Statement, Statements, End, Then, Agent, Litmus}
-use Rattle.lit_read.specs.Forms.{Comparison, Form, Blank, TestLine, BytesLine, AgentLine, StatementLine, CheckLine}
-use Rattle.lit_read.specs.Faults.{is_block_line, is_agent_line, is_check_line, ends_in_test, block_of, body_of, agents_of, is_misplaced}
-use Rattle.lit_read.specs.Spelling.{statement_lines, agent_lines, condition_from, forms_of}
-use Rattle.lit_read.specs.State.{State, Empty, Named, Sized, Open, Whole, followed_by, with_agent, IsUnfinished}
+use Rattle.lit_read.specs.Syntax.{Statement, Statements, End, Then, Agent, Litmus, writes}
+use Rattle.lit_read.specs.Written.{Written}
+use Rattle.lit_read.specs.Forms.{Form, Blank, TestLine, BytesLine, AgentLine, StatementLine, IfLine, ElseLine, EndLine, CheckLine}
+use Rattle.lit_read.specs.Structure.{AreStatements, AreAgents}
+use Rattle.lit_read.specs.Faults.{is_block_line, is_agent_line, is_check_line, is_begun, ends_in_test, open_behind, open_ifs, is_in_then, is_empty, block_of, names_of, line_writes, lines_write, agent_writes, is_misplaced}
+use Rattle.lit_read.specs.Spelling.{AreFormsOf}
+use Rattle.lit_read.specs.Reading.State.{State, Empty, Named, Sized, Open, Whole, Level, with_agent, body_named, IsUnfinished}
+use Rattle.lit_read.proofs.SpellLemmas.{fold-append, any_joined, all_joined, is_body_line, are_body_lines, statements_body, statements_open, any_writes, statements_wrote}
 
 -- ---- the forms of a draft
 
--- the forms of a test before its check line
-abbrev pub opening : List ℕ → ℕ → List Agent → List Form
-opening name bytes agents = TestLine name ∷ BytesLine bytes ∷ flat_map agent_lines agents
+-- the lines of the open part of an `if`, and of the part before it
+abbrev pub AreParts : List Form → Option Statements → Statements → Type 0
+AreParts inner None body = AreStatements inner body
+AreParts inner (Some part) body = (thens elses : List Form) × (inner ≡ thens ++ ElseLine ∷ elses) × AreStatements thens part × AreStatements elses body
+
+-- the lines of an agent that more statements may follow
+abbrev pub AreOpen : List Form → List Level → Statements → Type 0
+AreOpen own [] body = AreStatements own body
+AreOpen own (l ∷ levels) body = (outer inner : List Form) × (own ≡ outer ++ IfLine l.reg l.equal l.value ∷ inner) × AreOpen outer levels l.before × AreParts inner l.then_part body
+
+abbrev pub opening : List ℕ → ℕ → List Form → List ℕ → List Form → List Form
+opening name bytes front agent own = TestLine name ∷ BytesLine bytes ∷ (front ++ AgentLine agent ∷ own)
 
 -- the forms so far, none of them blank, are those of the draft
 abbrev pub Holds : List Form → State → Type 0
 Holds given Empty = given ≡ []
 Holds given (Named name) = given ≡ TestLine name ∷ []
 Holds given (Sized name bytes) = given ≡ TestLine name ∷ BytesLine bytes ∷ []
-Holds given (Open name bytes agents agent body) = given ≡ opening name bytes (with_agent agents agent body)
-Holds given (Whole t) = (cs : List Comparison) × (given ≡ forms_of t cs) × (t.check ≡ condition_from t.agents cs)
+Holds given (Open name bytes agents agent levels body) = (front own : List Form) × (given ≡ opening name bytes front agent own) × AreAgents front agents × AreOpen own levels body
+Holds given (Whole t) = AreFormsOf given t
 
--- ---- lists of forms
+-- ---- what they say
 
-any_joined : {A : Type 0} (p : A → Bool) (xs ys : List A) → list_any p (xs ++ ys) ≡ (list_any p xs || list_any p ys)
-any_joined p [] ys = refl
-any_joined p (x ∷ xs) ys = elim (p x) as (λ b. (b || list_any p (xs ++ ys)) ≡ ((b || list_any p xs) || list_any p ys)) [ true ↦ refl | false ↦ any_joined p xs ys ]
+parts_body : (inner : List Form) (part : Option Statements) (body : Statements) → AreParts inner part body → are_body_lines inner ≡ true
+parts_body inner None body h = statements_body inner body h
+parts_body inner (Some part) body h = ap are_body_lines h.2 ∙ all_joined is_body_line h.0 (ElseLine ∷ h.1) (statements_body h.0 part h.3) (statements_body h.1 body h.4)
 
-pub lines_joined : (xs ys : List Agent) → flat_map agent_lines (xs ++ ys) ≡ flat_map agent_lines xs ++ flat_map agent_lines ys
-lines_joined [] ys = refl
-lines_joined (x ∷ xs) ys = ap (λ (l : List Form). agent_lines x ++ l) (lines_joined xs ys) ∙ sym (append_assoc (agent_lines x) (flat_map agent_lines xs) (flat_map agent_lines ys))
+pub open_body : (own : List Form) (levels : List Level) (body : Statements) → AreOpen own levels body → are_body_lines own ≡ true
+open_body own [] body h = statements_body own body h
+open_body own (l ∷ levels) body h = ap are_body_lines h.2 ∙ all_joined is_body_line h.0 (IfLine l.reg l.equal l.value ∷ h.1) (open_body h.0 levels l.before h.3) (parts_body h.1 l.then_part body h.4)
 
-pub lines_followed : (body : Statements) (s : Statement) → statement_lines (followed_by body s) ≡ statement_lines body ++ StatementLine s ∷ []
-lines_followed End s = refl
-lines_followed (Then t ts) s = ap (λ (l : List Form). StatementLine t ∷ l) (lines_followed ts s)
+abbrev pub flags : List Level → List Bool
+flags levels = map (λ l. is_some l.then_part) levels
 
-no_nil : (xs : List Form) → xs ++ [] ≡ xs
-no_nil [] = refl
-no_nil (x ∷ xs) = ap (λ (l : List Form). x ∷ l) (no_nil xs)
+parts_open : (inner : List Form) (part : Option Statements) (body : Statements) (o : List Bool) → AreParts inner part body → fold open_behind (false ∷ o) inner ≡ is_some part ∷ o
+parts_open inner None body o h = statements_open inner body (false ∷ o) h
+parts_open inner (Some part) body o h =
+    ap (fold open_behind (false ∷ o)) h.2 ∙ fold-append open_behind (false ∷ o) h.0 (ElseLine ∷ h.1) ∙ ap (λ (p : List Bool). fold open_behind p (ElseLine ∷ h.1)) (statements_open h.0 part (false ∷ o) h.3) ∙ statements_open h.1 body (true ∷ o) h.4
 
-pub one_agent : (a : Agent) → flat_map agent_lines (a ∷ []) ≡ agent_lines a
-one_agent a = no_nil (agent_lines a)
+open_flags : (own : List Form) (levels : List Level) (body : Statements) → AreOpen own levels body → fold open_behind [] own ≡ flags levels
+open_flags own [] body h = statements_open own body [] h
+open_flags own (l ∷ levels) body h =
+    ap (fold open_behind []) h.2 ∙ fold-append open_behind [] h.0 (IfLine l.reg l.equal l.value ∷ h.1) ∙ ap (λ (p : List Bool). fold open_behind p (IfLine l.reg l.equal l.value ∷ h.1)) (open_flags h.0 levels l.before h.3)
+    ∙ parts_open h.1 l.then_part body (flags levels) h.4
 
-body_back : (body : Statements) (rest : List Form) → body_of rest ≡ End → body_of (statement_lines body ++ rest) ≡ body
-body_back End rest e = e
-body_back (Then s ss) rest e = ap (λ (x : Statements). Then s x) (body_back ss rest e)
+agents_open : (front : List Form) (agents : List Agent) (o : List Bool) → AreAgents front agents → fold open_behind o front ≡ o
+agents_open front [] o h = ap (fold open_behind o) h
+agents_open front (a ∷ others) o h = ap (fold open_behind o) h.2 ∙ fold-append open_behind o h.0 h.1 ∙ ap (λ (p : List Bool). fold open_behind p h.1) (statements_open h.0 a.body o h.3) ∙ agents_open h.1 others o h.4
 
-agents_skip : (body : Statements) (rest : List Form) → agents_of (statement_lines body ++ rest) ≡ agents_of rest
-agents_skip End rest = refl
-agents_skip (Then s ss) rest = agents_skip ss rest
+-- lines of which none is of a kind
+abbrev IsOther : (Form → Bool) → Type 0
+IsOther p = (f : Form) → is_body_line f ≡ true → p f ≡ false
 
--- what stands behind an agent's statements
-ends_body : (agents : List Agent) (rest : List Form) → body_of rest ≡ End → body_of (flat_map agent_lines agents ++ rest) ≡ End
-ends_body [] rest e = e
-ends_body (a ∷ others) rest e = refl
+any_body : (p : Form → Bool) (fs : List Form) → IsOther p → are_body_lines fs ≡ true → list_any p fs ≡ false
+any_body p [] other h = refl
+any_body p (f ∷ fs) other h = by (is_body_line f) refl h (any_body p fs other)
+  where
+    by : (b : Bool) → is_body_line f ≡ b → (b && are_body_lines fs) ≡ true → (are_body_lines fs ≡ true → list_any p fs ≡ false) → (p f || list_any p fs) ≡ false
+    by true e g rest = rw (other f e) (rest g)
+    by false e g rest = absurd cc
 
-pub agents_back : (agents : List Agent) (rest : List Form) → body_of rest ≡ End → agents_of rest ≡ [] → agents_of (flat_map agent_lines agents ++ rest) ≡ agents
-agents_back [] rest ends none = none
-agents_back (a ∷ others) rest ends none =
-    let tail = flat_map agent_lines others ++ rest in
-    let split : flat_map agent_lines (a ∷ others) ++ rest ≡ AgentLine a.name ∷ (statement_lines a.body ++ tail) = append_assoc (agent_lines a) (flat_map agent_lines others) rest in
-    let body : body_of (statement_lines a.body ++ tail) ≡ a.body = body_back a.body tail (ends_body others rest ends) in
-    let more : agents_of (statement_lines a.body ++ tail) ≡ others = agents_skip a.body tail ∙ agents_back others rest ends none in
-    ap agents_of split ∙ ap (λ (b : Statements). record { name = a.name; body = b } ∷ agents_of (statement_lines a.body ++ tail)) body ∙ ap (λ (l : List Agent). a ∷ l) more
-
--- no statement or agent line is one of these
-any_in_body : (p : Form → Bool) (body : Statements) → ((s : Statement) → p (StatementLine s) ≡ false) → list_any p (statement_lines body) ≡ false
-any_in_body p End h = refl
-any_in_body p (Then s ss) h = rw (h s) (any_in_body p ss h)
-
-any_in_agents : (p : Form → Bool) (agents : List Agent) → ((n : List ℕ) → p (AgentLine n) ≡ false) → ((s : Statement) → p (StatementLine s) ≡ false) → list_any p (flat_map agent_lines agents) ≡ false
-any_in_agents p [] h g = refl
-any_in_agents p (a ∷ others) h g = rw (any_joined p (agent_lines a) (flat_map agent_lines others), h a.name, any_in_body p a.body g) (any_in_agents p others h g)
+any_agents : (p : Form → Bool) (front : List Form) (agents : List Agent) → IsOther p → ((n : List ℕ) → p (AgentLine n) ≡ false) → AreAgents front agents → list_any p front ≡ false
+any_agents p front [] other named h = ap (list_any p) h
+any_agents p front (a ∷ others) other named h =
+    ap (list_any p) h.2 ∙ ap (λ (b : Bool). b || list_any p (h.0 ++ h.1)) (named a.name) ∙ any_joined p h.0 h.1 ∙ ap (λ (b : Bool). b || list_any p h.1) (any_body p h.0 other (statements_body h.0 a.body h.3)) ∙ any_agents p h.1 others other named h.4
 
 abbrev is_test_line : Form → Bool
 is_test_line (TestLine n) = true
 is_test_line _ = false
+
+other_check : IsOther is_check_line
+other_check (StatementLine s) e = refl
+other_check (IfLine r q v) e = refl
+other_check ElseLine e = refl
+other_check EndLine e = refl
+other_check Blank e = refl
+other_check (TestLine n) e = refl
+other_check (BytesLine b) e = refl
+other_check (AgentLine n) e = refl
+other_check (CheckLine w) e = absurd cc
+
+other_test : IsOther is_test_line
+other_test (StatementLine s) e = refl
+other_test (IfLine r q v) e = refl
+other_test ElseLine e = refl
+other_test EndLine e = refl
+other_test Blank e = refl
+other_test (TestLine n) e = absurd cc
+other_test (BytesLine b) e = refl
+other_test (AgentLine n) e = refl
+other_test (CheckLine w) e = refl
 
 lone_end : (f : Form) → ends_in_test (f ∷ []) ≡ is_test_line f
 lone_end Blank = refl
@@ -84,7 +113,10 @@ lone_end (TestLine n) = refl
 lone_end (BytesLine b) = refl
 lone_end (AgentLine n) = refl
 lone_end (StatementLine s) = refl
-lone_end (CheckLine cs) = refl
+lone_end (IfLine r q v) = refl
+lone_end ElseLine = refl
+lone_end EndLine = refl
+lone_end (CheckLine w) = refl
 
 or_false : (x y : Bool) → (x || y) ≡ false → (x ≡ false) × (y ≡ false)
 or_false true y e = absurd cc
@@ -95,66 +127,159 @@ no_end f [] none some = absurd (omega arith)
 no_end f (g ∷ []) none some = lone_end g ∙ (or_false (is_test_line g) false none).0
 no_end f (g ∷ h ∷ fs) none some = no_end g (h ∷ fs) (or_false (is_test_line g) (list_any is_test_line (h ∷ fs)) none).1 (omega arith)
 
+abbrev pub names : List Agent → List (List ℕ)
+names agents = map (λ a. a.name) agents
+
+names_skip : (fs rest : List Form) → are_body_lines fs ≡ true → names_of (fs ++ rest) ≡ names_of rest
+names_skip [] rest h = refl
+names_skip (StatementLine s ∷ fs) rest h = names_skip fs rest h
+names_skip (IfLine r q v ∷ fs) rest h = names_skip fs rest h
+names_skip (ElseLine ∷ fs) rest h = names_skip fs rest h
+names_skip (EndLine ∷ fs) rest h = names_skip fs rest h
+names_skip (Blank ∷ fs) rest h = absurd cc
+names_skip (TestLine n ∷ fs) rest h = absurd cc
+names_skip (BytesLine b ∷ fs) rest h = absurd cc
+names_skip (AgentLine n ∷ fs) rest h = absurd cc
+names_skip (CheckLine w ∷ fs) rest h = absurd cc
+
+agents_names : (front rest : List Form) (agents : List Agent) → AreAgents front agents → names_of (front ++ rest) ≡ names agents ++ names_of rest
+agents_names front rest [] h = ap (λ (l : List Form). names_of (l ++ rest)) h
+agents_names front rest (a ∷ others) h =
+    ap (λ (l : List Form). names_of (l ++ rest)) h.2 ∙ ap (λ (l : List Form). a.name ∷ names_of l) (append_assoc h.0 h.1 rest)
+    ∙ ap (λ (l : List (List ℕ)). a.name ∷ l) (names_skip h.0 (h.1 ++ rest) (statements_body h.0 a.body h.3) ∙ agents_names h.1 rest others h.4)
+
+no_nil : {A : Type 0} (l : List A) → l ++ [] ≡ l
+no_nil [] = refl
+no_nil (x ∷ l) = ap (λ m. x ∷ m) (no_nil l)
+
+names_last : (agents : List Agent) (agent : List ℕ) (body : Statements) → names (with_agent agents agent body) ≡ names agents ++ agent ∷ []
+names_last [] agent body = refl
+names_last (a ∷ others) agent body = ap (λ (l : List (List ℕ)). a.name ∷ l) (names_last others agent body)
+
+pub any_named : (name : List ℕ) (agents : List Agent) → list_any (λ n. bytes_eq name n) (names agents) ≡ list_any (λ a. bytes_eq name a.name) agents
+any_named name [] = refl
+any_named name (a ∷ others) = ap (λ (b : Bool). bytes_eq name a.name || b) (any_named name others)
+
+-- ---- what agents write
+
+writes_skip : (name : List ℕ) (reg : ℕ) (fs rest : List Form) → are_body_lines fs ≡ true → agent_writes name reg (fs ++ rest) ≡ agent_writes name reg rest
+writes_skip name reg [] rest h = refl
+writes_skip name reg (StatementLine s ∷ fs) rest h = writes_skip name reg fs rest h
+writes_skip name reg (IfLine r q v ∷ fs) rest h = writes_skip name reg fs rest h
+writes_skip name reg (ElseLine ∷ fs) rest h = writes_skip name reg fs rest h
+writes_skip name reg (EndLine ∷ fs) rest h = writes_skip name reg fs rest h
+writes_skip name reg (Blank ∷ fs) rest h = absurd cc
+writes_skip name reg (TestLine n ∷ fs) rest h = absurd cc
+writes_skip name reg (BytesLine b ∷ fs) rest h = absurd cc
+writes_skip name reg (AgentLine n ∷ fs) rest h = absurd cc
+writes_skip name reg (CheckLine w ∷ fs) rest h = absurd cc
+
+or_assoc : (x y z : Bool) → (x || (y || z)) ≡ ((x || y) || z)
+or_assoc true y z = refl
+or_assoc false y z = refl
+
+own_lines : (reg : ℕ) (fs rest : List Form) → are_body_lines fs ≡ true → lines_write reg (fs ++ rest) ≡ (any_writes reg fs || lines_write reg rest)
+own_lines reg [] rest h = refl
+own_lines reg (StatementLine s ∷ fs) rest h = ap (λ (b : Bool). line_writes reg (StatementLine s) || b) (own_lines reg fs rest h) ∙ or_assoc (line_writes reg (StatementLine s)) (any_writes reg fs) (lines_write reg rest)
+own_lines reg (IfLine r q v ∷ fs) rest h = own_lines reg fs rest h
+own_lines reg (ElseLine ∷ fs) rest h = own_lines reg fs rest h
+own_lines reg (EndLine ∷ fs) rest h = own_lines reg fs rest h
+own_lines reg (Blank ∷ fs) rest h = absurd cc
+own_lines reg (TestLine n ∷ fs) rest h = absurd cc
+own_lines reg (BytesLine b ∷ fs) rest h = absurd cc
+own_lines reg (AgentLine n ∷ fs) rest h = absurd cc
+own_lines reg (CheckLine w ∷ fs) rest h = absurd cc
+
+no_own : (reg : ℕ) (fs : List Form) (agents : List Agent) → AreAgents fs agents → lines_write reg fs ≡ false
+no_own reg fs [] h = ap (lines_write reg) h
+no_own reg fs (a ∷ others) h = ap (lines_write reg) h.2
+
+or_nothing : (x : Bool) → (x || false) ≡ x
+or_nothing true = refl
+or_nothing false = refl
+
+pub agents_wrote : (name : List ℕ) (reg : ℕ) (fs : List Form) (agents : List Agent) → AreAgents fs agents → agent_writes name reg fs ≡ writes (body_named name agents) reg
+agents_wrote name reg fs [] h = ap (agent_writes name reg) h
+agents_wrote name reg fs (a ∷ others) h = ap (agent_writes name reg) h.2 ∙ by (bytes_eq name a.name) (agents_wrote name reg h.1 others h.4)
+  where
+    here : lines_write reg (h.0 ++ h.1) ≡ writes a.body reg
+    here = own_lines reg h.0 h.1 (statements_body h.0 a.body h.3) ∙ ap (λ (b : Bool). any_writes reg h.0 || b) (no_own reg h.1 others h.4) ∙ or_nothing (any_writes reg h.0) ∙ statements_wrote h.0 a.body reg h.3
+
+    by : (b : Bool) → agent_writes name reg h.1 ≡ writes (body_named name others) reg → cond b (lines_write reg (h.0 ++ h.1)) (agent_writes name reg (h.0 ++ h.1)) ≡ writes (cond b a.body (body_named name others)) reg
+    by true g = here
+    by false g = writes_skip name reg h.0 h.1 (statements_body h.0 a.body h.3) ∙ g
+
+pub agents_added : (front own : List Form) (agents : List Agent) (agent : List ℕ) (body : Statements) → AreAgents front agents → AreStatements own body → AreAgents (front ++ AgentLine agent ∷ own) (with_agent agents agent body)
+agents_added front own [] agent body a b = (own, [], ap (λ (l : List Form). l ++ AgentLine agent ∷ own) a ∙ ap (λ (l : List Form). AgentLine agent ∷ l) (sym (no_nil own)), b, refl)
+agents_added front own (c ∷ others) agent body a b =
+    (a.0, a.1 ++ AgentLine agent ∷ own, ap (λ (l : List Form). l ++ AgentLine agent ∷ own) a.2 ∙ ap (λ (l : List Form). AgentLine c.name ∷ l) (append_assoc a.0 a.1 (AgentLine agent ∷ own)), a.3, agents_added a.1 own others agent body a.4 b)
+
 -- ---- what each draft says of its forms
 
-pub record Opened (given : List Form) (bytes : ℕ) (agents : List Agent) : Type 0 where
+pub record Opened (given : List Form) (bytes : ℕ) (agents : List Agent) (agent : List ℕ) (levels : List Level) : Type 0 where
   pub block : block_of given ≡ bytes
-  pub agents_are : agents_of given ≡ agents
+  pub named : names_of given ≡ names agents ++ agent ∷ []
   pub sized : list_any is_block_line given ≡ true
-  pub begun : list_any is_agent_line given ≡ true
+  pub begun : is_begun given ≡ true
   pub unchecked : list_any is_check_line given ≡ false
   pub ends : ends_in_test given ≡ false
+  pub opens : open_ifs given ≡ flags levels
 
-begun_agents : (agents : List Agent) → 1 ≤ length agents → list_any is_agent_line (flat_map agent_lines agents) ≡ true
-begun_agents [] h = absurd (omega arith)
-begun_agents (a ∷ others) h = refl
+some_length : (front own : List Form) (f : Form) → 1 ≤ length (front ++ f ∷ own)
+some_length [] own f = omega arith
+some_length (x ∷ front) own f = omega arith
 
-agents_alone : (agents : List Agent) → agents_of (flat_map agent_lines agents) ≡ agents
-agents_alone agents = ap agents_of (sym (no_nil (flat_map agent_lines agents))) ∙ agents_back agents [] refl refl
+or_true : (x : Bool) → (x || true) ≡ true
+or_true true = refl
+or_true false = refl
 
-opened_is : (name : List ℕ) (bytes : ℕ) (agents : List Agent) → 1 ≤ length agents → Opened (opening name bytes agents) bytes agents
-opened_is name bytes agents some = record {
+no_check : (front own : List Form) (agents : List Agent) (agent : List ℕ) (levels : List Level) (body : Statements) → AreAgents front agents → AreOpen own levels body → list_any is_check_line (front ++ AgentLine agent ∷ own) ≡ false
+no_check front own agents agent levels body a b =
+    any_joined is_check_line front (AgentLine agent ∷ own) ∙ ap (λ (x : Bool). x || list_any is_check_line own) (any_agents is_check_line front agents other_check (λ n. refl) a) ∙ any_body is_check_line own other_check (open_body own levels body b)
+
+opened_is : (name : List ℕ) (bytes : ℕ) (front own : List Form) (agents : List Agent) (agent : List ℕ) (levels : List Level) (body : Statements) → AreAgents front agents → AreOpen own levels body
+    → Opened (opening name bytes front agent own) bytes agents agent levels
+opened_is name bytes front own agents agent levels body a b = record {
   block = refl;
-  agents_are = agents_alone agents;
+  named = agents_names front (AgentLine agent ∷ own) agents a ∙ ap (λ (l : List (List ℕ)). names agents ++ agent ∷ l) (ap names_of (sym (no_nil own)) ∙ names_skip own [] (open_body own levels body b));
   sized = refl;
-  begun = begun_agents agents some;
-  unchecked = any_in_agents is_check_line agents (λ _. refl) (λ _. refl);
-  ends = no_end (TestLine name) (BytesLine bytes ∷ flat_map agent_lines agents) (any_in_agents is_test_line agents (λ _. refl) (λ _. refl)) (omega arith);
+  begun = ap (λ (x : Bool). x && not (list_any is_check_line (front ++ AgentLine agent ∷ own))) (any_joined is_agent_line front (AgentLine agent ∷ own) ∙ or_true (list_any is_agent_line front)) ∙ ap not (no_check front own agents agent levels body a b);
+  unchecked = no_check front own agents agent levels body a b;
+  ends = no_end (TestLine name) (BytesLine bytes ∷ (front ++ AgentLine agent ∷ own))
+      (any_joined is_test_line front (AgentLine agent ∷ own) ∙ ap (λ (x : Bool). x || list_any is_test_line own) (any_agents is_test_line front agents other_test (λ n. refl) a) ∙ any_body is_test_line own other_test (open_body own levels body b)) (omega arith);
+  opens = fold-append open_behind [] front (AgentLine agent ∷ own) ∙ ap (λ (p : List Bool). fold open_behind p own) (agents_open front agents [] a) ∙ open_flags own levels body b;
 }
 
-some_agent : (agents : List Agent) (agent : List ℕ) (body : Statements) → 1 ≤ length (with_agent agents agent body)
-some_agent [] agent body = omega arith
-some_agent (a ∷ others) agent body = omega arith
+pub opened : (given : List Form) (name : List ℕ) (bytes : ℕ) (agents : List Agent) (agent : List ℕ) (levels : List Level) (body : Statements) → Holds given (Open name bytes agents agent levels body) → Opened given bytes agents agent levels
+opened given name bytes agents agent levels body h = subst (λ (l : List Form). Opened l bytes agents agent levels) (sym h.2) (opened_is name bytes h.0 h.1 agents agent levels body h.3 h.4)
 
-pub opened : (given : List Form) (name : List ℕ) (bytes : ℕ) (agents : List Agent) (agent : List ℕ) (body : Statements) → given ≡ opening name bytes (with_agent agents agent body) → Opened given bytes (with_agent agents agent body)
-opened given name bytes agents agent body e = subst (λ (l : List Form). Opened l bytes (with_agent agents agent body)) (sym e) (opened_is name bytes (with_agent agents agent body) (some_agent agents agent body))
+checked_is : (given : List Form) (t : Litmus) → AreFormsOf given t → list_any is_check_line given ≡ true
+checked_is given t h = ap (list_any is_check_line) h.parts ∙ any_joined is_check_line h.agents (CheckLine h.check ∷ []) ∙ or_true (list_any is_check_line h.agents)
 
-checked_is : (t : Litmus) (cs : List Comparison) → list_any is_check_line (forms_of t cs) ≡ true
-checked_is t cs = rw (any_joined is_check_line (flat_map agent_lines t.agents) (CheckLine cs ∷ [])) (or_true (list_any is_check_line (flat_map agent_lines t.agents)))
-  where
-    or_true : (b : Bool) → (b || (true || false)) ≡ true
-    or_true true = refl
-    or_true false = refl
-
-ends_checked : (t : Litmus) (cs : List Comparison) → ends_in_test (forms_of t cs) ≡ false
-ends_checked t cs =
-    no_end (TestLine t.name) (BytesLine t.bytes ∷ (flat_map agent_lines t.agents ++ CheckLine cs ∷ []))
-    (rw (any_joined is_test_line (flat_map agent_lines t.agents) (CheckLine cs ∷ []), any_in_agents is_test_line t.agents (λ _. refl) (λ _. refl)) refl) (omega arith)
+ends_checked : (given : List Form) (t : Litmus) → AreFormsOf given t → ends_in_test given ≡ false
+ends_checked given t h =
+    ap ends_in_test h.parts ∙ no_end (TestLine t.name) (BytesLine t.bytes ∷ (h.agents ++ CheckLine h.check ∷ []))
+    (any_joined is_test_line h.agents (CheckLine h.check ∷ []) ∙ ap (λ (x : Bool). x || false) (any_agents is_test_line h.agents t.agents other_test (λ n. refl) h.bodies)) (omega arith)
 
 -- ---- where a form can stand
 
-or_right : (x y : Bool) → y ≡ true → (x || y) ≡ true
-or_right true y e = refl
-or_right false y e = e
+abbrev pub is_in_then_part : List Level → Bool
+is_in_then_part levels = is_in_then (flags levels)
+
+abbrev pub has_none : List Level → Bool
+has_none levels = is_empty (flags levels)
 
 abbrev pub can_follow : State → Form → Bool
 can_follow s Blank = true
 can_follow Empty (TestLine n) = true
 can_follow (Named m) (BytesLine b) = true
 can_follow (Sized m b) (AgentLine n) = true
-can_follow (Open m b agents agent body) (AgentLine n) = true
-can_follow (Open m b agents agent body) (StatementLine r) = true
-can_follow (Open m b agents agent body) (CheckLine cs) = true
+can_follow (Open m b agents agent levels body) (AgentLine n) = has_none levels
+can_follow (Open m b agents agent levels body) (StatementLine r) = true
+can_follow (Open m b agents agent levels body) (IfLine r q v) = true
+can_follow (Open m b agents agent levels body) ElseLine = is_in_then_part levels
+can_follow (Open m b agents agent levels body) EndLine = not (has_none levels)
+can_follow (Open m b agents agent levels body) (CheckLine w) = has_none levels
 can_follow _ _ = false
 
 not_empty : (fs : List Form) → not (eqb (suc (length fs)) 0) ≡ true
@@ -164,46 +289,96 @@ not_empty fs = by (eqb (suc (length fs)) 0) refl
     by true e = let zero_is : suc (length fs) ≡ 0 = eqb-true _ _ e in absurd (omega arith)
     by false e = refl
 
+placed_empty : (f : Form) → is_misplaced [] f ≡ not (can_follow Empty f)
+placed_empty Blank = refl
+placed_empty (TestLine n) = refl
+placed_empty (BytesLine b) = refl
+placed_empty (AgentLine n) = refl
+placed_empty (StatementLine r) = refl
+placed_empty (IfLine r q v) = refl
+placed_empty ElseLine = refl
+placed_empty EndLine = refl
+placed_empty (CheckLine w) = refl
+
+placed_named : (m : List ℕ) (f : Form) → is_misplaced (TestLine m ∷ []) f ≡ not (can_follow (Named m) f)
+placed_named m Blank = refl
+placed_named m (TestLine n) = refl
+placed_named m (BytesLine b) = refl
+placed_named m (AgentLine n) = refl
+placed_named m (StatementLine r) = refl
+placed_named m (IfLine r q v) = refl
+placed_named m ElseLine = refl
+placed_named m EndLine = refl
+placed_named m (CheckLine w) = refl
+
+placed_sized : (m : List ℕ) (b : ℕ) (f : Form) → is_misplaced (TestLine m ∷ BytesLine b ∷ []) f ≡ not (can_follow (Sized m b) f)
+placed_sized m b Blank = refl
+placed_sized m b (TestLine n) = refl
+placed_sized m b (BytesLine c) = refl
+placed_sized m b (AgentLine n) = refl
+placed_sized m b (StatementLine r) = refl
+placed_sized m b (IfLine r q v) = refl
+placed_sized m b ElseLine = refl
+placed_sized m b EndLine = refl
+placed_sized m b (CheckLine w) = refl
+
+not_not : (x : Bool) → x ≡ not (not x)
+not_not true = refl
+not_not false = refl
+
+placed_open : (given : List Form) (m : List ℕ) (b : ℕ) (agents : List Agent) (agent : List ℕ) (levels : List Level) (body : Statements) (f : Form) → Holds given (Open m b agents agent levels body)
+    → is_misplaced given f ≡ not (can_follow (Open m b agents agent levels body) f)
+placed_open given m b agents agent levels body Blank h = refl
+placed_open given m b agents agent levels body (TestLine n) h = rw h.2 (not_empty (BytesLine b ∷ (h.0 ++ AgentLine agent ∷ h.1)))
+placed_open given m b agents agent levels body (BytesLine c) h = let o = opened given m b agents agent levels body h in rw o.ends refl
+placed_open given m b agents agent levels body (AgentLine n) h = let o = opened given m b agents agent levels body h in rw (o.sized, o.unchecked, o.opens) refl
+placed_open given m b agents agent levels body (StatementLine r) h = let o = opened given m b agents agent levels body h in rw o.begun refl
+placed_open given m b agents agent levels body (IfLine r q v) h = let o = opened given m b agents agent levels body h in rw o.begun refl
+placed_open given m b agents agent levels body ElseLine h = let o = opened given m b agents agent levels body h in rw (o.begun, o.opens) refl
+placed_open given m b agents agent levels body EndLine h = let o = opened given m b agents agent levels body h in rw (o.begun, o.opens) (not_not (has_none levels))
+placed_open given m b agents agent levels body (CheckLine w) h = let o = opened given m b agents agent levels body h in rw (o.begun, o.opens) refl
+
+abbrev over : List Form → Bool
+over given = is_begun given
+
+ended_begun : (x : Bool) → (x && false) ≡ false
+ended_begun true = refl
+ended_begun false = refl
+
+not_begun : (given : List Form) (t : Litmus) → AreFormsOf given t → is_begun given ≡ false
+not_begun given t h = ap (λ (x : Bool). list_any is_agent_line given && not x) (checked_is given t h) ∙ ended_begun (list_any is_agent_line given)
+
+or_middle : (x y z : Bool) → y ≡ true → (x || y || z) ≡ true
+or_middle true y z e = refl
+or_middle false true z e = refl
+or_middle false false z e = absurd cc
+
+placed_whole : (given : List Form) (t : Litmus) (f : Form) → AreFormsOf given t → is_misplaced given f ≡ not (can_follow (Whole t) f)
+placed_whole given t Blank h = refl
+placed_whole given t (TestLine n) h = rw h.parts (not_empty (BytesLine t.bytes ∷ (h.agents ++ CheckLine h.check ∷ [])))
+placed_whole given t (BytesLine c) h = rw (ends_checked given t h) refl
+placed_whole given t (AgentLine n) h = or_middle (not (list_any is_block_line given)) (list_any is_check_line given) (not (is_empty (open_ifs given))) (checked_is given t h)
+placed_whole given t (StatementLine r) h = rw (not_begun given t h) refl
+placed_whole given t (IfLine r q v) h = rw (not_begun given t h) refl
+placed_whole given t ElseLine h = rw (not_begun given t h) refl
+placed_whole given t EndLine h = rw (not_begun given t h) refl
+placed_whole given t (CheckLine w) h = rw (not_begun given t h) refl
+
 -- a form is misplaced exactly where no draft goes on with it
 pub placed : (s : State) (given : List Form) (f : Form) → Holds given s → is_misplaced given f ≡ not (can_follow s f)
-placed Empty given Blank h = refl
-placed Empty given (TestLine n) h = rw h refl
-placed Empty given (BytesLine b) h = rw h refl
-placed Empty given (AgentLine n) h = rw h refl
-placed Empty given (StatementLine r) h = rw h refl
-placed Empty given (CheckLine cs) h = rw h refl
-placed (Named m) given Blank h = refl
-placed (Named m) given (TestLine n) h = rw h refl
-placed (Named m) given (BytesLine b) h = rw h refl
-placed (Named m) given (AgentLine n) h = rw h refl
-placed (Named m) given (StatementLine r) h = rw h refl
-placed (Named m) given (CheckLine cs) h = rw h refl
-placed (Sized m b) given Blank h = refl
-placed (Sized m b) given (TestLine n) h = rw h refl
-placed (Sized m b) given (BytesLine c) h = rw h refl
-placed (Sized m b) given (AgentLine n) h = rw h refl
-placed (Sized m b) given (StatementLine r) h = rw h refl
-placed (Sized m b) given (CheckLine cs) h = rw h refl
-placed (Open m b agents agent body) given Blank h = refl
-placed (Open m b agents agent body) given (TestLine n) h = rw h (not_empty (BytesLine b ∷ flat_map agent_lines (with_agent agents agent body)))
-placed (Open m b agents agent body) given (BytesLine c) h = let o = opened given m b agents agent body h in rw o.ends refl
-placed (Open m b agents agent body) given (AgentLine n) h = let o = opened given m b agents agent body h in rw (o.sized, o.unchecked) refl
-placed (Open m b agents agent body) given (StatementLine r) h = let o = opened given m b agents agent body h in rw (o.begun, o.unchecked) refl
-placed (Open m b agents agent body) given (CheckLine cs) h = let o = opened given m b agents agent body h in rw (o.begun, o.unchecked) refl
-placed (Whole t) given Blank h = refl
-placed (Whole t) given (TestLine n) h = rw h.1 (not_empty (BytesLine t.bytes ∷ (flat_map agent_lines t.agents ++ CheckLine h.0 ∷ [])))
-placed (Whole t) given (BytesLine c) h = rw (h.1, ends_checked t h.0) refl
-placed (Whole t) given (AgentLine n) h = or_right (not (list_any is_block_line given)) (list_any is_check_line given) (ap (list_any is_check_line) h.1 ∙ checked_is t h.0)
-placed (Whole t) given (StatementLine r) h = or_right (not (list_any is_agent_line given)) (list_any is_check_line given) (ap (list_any is_check_line) h.1 ∙ checked_is t h.0)
-placed (Whole t) given (CheckLine cs) h = or_right (not (list_any is_agent_line given)) (list_any is_check_line given) (ap (list_any is_check_line) h.1 ∙ checked_is t h.0)
+placed Empty given f h = ap (λ (l : List Form). is_misplaced l f) h ∙ placed_empty f
+placed (Named m) given f h = ap (λ (l : List Form). is_misplaced l f) h ∙ placed_named m f
+placed (Sized m b) given f h = ap (λ (l : List Form). is_misplaced l f) h ∙ placed_sized m b f
+placed (Open m b agents agent levels body) given f h = placed_open given m b agents agent levels body f h
+placed (Whole t) given f h = placed_whole given t f h
 
 -- a draft that no check line has ended
 pub not_checked : (s : State) (given : List Form) → Holds given s → IsUnfinished s → list_any is_check_line given ≡ false
 not_checked Empty given h u = rw h refl
 not_checked (Named m) given h u = rw h refl
 not_checked (Sized m b) given h u = rw h refl
-not_checked (Open m b agents agent body) given h u = (opened given m b agents agent body h).unchecked
+not_checked (Open m b agents agent levels body) given h u = (opened given m b agents agent levels body h).unchecked
 not_checked (Whole t) given h u = absurd u
 
 pub is_checked : (t : Litmus) (given : List Form) → Holds given (Whole t) → list_any is_check_line given ≡ true
-is_checked t given h = ap (list_any is_check_line) h.1 ∙ checked_is t h.0
+is_checked t given h = checked_is given t h

@@ -1,21 +1,20 @@
 -- The draft's parts, and what they stand for.
-use Rattle.std.proofs.Common.{◌≡◌, ℕ, ◌+◌, Bool, true, false, cond, ◌||◌, List, [], ◌∷◌, ◌++◌, Some, None, refl, ap, sym, ◌∙◌, arith, is_some, not, ltb, length, ◌≢◌}
+use Rattle.std.proofs.Common.{◌≡◌, ℕ, suc, ◌+◌, ◌/◌, ◌^◌, ◌<◌, ◌≤◌, Bool, true, false, cond, ◌||◌, List, [], ◌∷◌, ◌++◌, Some, None, refl, ap, sym, ◌∙◌, arith, is_some, not, ltb, length, ◌≢◌}
 use Rattle.std.specs.Prelude.{String, string_bytes}
 use Rattle.std.specs.Global.{Vec, Global}
 use Rattle.std.specs.List.{list_any, prefix_len, position, AllByRecursion}
+use Rattle.std.proofs.lemmas.Bool.{ltb-true, leb-true}
 use Rattle.std.proofs.lemmas.Slice.Eq.{bytes_eq-Decides}
 use Rattle.std.specs.String.{string_eq}
 use Rattle.indexmap.specs.IndexMap.{insert_entry}
 use Rattle.std.specs.Map.{lookup, keys_of}
 use Rattle.std.specs.Str.{bytes_eq}
 use Rattle.lit_read.specs.declared.syntax.Stmt.{Stmt}
-use Rattle.lit_read.specs.Syntax.{Agent, Statements, End, Then, Is, writes}
+use Rattle.lit_read.specs.Syntax.{Agent, Statements, End, Then, Window, Uint8, Uint16, Uint32, DataView8, DataView16, DataView32, is_in_block, fits_window}
 use Rattle.lit_read.specs.Litmus.{statement_of, statements_of}
-use Rattle.lit_read.specs.State.{followed_by, with_agent, AreDistinct}
-use Rattle.lit_read.specs.Faults.{body_named, is_known}
-use Rattle.lit_read.specs.Forms.{Comparison}
-use Rattle.lit_read.specs.Spelling.{place_of, IsAgent, numbered}
-use Rattle.lit_read.specs.Views.{agent_view, agents_view}
+use Rattle.lit_read.specs.Reading.State.{followed_by, with_agent, AreDistinct, body_named}
+use Rattle.lit_read.specs.Spelling.{place_of}
+use Rattle.lit_read.specs.Reading.Views.{agent_view, agents_view}
 
 pub statements_pushed : (body : List Stmt) (s : Stmt) → statements_of (body ++ s ∷ []) ≡ followed_by (statements_of body) (statement_of s)
 statements_pushed [] s = refl
@@ -55,22 +54,6 @@ new_last (e ∷ es) agent body h = by (bytes_eq (string_bytes agent) (string_byt
     by true g others = absurd cc
     by false g others = ap (λ (l : List Agent). agent_view (string_bytes e.0) e.1.items ∷ l) (others g)
 
-place_counts : (name : List ℕ) (entries : List (String Global × Vec Stmt)) → place_of name (agents_view entries) ≡ prefix_len (λ k. not (bytes_eq name (string_bytes k))) (keys_of entries)
-place_counts name [] = refl
-place_counts name (e ∷ es) =
-    elim (bytes_eq name (string_bytes e.0)) as (λ b. cond b 0 (place_of name (agents_view es) + 1) ≡ cond (not b) (1 + prefix_len (λ k. not (bytes_eq name (string_bytes k))) (keys_of es)) 0)
-    [ true ↦ refl | false ↦ omega (arith, place_counts name es) ]
-
-position_counts : {A : Type 0} (p : A → Bool) (xs : List A) (i : ℕ) → position p xs ≡ Some i → i ≡ prefix_len (λ x. not (p x)) xs
-position_counts p xs i = by (ltb (prefix_len (λ x. not (p x)) xs) (length xs)) (prefix_len (λ x. not (p x)) xs)
-  where
-    by : (b : Bool) (n : ℕ) → cond b (Some n) None ≡ Some i → i ≡ n
-    by true n h = cc
-    by false n h = absurd cc
-
-pub place_is : (name : List ℕ) (entries : List (String Global × Vec Stmt)) (i : ℕ) → position (λ k. bytes_eq name (string_bytes k)) (keys_of entries) ≡ Some i → i ≡ place_of name (agents_view entries)
-place_is name entries i h = position_counts (λ k. bytes_eq name (string_bytes k)) (keys_of entries) i h ∙ sym (place_counts name entries)
-
 pub body_is : (name : List ℕ) (entries : List (String Global × Vec Stmt)) (body : Vec Stmt) → lookup (λ k. bytes_eq name (string_bytes k)) entries ≡ Some body → statements_of body.items ≡ body_named name (agents_view entries)
 body_is name [] body h = absurd cc
 body_is name (e ∷ es) body h = by (bytes_eq name (string_bytes e.0)) h (body_is name es body)
@@ -91,25 +74,6 @@ body_absent name (e ∷ es) h = by (bytes_eq name (string_bytes e.0)) h (body_ab
 
 -- ---- comparisons
 
-pub known_is : (agents : List Agent) (c : Comparison) (place : ℕ) (body : List Stmt) (w : Bool) → IsAgent agents c.agent place (statements_of body)
-    → w ≡ writes (statements_of body) c.reg → w ≡ true
-    → Some (Is place c.reg c.equal c.value) ≡ cond (is_known agents c) (Some (numbered agents c)) None
-known_is agents c place body w found is writing =
-    let e : is_known agents c ≡ true = ap (λ (b : Statements). writes b c.reg) (sym found.1) ∙ sym is ∙ writing in
-    rw e (ap (λ (p : ℕ). Some (Is p c.reg c.equal c.value)) found.0)
-
-pub unknown_is : (agents : List Agent) (c : Comparison) (place : ℕ) (body : List Stmt) (w : Bool) → IsAgent agents c.agent place (statements_of body)
-    → w ≡ writes (statements_of body) c.reg → w ≡ false
-    → None ≡ cond (is_known agents c) (Some (numbered agents c)) None
-unknown_is agents c place body w found is writing =
-    let e : is_known agents c ≡ false = ap (λ (b : Statements). writes b c.reg) (sym found.1) ∙ sym is ∙ writing in
-    rw e refl
-
-pub absent_is : (agents : List Agent) (c : Comparison) → body_named c.agent agents ≡ End → None ≡ cond (is_known agents c) (Some (numbered agents c)) None
-absent_is agents c absent =
-    let e : is_known agents c ≡ false = ap (λ (b : Statements). writes b c.reg) absent in
-    rw e refl
-
 -- ---- agents with different names
 
 last_holds : (P : Agent → Type 0) (agents : List Agent) (a : Agent) → AllByRecursion P (agents ++ a ∷ []) → P a
@@ -128,3 +92,57 @@ last_is_new [] agent body h = refl
 last_is_new (a ∷ others) agent body h =
     let differs : bytes_eq agent a.name ≡ false = bytes_differ agent a.name (last_holds (λ b. a.name ≢ b.name) others (record { name = agent; body = body }) h.0) in
     rw differs (last_is_new others agent body h.1)
+
+-- ---- accesses
+
+pub in_block_small : (bytes : ℕ) (w : Window) (index : ℕ) → is_in_block bytes w index ≡ true → index ≤ bytes
+in_block_small bytes Uint8 index e = let h : index < bytes = ltb-true _ _ e in omega arith
+in_block_small bytes Uint16 index e = let h : index < bytes / 2 = ltb-true _ _ e in omega arith
+in_block_small bytes Uint32 index e = let h : index < bytes / 4 = ltb-true _ _ e in omega arith
+in_block_small bytes DataView8 index e = let h : index + 1 ≤ bytes = leb-true _ _ e in omega arith
+in_block_small bytes DataView16 index e = let h : index + 2 ≤ bytes = leb-true _ _ e in omega arith
+in_block_small bytes DataView32 index e = let h : index + 4 ≤ bytes = leb-true _ _ e in omega arith
+
+pub fitting_small : (w : Window) (value : ℕ) → fits_window w value ≡ true → value < 2 ^ 32
+fitting_small Uint8 value e = let h : value < 256 = ltb-true _ _ e in omega arith
+fitting_small Uint16 value e = let h : value < 65536 = ltb-true _ _ e in omega arith
+fitting_small Uint32 value e = ltb-true _ _ e
+fitting_small DataView8 value e = let h : value < 256 = ltb-true _ _ e in omega arith
+fitting_small DataView16 value e = let h : value < 65536 = ltb-true _ _ e in omega arith
+fitting_small DataView32 value e = ltb-true _ _ e
+
+-- ---- places
+
+place_counts : (name : List ℕ) (entries : List (String Global × Vec Stmt)) → place_of name (agents_view entries) ≡ prefix_len (λ k. not (bytes_eq name (string_bytes k))) (keys_of entries)
+place_counts name [] = refl
+place_counts name (e ∷ es) =
+    elim (bytes_eq name (string_bytes e.0)) as (λ b. cond b 0 (place_of name (agents_view es) + 1) ≡ cond (not b) (1 + prefix_len (λ k. not (bytes_eq name (string_bytes k))) (keys_of es)) 0)
+    [ true ↦ refl | false ↦ omega (arith, place_counts name es) ]
+
+position_counts : {A : Type 0} (p : A → Bool) (xs : List A) (i : ℕ) → position p xs ≡ Some i → i ≡ prefix_len (λ x. not (p x)) xs
+position_counts p xs i = by (ltb (prefix_len (λ x. not (p x)) xs) (length xs)) (prefix_len (λ x. not (p x)) xs)
+  where
+    by : (b : Bool) (n : ℕ) → cond b (Some n) None ≡ Some i → i ≡ n
+    by true n h = cc
+    by false n h = absurd cc
+
+pub place_is : (name : List ℕ) (entries : List (String Global × Vec Stmt)) (i : ℕ) → position (λ k. bytes_eq name (string_bytes k)) (keys_of entries) ≡ Some i → i ≡ place_of name (agents_view entries)
+place_is name entries i h = position_counts (λ k. bytes_eq name (string_bytes k)) (keys_of entries) i h ∙ sym (place_counts name entries)
+
+-- an agent that is not there has the number behind the last
+pub place_absent : (name : List ℕ) (entries : List (String Global × Vec Stmt)) → is_some (lookup (λ k. bytes_eq name (string_bytes k)) entries) ≡ false → length entries ≡ place_of name (agents_view entries)
+place_absent name [] h = refl
+place_absent name (e ∷ es) h = by (bytes_eq name (string_bytes e.0)) h (place_absent name es)
+  where
+    by : (b : Bool) → is_some (cond b (Some e.1) (lookup (λ k. bytes_eq name (string_bytes k)) es)) ≡ false
+        → (is_some (lookup (λ k. bytes_eq name (string_bytes k)) es) ≡ false → length es ≡ place_of name (agents_view es)) → suc (length es) ≡ cond b 0 (place_of name (agents_view es) + 1)
+    by true g others = absurd cc
+    by false g others = omega (arith, others g)
+
+pub place_few : (name : List ℕ) (entries : List (String Global × Vec Stmt)) → place_of name (agents_view entries) ≤ length entries
+place_few name [] = omega arith
+place_few name (e ∷ es) = by (bytes_eq name (string_bytes e.0)) (place_few name es)
+  where
+    by : (b : Bool) → place_of name (agents_view es) ≤ length es → cond b 0 (place_of name (agents_view es) + 1) ≤ suc (length es)
+    by true h = omega arith
+    by false h = omega (arith, h)

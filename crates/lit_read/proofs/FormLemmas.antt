@@ -1,389 +1,263 @@
--- The computed form is the one that the tokens spell, and it is computed wherever they spell one.
-use Rattle.std.proofs.Common.{◌≡◌, ℕ, zero, suc, ◌+◌, ◌-◌, ◌<◌, ◌≤◌, Bool, true, false, cond, eqb, ltb, leb, ◌&&◌, List, [], ◌∷◌, ◌++◌, Option, Some, None, refl, ap, sym, subst, ◌∙◌, arith, ◌⊎◌, inl, inr}
+-- The computed form is the one that the tokens spell, and it is computed wherever they spell one but a check line.
+use Rattle.std.proofs.Common.{◌≡◌, ℕ, ◌+◌, ◌-◌, ◌<◌, Bool, true, false, cond, eqb, IsTrue, List, [], ◌∷◌, Option, Some, None, refl, ap, sym, subst, ◌∙◌, arith, ◌⊎◌, inl, inr}
 use Rattle.std.specs.Prelude.{codes}
-use Rattle.std.specs.Option.{option_map}
 use Rattle.std.specs.Str.{bytes_eq}
-use Rattle.std.proofs.lemmas.Bool.{eqb-true, ltb-true, leb-true}
-use Rattle.std.proofs.lemmas.Slice.Eq.{bytes_eq-Decides}
 use Rattle.lit_read.specs.declared.symbols.Symbol.{Symbol}
 use Rattle.lit_read.specs.declared.symbols.Symbol.TheVariants.{Same, Differs, And, Or, Gives, Not, OpenBracket, CloseBracket, OpenParen, CloseParen, OpenBrace, CloseBrace, Comma, Dot}
 use Rattle.lit_read.specs.declared.limits.TheConstants.{REGISTERS}
-use Rattle.lit_read.specs.Syntax.{Window, Uint8, Statement, Load, Store, Exchange, CompareExchange, If}
+use Rattle.lit_read.specs.Syntax.{Window, Uint8, Uint16, Uint32, DataView8, DataView16, DataView32, is_data_view, Statement, Load, Store, Exchange, CompareExchange, If}
 use Rattle.lit_read.specs.Tokens.{Token, Word, Number, Sign}
-use Rattle.lit_read.specs.Forms.{Comparison, Form, Blank, TestLine, BytesLine, AgentLine, StatementLine, CheckLine, register_word, element_tokens, atomic_tokens, statement_tokens, comparison_tokens, spelled, IsFormStatement, IsForm, IsSpelling}
-use Rattle.lit_read.specs.FirstToken.{or_else}
-use Rattle.lit_read.specs.FormOfTokens.{◌>>=◌, symbol_code, after_sign, word_of, number_of, after_word, register_number, register_of, view_of, ended, test_line, bytes_line, agent_line, element_of, atomic_of, plain_load, plain_store, atomic_load, atomic_store, relation_of, comparison_of, plain_form}
-use Rattle.lit_read.proofs.CutLemmas.{here, some_is, pair_parts}
+use Rattle.lit_read.specs.Written.{Written, written_tokens}
+use Rattle.lit_read.specs.Forms.{Form, Blank, TestLine, BytesLine, AgentLine, StatementLine, IfLine, ElseLine, EndLine, CheckLine, read_tokens, store_tokens, element_tokens, spelled, IsForm, IsSpelling}
+use Rattle.lit_read.specs.Reading.FirstToken.{or_else}
+use Rattle.lit_read.specs.Reading.FormOfTokens.{ended, Item, Symbols, Keyword, Name, Register, View, Amount, Relation, Told, lone_row, element, atomic, data_view, argument, closed, little_endian, given_to, test_row, test_made, bytes_row, bytes_made, agent_row, agent_made, if_row, if_made, else_row, else_made, end_row, end_made, plain_load_row, plain_load_made, plain_store_row, plain_store_made, atomic_load_row, atomic_load_made, atomic_store_row, atomic_store_made, exchange_row, exchange_made, compare_exchange_row, compare_exchange_made, byte_load_row, byte_load_made, byte_store_row, byte_store_made, wide_load_row, wide_load_made, wide_store_row, wide_store_made, test_line, agent_line, bytes_line, if_line, else_line, end_line, plain_load, plain_store, atomic_load, atomic_store, exchange, compare_exchange, byte_load, byte_store, wide_load, wide_store, frame_form, array_form, view_form, fixed_form}
+use Rattle.lit_read.proofs.RowLemmas.{row, Fits, LoneRow, lone_row_is, lone_row_again}
 
-pub bind_some : {A B : Type 0} (o : Option A) (f : A → Option B) (y : B) → (o >>= f) ≡ Some y → (x : A) × (o ≡ Some x) × (f x ≡ Some y)
-bind_some None f y e = absurd cc
-bind_some (Some x) f y e = (x, refl, e)
+-- ---- a form that is computed is spelled
 
-passed : {A : Type 0} (t : Bool) (x y : A) → cond t (Some x) None ≡ Some y → (t ≡ true) × (x ≡ y)
-passed true x y e = (refl, cc)
-passed false x y e = absurd cc
+pub read_typed : (w : Window) (index : ℕ) → is_data_view w ≡ false → read_tokens w index ≡ element_tokens w index
+read_typed Uint8 index typed = refl
+read_typed Uint16 index typed = refl
+read_typed Uint32 index typed = refl
+read_typed DataView8 index typed = absurd cc
+read_typed DataView16 index typed = absurd cc
+read_typed DataView32 index typed = absurd cc
 
-triple_parts : {A B C : Type 0} (a d : A) (b f : B) (c g : C) → here {A = A × B × C} (a, b, c) ≡ here {A = A × B × C} (d, f, g) → (a ≡ d) × (b ≡ f) × (c ≡ g)
-triple_parts {A} {B} {C} a d b f c g e =
-    let same = some_is {A = A × B × C} (a, b, c) (d, f, g) e in
-    (ap (λ (p : A × B × C). p.0) same, ap (λ (p : A × B × C). p.1) same, ap (λ (p : A × B × C). p.2) same)
+pub stored_typed : (w : Window) (index value : ℕ) → is_data_view w ≡ false → store_tokens w index value ≡ row (element (Symbols Gives ∷ Amount ∷ [])) (w, (index, (value, tt))) []
+stored_typed Uint8 index value typed = refl
+stored_typed Uint16 index value typed = refl
+stored_typed Uint32 index value typed = refl
+stored_typed DataView8 index value typed = absurd cc
+stored_typed DataView16 index value typed = absurd cc
+stored_typed DataView32 index value typed = absurd cc
 
--- ---- one symbol
+by_row : (items : List Item) (ts : List Token) (made : Told items → Form) (f : Form) → ((told : Told items) → Fits items told → IsSpelling (row items told []) (made told)) → lone_row items ts made ≡ Some f → IsSpelling ts f
+by_row items ts made f spells e =
+    let a = lone_row_is items ts made f e in
+    subst (IsSpelling ts) a.is (subst (λ (x : List Token). IsSpelling x (made a.told)) (sym a.parts) (spells a.told a.fits))
 
-symbol_with : ℕ → Symbol
-symbol_with n =
-    cond (eqb n 0) Same (cond (eqb n 1) Differs (cond (eqb n 2) And (cond (eqb n 3) Or (cond (eqb n 4) Gives (cond (eqb n 5) Not
-    (cond (eqb n 6) OpenBracket (cond (eqb n 7) CloseBracket (cond (eqb n 8) OpenParen (cond (eqb n 9) CloseParen (cond (eqb n 10) OpenBrace
-    (cond (eqb n 11) CloseBrace (cond (eqb n 12) Comma Dot))))))))))))
+blank_is : (ts : List Token) (f : Form) → ended ts Blank ≡ Some f → IsSpelling ts f
+unfolding spelled IsForm
+blank_is [] f e = let same : Blank ≡ f = cc in subst (IsSpelling []) same (refl, tt)
+blank_is (t ∷ ts) f e = absurd cc
 
-symbol_back : (s : Symbol) → symbol_with (symbol_code s) ≡ s
-unfolding symbol_with
-symbol_back Same = refl
-symbol_back Differs = refl
-symbol_back And = refl
-symbol_back Or = refl
-symbol_back Gives = refl
-symbol_back Not = refl
-symbol_back OpenBracket = refl
-symbol_back CloseBracket = refl
-symbol_back OpenParen = refl
-symbol_back CloseParen = refl
-symbol_back OpenBrace = refl
-symbol_back CloseBrace = refl
-symbol_back Comma = refl
-symbol_back Dot = refl
-
-symbol_same : (s t : Symbol) → symbol_code s ≡ symbol_code t → s ≡ t
-symbol_same s t e = sym (symbol_back s) ∙ ap symbol_with e ∙ symbol_back t
-
--- ---- the token at the front
-
-pub sign_is : (ts : List Token) (sign : Symbol) (rest : List Token) → after_sign ts sign ≡ Some rest → ts ≡ Sign sign ∷ rest
-unfolding after_sign
-sign_is [] sign rest e = absurd cc
-sign_is (Word w ∷ ts) sign rest e = absurd cc
-sign_is (Number n ∷ ts) sign rest e = absurd cc
-sign_is (Sign s ∷ ts) sign rest e =
-    let p = passed (eqb (symbol_code s) (symbol_code sign)) ts rest e in
-    let same : s ≡ sign = symbol_same s sign (eqb-true _ _ p.0) in
-    let others : ts ≡ rest = p.1 in
-    cc
-
-word_is : (ts : List Token) (w : List ℕ) (rest : List Token) → word_of ts ≡ Some (w, rest) → ts ≡ Word w ∷ rest
-unfolding word_of
-word_is [] w rest e = absurd cc
-word_is (Word v ∷ ts) w rest e = let p = pair_parts v w ts rest e in let same : v ≡ w = p.0 in let others : ts ≡ rest = p.1 in cc
-word_is (Number n ∷ ts) w rest e = absurd cc
-word_is (Sign s ∷ ts) w rest e = absurd cc
-
-number_is : (ts : List Token) (n : ℕ) (rest : List Token) → number_of ts ≡ Some (n, rest) → ts ≡ Number n ∷ rest
-unfolding number_of
-number_is [] n rest e = absurd cc
-number_is (Word v ∷ ts) n rest e = absurd cc
-number_is (Number m ∷ ts) n rest e = let p = pair_parts m n ts rest e in let same : m ≡ n = p.0 in let others : ts ≡ rest = p.1 in cc
-number_is (Sign s ∷ ts) n rest e = absurd cc
-
-pub after_word_is : (ts : List Token) (text : List ℕ) (rest : List Token) → after_word ts text ≡ Some rest → ts ≡ Word text ∷ rest
-unfolding after_word
-after_word_is ts text rest e =
-    let a = bind_some (word_of ts) (λ word. cond (bytes_eq word.0 text) (Some word.1) None) rest e in
-    let p = passed (bytes_eq a.0.0 text) a.0.1 rest a.2 in
-    let same : a.0.0 ≡ text = (bytes_eq-Decides a.0.0 text).0 p.0 in
-    let others : a.0.1 ≡ rest = p.1 in
-    let first : ts ≡ Word a.0.0 ∷ a.0.1 = word_is ts a.0.0 a.0.1 a.1 in
-    cc
-
-both : (x y : Bool) → (x && y) ≡ true → (x ≡ true) × (y ≡ true)
-both true y e = (refl, e)
-both false y e = absurd cc
-
-register_number_is : (w : List ℕ) (reg : ℕ) → register_number w ≡ Some reg → (w ≡ register_word reg) × (reg < REGISTERS)
-unfolding register_number
-register_number_is [] reg e = absurd cc
-register_number_is (a ∷ []) reg e = absurd cc
-register_number_is (a ∷ b ∷ c ∷ w) reg e = absurd cc
-register_number_is (a ∷ b ∷ []) reg e =
-    let p = passed ((eqb a 114 && leb 48 b) && ltb (b - 48) REGISTERS) (b - 48) reg e in
-    let outer = both (eqb a 114 && leb 48 b) (ltb (b - 48) REGISTERS) p.0 in
-    let inner = both (eqb a 114) (leb 48 b) outer.0 in
-    let a_is : a ≡ 114 = eqb-true a 114 inner.0 in
-    let low : 48 ≤ b = leb-true 48 b inner.1 in
-    let reg_is : b - 48 ≡ reg = p.1 in
-    let b_is : b ≡ 48 + reg = omega arith in
-    let below : b - 48 < REGISTERS = ltb-true _ _ outer.1 in
-    (rw (a_is, b_is) refl, rw (← reg_is) below)
-
-register_is : (ts : List Token) (reg : ℕ) (rest : List Token) → register_of ts ≡ Some (reg, rest) → (ts ≡ Word (register_word reg) ∷ rest) × (reg < REGISTERS)
-unfolding register_of
-register_is ts reg rest e =
-    let a = bind_some (word_of ts) (λ word. register_number word.0 >>= λ reg. Some (reg, word.1)) (reg, rest) e in
-    let b = bind_some (register_number a.0.0) (λ reg. Some (reg, a.0.1)) (reg, rest) a.2 in
-    let p = pair_parts b.0 reg a.0.1 rest b.2 in
-    let r = register_number_is a.0.0 b.0 b.1 in
-    let first : ts ≡ Word a.0.0 ∷ a.0.1 = word_is ts a.0.0 a.0.1 a.1 in
-    (rw (first, r.0, p.0, p.1) refl, rw (← p.0) r.1)
-
-view_is : (ts : List Token) (w : Window) (rest : List Token) → view_of ts ≡ Some (w, rest) → (w ≡ Uint8) × (ts ≡ Word (codes "U8") ∷ rest)
-unfolding view_of
-view_is ts w rest e =
-    let a = bind_some (after_word ts (codes "U8")) (λ rest. Some (Uint8, rest)) (w, rest) e in
-    let p = pair_parts Uint8 w a.0 rest a.2 in
-    (sym p.0, rw (← p.1) (after_word_is ts (codes "U8") a.0 a.1))
-
-ended_is : {A : Type 0} (ts : List Token) (x y : A) → ended ts x ≡ Some y → (ts ≡ []) × (x ≡ y)
-ended_is [] x y e = (refl, cc)
-ended_is (t ∷ ts) x y e = absurd cc
-
-same_window : (v w : Window) → v ≡ w → v ≡ Uint8 → w ≡ Uint8
-same_window v w e is = sym e ∙ is
-
-element_join : (ts a b c d rest : List Token) (w : Window) (i n : ℕ) → ts ≡ Word (codes "U8") ∷ a → a ≡ Sign OpenBracket ∷ b → b ≡ Number n ∷ c → c ≡ Sign CloseBracket ∷ d → n ≡ i → d ≡ rest → w ≡ Uint8
-    → ts ≡ element_tokens w i ++ rest
-element_join ts a b c d rest w i n t_is a_is b_is c_is n_is d_is w_is = rw (t_is, a_is, b_is, c_is, n_is, d_is, w_is) refl
-
-atomic_join : (ts a b c d f g h rest : List Token) (name : List ℕ) (w : Window) (i n : ℕ) → ts ≡ Word (codes "Atomics") ∷ a → a ≡ Sign Dot ∷ b → b ≡ Word name ∷ c → c ≡ Sign OpenParen ∷ d
-    → d ≡ Word (codes "U8") ∷ f → f ≡ Sign Comma ∷ g → g ≡ Number n ∷ h → n ≡ i → h ≡ rest → w ≡ Uint8 → ts ≡ atomic_tokens name w i ++ rest
-atomic_join ts a b c d f g h rest name w i n t_is a_is b_is c_is d_is f_is g_is n_is h_is w_is = rw (t_is, a_is, b_is, c_is, d_is, f_is, g_is, n_is, h_is, w_is) refl
-
-element_is : (ts : List Token) (w : Window) (i : ℕ) (rest : List Token) → element_of ts ≡ Some (w, i, rest) → (w ≡ Uint8) × (ts ≡ element_tokens w i ++ rest)
-unfolding element_of
-element_is ts w i rest e =
-    let a = bind_some (view_of ts) (λ view. after_sign view.1 OpenBracket >>= λ opened. number_of opened >>= λ index. after_sign index.1 CloseBracket >>= λ rest. Some (view.0, index.0, rest)) (w, i, rest) e in
-    let b = bind_some (after_sign a.0.1 OpenBracket) (λ opened. number_of opened >>= λ index. after_sign index.1 CloseBracket >>= λ rest. Some (a.0.0, index.0, rest)) (w, i, rest) a.2 in
-    let c = bind_some (number_of b.0) (λ index. after_sign index.1 CloseBracket >>= λ rest. Some (a.0.0, index.0, rest)) (w, i, rest) b.2 in
-    let d = bind_some (after_sign c.0.1 CloseBracket) (λ rest. Some (a.0.0, c.0.0, rest)) (w, i, rest) c.2 in
-    let p = triple_parts a.0.0 w c.0.0 i d.0 rest d.2 in
-    let v = view_is ts a.0.0 a.0.1 a.1 in
-    let w_is : w ≡ Uint8 = sym {a = a.0.0} p.0 ∙ v.0 in
-    (w_is, element_join ts a.0.1 b.0 c.0.1 d.0 rest w i c.0.0 v.1 (sign_is a.0.1 OpenBracket b.0 b.1) (number_is b.0 c.0.0 c.0.1 c.1) (sign_is c.0.1 CloseBracket d.0 d.1) p.1 p.2 w_is)
-
-atomic_is : (ts : List Token) (name : List ℕ) (w : Window) (i : ℕ) (rest : List Token) → atomic_of ts name ≡ Some (w, i, rest) → (w ≡ Uint8) × (ts ≡ atomic_tokens name w i ++ rest)
-unfolding atomic_of
-atomic_is ts name w i rest e =
-    let a = bind_some (after_word ts (codes "Atomics")) (λ atomics. after_sign atomics Dot >>= λ dot. after_word dot name >>= λ named. after_sign named OpenParen >>= λ opened. view_of opened >>= λ view. after_sign view.1 Comma >>= λ comma. number_of comma >>= λ index. Some (view.0, index.0, index.1)) (w, i, rest) e in
-    let b = bind_some (after_sign a.0 Dot) (λ dot. after_word dot name >>= λ named. after_sign named OpenParen >>= λ opened. view_of opened >>= λ view. after_sign view.1 Comma >>= λ comma. number_of comma >>= λ index. Some (view.0, index.0, index.1)) (w, i, rest) a.2 in
-    let c = bind_some (after_word b.0 name) (λ named. after_sign named OpenParen >>= λ opened. view_of opened >>= λ view. after_sign view.1 Comma >>= λ comma. number_of comma >>= λ index. Some (view.0, index.0, index.1)) (w, i, rest) b.2 in
-    let d = bind_some (after_sign c.0 OpenParen) (λ opened. view_of opened >>= λ view. after_sign view.1 Comma >>= λ comma. number_of comma >>= λ index. Some (view.0, index.0, index.1)) (w, i, rest) c.2 in
-    let f = bind_some (view_of d.0) (λ view. after_sign view.1 Comma >>= λ comma. number_of comma >>= λ index. Some (view.0, index.0, index.1)) (w, i, rest) d.2 in
-    let g = bind_some (after_sign f.0.1 Comma) (λ comma. number_of comma >>= λ index. Some (f.0.0, index.0, index.1)) (w, i, rest) f.2 in
-    let h = bind_some (number_of g.0) (λ index. Some (f.0.0, index.0, index.1)) (w, i, rest) g.2 in
-    let p = triple_parts f.0.0 w h.0.0 i h.0.1 rest h.2 in
-    let v = view_is d.0 f.0.0 f.0.1 f.1 in
-    let w_is : w ≡ Uint8 = same_window f.0.0 w p.0 v.0 in
-    (w_is, atomic_join ts a.0 b.0 c.0 d.0 f.0.1 g.0 h.0.1 rest name w i h.0.0 (after_word_is ts (codes "Atomics") a.0 a.1) (sign_is a.0 Dot b.0 b.1) (after_word_is b.0 name c.0 c.1) (sign_is c.0 OpenParen d.0 d.1) v.1 (sign_is f.0.1 Comma g.0 g.1) (number_is g.0 h.0.0 h.0.1 h.1) p.1 p.2 w_is)
-
--- ---- a form that is computed is spelled so
-
-test_line_is : (ts : List Token) (f : Form) → test_line ts ≡ Some f → IsSpelling ts f
+test_is : (ts : List Token) (f : Form) → test_line ts ≡ Some f → IsSpelling ts f
 unfolding test_line spelled IsForm
-test_line_is ts f e =
-    let a = bind_some (after_word ts (codes "test")) (λ rest. word_of rest >>= λ name. ended name.1 (TestLine name.0)) f e in
-    let b = bind_some (word_of a.0) (λ name. ended name.1 (TestLine name.0)) f a.2 in
-    let c = ended_is b.0.1 (TestLine b.0.0) f b.2 in
-    let tokens : ts ≡ Word (codes "test") ∷ Word b.0.0 ∷ [] = after_word_is ts (codes "test") a.0 a.1 ∙ ap (λ (x : List Token). Word (codes "test") ∷ x) (word_is a.0 b.0.0 b.0.1 b.1 ∙ ap (λ (x : List Token). Word b.0.0 ∷ x) c.0) in
-    subst (IsSpelling ts) c.1 (tokens, tt)
+test_is ts f e = by_row test_row ts test_made f (λ told fits. (refl, tt)) e
 
-bytes_line_is : (ts : List Token) (f : Form) → bytes_line ts ≡ Some f → IsSpelling ts f
+bytes_is : (ts : List Token) (f : Form) → bytes_line ts ≡ Some f → IsSpelling ts f
 unfolding bytes_line spelled IsForm
-bytes_line_is ts f e =
-    let a = bind_some (after_word ts (codes "bytes")) (λ rest. number_of rest >>= λ bytes. ended bytes.1 (BytesLine bytes.0)) f e in
-    let b = bind_some (number_of a.0) (λ bytes. ended bytes.1 (BytesLine bytes.0)) f a.2 in
-    let c = ended_is b.0.1 (BytesLine b.0.0) f b.2 in
-    let tokens : ts ≡ Word (codes "bytes") ∷ Number b.0.0 ∷ [] = after_word_is ts (codes "bytes") a.0 a.1 ∙ ap (λ (x : List Token). Word (codes "bytes") ∷ x) (number_is a.0 b.0.0 b.0.1 b.1 ∙ ap (λ (x : List Token). Number b.0.0 ∷ x) c.0) in
-    subst (IsSpelling ts) c.1 (tokens, tt)
+bytes_is ts f e = by_row bytes_row ts bytes_made f (λ told fits. (refl, tt)) e
 
-agent_line_is : (ts : List Token) (f : Form) → agent_line ts ≡ Some f → IsSpelling ts f
+agent_is : (ts : List Token) (f : Form) → agent_line ts ≡ Some f → IsSpelling ts f
 unfolding agent_line spelled IsForm
-agent_line_is ts f e =
-    let a = bind_some (after_word ts (codes "agent")) (λ rest. word_of rest >>= λ name. ended name.1 (AgentLine name.0)) f e in
-    let b = bind_some (word_of a.0) (λ name. ended name.1 (AgentLine name.0)) f a.2 in
-    let c = ended_is b.0.1 (AgentLine b.0.0) f b.2 in
-    let tokens : ts ≡ Word (codes "agent") ∷ Word b.0.0 ∷ [] = after_word_is ts (codes "agent") a.0 a.1 ∙ ap (λ (x : List Token). Word (codes "agent") ∷ x) (word_is a.0 b.0.0 b.0.1 b.1 ∙ ap (λ (x : List Token). Word b.0.0 ∷ x) c.0) in
-    subst (IsSpelling ts) c.1 (tokens, tt)
+agent_is ts f e = by_row agent_row ts agent_made f (λ told fits. (refl, tt)) e
 
-plain_load_join : (ts a b c : List Token) (reg i : ℕ) (w : Window) → ts ≡ Word (register_word reg) ∷ a → a ≡ Sign Gives ∷ b → b ≡ element_tokens w i ++ c → c ≡ []
-    → ts ≡ Word (register_word reg) ∷ Sign Gives ∷ element_tokens w i
-plain_load_join ts a b c reg i w t_is a_is b_is c_is = rw (t_is, a_is, b_is, c_is) refl
+if_is : (ts : List Token) (f : Form) → if_line ts ≡ Some f → IsSpelling ts f
+unfolding if_line spelled IsForm
+if_is ts f e = by_row if_row ts if_made f (λ told fits. (refl, fits.0)) e
+
+else_is : (ts : List Token) (f : Form) → else_line ts ≡ Some f → IsSpelling ts f
+unfolding else_line spelled IsForm
+else_is ts f e = by_row else_row ts else_made f (λ told fits. (refl, tt)) e
+
+end_is : (ts : List Token) (f : Form) → end_line ts ≡ Some f → IsSpelling ts f
+unfolding end_line spelled IsForm
+end_is ts f e = by_row end_row ts end_made f (λ told fits. (refl, tt)) e
 
 plain_load_is : (ts : List Token) (f : Form) → plain_load ts ≡ Some f → IsSpelling ts f
 unfolding plain_load spelled IsForm
-plain_load_is ts f e =
-    let a = bind_some (register_of ts) (λ reg. after_sign reg.1 Gives >>= λ gives. element_of gives >>= λ element. ended element.2 (StatementLine (Load reg.0 element.0 element.1 false))) f e in
-    let b = bind_some (after_sign a.0.1 Gives) (λ gives. element_of gives >>= λ element. ended element.2 (StatementLine (Load a.0.0 element.0 element.1 false))) f a.2 in
-    let c = bind_some (element_of b.0) (λ element. ended element.2 (StatementLine (Load a.0.0 element.0 element.1 false))) f b.2 in
-    let d = ended_is c.0.2 (StatementLine (Load a.0.0 c.0.0 c.0.1 false)) f c.2 in
-    let r = register_is ts a.0.0 a.0.1 a.1 in
-    let el = element_is b.0 c.0.0 c.0.1 c.0.2 c.1 in
-    subst (IsSpelling ts) d.1 (plain_load_join ts a.0.1 b.0 c.0.2 a.0.0 c.0.1 c.0.0 r.0 (sign_is a.0.1 Gives b.0 b.1) el.1 d.0, (r.1, el.0))
-
-plain_store_join : (ts a b c : List Token) (i v : ℕ) (w : Window) → ts ≡ element_tokens w i ++ a → a ≡ Sign Gives ∷ b → b ≡ Number v ∷ c → c ≡ [] → ts ≡ element_tokens w i ++ Sign Gives ∷ Number v ∷ []
-plain_store_join ts a b c i v w t_is a_is b_is c_is = rw (t_is, a_is, b_is, c_is) refl
+plain_load_is ts f e = by_row plain_load_row ts plain_load_made f (λ told fits. (sym (ap (λ (x : List Token). Word (114 ∷ (48 + told.0) ∷ []) ∷ Sign Gives ∷ x) (read_typed told.1.0 told.1.1.0 fits.1.0)), (fits.0, λ h. absurd (cc)))) e
 
 plain_store_is : (ts : List Token) (f : Form) → plain_store ts ≡ Some f → IsSpelling ts f
 unfolding plain_store spelled IsForm
-plain_store_is ts f e =
-    let a = bind_some (element_of ts) (λ element. after_sign element.2 Gives >>= λ gives. number_of gives >>= λ value. ended value.1 (StatementLine (Store element.0 element.1 value.0 false))) f e in
-    let b = bind_some (after_sign a.0.2 Gives) (λ gives. number_of gives >>= λ value. ended value.1 (StatementLine (Store a.0.0 a.0.1 value.0 false))) f a.2 in
-    let c = bind_some (number_of b.0) (λ value. ended value.1 (StatementLine (Store a.0.0 a.0.1 value.0 false))) f b.2 in
-    let d = ended_is c.0.1 (StatementLine (Store a.0.0 a.0.1 c.0.0 false)) f c.2 in
-    let el = element_is ts a.0.0 a.0.1 a.0.2 a.1 in
-    subst (IsSpelling ts) d.1 (plain_store_join ts a.0.2 b.0 c.0.1 a.0.1 c.0.0 a.0.0 el.1 (sign_is a.0.2 Gives b.0 b.1) (number_is b.0 c.0.0 c.0.1 c.1) d.0, el.0)
-
-atomic_load_join : (ts a b c d : List Token) (reg i : ℕ) (w : Window) → ts ≡ Word (register_word reg) ∷ a → a ≡ Sign Gives ∷ b → b ≡ atomic_tokens (codes "load") w i ++ c → c ≡ Sign CloseParen ∷ d → d ≡ []
-    → ts ≡ Word (register_word reg) ∷ Sign Gives ∷ (atomic_tokens (codes "load") w i ++ Sign CloseParen ∷ [])
-atomic_load_join ts a b c d reg i w t_is a_is b_is c_is d_is = rw (t_is, a_is, b_is, c_is, d_is) refl
+plain_store_is ts f e = by_row plain_store_row ts plain_store_made f (λ told fits. (sym (stored_typed told.0 told.1.0 told.1.1.0 fits.0), λ h. absurd (cc))) e
 
 atomic_load_is : (ts : List Token) (f : Form) → atomic_load ts ≡ Some f → IsSpelling ts f
 unfolding atomic_load spelled IsForm
-atomic_load_is ts f e =
-    let a = bind_some (register_of ts) (λ reg. after_sign reg.1 Gives >>= λ gives. atomic_of gives (codes "load") >>= λ element. after_sign element.2 CloseParen >>= λ closed. ended closed (StatementLine (Load reg.0 element.0 element.1 true))) f e in
-    let b = bind_some (after_sign a.0.1 Gives) (λ gives. atomic_of gives (codes "load") >>= λ element. after_sign element.2 CloseParen >>= λ closed. ended closed (StatementLine (Load a.0.0 element.0 element.1 true))) f a.2 in
-    let c = bind_some (atomic_of b.0 (codes "load")) (λ element. after_sign element.2 CloseParen >>= λ closed. ended closed (StatementLine (Load a.0.0 element.0 element.1 true))) f b.2 in
-    let d = bind_some (after_sign c.0.2 CloseParen) (λ closed. ended closed (StatementLine (Load a.0.0 c.0.0 c.0.1 true))) f c.2 in
-    let g = ended_is d.0 (StatementLine (Load a.0.0 c.0.0 c.0.1 true)) f d.2 in
-    let r = register_is ts a.0.0 a.0.1 a.1 in
-    let el = atomic_is b.0 (codes "load") c.0.0 c.0.1 c.0.2 c.1 in
-    subst (IsSpelling ts) g.1 (atomic_load_join ts a.0.1 b.0 c.0.2 d.0 a.0.0 c.0.1 c.0.0 r.0 (sign_is a.0.1 Gives b.0 b.1) el.1 (sign_is c.0.2 CloseParen d.0 d.1) g.0, (r.1, el.0))
-
-atomic_store_join : (ts a b c d : List Token) (i v : ℕ) (w : Window) → ts ≡ atomic_tokens (codes "store") w i ++ a → a ≡ Sign Comma ∷ b → b ≡ Number v ∷ c → c ≡ Sign CloseParen ∷ d → d ≡ []
-    → ts ≡ atomic_tokens (codes "store") w i ++ Sign Comma ∷ Number v ∷ Sign CloseParen ∷ []
-atomic_store_join ts a b c d i v w t_is a_is b_is c_is d_is = rw (t_is, a_is, b_is, c_is, d_is) refl
+atomic_load_is ts f e = by_row atomic_load_row ts atomic_load_made f (λ told fits. (refl, (fits.0, λ h. fits.1.0))) e
 
 atomic_store_is : (ts : List Token) (f : Form) → atomic_store ts ≡ Some f → IsSpelling ts f
 unfolding atomic_store spelled IsForm
-atomic_store_is ts f e =
-    let a = bind_some (atomic_of ts (codes "store")) (λ element. after_sign element.2 Comma >>= λ comma. number_of comma >>= λ value. after_sign value.1 CloseParen >>= λ closed. ended closed (StatementLine (Store element.0 element.1 value.0 true))) f e in
-    let b = bind_some (after_sign a.0.2 Comma) (λ comma. number_of comma >>= λ value. after_sign value.1 CloseParen >>= λ closed. ended closed (StatementLine (Store a.0.0 a.0.1 value.0 true))) f a.2 in
-    let c = bind_some (number_of b.0) (λ value. after_sign value.1 CloseParen >>= λ closed. ended closed (StatementLine (Store a.0.0 a.0.1 value.0 true))) f b.2 in
-    let d = bind_some (after_sign c.0.1 CloseParen) (λ closed. ended closed (StatementLine (Store a.0.0 a.0.1 c.0.0 true))) f c.2 in
-    let g = ended_is d.0 (StatementLine (Store a.0.0 a.0.1 c.0.0 true)) f d.2 in
-    let el = atomic_is ts (codes "store") a.0.0 a.0.1 a.0.2 a.1 in
-    subst (IsSpelling ts) g.1 (atomic_store_join ts a.0.2 b.0 c.0.1 d.0 a.0.1 c.0.0 a.0.0 el.1 (sign_is a.0.2 Comma b.0 b.1) (number_is b.0 c.0.0 c.0.1 c.1) (sign_is c.0.1 CloseParen d.0 d.1) g.0, el.0)
+atomic_store_is ts f e = by_row atomic_store_row ts atomic_store_made f (λ told fits. (refl, λ h. fits.0)) e
+
+exchange_is : (ts : List Token) (f : Form) → exchange ts ≡ Some f → IsSpelling ts f
+unfolding exchange spelled IsForm
+exchange_is ts f e = by_row exchange_row ts exchange_made f (λ told fits. (refl, (fits.0, fits.1.0))) e
+
+compare_exchange_is : (ts : List Token) (f : Form) → compare_exchange ts ≡ Some f → IsSpelling ts f
+unfolding compare_exchange spelled IsForm
+compare_exchange_is ts f e = by_row compare_exchange_row ts compare_exchange_made f (λ told fits. (refl, (fits.0, fits.1.0))) e
+
+byte_load_is : (ts : List Token) (f : Form) → byte_load ts ≡ Some f → IsSpelling ts f
+unfolding byte_load spelled IsForm
+byte_load_is ts f e = by_row byte_load_row ts byte_load_made f (λ told fits. (refl, (fits.0, λ h. absurd (cc)))) e
+
+byte_store_is : (ts : List Token) (f : Form) → byte_store ts ≡ Some f → IsSpelling ts f
+unfolding byte_store spelled IsForm
+byte_store_is ts f e = by_row byte_store_row ts byte_store_made f (λ told fits. (refl, λ h. absurd (cc))) e
+
+short_load_is : (ts : List Token) (f : Form) → wide_load (codes "getUint16") DataView16 ts ≡ Some f → IsSpelling ts f
+unfolding wide_load spelled IsForm
+short_load_is ts f e = by_row (wide_load_row (codes "getUint16")) ts (wide_load_made (codes "getUint16") DataView16) f (λ told fits. (refl, (fits.0, λ h. absurd (cc)))) e
+
+long_load_is : (ts : List Token) (f : Form) → wide_load (codes "getUint32") DataView32 ts ≡ Some f → IsSpelling ts f
+unfolding wide_load spelled IsForm
+long_load_is ts f e = by_row (wide_load_row (codes "getUint32")) ts (wide_load_made (codes "getUint32") DataView32) f (λ told fits. (refl, (fits.0, λ h. absurd (cc)))) e
+
+short_store_is : (ts : List Token) (f : Form) → wide_store (codes "setUint16") DataView16 ts ≡ Some f → IsSpelling ts f
+unfolding wide_store spelled IsForm
+short_store_is ts f e = by_row (wide_store_row (codes "setUint16")) ts (wide_store_made (codes "setUint16") DataView16) f (λ told fits. (refl, λ h. absurd (cc))) e
+
+long_store_is : (ts : List Token) (f : Form) → wide_store (codes "setUint32") DataView32 ts ≡ Some f → IsSpelling ts f
+unfolding wide_store spelled IsForm
+long_store_is ts f e = by_row (wide_store_row (codes "setUint32")) ts (wide_store_made (codes "setUint32") DataView32) f (λ told fits. (refl, λ h. absurd (cc))) e
 
 either : {A : Type 0} (o p : Option A) (y : A) → or_else o p ≡ Some y → (o ≡ Some y) ⊎ (p ≡ Some y)
 either None p y e = inr e
 either (Some x) p y e = inl e
 
-blank_is : (ts : List Token) (f : Form) → ended ts Blank ≡ Some f → IsSpelling ts f
-unfolding spelled IsForm
-blank_is ts f e = let a = ended_is ts Blank f e in subst (IsSpelling ts) a.1 (a.0, tt)
-
 one_of : (ts : List Token) (f : Form) (o p : Option Form) → (o ≡ Some f → IsSpelling ts f) → (p ≡ Some f → IsSpelling ts f) → or_else o p ≡ Some f → IsSpelling ts f
 one_of ts f o p left right h = elim (either o p f h) [ inl a ↦ left a | inr b ↦ right b ]
 
-pub plain_form_is : (ts : List Token) (f : Form) → plain_form ts ≡ Some f → IsSpelling ts f
-unfolding plain_form
-plain_form_is ts f e =
-    one_of ts f (ended ts Blank) _ (blank_is ts f) (one_of ts f (test_line ts) _ (test_line_is ts f) (one_of ts f (bytes_line ts) _ (bytes_line_is ts f)
-    (one_of ts f (agent_line ts) _ (agent_line_is ts f) (one_of ts f (plain_load ts) _ (plain_load_is ts f) (one_of ts f (plain_store ts) _ (plain_store_is ts f)
-    (one_of ts f (atomic_load ts) (atomic_store ts) (atomic_load_is ts f) (atomic_store_is ts f))))))) e
+frame_is : (ts : List Token) (f : Form) → frame_form ts ≡ Some f → IsSpelling ts f
+unfolding frame_form
+frame_is ts f e =
+    one_of ts f (ended ts Blank) _ (blank_is ts f) (one_of ts f (test_line ts) _ (test_is ts f) (one_of ts f (bytes_line ts) _ (bytes_is ts f)
+    (one_of ts f (agent_line ts) _ (agent_is ts f) (one_of ts f (if_line ts) _ (if_is ts f) (one_of ts f (else_line ts) (end_line ts) (else_is ts f) (end_is ts f)))))) e
+
+array_is : (ts : List Token) (f : Form) → array_form ts ≡ Some f → IsSpelling ts f
+unfolding array_form
+array_is ts f e =
+    one_of ts f (plain_load ts) _ (plain_load_is ts f) (one_of ts f (plain_store ts) _ (plain_store_is ts f) (one_of ts f (atomic_load ts) _ (atomic_load_is ts f)
+    (one_of ts f (atomic_store ts) _ (atomic_store_is ts f) (one_of ts f (exchange ts) (compare_exchange ts) (exchange_is ts f) (compare_exchange_is ts f))))) e
+
+view_is : (ts : List Token) (f : Form) → view_form ts ≡ Some f → IsSpelling ts f
+unfolding view_form
+view_is ts f e =
+    one_of ts f (byte_load ts) _ (byte_load_is ts f) (one_of ts f (wide_load (codes "getUint16") DataView16 ts) _ (short_load_is ts f) (one_of ts f (wide_load (codes "getUint32") DataView32 ts) _ (long_load_is ts f)
+    (one_of ts f (byte_store ts) _ (byte_store_is ts f) (one_of ts f (wide_store (codes "setUint16") DataView16 ts) (wide_store (codes "setUint32") DataView32 ts) (short_store_is ts f) (long_store_is ts f))))) e
+
+pub fixed_form_is : (ts : List Token) (f : Form) → fixed_form ts ≡ Some f → IsSpelling ts f
+unfolding fixed_form
+fixed_form_is ts f e = one_of ts f (frame_form ts) _ (frame_is ts f) (one_of ts f (array_form ts) (view_form ts) (array_is ts f) (view_is ts f)) e
 
 -- ---- a form that is spelled is computed
 
-register_number_again : (reg : ℕ) → reg < REGISTERS → register_number (register_word reg) ≡ Some reg
-unfolding register_number
-register_number_again zero h = refl
-register_number_again (suc zero) h = refl
-register_number_again (suc (suc zero)) h = refl
-register_number_again (suc (suc (suc zero))) h = refl
-register_number_again (suc (suc (suc (suc zero)))) h = refl
-register_number_again (suc (suc (suc (suc (suc zero))))) h = refl
-register_number_again (suc (suc (suc (suc (suc (suc zero)))))) h = refl
-register_number_again (suc (suc (suc (suc (suc (suc (suc zero))))))) h = refl
-register_number_again (suc (suc (suc (suc (suc (suc (suc (suc n)))))))) h = absurd (omega arith)
+neither : {A : Type 0} (o p : Option A) → or_else o p ≡ None → (o ≡ None) × (p ≡ None)
+neither None p e = (refl, e)
+neither (Some x) p e = absurd cc
 
-register_again : (reg : ℕ) (rest : List Token) → reg < REGISTERS → register_of (Word (register_word reg) ∷ rest) ≡ Some (reg, rest)
-unfolding register_of word_of
-register_again reg rest h = rw (register_number_again reg h) refl
+none_of : Option Form
+none_of = None
 
-plain_load_again : (reg index : ℕ) → reg < REGISTERS → plain_load (statement_tokens (Load reg Uint8 index false)) ≡ Some (StatementLine (Load reg Uint8 index false))
-unfolding plain_load element_of view_of after_word after_sign number_of word_of
-plain_load_again reg index h = rw (register_again reg (Sign Gives ∷ element_tokens Uint8 index) h) refl
+stuck : (items : List Item) (told : Told items) (made : Told items → Form) (ts : List Token) → Fits items told → ts ≡ row items told [] → lone_row items ts made ≡ None → ⊥
+stuck items told made ts fits is none =
+    let found : lone_row items ts made ≡ Some (made told) = ap (λ (x : List Token). lone_row items x made) is ∙ lone_row_again items told made fits in
+    absurd cc
 
-atomic_is_no_plain_load : (reg index : ℕ) → reg < REGISTERS → plain_load (statement_tokens (Load reg Uint8 index true)) ≡ None
-unfolding plain_load element_of view_of after_word after_sign number_of word_of
-atomic_is_no_plain_load reg index h = rw (register_again reg (Sign Gives ∷ (atomic_tokens (codes "load") Uint8 index ++ Sign CloseParen ∷ [])) h) refl
+abbrev no_frame : List Token → Type 0
+no_frame ts = (ended ts Blank ≡ None) × (test_line ts ≡ None) × (bytes_line ts ≡ None) × (agent_line ts ≡ None) × (if_line ts ≡ None) × (else_line ts ≡ None) × (end_line ts ≡ None)
 
-atomic_load_again : (reg index : ℕ) → reg < REGISTERS → atomic_load (statement_tokens (Load reg Uint8 index true)) ≡ Some (StatementLine (Load reg Uint8 index true))
-unfolding atomic_load atomic_of view_of after_word after_sign number_of word_of
-atomic_load_again reg index h = rw (register_again reg (Sign Gives ∷ (atomic_tokens (codes "load") Uint8 index ++ Sign CloseParen ∷ [])) h) refl
+frame_none : (ts : List Token) → frame_form ts ≡ None → no_frame ts
+unfolding frame_form
+frame_none ts none =
+    let a = neither (ended ts Blank) _ none in
+    let b = neither (test_line ts) _ a.1 in
+    let c = neither (bytes_line ts) _ b.1 in
+    let d = neither (agent_line ts) _ c.1 in
+    let e = neither (if_line ts) _ d.1 in
+    let g = neither (else_line ts) (end_line ts) e.1 in
+    (a.0, b.0, c.0, d.0, e.0, g.0, g.1)
 
-load_again : (reg index : ℕ) (atomic : Bool) → reg < REGISTERS → plain_form (statement_tokens (Load reg Uint8 index atomic)) ≡ Some (StatementLine (Load reg Uint8 index atomic))
-unfolding plain_form test_line bytes_line agent_line plain_store element_of view_of after_word word_of
-load_again reg index false h = rw (plain_load_again reg index h) refl
-load_again reg index true h = rw (atomic_is_no_plain_load reg index h, atomic_load_again reg index h) refl
+blank_stuck : (ts : List Token) → ended ts Blank ≡ None → ts ≡ [] → ⊥
+blank_stuck [] none is = let found : ended [] Blank ≡ Some Blank = refl in absurd cc
+blank_stuck (t ∷ ts) none is = absurd cc
 
-store_again : (index value : ℕ) (atomic : Bool) → plain_form (statement_tokens (Store Uint8 index value atomic)) ≡ Some (StatementLine (Store Uint8 index value atomic))
-unfolding plain_form test_line bytes_line agent_line plain_load plain_store atomic_load atomic_store element_of atomic_of view_of register_of register_number after_word after_sign word_of number_of
-store_again index value false = refl
-store_again index value true = refl
+frame_absent : (ts : List Token) (f : Form) → no_frame ts → IsSpelling ts f → ((s : Statement) × (f ≡ StatementLine s)) ⊎ ((w : Written) × (f ≡ CheckLine w))
+unfolding test_line agent_line bytes_line if_line else_line end_line spelled IsForm
+frame_absent ts Blank none h = absurd (blank_stuck ts none.0 h.0)
+frame_absent ts (TestLine name) none h = absurd (stuck test_row (name, tt) test_made ts tt h.0 none.1)
+frame_absent ts (BytesLine bytes) none h = absurd (stuck bytes_row (bytes, tt) bytes_made ts tt h.0 none.2)
+frame_absent ts (AgentLine name) none h = absurd (stuck agent_row (name, tt) agent_made ts tt h.0 none.3)
+frame_absent ts (StatementLine s) none h = inl (s, refl)
+frame_absent ts (IfLine reg equal value) none h = absurd (stuck if_row (reg, (equal, (value, tt))) if_made ts (h.1, tt) h.0 none.4)
+frame_absent ts ElseLine none h = absurd (stuck else_row tt else_made ts tt h.0 none.5)
+frame_absent ts EndLine none h = absurd (stuck end_row tt end_made ts tt h.0 none.6)
+frame_absent ts (CheckLine w) none h = inr (w, refl)
 
-statement_again : (t : Statement) → IsFormStatement t → plain_form (statement_tokens t) ≡ Some (StatementLine t)
-statement_again (Load reg window index atomic) is = subst (λ (w : Window). plain_form (statement_tokens (Load reg w index atomic)) ≡ Some (StatementLine (Load reg w index atomic))) (sym is.1) (load_again reg index atomic is.0)
-statement_again (Store window index value atomic) is = subst (λ (w : Window). plain_form (statement_tokens (Store w index value atomic)) ≡ Some (StatementLine (Store w index value atomic))) (sym is) (store_again index value atomic)
-statement_again (Exchange reg window index value) is = absurd is
-statement_again (CompareExchange reg window index expected value) is = absurd is
-statement_again (If reg equal value body other) is = absurd is
+abbrev no_array : List Token → Type 0
+no_array ts = (plain_load ts ≡ None) × (plain_store ts ≡ None) × (atomic_load ts ≡ None) × (atomic_store ts ≡ None) × (exchange ts ≡ None) × (compare_exchange ts ≡ None)
 
-pub check_is_no_plain_form : (ts : List Token) → plain_form (Word (codes "check") ∷ ts) ≡ None
-unfolding plain_form test_line bytes_line agent_line plain_load plain_store atomic_load atomic_store element_of atomic_of view_of register_of register_number after_word after_sign word_of number_of
-check_is_no_plain_form ts = refl
+array_none : (ts : List Token) → array_form ts ≡ None → no_array ts
+unfolding array_form
+array_none ts none =
+    let a = neither (plain_load ts) _ none in
+    let b = neither (plain_store ts) _ a.1 in
+    let c = neither (atomic_load ts) _ b.1 in
+    let d = neither (atomic_store ts) _ c.1 in
+    let e = neither (exchange ts) (compare_exchange ts) d.1 in
+    (a.0, b.0, c.0, d.0, e.0, e.1)
 
--- every form but a check is computed
-abbrev pub IsComputed : Form → Type 0
-IsComputed (CheckLine cs) = Unit {0}
-IsComputed f = plain_form (spelled f) ≡ Some f
+abbrev no_view : List Token → Type 0
+no_view ts =
+    (byte_load ts ≡ None) × (wide_load (codes "getUint16") DataView16 ts ≡ None) × (wide_load (codes "getUint32") DataView32 ts ≡ None) × (byte_store ts ≡ None)
+    × (wide_store (codes "setUint16") DataView16 ts ≡ None) × (wide_store (codes "setUint32") DataView32 ts ≡ None)
 
-pub form_again : (f : Form) → IsForm f → IsComputed f
-unfolding spelled IsForm plain_form test_line bytes_line agent_line after_word word_of number_of
-form_again Blank is = refl
-form_again (TestLine name) is = refl
-form_again (BytesLine bytes) is = refl
-form_again (AgentLine name) is = refl
-form_again (StatementLine t) is = statement_again t is
-form_again (CheckLine cs) is = tt
+view_none : (ts : List Token) → view_form ts ≡ None → no_view ts
+unfolding view_form
+view_none ts none =
+    let a = neither (byte_load ts) _ none in
+    let b = neither (wide_load (codes "getUint16") DataView16 ts) _ a.1 in
+    let c = neither (wide_load (codes "getUint32") DataView32 ts) _ b.1 in
+    let d = neither (byte_store ts) _ c.1 in
+    let e = neither (wide_store (codes "setUint16") DataView16 ts) (wide_store (codes "setUint32") DataView32 ts) d.1 in
+    (a.0, b.0, c.0, d.0, e.0, e.1)
 
--- ---- comparisons
+plain_load_stuck : (ts : List Token) (reg : ℕ) (w : Window) (index : ℕ) → reg < REGISTERS → is_data_view w ≡ false → plain_load ts ≡ None → ts ≡ spelled (StatementLine (Load reg w index false)) → ⊥
+unfolding plain_load spelled
+plain_load_stuck ts reg w index low typed none is =
+    stuck plain_load_row (reg, (w, (index, tt))) plain_load_made ts (low, (typed, tt)) (is ∙ ap (λ (x : List Token). Word (114 ∷ (48 + reg) ∷ []) ∷ Sign Gives ∷ x) (read_typed w index typed)) none
 
-abbrev with_side : Bool → Option (List Token) → Option (Bool × List Token)
-with_side side o = option_map (λ rest. (side, rest)) o
+plain_store_stuck : (ts : List Token) (w : Window) (index value : ℕ) → is_data_view w ≡ false → plain_store ts ≡ None → ts ≡ spelled (StatementLine (Store w index value false)) → ⊥
+unfolding plain_store spelled
+plain_store_stuck ts w index value typed none is = stuck plain_store_row (w, (index, (value, tt))) plain_store_made ts (typed, tt) (is ∙ stored_typed w index value typed) none
 
-abbrev made : List ℕ → ℕ → Bool → ℕ → List Token → Option (Comparison × List Token)
-made agent reg equal value rest = Some (record { agent = agent; reg = reg; equal = equal; value = value }, rest)
+load_stuck : (ts : List Token) (reg : ℕ) (w : Window) (index : ℕ) → reg < REGISTERS → no_array ts → no_view ts → ts ≡ spelled (StatementLine (Load reg w index false)) → ⊥
+unfolding byte_load wide_load spelled
+load_stuck ts reg Uint8 index low a v is = plain_load_stuck ts reg Uint8 index low refl a.0 is
+load_stuck ts reg Uint16 index low a v is = plain_load_stuck ts reg Uint16 index low refl a.0 is
+load_stuck ts reg Uint32 index low a v is = plain_load_stuck ts reg Uint32 index low refl a.0 is
+load_stuck ts reg DataView8 index low a v is = stuck byte_load_row (reg, (index, tt)) byte_load_made ts (low, tt) is v.0
+load_stuck ts reg DataView16 index low a v is = stuck (wide_load_row (codes "getUint16")) (reg, (index, tt)) (wide_load_made (codes "getUint16") DataView16) ts (low, tt) is v.1
+load_stuck ts reg DataView32 index low a v is = stuck (wide_load_row (codes "getUint32")) (reg, (index, tt)) (wide_load_made (codes "getUint32") DataView32) ts (low, tt) is v.2
 
-relation_is : (ts : List Token) (equal : Bool) (rest : List Token) → relation_of ts ≡ Some (equal, rest) → ts ≡ Sign (cond equal Same Differs) ∷ rest
-unfolding relation_of
-relation_is ts equal rest e = by (after_sign ts Same) refl (after_sign ts Differs) refl e
-  where
-    by : (o : Option (List Token)) → after_sign ts Same ≡ o → (p : Option (List Token)) → after_sign ts Differs ≡ p
-        → or_else (with_side true o) (with_side false p) ≡ Some (equal, rest) → ts ≡ Sign (cond equal Same Differs) ∷ rest
-    by (Some r) o_is p p_is h = let q = pair_parts true equal r rest h in rw (← q.0, ← q.1) (sign_is ts Same r o_is)
-    by None o_is (Some r) p_is h = let q = pair_parts false equal r rest h in rw (← q.0, ← q.1) (sign_is ts Differs r p_is)
-    by None o_is None p_is h = absurd cc
+store_stuck : (ts : List Token) (w : Window) (index value : ℕ) → no_array ts → no_view ts → ts ≡ spelled (StatementLine (Store w index value false)) → ⊥
+unfolding byte_store wide_store spelled
+store_stuck ts Uint8 index value a v is = plain_store_stuck ts Uint8 index value refl a.1 is
+store_stuck ts Uint16 index value a v is = plain_store_stuck ts Uint16 index value refl a.1 is
+store_stuck ts Uint32 index value a v is = plain_store_stuck ts Uint32 index value refl a.1 is
+store_stuck ts DataView8 index value a v is = stuck byte_store_row (index, (value, tt)) byte_store_made ts tt is v.3
+store_stuck ts DataView16 index value a v is = stuck (wide_store_row (codes "setUint16")) (index, (value, tt)) (wide_store_made (codes "setUint16") DataView16) ts tt is v.4
+store_stuck ts DataView32 index value a v is = stuck (wide_store_row (codes "setUint32")) (index, (value, tt)) (wide_store_made (codes "setUint32") DataView32) ts tt is v.5
 
-comparison_join : (ts a b c d f rest : List Token) (agent : List ℕ) (reg : ℕ) (equal : Bool) (value : ℕ) → ts ≡ Word agent ∷ a → a ≡ Sign Dot ∷ b → b ≡ Word (register_word reg) ∷ c
-    → c ≡ Sign (cond equal Same Differs) ∷ d → d ≡ Number value ∷ f → f ≡ rest → ts ≡ comparison_tokens (record { agent = agent; reg = reg; equal = equal; value = value }) ++ rest
-comparison_join ts a b c d f rest agent reg equal value t_is a_is b_is c_is d_is f_is = rw (t_is, a_is, b_is, c_is, d_is, f_is) refl
+access_stuck : (ts : List Token) (s : Statement) → no_array ts → no_view ts → IsSpelling ts (StatementLine s) → ⊥
+unfolding atomic_load atomic_store exchange compare_exchange spelled IsForm
+access_stuck ts (Load reg w index false) a v is = load_stuck ts reg w index is.1.0 a v is.0
+access_stuck ts (Load reg w index true) a v is = stuck atomic_load_row (reg, (w, (index, tt))) atomic_load_made ts (is.1.0, (is.1.1 refl, tt)) is.0 a.2
+access_stuck ts (Store w index value false) a v is = store_stuck ts w index value a v is.0
+access_stuck ts (Store w index value true) a v is = stuck atomic_store_row (w, (index, (value, tt))) atomic_store_made ts (is.1 refl, tt) is.0 a.3
+access_stuck ts (Exchange reg w index value) a v is = stuck exchange_row (reg, (w, (index, (value, tt)))) exchange_made ts (is.1.0, (is.1.1, tt)) is.0 a.4
+access_stuck ts (CompareExchange reg w index expected value) a v is = stuck compare_exchange_row (reg, (w, (index, (expected, (value, tt))))) compare_exchange_made ts (is.1.0, (is.1.1, tt)) is.0 a.5
+access_stuck ts (If reg equal value body other) a v is = is.1
 
-pub comparison_is : (ts : List Token) (c : Comparison) (rest : List Token) → comparison_of ts ≡ Some (c, rest) → (ts ≡ comparison_tokens c ++ rest) × (c.reg < REGISTERS)
-unfolding comparison_of
-comparison_is ts c rest e =
-    let a = bind_some (word_of ts) (λ agent. after_sign agent.1 Dot >>= λ dot. register_of dot >>= λ reg. relation_of reg.1 >>= λ relation. number_of relation.1 >>= λ value. made agent.0 reg.0 relation.0 value.0 value.1) (c, rest) e in
-    let b = bind_some (after_sign a.0.1 Dot) (λ dot. register_of dot >>= λ reg. relation_of reg.1 >>= λ relation. number_of relation.1 >>= λ value. made a.0.0 reg.0 relation.0 value.0 value.1) (c, rest) a.2 in
-    let d = bind_some (register_of b.0) (λ reg. relation_of reg.1 >>= λ relation. number_of relation.1 >>= λ value. made a.0.0 reg.0 relation.0 value.0 value.1) (c, rest) b.2 in
-    let f = bind_some (relation_of d.0.1) (λ relation. number_of relation.1 >>= λ value. made a.0.0 d.0.0 relation.0 value.0 value.1) (c, rest) d.2 in
-    let g = bind_some (number_of f.0.1) (λ value. made a.0.0 d.0.0 f.0.0 value.0 value.1) (c, rest) f.2 in
-    let whole : Comparison = record { agent = a.0.0; reg = d.0.0; equal = f.0.0; value = g.0.0 } in
-    let p = pair_parts whole c g.0.1 rest g.2 in
-    let r = register_is b.0 d.0.0 d.0.1 d.1 in
-    let joined = comparison_join ts a.0.1 b.0 d.0.1 f.0.1 g.0.1 rest a.0.0 d.0.0 f.0.0 g.0.0 (word_is ts a.0.0 a.0.1 a.1) (sign_is a.0.1 Dot b.0 b.1) r.0 (relation_is d.0.1 f.0.0 f.0.1 f.1) (number_is f.0.1 g.0.0 g.0.1 g.1) p.1 in
-    subst (λ (x : Comparison). (ts ≡ comparison_tokens x ++ rest) × (x.reg < REGISTERS)) p.0 (joined, r.1)
-
-relation_again : (equal : Bool) (rest : List Token) → relation_of (Sign (cond equal Same Differs) ∷ rest) ≡ Some (equal, rest)
-unfolding relation_of after_sign
-relation_again true rest = refl
-relation_again false rest = refl
-
-pub comparison_again : (c : Comparison) (rest : List Token) → c.reg < REGISTERS → comparison_of (comparison_tokens c ++ rest) ≡ Some (c, rest)
-unfolding comparison_of word_of number_of after_sign
-comparison_again c rest h = rw (register_again c.reg (Sign (cond c.equal Same Differs) ∷ Number c.value ∷ rest) h, relation_again c.equal (Number c.value ∷ rest)) refl
+-- tokens of which no form but a check line is computed
+pub fixed_form_absent : (ts : List Token) (f : Form) → fixed_form ts ≡ None → IsSpelling ts f → (w : Written) × (f ≡ CheckLine w)
+unfolding fixed_form
+fixed_form_absent ts f none is =
+    let a = neither (frame_form ts) _ none in
+    let b = neither (array_form ts) (view_form ts) a.1 in
+    elim (frame_absent ts f (frame_none ts a.0) is) [
+      | inl s ↦ absurd (access_stuck ts s.0 (array_none ts b.0) (view_none ts b.1) (subst (IsSpelling ts) s.1 is))
+      | inr w ↦ w
+    ]

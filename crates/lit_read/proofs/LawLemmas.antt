@@ -1,83 +1,47 @@
 -- Each text spells one test or has a first fault, and neither two.
-use Rattle.std.proofs.Common.{◌≡◌, ◌≢◌, ℕ, zero, suc, ◌+◌, ◌<◌, ◌≤◌, Bool, true, false, cond, not, eqb, List, [], ◌∷◌, ◌++◌, length, take, drop, ◌⊎◌, inl, inr, refl, sym, ap, subst, ◌∙◌, Option, Some, None, Result, Ok, Err, arith, append_assoc}
+use Rattle.std.proofs.Common.{◌≡◌, ◌≢◌, ℕ, zero, suc, ◌+◌, ◌<◌, ◌≤◌, Bool, true, false, cond, not, eqb, List, [], ◌∷◌, ◌++◌, length, take, drop, ◌⊎◌, inl, inr, refl, sym, ap, subst, ◌∙◌, Option, Some, None, Result, Ok, Err, arith}
 use Rattle.std.specs.Prelude.{codes}
-use Rattle.std.specs.List.{list_all, prefix_len, flat_map}
-use Rattle.std.proofs.lemmas.Bool.{cases_lt}
+use Rattle.std.specs.List.{list_all, prefix_len}
+use Rattle.std.proofs.lemmas.Bool.{cases_lt, eqb-true}
 use Rattle.std.proofs.lemmas.List.{length-append, length-drop}
 use Rattle.lit_read.specs.declared.fault.ReadKind.{ReadKind}
-use Rattle.lit_read.specs.declared.fault.ReadKind.TheVariants.{TooLong, NotAscii, Syntax, Misplaced, BlockSize, TooManyAgents, DuplicateAgent, LiteralRange, OutOfBlock, UnknownName, MissingPart, OutOfMemory}
-use Rattle.lit_read.specs.declared.symbols.Symbol.TheVariants.{And}
+use Rattle.lit_read.specs.declared.fault.ReadKind.TheVariants.{TooLong, NotAscii, Syntax, Misplaced, BlockSize, TooManyAgents, DuplicateAgent, LiteralRange, OutOfBlock, UnknownName, TooDeep, MissingPart, OutOfMemory}
 use Rattle.lit_read.specs.declared.limits.TheConstants.{TEXT_LIMIT}
-use Rattle.lit_read.specs.Syntax.{Agent, Condition, Litmus, Statements, End, Then}
+use Rattle.lit_read.specs.Syntax.{Litmus}
 use Rattle.lit_read.specs.Lines.{lines_of}
-use Rattle.lit_read.specs.Tokens.{Token, Sign, CutsInto, is_comment}
-use Rattle.lit_read.specs.Forms.{Comparison, Form, TestLine, BytesLine, CheckLine, IsSpelling, SpellsCondition, comparison_tokens, without_blanks}
-use Rattle.lit_read.specs.FirstToken.{token_front, after_blanks}
-use Rattle.lit_read.specs.FormOfTokens.{after_sign, after_word, comparison_of, plain_form}
-use Rattle.lit_read.specs.Faults.{number_of, is_allowed, agents_of, HasFault, IsFirstFault}
-use Rattle.lit_read.specs.Spelling.{statement_lines, agent_lines, condition_from, forms_of, Spells}
-use Rattle.lit_read.specs.State.{State, Empty, Named, Sized, Open, Whole, step}
-use Rattle.lit_read.specs.LineSteps.{IsLine, IsNoLine}
+use Rattle.lit_read.specs.Tokens.{Token, CutsInto, is_comment}
+use Rattle.lit_read.specs.Written.{Written, written_tokens}
+use Rattle.lit_read.specs.Forms.{Form, IsSpelling, without_blanks}
+use Rattle.lit_read.specs.Faults.{number_of, is_allowed, HasFault, IsFirstFault}
+use Rattle.lit_read.specs.Spelling.{AreFormsOf, Spells}
+use Rattle.lit_read.specs.Reading.FirstToken.{token_front, after_blanks}
+use Rattle.lit_read.specs.Reading.FormOfTokens.{after_word, fixed_form}
+use Rattle.lit_read.specs.Reading.Marks.{Mark, mark_tokens, mark_of, follow, SpellsMarks, SpellsNoCondition}
+use Rattle.lit_read.specs.Reading.State.{State, Empty, Named, Sized, Open, Whole, step}
+use Rattle.lit_read.specs.Reading.LineSteps.{IsLine, IsNoLine}
 use Rattle.lit_read.proofs.LineLemmas.{behind, lines_split}
 use Rattle.lit_read.proofs.Cuttings.{Cutting, cutting_begins, cutting_goes_on, cutting_ends, cutting_fails, cut_shorter}
-use Rattle.lit_read.proofs.FormLemmas.{comparison_is, sign_is, plain_form_is}
-use Rattle.lit_read.proofs.ConditionLemmas.{Pending, pending_begins, pending_goes_on, pending_ends, pending_stuck, pending_cut, no_check, check_found, check_absent, form_absent}
-use Rattle.lit_read.proofs.DraftForms.{agents_back}
+use Rattle.lit_read.proofs.FormLemmas.{fixed_form_is}
+use Rattle.lit_read.proofs.MarkLemmas.{Marking, marking_begins, marking_goes_on, marking_stuck, marking_ends, marking_fails, mark_is, mark_long}
+use Rattle.lit_read.proofs.LineForms.{no_check, check_found, check_absent, form_absent}
 use Rattle.lit_read.proofs.StepFaults.{Outcome, outcome}
 use Rattle.lit_read.proofs.ReadLemmas.{forms_once, no_form, no_cut}
 use Rattle.lit_read.proofs.Progress.{Progress, progress_begins, progress_goes_on, progress_fails, progress_spells, progress_ends, too_long, faulty_kind}
+use Rattle.lit_read.proofs.TestForms.{one_test_of}
 
 -- ---- one test
-
-tail_is : (x y : Form) (xs ys : List Form) → x ∷ xs ≡ y ∷ ys → xs ≡ ys
-tail_is x y xs ys e = cc
-
-test_name : (a b : List ℕ) (xs ys : List Form) → TestLine a ∷ xs ≡ TestLine b ∷ ys → a ≡ b
-test_name a b xs ys e = cc
-
-block_size : (a b : ℕ) (xs ys : List Form) → BytesLine a ∷ xs ≡ BytesLine b ∷ ys → a ≡ b
-block_size a b xs ys e = cc
-
--- the comparisons of the check line at the end
-abbrev checked_of : List Form → List Comparison
-checked_of [] = []
-checked_of (CheckLine cs ∷ fs) = cs
-checked_of (f ∷ fs) = checked_of fs
-
-checked_statements : (body : Statements) (rest : List Form) → checked_of (statement_lines body ++ rest) ≡ checked_of rest
-checked_statements End rest = refl
-checked_statements (Then s ss) rest = checked_statements ss rest
-
-checked_back : (agents : List Agent) (cs : List Comparison) → checked_of (flat_map agent_lines agents ++ CheckLine cs ∷ []) ≡ cs
-checked_back [] cs = refl
-checked_back (a ∷ others) cs =
-    ap checked_of (append_assoc (agent_lines a) (flat_map agent_lines others) (CheckLine cs ∷ [])) ∙ checked_statements a.body (flat_map agent_lines others ++ CheckLine cs ∷ []) ∙ checked_back others cs
-
-abbrev litmus : List ℕ → ℕ → List Agent → Condition → Litmus
-litmus name bytes agents check = record { name = name; bytes = bytes; agents = agents; check = check }
-
-same_forms : (t u : Litmus) (cs ds : List Comparison) → forms_of t cs ≡ forms_of u ds → t.check ≡ condition_from t.agents cs → u.check ≡ condition_from u.agents ds → t ≡ u
-same_forms t u cs ds e t_check u_check =
-    let name : t.name ≡ u.name = test_name _ _ _ _ e in
-    let rest = tail_is _ _ _ _ e in
-    let bytes : t.bytes ≡ u.bytes = block_size _ _ _ _ rest in
-    let last : flat_map agent_lines t.agents ++ CheckLine cs ∷ [] ≡ flat_map agent_lines u.agents ++ CheckLine ds ∷ [] = tail_is _ _ _ _ rest in
-    let agents : t.agents ≡ u.agents = sym (agents_back t.agents (CheckLine cs ∷ []) refl refl) ∙ ap agents_of last ∙ agents_back u.agents (CheckLine ds ∷ []) refl refl in
-    let comparisons : cs ≡ ds = sym (checked_back t.agents cs) ∙ ap checked_of last ∙ checked_back u.agents ds in
-    let check : t.check ≡ u.check = t_check ∙ ap (λ (l : List Agent). condition_from l cs) agents ∙ ap (condition_from u.agents) comparisons ∙ sym u_check in
-    ap (λ (n : List ℕ). litmus n t.bytes t.agents t.check) name ∙ ap (λ (b : ℕ). litmus u.name b t.agents t.check) bytes ∙ ap (λ (l : List Agent). litmus u.name u.bytes l t.check) agents ∙ ap (litmus u.name u.bytes u.agents) check
 
 pub one_test : (text : List ℕ) (t u : Litmus) → Spells text t → Spells text u → t ≡ u
 one_test text t u a b =
     let same : a.forms ≡ b.forms = forms_once (lines_of text) a.forms b.forms a.lines b.lines in
-    same_forms t u a.comparisons b.comparisons (sym a.parts ∙ ap without_blanks same ∙ b.parts) a.check b.check
+    one_test_of (without_blanks b.forms) t u (subst (λ (fs : List Form). AreFormsOf (without_blanks fs) t) same a.are) b.are
 
 -- ---- one first fault
 
 kind_of : ℕ → ReadKind
 kind_of n =
     cond (eqb n 1) TooLong (cond (eqb n 2) NotAscii (cond (eqb n 3) Syntax (cond (eqb n 4) Misplaced (cond (eqb n 5) BlockSize (cond (eqb n 6) TooManyAgents
-    (cond (eqb n 7) DuplicateAgent (cond (eqb n 8) LiteralRange (cond (eqb n 9) OutOfBlock (cond (eqb n 10) UnknownName (cond (eqb n 12) MissingPart OutOfMemory))))))))))
+    (cond (eqb n 7) DuplicateAgent (cond (eqb n 8) LiteralRange (cond (eqb n 9) OutOfBlock (cond (eqb n 10) UnknownName (cond (eqb n 11) TooDeep (cond (eqb n 12) MissingPart OutOfMemory)))))))))))
 
 kind_back : (k : ReadKind) → kind_of (number_of k) ≡ k
 unfolding kind_of
@@ -91,6 +55,7 @@ kind_back DuplicateAgent = refl
 kind_back LiteralRange = refl
 kind_back OutOfBlock = refl
 kind_back UnknownName = refl
+kind_back TooDeep = refl
 kind_back MissingPart = refl
 kind_back OutOfMemory = refl
 
@@ -116,40 +81,43 @@ tokens_told (suc n) line rest done lt so_far =
     by false left None front more = inr (cutting_fails line rest done left front so_far)
     by false left (Some p) front more = more p.0 p.1 front
 
-condition_told : (n : ℕ) (tokens rest : List Token) (done : List Comparison) → length rest < n → Pending tokens rest done
-    → ((cs : List Comparison) × SpellsCondition tokens cs) ⊎ ((cs : List Comparison) → SpellsCondition tokens cs → ⊥)
-condition_told zero tokens rest done lt so_far = absurd (omega arith)
-condition_told (suc n) tokens rest done lt so_far =
-    by (comparison_of rest) refl (λ c next e. condition_told n tokens next (done ++ c ∷ []) (next_short c next e) (pending_goes_on tokens rest next done c e so_far))
+abbrev ToldCondition : List Token → Type 0
+ToldCondition tokens = ((ms : List Mark) × SpellsMarks tokens ms) ⊎ SpellsNoCondition tokens
+
+condition_told : (fuel : ℕ) (tokens rest : List Token) (done : List Mark) (b : Bool) (n : ℕ) → length rest < fuel → Marking tokens rest done b n → ToldCondition tokens
+condition_told zero tokens rest done b n lt so_far = absurd (omega arith)
+condition_told (suc fuel) tokens rest done b n lt so_far =
+    by (mark_of rest) refl (λ m after c k e step. condition_told fuel tokens after (done ++ m ∷ []) c k (shorter m after e) (marking_goes_on tokens rest after done b n m c k e step so_far))
   where
-    next_short : (c : Comparison) (next : List Token) → comparison_of rest ≡ Some (c, Sign And ∷ next) → length next < n
-    next_short c next e = omega (arith, ap length (comparison_is rest c (Sign And ∷ next) e).0, length-append (comparison_tokens c) (Sign And ∷ next))
+    shorter : (m : Mark) (after : List Token) → mark_of rest ≡ Some (m, after) → length after < fuel
+    shorter m after e = let front = mark_is rest m after e in omega (arith, ap length front.0, length-append (mark_tokens m) after, mark_long m)
 
-    behind_told : (c : Comparison) (after : List Token) → comparison_of rest ≡ Some (c, after)
-        → ((c : Comparison) (next : List Token) → comparison_of rest ≡ Some (c, Sign And ∷ next) → ((cs : List Comparison) × SpellsCondition tokens cs) ⊎ ((cs : List Comparison) → SpellsCondition tokens cs → ⊥))
-        → (o : Option (List Token)) → after_sign after And ≡ o → ((cs : List Comparison) × SpellsCondition tokens cs) ⊎ ((cs : List Comparison) → SpellsCondition tokens cs → ⊥)
-    behind_told c [] e more o is = inl (done ++ c ∷ [], pending_ends tokens rest done c e so_far)
-    behind_told c (t ∷ ts) e more None is = inr (pending_cut tokens rest (t ∷ ts) done c e (omega arith) is so_far)
-    behind_told c (t ∷ ts) e more (Some next) is = more c next (subst (λ (x : List Token). comparison_of rest ≡ Some (c, x)) (sign_is (t ∷ ts) And next is) e)
+    ended : mark_of rest ≡ None → (x : List Token) → rest ≡ x → (y : Bool) → b ≡ y → (z : Bool) → eqb n 0 ≡ z → ToldCondition tokens
+    ended e [] is true b_is true n_is = inl (done, marking_ends tokens rest done b n is b_is (eqb-true _ _ n_is) so_far)
+    ended e [] is true b_is false n_is = inr (marking_fails tokens rest done b n e (λ x y z. let zero_is : eqb n 0 ≡ true = ap (λ (k : ℕ). eqb k 0) z in absurd cc) so_far)
+    ended e [] is false b_is z n_is = inr (marking_fails tokens rest done b n e (λ x y z. absurd cc) so_far)
+    ended e (t ∷ ts) is y b_is z n_is = inr (marking_fails tokens rest done b n e (λ x y z. let none : t ∷ ts ≡ [] = sym is ∙ x in absurd cc) so_far)
 
-    by : (o : Option (Comparison × List Token)) → comparison_of rest ≡ o
-        → ((c : Comparison) (next : List Token) → comparison_of rest ≡ Some (c, Sign And ∷ next) → ((cs : List Comparison) × SpellsCondition tokens cs) ⊎ ((cs : List Comparison) → SpellsCondition tokens cs → ⊥))
-        → ((cs : List Comparison) × SpellsCondition tokens cs) ⊎ ((cs : List Comparison) → SpellsCondition tokens cs → ⊥)
-    by None e more = inr (pending_stuck tokens rest done e so_far)
-    by (Some p) e more = behind_told p.0 p.1 e more (after_sign p.1 And) refl
+    stepped : (m : Mark) (after : List Token) → mark_of rest ≡ Some (m, after) → (o : Option (Bool × ℕ)) → follow b n m ≡ o
+        → ((m : Mark) (after : List Token) (c : Bool) (k : ℕ) → mark_of rest ≡ Some (m, after) → follow b n m ≡ Some (c, k) → ToldCondition tokens) → ToldCondition tokens
+    stepped m after e None is more = inr (marking_stuck tokens rest after done b n m e is so_far)
+    stepped m after e (Some p) is more = more m after p.0 p.1 e is
+
+    by : (o : Option (Mark × List Token)) → mark_of rest ≡ o → ((m : Mark) (after : List Token) (c : Bool) (k : ℕ) → mark_of rest ≡ Some (m, after) → follow b n m ≡ Some (c, k) → ToldCondition tokens) → ToldCondition tokens
+    by None e more = ended e rest refl b refl (eqb n 0) refl
+    by (Some p) e more = stepped p.0 p.1 e (follow b n p.0) refl more
 
 form_told : (ts : List Token) → ((f : Form) × IsSpelling ts f) ⊎ ((f : Form) → IsSpelling ts f → ⊥)
-form_told ts = by (plain_form ts) refl (after_word ts (codes "check")) refl
+form_told ts = by (fixed_form ts) refl (after_word ts (codes "check")) refl
   where
-    behind_check : (rest : List Token) → after_word ts (codes "check") ≡ Some rest → plain_form ts ≡ None
-        → ((cs : List Comparison) × SpellsCondition rest cs) ⊎ ((cs : List Comparison) → SpellsCondition rest cs → ⊥) → ((f : Form) × IsSpelling ts f) ⊎ ((f : Form) → IsSpelling ts f → ⊥)
-    behind_check rest e none (inl p) = inl (CheckLine p.0, check_found ts rest p.0 e p.1)
+    behind_check : (rest : List Token) → after_word ts (codes "check") ≡ Some rest → fixed_form ts ≡ None → ToldCondition rest → ((f : Form) × IsSpelling ts f) ⊎ ((f : Form) → IsSpelling ts f → ⊥)
+    behind_check rest e none (inl p) = let found = check_found ts rest p.0 e p.1 in inl (found.0, found.2)
     behind_check rest e none (inr other) = inr (form_absent ts none (check_absent ts rest e other))
 
-    by : (o : Option Form) → plain_form ts ≡ o → (w : Option (List Token)) → after_word ts (codes "check") ≡ w → ((f : Form) × IsSpelling ts f) ⊎ ((f : Form) → IsSpelling ts f → ⊥)
-    by (Some f) e w is = inl (f, plain_form_is ts f e)
+    by : (o : Option Form) → fixed_form ts ≡ o → (w : Option (List Token)) → after_word ts (codes "check") ≡ w → ((f : Form) × IsSpelling ts f) ⊎ ((f : Form) → IsSpelling ts f → ⊥)
+    by (Some f) e w is = inl (f, fixed_form_is ts f e)
     by None e None is = inr (form_absent ts e (no_check ts is))
-    by None e (Some rest) is = behind_check rest is e (condition_told (suc (length rest)) rest rest [] (omega arith) (pending_begins rest))
+    by None e (Some rest) is = behind_check rest is e (condition_told (suc (length rest)) rest rest [] false 0 (omega arith) (marking_begins rest))
 
 line_told : (line : List ℕ) → ((f : Form) × IsLine line f) ⊎ ((k : ReadKind) × (k ≢ OutOfMemory) × IsNoLine line k)
 line_told line = by (list_all is_allowed line) refl (tokens_told (suc (length line)) line line [] (omega arith) (cutting_begins line))
@@ -177,7 +145,7 @@ ended_told : (text : List ℕ) (number : ℕ) (s : State) → Progress text numb
 ended_told text number Empty p = inr (MissingPart, number, progress_ends text number Empty p tt)
 ended_told text number (Named m) p = inr (MissingPart, number, progress_ends text number (Named m) p tt)
 ended_told text number (Sized m b) p = inr (MissingPart, number, progress_ends text number (Sized m b) p tt)
-ended_told text number (Open m b agents agent body) p = inr (MissingPart, number, progress_ends text number (Open m b agents agent body) p tt)
+ended_told text number (Open m b agents agent levels body) p = inr (MissingPart, number, progress_ends text number (Open m b agents agent levels body) p tt)
 ended_told text number (Whole t) p = inl (t, progress_spells text number t p)
 
 failed : (text : List ℕ) (k : ReadKind) (n : ℕ) → k ≢ OutOfMemory → (k ≡ OutOfMemory) ⊎ IsFirstFault text k n → Told text

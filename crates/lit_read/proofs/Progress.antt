@@ -4,20 +4,20 @@ use Rattle.std.specs.List.{list_all, list_any}
 use Rattle.std.proofs.lemmas.Bool.{cases_lt}
 use Rattle.std.proofs.lemmas.List.{append-nil, length-append, take_at}
 use Rattle.lit_read.specs.declared.fault.ReadKind.{ReadKind}
-use Rattle.lit_read.specs.declared.fault.ReadKind.TheVariants.{TooLong, NotAscii, Syntax, Misplaced, BlockSize, TooManyAgents, DuplicateAgent, LiteralRange, OutOfBlock, UnknownName, MissingPart, OutOfMemory}
+use Rattle.lit_read.specs.declared.fault.ReadKind.TheVariants.{TooLong, NotAscii, Syntax, Misplaced, BlockSize, TooManyAgents, DuplicateAgent, LiteralRange, OutOfBlock, UnknownName, TooDeep, MissingPart, OutOfMemory}
 use Rattle.lit_read.specs.declared.limits.TheConstants.{TEXT_LIMIT}
 use Rattle.lit_read.specs.Syntax.{Litmus}
 use Rattle.lit_read.specs.Lines.{lines_of, lines_from, onto_first}
 use Rattle.lit_read.specs.Forms.{Form, HasForm, HaveForms, without_blanks}
-use Rattle.lit_read.specs.Faults.{number_of, is_allowed, is_check_line, is_faulty, HasLineFault, HasFault, IsFirstFault, IsRefusal}
+use Rattle.lit_read.specs.Faults.{number_of, is_allowed, is_check_line, is_faulty, HasLineFault, HasFault, IsFirstFault, IsReadFault}
 use Rattle.lit_read.specs.Spelling.{Spells}
-use Rattle.lit_read.specs.State.{State, Empty, Whole, IsState, IsUnfinished}
-use Rattle.lit_read.specs.LineSteps.{LineStep, LineFails}
+use Rattle.lit_read.specs.Reading.State.{State, Empty, Whole, IsState, IsUnfinished}
+use Rattle.lit_read.specs.Reading.LineSteps.{LineStep, LineFails}
 use Rattle.lit_read.proofs.StepLemmas.{step_kept}
 use Rattle.lit_read.proofs.DraftForms.{Holds, not_checked, is_checked}
 use Rattle.lit_read.proofs.StepFaults.{Clear, below, Outcome, outcome}
 use Rattle.lit_read.proofs.StepHolds.{step_holds}
-use Rattle.lit_read.proofs.ReadLemmas.{forms_once, forms_added, blanks_added, checks_left, line_fault_is, made_fault, LineFault, Which, Long, Ended, Line, which, IsOfLine, line_is_fault}
+use Rattle.lit_read.proofs.ReadLemmas.{has_words, forms_once, forms_added, blanks_added, checks_left, line_fault_is, made_fault, LineFault, Which, Long, Ended, Line, which, IsOfLine, line_is_fault}
 
 -- ---- lines and numbers
 
@@ -68,6 +68,7 @@ number_small DuplicateAgent = omega arith
 number_small LiteralRange = omega arith
 number_small OutOfBlock = omega arith
 number_small UnknownName = omega arith
+number_small TooDeep = omega arith
 number_small MissingPart = omega arith
 number_small OutOfMemory = omega arith
 
@@ -82,6 +83,7 @@ number_some DuplicateAgent = omega arith
 number_some LiteralRange = omega arith
 number_some OutOfBlock = omega arith
 number_some UnknownName = omega arith
+number_some TooDeep = omega arith
 number_some MissingPart = omega arith
 number_some OutOfMemory = omega arith
 
@@ -100,6 +102,7 @@ faulty_kind DuplicateAgent given f h = ((λ e. absurd cc, λ e. absurd cc, λ e.
 faulty_kind LiteralRange given f h = ((λ e. absurd cc, λ e. absurd cc, λ e. absurd cc), omega arith)
 faulty_kind OutOfBlock given f h = ((λ e. absurd cc, λ e. absurd cc, λ e. absurd cc), omega arith)
 faulty_kind UnknownName given f h = ((λ e. absurd cc, λ e. absurd cc, λ e. absurd cc), omega arith)
+faulty_kind TooDeep given f h = ((λ e. absurd cc, λ e. absurd cc, λ e. absurd cc), omega arith)
 
 -- ---- lowest faults of a line
 
@@ -115,6 +118,7 @@ line_number DuplicateAgent before line h = omega arith
 line_number LiteralRange before line h = omega arith
 line_number OutOfBlock before line h = omega arith
 line_number UnknownName before line h = omega arith
+line_number TooDeep before line h = omega arith
 line_number MissingPart before line h = omega arith
 line_number OutOfMemory before line h = omega arith
 
@@ -130,6 +134,7 @@ formless_number DuplicateAgent before line allowed h = omega arith
 formless_number LiteralRange before line allowed h = omega arith
 formless_number OutOfBlock before line allowed h = omega arith
 formless_number UnknownName before line allowed h = omega arith
+formless_number TooDeep before line allowed h = omega arith
 formless_number MissingPart before line allowed h = omega arith
 formless_number OutOfMemory before line allowed h = omega arith
 
@@ -240,8 +245,8 @@ module _ (text left line : List ℕ) (number : ℕ) (s : State) (after : Option 
     split = split_here ∙ sym (append_assoc p.done (line ∷ []) (lines_from after));
     count = omega (arith, length-append p.done (line ∷ []), p.count);
     have = forms_added p.done p.before line st.form p.have st.is.has;
-    holds = rw (blanks_added p.before st.form) (step_holds s t (without_blanks p.before) st.form p.holds st.steps);
-    sound = step_kept s t st.form p.sound st.is.has.spelling.1 st.steps;
+    holds = rw (blanks_added p.before st.form) (step_holds s t (without_blanks p.before) st.form st.is.has.spelling.1 p.holds st.steps);
+    sound = step_kept s t st.form p.sound st.is.has.spelling.1 (has_words line st.form st.is.has) st.steps;
     clean = λ k n ne h. later k n ne h (which text k n h);
   }
     where
@@ -278,9 +283,10 @@ no_memory_fault text k n first e = by k e first.there
     by LiteralRange e h = absurd cc
     by OutOfBlock e h = absurd cc
     by UnknownName e h = absurd cc
+    by TooDeep e h = absurd cc
     by MissingPart e h = absurd cc
 
-pub refused : (text : List ℕ) (k kind : ReadKind) (n line : ℕ) → kind ≡ k → (k ≡ OutOfMemory → line ≡ 0) → (k ≢ OutOfMemory → line ≡ n) → (k ≡ OutOfMemory) ⊎ IsFirstFault text k n → IsRefusal text kind line
+pub refused : (text : List ℕ) (k kind : ReadKind) (n line : ℕ) → kind ≡ k → (k ≡ OutOfMemory → line ≡ 0) → (k ≢ OutOfMemory → line ≡ n) → (k ≡ OutOfMemory) ⊎ IsFirstFault text k n → IsReadFault text kind line
 refused text k kind n line kind_is memory place (inl e) = inl (kind_is ∙ e, memory e)
 refused text k kind n line kind_is memory place (inr first) = inr (rw (kind_is, place (no_memory_fault text k n first)) first)
 
@@ -292,7 +298,7 @@ all_done text number s p = p.split ∙ append-nil p.done
 pub progress_spells : (text : List ℕ) (number : ℕ) (t : Litmus) → Progress text number (Whole t) None → Spells text t
 progress_spells text number t p =
     let lines : HaveForms (lines_of text) p.before = subst (λ (ls : List (List ℕ)). HaveForms ls p.before) (sym (all_done text number (Whole t) p)) p.have in
-    record { faultless = λ k n h. none k n h (which text k n h); forms = p.before; comparisons = p.holds.0; lines = lines; parts = p.holds.1; check = p.holds.2 }
+    record { faultless = λ k n h. none k n h (which text k n h); forms = p.before; lines = lines; are = p.holds }
   where
     none : (k : ReadKind) (n : ℕ) → HasFault text k n → Which text k n → ⊥
     none k n h (Long long e) = omega (arith, p.short)

@@ -1,19 +1,21 @@
 -- A text line by line: what is read is spelled, and what is refused is its first fault.
 use Rattle.std.proofs.Common.{◌≡◌, ◌≢◌, ℕ, ◌-◌, ◌<◌, true, false, IsTrue, List, [], ◌∷◌, ◌++◌, length, get_or, inl, inr, refl, sym, ap, subst, ◌∙◌, true≢false}
+use Rattle.std.specs.Prelude.{codes}
 use Rattle.std.specs.List.{list_any}
 use Rattle.lit_read.specs.declared.fault.ReadKind.{ReadKind}
-use Rattle.lit_read.specs.declared.fault.ReadKind.TheVariants.{TooLong, NotAscii, Syntax, Misplaced, BlockSize, TooManyAgents, DuplicateAgent, LiteralRange, OutOfBlock, UnknownName, MissingPart, OutOfMemory}
-use Rattle.lit_read.specs.Tokens.{Token, CutsInto}
-use Rattle.lit_read.specs.Forms.{Form, Blank, TestLine, BytesLine, AgentLine, StatementLine, CheckLine, IsSpelling, HasForm, HaveForms, without_blanks}
+use Rattle.lit_read.specs.declared.fault.ReadKind.TheVariants.{TooLong, NotAscii, Syntax, Misplaced, BlockSize, TooManyAgents, DuplicateAgent, LiteralRange, OutOfBlock, UnknownName, TooDeep, MissingPart, OutOfMemory}
+use Rattle.lit_read.specs.Tokens.{Token, Word, Number, Sign, CutsInto, IsWord}
+use Rattle.lit_read.specs.Forms.{Form, Blank, TestLine, BytesLine, AgentLine, StatementLine, IfLine, ElseLine, EndLine, CheckLine, spelled, IsSpelling, HasForm, HaveForms, without_blanks}
 use Rattle.lit_read.specs.Faults.{is_check_line, is_faulty, HasLineFault, AreFormsBefore, HasFault}
 use Rattle.lit_read.specs.Lines.{lines_of}
 use Rattle.lit_read.specs.declared.limits.TheConstants.{TEXT_LIMIT}
-use Rattle.lit_read.specs.State.{State, step}
-use Rattle.lit_read.specs.LineSteps.{IsLine, LineFails}
-use Rattle.lit_read.specs.Views.{Fails}
+use Rattle.lit_read.specs.Reading.State.{State, step}
+use Rattle.lit_read.specs.Reading.LineSteps.{IsLine, LineFails}
+use Rattle.lit_read.specs.Reading.Views.{Fails}
 use Rattle.lit_read.proofs.Cuttings.{cut_once}
 use Rattle.lit_read.proofs.StepHolds.{added}
-use Rattle.lit_read.proofs.ConditionLemmas.{spelled_once}
+use Rattle.lit_read.proofs.OneForm.{spelled_once}
+use Rattle.lit_read.proofs.StepLemmas.{HasWords}
 
 -- a line has at most one form
 pub form_once : (line : List ℕ) (f g : Form) → HasForm line f → HasForm line g → f ≡ g
@@ -28,6 +30,23 @@ no_form line tokens cut nothing f has = nothing f (subst (λ (ts : List Token). 
 pub no_cut : (line : List ℕ) → ((tokens : List Token) → CutsInto line tokens → ⊥) → (f : Form) → HasForm line f → ⊥
 no_cut line none f has = none has.tokens has.cut
 
+-- the names that a line has are words
+second_word : (line w name : List ℕ) → CutsInto line (Word w ∷ Word name ∷ []) → IsWord name
+unfolding CutsInto
+second_word line w name h = h.2.1.spelled.0
+
+pub has_words : (line : List ℕ) (f : Form) → HasForm line f → HasWords f
+unfolding spelled
+has_words line (TestLine name) h = second_word line (codes "test") name (subst (CutsInto line) h.spelling.0 h.cut)
+has_words line (AgentLine name) h = second_word line (codes "agent") name (subst (CutsInto line) h.spelling.0 h.cut)
+has_words line Blank h = tt
+has_words line (BytesLine b) h = tt
+has_words line (StatementLine r) h = tt
+has_words line (IfLine r q v) h = tt
+has_words line ElseLine h = tt
+has_words line EndLine h = tt
+has_words line (CheckLine w) h = tt
+
 -- a form that cannot follow, unless memory ran out
 pub step_fails : (s : State) (line : List ℕ) (f : Form) (k : ReadKind) → IsLine line f → Fails k (step s f) → LineFails s line k
 step_fails s line f TooLong is e = inr (record { form = f; is = is; steps = e })
@@ -40,6 +59,7 @@ step_fails s line f DuplicateAgent is e = inr (record { form = f; is = is; steps
 step_fails s line f LiteralRange is e = inr (record { form = f; is = is; steps = e })
 step_fails s line f OutOfBlock is e = inr (record { form = f; is = is; steps = e })
 step_fails s line f UnknownName is e = inr (record { form = f; is = is; steps = e })
+step_fails s line f TooDeep is e = inr (record { form = f; is = is; steps = e })
 step_fails s line f MissingPart is e = inr (record { form = f; is = is; steps = e })
 step_fails s line f OutOfMemory is e = inl (inl refl)
 
@@ -70,7 +90,10 @@ added_behind g given (TestLine n) = refl
 added_behind g given (BytesLine b) = refl
 added_behind g given (AgentLine n) = refl
 added_behind g given (StatementLine s) = refl
-added_behind g given (CheckLine cs) = refl
+added_behind g given (IfLine r q v) = refl
+added_behind g given ElseLine = refl
+added_behind g given EndLine = refl
+added_behind g given (CheckLine w) = refl
 
 pub blanks_added : (fs : List Form) (f : Form) → without_blanks (fs ++ f ∷ []) ≡ added (without_blanks fs) f
 blanks_added [] Blank = refl
@@ -78,13 +101,19 @@ blanks_added [] (TestLine n) = refl
 blanks_added [] (BytesLine b) = refl
 blanks_added [] (AgentLine n) = refl
 blanks_added [] (StatementLine s) = refl
-blanks_added [] (CheckLine cs) = refl
+blanks_added [] (IfLine r q v) = refl
+blanks_added [] ElseLine = refl
+blanks_added [] EndLine = refl
+blanks_added [] (CheckLine w) = refl
 blanks_added (Blank ∷ fs) f = blanks_added fs f
 blanks_added (TestLine n ∷ fs) f = ap (λ (l : List Form). TestLine n ∷ l) (blanks_added fs f) ∙ added_behind (TestLine n) (without_blanks fs) f
 blanks_added (BytesLine b ∷ fs) f = ap (λ (l : List Form). BytesLine b ∷ l) (blanks_added fs f) ∙ added_behind (BytesLine b) (without_blanks fs) f
 blanks_added (AgentLine n ∷ fs) f = ap (λ (l : List Form). AgentLine n ∷ l) (blanks_added fs f) ∙ added_behind (AgentLine n) (without_blanks fs) f
 blanks_added (StatementLine s ∷ fs) f = ap (λ (l : List Form). StatementLine s ∷ l) (blanks_added fs f) ∙ added_behind (StatementLine s) (without_blanks fs) f
-blanks_added (CheckLine cs ∷ fs) f = ap (λ (l : List Form). CheckLine cs ∷ l) (blanks_added fs f) ∙ added_behind (CheckLine cs) (without_blanks fs) f
+blanks_added (IfLine r q v ∷ fs) f = ap (λ (l : List Form). IfLine r q v ∷ l) (blanks_added fs f) ∙ added_behind (IfLine r q v) (without_blanks fs) f
+blanks_added (ElseLine ∷ fs) f = ap (λ (l : List Form). ElseLine ∷ l) (blanks_added fs f) ∙ added_behind ElseLine (without_blanks fs) f
+blanks_added (EndLine ∷ fs) f = ap (λ (l : List Form). EndLine ∷ l) (blanks_added fs f) ∙ added_behind EndLine (without_blanks fs) f
+blanks_added (CheckLine w ∷ fs) f = ap (λ (l : List Form). CheckLine w ∷ l) (blanks_added fs f) ∙ added_behind (CheckLine w) (without_blanks fs) f
 
 pub checks_left : (fs : List Form) → list_any is_check_line (without_blanks fs) ≡ list_any is_check_line fs
 checks_left [] = refl
@@ -93,7 +122,10 @@ checks_left (TestLine n ∷ fs) = checks_left fs
 checks_left (BytesLine b ∷ fs) = checks_left fs
 checks_left (AgentLine n ∷ fs) = checks_left fs
 checks_left (StatementLine s ∷ fs) = checks_left fs
-checks_left (CheckLine cs ∷ fs) = refl
+checks_left (IfLine r q v ∷ fs) = checks_left fs
+checks_left (ElseLine ∷ fs) = checks_left fs
+checks_left (EndLine ∷ fs) = checks_left fs
+checks_left (CheckLine w ∷ fs) = refl
 
 -- ---- the faults of a line
 
@@ -113,6 +145,7 @@ line_fault_is DuplicateAgent before line f is h = faulty_same DuplicateAgent bef
 line_fault_is LiteralRange before line f is h = faulty_same LiteralRange before line f is h
 line_fault_is OutOfBlock before line f is h = faulty_same OutOfBlock before line f is h
 line_fault_is UnknownName before line f is h = faulty_same UnknownName before line f is h
+line_fault_is TooDeep before line f is h = faulty_same TooDeep before line f is h
 line_fault_is MissingPart before line f is h = faulty_same MissingPart before line f is h
 line_fault_is OutOfMemory before line f is h = faulty_same OutOfMemory before line f is h
 
@@ -128,6 +161,7 @@ made_fault DuplicateAgent before line f is h = (f, is.has, h)
 made_fault LiteralRange before line f is h = (f, is.has, h)
 made_fault OutOfBlock before line f is h = (f, is.has, h)
 made_fault UnknownName before line f is h = (f, is.has, h)
+made_fault TooDeep before line f is h = (f, is.has, h)
 made_fault MissingPart before line f is h = (f, is.has, h)
 made_fault OutOfMemory before line f is h = (f, is.has, h)
 
@@ -159,6 +193,7 @@ which text DuplicateAgent n h = Line (λ e. absurd cc) (record { before = h.0; a
 which text LiteralRange n h = Line (λ e. absurd cc) (record { before = h.0; above = h.1; fault = h.2 })
 which text OutOfBlock n h = Line (λ e. absurd cc) (record { before = h.0; above = h.1; fault = h.2 })
 which text UnknownName n h = Line (λ e. absurd cc) (record { before = h.0; above = h.1; fault = h.2 })
+which text TooDeep n h = Line (λ e. absurd cc) (record { before = h.0; above = h.1; fault = h.2 })
 
 -- a fault that a line with a form can have
 abbrev pub IsOfLine : ReadKind → Type 0
@@ -178,3 +213,4 @@ line_is_fault text DuplicateAgent n of h = (h.before, h.above, h.fault)
 line_is_fault text LiteralRange n of h = (h.before, h.above, h.fault)
 line_is_fault text OutOfBlock n of h = (h.before, h.above, h.fault)
 line_is_fault text UnknownName n of h = (h.before, h.above, h.fault)
+line_is_fault text TooDeep n of h = (h.before, h.above, h.fault)

@@ -1,16 +1,19 @@
 -- What a draft holds with one form more.
-use Rattle.std.proofs.Common.{◌≡◌, ℕ, ◌+◌, Bool, true, false, cond, eqb, ltb, leb, ◌||◌, List, [], ◌∷◌, ◌++◌, length, Result, Ok, Err, refl, ap, sym, subst, ◌∙◌, append_assoc}
-use Rattle.std.specs.List.{list_any, list_all, flat_map}
+use Rattle.std.proofs.Common.{◌≡◌, ℕ, ◌+◌, Bool, true, false, cond, eqb, ltb, leb, ◌||◌, List, [], ◌∷◌, ◌++◌, length, Option, Some, None, Result, Ok, Err, inl, inr, refl, ap, sym, subst, ◌∙◌, append_assoc}
+use Rattle.std.specs.List.{list_any, list_all}
 use Rattle.std.specs.Str.{bytes_eq}
 use Rattle.lit_read.specs.declared.fault.ReadKind.{ReadKind}
-use Rattle.lit_read.specs.declared.fault.ReadKind.TheVariants.{BlockSize, TooManyAgents, DuplicateAgent, LiteralRange, OutOfBlock, UnknownName}
-use Rattle.lit_read.specs.declared.limits.TheConstants.{BLOCK_LIMIT, AGENT_LIMIT, COMPARED_LIMIT}
-use Rattle.lit_read.specs.Syntax.{Statement, Statements, End, Agent}
-use Rattle.lit_read.specs.Forms.{Comparison, Form, Blank, TestLine, BytesLine, AgentLine, StatementLine, CheckLine}
-use Rattle.lit_read.specs.Faults.{has_fitting_literals, stays_in_block, is_known}
-use Rattle.lit_read.specs.Spelling.{agent_lines, condition_from}
-use Rattle.lit_read.specs.State.{State, Empty, Named, Sized, Open, Whole, followed_by, with_agent, test_step, block_step, next_step, agent_step, statement_step, test_of, whole, check_step, step}
-use Rattle.lit_read.proofs.DraftForms.{opening, Holds, lines_joined, lines_followed, one_agent}
+use Rattle.lit_read.specs.declared.fault.ReadKind.TheVariants.{BlockSize, TooManyAgents, DuplicateAgent, LiteralRange, OutOfBlock, UnknownName, TooDeep, Misplaced}
+use Rattle.lit_read.specs.declared.limits.TheConstants.{BLOCK_LIMIT, AGENT_LIMIT, COMPARED_LIMIT, IF_LIMIT}
+use Rattle.lit_read.specs.Syntax.{Statement, Statements, Load, Store, Exchange, CompareExchange, If, End, Then, Agent}
+use Rattle.lit_read.specs.Written.{Written}
+use Rattle.lit_read.specs.Forms.{Form, Blank, TestLine, BytesLine, AgentLine, StatementLine, IfLine, ElseLine, EndLine, CheckLine, IsAccess, IsForm}
+use Rattle.lit_read.specs.Structure.{IsStatement, AreStatements, AreElse, AreAgents}
+use Rattle.lit_read.specs.Faults.{has_fitting_literals, stays_in_block, has_small_numbers, is_shallow}
+use Rattle.lit_read.specs.Spelling.{written_value}
+use Rattle.lit_read.specs.Reading.State.{State, Empty, Named, Sized, Open, Whole, Level, followed_by, with_agent, else_level, else_from, ended_if, are_known, test_step, block_step, next_step, agent_step, statement_step, if_step, else_step, end_step, test_of, whole, check_step, step}
+use Rattle.lit_read.proofs.SpellLemmas.{statements_added}
+use Rattle.lit_read.proofs.DraftForms.{AreParts, AreOpen, opening, Holds, agents_added}
 
 -- ---- the forms of the next draft
 
@@ -19,22 +22,34 @@ abbrev pub added : List Form → Form → List Form
 added given Blank = given
 added given f = given ++ f ∷ []
 
-grown_agent : (name : List ℕ) (bytes : ℕ) (agents : List Agent) (next : List ℕ) → opening name bytes agents ++ AgentLine next ∷ [] ≡ opening name bytes (with_agent agents next End)
-grown_agent name bytes agents next =
-    ap (λ (l : List Form). TestLine name ∷ BytesLine bytes ∷ l) (sym (lines_joined agents (record { name = next; body = End } ∷ [])))
+opening_added : (name : List ℕ) (bytes : ℕ) (front : List Form) (agent : List ℕ) (own more : List Form) → opening name bytes front agent own ++ more ≡ opening name bytes front agent (own ++ more)
+opening_added name bytes front agent own more = ap (λ (l : List Form). TestLine name ∷ BytesLine bytes ∷ l) (append_assoc front (AgentLine agent ∷ own) more)
 
-grown_body : (name : List ℕ) (bytes : ℕ) (agents : List Agent) (agent : List ℕ) (body : Statements) (s : Statement)
-    → opening name bytes (with_agent agents agent body) ++ StatementLine s ∷ [] ≡ opening name bytes (with_agent agents agent (followed_by body s))
-grown_body name bytes agents agent body s =
-    let old : Agent = record { name = agent; body = body } in
-    let new : Agent = record { name = agent; body = followed_by body s } in
-    let last : agent_lines old ++ StatementLine s ∷ [] ≡ agent_lines new = ap (λ (l : List Form). AgentLine agent ∷ l) (sym (lines_followed body s)) in
-    let inner : flat_map agent_lines (agents ++ old ∷ []) ++ StatementLine s ∷ [] ≡ flat_map agent_lines (agents ++ new ∷ []) =
-    ap (λ (l : List Form). l ++ StatementLine s ∷ []) (lines_joined agents (old ∷ []) ∙ ap (λ (l : List Form). flat_map agent_lines agents ++ l) (one_agent old))
-    ∙ append_assoc (flat_map agent_lines agents) (agent_lines old) (StatementLine s ∷ [])
-    ∙ ap (λ (l : List Form). flat_map agent_lines agents ++ l) (last ∙ sym (one_agent new))
-    ∙ sym (lines_joined agents (new ∷ [])) in
-    ap (λ (l : List Form). TestLine name ∷ BytesLine bytes ∷ l) inner
+parts_added : (inner gs : List Form) (part : Option Statements) (body : Statements) (s : Statement) → AreParts inner part body → IsStatement gs s → AreParts (inner ++ gs) part (followed_by body s)
+parts_added inner gs None body s a b = statements_added inner gs body s a b
+parts_added inner gs (Some part) body s a b = (a.0, a.1 ++ gs, ap (λ (l : List Form). l ++ gs) a.2 ∙ append_assoc a.0 (ElseLine ∷ a.1) gs, a.3, statements_added a.1 gs body s a.4 b)
+
+open_added : (own gs : List Form) (levels : List Level) (body : Statements) (s : Statement) → AreOpen own levels body → IsStatement gs s → AreOpen (own ++ gs) levels (followed_by body s)
+open_added own gs [] body s a b = statements_added own gs body s a b
+open_added own gs (l ∷ levels) body s a b =
+    (a.0, a.1 ++ gs, ap (λ (x : List Form). x ++ gs) a.2 ∙ append_assoc a.0 (IfLine l.reg l.equal l.value ∷ a.1) gs, a.3, parts_added a.1 gs l.then_part body s a.4 b)
+
+access_line : (s : Statement) → IsAccess s → IsStatement (StatementLine s ∷ []) s
+access_line (Load r w i a) is = refl
+access_line (Store w i v a) is = refl
+access_line (Exchange r w i v) is = refl
+access_line (CompareExchange r w i e v) is = refl
+access_line (If r e v b o) is = absurd is
+
+-- the whole `if` behind its end line
+else_part : (elses : List Form) (body : Statements) → AreStatements elses body → AreElse (ElseLine ∷ elses) body
+else_part elses End h = inr (ap (λ (l : List Form). ElseLine ∷ l) h)
+else_part elses (Then s ss) h = (h.0, h.1, ap (λ (l : List Form). ElseLine ∷ l) h.2, h.3, h.4)
+
+if_lines : (l : Level) (inner : List Form) (part : Option Statements) (body : Statements) → AreParts inner part body → IsStatement (IfLine l.reg l.equal l.value ∷ (inner ++ EndLine ∷ [])) (ended_if l body part)
+if_lines l inner None body h = (inner, [], refl, h, inl refl)
+if_lines l inner (Some part) body h =
+    (h.0, ElseLine ∷ h.1, ap (λ (x : List Form). IfLine l.reg l.equal l.value ∷ x) (ap (λ (x : List Form). x ++ EndLine ∷ []) h.2 ∙ append_assoc h.0 (ElseLine ∷ h.1) (EndLine ∷ [])), h.3, else_part h.1 body h.4)
 
 abbrev stands : Result State ReadKind → List Form → Type 0
 stands (Ok t) given = Holds given t
@@ -45,7 +60,7 @@ unfolding test_step
 test_holds Empty given name h = rw h refl
 test_holds (Named m) given name h = tt
 test_holds (Sized m b) given name h = tt
-test_holds (Open m b agents agent body) given name h = tt
+test_holds (Open m b agents agent levels body) given name h = tt
 test_holds (Whole t) given name h = tt
 
 block_holds : (s : State) (given : List Form) (bytes : ℕ) → Holds given s → stands (block_step s bytes) (given ++ BytesLine bytes ∷ [])
@@ -57,57 +72,119 @@ block_holds (Named m) given bytes h = by (eqb bytes 0 || ltb BLOCK_LIMIT bytes)
     by false = rw h refl
 block_holds Empty given bytes h = tt
 block_holds (Sized m b) given bytes h = tt
-block_holds (Open m b agents agent body) given bytes h = tt
+block_holds (Open m b agents agent levels body) given bytes h = tt
 block_holds (Whole t) given bytes h = tt
 
 agent_holds : (s : State) (given : List Form) (name : List ℕ) → Holds given s → stands (agent_step s name) (given ++ AgentLine name ∷ [])
 unfolding agent_step next_step
-agent_holds (Sized m b) given name h = rw h refl
-agent_holds (Open m b agents agent body) given name h = by (leb AGENT_LIMIT (length agents + 1)) (list_any (λ a. bytes_eq name a.name) (with_agent agents agent body))
+agent_holds (Sized m b) given name h = ([], [], ap (λ (l : List Form). l ++ AgentLine name ∷ []) h, refl, refl)
+agent_holds (Open m b agents agent [] body) given name h = by (leb AGENT_LIMIT (length agents + 1)) (list_any (λ a. bytes_eq name a.name) (with_agent agents agent body))
   where
-    by : (x y : Bool) → stands (cond x (Err TooManyAgents) (cond y (Err DuplicateAgent) (Ok (Open m b (with_agent agents agent body) name End)))) (given ++ AgentLine name ∷ [])
+    by : (x y : Bool) → stands (cond x (Err TooManyAgents) (cond y (Err DuplicateAgent) (Ok (Open m b (with_agent agents agent body) name [] End)))) (given ++ AgentLine name ∷ [])
     by true y = tt
     by false true = tt
-    by false false = ap (λ (l : List Form). l ++ AgentLine name ∷ []) h ∙ grown_agent m b (with_agent agents agent body) name
+    by false false = (h.0 ++ AgentLine agent ∷ h.1, [], ap (λ (l : List Form). l ++ AgentLine name ∷ []) h.2, agents_added h.0 h.1 agents agent body h.3 h.4, refl)
+agent_holds (Open m b agents agent (l ∷ levels) body) given name h = tt
 agent_holds Empty given name h = tt
 agent_holds (Named m) given name h = tt
 agent_holds (Whole t) given name h = tt
 
-statement_holds : (s : State) (given : List Form) (r : Statement) → Holds given s → stands (statement_step s r) (given ++ StatementLine r ∷ [])
+statement_holds : (s : State) (given : List Form) (r : Statement) → IsAccess r → Holds given s → stands (statement_step s r) (given ++ StatementLine r ∷ [])
 unfolding statement_step
-statement_holds (Open m b agents agent body) given r h = by (has_fitting_literals r) (stays_in_block b r)
+statement_holds (Open m b agents agent levels body) given r is h = by (has_fitting_literals r) (stays_in_block b r)
   where
-    by : (x y : Bool) → stands (cond x (cond y (Ok (Open m b agents agent (followed_by body r))) (Err OutOfBlock)) (Err LiteralRange)) (given ++ StatementLine r ∷ [])
+    by : (x y : Bool) → stands (cond x (cond y (Ok (Open m b agents agent levels (followed_by body r))) (Err OutOfBlock)) (Err LiteralRange)) (given ++ StatementLine r ∷ [])
     by false y = tt
     by true false = tt
-    by true true = ap (λ (l : List Form). l ++ StatementLine r ∷ []) h ∙ grown_body m b agents agent body r
-statement_holds Empty given r h = tt
-statement_holds (Named m) given r h = tt
-statement_holds (Sized m b) given r h = tt
-statement_holds (Whole t) given r h = tt
+    by true true =
+        (h.0, h.1 ++ StatementLine r ∷ [], ap (λ (l : List Form). l ++ StatementLine r ∷ []) h.2 ∙ opening_added m b h.0 agent h.1 (StatementLine r ∷ []), h.3, open_added h.1 (StatementLine r ∷ []) levels body r h.4 (access_line r is))
+statement_holds Empty given r is h = tt
+statement_holds (Named m) given r is h = tt
+statement_holds (Sized m b) given r is h = tt
+statement_holds (Whole t) given r is h = tt
 
-check_holds : (s : State) (given : List Form) (cs : List Comparison) → Holds given s → stands (check_step s cs) (given ++ CheckLine cs ∷ [])
-unfolding check_step test_of
-check_holds (Open m b agents agent body) given cs h = by (list_all (λ c. leb c.value COMPARED_LIMIT) cs) (list_all (is_known (with_agent agents agent body)) cs)
+if_holds : (s : State) (given : List Form) (reg : ℕ) (equal : Bool) (value : ℕ) → Holds given s → stands (if_step s reg equal value) (given ++ IfLine reg equal value ∷ [])
+unfolding if_step
+if_holds (Open m b agents agent levels body) given reg equal value h = by (ltb COMPARED_LIMIT value) (leb IF_LIMIT (length levels))
   where
     by : (x y : Bool)
-        → stands (whole (cond x (cond y (Ok (record { name = m; bytes = b; agents = with_agent agents agent body; check = condition_from (with_agent agents agent body) cs })) (Err UnknownName)) (Err LiteralRange))) (given ++ CheckLine cs ∷ [])
-    by false y = tt
-    by true false = tt
-    by true true = (cs, ap (λ (l : List Form). l ++ CheckLine cs ∷ []) h, refl)
-check_holds Empty given cs h = tt
-check_holds (Named m) given cs h = tt
-check_holds (Sized m b) given cs h = tt
-check_holds (Whole t) given cs h = tt
+        → stands (cond x (Err LiteralRange) (cond y (Err TooDeep) (Ok (Open m b agents agent (record { reg = reg; equal = equal; value = value; before = body; then_part = None } ∷ levels) End)))) (given ++ IfLine reg equal value ∷ [])
+    by true y = tt
+    by false true = tt
+    by false false =
+        (h.0, h.1 ++ IfLine reg equal value ∷ [], ap (λ (l : List Form). l ++ IfLine reg equal value ∷ []) h.2 ∙ opening_added m b h.0 agent h.1 (IfLine reg equal value ∷ []), h.3, (h.1, [], refl, h.4, refl))
+if_holds Empty given reg equal value h = tt
+if_holds (Named m) given reg equal value h = tt
+if_holds (Sized m b) given reg equal value h = tt
+if_holds (Whole t) given reg equal value h = tt
 
-all_stand : (s : State) (given : List Form) (f : Form) → Holds given s → stands (step s f) (added given f)
-unfolding step
-all_stand s given Blank h = h
-all_stand s given (TestLine name) h = test_holds s given name h
-all_stand s given (BytesLine bytes) h = block_holds s given bytes h
-all_stand s given (AgentLine name) h = agent_holds s given name h
-all_stand s given (StatementLine r) h = statement_holds s given r h
-all_stand s given (CheckLine cs) h = check_holds s given cs h
+else_holds : (s : State) (given : List Form) → Holds given s → stands (else_step s) (given ++ ElseLine ∷ [])
+unfolding else_step
+else_holds (Open m b agents agent (l ∷ levels) body) given h = by l.then_part h.4.4
+  where
+    by : (p : Option Statements) → AreParts h.4.1 p body → stands (else_from m b agents agent l levels body p) (given ++ ElseLine ∷ [])
+    by (Some part) parts = tt
+    by None parts = (
+      h.0,
+      h.1 ++ ElseLine ∷ [],
+      ap (λ (x : List Form). x ++ ElseLine ∷ []) h.2 ∙ opening_added m b h.0 agent h.1 (ElseLine ∷ []),
+      h.3,
+      (h.4.0, h.4.1 ++ ElseLine ∷ [], ap (λ (x : List Form). x ++ ElseLine ∷ []) h.4.2 ∙ append_assoc h.4.0 (IfLine l.reg l.equal l.value ∷ h.4.1) (ElseLine ∷ []), h.4.3, (h.4.1, [], refl, parts, refl)),
+    )
+else_holds (Open m b agents agent [] body) given h = tt
+else_holds Empty given h = tt
+else_holds (Named m) given h = tt
+else_holds (Sized m b) given h = tt
+else_holds (Whole t) given h = tt
 
-pub step_holds : (s t : State) (given : List Form) (f : Form) → Holds given s → step s f ≡ Ok t → Holds (added given f) t
-step_holds s t given f h e = subst (λ (r : Result State ReadKind). stands r (added given f)) e (all_stand s given f h)
+end_holds : (s : State) (given : List Form) → Holds given s → stands (end_step s) (given ++ EndLine ∷ [])
+unfolding end_step
+end_holds (Open m b agents agent (l ∷ levels) body) given h = (
+  h.0,
+  h.4.0 ++ IfLine l.reg l.equal l.value ∷ (h.4.1 ++ EndLine ∷ []),
+  ap (λ (x : List Form). x ++ EndLine ∷ []) h.2 ∙ opening_added m b h.0 agent h.1 (EndLine ∷ []) ∙ ap (opening m b h.0 agent) (ap (λ (x : List Form). x ++ EndLine ∷ []) h.4.2 ∙ append_assoc h.4.0 (IfLine l.reg l.equal l.value ∷ h.4.1) (EndLine ∷ [])),
+  h.3,
+  open_added h.4.0 (IfLine l.reg l.equal l.value ∷ (h.4.1 ++ EndLine ∷ [])) levels l.before (ended_if l body l.then_part) h.4.3 (if_lines l h.4.1 l.then_part body h.4.4),
+)
+end_holds (Open m b agents agent [] body) given h = tt
+end_holds Empty given h = tt
+end_holds (Named m) given h = tt
+end_holds (Sized m b) given h = tt
+end_holds (Whole t) given h = tt
+
+check_holds : (s : State) (given : List Form) (w : Written) → Holds given s → stands (check_step s w) (given ++ CheckLine w ∷ [])
+unfolding check_step test_of
+check_holds (Open m b agents agent [] body) given w h = by (has_small_numbers w) (are_known (with_agent agents agent body) w) (is_shallow w)
+  where
+    by : (x y z : Bool)
+        → stands (whole (cond x (cond y (cond z (Ok (record { name = m; bytes = b; agents = with_agent agents agent body; check = written_value (with_agent agents agent body) w })) (Err TooDeep)) (Err UnknownName)) (Err LiteralRange))) (given ++ CheckLine w ∷ [])
+    by false y z = tt
+    by true false z = tt
+    by true true false = tt
+    by true true true = record {
+      agents = h.0 ++ AgentLine agent ∷ h.1;
+      check = w;
+      parts = ap (λ (l : List Form). l ++ CheckLine w ∷ []) h.2;
+      bodies = agents_added h.0 h.1 agents agent body h.3 h.4;
+      asks = refl;
+    }
+check_holds (Open m b agents agent (l ∷ levels) body) given w h = tt
+check_holds Empty given w h = tt
+check_holds (Named m) given w h = tt
+check_holds (Sized m b) given w h = tt
+check_holds (Whole t) given w h = tt
+
+all_stand : (s : State) (given : List Form) (f : Form) → IsForm f → Holds given s → stands (step s f) (added given f)
+unfolding step IsForm
+all_stand s given Blank is h = h
+all_stand s given (TestLine name) is h = test_holds s given name h
+all_stand s given (BytesLine bytes) is h = block_holds s given bytes h
+all_stand s given (AgentLine name) is h = agent_holds s given name h
+all_stand s given (StatementLine r) is h = statement_holds s given r is h
+all_stand s given (IfLine reg equal value) is h = if_holds s given reg equal value h
+all_stand s given ElseLine is h = else_holds s given h
+all_stand s given EndLine is h = end_holds s given h
+all_stand s given (CheckLine w) is h = check_holds s given w h
+
+pub step_holds : (s t : State) (given : List Form) (f : Form) → IsForm f → Holds given s → step s f ≡ Ok t → Holds (added given f) t
+step_holds s t given f is h e = subst (λ (r : Result State ReadKind). stands r (added given f)) e (all_stand s given f is h)

@@ -1,18 +1,21 @@
 -- What a form adds to lines without a fault is again without a fault.
-use Rattle.std.proofs.Common.{◌≡◌, ◌≢◌, ℕ, zero, suc, ◌+◌, ◌<◌, ◌≤◌, Bool, true, false, cond, eqb, ltb, leb, ◌||◌, ◌&&◌, List, [], ◌∷◌, ◌++◌, length, get_or, Result, Ok, Err, refl, ap, sym, subst, ◌∙◌, arith, true≢false, add-one}
+use Rattle.std.proofs.Common.{◌≡◌, ◌≢◌, ℕ, zero, suc, ◌+◌, ◌-◌, ◌<◌, ◌≤◌, Bool, true, false, cond, eqb, ltb, leb, ◌||◌, ◌&&◌, List, [], ◌∷◌, ◌++◌, length, get_or, Option, Some, None, Result, Ok, Err, refl, ap, sym, subst, ◌∙◌, arith, true≢false, add-one}
+use Rattle.std.specs.Prelude.{max, IfSome}
 use Rattle.std.specs.List.{AllByRecursion, list_any, list_all}
 use Rattle.std.specs.Str.{bytes_eq}
 use Rattle.std.proofs.lemmas.Bool.{ltb-true, leb-true, ltb-false, leb-false}
 use Rattle.std.proofs.lemmas.List.{length-append}
 use Rattle.std.proofs.lemmas.Slice.Eq.{bytes_eq-Decides}
 use Rattle.lit_read.specs.declared.fault.ReadKind.{ReadKind}
-use Rattle.lit_read.specs.declared.fault.ReadKind.TheVariants.{BlockSize, TooManyAgents, DuplicateAgent, LiteralRange, OutOfBlock}
-use Rattle.lit_read.specs.declared.limits.TheConstants.{BLOCK_LIMIT, AGENT_LIMIT, REGISTERS, COMPARED_LIMIT}
-use Rattle.lit_read.specs.Syntax.{Window, Uint8, Statement, Load, Store, Exchange, CompareExchange, If, Statements, End, Then, Agent, Litmus, writes, IsStatementIn, AreStatementsIn, condition_count, IsConditionOn, AreConditionsOn, IsLitmus}
-use Rattle.lit_read.specs.Forms.{Comparison, Form, Blank, TestLine, BytesLine, AgentLine, StatementLine, CheckLine, IsFormStatement, IsForm}
-use Rattle.lit_read.specs.Faults.{body_named, has_fitting_literals, stays_in_block, is_known}
-use Rattle.lit_read.specs.Spelling.{place_of, numbered, all_numbered, condition_from}
-use Rattle.lit_read.specs.State.{State, Empty, Named, Sized, Open, Whole, followed_by, with_agent, test_step, block_step, next_step, agent_step, statement_step, test_of, whole, check_step, step, AreDistinct, AreAgentsIn, IsState}
+use Rattle.lit_read.specs.declared.fault.ReadKind.TheVariants.{BlockSize, TooManyAgents, DuplicateAgent, LiteralRange, OutOfBlock, TooDeep, Misplaced}
+use Rattle.lit_read.specs.declared.limits.TheConstants.{BLOCK_LIMIT, AGENT_LIMIT, REGISTERS, COMPARED_LIMIT, IF_LIMIT, DEPTH_LIMIT}
+use Rattle.lit_read.specs.Syntax.{Window, is_in_block, fits_window, is_data_view, Statement, Load, Store, Exchange, CompareExchange, If, Statements, End, Then, Agent, Litmus, writes, nesting, statement_nesting, IsStatementIn, AreStatementsIn, Condition, Conditions, Any, All, Not, Is, NoMore, Also, condition_count, IsConditionOn, AreConditionsOn, tight_parentheses, loose_parentheses, condition_depth, any_depth, all_depth, IsLitmus}
+use Rattle.lit_read.specs.Tokens.{IsWord}
+use Rattle.lit_read.specs.Written.{Comparison, Operand, Compared, Negated, Grouped, Conjunction, Lone, Both, Written, Single, Either, operand_depths, conjunction_depths, written_depths}
+use Rattle.lit_read.specs.Forms.{Form, Blank, TestLine, BytesLine, AgentLine, StatementLine, IfLine, ElseLine, EndLine, CheckLine, IsAccess, IsForm}
+use Rattle.lit_read.specs.Faults.{has_fitting_literals, stays_in_block, has_small_numbers, is_shallow}
+use Rattle.lit_read.specs.Spelling.{place_of, numbered, operand_value, conjunction_value, written_value, operand_values, conjunction_values}
+use Rattle.lit_read.specs.Reading.State.{State, Empty, Named, Sized, Open, Whole, Level, followed_by, with_agent, body_named, is_known, are_known, else_level, else_from, ended_if, test_step, block_step, next_step, agent_step, statement_step, if_step, else_step, end_step, test_of, whole, check_step, step, AreDistinct, IsPart, AreAgentsIn, IsLevel, AreLevels, IsState}
 
 -- ---- lists
 
@@ -21,11 +24,11 @@ at_index P [] i d lt all = absurd (omega arith)
 at_index P (x ∷ xs) zero d lt all = all.0
 at_index P (x ∷ xs) (suc i) d lt all = at_index P xs i d (omega arith) all.1
 
-all_added : {A : Type 0} (P : A → Type 0) (xs : List A) (x : A) → AllByRecursion P xs → P x → AllByRecursion P (xs ++ x ∷ [])
+pub all_added : {A : Type 0} (P : A → Type 0) (xs : List A) (x : A) → AllByRecursion P xs → P x → AllByRecursion P (xs ++ x ∷ [])
 all_added P [] x all last = (last, tt)
 all_added P (y ∷ ys) x all last = (all.0, all_added P ys x all.1 last)
 
-all_changed : {A : Type 0} (P : A → Type 0) (xs : List A) (x y : A) → (P x → P y) → AllByRecursion P (xs ++ x ∷ []) → AllByRecursion P (xs ++ y ∷ [])
+pub all_changed : {A : Type 0} (P : A → Type 0) (xs : List A) (x y : A) → (P x → P y) → AllByRecursion P (xs ++ x ∷ []) → AllByRecursion P (xs ++ y ∷ [])
 all_changed P [] x y f all = (f all.0, tt)
 all_changed P (z ∷ zs) x y f all = (all.0, all_changed P zs x y f all.1)
 
@@ -63,20 +66,30 @@ followed_in : (bytes : ℕ) (body : Statements) (s : Statement) → AreStatement
 followed_in bytes End s all one = (one, tt)
 followed_in bytes (Then t ts) s all one = (all.0, followed_in bytes ts s all.1 one)
 
-uint8_load : (bytes reg index : ℕ) (atomic : Bool) → reg < REGISTERS → ltb index bytes ≡ true → IsStatementIn bytes (Load reg Uint8 index atomic)
-uint8_load bytes reg index atomic small within = (small, ltb-true _ _ within, λ _. refl)
+nested_by : (body : Statements) (s : Statement) (n : ℕ) → nesting body ≤ n → statement_nesting s ≤ n → nesting (followed_by body s) ≤ n
+nested_by End s n a b = omega (arith, b)
+nested_by (Then t ts) s n a b =
+    let rest : nesting (followed_by ts s) ≤ n = nested_by ts s n (omega (arith, a)) b in
+    omega (arith, a)
 
-uint8_store : (bytes index value : ℕ) (atomic : Bool) → ltb value 256 ≡ true → ltb index bytes ≡ true → IsStatementIn bytes (Store Uint8 index value atomic)
-uint8_store bytes index value atomic small within = (ltb-true _ _ within, ltb-true _ _ small, λ _. refl)
+part_followed : (bytes outside : ℕ) (body : Statements) (s : Statement) → IsPart bytes outside body → IsStatementIn bytes s → statement_nesting s + outside ≤ IF_LIMIT → IsPart bytes outside (followed_by body s)
+part_followed bytes outside body s part one few =
+    let most : nesting body ≤ IF_LIMIT - outside = omega (arith, part.1) in
+    let own : statement_nesting s ≤ IF_LIMIT - outside = omega (arith, few) in
+    let all : nesting (followed_by body s) ≤ IF_LIMIT - outside = nested_by body s (IF_LIMIT - outside) most own in
+    (followed_in bytes body s part.0 one, omega (arith, few, all))
 
-statement_in : (bytes : ℕ) (s : Statement) → IsFormStatement s → has_fitting_literals s ≡ true → stays_in_block bytes s ≡ true → IsStatementIn bytes s
-statement_in bytes (Load reg window index atomic) is fits within =
-    subst (λ (w : Window). IsStatementIn bytes (Load reg w index atomic)) (sym is.1) (uint8_load bytes reg index atomic is.0 (subst (λ (w : Window). stays_in_block bytes (Load reg w index atomic) ≡ true) is.1 within))
-statement_in bytes (Store window index value atomic) is fits within =
-    subst (λ (w : Window). IsStatementIn bytes (Store w index value atomic)) (sym is)
-    (uint8_store bytes index value atomic (subst (λ (w : Window). has_fitting_literals (Store w index value atomic) ≡ true) is fits) (subst (λ (w : Window). stays_in_block bytes (Store w index value atomic) ≡ true) is within))
-statement_in bytes (Exchange reg window index value) is fits within = absurd is
-statement_in bytes (CompareExchange reg window index expected value) is fits within = absurd is
+both_fit : (x y : Bool) → (x && y) ≡ true → (x ≡ true) × (y ≡ true)
+both_fit true y e = (refl, e)
+both_fit false y e = absurd cc
+
+statement_in : (bytes : ℕ) (s : Statement) → IsAccess s → has_fitting_literals s ≡ true → stays_in_block bytes s ≡ true → IsStatementIn bytes s × (statement_nesting s ≡ 0)
+statement_in bytes (Load reg window index atomic) is fits within = ((is.0, within, is.1), refl)
+statement_in bytes (Store window index value atomic) is fits within = ((within, fits, is), refl)
+statement_in bytes (Exchange reg window index value) is fits within = ((is.0, within, fits, is.1), refl)
+statement_in bytes (CompareExchange reg window index expected value) is fits within =
+    let b = both_fit (fits_window window expected) (fits_window window value) fits in
+    ((is.0, within, b.0, b.1, is.1), refl)
 statement_in bytes (If reg equal value body other) is fits within = absurd is
 
 -- ---- the condition
@@ -92,54 +105,134 @@ named_at name (a ∷ others) reg d h = by (bytes_eq name a.name) h (named_at nam
     by true g rest = (omega arith, refl)
     by false g rest = let r = rest g in (omega (arith, r.0), rw add-one r.1)
 
--- a comparison that is known and in range
-record IsGood (agents : List Agent) (c : Comparison) : Type 0 where
-  known : is_known agents c ≡ true
-  in_range : leb c.value COMPARED_LIMIT ≡ true
-  register : c.reg < REGISTERS
-
-numbered_on : (t : Litmus) (c : Comparison) → IsGood t.agents c → IsConditionOn t (numbered t.agents c)
-numbered_on t c good =
-    let found = named_at c.agent t.agents c.reg (record { name = []; body = End }) good.known in
-    (found.0, good.register, ap (λ (b : Statements). writes b c.reg) found.1 ∙ good.known, leb-true _ _ good.in_range)
-
-all_on : (t : Litmus) (cs : List Comparison) → AllByRecursion (IsGood t.agents) cs → AreConditionsOn t (all_numbered t.agents cs)
-all_on t [] good = tt
-all_on t (c ∷ cs) good = (numbered_on t c good.0, all_on t cs good.1)
-
-all_count : (agents : List Agent) (cs : List Comparison) → condition_count (all_numbered agents cs) ≡ length cs
-all_count agents [] = refl
-all_count agents (c ∷ cs) = omega (arith, all_count agents cs)
-
-condition_on : (t : Litmus) (cs : List Comparison) → 1 ≤ length cs → AllByRecursion (IsGood t.agents) cs → IsConditionOn t (condition_from t.agents cs)
-condition_on t [] some good = absurd (omega arith)
-condition_on t (c ∷ []) some good = numbered_on t c good.0
-condition_on t (c ∷ d ∷ cs) some good = (omega (arith, all_count t.agents (c ∷ d ∷ cs)), all_on t (c ∷ d ∷ cs) good)
-
 both : (x y : Bool) → (x && y) ≡ true → (x ≡ true) × (y ≡ true)
 both true y e = (refl, e)
 both false y e = absurd cc
 
-all_good : (agents : List Agent) (cs : List Comparison) → list_all (is_known agents) cs ≡ true → list_all (λ c. leb c.value COMPARED_LIMIT) cs ≡ true → AllByRecursion (λ c. c.reg < REGISTERS) cs
-    → AllByRecursion (IsGood agents) cs
-all_good agents [] known in_range registers = tt
-all_good agents (c ∷ cs) known in_range registers =
-    let k = both (is_known agents c) (list_all (is_known agents) cs) known in
-    let r = both (leb c.value COMPARED_LIMIT) (list_all (λ c. leb c.value COMPARED_LIMIT) cs) in_range in
-    (record { known = k.0; in_range = r.0; register = registers.0 }, all_good agents cs k.1 r.1 registers.1)
+-- a comparison that is known and in range
+record IsGood (agents : List Agent) (p : Comparison × ℕ) : Type 0 where
+  known : is_known agents p.0 ≡ true
+  in_range : leb p.0.value COMPARED_LIMIT ≡ true
+  register : p.0.reg < REGISTERS
+  shallow : leb p.1 DEPTH_LIMIT ≡ true
 
--- agents and comparisons without a fault make a test
-pub is_litmus : (name : List ℕ) (bytes : ℕ) (agents : List Agent) (cs : List Comparison) → AreAgentsIn bytes agents → 1 ≤ length agents → 1 ≤ length cs → AllByRecursion (λ c. c.reg < REGISTERS) cs
-    → list_all (is_known agents) cs ≡ true → list_all (λ c. leb c.value COMPARED_LIMIT) cs ≡ true → IsLitmus (record { name = name; bytes = bytes; agents = agents; check = condition_from agents cs })
-is_litmus name bytes agents cs are some_agent some_comparison registers known in_range = record {
-  some_byte = are.some_byte;
-  block = are.block;
-  some_agent = some_agent;
-  few_agents = are.few;
-  distinct = λ i j lt within. distinct_at agents (record { name = []; body = End }) i j lt within are.distinct;
-  bodies = λ i within. at_index (λ a. AreStatementsIn bytes a.body) agents i (record { name = []; body = End }) within are.bodies;
-  check = condition_on (record { name = name; bytes = bytes; agents = agents; check = condition_from agents cs }) cs some_comparison (all_good agents cs known in_range registers);
-}
+all_good : (agents : List Agent) (ps : List (Comparison × ℕ)) → list_all (λ p. is_known agents p.0) ps ≡ true → list_all (λ p. leb p.0.value COMPARED_LIMIT) ps ≡ true → AllByRecursion (λ p. p.0.reg < REGISTERS) ps
+    → list_all (λ p. leb p.1 DEPTH_LIMIT) ps ≡ true → AllByRecursion (IsGood agents) ps
+all_good agents [] known in_range registers shallow = tt
+all_good agents (p ∷ ps) known in_range registers shallow =
+    let k = both (is_known agents p.0) (list_all (λ p. is_known agents p.0) ps) known in
+    let r = both (leb p.0.value COMPARED_LIMIT) (list_all (λ p. leb p.0.value COMPARED_LIMIT) ps) in_range in
+    let s = both (leb p.1 DEPTH_LIMIT) (list_all (λ p. leb p.1 DEPTH_LIMIT) ps) shallow in
+    (record { known = k.0; in_range = r.0; register = registers.0; shallow = s.0 }, all_good agents ps k.1 r.1 registers.1 s.1)
+
+front_all : {A : Type 0} (P : A → Type 0) (xs ys : List A) → AllByRecursion P (xs ++ ys) → AllByRecursion P xs
+front_all P [] ys a = tt
+front_all P (x ∷ xs) ys a = (a.0, front_all P xs ys a.1)
+
+back_all : {A : Type 0} (P : A → Type 0) (xs ys : List A) → AllByRecursion P (xs ++ ys) → AllByRecursion P ys
+back_all P [] ys a = a
+back_all P (x ∷ xs) ys a = back_all P xs ys a.1
+
+module _ (t : Litmus) where
+  abbrev Good : List (Comparison × ℕ) → Type 0
+  Good ps = AllByRecursion (IsGood t.agents) ps
+
+  numbered_on : (c : Comparison) (n : ℕ) → IsGood t.agents (c, n) → IsConditionOn t (numbered t.agents c)
+  numbered_on c n good =
+      let found = named_at c.agent t.agents c.reg (record { name = []; body = End }) good.known in
+      (found.0, good.register, ap (λ (b : Statements). writes b c.reg) found.1 ∙ good.known, leb-true _ _ good.in_range)
+
+  operands_count : (c : Conjunction) → 1 ≤ condition_count (operand_values t.agents c)
+  operands_count (Lone o) = omega arith
+  operands_count (Both o c) = omega arith
+
+  conjunctions_count : (w : Written) → 1 ≤ condition_count (conjunction_values t.agents w)
+  conjunctions_count (Single c) = omega arith
+  conjunctions_count (Either c w) = omega arith
+
+  mutual
+    operand_on : (o : Operand) (n : ℕ) → Good (operand_depths n o) → IsConditionOn t (operand_value t.agents o)
+    operand_on (Compared c) n good = numbered_on c n good.0
+    operand_on (Negated o) n good = operand_on o (n + 1) good
+    operand_on (Grouped w) n good = written_on w (n + 1) good
+
+    conjunction_on : (c : Conjunction) (n : ℕ) → Good (conjunction_depths n c) → IsConditionOn t (conjunction_value t.agents c)
+    conjunction_on (Lone o) n good = operand_on o n good
+    conjunction_on (Both o c) n good =
+        (omega (arith, operands_count c), (operand_on o n (front_all (IsGood t.agents) (operand_depths n o) (conjunction_depths n c) good), operands_on c n (back_all (IsGood t.agents) (operand_depths n o) (conjunction_depths n c) good)))
+
+    written_on : (w : Written) (n : ℕ) → Good (written_depths n w) → IsConditionOn t (written_value t.agents w)
+    written_on (Single c) n good = conjunction_on c n good
+    written_on (Either c w) n good =
+        (omega (arith, conjunctions_count w), (conjunction_on c n (front_all (IsGood t.agents) (conjunction_depths n c) (written_depths n w) good), conjunctions_on w n (back_all (IsGood t.agents) (conjunction_depths n c) (written_depths n w) good)))
+
+    operands_on : (c : Conjunction) (n : ℕ) → Good (conjunction_depths n c) → AreConditionsOn t (operand_values t.agents c)
+    operands_on (Lone o) n good = (operand_on o n good, tt)
+    operands_on (Both o c) n good = (operand_on o n (front_all (IsGood t.agents) (operand_depths n o) (conjunction_depths n c) good), operands_on c n (back_all (IsGood t.agents) (operand_depths n o) (conjunction_depths n c) good))
+
+    conjunctions_on : (w : Written) (n : ℕ) → Good (written_depths n w) → AreConditionsOn t (conjunction_values t.agents w)
+    conjunctions_on (Single c) n good = (conjunction_on c n good, tt)
+    conjunctions_on (Either c w) n good = (conjunction_on c n (front_all (IsGood t.agents) (conjunction_depths n c) (written_depths n w) good), conjunctions_on w n (back_all (IsGood t.agents) (conjunction_depths n c) (written_depths n w) good))
+
+  -- ---- its depth: no parentheses are needed that are not written
+
+  tight_one : (c : Condition) → tight_parentheses c ≤ 1
+  tight_one (Any cs) = omega arith
+  tight_one (All cs) = omega arith
+  tight_one (Not c) = omega arith
+  tight_one (Is a r e v) = omega arith
+
+  loose_tight : (c : Condition) → loose_parentheses c ≤ tight_parentheses c
+  loose_tight (Any cs) = omega arith
+  loose_tight (All cs) = omega arith
+  loose_tight (Not c) = omega arith
+  loose_tight (Is a r e v) = omega arith
+
+  mutual
+    operand_low : (o : Operand) (n : ℕ) → Good (operand_depths n o) → condition_depth (operand_value t.agents o) + tight_parentheses (operand_value t.agents o) + n ≤ DEPTH_LIMIT
+    operand_low (Compared c) n good = let low : n ≤ DEPTH_LIMIT = leb-true _ _ good.0.shallow in omega arith
+    operand_low (Negated o) n good = let inner = operand_low o (n + 1) good in omega (arith, inner)
+    operand_low (Grouped w) n good = let inner = written_low w (n + 1) good in omega (arith, inner, tight_one (written_value t.agents w))
+
+    conjunction_low : (c : Conjunction) (n : ℕ) → Good (conjunction_depths n c) → condition_depth (conjunction_value t.agents c) + loose_parentheses (conjunction_value t.agents c) + n ≤ DEPTH_LIMIT
+    conjunction_low (Lone o) n good = omega (arith, operand_low o n good, loose_tight (operand_value t.agents o))
+    conjunction_low (Both o c) n good =
+        omega (arith, operand_low o n (front_all (IsGood t.agents) (operand_depths n o) (conjunction_depths n c) good), operands_low c n (back_all (IsGood t.agents) (operand_depths n o) (conjunction_depths n c) good))
+
+    written_low : (w : Written) (n : ℕ) → Good (written_depths n w) → condition_depth (written_value t.agents w) + n ≤ DEPTH_LIMIT
+    written_low (Single c) n good = omega (arith, conjunction_low c n good)
+    written_low (Either c w) n good =
+        omega (arith, conjunction_low c n (front_all (IsGood t.agents) (conjunction_depths n c) (written_depths n w) good), conjunctions_low w n (back_all (IsGood t.agents) (conjunction_depths n c) (written_depths n w) good))
+
+    operands_low : (c : Conjunction) (n : ℕ) → Good (conjunction_depths n c) → all_depth (operand_values t.agents c) + n ≤ DEPTH_LIMIT
+    operands_low (Lone o) n good = omega (arith, operand_low o n good)
+    operands_low (Both o c) n good =
+        omega (arith, operand_low o n (front_all (IsGood t.agents) (operand_depths n o) (conjunction_depths n c) good), operands_low c n (back_all (IsGood t.agents) (operand_depths n o) (conjunction_depths n c) good))
+
+    conjunctions_low : (w : Written) (n : ℕ) → Good (written_depths n w) → any_depth (conjunction_values t.agents w) + n ≤ DEPTH_LIMIT
+    conjunctions_low (Single c) n good = omega (arith, conjunction_low c n good)
+    conjunctions_low (Either c w) n good =
+        omega (arith, conjunction_low c n (front_all (IsGood t.agents) (conjunction_depths n c) (written_depths n w) good), conjunctions_low w n (back_all (IsGood t.agents) (conjunction_depths n c) (written_depths n w) good))
+
+-- agents and a condition without a fault make a test
+pub is_litmus : (name : List ℕ) (bytes : ℕ) (agents : List Agent) (w : Written) → IsWord name → AreAgentsIn bytes agents → 1 ≤ length agents → AllByRecursion (λ p. p.0.reg < REGISTERS) (written_depths 0 w)
+    → are_known agents w ≡ true → has_small_numbers w ≡ true → is_shallow w ≡ true → IsLitmus (record { name = name; bytes = bytes; agents = agents; check = written_value agents w })
+is_litmus name bytes agents w named are some_agent registers known in_range shallow =
+    let t : Litmus = record { name = name; bytes = bytes; agents = agents; check = written_value agents w } in
+    let good = all_good agents (written_depths 0 w) known in_range registers shallow in
+    record {
+      named = named;
+      some_byte = are.some_byte;
+      block = are.block;
+      some_agent = some_agent;
+      few_agents = are.few;
+      names = λ i within. at_index (λ a. IsWord a.name) agents i (record { name = []; body = End }) within are.named;
+      distinct = λ i j lt within. distinct_at agents (record { name = []; body = End }) i j lt within are.distinct;
+      bodies = λ i within. (at_index (λ a. IsPart bytes 0 a.body) agents i (record { name = []; body = End }) within are.bodies).0;
+      few_ifs = λ i within. omega (arith, (at_index (λ a. IsPart bytes 0 a.body) agents i (record { name = []; body = End }) within are.bodies).1);
+      check = written_on t w 0 good;
+      shallow = omega (arith, written_low t w 0 good);
+    }
 
 -- ---- one form more
 
@@ -157,72 +250,77 @@ above_zero : (n : ℕ) → eqb n 0 ≡ false → 1 ≤ n
 above_zero zero e = absurd cc
 above_zero (suc n) e = omega arith
 
-block_kept : (s t : State) (bytes : ℕ) → block_step s bytes ≡ Ok t → IsState t
+block_kept : (s t : State) (bytes : ℕ) → IsState s → block_step s bytes ≡ Ok t → IsState t
 unfolding block_step IsState
-block_kept (Named name) t bytes e = by (eqb bytes 0 || ltb BLOCK_LIMIT bytes) refl e
+block_kept (Named name) t bytes is_state e = by (eqb bytes 0 || ltb BLOCK_LIMIT bytes) refl e
   where
     by : (b : Bool) → (eqb bytes 0 || ltb BLOCK_LIMIT bytes) ≡ b → cond b (Err BlockSize) (Ok (Sized name bytes)) ≡ Ok t → IsState t
     by true is h = absurd cc
     by false is h =
         let p = neither (eqb bytes 0) (ltb BLOCK_LIMIT bytes) is in
         let some : 1 ≤ bytes = above_zero bytes p.0 in
-        subst IsState (good_is (Sized name bytes) t h) (some, ltb-false _ _ p.1)
-block_kept Empty t bytes e = absurd cc
-block_kept (Sized name b) t bytes e = absurd cc
-block_kept (Open name b agents agent body) t bytes e = absurd cc
-block_kept (Whole l) t bytes e = absurd cc
+        subst IsState (good_is (Sized name bytes) t h) (is_state, some, ltb-false _ _ p.1)
+block_kept Empty t bytes is_state e = absurd cc
+block_kept (Sized name b) t bytes is_state e = absurd cc
+block_kept (Open name b agents agent levels body) t bytes is_state e = absurd cc
+block_kept (Whole l) t bytes is_state e = absurd cc
 
-added_in : (bytes : ℕ) (agents : List Agent) (next : List ℕ) → AreAgentsIn bytes agents → length agents < AGENT_LIMIT → list_any (λ a. bytes_eq next a.name) agents ≡ false → AreAgentsIn bytes (with_agent agents next End)
-added_in bytes agents next are room new = record {
+added_in : (bytes : ℕ) (agents : List Agent) (next : List ℕ) → AreAgentsIn bytes agents → IsWord next → length agents < AGENT_LIMIT → list_any (λ a. bytes_eq next a.name) agents ≡ false → AreAgentsIn bytes (with_agent agents next End)
+added_in bytes agents next are word room new = record {
   some_byte = are.some_byte;
   block = are.block;
   few = omega (arith, length-append agents (record { name = next; body = End } ∷ []));
+  named = all_added (λ a. IsWord a.name) agents (record { name = next; body = End }) are.named word;
   distinct = distinct_added agents (record { name = next; body = End }) new are.distinct;
-  bodies = all_added (λ a. AreStatementsIn bytes a.body) agents (record { name = next; body = End }) are.bodies tt;
+  bodies = all_added (λ a. IsPart bytes 0 a.body) agents (record { name = next; body = End }) are.bodies (tt, omega arith);
 }
 
-next_kept : (name : List ℕ) (bytes : ℕ) (agents : List Agent) (agent : List ℕ) (body : Statements) (next : List ℕ) (t : State) → AreAgentsIn bytes (with_agent agents agent body)
+-- the agents with the last one's statements
+pub filled : (bytes : ℕ) (agents : List Agent) (agent : List ℕ) (body : Statements) → AreAgentsIn bytes (with_agent agents agent End) → IsPart bytes 0 body → AreAgentsIn bytes (with_agent agents agent body)
+filled bytes agents agent body are part = record {
+  some_byte = are.some_byte;
+  block = are.block;
+  few = omega (arith, are.few, length-append agents (record { name = agent; body = End } ∷ []), length-append agents (record { name = agent; body = body } ∷ []));
+  named = all_changed (λ a. IsWord a.name) agents (record { name = agent; body = End }) (record { name = agent; body = body }) (λ word. word) are.named;
+  distinct = distinct_changed agents (record { name = agent; body = End }) (record { name = agent; body = body }) refl are.distinct;
+  bodies = all_changed (λ a. IsPart bytes 0 a.body) agents (record { name = agent; body = End }) (record { name = agent; body = body }) (λ all. part) are.bodies;
+}
+
+next_kept : (name : List ℕ) (bytes : ℕ) (agents : List Agent) (agent : List ℕ) (body : Statements) (next : List ℕ) (t : State) → IsWord name → IsWord next → AreAgentsIn bytes (with_agent agents agent body)
     → next_step name bytes agents agent body next ≡ Ok t → IsState t
 unfolding next_step IsState
-next_kept name bytes agents agent body next t are e =
+next_kept name bytes agents agent body next t named word are e =
     by (leb AGENT_LIMIT (length agents + 1)) refl (list_any (λ a. bytes_eq next a.name) (with_agent agents agent body)) refl e
   where
     by : (b : Bool) → leb AGENT_LIMIT (length agents + 1) ≡ b → (d : Bool) → list_any (λ a. bytes_eq next a.name) (with_agent agents agent body) ≡ d
-        → cond b (Err TooManyAgents) (cond d (Err DuplicateAgent) (Ok (Open name bytes (with_agent agents agent body) next End))) ≡ Ok t → IsState t
+        → cond b (Err TooManyAgents) (cond d (Err DuplicateAgent) (Ok (Open name bytes (with_agent agents agent body) next [] End))) ≡ Ok t → IsState t
     by true full d known h = absurd cc
     by false full true known h = absurd cc
     by false full false known h =
         let room : length agents + 1 < AGENT_LIMIT = leb-false _ _ full in
-        subst IsState (good_is (Open name bytes (with_agent agents agent body) next End) t h)
-        (added_in bytes (with_agent agents agent body) next are (omega (arith, length-append agents (record { name = agent; body = body } ∷ []))) known)
+        subst IsState (good_is (Open name bytes (with_agent agents agent body) next [] End) t h)
+        (named, added_in bytes (with_agent agents agent body) next are word (omega (arith, length-append agents (record { name = agent; body = body } ∷ []))) known, tt, (tt, omega arith))
 
-agent_kept : (s t : State) (next : List ℕ) → IsState s → agent_step s next ≡ Ok t → IsState t
+agent_kept : (s t : State) (next : List ℕ) → IsWord next → IsState s → agent_step s next ≡ Ok t → IsState t
 unfolding agent_step IsState
-agent_kept (Sized name bytes) t next is e =
-    subst IsState (good_is (Open name bytes [] next End) t e) (record { some_byte = is.0; block = is.1; few = omega arith; distinct = (tt, tt); bodies = (tt, tt) })
-agent_kept (Open name bytes agents agent body) t next is e = next_kept name bytes agents agent body next t is e
-agent_kept Empty t next is e = absurd cc
-agent_kept (Named name) t next is e = absurd cc
-agent_kept (Whole l) t next is e = absurd cc
+agent_kept (Sized name bytes) t next word is e =
+    subst IsState (good_is (Open name bytes [] next [] End) t e)
+    (is.0, record { some_byte = is.1; block = is.2; few = omega arith; named = (word, tt); distinct = (tt, tt); bodies = ((tt, omega arith), tt) }, tt, (tt, omega arith))
+agent_kept (Open name bytes agents agent [] body) t next word is e = next_kept name bytes agents agent body next t is.0 word (filled bytes agents agent body is.1 is.3) e
+agent_kept (Open name bytes agents agent (l ∷ levels) body) t next word is e = absurd cc
+agent_kept Empty t next word is e = absurd cc
+agent_kept (Named name) t next word is e = absurd cc
+agent_kept (Whole l) t next word is e = absurd cc
 
-followed_agents : (bytes : ℕ) (agents : List Agent) (agent : List ℕ) (body : Statements) (s : Statement) → AreAgentsIn bytes (with_agent agents agent body) → IsStatementIn bytes s
-    → AreAgentsIn bytes (with_agent agents agent (followed_by body s))
-followed_agents bytes agents agent body s are one = record {
-  some_byte = are.some_byte;
-  block = are.block;
-  few = omega (arith, are.few, length-append agents (record { name = agent; body = body } ∷ []), length-append agents (record { name = agent; body = followed_by body s } ∷ []));
-  distinct = distinct_changed agents (record { name = agent; body = body }) (record { name = agent; body = followed_by body s }) refl are.distinct;
-  bodies = all_changed (λ a. AreStatementsIn bytes a.body) agents (record { name = agent; body = body }) (record { name = agent; body = followed_by body s }) (λ all. followed_in bytes body s all one) are.bodies;
-}
-
-statement_kept : (s t : State) (r : Statement) → IsState s → IsFormStatement r → statement_step s r ≡ Ok t → IsState t
+statement_kept : (s t : State) (r : Statement) → IsState s → IsAccess r → statement_step s r ≡ Ok t → IsState t
 unfolding statement_step IsState
-statement_kept (Open name bytes agents agent body) t r is form e = by (has_fitting_literals r) refl (stays_in_block bytes r) refl e
+statement_kept (Open name bytes agents agent levels body) t r is form e = by (has_fitting_literals r) refl (stays_in_block bytes r) refl e
   where
     by : (b : Bool) → has_fitting_literals r ≡ b → (d : Bool) → stays_in_block bytes r ≡ d
-        → cond b (cond d (Ok (Open name bytes agents agent (followed_by body r))) (Err OutOfBlock)) (Err LiteralRange) ≡ Ok t → IsState t
+        → cond b (cond d (Ok (Open name bytes agents agent levels (followed_by body r))) (Err OutOfBlock)) (Err LiteralRange) ≡ Ok t → IsState t
     by true fits true within h =
-        subst IsState (good_is (Open name bytes agents agent (followed_by body r)) t h) (followed_agents bytes agents agent body r is (statement_in bytes r form fits within))
+        let one = statement_in bytes r form fits within in
+        subst IsState (good_is (Open name bytes agents agent levels (followed_by body r)) t h) (is.0, is.1, is.2, part_followed bytes (length levels) body r is.3 one.0 (omega (arith, one.1, is.3.1)))
     by true fits false within h = absurd cc
     by false fits d within h = absurd cc
 statement_kept Empty t r is form e = absurd cc
@@ -230,32 +328,95 @@ statement_kept (Named name) t r is form e = absurd cc
 statement_kept (Sized name bytes) t r is form e = absurd cc
 statement_kept (Whole l) t r is form e = absurd cc
 
-test_kept : (s t : State) (name : List ℕ) → test_step s name ≡ Ok t → IsState t
+if_kept : (s t : State) (reg : ℕ) (equal : Bool) (value : ℕ) → IsState s → reg < REGISTERS → if_step s reg equal value ≡ Ok t → IsState t
+unfolding if_step IsState
+if_kept (Open name bytes agents agent levels body) t reg equal value is low e = by (ltb COMPARED_LIMIT value) refl (leb IF_LIMIT (length levels)) refl e
+  where
+    new : Level
+    new = record { reg = reg; equal = equal; value = value; before = body; then_part = None }
+
+    by : (b : Bool) → ltb COMPARED_LIMIT value ≡ b → (d : Bool) → leb IF_LIMIT (length levels) ≡ d
+        → cond b (Err LiteralRange) (cond d (Err TooDeep) (Ok (Open name bytes agents agent (record { reg = reg; equal = equal; value = value; before = body; then_part = None } ∷ levels) End))) ≡ Ok t → IsState t
+    by true large d full h = absurd cc
+    by false large true full h = absurd cc
+    by false large false full h =
+        let room : length levels < IF_LIMIT = leb-false _ _ full in
+        let small : value ≤ COMPARED_LIMIT = ltb-false _ _ large in
+        subst IsState (good_is (Open name bytes agents agent (record { reg = reg; equal = equal; value = value; before = body; then_part = None } ∷ levels) End) t h)
+        (is.0, is.1, (record { room = room; register = low; small = small; before = is.3; then_part = tt }, is.2), (tt, omega arith))
+if_kept Empty t reg equal value is low e = absurd cc
+if_kept (Named name) t reg equal value is low e = absurd cc
+if_kept (Sized name bytes) t reg equal value is low e = absurd cc
+if_kept (Whole l) t reg equal value is low e = absurd cc
+
+else_kept : (s t : State) → IsState s → else_step s ≡ Ok t → IsState t
+unfolding else_step IsState
+else_kept (Open name bytes agents agent (l ∷ levels) body) t is e = by l.then_part e
+  where
+    by : (p : Option Statements) → else_from name bytes agents agent l levels body p ≡ Ok t → IsState t
+    by (Some part) h = absurd cc
+    by None h =
+        subst IsState (good_is (Open name bytes agents agent (else_level l body ∷ levels) End) t h)
+        (is.0, is.1, (record { room = is.2.0.room; register = is.2.0.register; small = is.2.0.small; before = is.2.0.before; then_part = (is.3.0, omega (arith, is.3.1)) }, is.2.1), (tt, omega (arith, is.2.0.room)))
+else_kept (Open name bytes agents agent [] body) t is e = absurd cc
+else_kept Empty t is e = absurd cc
+else_kept (Named name) t is e = absurd cc
+else_kept (Sized name bytes) t is e = absurd cc
+else_kept (Whole l) t is e = absurd cc
+
+ended_in : (bytes outside : ℕ) (l : Level) (body : Statements) (p : Option Statements) → l.reg < REGISTERS → l.value ≤ COMPARED_LIMIT → outside < IF_LIMIT → IsPart bytes (suc outside) body → IfSome p (λ part. IsPart bytes (outside + 1) part)
+    → IsStatementIn bytes (ended_if l body p) × (statement_nesting (ended_if l body p) + outside ≤ IF_LIMIT)
+ended_in bytes outside l body None low small room part before = ((low, small, part.0, tt), omega (arith, part.1))
+ended_in bytes outside l body (Some then_part) low small room part before = ((low, small, before.0, part.0), omega (arith, part.1, before.1))
+
+end_kept : (s t : State) → IsState s → end_step s ≡ Ok t → IsState t
+unfolding end_step IsState
+end_kept (Open name bytes agents agent (l ∷ levels) body) t is e =
+    let one = ended_in bytes (length levels) l body l.then_part is.2.0.register is.2.0.small is.2.0.room is.3 is.2.0.then_part in
+    subst IsState (good_is (Open name bytes agents agent levels (followed_by l.before (ended_if l body l.then_part))) t e)
+    (is.0, is.1, is.2.1, part_followed bytes (length levels) l.before (ended_if l body l.then_part) is.2.0.before one.0 one.1)
+end_kept (Open name bytes agents agent [] body) t is e = absurd cc
+end_kept Empty t is e = absurd cc
+end_kept (Named name) t is e = absurd cc
+end_kept (Sized name bytes) t is e = absurd cc
+end_kept (Whole l) t is e = absurd cc
+
+test_kept : (s t : State) (name : List ℕ) → IsWord name → test_step s name ≡ Ok t → IsState t
 unfolding test_step IsState
-test_kept Empty t name e = subst IsState (good_is (Named name) t e) tt
-test_kept (Named n) t name e = absurd cc
-test_kept (Sized n bytes) t name e = absurd cc
-test_kept (Open n bytes agents agent body) t name e = absurd cc
-test_kept (Whole l) t name e = absurd cc
+test_kept Empty t name word e = subst IsState (good_is (Named name) t e) word
+test_kept (Named n) t name word e = absurd cc
+test_kept (Sized n bytes) t name word e = absurd cc
+test_kept (Open n bytes agents agent levels body) t name word e = absurd cc
+test_kept (Whole l) t name word e = absurd cc
 
 whole_kept : (r : Result Litmus ReadKind) (t : State) → whole r ≡ Ok t → IsState t
 unfolding IsState
 whole_kept (Ok l) t e = subst IsState (good_is (Whole l) t e) tt
 whole_kept (Err k) t e = absurd cc
 
-check_kept : (s t : State) (cs : List Comparison) → check_step s cs ≡ Ok t → IsState t
+check_kept : (s t : State) (w : Written) → check_step s w ≡ Ok t → IsState t
 unfolding check_step
-check_kept (Open name bytes agents agent body) t cs e = whole_kept (test_of name bytes (with_agent agents agent body) cs) t e
-check_kept Empty t cs e = absurd cc
-check_kept (Named n) t cs e = absurd cc
-check_kept (Sized n bytes) t cs e = absurd cc
-check_kept (Whole l) t cs e = absurd cc
+check_kept (Open name bytes agents agent [] body) t w e = whole_kept (test_of name bytes (with_agent agents agent body) w) t e
+check_kept (Open name bytes agents agent (l ∷ levels) body) t w e = absurd cc
+check_kept Empty t w e = absurd cc
+check_kept (Named n) t w e = absurd cc
+check_kept (Sized n bytes) t w e = absurd cc
+check_kept (Whole l) t w e = absurd cc
 
-pub step_kept : (s t : State) (f : Form) → IsState s → IsForm f → step s f ≡ Ok t → IsState t
+-- the names that a form gives are words
+abbrev pub HasWords : Form → Type 0
+HasWords (TestLine name) = IsWord name
+HasWords (AgentLine name) = IsWord name
+HasWords _ = Unit {0}
+
+pub step_kept : (s t : State) (f : Form) → IsState s → IsForm f → HasWords f → step s f ≡ Ok t → IsState t
 unfolding step IsForm
-step_kept s t Blank is form e = subst IsState (good_is s t e) is
-step_kept s t (TestLine name) is form e = test_kept s t name e
-step_kept s t (BytesLine bytes) is form e = block_kept s t bytes e
-step_kept s t (AgentLine name) is form e = agent_kept s t name is e
-step_kept s t (StatementLine r) is form e = statement_kept s t r is form e
-step_kept s t (CheckLine cs) is form e = check_kept s t cs e
+step_kept s t Blank is form words e = subst IsState (good_is s t e) is
+step_kept s t (TestLine name) is form words e = test_kept s t name words e
+step_kept s t (BytesLine bytes) is form words e = block_kept s t bytes is e
+step_kept s t (AgentLine name) is form words e = agent_kept s t name words is e
+step_kept s t (StatementLine r) is form words e = statement_kept s t r is form e
+step_kept s t (IfLine reg equal value) is form words e = if_kept s t reg equal value is form e
+step_kept s t ElseLine is form words e = else_kept s t is e
+step_kept s t EndLine is form words e = end_kept s t is e
+step_kept s t (CheckLine w) is form words e = check_kept s t w e

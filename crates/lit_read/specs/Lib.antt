@@ -3,11 +3,10 @@ pub mod SyntaxCodes
 pub mod Litmus
 pub mod Lines
 pub mod Tokens
+pub mod Written
 pub mod Forms
+pub mod Structure
 pub mod Faults
 pub mod Spelling
-pub mod FirstToken
-pub mod FormOfTokens
-pub mod State
-pub mod Views
-pub mod LineSteps
+pub mod Canonical
+pub mod Reading

@@ -1,7 +1,8 @@
--- What a litmus test says, as lists and trees: the whole language, of which the reader makes a part so far.
+-- What a litmus test says, as lists and trees.
 -- The accesses are those of ECMA-262 (2024), clause 25; the text around them is this project's own.
-use Rattle.std.specs.Prelude.{◌≡◌, ◌≢◌, ℕ, ◌+◌, ◌/◌, ◌^◌, ◌<◌, ◌≤◌, ◌==◌, Bool, true, false, IsTrue, ◌||◌, List, [], length, slice_index_or}
-use Rattle.lit_read.specs.declared.limits.TheConstants.{BLOCK_LIMIT, AGENT_LIMIT, REGISTERS, COMPARED_LIMIT}
+use Rattle.std.specs.Prelude.{◌≡◌, ◌≢◌, ℕ, ◌+◌, ◌/◌, ◌^◌, ◌<◌, ◌≤◌, ◌==◌, nat_lt, nat_le, max, Bool, true, false, IsTrue, ◌||◌, List, [], length, slice_index_or}
+use Rattle.lit_read.specs.declared.limits.TheConstants.{BLOCK_LIMIT, AGENT_LIMIT, REGISTERS, COMPARED_LIMIT, IF_LIMIT, DEPTH_LIMIT}
+use Rattle.lit_read.specs.Tokens.{IsWord}
 
 -- how an access sees the block: as an element of a typed array, or by a DataView call
 pub data Window : Type 0 where
@@ -73,30 +74,43 @@ is_data_view DataView16 = true
 is_data_view DataView32 = true
 
 -- The whole access lies in a block of so many bytes. A typed array has as many elements as fit.
-abbrev pub IsInBlock : ℕ → Window → ℕ → Type 0
-IsInBlock bytes Uint8 index = index < bytes
-IsInBlock bytes Uint16 index = index < bytes / 2
-IsInBlock bytes Uint32 index = index < bytes / 4
-IsInBlock bytes DataView8 index = index + 1 ≤ bytes
-IsInBlock bytes DataView16 index = index + 2 ≤ bytes
-IsInBlock bytes DataView32 index = index + 4 ≤ bytes
+abbrev pub is_in_block : ℕ → Window → ℕ → Bool
+is_in_block bytes Uint8 index = nat_lt index bytes
+is_in_block bytes Uint16 index = nat_lt index (bytes / 2)
+is_in_block bytes Uint32 index = nat_lt index (bytes / 4)
+is_in_block bytes DataView8 index = nat_le (index + 1) bytes
+is_in_block bytes DataView16 index = nat_le (index + 2) bytes
+is_in_block bytes DataView32 index = nat_le (index + 4) bytes
 
 -- a number that the access can write
-abbrev pub FitsWindow : Window → ℕ → Type 0
-FitsWindow window value = value < 256 ^ window_size window
+abbrev pub fits_window : Window → ℕ → Bool
+fits_window window value = nat_lt value (256 ^ window_size window)
 
 -- what a text can say in an agent, over a block of so many bytes
 abbrev mutual
   pub IsStatementIn : ℕ → Statement → Type 0
-  IsStatementIn bytes (Load reg window index atomic) = (reg < REGISTERS) × IsInBlock bytes window index × (IsTrue atomic → is_data_view window ≡ false)
-  IsStatementIn bytes (Store window index value atomic) = IsInBlock bytes window index × FitsWindow window value × (IsTrue atomic → is_data_view window ≡ false)
-  IsStatementIn bytes (Exchange reg window index value) = (reg < REGISTERS) × IsInBlock bytes window index × FitsWindow window value × (is_data_view window ≡ false)
-  IsStatementIn bytes (CompareExchange reg window index expected value) = (reg < REGISTERS) × IsInBlock bytes window index × FitsWindow window expected × FitsWindow window value × (is_data_view window ≡ false)
+  IsStatementIn bytes (Load reg window index atomic) = (reg < REGISTERS) × IsTrue (is_in_block bytes window index) × (IsTrue atomic → is_data_view window ≡ false)
+  IsStatementIn bytes (Store window index value atomic) = IsTrue (is_in_block bytes window index) × IsTrue (fits_window window value) × (IsTrue atomic → is_data_view window ≡ false)
+  IsStatementIn bytes (Exchange reg window index value) = (reg < REGISTERS) × IsTrue (is_in_block bytes window index) × IsTrue (fits_window window value) × (is_data_view window ≡ false)
+  IsStatementIn bytes (CompareExchange reg window index expected value) = (reg < REGISTERS) × IsTrue (is_in_block bytes window index) × IsTrue (fits_window window expected) × IsTrue (fits_window window value) × (is_data_view window ≡ false)
   IsStatementIn bytes (If reg equal value body other) = (reg < REGISTERS) × (value ≤ COMPARED_LIMIT) × AreStatementsIn bytes body × AreStatementsIn bytes other
 
   pub AreStatementsIn : ℕ → Statements → Type 0
   AreStatementsIn bytes End = Unit {0}
   AreStatementsIn bytes (Then s ss) = IsStatementIn bytes s × AreStatementsIn bytes ss
+
+-- how many `if`s stand one in the other
+abbrev mutual
+  pub statement_nesting : Statement → ℕ
+  statement_nesting (If reg equal value body other) = max (nesting body) (nesting other) + 1
+  statement_nesting (Load reg window index atomic) = 0
+  statement_nesting (Store window index value atomic) = 0
+  statement_nesting (Exchange reg window index value) = 0
+  statement_nesting (CompareExchange reg window index expected value) = 0
+
+  pub nesting : Statements → ℕ
+  nesting End = 0
+  nesting (Then s ss) = max (statement_nesting s) (nesting ss)
 
 -- whether a register is written anywhere in a text
 abbrev mutual
@@ -127,13 +141,46 @@ abbrev mutual
   AreConditionsOn t NoMore = Unit {0}
   AreConditionsOn t (Also c cs) = IsConditionOn t c × AreConditionsOn t cs
 
--- What a text can say: the limits, distinct names of agents, accesses in the block, literals in range, a check on
--- registers that are written.
+-- how many parentheses stand round a condition in an All or under a Not, and how many in an Any
+abbrev pub tight_parentheses : Condition → ℕ
+tight_parentheses (Any cs) = 1
+tight_parentheses (All cs) = 1
+tight_parentheses (Not c) = 0
+tight_parentheses (Is agent reg equal value) = 0
+
+abbrev pub loose_parentheses : Condition → ℕ
+loose_parentheses (Any cs) = 1
+loose_parentheses (All cs) = 0
+loose_parentheses (Not c) = 0
+loose_parentheses (Is agent reg equal value) = 0
+
+-- the most `!` and parentheses round a comparison, written with no more parentheses than are needed
+abbrev mutual
+  pub condition_depth : Condition → ℕ
+  condition_depth (Any cs) = any_depth cs
+  condition_depth (All cs) = all_depth cs
+  condition_depth (Not c) = condition_depth c + tight_parentheses c + 1
+  condition_depth (Is agent reg equal value) = 0
+
+  pub any_depth : Conditions → ℕ
+  any_depth NoMore = 0
+  any_depth (Also c cs) = max (condition_depth c + loose_parentheses c) (any_depth cs)
+
+  pub all_depth : Conditions → ℕ
+  all_depth NoMore = 0
+  all_depth (Also c cs) = max (condition_depth c + tight_parentheses c) (all_depth cs)
+
+-- What a text can say: the limits, names that are words, distinct names of agents, accesses in the block, literals in
+-- range, a check on registers that are written.
 pub record IsLitmus (t : Litmus) : Type 0 where
+  pub named : IsWord t.name
   pub some_byte : 1 ≤ t.bytes
   pub block : t.bytes ≤ BLOCK_LIMIT
   pub some_agent : 1 ≤ length t.agents
   pub few_agents : length t.agents ≤ AGENT_LIMIT
+  pub names : (i : ℕ) → i < length t.agents → IsWord (agent_of t i).name
   pub distinct : (i j : ℕ) → i < j → j < length t.agents → (agent_of t i).name ≢ (agent_of t j).name
   pub bodies : (i : ℕ) → i < length t.agents → AreStatementsIn t.bytes (agent_of t i).body
+  pub few_ifs : (i : ℕ) → i < length t.agents → nesting (agent_of t i).body ≤ IF_LIMIT
   pub check : IsConditionOn t t.check
+  pub shallow : condition_depth t.check ≤ DEPTH_LIMIT

@@ -1,25 +1,33 @@
-//! The condition of a test, from the comparisons of its `check` line.
+//! Whether a condition asks what it may.
 
-ghost use Rattle.std.specs.Prelude.{◌≡◌, ◌<◌, ◌≤◌, nat_le, true, IfSome, IfNone, Ok, Err, length, map, option_map, IsTrue, Some, None, if◌then◌else◌};
+ghost use Rattle.std.specs.Prelude.{◌≡◌, IfSome, IfNone};
 ghost use Rattle.std.specs.List.{list_all};
 ghost use Rattle.lit_read.specs.Syntax.{End, statement_writes, writes};
-ghost use Rattle.lit_read.specs.Litmus.{statement_of, statements_of, condition_of};
-ghost use Rattle.lit_read.specs.Faults.{is_known, body_named};
-ghost use Rattle.lit_read.specs.Spelling.{condition_from, numbered, all_numbered, place_of, IsAgent};
-ghost use Rattle.lit_read.specs.Views.{Gives, conditions_view, comparison_view, agents_view};
+ghost use Rattle.lit_read.specs.Litmus.{statement_of, statements_of};
+ghost use Rattle.lit_read.specs.Reading.Marks.{is_small};
+ghost use Rattle.lit_read.specs.Reading.State.{body_named, is_known_mark};
+ghost use Rattle.lit_read.specs.Reading.Views.{mark_view, mark_views, agents_view};
 
-use crate::fault::ReadKind;
-use crate::forms::Comparison;
-use crate::limits::{AGENT_LIMIT, COMPARED_LIMIT};
-use crate::syntax::{Cond, Stmt};
+use crate::limits::COMPARED_LIMIT;
+use crate::marks::Mark;
+use crate::syntax::Stmt;
 use indexmap::IndexMap;
-use std::alloc::Global;
+
+/// Whether a number compared is one that a register can hold.
+fn is_small(mark: &Mark<'_>) -> bool
+    ensures { result ≡ is_small (mark_view mark.now) }
+{
+    match mark {
+        Mark::Is(comparison) => comparison.value <= COMPARED_LIMIT,
+        _ => true,
+    }
+}
 
 /// Whether each number compared is one that a register can hold.
-pub fn are_in_range(comparisons: &[Comparison<'_>]) -> bool
-    ensures { result ≡ list_all (λ c. nat_le c.value COMPARED_LIMIT) comparisons.now }
+pub fn are_small(marks: &[Mark<'_>]) -> bool
+    ensures { result ≡ list_all (λ m. is_small (mark_view m)) marks.now }
 {
-    comparisons.iter().all(|c| c.value <= COMPARED_LIMIT)
+    marks.iter().all(|mark| is_small(mark))
 }
 
 /// Whether a statement writes the register.
@@ -49,73 +57,31 @@ fn writes(body: &[Stmt], reg: u8) -> bool
     false
 }
 
-/// The number of the agent with a name, and its statements.
-fn find_agent<'m>(
-    agents: &'m IndexMap<String, Vec<Stmt>>,
-    name: &str,
-) -> Option<(usize, &'m [Stmt])>
-    ensures found { IfSome result (λ p. IsAgent (agents_view agents.now.entries) name.now p.0 (statements_of p.1.now)) }
-    ensures within { IfSome result (λ p. p.0 < length agents.now.entries) }
+/// The statements of the agent with a name.
+fn body_of<'m>(agents: &'m IndexMap<String, Vec<Stmt>>, name: &str) -> Option<&'m [Stmt]>
+    ensures found { IfSome result (λ body. statements_of body.now ≡ body_named name.now (agents_view agents.now.entries)) }
     ensures absent { IfNone result (body_named name.now (agents_view agents.now.entries) ≡ End) }
 {
-    let (agent, _, body) = agents.get_full(name)?;
-    Some((agent, body.as_slice()))
+    let body = agents.get(name)?;
+    Some(body.as_slice())
 }
 
-/// The comparison with the agent's number, if that agent writes the register.
-fn numbered(agents: &IndexMap<String, Vec<Stmt>>, comparison: &Comparison<'_>) -> Option<Cond>
-    requires few { length agents.now.entries ≤ AGENT_LIMIT }
-    requires in_range { comparison.now.value ≤ COMPARED_LIMIT }
-    ensures { option_map condition_of result ≡ (if is_known (agents_view agents.now.entries) (comparison_view comparison.now) then Some (numbered (agents_view agents.now.entries) (comparison_view comparison.now)) else None) }
+/// Whether a comparison names an agent that writes the register.
+fn is_known(agents: &IndexMap<String, Vec<Stmt>>, mark: &Mark<'_>) -> bool
+    ensures { result ≡ is_known_mark (agents_view agents.now.entries) (mark_view mark.now) }
 {
-    let (agent, body) = find_agent(agents, comparison.agent)?;
-    if writes(body, comparison.reg) {
-        Some(Cond::Is {
-            agent: agent as u8,
-            reg: comparison.reg,
-            equal: comparison.equal,
-            value: comparison.value as u32,
-        })
-    } else {
-        None
+    match mark {
+        Mark::Is(comparison) => match body_of(agents, comparison.agent) {
+            Some(body) => writes(body, comparison.reg),
+            None => false,
+        },
+        _ => true,
     }
 }
 
-/// The comparisons with their agents' numbers.
-fn all_numbered(
-    alloc: Global,
-    agents: &IndexMap<String, Vec<Stmt>>,
-    comparisons: &[Comparison<'_>],
-) -> Result<Vec<Cond>, ReadKind>
-    requires few { length agents.now.entries ≤ AGENT_LIMIT }
-    requires in_range { list_all (λ c. nat_le c.value COMPARED_LIMIT) comparisons.now ≡ true }
-    ensures { Gives (λ v. conditions_view v.items) result (if list_all (is_known (agents_view agents.now.entries)) (map comparison_view comparisons.now) then Ok (all_numbered (agents_view agents.now.entries) (map comparison_view comparisons.now)) else Err ReadKind.UnknownName) }
+/// Whether each comparison names an agent that writes the register.
+pub fn are_known(agents: &IndexMap<String, Vec<Stmt>>, marks: &[Mark<'_>]) -> bool
+    ensures { result ≡ list_all (λ m. is_known_mark (agents_view agents.now.entries) (mark_view m)) marks.now }
 {
-    let mut conds = Vec::new(alloc);
-    for comparison in comparisons {
-        match numbered(agents, comparison) {
-            Some(cond) => conds.push(cond)?,
-            None => return Err(ReadKind::UnknownName),
-        }
-    }
-    Ok(conds)
-}
-
-/// The condition that a `check` line asks. A lone comparison is itself.
-pub fn condition(
-    alloc: Global,
-    agents: &IndexMap<String, Vec<Stmt>>,
-    comparisons: &[Comparison<'_>],
-) -> Result<Cond, ReadKind>
-    requires few { length agents.now.entries ≤ AGENT_LIMIT }
-    requires in_range { list_all (λ c. nat_le c.value COMPARED_LIMIT) comparisons.now ≡ true }
-    ensures { Gives condition_of result (if list_all (is_known (agents_view agents.now.entries)) (map comparison_view comparisons.now) then Ok (condition_from (agents_view agents.now.entries) (map comparison_view comparisons.now)) else Err ReadKind.UnknownName) }
-{
-    if comparisons.len() != 1 {
-        return Ok(Cond::All(all_numbered(alloc, agents, comparisons)?));
-    }
-    match numbered(agents, &comparisons[0]) {
-        Some(cond) => Ok(cond),
-        None => Err(ReadKind::UnknownName),
-    }
+    marks.iter().all(|mark| is_known(agents, mark))
 }

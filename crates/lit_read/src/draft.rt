@@ -1,29 +1,43 @@
 //! The test as far as a text has come.
 
-ghost use Rattle.std.specs.Prelude.{◌≡◌, ◌<◌, length, map, string_bytes, false, IfOk};
+ghost use Rattle.std.specs.Prelude.{◌≡◌, ◌<◌, string_bytes, false, IfOk, Ok};
 ghost use Rattle.std.specs.List.{list_any};
 ghost use Rattle.std.specs.Str.{bytes_eq};
-ghost use Rattle.lit_read.specs.Litmus.{window_of, statements_of};
-ghost use Rattle.lit_read.specs.Faults.{fits_window, is_in_block};
-ghost use Rattle.lit_read.specs.State.{test_step, block_step, agent_step, statement_step, step, check_step, with_agent, IsState};
-ghost use Rattle.lit_read.specs.Views.{Gives, state_view, form_view, comparison_view, open_view, agents_view};
+ghost use Rattle.lit_read.specs.Litmus.{statements_of};
+ghost use Rattle.lit_read.specs.Reading.State.{test_step, block_step, agent_step, statement_step, if_step, else_step, end_step, step, check_step, with_agent, followed_by, IsState};
+ghost use Rattle.lit_read.specs.Reading.Views.{Returns, state_view, form_view, open_view, agents_view};
 
-use crate::checking::{are_in_range, condition};
+use crate::accesses::checked_access;
+use crate::building::condition;
+use crate::checking::{are_known, are_small};
 use crate::fault::ReadKind;
-use crate::forms::{Comparison, Form};
-use crate::limits::{AGENT_LIMIT, BLOCK_LIMIT};
+use crate::forms::{Access, Form, Line};
+use crate::limits::{AGENT_LIMIT, BLOCK_LIMIT, COMPARED_LIMIT, IF_LIMIT};
 use crate::litmus::Test;
-use crate::syntax::{Stmt, View};
+use crate::marks::Mark;
+use crate::syntax::Stmt;
 use indexmap::IndexMap;
 use std::alloc::{AllocError, Global};
 
-/// An agent that more statements may follow, and the agents before it.
+/// An open `if`: its line, the statements before it, and the then-part once the else line has come.
+#[derive(Drop)]
+pub struct Level {
+    reg: u8,
+    equal: bool,
+    value: u32,
+    before: Vec<Stmt>,
+    then_part: Option<Vec<Stmt>>,
+}
+
+/// An agent that more statements may follow, and the agents before it. The innermost `if` is the last, and `body` are
+/// the statements of its open part.
 #[derive(Drop)]
 pub struct Open {
     name: String,
     bytes: u8,
     agents: IndexMap<String, Vec<Stmt>>,
     agent: String,
+    levels: Vec<Level>,
     body: Vec<Stmt>,
 }
 
@@ -35,32 +49,6 @@ pub enum Draft {
     Sized { name: String, bytes: u8 },
     Open(Open),
     Whole(Test),
-}
-
-/// Whether the number is one that the view can write.
-fn fits(view: View, value: u64) -> bool
-    ensures { result ≡ fits_window (window_of view) value }
-{
-    match view {
-        View::U8 | View::D8 => value < 256,
-        View::U16 | View::D16 => value < 65_536,
-        View::U32 | View::D32 => value < 4_294_967_296,
-    }
-}
-
-/// Whether the whole access lies in the block.
-fn is_in_block(bytes: u8, view: View, index: u64) -> bool
-    ensures { result ≡ is_in_block bytes (window_of view) index }
-{
-    let bytes = bytes as u64;
-    match view {
-        View::U8 => index < bytes,
-        View::U16 => index < bytes / 2,
-        View::U32 => index < bytes / 4,
-        View::D8 => index < bytes,
-        View::D16 => bytes >= 2 && index <= bytes - 2,
-        View::D32 => bytes >= 4 && index <= bytes - 4,
-    }
 }
 
 /// The agents, and one more behind them.
@@ -77,48 +65,131 @@ fn with_last(
     Ok(agents)
 }
 
-impl Open {
-    ghost use Rattle.lit_read.specs.Syntax.{Load, Store};
-    ghost use Rattle.lit_read.specs.Forms.{IsForm, CheckLine};
-    ghost use Rattle.lit_read.specs.State.{Whole};
+impl Level {
+    ghost use Rattle.lit_read.specs.Litmus.{statement_of};
+    ghost use Rattle.lit_read.specs.Reading.State.{ended_if};
+    ghost use Rattle.lit_read.specs.Reading.Views.{level_view, part_view};
 
-    #[tactic(auto, unfolding(crate::specs::State::statement_step), using(crate::proofs::DraftLemmas::statements_pushed))]
-    fn load(self, reg: u8, view: View, index: u64, atomic: bool) -> Result<Open, ReadKind>
-        requires { IsState (open_view self) }
-        ensures { Gives open_view result (statement_step (open_view self) (Load reg (window_of view) index atomic)) }
+    /// The `if` whose part this is the last of, behind the statements before it.
+    fn ended(self, alloc: Global, body: Vec<Stmt>) -> Result<Vec<Stmt>, AllocError>
+        ensures { IfOk result (λ all. statements_of all.items ≡ followed_by (statements_of self.before.items) (ended_if (level_view self) (statements_of body.items) (part_view self.then_part))) }
     {
-        if !is_in_block(self.bytes, view, index) {
-            return Err(ReadKind::OutOfBlock);
-        }
-        let mut body = self.body;
-        body.push(Stmt::Load {
+        let Level {
             reg,
-            view,
-            index: index as u8,
-            atomic,
+            equal,
+            value,
+            before,
+            then_part,
+        } = self;
+        let (body, other) = match then_part {
+            Some(part) => (part, body),
+            None => (body, Vec::new(alloc)),
+        };
+        let mut all = before;
+        all.push(Stmt::If {
+            reg,
+            equal,
+            value,
+            body,
+            other,
         })?;
+        Ok(all)
+    }
+}
+
+impl Open {
+    ghost use Rattle.lit_read.specs.Litmus.{statement_of};
+    ghost use Rattle.lit_read.specs.Written.{Written};
+    ghost use Rattle.lit_read.specs.Forms.{IsForm, CheckLine};
+    ghost use Rattle.lit_read.specs.Reading.Marks.{written_marks};
+    ghost use Rattle.lit_read.specs.Reading.State.{Whole, with_statement};
+    ghost use Rattle.lit_read.specs.Reading.Views.{access_view, mark_views};
+
+    /// With one statement more.
+    fn with_statement(self, stmt: Stmt) -> Result<Open, ReadKind>
+        ensures { Returns open_view result (Ok (with_statement (open_view self) (statement_of stmt))) }
+    {
+        let mut body = self.body;
+        body.push(stmt)?;
         Ok(Open { body, ..self })
     }
 
-    #[tactic(auto, unfolding(crate::specs::State::statement_step), using(crate::proofs::DraftLemmas::statements_pushed))]
-    fn store(self, view: View, index: u64, value: u64, atomic: bool) -> Result<Open, ReadKind>
-        requires { IsState (open_view self) }
-        ensures { Gives open_view result (statement_step (open_view self) (Store (window_of view) index value atomic)) }
+    /// With one access more.
+    #[tactic(auto, unfolding(crate::specs::Reading::State::statement_step))]
+    fn access(self, access: Access) -> Result<Open, ReadKind>
+        ensures { Returns open_view result (statement_step (open_view self) (access_view access)) }
     {
-        if !fits(view, value) {
+        let stmt = checked_access(self.bytes, access)?;
+        self.with_statement(stmt)
+    }
+
+    /// Begins an `if`.
+    #[tactic(auto, unfolding(crate::specs::Reading::State::if_step))]
+    fn begin_if(self, alloc: Global, reg: u8, equal: bool, value: u64) -> Result<Open, ReadKind>
+        ensures { Returns open_view result (if_step (open_view self) reg equal value) }
+    {
+        if value > COMPARED_LIMIT {
             return Err(ReadKind::LiteralRange);
         }
-        if !is_in_block(self.bytes, view, index) {
-            return Err(ReadKind::OutOfBlock);
+        if self.levels.len() >= IF_LIMIT {
+            return Err(ReadKind::TooDeep);
         }
-        let mut body = self.body;
-        body.push(Stmt::Store {
-            view,
-            index: index as u8,
+        let mut levels = self.levels;
+        levels.push(Level {
+            reg,
+            equal,
             value: value as u32,
-            atomic,
+            before: self.body,
+            then_part: None,
         })?;
-        Ok(Open { body, ..self })
+        Ok(Open {
+            levels,
+            body: Vec::new(alloc),
+            ..self
+        })
+    }
+
+    /// Begins the else-part of the innermost `if`.
+    #[tactic(auto, unfolding(crate::specs::Reading::State::else_step))]
+    fn begin_else(self, alloc: Global) -> Result<Open, ReadKind>
+        ensures { Returns open_view result (else_step (open_view self)) }
+    {
+        let mut levels = self.levels;
+        let Some(level) = levels.pop() else {
+            return Err(ReadKind::Misplaced);
+        };
+        if level.then_part.is_some() {
+            return Err(ReadKind::Misplaced);
+        }
+        levels.push(Level {
+            reg: level.reg,
+            equal: level.equal,
+            value: level.value,
+            before: level.before,
+            then_part: Some(self.body),
+        })?;
+        Ok(Open {
+            levels,
+            body: Vec::new(alloc),
+            ..self
+        })
+    }
+
+    /// Ends the innermost `if`.
+    #[tactic(auto, unfolding(crate::specs::Reading::State::end_step))]
+    fn end_if(self, alloc: Global) -> Result<Open, ReadKind>
+        ensures { Returns open_view result (end_step (open_view self)) }
+    {
+        let mut levels = self.levels;
+        let Some(innermost) = levels.pop() else {
+            return Err(ReadKind::Misplaced);
+        };
+        let body = innermost.ended(alloc, self.body)?;
+        Ok(Open {
+            levels,
+            body,
+            ..self
+        })
     }
 
     /// Whether an agent so far has this name.
@@ -129,11 +200,15 @@ impl Open {
     }
 
     /// Begins the next agent.
-    #[tactic(auto, unfolding(crate::specs::State::agent_step, crate::specs::State::next_step))]
+    #[tactic(auto, unfolding(crate::specs::Reading::State::agent_step, crate::specs::Reading::State::next_step))]
     fn next(self, alloc: Global, name: &str) -> Result<Open, ReadKind>
         requires { IsState (open_view self) }
-        ensures { Gives open_view result (agent_step (open_view self) name.now) }
+        ensures { Returns open_view result (agent_step (open_view self) name.now) }
     {
+        let is_inside_if = !self.levels.is_empty();
+        if is_inside_if {
+            return Err(ReadKind::Misplaced);
+        }
         if self.agents.len() + 1 >= AGENT_LIMIT {
             return Err(ReadKind::TooManyAgents);
         }
@@ -145,22 +220,28 @@ impl Open {
             bytes: self.bytes,
             agents: with_last(self.agents, self.agent, self.body)?,
             agent: String::from_str(alloc, name)?,
+            levels: self.levels,
             body: Vec::new(alloc),
         })
     }
 
     /// Ends the text with its condition.
-    #[tactic(auto, unfolding(crate::specs::State::check_step, crate::specs::State::test_of))]
-    fn check(self, alloc: Global, comparisons: &[Comparison<'_>]) -> Result<Test, ReadKind>
+    fn check(self, alloc: Global, marks: &[Mark<'_>]) -> Result<Test, ReadKind>
         requires sound { IsState (open_view self) }
-        requires form { IsForm (CheckLine (map comparison_view comparisons.now)) }
-        ensures { Gives (λ t. Whole t) result (check_step (open_view self) (map comparison_view comparisons.now)) }
+        requires form { (w : Written) × (mark_views marks.now ≡ written_marks w) × IsForm (CheckLine w) }
+        ensures { (w : Written) → mark_views marks.now ≡ written_marks w → Returns (λ t. Whole t) result (check_step (open_view self) w) }
     {
-        if !are_in_range(comparisons) {
+        if !self.levels.is_empty() {
+            return Err(ReadKind::Misplaced);
+        }
+        if !are_small(marks) {
             return Err(ReadKind::LiteralRange);
         }
         let agents = with_last(self.agents, self.agent, self.body)?;
-        let check = condition(alloc, &agents, comparisons)?;
+        if !are_known(&agents, marks) {
+            return Err(ReadKind::UnknownName);
+        }
+        let check = condition(alloc, &agents, marks)?;
         Ok(Test {
             name: self.name,
             bytes: self.bytes,
@@ -171,11 +252,13 @@ impl Open {
 }
 
 impl Draft {
+    ghost use Rattle.lit_read.specs.Forms as shapes;
     ghost use Rattle.lit_read.specs.Forms.{IsForm};
+    ghost use Rattle.lit_read.specs.Reading.Views.{Shows};
 
-    #[tactic(auto, unfolding(crate::specs::State::test_step))]
+    #[tactic(auto, unfolding(crate::specs::Reading::State::test_step))]
     fn test(self, alloc: Global, name: &str) -> Result<Draft, ReadKind>
-        ensures { Gives state_view result (test_step (state_view self) name.now) }
+        ensures { Returns state_view result (test_step (state_view self) name.now) }
     {
         match self {
             Draft::Empty => Ok(Draft::Named(String::from_str(alloc, name)?)),
@@ -183,9 +266,9 @@ impl Draft {
         }
     }
 
-    #[tactic(auto, unfolding(crate::specs::State::block_step))]
+    #[tactic(auto, unfolding(crate::specs::Reading::State::block_step))]
     fn block(self, bytes: u64) -> Result<Draft, ReadKind>
-        ensures { Gives state_view result (block_step (state_view self) bytes) }
+        ensures { Returns state_view result (block_step (state_view self) bytes) }
     {
         match self {
             Draft::Named(name) => {
@@ -201,10 +284,10 @@ impl Draft {
         }
     }
 
-    #[tactic(auto, unfolding(crate::specs::State::agent_step))]
+    #[tactic(auto, unfolding(crate::specs::Reading::State::agent_step))]
     fn agent(self, alloc: Global, agent: &str) -> Result<Draft, ReadKind>
         requires { IsState (state_view self) }
-        ensures { Gives state_view result (agent_step (state_view self) agent.now) }
+        ensures { Returns state_view result (agent_step (state_view self) agent.now) }
     {
         match self {
             Draft::Sized { name, bytes } => Ok(Draft::Open(Open {
@@ -212,6 +295,7 @@ impl Draft {
                 bytes,
                 agents: IndexMap::new(alloc),
                 agent: String::from_str(alloc, agent)?,
+                levels: Vec::new(alloc),
                 body: Vec::new(alloc),
             })),
             Draft::Open(open) => Ok(Draft::Open(open.next(alloc, agent)?)),
@@ -220,37 +304,45 @@ impl Draft {
     }
 
     /// What the lines so far and a line of this form say.
-    #[tactic(auto, unfolding(crate::specs::State::step, crate::specs::State::statement_step, crate::specs::State::check_step))]
-    pub fn add(self, alloc: Global, form: Form<'_>) -> Result<Draft, ReadKind>
-        requires sound { IsState (state_view self) }
-        requires form { IsForm (form_view form) }
-        ensures { Gives state_view result (step (state_view self) (form_view form.entry)) }
+    #[tactic(auto, unfolding(crate::specs::Reading::State::step, crate::specs::Reading::State::statement_step, crate::specs::Reading::State::if_step, crate::specs::Reading::State::else_step, crate::specs::Reading::State::end_step))]
+    fn add_form(self, alloc: Global, form: Form<'_>) -> Result<Draft, ReadKind>
+        requires { IsState (state_view self) }
+        ensures { Returns state_view result (step (state_view self) (form_view form.entry)) }
     {
         match form {
             Form::Blank => Ok(self),
             Form::Test(name) => self.test(alloc, name),
             Form::Bytes(bytes) => self.block(bytes),
             Form::Agent(name) => self.agent(alloc, name),
-            Form::Load {
-                reg,
-                view,
-                index,
-                atomic,
-            } => match self {
-                Draft::Open(open) => Ok(Draft::Open(open.load(reg, view, index, atomic)?)),
+            Form::Access(access) => match self {
+                Draft::Open(open) => Ok(Draft::Open(open.access(access)?)),
                 _ => Err(ReadKind::Misplaced),
             },
-            Form::Store {
-                view,
-                index,
-                value,
-                atomic,
-            } => match self {
-                Draft::Open(open) => Ok(Draft::Open(open.store(view, index, value, atomic)?)),
+            Form::If { reg, equal, value } => match self {
+                Draft::Open(open) => Ok(Draft::Open(open.begin_if(alloc, reg, equal, value)?)),
                 _ => Err(ReadKind::Misplaced),
             },
-            Form::Check(comparisons) => match self {
-                Draft::Open(open) => Ok(Draft::Whole(open.check(alloc, &comparisons)?)),
+            Form::Else => match self {
+                Draft::Open(open) => Ok(Draft::Open(open.begin_else(alloc)?)),
+                _ => Err(ReadKind::Misplaced),
+            },
+            Form::End => match self {
+                Draft::Open(open) => Ok(Draft::Open(open.end_if(alloc)?)),
+                _ => Err(ReadKind::Misplaced),
+            },
+        }
+    }
+
+    /// What the lines so far and this line say.
+    pub fn add(self, alloc: Global, line: Line<'_>) -> Result<Draft, ReadKind>
+        requires sound { IsState (state_view self) }
+        requires form { (f : shapes.Form) × Shows line f × IsForm f }
+        ensures { (f : shapes.Form) → Shows line.entry f → Returns state_view result (step (state_view self) f) }
+    {
+        match line {
+            Line::Fixed(form) => self.add_form(alloc, form),
+            Line::Check(marks) => match self {
+                Draft::Open(open) => Ok(Draft::Whole(open.check(alloc, &marks)?)),
                 _ => Err(ReadKind::Misplaced),
             },
         }

@@ -39,11 +39,14 @@ pub enum ReadKind {
     /// A comparison names no agent, or a register that this agent writes nowhere.
     #[error("10 unknown_name")]
     UnknownName,
+    /// An `if` line opens a ninth level, or a comparison stands inside more than eight `!` and parentheses.
+    #[error("11 too_deep")]
+    TooDeep,
     /// The text ends before its `check` line.
     #[error("12 missing_part")]
     MissingPart,
     /// A growth was refused.
-    #[error("16 out_of_memory")]
+    #[error("out_of_memory")]
     OutOfMemory,
 }
 

@@ -8,7 +8,8 @@ ghost use Rattle.lit_read.specs.Lines.{lines_of, ended_lines, is_whole_line};
 ghost use Rattle.lit_read.specs.Tokens.{Token, CutsInto};
 ghost use Rattle.lit_read.specs.Forms.{Form, HasForm};
 ghost use Rattle.lit_read.specs.Faults.{HasFault, IsFirstFault};
-ghost use Rattle.lit_read.specs.Spelling.{Spells};
+ghost use Rattle.lit_read.specs.Spelling.{Spells, AreFormsOf, written_value};
+ghost use Rattle.lit_read.specs.Canonical.{without_empty_elses};
 
 /// A text is its lines, none of which has a byte 10, each with a byte 10 behind it. The last byte may be left out.
 pub fn lines_are_joined()
@@ -30,6 +31,17 @@ pub fn has_one_form()
 /// No text spells two tests.
 pub fn spells_one_test()
     ensures { (text : List ℕ) (t u : Litmus) → Spells text t → Spells text u → t ≡ u }
+{}
+
+/// No forms are those of two tests.
+pub fn forms_of_one_test()
+    ensures { (forms : List Form) (t u : Litmus) → AreFormsOf forms t → AreFormsOf forms u → t ≡ u }
+{}
+
+/// Forms of one test differ by else lines with an empty part alone, and in their check lines by parentheses that change
+/// no value.
+pub fn differ_by_nothing_else()
+    ensures { (forms others : List Form) (t : Litmus) → (a : AreFormsOf forms t) → (b : AreFormsOf others t) → (without_empty_elses a.agents ≡ without_empty_elses b.agents) × (written_value t.agents a.check ≡ written_value t.agents b.check) }
 {}
 
 /// No text spells a test and has a fault.

@@ -1,10 +1,13 @@
 //! Reads a litmus text: the test that it spells, or its first fault.
 //!
 //! `read` ensures that an `Ok` test is the one that the text spells, and that an `Err` is its first fault or want of
-//! memory. The definitions stand in specs/: `Lines`, `Tokens`, `Forms`, `Faults` and `Spelling`, and in `Syntax` what a
-//! test is. `FirstToken`, `FormOfTokens`, `State`, `LineSteps` and `Views` serve private contracts alone.
+//! memory. The definitions stand in specs/: `Lines`, `Tokens`, `Written` (conditions as they are written), `Forms`,
+//! `Structure`, `Faults` and `Spelling`, and in `Syntax` what a test is. What stands in the folder `Reading` serves
+//! private contracts alone.
 #![tactic(auto)]
 
+mod accesses;
+mod building;
 mod checking;
 mod cursor;
 mod draft;
@@ -14,6 +17,7 @@ mod laws;
 mod limits;
 mod lines;
 mod litmus;
+mod marks;
 mod reading;
 mod symbols;
 mod syntax;
@@ -21,8 +25,8 @@ mod tokens;
 
 pub use fault::{ReadFault, ReadKind};
 pub use laws::{
-    cuts_one_way, each_text_is_told, has_one_first_fault, has_one_form, lines_are_joined,
-    spells_one_test, spells_or_is_faulty,
+    cuts_one_way, differ_by_nothing_else, each_text_is_told, forms_of_one_test,
+    has_one_first_fault, has_one_form, lines_are_joined, spells_one_test, spells_or_is_faulty,
 };
 pub use limits::{AGENT_LIMIT, BLOCK_LIMIT, REGISTERS, TEXT_LIMIT};
 pub use litmus::Test;

@@ -20,3 +20,9 @@ pub const REGISTERS: usize = 8;
 
 /// The greatest number that a condition may compare with.
 pub const COMPARED_LIMIT: u64 = 4_294_967_295;
+
+/// `if`s of an agent, one in the other.
+pub const IF_LIMIT: usize = 8;
+
+/// `!` and `(` around a comparison.
+pub const DEPTH_LIMIT: usize = 8;

@@ -2,15 +2,16 @@
 
 ghost use Rattle.std.specs.Prelude.{◌≡◌, ◌≢◌, Ok, IfOk, IfErr, IfSome, IfNone};
 ghost use Rattle.std.specs.List.{list_all};
-ghost use Rattle.lit_read.specs.Faults.{is_allowed, IsRefusal};
+ghost use Rattle.lit_read.specs.Faults.{is_allowed, IsReadFault};
+ghost use Rattle.lit_read.specs.Forms.{Form};
 ghost use Rattle.lit_read.specs.Spelling.{Spells};
-ghost use Rattle.lit_read.specs.State.{IsState, IsUnfinished, Whole};
-ghost use Rattle.lit_read.specs.Views.{state_view, form_view};
-ghost use Rattle.lit_read.specs.LineSteps.{IsLine, IsNoLine, LineStep, LineFails};
+ghost use Rattle.lit_read.specs.Reading.State.{IsState, IsUnfinished, Whole};
+ghost use Rattle.lit_read.specs.Reading.Views.{state_view, Shows};
+ghost use Rattle.lit_read.specs.Reading.LineSteps.{IsLine, IsNoLine, LineStep, LineFails};
 
 use crate::draft::Draft;
 use crate::fault::{ReadFault, ReadKind};
-use crate::forms::{Form, form_of};
+use crate::forms::{Line, form_of};
 use crate::limits::TEXT_LIMIT;
 use crate::lines::split_line;
 use crate::litmus::Test;
@@ -32,8 +33,8 @@ fn are_allowed(line: &[u8]) -> bool
 }
 
 /// The form of a line.
-fn line_form(alloc: Global, line: &[u8]) -> Result<Form<'_>, ReadKind>
-    ensures ok { IfOk result (λ f. IsLine line.now (form_view f)) }
+fn line_form(alloc: Global, line: &[u8]) -> Result<Line<'_>, ReadKind>
+    ensures ok { IfOk result (λ said. (form : Form) × Shows said form × IsLine line.now form) }
     ensures err { IfErr result (IsNoLine line.now) }
 {
     if !are_allowed(line) {
@@ -85,7 +86,7 @@ fn finished(draft: Draft) -> Option<Test>
 /// The test that a text spells, or the text's first fault.
 pub fn read(alloc: Global, text: &[u8]) -> Result<Test, ReadFault>
     ensures spells { IfOk result (λ t. Spells text.now t) }
-    ensures fault { IfErr result (λ e. IsRefusal text.now e.kind e.line) }
+    ensures fault { IfErr result (λ e. IsReadFault text.now e.kind e.line) }
 {
     if text.len() > TEXT_LIMIT {
         return Err(fault_at(ReadKind::TooLong, 1));

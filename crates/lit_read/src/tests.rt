@@ -3,6 +3,8 @@ use std::alloc::Global;
 use std::process::Abort;
 use std::test::Fail;
 
+mod language;
+
 const SB: &str =
     "test sb\nbytes 2\nagent A\nAtomics.store(U8, 0, 1)\nr0 = Atomics.load(U8, 1)\nagent B\nAtomics.store(U8, 1, 1)\nr0 = Atomics.load(U8, 0)\ncheck A.r0 == 0 && B.r0 == 0\n";
 
@@ -169,7 +171,7 @@ fn missing_parts(rt: HostRuntime) {
 
 #[test]
 fn small_faults(rt: HostRuntime) -> Result<(), Fail> {
-    refused_fourth(&rt, b"}", ReadKind::Syntax)?;
+    refused_fourth(&rt, b"}", ReadKind::Misplaced)?;
     refused_fourth(&rt, b"U8[0] = 256", ReadKind::LiteralRange)?;
     refused_fourth(&rt, b"agent A", ReadKind::DuplicateAgent)?;
     refused_fourth(&rt, b"r0 = U8[0] //\xc8", ReadKind::NotAscii)?;
@@ -185,7 +187,6 @@ fn small_faults(rt: HostRuntime) -> Result<(), Fail> {
     refused_fourth(&rt, b"r0 = U8[00]", ReadKind::Syntax)?;
     refused_fourth(&rt, b"r0 = U8[01]", ReadKind::Syntax)?;
     refused_fourth(&rt, b"r8 = U8[0]", ReadKind::Syntax)?;
-    refused_fourth(&rt, b"r0 = U16[0]", ReadKind::Syntax)?;
     refused_fourth(&rt, b"r0 == U8[0]", ReadKind::Syntax)?;
     refused_fourth(&rt, b"r0 = U8[0] /", ReadKind::Syntax)?;
     refused_fourth(&rt, b"r0 = U8[12345678901]", ReadKind::Syntax)?;
@@ -330,7 +331,7 @@ fn long_texts(rt: HostRuntime) -> Result<(), Fail> {
     refused(
         &rt,
         &checked(rt.alloc(), b'!', 65_000)?,
-        ReadKind::Syntax,
+        ReadKind::TooDeep,
         5,
     );
     refused(
@@ -387,5 +388,11 @@ fn printed(rt: HostRuntime) -> Result<(), Fail> {
     };
     assert!(rt; fault.to_string(rt.alloc())?.as_str() == "9 out_of_block line 4");
     assert!(rt; ReadKind::MissingPart.to_string(rt.alloc())?.as_str() == "12 missing_part");
+    assert!(rt; ReadKind::TooDeep.to_string(rt.alloc())?.as_str() == "11 too_deep");
+    let memory = ReadFault {
+        kind: ReadKind::OutOfMemory,
+        line: 0,
+    };
+    assert!(rt; memory.to_string(rt.alloc())?.as_str() == "out_of_memory line 0");
     Ok(())
 }

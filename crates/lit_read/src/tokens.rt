@@ -4,8 +4,8 @@ ghost use Rattle.std.specs.Prelude.{◌≡◌, ◌<◌, ◌≤◌, ◌^◌, leng
 ghost use Rattle.std.specs.List.{list_all, prefix_len};
 ghost use Rattle.std.specs.Char.{is_ascii_digit};
 ghost use Rattle.lit_read.specs.Tokens.{CutsInto, CannotBeCut, is_blank, begins_word, is_in_word, digits_value, is_comment};
-ghost use Rattle.lit_read.specs.FirstToken.{word_front, number_front, token_front, after_blanks};
-ghost use Rattle.lit_read.specs.Views.{token_view, token_views};
+ghost use Rattle.lit_read.specs.Reading.FirstToken.{word_front, number_front, token_front, after_blanks};
+ghost use Rattle.lit_read.specs.Reading.Views.{token_view, token_views};
 
 use crate::limits::{DIGIT_LIMIT, WORD_LIMIT};
 use crate::symbols::{Symbol, symbol_at};
@@ -88,7 +88,7 @@ fn number_of(digits: &[u8]) -> u64
 }
 
 /// The word at the front, if it is no longer than words are, and the bytes after it.
-#[tactic(auto, unfolding(crate::specs::FirstToken::word_front))]
+#[tactic(auto, unfolding(crate::specs::Reading::FirstToken::word_front))]
 fn word_at(bytes: &[u8]) -> Option<(Token<'_>, &[u8])>
     ensures { option_map (λ p. (token_view p.0, p.1.now)) result ≡ word_front bytes.now }
 {
@@ -104,7 +104,7 @@ fn word_at(bytes: &[u8]) -> Option<(Token<'_>, &[u8])>
 }
 
 /// The number at the front, if its digits are one, and the bytes after it.
-#[tactic(auto, unfolding(crate::specs::FirstToken::number_front))]
+#[tactic(auto, unfolding(crate::specs::Reading::FirstToken::number_front))]
 fn number_at(bytes: &[u8]) -> Option<(Token<'_>, &[u8])>
     requires { 0 < prefix_len is_ascii_digit bytes.now }
     ensures { option_map (λ p. (token_view p.0, p.1.now)) result ≡ number_front bytes.now }
@@ -118,7 +118,7 @@ fn number_at(bytes: &[u8]) -> Option<(Token<'_>, &[u8])>
 }
 
 /// The token at the front, and the bytes after it.
-#[tactic(auto, unfolding(crate::specs::FirstToken::token_front))]
+#[tactic(auto, unfolding(crate::specs::Reading::FirstToken::token_front))]
 fn token_at(bytes: &[u8]) -> Option<(Token<'_>, &[u8])>
     ensures { option_map (λ p. (token_view p.0, p.1.now)) result ≡ token_front bytes.now }
 {

@@ -1,50 +1,80 @@
-use Rattle.std.proofs.Common.{◌≡◌, ap, sym, subst, ◌∙◌, List, map, Ok}
+use Rattle.std.proofs.Common.{◌≡◌, ℕ, List, [], ◌∷◌, length, true, vec_len, arith, ap, sym, subst, ◌∙◌, Ok}
 use Rattle.std.specs.Prelude.{string_bytes}
+use Rattle.std.specs.List.{list_all}
+use Rattle.std.proofs.lemmas.List.{length-append}
 use Rattle.std.proofs.lemmas.Result.{err_from_is_err_and}
-use Rattle.lit_read.specs.Syntax.{Agent, Condition, IsLitmus}
+use Rattle.lit_read.specs.Syntax.{Agent, Condition, End, IsLitmus}
 use Rattle.lit_read.specs.Litmus.{statements_of, condition_of}
-use Rattle.lit_read.specs.State.{IsState, Whole, with_agent}
-use Rattle.lit_read.specs.Views.{agents_view, comparison_view, Fails}
+use Rattle.lit_read.specs.Reading.Marks.{is_small}
+use Rattle.lit_read.specs.Reading.Built.{build, begun}
+use Rattle.lit_read.specs.Reading.State.{IsState, Whole, with_agent, is_known_mark}
+use Rattle.lit_read.specs.Reading.Views.{agents_view, mark_view, mark_views, Fails}
 use Rattle.lit_read.proofs.DraftLemmas.{last_is_new}
-use Rattle.lit_read.proofs.CheckSteps.{asked, too_large, check_ok, check_err, made_litmus, few_entries}
+use Rattle.lit_read.proofs.CheckSteps.{too_open, too_large, not_known, build_fails, makes, made_litmus, few_entries, is_zero, is_some_number}
 use Rattle.lit_read.proofs.draft.Open.check.Goals as goal
 
-pub returns-then-not-are_in_range : goal.returns-then-not-are_in_range
-returns-then-not-are_in_range c =
-    too_large (string_bytes c.args.self.name) c.args.self.bytes (agents_view c.args.self.agents.entries) (string_bytes c.args.self.agent) (statements_of c.args.self.body.items) c.args.comparisons.now (sym c.are_in_range.ensures ∙ c.if-not-are_in_range.true)
+pub returns-then-not-is_empty : goal.returns-then-not-is_empty
+returns-then-not-is_empty c = λ w is.
+    too_open (string_bytes c.args.self.name) c.args.self.bytes (agents_view c.args.self.agents.entries) (string_bytes c.args.self.agent) c.args.self.levels.items (statements_of c.args.self.body.items) c.args.marks.now w
+    (λ e. is_some_number (vec_len c.args.self.levels) c.is_empty.result c.is_empty.ensures c.if-not-is_empty.true (omega (arith, e, c.args.self.levels.ok)))
+
+pub returns-then-not-are_small : goal.returns-then-not-are_small
+returns-then-not-are_small c = λ w is.
+    let len : vec_len c.args.self.levels ≡ 0 = is_zero (vec_len c.args.self.levels) c.is_empty.result c.is_empty.ensures c.if-not-is_empty.false in
+    let none : length c.args.self.levels.items ≡ 0 = omega (arith, len, c.args.self.levels.ok) in
+    too_large (string_bytes c.args.self.name) c.args.self.bytes (agents_view c.args.self.agents.entries) (string_bytes c.args.self.agent) c.args.self.levels.items (statements_of c.args.self.body.items) c.args.marks.now w is none
+    (sym c.are_small.ensures ∙ c.if-not-are_small.true)
 
 pub with_last-requires : goal.with_last-requires
 unfolding IsState
-with_last-requires c = last_is_new (agents_view c.args.self.agents.entries) (string_bytes c.args.self.agent) (statements_of c.args.self.body.items) c.requires.sound.distinct
+with_last-requires c = last_is_new (agents_view c.args.self.agents.entries) (string_bytes c.args.self.agent) End c.requires.sound.1.distinct
+
+pub returns-then-not-are_known : goal.returns-then-not-are_known
+returns-then-not-are_known c = λ w is.
+    let len : vec_len c.args.self.levels ≡ 0 = is_zero (vec_len c.args.self.levels) c.is_empty.result c.is_empty.ensures c.if-not-is_empty.false in
+    let none : length c.args.self.levels.items ≡ 0 = omega (arith, len, c.args.self.levels.ok) in
+    not_known (string_bytes c.args.self.name) c.args.self.bytes (agents_view c.args.self.agents.entries) (string_bytes c.args.self.agent) c.args.self.levels.items (statements_of c.args.self.body.items) c.args.marks.now w is none
+    (sym c.are_small.ensures ∙ c.if-not-are_small.false)
+    (ap (λ (l : List Agent). list_all (λ m. is_known_mark l (mark_view m)) c.args.marks.now) (sym c.in_ok-agents.ensures) ∙ sym c.are_known.ensures ∙ c.if-not-are_known.true)
 
 pub condition-requires-clause-few : goal.condition-requires-clause-few
 unfolding IsState
-condition-requires-clause-few c = few_entries c.in_ok-agents.agents.entries (with_agent (agents_view c.args.self.agents.entries) (string_bytes c.args.self.agent) (statements_of c.args.self.body.items)) c.in_ok-agents.ensures c.requires.sound.few
+condition-requires-clause-few c =
+    few_entries c.in_ok-agents.agents.entries (with_agent (agents_view c.args.self.agents.entries) (string_bytes c.args.self.agent) (statements_of c.args.self.body.items)) c.in_ok-agents.ensures
+    (omega (arith, c.requires.sound.1.few, length-append (agents_view c.args.self.agents.entries) (record { name = string_bytes c.args.self.agent; body = End } ∷ []), length-append (agents_view c.args.self.agents.entries) (record { name = string_bytes c.args.self.agent; body = statements_of c.args.self.body.items } ∷ [])))
 
 pub returns-in_err-check : goal.returns-in_err-check
-returns-in_err-check c =
+returns-in_err-check c = λ w is.
     let p = err_from_is_err_and c.from_residual-in_err-check.result c.from_residual-in_err-check.ensures.1 in
     let agents : List Agent = with_agent (agents_view c.args.self.agents.entries) (string_bytes c.args.self.agent) (statements_of c.args.self.body.items) in
-    let fails : Fails c.in_err-check.field-0.0 (asked agents (map comparison_view c.args.comparisons.now)) = subst (λ (l : List Agent). Fails c.in_err-check.field-0.0 (asked l (map comparison_view c.args.comparisons.now))) c.in_ok-agents.ensures c.in_err-check.ensures in
+    let len : vec_len c.args.self.levels ≡ 0 = is_zero (vec_len c.args.self.levels) c.is_empty.result c.is_empty.ensures c.if-not-is_empty.false in
+    let none : length c.args.self.levels.items ≡ 0 = omega (arith, len, c.args.self.levels.ok) in
+    let fails : Fails c.in_err-check.field-0.0 (build agents begun (mark_views c.args.marks.now)) = subst (λ (l : List Agent). Fails c.in_err-check.field-0.0 (build l begun (mark_views c.args.marks.now))) c.in_ok-agents.ensures c.in_err-check.ensures in
     rw (p.1, p.2)
-    (check_err (string_bytes c.args.self.name) c.args.self.bytes (agents_view c.args.self.agents.entries) (string_bytes c.args.self.agent) (statements_of c.args.self.body.items) c.args.comparisons.now c.in_err-check.field-0.0
-    (sym c.are_in_range.ensures ∙ c.if-not-are_in_range.false) fails)
+    (build_fails (string_bytes c.args.self.name) c.args.self.bytes (agents_view c.args.self.agents.entries) (string_bytes c.args.self.agent) c.args.self.levels.items (statements_of c.args.self.body.items) c.args.marks.now w c.in_err-check.field-0.0 is none
+    (sym c.are_small.ensures ∙ c.if-not-are_small.false)
+    (ap (λ (l : List Agent). list_all (λ m. is_known_mark l (mark_view m)) c.args.marks.now) (sym c.in_ok-agents.ensures) ∙ sym c.are_known.ensures ∙ c.if-not-are_known.false) fails)
 
 pub invariant_of-result : goal.invariant_of-result
-unfolding IsState
 invariant_of-result c =
     let agents : List Agent = with_agent (agents_view c.args.self.agents.entries) (string_bytes c.args.self.agent) (statements_of c.args.self.body.items) in
     let check : Condition = condition_of c.in_ok-check.check in
-    let is : asked agents (map comparison_view c.args.comparisons.now) ≡ Ok check = subst (λ (l : List Agent). asked l (map comparison_view c.args.comparisons.now) ≡ Ok check) c.in_ok-agents.ensures c.in_ok-check.ensures in
+    let len : vec_len c.args.self.levels ≡ 0 = is_zero (vec_len c.args.self.levels) c.is_empty.result c.is_empty.ensures c.if-not-is_empty.false in
+    let none : length c.args.self.levels.items ≡ 0 = omega (arith, len, c.args.self.levels.ok) in
+    let is : build agents begun (mark_views c.args.marks.now) ≡ Ok check = subst (λ (l : List Agent). build l begun (mark_views c.args.marks.now) ≡ Ok check) c.in_ok-agents.ensures c.in_ok-check.ensures in
     subst (λ (l : List Agent). IsLitmus (record { name = string_bytes c.args.self.name; bytes = c.args.self.bytes; agents = l; check = check })) (sym c.in_ok-agents.ensures)
-    (made_litmus (string_bytes c.args.self.name) c.args.self.bytes (agents_view c.args.self.agents.entries) (string_bytes c.args.self.agent) (statements_of c.args.self.body.items) c.args.comparisons.now check
-    c.requires.sound c.requires.form (sym c.are_in_range.ensures ∙ c.if-not-are_in_range.false) is)
+    (made_litmus (string_bytes c.args.self.name) c.args.self.bytes (agents_view c.args.self.agents.entries) (string_bytes c.args.self.agent) c.args.self.levels.items (statements_of c.args.self.body.items) c.args.marks.now c.requires.form.0 check
+    c.requires.sound c.requires.form.2 c.requires.form.1 none (sym c.are_small.ensures ∙ c.if-not-are_small.false)
+    (ap (λ (l : List Agent). list_all (λ m. is_known_mark l (mark_view m)) c.args.marks.now) (sym c.in_ok-agents.ensures) ∙ sym c.are_known.ensures ∙ c.if-not-are_known.false) is)
 
 pub returns : goal.returns
-returns c =
+returns c = λ w marks_are.
     let agents : List Agent = with_agent (agents_view c.args.self.agents.entries) (string_bytes c.args.self.agent) (statements_of c.args.self.body.items) in
     let check : Condition = condition_of c.in_ok-check.check in
-    let is : asked agents (map comparison_view c.args.comparisons.now) ≡ Ok check = subst (λ (l : List Agent). asked l (map comparison_view c.args.comparisons.now) ≡ Ok check) c.in_ok-agents.ensures c.in_ok-check.ensures in
-    check_ok (string_bytes c.args.self.name) c.args.self.bytes (agents_view c.args.self.agents.entries) (string_bytes c.args.self.agent) (statements_of c.args.self.body.items) c.args.comparisons.now check
-    (sym c.are_in_range.ensures ∙ c.if-not-are_in_range.false) is
+    let len : vec_len c.args.self.levels ≡ 0 = is_zero (vec_len c.args.self.levels) c.is_empty.result c.is_empty.ensures c.if-not-is_empty.false in
+    let none : length c.args.self.levels.items ≡ 0 = omega (arith, len, c.args.self.levels.ok) in
+    let is : build agents begun (mark_views c.args.marks.now) ≡ Ok check = subst (λ (l : List Agent). build l begun (mark_views c.args.marks.now) ≡ Ok check) c.in_ok-agents.ensures c.in_ok-check.ensures in
+    makes (string_bytes c.args.self.name) c.args.self.bytes (agents_view c.args.self.agents.entries) (string_bytes c.args.self.agent) c.args.self.levels.items (statements_of c.args.self.body.items) c.args.marks.now w check marks_are none
+    (sym c.are_small.ensures ∙ c.if-not-are_small.false)
+    (ap (λ (l : List Agent). list_all (λ m. is_known_mark l (mark_view m)) c.args.marks.now) (sym c.in_ok-agents.ensures) ∙ sym c.are_known.ensures ∙ c.if-not-are_known.false) is
     ∙ ap (λ (l : List Agent). Ok (Whole (record { name = string_bytes c.args.self.name; bytes = c.args.self.bytes; agents = l; check = check }))) (sym c.in_ok-agents.ensures)

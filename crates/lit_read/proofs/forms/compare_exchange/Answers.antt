@@ -1,0 +1,8 @@
+use Rattle.lit_read.specs.Reading.FormOfTokens.{compare_exchange}
+use Rattle.lit_read.specs.Reading.Views.{token_views}
+use Rattle.lit_read.proofs.RowLemmas.{ended_view}
+use Rattle.lit_read.proofs.forms.compare_exchange.Goals as goal
+
+pub returns : goal.returns
+unfolding compare_exchange
+returns c = rw (c.ended.ensures, ← c.in_ok-reg.ensures, ← c.in_ok-rest.ensures, ← c.in_ok-rest-2.ensures, ← c.in_ok-rest-3.ensures, ← c.in_ok-rest-4.ensures, ← c.in_ok-rest-5.ensures, ← c.in_ok-view.ensures, ← c.in_ok-rest-6.ensures, ← c.in_ok-index.ensures, ← c.in_ok-rest-7.ensures, ← c.in_ok-expected.ensures, ← c.in_ok-rest-8.ensures, ← c.in_ok-value.ensures, ← c.in_ok-rest-9.ensures) (ended_view (token_views c.in_ok-rest-9.rest.now) _)

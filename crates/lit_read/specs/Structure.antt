@@ -1,0 +1,29 @@
+-- Which forms, one after the other, are those of statements and of agents (this project's own).
+use Rattle.std.specs.Prelude.{◌≡◌, ℕ, List, [], ◌∷◌, ◌++◌, ◌⊎◌}
+use Rattle.lit_read.specs.Syntax.{Statement, Statements, Load, Store, Exchange, CompareExchange, If, End, Then, Agent}
+use Rattle.lit_read.specs.Forms.{Form, AgentLine, StatementLine, IfLine, ElseLine, EndLine}
+
+-- An access has one line. An `if` has its line, the lines of the then-part, perhaps an else line and the lines of the
+-- else-part, and an end line. The else line may stand there with an empty part.
+abbrev mutual
+  pub IsStatement : List Form → Statement → Type 0
+  IsStatement forms (If reg equal value body other) =
+      (thens elses : List Form) × (forms ≡ IfLine reg equal value ∷ (thens ++ (elses ++ EndLine ∷ []))) × AreStatements thens body × AreElse elses other
+  IsStatement forms (Load reg window index atomic) = forms ≡ StatementLine (Load reg window index atomic) ∷ []
+  IsStatement forms (Store window index value atomic) = forms ≡ StatementLine (Store window index value atomic) ∷ []
+  IsStatement forms (Exchange reg window index value) = forms ≡ StatementLine (Exchange reg window index value) ∷ []
+  IsStatement forms (CompareExchange reg window index expected value) = forms ≡ StatementLine (CompareExchange reg window index expected value) ∷ []
+
+  pub AreStatements : List Form → Statements → Type 0
+  AreStatements forms End = forms ≡ []
+  AreStatements forms (Then s ss) = (first others : List Form) × (forms ≡ first ++ others) × IsStatement first s × AreStatements others ss
+
+  -- the else line and the else-part
+  pub AreElse : List Form → Statements → Type 0
+  AreElse forms End = (forms ≡ []) ⊎ (forms ≡ ElseLine ∷ [])
+  AreElse forms (Then s ss) = (first others : List Form) × (forms ≡ ElseLine ∷ (first ++ others)) × IsStatement first s × AreStatements others ss
+
+-- each agent has its line and the lines of its statements
+abbrev pub AreAgents : List Form → List Agent → Type 0
+AreAgents forms [] = forms ≡ []
+AreAgents forms (a ∷ others) = (body rest : List Form) × (forms ≡ AgentLine a.name ∷ (body ++ rest)) × AreStatements body a.body × AreAgents rest others
