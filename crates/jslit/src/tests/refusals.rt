@@ -5,7 +5,7 @@ use super::{prints, writes};
 use std::test::Fail;
 
 /// In the order of the faults' numbers.
-const REFUSALS: [Reported; 20] = [
+const REFUSALS: [Reported; 22] = [
     // comparison without value
     (
         "test sb
@@ -105,6 +105,16 @@ Atomics.store(U8, 1, 1)
 r0 = Atomics.load(U8, 0)
 ",
         "refused 12 missing_part line 8\n",
+    ),
+    // wider view
+    (
+        "test t\nbytes 4\nagent A\nr0 = U16[0]\ncheck A.r0 == 0\n",
+        "refused 19 unsupported\n",
+    ),
+    // branch
+    (
+        "test t\nbytes 4\nagent A\nr0 = U8[0]\nif r0 == 0 {\n}\ncheck A.r0 == 0\n",
+        "refused 19 unsupported\n",
     ),
     // empty text
     ("", "refused 12 missing_part line 1\n"),
