@@ -1,3 +1,6 @@
+mod branches;
+mod refusals;
+
 use crate::event::{Kind, Order3};
 use crate::making::plan;
 use crate::planning::PlanFault;
@@ -153,20 +156,6 @@ r0 = U8[0]
 check B.r0 == 4
 ";
     let test = read(rt.alloc(), text)?;
-    let plan = plan(rt.alloc(), &test);
-    assert!(rt; matches!(plan, Err(PlanFault::TooManyEvents)));
-    Ok(())
-}
-
-#[test]
-fn four_thousand_accesses(rt: HostRuntime) -> Result<(), Fail> {
-    let mut text = Vec::new(rt.alloc());
-    text.extend_from_slice(b"test long\nbytes 1\nagent A\n")?;
-    for _ in 0..4000 {
-        text.extend_from_slice(b"r0 = U8[0]\n")?;
-    }
-    text.extend_from_slice(b"check A.r0 == 0\n")?;
-    let test = read(rt.alloc(), text.as_slice())?;
     let plan = plan(rt.alloc(), &test);
     assert!(rt; matches!(plan, Err(PlanFault::TooManyEvents)));
     Ok(())
