@@ -193,6 +193,13 @@ marking_goes_on tokens rest after done behind n m b k e step so_far =
 spelled_marks : (tokens : List Token) (w : Written) → tokens ≡ written_tokens w → AllByRecursion IsLow (written_depths 0 w) → (tokens ≡ flat_map mark_tokens (written_marks w)) × AllByRecursion IsMark (written_marks w)
 spelled_marks tokens w is low = (is ∙ written_spelled w, written_low w 0 low)
 
+abbrev no_walk : Option (Bool × ℕ)
+no_walk = None
+
+walks_apart : (o : Option (Bool × ℕ)) → o ≡ no_walk → o ≡ whole → ⊥
+walks_apart None e f = absurd cc
+walks_apart (Some p) e f = absurd cc
+
 -- a mark that cannot follow
 pub marking_stuck : (tokens rest after : List Token) (done : List Mark) (behind : Bool) (n : ℕ) (m : Mark) → mark_of rest ≡ Some (m, after) → follow behind n m ≡ None → Marking tokens rest done behind n
     → (w : Written) → tokens ≡ written_tokens w → AllByRecursion IsLow (written_depths 0 w) → ⊥
@@ -206,10 +213,10 @@ marking_stuck tokens rest after done behind n m e step so_far w is low =
     by (j ∷ more) whole_is left good =
         let again : Some (m, after) ≡ Some (j, flat_map mark_tokens more) = sym e ∙ ap mark_of left ∙ mark_again j (flat_map mark_tokens more) good.0 in
         let p = pair_parts m j after (flat_map mark_tokens more) again in
-        let walked : walk false 0 (done ++ j ∷ more) ≡ None =
+        let walked : walk false 0 (done ++ j ∷ more) ≡ no_walk =
         walk-append false 0 done (j ∷ more) ∙ ap (λ o. o >>= λ q. walk q.0 q.1 (j ∷ more)) so_far.walked ∙ ap (λ (x : Mark). walk behind n (x ∷ more)) (sym p.0) ∙ ap (λ o. o >>= λ q. walk q.0 q.1 more) step in
         let all : walk false 0 (done ++ j ∷ more) ≡ whole = ap (walk false 0) (sym whole_is) ∙ walks_whole w in
-        absurd cc
+        walks_apart (walk false 0 (done ++ j ∷ more)) walked all
 
 -- the marks end where no mark is left
 done_all : (tokens rest : List Token) (done : List Mark) (behind : Bool) (n : ℕ) → mark_of rest ≡ None → Marking tokens rest done behind n → (w : Written) → tokens ≡ written_tokens w → AllByRecursion IsLow (written_depths 0 w)
