@@ -1,10 +1,8 @@
 -- The canonical forms of a test are its forms.
-use Rattle.std.proofs.Common.{◌≡◌, ◌≢◌, ℕ, zero, suc, ◌+◌, ◌<◌, ◌≤◌, Bool, true, false, cond, List, [], ◌∷◌, ◌++◌, length, get_or, inl, refl, ap, sym, subst, ◌∙◌, arith, true≢false}
+use Rattle.std.proofs.Common.{◌≡◌, ◌≢◌, ℕ, zero, suc, ◌<◌, ◌≤◌, Bool, true, false, List, [], ◌∷◌, length, get_or, inl, refl, ap, sym, ◌∙◌, arith}
 use Rattle.std.specs.Str.{bytes_eq}
 use Rattle.std.proofs.lemmas.Slice.Eq.{bytes_eq-Decides}
-use Rattle.lit_read.specs.Syntax.{Statement, Statements, Load, Store, Exchange, CompareExchange, If, End, Then, Condition, Conditions, Any, All, Not, Is, NoMore, Also, condition_count, Agent, Litmus, agent_of, IsConditionOn, AreConditionsOn, IsLitmus}
-use Rattle.lit_read.specs.Written.{Comparison, Operand, Compared, Negated, Grouped, Conjunction, Lone, Both, Written, Single, Either}
-use Rattle.lit_read.specs.Forms.{Form, StatementLine}
+use Rattle.lit_read.specs.Syntax.{Statement, Statements, Load, Store, Exchange, CompareExchange, If, End, Then, Condition, Conditions, Any, All, Not, Is, NoMore, Also, condition_count, Agent, Litmus, IsConditionOn, AreConditionsOn, IsLitmus}
 use Rattle.lit_read.specs.Structure.{IsStatement, AreStatements, AreElse, AreAgents}
 use Rattle.lit_read.specs.Spelling.{place_of, operand_value, conjunction_value, written_value, operand_values, conjunction_values, AreFormsOf}
 use Rattle.lit_read.specs.Canonical.{statement_forms, statements_forms, else_forms, agents_forms, named, operand_of, conjunction_of, all_written, any_written, written_of, canonical_forms}

@@ -1,6 +1,5 @@
 -- The marks of a condition, as the reader goes along its tokens.
 use Rattle.std.proofs.Common.{◌≡◌, ℕ, zero, suc, ◌+◌, ◌-◌, ◌<◌, ◌≤◌, Bool, true, false, List, [], ◌∷◌, ◌++◌, length, drop, Option, Some, None, refl, ap, sym, subst, ◌∙◌, arith, append_assoc}
-use Rattle.std.specs.Prelude.{codes}
 use Rattle.std.specs.Option.{option_map}
 use Rattle.std.specs.List.{AllByRecursion, flat_map}
 use Rattle.std.proofs.Math.ListN.{drop_of_length-le}
@@ -10,14 +9,13 @@ use Rattle.lit_read.specs.declared.symbols.Symbol.TheVariants.{And, Or, Not, Ope
 use Rattle.lit_read.specs.declared.limits.TheConstants.{REGISTERS}
 use Rattle.lit_read.specs.declared.tokens.Token as code
 use Rattle.lit_read.specs.Reading.Views.{token_views}
-use Rattle.lit_read.specs.Tokens.{Token, Word, Number, Sign}
+use Rattle.lit_read.specs.Tokens.{Token, Sign}
 use Rattle.lit_read.specs.Written.{Comparison, Operand, Compared, Negated, Grouped, Conjunction, Lone, Both, Written, Single, Either, comparison_tokens, operand_tokens, conjunction_tokens, written_tokens, operand_depths, conjunction_depths, written_depths}
-use Rattle.lit_read.specs.Forms.{Form, CheckLine, spelled, IsForm, IsSpelling}
 use Rattle.lit_read.specs.Reading.FirstToken.{or_else}
-use Rattle.lit_read.specs.Reading.FormOfTokens.{◌>>=◌, after_sign, after_word, word_of, comparison_of, comparison_row, comparison_made}
+use Rattle.lit_read.specs.Reading.FormOfTokens.{◌>>=◌, after_sign, word_of, comparison_of, comparison_row, comparison_made}
 use Rattle.lit_read.specs.Reading.Marks.{Mark, Bang, Opens, Closes, Joins, Parts, Compares, mark_tokens, IsMark, operand_marks, conjunction_marks, written_marks, mark_of, follow, SpellsMarks}
 use Rattle.lit_read.proofs.CutLemmas.{pair_parts}
-use Rattle.lit_read.proofs.RowLemmas.{sign_is, after_word_is, row, along_is, along_again}
+use Rattle.lit_read.proofs.RowLemmas.{sign_is, row, along_is, along_again}
 use Rattle.lit_read.proofs.WalkLemmas.{walk, walk-append, walks_whole, whole, condition_told}
 
 -- ---- one mark
