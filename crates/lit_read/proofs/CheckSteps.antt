@@ -1,8 +1,8 @@
 -- What a check line makes of a draft.
-use Rattle.std.proofs.Common.{◌≡◌, ◌≢◌, ℕ, suc, ◌+◌, ◌<◌, ◌≤◌, Bool, true, false, cond, leb, eqb, ◌&&◌, List, [], ◌∷◌, ◌++◌, length, map, Option, Some, None, Result, Ok, Err, refl, ap, sym, subst, ◌∙◌, arith}
+use Rattle.std.proofs.Common.{◌≡◌, ◌≢◌, ℕ, suc, ◌+◌, ◌<◌, ◌≤◌, Bool, true, false, cond, leb, eqb, ◌&&◌, List, [], ◌∷◌, length, map, Result, Ok, Err, refl, ap, sym, subst, ◌∙◌, arith}
 use Rattle.std.specs.Prelude.{String, reverse}
 use Rattle.std.specs.Global.{Vec, Global}
-use Rattle.std.specs.List.{list_all, list_any, AllByRecursion}
+use Rattle.std.specs.List.{list_all, list_any}
 use Rattle.std.specs.Str.{bytes_eq}
 use Rattle.std.proofs.lemmas.Bool.{leb-true, eqb-true}
 use Rattle.std.proofs.lemmas.List.{length-reverse}
@@ -12,16 +12,15 @@ use Rattle.lit_read.specs.declared.marks.Mark as marks
 use Rattle.lit_read.specs.declared.fault.ReadKind.{ReadKind}
 use Rattle.lit_read.specs.declared.fault.ReadKind.TheVariants.{TooLong, NotAscii, Syntax, Misplaced, BlockSize, TooManyAgents, DuplicateAgent, LiteralRange, OutOfBlock, UnknownName, TooDeep, MissingPart, OutOfMemory}
 use Rattle.lit_read.specs.declared.syntax.Stmt.{Stmt}
-use Rattle.lit_read.specs.declared.limits.TheConstants.{AGENT_LIMIT, COMPARED_LIMIT, REGISTERS}
-use Rattle.lit_read.specs.Tokens.{IsWord}
-use Rattle.lit_read.specs.Syntax.{Agent, Statements, End, Condition, Litmus, IsLitmus}
+use Rattle.lit_read.specs.declared.limits.TheConstants.{AGENT_LIMIT, COMPARED_LIMIT}
+use Rattle.lit_read.specs.Syntax.{Agent, Statements, End, Condition, IsLitmus}
 use Rattle.lit_read.specs.Written.{Comparison, Operand, Compared, Negated, Grouped, Conjunction, Lone, Both, Written, Single, Either, operand_depths, conjunction_depths, written_depths}
 use Rattle.lit_read.specs.Forms.{CheckLine, IsForm}
 use Rattle.lit_read.specs.Faults.{has_small_numbers, is_shallow}
 use Rattle.lit_read.specs.Spelling.{written_value}
 use Rattle.lit_read.specs.Reading.Marks.{Mark, Bang, Opens, Closes, Joins, Parts, Compares, operand_marks, conjunction_marks, written_marks, is_small}
 use Rattle.lit_read.specs.Reading.Built.{build, begun}
-use Rattle.lit_read.specs.Reading.State.{State, Open, Whole, Level, with_agent, is_known, is_known_mark, are_known, next_step, agent_step, test_of, check_step, AreAgentsIn, IsPart, IsState, AreLevels}
+use Rattle.lit_read.specs.Reading.State.{State, Open, Whole, Level, with_agent, is_known, is_known_mark, are_known, next_step, agent_step, test_of, check_step, IsPart, IsState}
 use Rattle.lit_read.specs.Reading.Views.{mark_view, mark_views, level_view, agents_view, Fails}
 use Rattle.lit_read.proofs.BuildLemmas.{all_joined, built}
 use Rattle.lit_read.proofs.StepLemmas.{is_litmus, filled}

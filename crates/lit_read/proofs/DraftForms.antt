@@ -1,11 +1,10 @@
 -- The forms that a draft holds, and which form can follow them.
-use Rattle.std.proofs.Common.{◌≡◌, ℕ, suc, ◌+◌, ◌≤◌, Bool, true, false, not, cond, eqb, ◌||◌, ◌&&◌, List, [], ◌∷◌, ◌++◌, length, map, Option, Some, None, is_some, refl, ap, sym, subst, ◌∙◌, arith, append_assoc}
+use Rattle.std.proofs.Common.{◌≡◌, ℕ, suc, ◌≤◌, Bool, true, false, not, cond, eqb, ◌||◌, ◌&&◌, List, [], ◌∷◌, ◌++◌, length, map, Option, Some, None, is_some, refl, ap, sym, subst, ◌∙◌, arith, append_assoc}
 use Rattle.std.specs.Prelude.{fold}
-use Rattle.std.specs.List.{list_any, list_all}
+use Rattle.std.specs.List.{list_any}
 use Rattle.std.specs.Str.{bytes_eq}
 use Rattle.std.proofs.lemmas.Bool.{eqb-true}
-use Rattle.lit_read.specs.Syntax.{Statement, Statements, End, Then, Agent, Litmus, writes}
-use Rattle.lit_read.specs.Written.{Written}
+use Rattle.lit_read.specs.Syntax.{Statements, Agent, Litmus, writes}
 use Rattle.lit_read.specs.Forms.{Form, Blank, TestLine, BytesLine, AgentLine, StatementLine, IfLine, ElseLine, EndLine, CheckLine}
 use Rattle.lit_read.specs.Structure.{AreStatements, AreAgents}
 use Rattle.lit_read.specs.Faults.{is_block_line, is_agent_line, is_check_line, is_begun, ends_in_test, open_behind, open_ifs, is_in_then, is_empty, block_of, names_of, line_writes, lines_write, agent_writes, is_misplaced}

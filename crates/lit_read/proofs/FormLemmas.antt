@@ -1,17 +1,15 @@
 -- The computed form is the one that the tokens spell, and it is computed wherever they spell one but a check line.
-use Rattle.std.proofs.Common.{◌≡◌, ℕ, ◌+◌, ◌-◌, ◌<◌, Bool, true, false, cond, eqb, IsTrue, List, [], ◌∷◌, Option, Some, None, refl, ap, sym, subst, ◌∙◌, arith, ◌⊎◌, inl, inr}
+use Rattle.std.proofs.Common.{◌≡◌, ℕ, ◌+◌, ◌<◌, true, false, List, [], ◌∷◌, Option, Some, None, refl, ap, sym, subst, ◌∙◌, ◌⊎◌, inl, inr}
 use Rattle.std.specs.Prelude.{codes}
-use Rattle.std.specs.Str.{bytes_eq}
-use Rattle.lit_read.specs.declared.symbols.Symbol.{Symbol}
-use Rattle.lit_read.specs.declared.symbols.Symbol.TheVariants.{Same, Differs, And, Or, Gives, Not, OpenBracket, CloseBracket, OpenParen, CloseParen, OpenBrace, CloseBrace, Comma, Dot}
+use Rattle.lit_read.specs.declared.symbols.Symbol.TheVariants.{Gives}
 use Rattle.lit_read.specs.declared.limits.TheConstants.{REGISTERS}
 use Rattle.lit_read.specs.Syntax.{Window, Uint8, Uint16, Uint32, DataView8, DataView16, DataView32, is_data_view, Statement, Load, Store, Exchange, CompareExchange, If}
-use Rattle.lit_read.specs.Tokens.{Token, Word, Number, Sign}
-use Rattle.lit_read.specs.Written.{Written, written_tokens}
+use Rattle.lit_read.specs.Tokens.{Token, Word, Sign}
+use Rattle.lit_read.specs.Written.{Written}
 use Rattle.lit_read.specs.Forms.{Form, Blank, TestLine, BytesLine, AgentLine, StatementLine, IfLine, ElseLine, EndLine, CheckLine, read_tokens, store_tokens, element_tokens, spelled, IsForm, IsSpelling}
 use Rattle.lit_read.specs.Reading.FirstToken.{or_else}
-use Rattle.lit_read.specs.Reading.FormOfTokens.{ended, Item, Symbols, Keyword, Name, Register, View, Amount, Relation, Told, lone_row, element, atomic, data_view, argument, closed, little_endian, given_to, test_row, test_made, bytes_row, bytes_made, agent_row, agent_made, if_row, if_made, else_row, else_made, end_row, end_made, plain_load_row, plain_load_made, plain_store_row, plain_store_made, atomic_load_row, atomic_load_made, atomic_store_row, atomic_store_made, exchange_row, exchange_made, compare_exchange_row, compare_exchange_made, byte_load_row, byte_load_made, byte_store_row, byte_store_made, wide_load_row, wide_load_made, wide_store_row, wide_store_made, test_line, agent_line, bytes_line, if_line, else_line, end_line, plain_load, plain_store, atomic_load, atomic_store, exchange, compare_exchange, byte_load, byte_store, wide_load, wide_store, frame_form, array_form, view_form, fixed_form}
-use Rattle.lit_read.proofs.RowLemmas.{row, Fits, LoneRow, lone_row_is, lone_row_again}
+use Rattle.lit_read.specs.Reading.FormOfTokens.{ended, Item, Symbols, Amount, Told, lone_row, element, test_row, test_made, bytes_row, bytes_made, agent_row, agent_made, if_row, if_made, else_row, else_made, end_row, end_made, plain_load_row, plain_load_made, plain_store_row, plain_store_made, atomic_load_row, atomic_load_made, atomic_store_row, atomic_store_made, exchange_row, exchange_made, compare_exchange_row, compare_exchange_made, byte_load_row, byte_load_made, byte_store_row, byte_store_made, wide_load_row, wide_load_made, wide_store_row, wide_store_made, test_line, agent_line, bytes_line, if_line, else_line, end_line, plain_load, plain_store, atomic_load, atomic_store, exchange, compare_exchange, byte_load, byte_store, wide_load, wide_store, frame_form, array_form, view_form, fixed_form}
+use Rattle.lit_read.proofs.RowLemmas.{row, Fits, lone_row_is, lone_row_again}
 
 -- ---- a form that is computed is spelled
 

@@ -1,9 +1,7 @@
 -- What a frame's parts stand for.
-use Rattle.std.proofs.Common.{◌≡◌, ◌≢◌, ℕ, suc, ◌+◌, ◌<◌, ◌≤◌, Bool, true, false, cond, leb, ltb, List, [], ◌∷◌, ◌++◌, length, get_or, Option, Some, None, Result, Ok, Err, refl, ap, sym, subst, ◌∙◌, arith, add-one, zero, drop, true≢false}
-use Rattle.std.specs.Prelude.{reverse, map}
-use Rattle.std.specs.Global.{Vec, Global, Box}
+use Rattle.std.proofs.Common.{◌≡◌, ◌≢◌, ℕ, suc, ◌+◌, ◌<◌, ◌≤◌, Bool, true, false, List, [], ◌∷◌, ◌++◌, length, get_or, Result, Ok, refl, ap, sym, subst, ◌∙◌, arith, add-one, zero, drop, true≢false}
+use Rattle.std.specs.Global.{Vec, Box}
 use Rattle.std.specs.List.{list_all}
-use Rattle.std.proofs.lemmas.Bool.{leb-true}
 use Rattle.std.proofs.lemmas.List.Folds.{list_all_at}
 use Rattle.std.proofs.Math.ListN.{drop_of_length-le}
 use Rattle.lit_read.specs.declared.fault.ReadKind.{ReadKind}
@@ -11,10 +9,9 @@ use Rattle.lit_read.specs.declared.fault.ReadKind.TheVariants.{TooLong, NotAscii
 use Rattle.lit_read.specs.declared.marks.Mark as marks
 use Rattle.lit_read.specs.declared.syntax.Cond.{Cond}
 use Rattle.lit_read.specs.declared.syntax.Cond as code
-use Rattle.lit_read.specs.Syntax.{Agent, Condition, Conditions, Any, All, Not, NoMore, Also}
+use Rattle.lit_read.specs.Syntax.{Agent, Condition, Conditions, Any, All, Not, Also}
 use Rattle.lit_read.specs.Litmus.{condition_of}
-use Rattle.lit_read.specs.Reading.Marks.{Mark, Bang, Opens, Closes, Joins, Parts, Compares, is_small}
-use Rattle.lit_read.specs.Reading.Built.{Frames, pushed, negated, all_of, any_of, asked, build_step, build, and_then, HasSmallNumber}
+use Rattle.lit_read.specs.Reading.Built.{Frames, pushed, all_of, any_of, asked, build_step, build, and_then}
 use Rattle.lit_read.specs.Reading.Views.{conditions_view, mark_view, mark_views, Fails}
 use Rattle.lit_read.proofs.TreeViews.{all_views, any_views}
 

@@ -10,7 +10,6 @@ use Rattle.lit_read.specs.declared.limits.TheConstants.{TEXT_LIMIT}
 use Rattle.lit_read.specs.Syntax.{Litmus}
 use Rattle.lit_read.specs.Lines.{lines_of}
 use Rattle.lit_read.specs.Tokens.{Token, CutsInto, is_comment}
-use Rattle.lit_read.specs.Written.{Written, written_tokens}
 use Rattle.lit_read.specs.Forms.{Form, IsSpelling, without_blanks}
 use Rattle.lit_read.specs.Faults.{number_of, is_allowed, HasFault, IsFirstFault}
 use Rattle.lit_read.specs.Spelling.{AreFormsOf, Spells}

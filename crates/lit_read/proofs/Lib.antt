@@ -21,4 +21,5 @@ pub mod CheckSteps
 pub mod ReadLemmas
 pub mod Progress
 pub mod TestForms
+pub mod CanonicalForms
 pub mod LawLemmas

@@ -1,10 +1,9 @@
 -- Check lines, and all forms.
-use Rattle.std.proofs.Common.{◌≡◌, List, [], ◌∷◌, Option, Some, None, refl, ap, sym, subst, ◌∙◌, Result, Ok, Err}
+use Rattle.std.proofs.Common.{◌≡◌, List, ◌∷◌, Option, Some, None, refl, ap, sym, subst, ◌∙◌, Result, Ok, Err}
 use Rattle.std.specs.Prelude.{codes, IfOk, IfNone}
-use Rattle.std.proofs.lemmas.Slice.Eq.{bytes_eq-Decides}
 use Rattle.lit_read.specs.Tokens.{Token, Word}
 use Rattle.lit_read.specs.Written.{Written, written_tokens}
-use Rattle.lit_read.specs.Forms.{Form, CheckLine, spelled, IsForm, IsSpelling}
+use Rattle.lit_read.specs.Forms.{CheckLine, spelled, IsForm, IsSpelling}
 use Rattle.lit_read.specs.Reading.FormOfTokens.{after_word, word_of, fixed_form}
 use Rattle.lit_read.specs.Reading.Marks.{Mark, written_marks, SpellsMarks, SpellsNoCondition, SpellsForm, SpellsNoCheck, SpellsNothing}
 use Rattle.lit_read.proofs.RowLemmas.{after_word_is}

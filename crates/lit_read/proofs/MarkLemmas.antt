@@ -1,6 +1,5 @@
 -- The marks of a condition, as the reader goes along its tokens.
 use Rattle.std.proofs.Common.{◌≡◌, ℕ, zero, suc, ◌+◌, ◌-◌, ◌<◌, ◌≤◌, Bool, true, false, List, [], ◌∷◌, ◌++◌, length, drop, Option, Some, None, refl, ap, sym, subst, ◌∙◌, arith, append_assoc}
-use Rattle.std.specs.Prelude.{codes}
 use Rattle.std.specs.Option.{option_map}
 use Rattle.std.specs.List.{AllByRecursion, flat_map}
 use Rattle.std.proofs.Math.ListN.{drop_of_length-le}
@@ -10,14 +9,13 @@ use Rattle.lit_read.specs.declared.symbols.Symbol.TheVariants.{And, Or, Not, Ope
 use Rattle.lit_read.specs.declared.limits.TheConstants.{REGISTERS}
 use Rattle.lit_read.specs.declared.tokens.Token as code
 use Rattle.lit_read.specs.Reading.Views.{token_views}
-use Rattle.lit_read.specs.Tokens.{Token, Word, Number, Sign}
+use Rattle.lit_read.specs.Tokens.{Token, Sign}
 use Rattle.lit_read.specs.Written.{Comparison, Operand, Compared, Negated, Grouped, Conjunction, Lone, Both, Written, Single, Either, comparison_tokens, operand_tokens, conjunction_tokens, written_tokens, operand_depths, conjunction_depths, written_depths}
-use Rattle.lit_read.specs.Forms.{Form, CheckLine, spelled, IsForm, IsSpelling}
 use Rattle.lit_read.specs.Reading.FirstToken.{or_else}
-use Rattle.lit_read.specs.Reading.FormOfTokens.{◌>>=◌, after_sign, after_word, word_of, comparison_of, comparison_row, comparison_made}
+use Rattle.lit_read.specs.Reading.FormOfTokens.{◌>>=◌, after_sign, word_of, comparison_of, comparison_row, comparison_made}
 use Rattle.lit_read.specs.Reading.Marks.{Mark, Bang, Opens, Closes, Joins, Parts, Compares, mark_tokens, IsMark, operand_marks, conjunction_marks, written_marks, mark_of, follow, SpellsMarks}
 use Rattle.lit_read.proofs.CutLemmas.{pair_parts}
-use Rattle.lit_read.proofs.RowLemmas.{sign_is, after_word_is, row, along_is, along_again}
+use Rattle.lit_read.proofs.RowLemmas.{sign_is, row, along_is, along_again}
 use Rattle.lit_read.proofs.WalkLemmas.{walk, walk-append, walks_whole, whole, condition_told}
 
 -- ---- one mark
@@ -193,6 +191,13 @@ marking_goes_on tokens rest after done behind n m b k e step so_far =
 spelled_marks : (tokens : List Token) (w : Written) → tokens ≡ written_tokens w → AllByRecursion IsLow (written_depths 0 w) → (tokens ≡ flat_map mark_tokens (written_marks w)) × AllByRecursion IsMark (written_marks w)
 spelled_marks tokens w is low = (is ∙ written_spelled w, written_low w 0 low)
 
+abbrev no_walk : Option (Bool × ℕ)
+no_walk = None
+
+walks_apart : (o : Option (Bool × ℕ)) → o ≡ no_walk → o ≡ whole → ⊥
+walks_apart None e f = absurd cc
+walks_apart (Some p) e f = absurd cc
+
 -- a mark that cannot follow
 pub marking_stuck : (tokens rest after : List Token) (done : List Mark) (behind : Bool) (n : ℕ) (m : Mark) → mark_of rest ≡ Some (m, after) → follow behind n m ≡ None → Marking tokens rest done behind n
     → (w : Written) → tokens ≡ written_tokens w → AllByRecursion IsLow (written_depths 0 w) → ⊥
@@ -206,10 +211,10 @@ marking_stuck tokens rest after done behind n m e step so_far w is low =
     by (j ∷ more) whole_is left good =
         let again : Some (m, after) ≡ Some (j, flat_map mark_tokens more) = sym e ∙ ap mark_of left ∙ mark_again j (flat_map mark_tokens more) good.0 in
         let p = pair_parts m j after (flat_map mark_tokens more) again in
-        let walked : walk false 0 (done ++ j ∷ more) ≡ None =
+        let walked : walk false 0 (done ++ j ∷ more) ≡ no_walk =
         walk-append false 0 done (j ∷ more) ∙ ap (λ o. o >>= λ q. walk q.0 q.1 (j ∷ more)) so_far.walked ∙ ap (λ (x : Mark). walk behind n (x ∷ more)) (sym p.0) ∙ ap (λ o. o >>= λ q. walk q.0 q.1 more) step in
         let all : walk false 0 (done ++ j ∷ more) ≡ whole = ap (walk false 0) (sym whole_is) ∙ walks_whole w in
-        absurd cc
+        walks_apart (walk false 0 (done ++ j ∷ more)) walked all
 
 -- the marks end where no mark is left
 done_all : (tokens rest : List Token) (done : List Mark) (behind : Bool) (n : ℕ) → mark_of rest ≡ None → Marking tokens rest done behind n → (w : Written) → tokens ≡ written_tokens w → AllByRecursion IsLow (written_depths 0 w)

@@ -4,7 +4,7 @@ use Rattle.std.specs.Prelude.{codes}
 use Rattle.std.specs.List.{list_any}
 use Rattle.lit_read.specs.declared.fault.ReadKind.{ReadKind}
 use Rattle.lit_read.specs.declared.fault.ReadKind.TheVariants.{TooLong, NotAscii, Syntax, Misplaced, BlockSize, TooManyAgents, DuplicateAgent, LiteralRange, OutOfBlock, UnknownName, TooDeep, MissingPart, OutOfMemory}
-use Rattle.lit_read.specs.Tokens.{Token, Word, Number, Sign, CutsInto, IsWord}
+use Rattle.lit_read.specs.Tokens.{Token, Word, CutsInto, IsWord}
 use Rattle.lit_read.specs.Forms.{Form, Blank, TestLine, BytesLine, AgentLine, StatementLine, IfLine, ElseLine, EndLine, CheckLine, spelled, IsSpelling, HasForm, HaveForms, without_blanks}
 use Rattle.lit_read.specs.Faults.{is_check_line, is_faulty, HasLineFault, AreFormsBefore, HasFault}
 use Rattle.lit_read.specs.Lines.{lines_of}

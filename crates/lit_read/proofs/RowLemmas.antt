@@ -1,5 +1,5 @@
 -- A row of tokens is read as it is spelled.
-use Rattle.std.proofs.Common.{◌≡◌, ℕ, zero, suc, ◌+◌, ◌-◌, ◌<◌, ◌≤◌, Bool, true, false, cond, eqb, ltb, leb, ◌&&◌, List, [], ◌∷◌, ◌++◌, Option, Some, None, refl, ap, sym, subst, ◌∙◌, arith, ◌⊎◌, inl, inr}
+use Rattle.std.proofs.Common.{◌≡◌, ℕ, zero, suc, ◌+◌, ◌-◌, ◌<◌, ◌≤◌, Bool, true, false, cond, eqb, ltb, leb, ◌&&◌, List, [], ◌∷◌, Option, Some, None, refl, ap, sym, subst, ◌∙◌, arith}
 use Rattle.std.specs.Prelude.{codes}
 use Rattle.std.specs.Option.{option_map}
 use Rattle.std.specs.Str.{bytes_eq}
@@ -16,7 +16,7 @@ use Rattle.lit_read.specs.Forms.{Form, window_word}
 use Rattle.lit_read.specs.Reading.FirstToken.{or_else}
 use Rattle.lit_read.specs.Reading.FormOfTokens.{◌>>=◌, symbol_code, after_sign, word_of, number_of, after_word, register_number, register_of, window_named, view_of, relation_of, ended, Item, Symbols, Keyword, Name, Register, View, Amount, Relation, Told, along, lone_row}
 use Rattle.lit_read.specs.Reading.Views.{form_view}
-use Rattle.lit_read.proofs.CutLemmas.{here, some_is, pair_parts}
+use Rattle.lit_read.proofs.CutLemmas.{pair_parts}
 
 pub ended_view : (ts : List Token) (f : lines.Form) → option_map form_view (ended ts f) ≡ ended ts (form_view f)
 ended_view [] f = refl

@@ -1,12 +1,11 @@
 -- The forms of statements, agents and tests, and what the forms so far say of them.
-use Rattle.std.proofs.Common.{◌≡◌, ℕ, zero, suc, ◌+◌, ◌<◌, ◌≤◌, Bool, true, false, not, cond, eqb, ◌||◌, ◌&&◌, List, [], ◌∷◌, ◌++◌, length, map, ◌⊎◌, inl, inr, Option, Some, None, refl, ap, sym, subst, ◌∙◌, arith, append_assoc}
+use Rattle.std.proofs.Common.{◌≡◌, ℕ, Bool, true, false, eqb, ◌||◌, ◌&&◌, List, [], ◌∷◌, ◌++◌, inl, inr, refl, ap, sym, ◌∙◌, append_assoc}
 use Rattle.std.specs.Prelude.{fold}
 use Rattle.std.specs.List.{list_any, list_all}
-use Rattle.std.specs.Str.{bytes_eq}
-use Rattle.lit_read.specs.Syntax.{Statement, Statements, Load, Store, Exchange, CompareExchange, If, End, Then, Agent, statement_writes, writes}
-use Rattle.lit_read.specs.Forms.{Form, Blank, TestLine, BytesLine, AgentLine, StatementLine, IfLine, ElseLine, EndLine, CheckLine}
-use Rattle.lit_read.specs.Structure.{IsStatement, AreStatements, AreElse, AreAgents}
-use Rattle.lit_read.specs.Faults.{is_block_line, is_agent_line, is_check_line, open_behind, open_ifs, names_of, line_writes, lines_write, agent_writes, ends_in_test}
+use Rattle.lit_read.specs.Syntax.{Statement, Statements, Load, Store, Exchange, CompareExchange, If, End, Then, statement_writes, writes}
+use Rattle.lit_read.specs.Forms.{Form, StatementLine, IfLine, ElseLine, EndLine}
+use Rattle.lit_read.specs.Structure.{IsStatement, AreStatements, AreElse}
+use Rattle.lit_read.specs.Faults.{open_behind, line_writes}
 use Rattle.lit_read.specs.Reading.State.{followed_by}
 
 -- ---- lists

@@ -1,17 +1,17 @@
 -- What a draft holds with one form more.
-use Rattle.std.proofs.Common.{◌≡◌, ℕ, ◌+◌, Bool, true, false, cond, eqb, ltb, leb, ◌||◌, List, [], ◌∷◌, ◌++◌, length, Option, Some, None, Result, Ok, Err, inl, inr, refl, ap, sym, subst, ◌∙◌, append_assoc}
-use Rattle.std.specs.List.{list_any, list_all}
+use Rattle.std.proofs.Common.{◌≡◌, ℕ, ◌+◌, Bool, true, false, cond, eqb, ltb, leb, ◌||◌, List, [], ◌∷◌, ◌++◌, length, Option, Some, None, Result, Ok, Err, inl, inr, refl, ap, subst, ◌∙◌, append_assoc}
+use Rattle.std.specs.List.{list_any}
 use Rattle.std.specs.Str.{bytes_eq}
 use Rattle.lit_read.specs.declared.fault.ReadKind.{ReadKind}
-use Rattle.lit_read.specs.declared.fault.ReadKind.TheVariants.{BlockSize, TooManyAgents, DuplicateAgent, LiteralRange, OutOfBlock, UnknownName, TooDeep, Misplaced}
+use Rattle.lit_read.specs.declared.fault.ReadKind.TheVariants.{BlockSize, TooManyAgents, DuplicateAgent, LiteralRange, OutOfBlock, UnknownName, TooDeep}
 use Rattle.lit_read.specs.declared.limits.TheConstants.{BLOCK_LIMIT, AGENT_LIMIT, COMPARED_LIMIT, IF_LIMIT}
-use Rattle.lit_read.specs.Syntax.{Statement, Statements, Load, Store, Exchange, CompareExchange, If, End, Then, Agent}
+use Rattle.lit_read.specs.Syntax.{Statement, Statements, Load, Store, Exchange, CompareExchange, If, End, Then}
 use Rattle.lit_read.specs.Written.{Written}
 use Rattle.lit_read.specs.Forms.{Form, Blank, TestLine, BytesLine, AgentLine, StatementLine, IfLine, ElseLine, EndLine, CheckLine, IsAccess, IsForm}
-use Rattle.lit_read.specs.Structure.{IsStatement, AreStatements, AreElse, AreAgents}
+use Rattle.lit_read.specs.Structure.{IsStatement, AreStatements, AreElse}
 use Rattle.lit_read.specs.Faults.{has_fitting_literals, stays_in_block, has_small_numbers, is_shallow}
 use Rattle.lit_read.specs.Spelling.{written_value}
-use Rattle.lit_read.specs.Reading.State.{State, Empty, Named, Sized, Open, Whole, Level, followed_by, with_agent, else_level, else_from, ended_if, are_known, test_step, block_step, next_step, agent_step, statement_step, if_step, else_step, end_step, test_of, whole, check_step, step}
+use Rattle.lit_read.specs.Reading.State.{State, Empty, Named, Sized, Open, Whole, Level, followed_by, with_agent, else_from, ended_if, are_known, test_step, block_step, next_step, agent_step, statement_step, if_step, else_step, end_step, test_of, whole, check_step, step}
 use Rattle.lit_read.proofs.SpellLemmas.{statements_added}
 use Rattle.lit_read.proofs.DraftForms.{AreParts, AreOpen, opening, Holds, agents_added}
 

@@ -1,21 +1,21 @@
 -- What a form adds to lines without a fault is again without a fault.
 use Rattle.std.proofs.Common.{◌≡◌, ◌≢◌, ℕ, zero, suc, ◌+◌, ◌-◌, ◌<◌, ◌≤◌, Bool, true, false, cond, eqb, ltb, leb, ◌||◌, ◌&&◌, List, [], ◌∷◌, ◌++◌, length, get_or, Option, Some, None, Result, Ok, Err, refl, ap, sym, subst, ◌∙◌, arith, true≢false, add-one}
-use Rattle.std.specs.Prelude.{max, IfSome}
+use Rattle.std.specs.Prelude.{IfSome}
 use Rattle.std.specs.List.{AllByRecursion, list_any, list_all}
 use Rattle.std.specs.Str.{bytes_eq}
-use Rattle.std.proofs.lemmas.Bool.{ltb-true, leb-true, ltb-false, leb-false}
+use Rattle.std.proofs.lemmas.Bool.{leb-true, ltb-false, leb-false}
 use Rattle.std.proofs.lemmas.List.{length-append}
 use Rattle.std.proofs.lemmas.Slice.Eq.{bytes_eq-Decides}
 use Rattle.lit_read.specs.declared.fault.ReadKind.{ReadKind}
-use Rattle.lit_read.specs.declared.fault.ReadKind.TheVariants.{BlockSize, TooManyAgents, DuplicateAgent, LiteralRange, OutOfBlock, TooDeep, Misplaced}
+use Rattle.lit_read.specs.declared.fault.ReadKind.TheVariants.{BlockSize, TooManyAgents, DuplicateAgent, LiteralRange, OutOfBlock, TooDeep}
 use Rattle.lit_read.specs.declared.limits.TheConstants.{BLOCK_LIMIT, AGENT_LIMIT, REGISTERS, COMPARED_LIMIT, IF_LIMIT, DEPTH_LIMIT}
-use Rattle.lit_read.specs.Syntax.{Window, is_in_block, fits_window, is_data_view, Statement, Load, Store, Exchange, CompareExchange, If, Statements, End, Then, Agent, Litmus, writes, nesting, statement_nesting, IsStatementIn, AreStatementsIn, Condition, Conditions, Any, All, Not, Is, NoMore, Also, condition_count, IsConditionOn, AreConditionsOn, tight_parentheses, loose_parentheses, condition_depth, any_depth, all_depth, IsLitmus}
+use Rattle.lit_read.specs.Syntax.{fits_window, Statement, Load, Store, Exchange, CompareExchange, If, Statements, End, Then, Agent, Litmus, writes, nesting, statement_nesting, IsStatementIn, AreStatementsIn, Condition, Any, All, Not, Is, condition_count, IsConditionOn, AreConditionsOn, tight_parentheses, loose_parentheses, condition_depth, any_depth, all_depth, IsLitmus}
 use Rattle.lit_read.specs.Tokens.{IsWord}
 use Rattle.lit_read.specs.Written.{Comparison, Operand, Compared, Negated, Grouped, Conjunction, Lone, Both, Written, Single, Either, operand_depths, conjunction_depths, written_depths}
 use Rattle.lit_read.specs.Forms.{Form, Blank, TestLine, BytesLine, AgentLine, StatementLine, IfLine, ElseLine, EndLine, CheckLine, IsAccess, IsForm}
 use Rattle.lit_read.specs.Faults.{has_fitting_literals, stays_in_block, has_small_numbers, is_shallow}
 use Rattle.lit_read.specs.Spelling.{place_of, numbered, operand_value, conjunction_value, written_value, operand_values, conjunction_values}
-use Rattle.lit_read.specs.Reading.State.{State, Empty, Named, Sized, Open, Whole, Level, followed_by, with_agent, body_named, is_known, are_known, else_level, else_from, ended_if, test_step, block_step, next_step, agent_step, statement_step, if_step, else_step, end_step, test_of, whole, check_step, step, AreDistinct, IsPart, AreAgentsIn, IsLevel, AreLevels, IsState}
+use Rattle.lit_read.specs.Reading.State.{State, Empty, Named, Sized, Open, Whole, Level, followed_by, with_agent, body_named, is_known, are_known, else_level, else_from, ended_if, test_step, block_step, next_step, agent_step, statement_step, if_step, else_step, end_step, test_of, whole, check_step, step, AreDistinct, IsPart, AreAgentsIn, IsState}
 
 -- ---- lists
 

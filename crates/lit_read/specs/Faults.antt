@@ -5,7 +5,7 @@ use Rattle.std.specs.Str.{bytes_eq}
 use Rattle.lit_read.specs.declared.fault.ReadKind.{ReadKind}
 use Rattle.lit_read.specs.declared.fault.ReadKind.TheVariants.{TooLong, NotAscii, Syntax, Misplaced, BlockSize, TooManyAgents, DuplicateAgent, LiteralRange, OutOfBlock, UnknownName, TooDeep, MissingPart, OutOfMemory}
 use Rattle.lit_read.specs.declared.limits.TheConstants.{TEXT_LIMIT, BLOCK_LIMIT, AGENT_LIMIT, COMPARED_LIMIT, IF_LIMIT, DEPTH_LIMIT}
-use Rattle.lit_read.specs.Syntax.{Window, is_in_block, fits_window, Statement, Load, Store, Exchange, CompareExchange, If, statement_writes}
+use Rattle.lit_read.specs.Syntax.{is_in_block, fits_window, Statement, Load, Store, Exchange, CompareExchange, If, statement_writes}
 use Rattle.lit_read.specs.Lines.{lines_of}
 use Rattle.lit_read.specs.Written.{Written, written_depths}
 use Rattle.lit_read.specs.Forms.{Form, Blank, TestLine, BytesLine, AgentLine, StatementLine, IfLine, ElseLine, EndLine, CheckLine, HasForm, HaveForms, without_blanks}

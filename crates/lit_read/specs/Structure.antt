@@ -1,5 +1,5 @@
 -- Which forms, one after the other, are those of statements and of agents (this project's own).
-use Rattle.std.specs.Prelude.{◌≡◌, ℕ, List, [], ◌∷◌, ◌++◌, ◌⊎◌}
+use Rattle.std.specs.Prelude.{◌≡◌, List, [], ◌∷◌, ◌++◌, ◌⊎◌}
 use Rattle.lit_read.specs.Syntax.{Statement, Statements, Load, Store, Exchange, CompareExchange, If, End, Then, Agent}
 use Rattle.lit_read.specs.Forms.{Form, AgentLine, StatementLine, IfLine, ElseLine, EndLine}
 

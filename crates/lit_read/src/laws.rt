@@ -3,13 +3,13 @@
 ghost use Rattle.std.specs.Prelude.{◌≡◌, ◌≤◌, ◌⊎◌, ◌∷◌, ◌++◌, [], ℕ, List, length, true};
 ghost use Rattle.std.specs.List.{list_all};
 ghost use Rattle.lit_read.specs.declared.fault.ReadKind.{ReadKind};
-ghost use Rattle.lit_read.specs.Syntax.{Litmus};
+ghost use Rattle.lit_read.specs.Syntax.{Litmus, IsLitmus};
 ghost use Rattle.lit_read.specs.Lines.{lines_of, ended_lines, is_whole_line};
 ghost use Rattle.lit_read.specs.Tokens.{Token, CutsInto};
 ghost use Rattle.lit_read.specs.Forms.{Form, HasForm};
 ghost use Rattle.lit_read.specs.Faults.{HasFault, IsFirstFault};
 ghost use Rattle.lit_read.specs.Spelling.{Spells, AreFormsOf, written_value};
-ghost use Rattle.lit_read.specs.Canonical.{without_empty_elses};
+ghost use Rattle.lit_read.specs.Canonical.{canonical_forms, without_empty_elses};
 
 /// A text is its lines, none of which has a byte 10, each with a byte 10 behind it. The last byte may be left out.
 pub fn lines_are_joined()
@@ -36,6 +36,12 @@ pub fn spells_one_test()
 /// No forms are those of two tests.
 pub fn forms_of_one_test()
     ensures { (forms : List Form) (t u : Litmus) → AreFormsOf forms t → AreFormsOf forms u → t ≡ u }
+{}
+
+/// The canonical forms of a test are those of it and of no other test.
+pub fn has_canonical_forms()
+    ensures its { (t : Litmus) → IsLitmus t → AreFormsOf (canonical_forms t) t }
+    ensures only { (t u : Litmus) → IsLitmus t → AreFormsOf (canonical_forms t) u → u ≡ t }
 {}
 
 /// Forms of one test differ by else lines with an empty part alone, and in their check lines by parentheses that change

@@ -2,7 +2,7 @@
 //!
 //! `read` ensures that an `Ok` test is the one that the text spells, and that an `Err` is its first fault or want of
 //! memory. The definitions stand in specs/: `Lines`, `Tokens`, `Written` (conditions as they are written), `Forms`,
-//! `Structure`, `Faults` and `Spelling`, and in `Syntax` what a test is. What stands in the folder `Reading` serves
+//! `Structure`, `Faults`, `Spelling` and `Canonical`, and in `Syntax` what a test is. What stands in the folder `Reading` serves
 //! private contracts alone.
 #![tactic(auto)]
 

@@ -1,4 +1,4 @@
-use Rattle.std.proofs.Common.{◌∙◌, ap, arith, Ok, sym}
+use Rattle.std.proofs.Common.{◌∙◌, ap, Ok, sym}
 use Rattle.std.proofs.lemmas.Result.{err_from_is_err_and}
 use Rattle.lit_read.specs.Syntax.{Condition}
 use Rattle.lit_read.specs.Reading.Built.{begun, build}

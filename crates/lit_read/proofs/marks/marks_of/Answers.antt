@@ -1,6 +1,5 @@
-use Rattle.std.proofs.Common.{◌≡◌, ◌∷◌, [], drop, sym, arith, None}
+use Rattle.std.proofs.Common.{◌∷◌, [], drop, sym, arith}
 use Rattle.std.proofs.lemmas.List.{map-append}
-use Rattle.lit_read.specs.Reading.Marks.{mark_of}
 use Rattle.lit_read.specs.Reading.Views.{token_views, mark_view, mark_views}
 use Rattle.lit_read.proofs.MarkLemmas.{marking_stuck, marking_goes_on, marking_ends, marking_fails, nothing_left, all_left, follow_few}
 use Rattle.lit_read.proofs.marks.marks_of.Goals as goal

@@ -1,17 +1,15 @@
-use Rattle.std.proofs.Common.{◌≡◌, List, Result, Ok, Err, ap, sym, subst, refl, ◌∙◌}
+use Rattle.std.proofs.Common.{◌≡◌, Result, Err, ap, sym, subst, refl, ◌∙◌}
 use Rattle.std.proofs.lemmas.Result.{err_from_is_err_and}
 use Rattle.lit_read.specs.declared.fault.ReadKind.{ReadKind}
 use Rattle.lit_read.specs.declared.fault.ReadKind.TheVariants.{Misplaced}
-use Rattle.lit_read.specs.declared.marks.Mark as marks
 use Rattle.lit_read.specs.declared.forms.Line as said
 use Rattle.lit_read.specs.declared.draft.Draft as drafts
 use Rattle.lit_read.specs.declared.draft.Draft.TheVariants as draft
 use Rattle.lit_read.specs.declared.draft.Open as opens
 use Rattle.lit_read.specs.Written.{Written}
 use Rattle.lit_read.specs.Forms.{Form, CheckLine}
-use Rattle.lit_read.specs.Reading.Marks.{written_marks}
-use Rattle.lit_read.specs.Reading.State.{State, Whole, check_step, step}
-use Rattle.lit_read.specs.Reading.Views.{state_view, open_view, mark_views, Shows, Fails}
+use Rattle.lit_read.specs.Reading.State.{State, check_step, step}
+use Rattle.lit_read.specs.Reading.Views.{state_view, mark_views, Shows, Fails}
 use Rattle.lit_read.proofs.draft.Draft.add.Goals as goal
 
 checks : (s : State) (f : Form) (w : Written) → f ≡ CheckLine w → step s f ≡ check_step s w

@@ -1,8 +1,8 @@
-use Rattle.std.proofs.Common.{◌≡◌, List, ap, sym, ◌∙◌, Some, None, Option}
+use Rattle.std.proofs.Common.{◌≡◌, List, ap, sym, ◌∙◌, Option}
 use Rattle.std.specs.Global.{Vec}
 use Rattle.lit_read.specs.declared.syntax.Stmt.{Stmt}
-use Rattle.lit_read.specs.Syntax.{Statement, Statements, End, If}
-use Rattle.lit_read.specs.Litmus.{statement_of, statements_of}
+use Rattle.lit_read.specs.Syntax.{Statement, Statements, If}
+use Rattle.lit_read.specs.Litmus.{statements_of}
 use Rattle.lit_read.specs.Reading.State.{followed_by, ended_if}
 use Rattle.lit_read.specs.Reading.Views.{level_view, part_view}
 use Rattle.lit_read.proofs.TreeViews.{if_views}

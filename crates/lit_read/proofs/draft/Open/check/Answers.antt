@@ -1,11 +1,10 @@
-use Rattle.std.proofs.Common.{◌≡◌, ℕ, List, [], ◌∷◌, length, true, vec_len, arith, ap, sym, subst, ◌∙◌, Ok}
+use Rattle.std.proofs.Common.{◌≡◌, List, [], ◌∷◌, length, vec_len, arith, ap, sym, subst, ◌∙◌, Ok}
 use Rattle.std.specs.Prelude.{string_bytes}
 use Rattle.std.specs.List.{list_all}
 use Rattle.std.proofs.lemmas.List.{length-append}
 use Rattle.std.proofs.lemmas.Result.{err_from_is_err_and}
 use Rattle.lit_read.specs.Syntax.{Agent, Condition, End, IsLitmus}
 use Rattle.lit_read.specs.Litmus.{statements_of, condition_of}
-use Rattle.lit_read.specs.Reading.Marks.{is_small}
 use Rattle.lit_read.specs.Reading.Built.{build, begun}
 use Rattle.lit_read.specs.Reading.State.{IsState, Whole, with_agent, is_known_mark}
 use Rattle.lit_read.specs.Reading.Views.{agents_view, mark_view, mark_views, Fails}

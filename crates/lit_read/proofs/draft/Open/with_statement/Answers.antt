@@ -1,4 +1,4 @@
-use Rattle.std.proofs.Common.{◌≡◌, ap, sym, ◌∙◌, Ok}
+use Rattle.std.proofs.Common.{ap, sym, ◌∙◌, Ok}
 use Rattle.std.specs.Prelude.{string_bytes}
 use Rattle.lit_read.specs.Syntax.{Statements}
 use Rattle.lit_read.specs.Litmus.{statements_of}
