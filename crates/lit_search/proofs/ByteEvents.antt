@@ -1,5 +1,6 @@
 -- Events of one byte each, in a block whose bytes are made first.
 use Rattle.std.proofs.Common.{◌≡◌, ℕ, suc, ◌+◌, ◌<◌, ◌≤◌, ◌≢◌, List, [], ◌∷◌, ◌++◌, length, get_or, slice_get, Some, arith, refl, sym, ap, ◌∙◌, length-append, All, subst, true≢false}
+use Rattle.std.proofs.lemmas.Bool.{ltb-true}
 use Rattle.std.specs.List.{AllByRecursion}
 use Rattle.std.proofs.lemmas.List.{get_or_append_left}
 use Rattle.std.proofs.lemmas.List.Elements.{All-nil, All-cons, All-append, All-from_recursion, recursion_from_All, All-weaker}
@@ -41,13 +42,13 @@ accesses_from-bytes bytes owner place (Then (Load reg Uint8 index atomic) ss) su
     All-cons (IsByteEvent bytes) _ _
     (record {
       single = refl;
-      in_block = omega (arith, within.0.1);
+      in_block = omega (arith, ltb-true index bytes within.0.1);
       payload = All-from_recursion (λ (x : ℕ). x < 256) (0 ∷ 0 ∷ 0 ∷ 0 ∷ []) (omega arith, (omega arith, (omega arith, (omega arith, tt))));
     })
     (accesses_from-bytes bytes owner (place + 1) ss supported within.1)
 accesses_from-bytes bytes owner place (Then (Store Uint8 index value atomic) ss) supported within =
     All-cons (IsByteEvent bytes) _ _
-    (record { single = refl; in_block = omega (arith, within.0.0); payload = payload_of-bytes value })
+    (record { single = refl; in_block = omega (arith, ltb-true index bytes within.0.0); payload = payload_of-bytes value })
     (accesses_from-bytes bytes owner (place + 1) ss supported within.1)
 accesses_from-bytes bytes owner place (Then _ ss) supported within = absurd supported
 
