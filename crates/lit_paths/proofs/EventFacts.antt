@@ -1,9 +1,10 @@
 -- What holds of the events of a combination: sizes, ranges, payloads, and how many bytes are read.
 use Rattle.std.proofs.Common.{◌≡◌, ◌⊎◌, ℕ, zero, suc, ◌+◌, ◌*◌, ◌<◌, ◌≤◌, Bool, true, false, List, [], ◌∷◌, ◌++◌, length, map, get_or, arith, refl, sym, ap, ◌∙◌, subst, inl, inr, ⊎_elim, append_assoc, append-nil, length-append}
-use Rattle.std.specs.Prelude.{All}
+use Rattle.std.specs.Prelude.{◌/◌, All, IsTrue}
+use Rattle.std.proofs.lemmas.Bool.{ltb-true, leb-true}
 use Rattle.std.specs.List.{AllByRecursion, range_with_len}
 use Rattle.std.proofs.lemmas.List.Elements.{All-from_recursion}
-use Rattle.lit_read.specs.Syntax.{Litmus, IsLitmus, Window, Uint8, Uint16, Uint32, DataView8, DataView16, DataView32, window_size, IsInBlock, Statement, Statements, Load, Store, Exchange, CompareExchange, If, End, Then, IsStatementIn, AreStatementsIn, agent_of}
+use Rattle.lit_read.specs.Syntax.{Litmus, IsLitmus, Window, Uint8, Uint16, Uint32, DataView8, DataView16, DataView32, window_size, is_in_block, Statement, Statements, Load, Store, Exchange, CompareExchange, If, End, Then, IsStatementIn, AreStatementsIn, agent_of}
 use Rattle.lit_paths.specs.declared.limits.TheConstants.{ACCESS_LIMIT}
 use Rattle.lit_paths.specs.declared.event.Event.{Event}
 use Rattle.lit_paths.specs.Event.{no_event, init_event, init_events}
@@ -40,24 +41,24 @@ window-sized DataView8 = inl refl
 window-sized DataView16 = inr (inl refl)
 window-sized DataView32 = inr (inr refl)
 
-window-in_block : (bytes index : ℕ) (window : Window) → IsInBlock bytes window index → first_byte window index + window_size window ≤ bytes
-window-in_block bytes index Uint8 h = omega (arith, h)
-window-in_block bytes index Uint16 h = omega (arith, h)
-window-in_block bytes index Uint32 h = omega (arith, h)
-window-in_block bytes index DataView8 h = omega (arith, h)
-window-in_block bytes index DataView16 h = omega (arith, h)
-window-in_block bytes index DataView32 h = omega (arith, h)
+window-in_block : (bytes index : ℕ) (window : Window) → IsTrue (is_in_block bytes window index) → first_byte window index + window_size window ≤ bytes
+window-in_block bytes index Uint8 h = omega (arith, ltb-true index bytes h)
+window-in_block bytes index Uint16 h = omega (arith, ltb-true index (bytes / 2) h)
+window-in_block bytes index Uint32 h = omega (arith, ltb-true index (bytes / 4) h)
+window-in_block bytes index DataView8 h = omega (arith, leb-true (index + 1) bytes h)
+window-in_block bytes index DataView16 h = omega (arith, leb-true (index + 2) bytes h)
+window-in_block bytes index DataView32 h = omega (arith, leb-true (index + 4) bytes h)
 
-read-sound : (bytes owner place index : ℕ) (window : Window) (atomic : Bool) → IsInBlock bytes window index → IsSound bytes (read_event owner place window index atomic)
+read-sound : (bytes owner place index : ℕ) (window : Window) (atomic : Bool) → IsTrue (is_in_block bytes window index) → IsSound bytes (read_event owner place window index atomic)
 read-sound bytes owner place index window atomic h = record { sized = window-sized window; in_block = window-in_block bytes index window h; payload = zeros-below }
 
-write-sound : (bytes owner place index value : ℕ) (window : Window) (atomic : Bool) → IsInBlock bytes window index → IsSound bytes (write_event owner place window index value atomic)
+write-sound : (bytes owner place index value : ℕ) (window : Window) (atomic : Bool) → IsTrue (is_in_block bytes window index) → IsSound bytes (write_event owner place window index value atomic)
 write-sound bytes owner place index value window atomic h = record { sized = window-sized window; in_block = window-in_block bytes index window h; payload = payload-below value }
 
-modify-sound : (bytes owner place index value : ℕ) (window : Window) → IsInBlock bytes window index → IsSound bytes (modify_event owner place window index value)
+modify-sound : (bytes owner place index value : ℕ) (window : Window) → IsTrue (is_in_block bytes window index) → IsSound bytes (modify_event owner place window index value)
 modify-sound bytes owner place index value window h = record { sized = window-sized window; in_block = window-in_block bytes index window h; payload = payload-below value }
 
-compare_exchange-sound : (bytes owner place index value : ℕ) (window : Window) (succeeds : Bool) → IsInBlock bytes window index → IsSound bytes (compare_exchange_event owner place window index value succeeds)
+compare_exchange-sound : (bytes owner place index value : ℕ) (window : Window) (succeeds : Bool) → IsTrue (is_in_block bytes window index) → IsSound bytes (compare_exchange_event owner place window index value succeeds)
 compare_exchange-sound bytes owner place index value window true h = modify-sound bytes owner place index value window h
 compare_exchange-sound bytes owner place index value window false h = read-sound bytes owner place index window true h
 

@@ -1,7 +1,7 @@
 -- How many accesses a walk has at the most, and how far is counted.
-use Rattle.std.specs.Prelude.{ℕ, ◌+◌, ◌≤◌, ◌*◌, max, length, List, [], ◌∷◌, slice_index_or}
+use Rattle.std.specs.Prelude.{ℕ, ◌+◌, ◌≤◌, ◌*◌, max, IsTrue, length, List, [], ◌∷◌, slice_index_or}
 use Rattle.lit_read.specs.declared.limits.TheConstants.{BLOCK_LIMIT}
-use Rattle.lit_read.specs.Syntax.{Window, IsInBlock, IsStatementIn, AreStatementsIn, Agent, Statement, Statements, Load, Store, Exchange, CompareExchange, If, End, Then}
+use Rattle.lit_read.specs.Syntax.{Window, is_in_block, IsStatementIn, AreStatementsIn, Agent, Statement, Statements, Load, Store, Exchange, CompareExchange, If, End, Then}
 use Rattle.lit_paths.specs.Path.{Step, walks_of, statement_walks}
 use Rattle.lit_paths.specs.declared.limits.TheConstants.{ACCESS_LIMIT, COMBINATION_LIMIT}
 
@@ -27,7 +27,7 @@ abbrev mutual
 
 -- what a test can say, over some block
 abbrev pub IsAccess : Window → ℕ → Type 0
-IsAccess window index = (bytes : ℕ) × (bytes ≤ BLOCK_LIMIT) × IsInBlock bytes window index
+IsAccess window index = (bytes : ℕ) × (bytes ≤ BLOCK_LIMIT) × IsTrue (is_in_block bytes window index)
 
 abbrev pub IsSaid : Statement → Type 0
 IsSaid s = (bytes : ℕ) × (bytes ≤ BLOCK_LIMIT) × IsStatementIn bytes s
