@@ -6,6 +6,7 @@
 //! private contracts alone.
 #![tactic(auto)]
 
+mod access_forms;
 mod accesses;
 mod building;
 mod checking;

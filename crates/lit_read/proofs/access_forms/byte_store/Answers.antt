@@ -1,7 +1,7 @@
 use Rattle.lit_read.specs.Reading.FormOfTokens.{byte_store}
 use Rattle.lit_read.specs.Reading.Views.{token_views}
 use Rattle.lit_read.proofs.RowLemmas.{ended_view}
-use Rattle.lit_read.proofs.forms.byte_store.Goals as goal
+use Rattle.lit_read.proofs.access_forms.byte_store.Goals as goal
 
 pub returns : goal.returns
 unfolding byte_store

@@ -1,7 +1,7 @@
 use Rattle.lit_read.specs.Reading.FormOfTokens.{plain_load}
 use Rattle.lit_read.specs.Reading.Views.{token_views}
 use Rattle.lit_read.proofs.RowLemmas.{ended_view}
-use Rattle.lit_read.proofs.forms.plain_load.Goals as goal
+use Rattle.lit_read.proofs.access_forms.plain_load.Goals as goal
 
 pub returns : goal.returns
 unfolding plain_load

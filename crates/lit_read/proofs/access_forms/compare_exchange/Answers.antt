@@ -1,7 +1,7 @@
 use Rattle.lit_read.specs.Reading.FormOfTokens.{compare_exchange}
 use Rattle.lit_read.specs.Reading.Views.{token_views}
 use Rattle.lit_read.proofs.RowLemmas.{ended_view}
-use Rattle.lit_read.proofs.forms.compare_exchange.Goals as goal
+use Rattle.lit_read.proofs.access_forms.compare_exchange.Goals as goal
 
 pub returns : goal.returns
 unfolding compare_exchange
