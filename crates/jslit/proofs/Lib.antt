@@ -1,5 +1,6 @@
 pub mod Written
 pub mod SourceLines
+mod Statuses
 pub mod Registers
 pub mod EntryFacts
 pub mod Judging

@@ -1,6 +1,6 @@
 //! The program: what it prints, and its status.
 
-ghost use Rattle.std.specs.Prelude.{◌≡◌, ◌<◌, ◌^◌, ◌-◌};
+ghost use Rattle.std.specs.Prelude.{◌≡◌, ◌⊎◌, ◌<◌, ◌^◌, ◌-◌};
 ghost use Rattle.jslit.specs.Answer.{HasReported, IsRefused, IsStatus, status_of};
 ghost use Rattle.jslit.specs.Counted.{device_of, failures_of};
 ghost use Rattle.jslit.specs.Devices.{OfToldText};
@@ -35,6 +35,13 @@ pub fn program<T: Threads, R: Read, W: Write, E: Write>(
     ensures refused { result ≡ 1 → OfToldText (R.remaining (device_of input.old)) IsRefused }
     ensures memory { result ≡ 3 → output.new ≡ output.old }
     ensures input_failed { failures_of input.old < failures_of input.new → (result ≡ 4) × (output.new ≡ output.old) }
+
+    // An input or output failed, or flushing the whole report did.
+    ensures failed { result ≡ 4 →
+        (failures_of input.old < failures_of input.new)
+        ⊎ (failures_of output.old < failures_of output.new)
+        ⊎ OfToldText (R.remaining (device_of input.old)) (λ text.
+            HasReported text (W.contents (device_of output.old)) (W.contents (device_of output.new))) }
 {
     match run(rt, alloc, input, output, USUAL) {
         Ok(()) => match output.flush() {
@@ -50,6 +57,7 @@ fn say<W: Write, E: Write>(output: &mut Counted<W>, errors: &mut E, fault: RunFa
     ensures status { result ≡ status_of fault }
     ensures memory { fault ≡ RunFault.OutOfMemory → output.new ≡ output.old }
     ensures input { fault ≡ RunFault.InputFailed → output.new ≡ output.old }
+    ensures output { fault ≡ RunFault.OutputFailed → output.new ≡ output.old }
 {
     match fault {
         RunFault::Read(_) | RunFault::Unsupported | RunFault::Plan(_) => {

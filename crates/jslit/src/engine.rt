@@ -125,9 +125,9 @@ fn put<W: Write>(output: &mut Counted<W>, bytes: &[u8]) -> Result<(), RunFault>
 /// test once it is whole. Neither count of failures stands at `u64::MAX` before.
 ///
 /// Answers `RunFault::Read` with the first fault of a text that spells no test, `RunFault::Unsupported` for a test that
-/// the search does not take, and `RunFault::Plan` with the limit that a test passes. `RunFault::InputFailed` and `RunFault::OutputFailed` come where a read or a write failed, and then
-/// alone; `RunFault::OutOfMemory` where a growth was refused. Nothing is written but after `RunFault::OutputFailed`, which
-/// leaves a beginning of the report.
+/// the search does not take, and `RunFault::Plan` with the limit that a test passes. `RunFault::InputFailed` and
+/// `RunFault::OutputFailed` come where a read or a write failed, and then alone; `RunFault::OutOfMemory` where a growth
+/// was refused. Nothing is written but after `RunFault::OutputFailed`, which leaves a beginning of the report.
 pub fn run<T: Threads, R: Read, W: Write>(
     _rt: &T,
     alloc: Global,

@@ -1,0 +1,31 @@
+-- What the program's status says.
+use Rattle.std.proofs.Common.{◌≡◌, ℕ, List, Option, Some, None, refl, ◌∙◌}
+use Rattle.std.specs.Io.KnownBytes.{Appends, Keeps}
+use Rattle.jslit.specs.declared.engine.RunFault.{RunFault}
+use Rattle.jslit.specs.declared.engine.RunFault.TheVariants as faults
+use Rattle.jslit.specs.Answer.{status_of}
+
+-- no fault gives the status of a report
+pub never_zero : (fault : RunFault) → status_of fault ≡ 0 → ⊥
+never_zero (faults.Read f) is = absurd cc
+never_zero faults.Unsupported is = absurd cc
+never_zero (faults.Plan f) is = absurd cc
+never_zero faults.OutOfMemory is = absurd cc
+never_zero faults.InputFailed is = absurd cc
+never_zero faults.OutputFailed is = absurd cc
+
+-- the status 4 is that of a device that failed
+pub failed_device : (fault : RunFault) (A : Type 0) → status_of fault ≡ 4 → (fault ≡ faults.InputFailed → A) → (fault ≡ faults.OutputFailed → A) → A
+failed_device (faults.Read f) A is input output = absurd cc
+failed_device faults.Unsupported A is input output = absurd cc
+failed_device (faults.Plan f) A is input output = absurd cc
+failed_device faults.OutOfMemory A is input output = absurd cc
+failed_device faults.InputFailed A is input output = input refl
+failed_device faults.OutputFailed A is input output = output refl
+
+-- known bytes that grew and then stay have grown
+pub Appends-kept : (a b c : Option (List ℕ)) (bytes : List ℕ) → Appends a b bytes → Keeps b c → Appends a c bytes
+Appends-kept None b c bytes grew kept = tt
+Appends-kept (Some xs) None c bytes grew kept = absurd grew
+Appends-kept (Some xs) (Some ys) None bytes grew kept = absurd kept
+Appends-kept (Some xs) (Some ys) (Some zs) bytes grew kept = kept ∙ grew
