@@ -1,5 +1,6 @@
 mod branches;
 mod refusals;
+mod refused_memory;
 
 use crate::event::{Kind, Order3};
 use crate::making::plan;
@@ -131,33 +132,6 @@ check B.r0 == 4
     assert_eq!(rt; plan.total(), 390_625);
     let last = plan.sources(390_624);
     assert_eq!(rt; last.as_slice(), [4; 8].as_slice());
-    Ok(())
-}
-
-#[test]
-fn thirteen_accesses(rt: HostRuntime) -> Result<(), Fail> {
-    let text = b"test thirteen
-bytes 1
-agent A
-U8[0] = 1
-U8[0] = 2
-U8[0] = 3
-U8[0] = 4
-U8[0] = 5
-U8[0] = 6
-agent B
-U8[0] = 7
-U8[0] = 8
-U8[0] = 9
-U8[0] = 10
-U8[0] = 11
-U8[0] = 12
-r0 = U8[0]
-check B.r0 == 4
-";
-    let test = read(rt.alloc(), text)?;
-    let plan = plan(rt.alloc(), &test);
-    assert!(rt; matches!(plan, Err(PlanFault::TooManyEvents)));
     Ok(())
 }
 
