@@ -22,4 +22,6 @@ pub mod ReadLemmas
 pub mod Progress
 pub mod TestForms
 pub mod CanonicalForms
+pub mod ShownForms
+pub mod ShownConditions
 pub mod LawLemmas

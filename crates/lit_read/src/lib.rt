@@ -20,6 +20,9 @@ mod lines;
 mod litmus;
 mod marks;
 mod reading;
+mod showing;
+mod shown_conditions;
+mod shown_statements;
 mod symbols;
 mod syntax;
 mod tokens;
@@ -33,6 +36,7 @@ pub use laws::{
 pub use limits::{AGENT_LIMIT, BLOCK_LIMIT, REGISTERS, TEXT_LIMIT};
 pub use litmus::Test;
 pub use reading::read;
+pub use showing::show;
 pub use syntax::{Cond, Stmt, View};
 
 #[cfg(test)]
