@@ -104,7 +104,7 @@ module _ (name : List ℕ) (bytes : ℕ) (agents : List Agent) (agent : List ℕ
   unfolding check_step test_of
   deep e f g = rw (e, f, g) refl
 
-  fine : has_small_numbers w ≡ true → are_known all_agents w ≡ true → is_shallow w ≡ true → check_step bare w ≡ Ok (Whole (record { name = name; bytes = bytes; agents = all_agents; check = written_value all_agents w }))
+  pub fine : has_small_numbers w ≡ true → are_known all_agents w ≡ true → is_shallow w ≡ true → check_step bare w ≡ Ok (Whole (record { name = name; bytes = bytes; agents = all_agents; check = written_value all_agents w }))
   unfolding check_step test_of
   fine e f g = rw (e, f, g) refl
 

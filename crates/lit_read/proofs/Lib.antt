@@ -22,6 +22,12 @@ pub mod ReadLemmas
 pub mod Progress
 pub mod TestForms
 pub mod CanonicalForms
+pub mod CleanLines
+pub mod CanonicalLines
+pub mod CanonicalConditions
+pub mod CanonicalAsks
+pub mod CanonicalSteps
+pub mod CanonicalRun
 pub mod ShownForms
 pub mod ShownConditions
 pub mod LawLemmas

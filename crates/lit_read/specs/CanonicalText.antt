@@ -1,7 +1,7 @@
 -- The canonical text of a test, as bytes (this project's own).
 use Rattle.std.specs.Prelude.{ℕ, Bool, true, false, List, [], ◌∷◌, ◌++◌, map, codes}
 use Rattle.std.specs.Fmt.{decimal}
-use Rattle.lit_read.specs.Syntax.{Window, Uint8, Uint16, Uint32, DataView8, DataView16, DataView32, Statement, Load, Store, Exchange, CompareExchange, If, Litmus}
+use Rattle.lit_read.specs.Syntax.{Window, DataView8, DataView16, DataView32, Statement, Load, Store, Exchange, CompareExchange, If, Litmus}
 use Rattle.lit_read.specs.Lines.{ended_lines}
 use Rattle.lit_read.specs.Written.{Comparison, Operand, Compared, Negated, Grouped, Conjunction, Lone, Both, Written, Single, Either}
 use Rattle.lit_read.specs.Forms.{Form, Blank, TestLine, BytesLine, AgentLine, StatementLine, IfLine, ElseLine, EndLine, CheckLine, window_word}

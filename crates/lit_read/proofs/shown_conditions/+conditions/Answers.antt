@@ -1,7 +1,7 @@
 use Rattle.std.proofs.Common.{arith, ◌≡◌, ◌++◌, ℕ, List, string_bytes, codes, sym, ap, ◌∙◌}
 use Rattle.std.proofs.lemmas.Result.{on_ok_weaker}
 use Rattle.lit_read.specs.declared.syntax.Cond.{Cond}
-use Rattle.lit_read.specs.Syntax.{Condition, All, Any}
+use Rattle.lit_read.specs.Syntax.{Condition}
 use Rattle.lit_read.specs.Litmus.{condition_of}
 use Rattle.lit_read.specs.Canonical.{operand_of, conjunction_of, all_written, any_written}
 use Rattle.lit_read.specs.CanonicalText.{operand_text, conjunction_text, written_text}
