@@ -1,9 +1,9 @@
-//! Reads a litmus text: the test that it spells, or its first fault.
+//! Reads a litmus text: the test that it spells, or its first fault. Shows a test as its canonical text.
 //!
 //! `read` ensures that an `Ok` test is the one that the text spells, and that an `Err` is its first fault or want of
-//! memory. The definitions stand in specs/: `Lines`, `Tokens`, `Written` (conditions as they are written), `Forms`,
-//! `Structure`, `Faults`, `Spelling` and `Canonical`, and in `Syntax` what a test is. What stands in the folder `Reading` serves
-//! private contracts alone.
+//! memory; `show` that an `Ok` is the canonical text, which spells the test. The definitions stand in specs/: `Lines`,
+//! `Tokens`, `Written` (conditions as they are written), `Forms`, `Structure`, `Faults`, `Spelling`, `Canonical` and
+//! `CanonicalText`, and in `Syntax` what a test is. What stands in the folder `Reading` serves private contracts alone.
 #![tactic(auto)]
 
 mod access_forms;
