@@ -23,7 +23,8 @@ use Rattle.lit_read.specs.Reading.Built.{build, begun}
 use Rattle.lit_read.specs.Reading.State.{State, Open, Whole, Level, with_agent, is_known, is_known_mark, are_known, next_step, agent_step, test_of, check_step, IsPart, IsState}
 use Rattle.lit_read.specs.Reading.Views.{mark_view, mark_views, level_view, agents_view, Fails}
 use Rattle.lit_read.proofs.BuildLemmas.{all_joined, built}
-use Rattle.lit_read.proofs.StepLemmas.{is_litmus, filled}
+use Rattle.lit_read.proofs.PartLemmas.{is_litmus}
+use Rattle.lit_read.proofs.StepLemmas.{filled}
 
 -- ---- the levels that a vector holds
 

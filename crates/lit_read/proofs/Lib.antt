@@ -16,6 +16,7 @@ pub mod SpellLemmas
 pub mod DraftForms
 pub mod StepHolds
 pub mod StepFaults
+pub mod PartLemmas
 pub mod StepLemmas
 pub mod CheckSteps
 pub mod ReadLemmas

@@ -29,8 +29,8 @@ fn array_name(view: View) -> &'static str
     }
 }
 
-/// Writes what is read without `Atomics`.
-fn put_read(out: &mut String, view: View, index: u8) -> Result<(), AllocError>
+/// Writes a load without `Atomics`, but not its register.
+fn put_plain_load(out: &mut String, view: View, index: u8) -> Result<(), AllocError>
     ensures { OnOk result (string_bytes out.new ≡ string_bytes out.old ++ read_text (window_of view) index) }
 {
     match view {
@@ -42,7 +42,7 @@ fn put_read(out: &mut String, view: View, index: u8) -> Result<(), AllocError>
 }
 
 /// Writes a store without `Atomics`.
-fn put_written(out: &mut String, view: View, index: u8, value: u32) -> Result<(), AllocError>
+fn put_plain_store(out: &mut String, view: View, index: u8, value: u32) -> Result<(), AllocError>
     ensures { OnOk result (string_bytes out.new ≡ string_bytes out.old ++ store_text (window_of view) index value) }
 {
     match view {
@@ -53,6 +53,7 @@ fn put_written(out: &mut String, view: View, index: u8, value: u32) -> Result<()
     }
 }
 
+/// Writes `REG = ` and a load.
 fn put_load(
     out: &mut String,
     reg: u8,
@@ -66,9 +67,10 @@ fn put_load(
         return write!(out, "r{reg} = Atomics.load({}, {index})", array_name(view));
     }
     write!(out, "r{reg} = ")?;
-    put_read(out, view, index)
+    put_plain_load(out, view, index)
 }
 
+/// Writes a store.
 fn put_store(
     out: &mut String,
     view: View,
@@ -81,9 +83,10 @@ fn put_store(
     if atomic {
         return write!(out, "Atomics.store({}, {index}, {value})", array_name(view));
     }
-    put_written(out, view, index, value)
+    put_plain_store(out, view, index, value)
 }
 
+/// Writes an exchange.
 fn put_exchange(
     out: &mut String,
     reg: u8,
@@ -100,6 +103,7 @@ fn put_exchange(
     )
 }
 
+/// Writes a compareExchange.
 fn put_compare_exchange(
     out: &mut String,
     reg: u8,
