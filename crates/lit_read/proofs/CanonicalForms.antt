@@ -31,7 +31,7 @@ agents_are (a ∷ others) = (statements_forms a.body, agents_forms others, refl,
 
 -- ---- names and numbers
 
-differ : (a b : List ℕ) → a ≢ b → bytes_eq a b ≡ false
+pub differ : (a b : List ℕ) → a ≢ b → bytes_eq a b ≡ false
 differ a b ne = by (bytes_eq a b) refl
   where
     by : (x : Bool) → bytes_eq a b ≡ x → x ≡ false
@@ -93,7 +93,7 @@ module _ (t : Litmus) (is : IsLitmus t) where
     conjunctions_back (Also d (Also e es)) some on =
         ap (λ (x : Condition). Also x (conjunction_values t.agents (any_written t.agents (Also e es)))) (conjunction_back d on.0) ∙ ap (λ (x : Conditions). Also d x) (conjunctions_back (Also e es) (omega arith) on.1)
 
-  written_back : (c : Condition) → IsConditionOn t c → written_value t.agents (written_of t.agents c) ≡ c
+  pub written_back : (c : Condition) → IsConditionOn t c → written_value t.agents (written_of t.agents c) ≡ c
   written_back (Is agent reg equal value) on = compared agent reg equal value on.0
   written_back (Not c) on = ap (λ (x : Condition). Not x) (operand_back c on)
   written_back (All cs) on = all_back cs on.0 on.1

@@ -23,7 +23,8 @@ use Rattle.lit_read.specs.Reading.Built.{build, begun}
 use Rattle.lit_read.specs.Reading.State.{State, Open, Whole, Level, with_agent, is_known, is_known_mark, are_known, next_step, agent_step, test_of, check_step, IsPart, IsState}
 use Rattle.lit_read.specs.Reading.Views.{mark_view, mark_views, level_view, agents_view, Fails}
 use Rattle.lit_read.proofs.BuildLemmas.{all_joined, built}
-use Rattle.lit_read.proofs.StepLemmas.{is_litmus, filled}
+use Rattle.lit_read.proofs.PartLemmas.{is_litmus}
+use Rattle.lit_read.proofs.StepLemmas.{filled}
 
 -- ---- the levels that a vector holds
 
@@ -104,7 +105,7 @@ module _ (name : List ℕ) (bytes : ℕ) (agents : List Agent) (agent : List ℕ
   unfolding check_step test_of
   deep e f g = rw (e, f, g) refl
 
-  fine : has_small_numbers w ≡ true → are_known all_agents w ≡ true → is_shallow w ≡ true → check_step bare w ≡ Ok (Whole (record { name = name; bytes = bytes; agents = all_agents; check = written_value all_agents w }))
+  pub fine : has_small_numbers w ≡ true → are_known all_agents w ≡ true → is_shallow w ≡ true → check_step bare w ≡ Ok (Whole (record { name = name; bytes = bytes; agents = all_agents; check = written_value all_agents w }))
   unfolding check_step test_of
   fine e f g = rw (e, f, g) refl
 

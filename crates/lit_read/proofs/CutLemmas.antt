@@ -16,7 +16,7 @@ use Rattle.lit_read.proofs.TokenLemmas.{run_passes}
 
 -- ---- runs of bytes
 
-run_len : (p : ℕ → Bool) (front rest : List ℕ) → list_all p front ≡ true → begins_with p rest ≡ false → prefix_len p (front ++ rest) ≡ length front
+pub run_len : (p : ℕ → Bool) (front rest : List ℕ) → list_all p front ≡ true → begins_with p rest ≡ false → prefix_len p (front ++ rest) ≡ length front
 run_len p [] [] all stop = refl
 run_len p [] (r ∷ rs) all stop = rw stop refl
 run_len p (b ∷ bs) rest all stop = by (p b) all (run_len p bs rest)

@@ -30,19 +30,19 @@ grow g ElseLine = else_on g.0 g.1
 grow g EndLine = end_on g.0 g.1
 grow g _ = g
 
-abbrev behind : Statements → Statements → Statements
+abbrev pub behind : Statements → Statements → Statements
 behind End ss = ss
 behind (Then t ts) ss = Then t (behind ts ss)
 
-behind_end : (ss : Statements) → behind ss End ≡ ss
+pub behind_end : (ss : Statements) → behind ss End ≡ ss
 behind_end End = refl
 behind_end (Then s ss) = ap (λ (x : Statements). Then s x) (behind_end ss)
 
-behind_one : (body : Statements) (s : Statement) (ss : Statements) → behind (followed_by body s) ss ≡ behind body (Then s ss)
+pub behind_one : (body : Statements) (s : Statement) (ss : Statements) → behind (followed_by body s) ss ≡ behind body (Then s ss)
 behind_one End s ss = refl
 behind_one (Then t ts) s ss = ap (λ (x : Statements). Then t x) (behind_one ts s ss)
 
-abbrev new_level : ℕ → Bool → ℕ → Statements → Level
+abbrev pub new_level : ℕ → Bool → ℕ → Statements → Level
 new_level reg equal value before = record { reg = reg; equal = equal; value = value; before = before; then_part = None }
 
 mutual

@@ -9,4 +9,5 @@ pub mod Structure
 pub mod Faults
 pub mod Spelling
 pub mod Canonical
+pub mod CanonicalText
 pub mod Reading

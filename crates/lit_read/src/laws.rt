@@ -3,13 +3,15 @@
 ghost use Rattle.std.specs.Prelude.{◌≡◌, ◌≤◌, ◌⊎◌, ◌∷◌, ◌++◌, [], ℕ, List, length, true};
 ghost use Rattle.std.specs.List.{list_all};
 ghost use Rattle.lit_read.specs.declared.fault.ReadKind.{ReadKind};
+ghost use Rattle.lit_read.specs.declared.limits.TheConstants.{TEXT_LIMIT};
 ghost use Rattle.lit_read.specs.Syntax.{Litmus, IsLitmus};
 ghost use Rattle.lit_read.specs.Lines.{lines_of, ended_lines, is_whole_line};
 ghost use Rattle.lit_read.specs.Tokens.{Token, CutsInto};
-ghost use Rattle.lit_read.specs.Forms.{Form, HasForm};
+ghost use Rattle.lit_read.specs.Forms.{Form, HasForm, HaveForms, without_blanks};
 ghost use Rattle.lit_read.specs.Faults.{HasFault, IsFirstFault};
 ghost use Rattle.lit_read.specs.Spelling.{Spells, AreFormsOf, written_value};
 ghost use Rattle.lit_read.specs.Canonical.{canonical_forms, without_empty_elses};
+ghost use Rattle.lit_read.specs.CanonicalText.{canonical};
 
 /// A text is its lines, none of which has a byte 10, each with a byte 10 behind it. The last byte may be left out.
 pub fn lines_are_joined()
@@ -63,4 +65,16 @@ pub fn has_one_first_fault()
 /// Each text spells a test or has a first fault.
 pub fn each_text_is_told()
     ensures { (text : List ℕ) → ((t : Litmus) × Spells text t) ⊎ ((kind : ReadKind) × (line : ℕ) × IsFirstFault text kind line) }
+{}
+
+/// The lines of a test's canonical text have its canonical forms. So they have forms of that test, and of no other.
+pub fn has_canonical_text()
+    ensures lines { (t : Litmus) → IsLitmus t → HaveForms (lines_of (canonical t)) (canonical_forms t) }
+    ensures its { (t : Litmus) → IsLitmus t → (forms : List Form) × HaveForms (lines_of (canonical t)) forms × AreFormsOf (without_blanks forms) t }
+    ensures only { (t u : Litmus) (forms : List Form) → IsLitmus t → HaveForms (lines_of (canonical t)) forms → AreFormsOf (without_blanks forms) u → u ≡ t }
+{}
+
+/// The canonical text of a test spells the test, where it is no longer than a text may be.
+pub fn spells_its_test()
+    ensures { (t : Litmus) → IsLitmus t → length (canonical t) ≤ TEXT_LIMIT → Spells (canonical t) t }
 {}

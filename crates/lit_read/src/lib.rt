@@ -1,9 +1,9 @@
-//! Reads a litmus text: the test that it spells, or its first fault.
+//! Reads a litmus text: the test that it spells, or its first fault. Shows a test as its canonical text.
 //!
 //! `read` ensures that an `Ok` test is the one that the text spells, and that an `Err` is its first fault or want of
-//! memory. The definitions stand in specs/: `Lines`, `Tokens`, `Written` (conditions as they are written), `Forms`,
-//! `Structure`, `Faults`, `Spelling` and `Canonical`, and in `Syntax` what a test is. What stands in the folder `Reading` serves
-//! private contracts alone.
+//! memory; `show` that an `Ok` is the canonical text, which spells the test. The definitions stand in specs/: `Lines`,
+//! `Tokens`, `Written` (conditions as they are written), `Forms`, `Structure`, `Faults`, `Spelling`, `Canonical` and
+//! `CanonicalText`, and in `Syntax` what a test is. What stands in the folder `Reading` serves private contracts alone.
 #![tactic(auto)]
 
 mod access_forms;
@@ -20,6 +20,9 @@ mod lines;
 mod litmus;
 mod marks;
 mod reading;
+mod showing;
+mod shown_conditions;
+mod shown_statements;
 mod symbols;
 mod syntax;
 mod tokens;
@@ -28,11 +31,13 @@ pub use checking::writes;
 pub use fault::{ReadFault, ReadKind};
 pub use laws::{
     cuts_one_way, differ_by_nothing_else, each_text_is_told, forms_of_one_test,
-    has_one_first_fault, has_one_form, lines_are_joined, spells_one_test, spells_or_is_faulty,
+    has_canonical_forms, has_canonical_text, has_one_first_fault, has_one_form, lines_are_joined,
+    spells_its_test, spells_one_test, spells_or_is_faulty,
 };
 pub use limits::{AGENT_LIMIT, BLOCK_LIMIT, REGISTERS, TEXT_LIMIT};
 pub use litmus::Test;
 pub use reading::read;
+pub use showing::show;
 pub use syntax::{Cond, Stmt, View};
 
 #[cfg(test)]

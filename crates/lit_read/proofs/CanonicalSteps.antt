@@ -1,0 +1,211 @@
+-- The reader goes through the canonical forms of a test without a fault.
+use Rattle.std.proofs.Common.{◌≡◌, ◌≢◌, ℕ, suc, ◌+◌, ◌<◌, ◌≤◌, Bool, true, false, leb, ltb, eqb, ◌&&◌, List, [], ◌∷◌, ◌++◌, length, get_or, Ok, refl, ap, sym, subst, ◌∙◌, append_assoc, arith}
+use Rattle.std.specs.List.{list_any}
+use Rattle.std.specs.Str.{bytes_eq}
+use Rattle.std.proofs.lemmas.Bool.{leb-true, le-ltb, eqb-true}
+use Rattle.std.proofs.lemmas.List.{length-append, append-nil}
+use Rattle.lit_read.specs.declared.limits.TheConstants.{BLOCK_LIMIT, AGENT_LIMIT, COMPARED_LIMIT, IF_LIMIT}
+use Rattle.lit_read.specs.Syntax.{fits_window, Statement, Statements, Load, Store, Exchange, CompareExchange, If, End, Then, IsStatementIn, AreStatementsIn, statement_nesting, nesting, Condition, Agent, Litmus, IsLitmus}
+use Rattle.lit_read.specs.Written.{Written}
+use Rattle.lit_read.specs.Forms.{Form, TestLine, BytesLine, AgentLine, StatementLine, IfLine, ElseLine, EndLine, CheckLine}
+use Rattle.lit_read.specs.Faults.{has_fitting_literals, stays_in_block}
+use Rattle.lit_read.specs.Spelling.{written_value}
+use Rattle.lit_read.specs.Canonical.{statement_forms, statements_forms, else_forms, agents_forms, written_of, canonical_forms}
+use Rattle.lit_read.specs.Reading.State.{Level, State, Empty, Named, Sized, Open, Whole, followed_by, with_agent, else_level, are_known, test_step, block_step, next_step, agent_step, statement_step, if_step, else_step, end_step, check_step, step}
+use Rattle.lit_read.proofs.TestForms.{behind, behind_end, behind_one, new_level}
+use Rattle.lit_read.proofs.CanonicalForms.{differ, written_back}
+use Rattle.lit_read.proofs.CanonicalAsks.{check_small, check_known, check_shallow}
+use Rattle.lit_read.proofs.CheckSteps.{fine}
+
+-- these forms, one after the other, make this draft of that one
+abbrev pub Reaches : State → List Form → State → Type 0
+Reaches s [] t = s ≡ t
+Reaches s (f ∷ fs) t = (u : State) × (step s f ≡ Ok u) × Reaches u fs t
+
+reaches_then : (fs gs : List Form) (s u t : State) → Reaches s fs u → Reaches u gs t → Reaches s (fs ++ gs) t
+reaches_then [] gs s u t a b = subst (λ (x : State). Reaches x gs t) (sym a) b
+reaches_then (f ∷ fs) gs s u t a b = (a.0, a.1, reaches_then fs gs a.0 u t a.2 b)
+
+-- ---- accesses
+
+module _ (name : List ℕ) (bytes : ℕ) (agents : List Agent) (agent : List ℕ) where
+  abbrev at : List Level → Statements → State
+  at levels body = Open name bytes agents agent levels body
+
+  access_step : (s : Statement) (levels : List Level) (body : Statements) → has_fitting_literals s ≡ true → stays_in_block bytes s ≡ true → step (at levels body) (StatementLine s) ≡ Ok (at levels (followed_by body s))
+  unfolding step statement_step
+  access_step s levels body fits stays = rw (fits, stays) refl
+
+  both_fit : (x y : Bool) → x ≡ true → y ≡ true → (x && y) ≡ true
+  both_fit true y a b = b
+  both_fit false y a b = absurd cc
+
+  begin_if : (reg : ℕ) (equal : Bool) (value : ℕ) (levels : List Level) (body : Statements) → value ≤ COMPARED_LIMIT → length levels < IF_LIMIT → step (at levels body) (IfLine reg equal value) ≡ Ok (at (new_level reg equal value body ∷ levels) End)
+  unfolding step if_step
+  begin_if reg equal value levels body small room =
+      let fits : ltb COMPARED_LIMIT value ≡ false = le-ltb _ _ small in
+      rw (fits, no_more (leb IF_LIMIT (length levels)) refl) refl
+    where
+      no_more : (b : Bool) → leb IF_LIMIT (length levels) ≡ b → b ≡ false
+      no_more true e = let le : IF_LIMIT ≤ length levels = leb-true _ _ e in absurd (omega arith)
+      no_more false e = refl
+
+  begin_else : (reg : ℕ) (equal : Bool) (value : ℕ) (before body : Statements) (levels : List Level) → step (at (new_level reg equal value before ∷ levels) body) ElseLine ≡ Ok (at (else_level (new_level reg equal value before) body ∷ levels) End)
+  unfolding step else_step
+  begin_else reg equal value before body levels = refl
+
+  end_then : (reg : ℕ) (equal : Bool) (value : ℕ) (before body : Statements) (levels : List Level) → step (at (new_level reg equal value before ∷ levels) body) EndLine ≡ Ok (at levels (followed_by before (If reg equal value body End)))
+  unfolding step end_step
+  end_then reg equal value before body levels = refl
+
+  end_else : (reg : ℕ) (equal : Bool) (value : ℕ) (before part body : Statements) (levels : List Level) → step (at (else_level (new_level reg equal value before) part ∷ levels) body) EndLine ≡ Ok (at levels (followed_by before (If reg equal value part body)))
+  unfolding step end_step
+  end_else reg equal value before part body levels = refl
+
+  -- ---- statements
+
+  mutual
+    statement_reached : (s : Statement) (levels : List Level) (body : Statements) → IsStatementIn bytes s → statement_nesting s + length levels ≤ IF_LIMIT → Reaches (at levels body) (statement_forms s) (at levels (followed_by body s))
+    statement_reached (Load r w i a) levels body is deep = (at levels (followed_by body (Load r w i a)), access_step (Load r w i a) levels body refl is.1, refl)
+    statement_reached (Store w i v a) levels body is deep = (at levels (followed_by body (Store w i v a)), access_step (Store w i v a) levels body is.1 is.0, refl)
+    statement_reached (Exchange r w i v) levels body is deep = (at levels (followed_by body (Exchange r w i v)), access_step (Exchange r w i v) levels body is.2 is.1, refl)
+    statement_reached (CompareExchange r w i e v) levels body is deep =
+        (at levels (followed_by body (CompareExchange r w i e v)), access_step (CompareExchange r w i e v) levels body (both_fit (fits_window w e) (fits_window w v) is.2 is.3) is.1, refl)
+    statement_reached (If r e v part other) levels body is deep =
+        let inside = new_level r e v body ∷ levels in (
+          at inside End,
+          begin_if r e v levels body is.1 (omega arith),
+          reaches_then (statements_forms part) (else_forms other ++ EndLine ∷ []) (at inside End) (at inside part) (at levels (followed_by body (If r e v part other)))
+              (statements_reached part inside End is.2 (omega arith)) (else_reached r e v body part other levels is.3 (omega arith)),
+        )
+
+    pub statements_reached : (ss : Statements) (levels : List Level) (body : Statements) → AreStatementsIn bytes ss → nesting ss + length levels ≤ IF_LIMIT → Reaches (at levels body) (statements_forms ss) (at levels (behind body ss))
+    statements_reached End levels body are deep = ap (at levels) (sym (behind_end body))
+    statements_reached (Then s ss) levels body are deep =
+        reaches_then (statement_forms s) (statements_forms ss) (at levels body) (at levels (followed_by body s)) (at levels (behind body (Then s ss))) (statement_reached s levels body are.0 (omega arith))
+        (subst (λ (x : Statements). Reaches (at levels (followed_by body s)) (statements_forms ss) (at levels x)) (behind_one body s ss) (statements_reached ss levels (followed_by body s) are.1 (omega arith)))
+
+    else_reached : (r : ℕ) (e : Bool) (v : ℕ) (body part other : Statements) (levels : List Level) → AreStatementsIn bytes other → nesting other + (length levels + 1) ≤ IF_LIMIT
+        → Reaches (at (new_level r e v body ∷ levels) part) (else_forms other ++ EndLine ∷ []) (at levels (followed_by body (If r e v part other)))
+    else_reached r e v body part End levels are deep = (at levels (followed_by body (If r e v part End)), end_then r e v body part levels, refl)
+    else_reached r e v body part (Then s ss) levels are deep =
+        let inside = else_level (new_level r e v body) part ∷ levels in
+        let end : Reaches (at inside (Then s ss)) (EndLine ∷ []) (at levels (followed_by body (If r e v part (Then s ss)))) = (at levels (followed_by body (If r e v part (Then s ss))), end_else r e v body part (Then s ss) levels, refl) in
+        let both : Reaches (at inside End) (statement_forms s ++ statements_forms ss) (at inside (Then s ss)) =
+        reaches_then (statement_forms s) (statements_forms ss) (at inside End) (at inside (Then s End)) (at inside (Then s ss)) (statement_reached s inside End are.0 (omega arith)) (statements_reached ss inside (Then s End) are.1 (omega arith)) in (
+          at inside End,
+          begin_else r e v body part levels,
+          reaches_then (statement_forms s ++ statements_forms ss) (EndLine ∷ []) (at inside End) (at inside (Then s ss)) (at levels (followed_by body (If r e v part (Then s ss)))) both end,
+        )
+
+-- ---- agents
+
+abbrev IsApart : List Agent → Type 0
+IsApart agents = (j k : ℕ) → j < k → k < length agents → (get_or agents j (record { name = []; body = End })).name ≢ (get_or agents k (record { name = []; body = End })).name
+
+-- what each agent says can stand in a test
+abbrev AreBodies : ℕ → List Agent → Type 0
+AreBodies bytes [] = Unit {0}
+AreBodies bytes (a ∷ others) = AreStatementsIn bytes a.body × (nesting a.body ≤ IF_LIMIT) × AreBodies bytes others
+
+behind_first : (earlier : List Agent) (a : Agent) (rest : List Agent) → get_or (earlier ++ a ∷ rest) (length earlier) (record { name = []; body = End }) ≡ a
+behind_first [] a rest = refl
+behind_first (e ∷ es) a rest = behind_first es a rest
+
+name_new : (earlier : List Agent) (a : Agent) (rest : List Agent) → IsApart (earlier ++ a ∷ rest) → list_any (λ b. bytes_eq a.name b.name) earlier ≡ false
+name_new [] a rest apart = refl
+name_new (e ∷ es) a rest apart =
+    let far : length es < length (es ++ a ∷ rest) = omega (arith, length-append es (a ∷ rest)) in
+    let here : bytes_eq a.name e.name ≡ false = differ _ _ (λ same. apart 0 (suc (length es)) (omega arith) (omega arith) (sym same ∙ ap (λ (b : Agent). b.name) (sym (behind_first es a rest)))) in
+    rw here (name_new es a rest (λ j k jk within. apart (suc j) (suc k) (omega arith) (omega arith)))
+
+module _ (name : List ℕ) (bytes : ℕ) where
+  abbrev bare : List Agent → List ℕ → Statements → State
+  bare agents agent body = Open name bytes agents agent [] body
+
+  next_agent : (agents : List Agent) (agent : List ℕ) (body : Statements) (next : List ℕ) → length agents + 1 < AGENT_LIMIT → list_any (λ a. bytes_eq next a.name) (with_agent agents agent body) ≡ false
+      → step (bare agents agent body) (AgentLine next) ≡ Ok (bare (with_agent agents agent body) next End)
+  unfolding step agent_step next_step
+  next_agent agents agent body next room new = rw (no_more (leb AGENT_LIMIT (length agents + 1)) refl, new) refl
+    where
+      no_more : (b : Bool) → leb AGENT_LIMIT (length agents + 1) ≡ b → b ≡ false
+      no_more true e = let le : AGENT_LIMIT ≤ length agents + 1 = leb-true _ _ e in absurd (omega arith)
+      no_more false e = refl
+
+  -- the draft in which the last of these agents is open
+  record Reached (s : State) (forms : List Form) (agents : List Agent) : Type 0 where
+    earlier : List Agent
+    agent : List ℕ
+    body : Statements
+    together : with_agent earlier agent body ≡ agents
+    reached : Reaches s forms (bare earlier agent body)
+
+  agents_reached : (others agents : List Agent) (agent : List ℕ) (body : Statements) → AreBodies bytes others → length agents + length others < AGENT_LIMIT → IsApart (with_agent agents agent body ++ others)
+      → Reached (bare agents agent body) (agents_forms others) (with_agent agents agent body ++ others)
+  agents_reached [] agents agent body are few apart = record { earlier = agents; agent = agent; body = body; together = sym (append-nil (with_agent agents agent body)); reached = refl }
+  agents_reached (a ∷ others) agents agent body are few apart =
+      let all = with_agent agents agent body in
+      let same : all ++ a ∷ others ≡ with_agent all a.name a.body ++ others = sym (append_assoc all (a ∷ []) others) in
+      let rest = agents_reached others all a.name a.body are.2 (omega (arith, length-append agents (record { name = agent; body = body } ∷ []))) (subst IsApart same apart) in
+      subst (Reached (bare agents agent body) (agents_forms (a ∷ others))) (sym same)
+      (record {
+        earlier = rest.earlier;
+        agent = rest.agent;
+        body = rest.body;
+        together = rest.together;
+        reached = (
+          bare all a.name End,
+          next_agent agents agent body a.name (omega arith) (name_new all a others apart),
+          reaches_then (statements_forms a.body) (agents_forms others) (bare all a.name End) (bare all a.name a.body) (bare rest.earlier rest.agent rest.body) (statements_reached name bytes all a.name a.body [] End are.0 (omega (arith, are.1))) rest.reached,
+        );
+      })
+
+-- ---- a whole test
+
+begins : (name : List ℕ) (bytes : ℕ) (first : List ℕ) → 1 ≤ bytes → bytes ≤ BLOCK_LIMIT → (step Empty (TestLine name) ≡ Ok (Named name)) × (step (Named name) (BytesLine bytes) ≡ Ok (Sized name bytes)) × (step (Sized name bytes) (AgentLine first) ≡ Ok (Open name bytes [] first [] End))
+unfolding step test_step block_step agent_step
+begins name bytes first some few = (refl, rw (not_zero (eqb bytes 0) refl, le-ltb BLOCK_LIMIT bytes few) refl, refl)
+  where
+    not_zero : (b : Bool) → eqb bytes 0 ≡ b → b ≡ false
+    not_zero true e = absurd (omega (arith, eqb-true bytes 0 e))
+    not_zero false e = refl
+
+checked : (s : State) (w : Written) → step s (CheckLine w) ≡ check_step s w
+unfolding step
+checked s w = refl
+
+bodies_are : (bytes : ℕ) (agents : List Agent) → ((i : ℕ) → i < length agents → AreStatementsIn bytes (get_or agents i (record { name = []; body = End })).body)
+    → ((i : ℕ) → i < length agents → nesting (get_or agents i (record { name = []; body = End })).body ≤ IF_LIMIT) → AreBodies bytes agents
+bodies_are bytes [] h k = tt
+bodies_are bytes (a ∷ others) h k = (h 0 (omega arith), k 0 (omega arith), bodies_are bytes others (λ i lt. h (suc i) (omega arith)) (λ i lt. k (suc i) (omega arith)))
+
+module _ (t : Litmus) (is : IsLitmus t) where
+  abbrev asked : Written
+  asked = written_of t.agents t.check
+
+  abbrev with_check : List Agent → Condition → State
+  with_check agents check = Whole (record { name = t.name; bytes = t.bytes; agents = agents; check = check })
+
+  check_reached : (earlier : List Agent) (agent : List ℕ) (body : Statements) → with_agent earlier agent body ≡ t.agents → step (Open t.name t.bytes earlier agent [] body) (CheckLine asked) ≡ Ok (Whole t)
+  check_reached earlier agent body all =
+      checked (Open t.name t.bytes earlier agent [] body) asked
+      ∙ fine t.name t.bytes earlier agent body asked (check_small t is) (subst (λ (agents : List Agent). are_known agents asked ≡ true) (sym all) (check_known t is)) (check_shallow t is)
+      ∙ ap (λ (agents : List Agent). Ok (with_check agents (written_value agents asked))) all ∙ ap (λ (check : Condition). Ok (with_check t.agents check)) (written_back t is t.check is.check)
+
+  agents_whole : (a : Agent) (others : List Agent) → t.agents ≡ a ∷ others → Reaches (Sized t.name t.bytes) (agents_forms (a ∷ others) ++ CheckLine asked ∷ []) (Whole t)
+  agents_whole a others e =
+      let are = subst (AreBodies t.bytes) e (bodies_are t.bytes t.agents is.bodies is.few_ifs) in
+      let open_first = Open t.name t.bytes [] a.name [] in
+      let rest = agents_reached t.name t.bytes others [] a.name a.body are.2 (omega (arith, is.few_agents, ap length e)) (subst IsApart e is.distinct) in
+      let last = Open t.name t.bytes rest.earlier rest.agent [] rest.body in
+      let first = statements_reached t.name t.bytes [] a.name a.body [] End are.0 (omega (arith, are.1)) in
+      let both : Reaches (open_first End) (statements_forms a.body ++ agents_forms others) last = reaches_then (statements_forms a.body) (agents_forms others) (open_first End) (open_first a.body) last first rest.reached in
+      let check : Reaches last (CheckLine asked ∷ []) (Whole t) = (Whole t, check_reached rest.earlier rest.agent rest.body (subst (λ (agents : List Agent). with_agent rest.earlier rest.agent rest.body ≡ agents) (sym e) rest.together), refl) in
+      (open_first End, (begins t.name t.bytes a.name is.some_byte is.block).2, reaches_then (statements_forms a.body ++ agents_forms others) (CheckLine asked ∷ []) (open_first End) last (Whole t) both check)
+
+  all_agents : (agents : List Agent) → t.agents ≡ agents → Reaches (Sized t.name t.bytes) (agents_forms agents ++ CheckLine asked ∷ []) (Whole t)
+  all_agents [] e = absurd (omega (arith, is.some_agent, ap length e))
+  all_agents (a ∷ others) e = agents_whole a others e
+
+  pub test_reached : Reaches Empty (canonical_forms t) (Whole t)
+  test_reached = let first = begins t.name t.bytes [] is.some_byte is.block in (Named t.name, first.0, (Sized t.name t.bytes, first.1, all_agents t.agents refl))
