@@ -1,0 +1,4 @@
+pub mod SetLemmas
+pub mod EachLemmas
+pub mod PlaceLemmas
+pub mod TripleLemmas

@@ -1,0 +1,3 @@
+pub mod EventSet
+pub mod Rows
+pub mod Between
