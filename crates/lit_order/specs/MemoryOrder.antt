@@ -1,8 +1,11 @@
 -- memory-order (ECMA-262, 2024, 29.7.4), as a list of all events, and the least of several (this project's own).
-use Rattle.std.specs.Prelude.{◌≡◌, ◌≢◌, ℕ, ◌<◌, List, Some, slice_get}
+use Rattle.std.specs.Prelude.{◌≡◌, ◌≢◌, ℕ, ◌<◌, List, length, Some, slice_get}
 use Rattle.std.specs.Cmp.Lexicographic.{slice_cmp}
 use Rattle.std.specs.Ordering.{nat_cmp}
 use Rattle.std.specs.declared.cmp.Ordering.TheVariants.{Less}
+use Rattle.lit_paths.specs.declared.event.Event.{Event}
+use Rattle.lit_rel.specs.HappensBefore.{HappensBefore}
+use Rattle.lit_rel.specs.Forbidden.{IsForbidden}
 
 -- a stands at an earlier place than d
 pub record StandsBefore (order : List ℕ) (a d : ℕ) : Type 0 where
@@ -28,3 +31,10 @@ pub record IsOrderOf (n : ℕ) (before : ℕ → ℕ → Type 0) (forbidden : �
 pub record IsLeastOrderOf (n : ℕ) (before : ℕ → ℕ → Type 0) (forbidden : ℕ → ℕ → ℕ → Type 0) (order : List ℕ) : Type 0 where
   pub is_order : IsOrderOf n before forbidden order
   pub least : (other : List ℕ) → IsOrderOf n before forbidden other → slice_cmp nat_cmp other order ≢ Less
+
+-- a memory-order of the candidate execution with these events and sources
+abbrev pub IsMemoryOrder : List Event → List ℕ → List ℕ → Type 0
+IsMemoryOrder events sources order = IsOrderOf (length events) (HappensBefore events sources) (IsForbidden events sources) order
+
+abbrev pub IsLeastMemoryOrder : List Event → List ℕ → List ℕ → Type 0
+IsLeastMemoryOrder events sources order = IsLeastOrderOf (length events) (HappensBefore events sources) (IsForbidden events sources) order
