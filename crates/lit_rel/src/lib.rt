@@ -15,6 +15,8 @@ mod part;
 mod ranges;
 mod reading_checks;
 mod relating;
+#[cfg(test)]
+mod tests;
 mod triples;
 mod values;
 mod wide_events;
