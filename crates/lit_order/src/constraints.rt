@@ -67,9 +67,7 @@ impl<'a> Constraints<'a> {
         ensures { IsTrue result
             ↔ CanStandNext (ComesBefore self.now) (MayNotStand self.now) (HasEvent placed) event }
     {
-        !placed.contains(event)
-            && self.follows(event, placed)
-            && self.between.allows(event, placed)
+        !placed.contains(event) && self.follows(event, placed) && self.between.allows(event, placed)
     }
 
     /// Whether all that come before an event, below `len()`, are placed.

@@ -8,6 +8,8 @@
 mod constraints;
 mod finding;
 mod plain;
+#[cfg(test)]
+mod tests;
 
 pub use finding::{Order, OrderFinder};
 pub use plain::PlainFinder;

@@ -47,9 +47,10 @@ impl Triple<'_> {
     fn is_between_synchronized(&self) -> bool
         ensures { IsTrue result ↔ IsBetweenSynchronized self.now.events.now self.now.source self.now.read self.now.other }
     {
+        let source = event_at(self.events, self.source);
         let read = event_at(self.events, self.read);
-        can_synchronize(event_at(self.events, self.source), read)
-            && has_same_range(event_at(self.events, self.other), read)
+        let other = event_at(self.events, self.other);
+        can_synchronize(source, read) && has_same_range(other, read)
     }
 
     /// Whether a sequentially consistent source and an event with its range happen before the read.
@@ -58,10 +59,11 @@ impl Triple<'_> {
             ↔ IsAfterSource self.now.events.now (Holds self.now.before.now) self.now.source self.now.read self.now.other }
     {
         let source = event_at(self.events, self.source);
+        let other = event_at(self.events, self.other);
         self.before.has_pair(self.source, self.read)
             && self.before.has_pair(self.other, self.read)
             && is_seq_cst(source)
-            && has_same_range(source, event_at(self.events, self.other))
+            && has_same_range(source, other)
     }
 
     /// Whether the source happens before a sequentially consistent read and an event with the read's range.
@@ -70,10 +72,11 @@ impl Triple<'_> {
             ↔ IsBeforeRead self.now.events.now (Holds self.now.before.now) self.now.source self.now.read self.now.other }
     {
         let read = event_at(self.events, self.read);
+        let other = event_at(self.events, self.other);
         self.before.has_pair(self.source, self.read)
             && self.before.has_pair(self.source, self.other)
             && is_seq_cst(read)
-            && has_same_range(event_at(self.events, self.other), read)
+            && has_same_range(other, read)
     }
 }
 

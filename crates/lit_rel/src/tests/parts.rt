@@ -72,6 +72,7 @@ check A.r0 == 1
 fn store_buffering_forbids_these_triples(rt: HostRuntime) -> Result<(), Fail> {
     let test = read(rt.alloc(), STORE_BUFFERING)?;
     let plan = plan(rt.alloc(), &test)?;
+    assert_eq!(rt; plan.total(), 4);
     let combination = plan.combination(0);
     let between = part_of(&plan, combination, 0).between();
     assert_eq!(rt; between.len(), 6);
@@ -205,6 +206,7 @@ fn own_store_hides_init(rt: HostRuntime) -> Result<(), Fail> {
 fn sources_are_taken_back(rt: HostRuntime) -> Result<(), Fail> {
     let test = read(rt.alloc(), TYPED)?;
     let plan = plan(rt.alloc(), &test)?;
+    assert_eq!(rt; plan.total(), 9);
     let combination = plan.combination(0);
     let mut part = part_of(&plan, combination, 0);
     assert_eq!(rt; part.reads(), 2);
