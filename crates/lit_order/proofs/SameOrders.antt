@@ -1,8 +1,5 @@
 -- Orders of relations and triples that hold of the same events.
-use Rattle.std.proofs.Common.{◌≡◌, ◌≢◌, ◌↔◌, ℕ, List, sym, subst}
-use Rattle.std.specs.Cmp.Lexicographic.{slice_cmp}
-use Rattle.std.specs.Ordering.{nat_cmp}
-use Rattle.std.specs.declared.cmp.Ordering.TheVariants.{Less}
+use Rattle.std.proofs.Common.{◌≡◌, ◌↔◌, ℕ, List, sym, subst}
 use Rattle.lit_order.specs.MemoryOrder.{IsListOfAll, IsOrderOf, IsLeastOrderOf}
 
 pub IsOrderOf-same : (n m : ℕ) (before other : ℕ → ℕ → Type 0) (forbidden refused : ℕ → ℕ → ℕ → Type 0) → n ≡ m → ((a d : ℕ) → other a d → before a d) → ((w r v : ℕ) → refused w r v → forbidden w r v) → (order : List ℕ) → IsOrderOf n before forbidden order → IsOrderOf m other refused order

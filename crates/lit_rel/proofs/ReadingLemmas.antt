@@ -1,5 +1,5 @@
 -- Coherent and tear free reads, byte by byte.
-use Rattle.std.proofs.Common.{◌≡◌, ◌↔◌, ℕ, ◌<◌, ◌≤◌, Some, List, length, sym, ap, ◌∙◌, subst, inl, inr, arith}
+use Rattle.std.proofs.Common.{◌≡◌, ℕ, ◌<◌, Some, List, length, sym, ap, ◌∙◌, subst, inl, inr}
 use Rattle.std.proofs.lemmas.Bool.{cases_eq, cases_lt, false≢true}
 use Rattle.std.proofs.lemmas.List.{get_or_past}
 use Rattle.std.specs.Bool.{IsTrue}
@@ -7,7 +7,7 @@ use Rattle.std.specs.List.{slice_get}
 use Rattle.lit_paths.specs.declared.event.Event.{Event}
 use Rattle.lit_paths.specs.Event.{does_write, event_at, no_event}
 use Rattle.lit_rel.specs.declared.given.SourcedByte.{SourcedByte}
-use Rattle.lit_rel.specs.Coherent.{AreCoherentReads, Hides, IsCoherentRead}
+use Rattle.lit_rel.specs.Coherent.{AreCoherentReads, IsCoherentRead}
 use Rattle.lit_rel.specs.Parts.Given.{AreFirstReads, Tears, sources_of}
 use Rattle.lit_rel.specs.TearFree.{CanReadWhole, HasTearFreeReads, ReadsWhole}
 use Rattle.lit_rel.proofs.SourceLemmas.{IsByte, read_at, byte_at}
@@ -21,10 +21,6 @@ write_known events v writes =
           let none : event_at events v ≡ no_event = get_or_past events v no_event past in
           absurd (false≢true (sym (ap (λ (e : Event). does_write e.kind) none) ∙ writes))
     ]
-
-pub IsCoherentRead-below : (events : List Event) (before : ℕ → ℕ → Type 0) (r b w n : ℕ) → length events ≤ n → (before r w → ⊥) → ((v : ℕ) → v < n → Hides events before r b w v → ⊥) → IsCoherentRead events before r b w
-IsCoherentRead-below events before r b w n all not_later each =
-    record { not_later = not_later; not_hidden = λ v h. let known : v < length events = write_known events v h.writes in each v (omega arith) h }
 
 module _ (events : List Event) (bytes : List SourcedByte) (first : AreFirstReads events bytes) where
   module _ (before : ℕ → ℕ → Type 0) where

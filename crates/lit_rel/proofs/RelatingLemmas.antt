@@ -1,5 +1,5 @@
 -- Relations of events by the byte reads that have a source.
-use Rattle.std.proofs.Common.{◌≡◌, ◌↔◌, ◌⊎◌, ℕ, ◌<◌, ◌≤◌, inl, inr, List, length, sym, subst}
+use Rattle.std.proofs.Common.{◌≡◌, ◌↔◌, ◌⊎◌, ℕ, ◌≤◌, inl, inr, List, length, sym, subst}
 use Rattle.lit_paths.specs.declared.event.Event.{Event}
 use Rattle.lit_paths.specs.Event.{event_at}
 use Rattle.lit_rel.specs.declared.given.SourcedByte.{SourcedByte}

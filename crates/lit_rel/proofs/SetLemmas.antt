@@ -1,5 +1,5 @@
 -- Sets of events as words: after an event is put in, of two sets together, sets of no event, and sets within another.
-use Rattle.std.proofs.Common.{◌≡◌, ◌⊎◌, ◌↔◌, ℕ, ◌*◌, ◌^◌, ◌%◌, ◌<◌, max, List, [], ◌∷◌, get_or, bit_or, inl, inr, arith, refl, subst, sym, ◌∙◌, ap, w64, suc, zero}
+use Rattle.std.proofs.Common.{◌≡◌, ◌⊎◌, ◌↔◌, ℕ, ◌*◌, ◌^◌, ◌%◌, ◌<◌, max, List, [], ◌∷◌, get_or, bit_or, inl, inr, arith, refl, subst, sym, ◌∙◌, w64, suc, zero}
 use Rattle.std.proofs.lemmas.Nat.Bits.{bit_at_or, bit_at-lt, bit_at-zero, bit_at_set_same, bit_at_set_other, same_from_bits}
 use Rattle.std.proofs.lemmas.Bool.{cases_eq}
 use Rattle.std.specs.Int.{bit_at}

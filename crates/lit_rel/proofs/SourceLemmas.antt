@@ -1,6 +1,6 @@
 -- The byte reads that have a source, each against reads-bytes-from, and one more or one less of them.
-use Rattle.std.proofs.Common.{◌≡◌, ℕ, ◌+◌, ◌-◌, ◌<◌, ◌≤◌, suc, zero, Some, List, [], ◌∷◌, ◌++◌, length, map, take, get_or, refl, sym, ap, ◌∙◌, subst, arith, true, false, cond, All}
-use Rattle.std.proofs.lemmas.List.{length_push, map_push, length-map, length-take, length-take-le, take-take}
+use Rattle.std.proofs.Common.{◌≡◌, ℕ, ◌+◌, ◌<◌, ◌≤◌, suc, zero, Some, List, [], ◌∷◌, ◌++◌, length, map, take, get_or, refl, sym, ap, ◌∙◌, subst, arith, true, false, cond, All}
+use Rattle.std.proofs.lemmas.List.{length_push, map_push, length-map, length-take-le, take-take}
 use Rattle.std.proofs.lemmas.List.Elements.{All-append, All-map, All-nil}
 use Rattle.std.proofs.lemmas.Option.{none-some, same_Some, slice_get_within, get_or_from_slice_get, slice_get-get_or}
 use Rattle.std.specs.List.{range_with_len, slice_get, take-map}
@@ -100,11 +100,6 @@ module _ (events : List Event) (bytes : List SourcedByte) (first : AreFirstReads
   AreFirstReads-take n few =
       sym (take-map read_of n bytes) ∙ ap (take n) first ∙ take-take n (length bytes) (byte_reads events) few
       ∙ ap (λ (m : ℕ). take m (byte_reads events)) (sym (length-take-le n bytes few))
-
-  pub length-first_reads : length bytes ≤ length (byte_reads events)
-  length-first_reads =
-      let count : length bytes ≡ length (take (length bytes) (byte_reads events)) = sym (length-map bytes read_of) ∙ ap length first in
-      omega (arith, length-take (length bytes) (byte_reads events))
 
 -- the next byte read, as the code has it
 pub next_read : (all : List (ℕ × ℕ)) (reads : List ByteRead) → map pair_of reads ≡ all → (n : ℕ) (q : ℕ × ℕ) (d : ByteRead) → slice_get all n ≡ Some q → (n < length reads) × (slice_get all n ≡ Some (pair_of (get_or reads n d)))

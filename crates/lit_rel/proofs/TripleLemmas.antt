@@ -1,5 +1,5 @@
 -- Triples of events: the pairs that stand, and one pair more.
-use Rattle.std.proofs.Common.{◌≡◌, ◌⊎◌, ◌↔◌, ℕ, ◌<◌, Some, List, [], ◌∷◌, ◌++◌, length, get_or, subst, sym, ap, ◌∙◌, refl, inl, inr}
+use Rattle.std.proofs.Common.{◌≡◌, ◌⊎◌, ◌↔◌, ℕ, ◌<◌, Some, List, [], ◌∷◌, ◌++◌, length, subst, sym, ap, ◌∙◌, inl, inr}
 use Rattle.std.proofs.lemmas.Option.{slice_get_within, get_or_from_slice_get}
 use Rattle.std.specs.Prelude.{All}
 use Rattle.std.specs.List.{slice_get}

@@ -1,4 +1,4 @@
-use Rattle.std.proofs.Common.{rules, arith, below_more, refl, sym, ap, ◌∙◌, subst, ◌≡◌, ℕ, ◌<◌, ◌-◌, List, [], ◌∷◌, ◌++◌, length}
+use Rattle.std.proofs.Common.{rules, arith, below_more, refl, ap, ◌∙◌, subst, ◌≡◌, ℕ, ◌<◌, ◌-◌, List, [], ◌∷◌, ◌++◌, length}
 use Rattle.std.proofs.lemmas.Bool.{false≢true}
 use Rattle.lit_rel.specs.EventSet.{HasEvent}
 use Rattle.lit_order.specs.Finding.Beginning.{HasNoOrder, IsLeastFrom}

@@ -6,7 +6,7 @@ use Rattle.lit_read.specs.Syntax.{Litmus}
 use Rattle.lit_paths.specs.ByteReads.{byte_reads}
 use Rattle.lit_paths.specs.Choice.{AreSources}
 use Rattle.lit_paths.specs.Plan.{events_in}
-use Rattle.lit_rel.specs.Part.{IsComplete, IsNextSource, PartModel, part_events}
+use Rattle.lit_rel.specs.Part.{IsNextSource, PartModel, part_events}
 use Rattle.lit_rel.proofs.tests.part_of.Goals as goal
 
 next_source : (part : PartModel) (sources : List ℕ) → AreSources (part_events part) sources → (i d : ℕ) → part.sources ≡ take i sources → i < length sources → IsNextSource part (get_or sources i d)

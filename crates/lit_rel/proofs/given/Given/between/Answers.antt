@@ -1,10 +1,9 @@
-use Rattle.std.proofs.Common.{◌≡◌, ◌↔◌, ◌≤◌, ◌<◌, ◌+◌, ℕ, length, get_or, refl, sym, subst, ◌∙◌, inl, inr, arith}
-use Rattle.std.proofs.lemmas.Bool.{false≢true}
+use Rattle.std.proofs.Common.{◌≡◌, ◌↔◌, ◌≤◌, ◌<◌, ◌+◌, ℕ, length, refl, sym, subst, ◌∙◌, arith}
 use Rattle.lit_rel.specs.declared.given.SourcedByte.{SourcedByte}
 use Rattle.lit_rel.specs.declared.triples.Between.{Between}
 use Rattle.lit_rel.specs.Between.{between_len, pair_count, Forbids}
 use Rattle.lit_rel.specs.Rows.{Holds}
-use Rattle.lit_rel.proofs.EachLemmas.{SomeBelow, SomeBelow-none, SomeBelow-put, SomeBelow-skip}
+use Rattle.lit_rel.proofs.EachLemmas.{SomeBelow, SomeBelow-put, SomeBelow-skip}
 use Rattle.lit_rel.proofs.ForbiddenLemmas.{IsForbidding, IsForbiddenBy-iff}
 use Rattle.lit_rel.proofs.SourceLemmas.{no_byte}
 use Rattle.lit_rel.proofs.given.Given.between.Goals as goal
