@@ -1,0 +1,22 @@
+-- Orders of relations and triples that hold of the same events.
+use Rattle.std.proofs.Common.{◌≡◌, ◌↔◌, ℕ, List, sym, subst}
+use Rattle.lit_order.specs.MemoryOrder.{IsListOfAll, IsOrderOf, IsLeastOrderOf}
+
+pub IsOrderOf-same : (n m : ℕ) (before other : ℕ → ℕ → Type 0) (forbidden refused : ℕ → ℕ → ℕ → Type 0) → n ≡ m → ((a d : ℕ) → other a d → before a d) → ((w r v : ℕ) → refused w r v → forbidden w r v) → (order : List ℕ) → IsOrderOf n before forbidden order → IsOrderOf m other refused order
+IsOrderOf-same n m before other forbidden refused len pairs triples order o =
+    record {
+      complete = subst (λ (x : ℕ). IsListOfAll x order) len o.complete;
+      keeps = λ a d h. o.keeps a d (pairs a d h);
+      avoids = λ w r v h. o.avoids w r v (triples w r v h);
+    }
+
+module _ (n m : ℕ) (before other : ℕ → ℕ → Type 0) (forbidden refused : ℕ → ℕ → ℕ → Type 0) (len : n ≡ m) (pairs : (a d : ℕ) → before a d ↔ other a d) (triples : (w r v : ℕ) → forbidden w r v ↔ refused w r v) where
+  pub order_back : (order : List ℕ) → IsOrderOf m other refused order → IsOrderOf n before forbidden order
+  order_back order o = IsOrderOf-same m n other before refused forbidden (sym len) (λ a d. (pairs a d).0) (λ w r v. (triples w r v).0) order o
+
+  pub IsLeastOrderOf-same : (order : List ℕ) → IsLeastOrderOf n before forbidden order → IsLeastOrderOf m other refused order
+  IsLeastOrderOf-same order l =
+      record {
+        is_order = IsOrderOf-same n m before other forbidden refused len (λ a d. (pairs a d).1) (λ w r v. (triples w r v).1) order l.is_order;
+        least = λ list o. l.least list (order_back list o);
+      }

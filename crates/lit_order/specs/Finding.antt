@@ -1,0 +1,4 @@
+-- Notions of the contracts inside this crate: beginnings of orders, and what each event may follow.
+pub mod Beginning
+pub mod Precedence
+pub mod Constrained

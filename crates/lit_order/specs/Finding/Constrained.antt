@@ -1,0 +1,17 @@
+-- What constraints ask of orders.
+use Rattle.std.specs.Prelude.{ℕ}
+use Rattle.lit_rel.specs.Between.{between_len, Forbids}
+use Rattle.lit_order.specs.declared.constraints.Constraints.{Constraints}
+use Rattle.lit_order.specs.Finding.Precedence.{Precedes}
+
+-- of how many events
+abbrev pub constrained_len : Constraints → ℕ
+constrained_len constraints = between_len constraints.between.now
+
+-- a comes before e
+abbrev pub ComesBefore : Constraints → ℕ → ℕ → Type 0
+ComesBefore constraints = Precedes constraints.predecessors.items
+
+-- v may not stand after w and before r
+abbrev pub MayNotStand : Constraints → ℕ → ℕ → ℕ → Type 0
+MayNotStand constraints = Forbids constraints.between.now

@@ -1,0 +1,2 @@
+pub mod MemoryOrder
+pub mod Finding

@@ -1,0 +1,15 @@
+//! Memory-orders of a candidate execution: the least list of its events that keeps a relation and that no forbidden
+//! triple refuses.
+//!
+//! `OrderFinder` is the law: `least_order` gives the least such list, and `None` exactly where there is none.
+//! `PlainFinder` keeps it. The definitions stand in `specs/MemoryOrder`.
+#![tactic(auto)]
+
+mod constraints;
+mod finding;
+mod plain;
+#[cfg(test)]
+mod tests;
+
+pub use finding::{Order, OrderFinder};
+pub use plain::PlainFinder;

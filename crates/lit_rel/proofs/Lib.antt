@@ -1,0 +1,15 @@
+pub mod ChainLemmas
+pub mod EachLemmas
+pub mod ForbiddenLemmas
+pub mod PartLemmas
+pub mod PlaceLemmas
+pub mod RangeLemmas
+pub mod ReadingLemmas
+pub mod RelatingLemmas
+pub mod RowLemmas
+pub mod SameRelations
+pub mod SetLemmas
+pub mod SourceLemmas
+pub mod TripleLemmas
+pub mod ValueLemmas
+pub mod WideLemmas

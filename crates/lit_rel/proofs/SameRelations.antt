@@ -1,0 +1,40 @@
+-- What is asked of reads, and what is forbidden, by two relations that hold of the same events.
+use Rattle.std.proofs.Common.{◌↔◌, ℕ, List, inl, inr}
+use Rattle.lit_paths.specs.declared.event.Event.{Event}
+use Rattle.lit_rel.specs.Coherent.{AreCoherentReads}
+use Rattle.lit_rel.specs.Forbidden.{IsForbiddenBy}
+
+module _ (events : List Event) (sources : List ℕ) where
+  coherent_by : (before other : ℕ → ℕ → Type 0) → ((e d : ℕ) → other e d → before e d) → AreCoherentReads events sources before → AreCoherentReads events sources other
+  coherent_by before other to has r b w h =
+      let read = has r b w h in
+      record {
+        not_later = λ later. read.not_later (to r w later);
+        not_hidden = λ v hides. read.not_hidden v record { writes = hides.writes; in_range = hides.in_range; after_source = to w v hides.after_source; before_read = to v r hides.before_read };
+      }
+
+  forbidden_by : (before other : ℕ → ℕ → Type 0) → ((e d : ℕ) → before e d → other e d) → (w r v : ℕ) → IsForbiddenBy events sources before w r v → IsForbiddenBy events sources other w r v
+  forbidden_by before other to w r v f =
+      record {
+        reads = f.reads;
+        between = record {
+          not_source = f.between.not_source;
+          not_read = f.between.not_read;
+          writes = f.between.writes;
+          ordered = f.between.ordered;
+          pattern = elim f.between.pattern [
+            | inl one ↦ inl one
+            | inr rest ↦ inr (elim rest [
+              | inl two ↦ inl record { source_before = to w r two.source_before; other_before = to v r two.other_before; source = two.source; same_range = two.same_range }
+              | inr three ↦ inr record { source_before = to w r three.source_before; other_after = to w v three.other_after; reader = three.reader; same_range = three.same_range }
+            ])
+          ];
+        };
+      }
+
+  module _ (before other : ℕ → ℕ → Type 0) (same : (e d : ℕ) → before e d ↔ other e d) where
+    pub AreCoherentReads-same : AreCoherentReads events sources before ↔ AreCoherentReads events sources other
+    AreCoherentReads-same = (coherent_by before other (λ e d. (same e d).1), coherent_by other before (λ e d. (same e d).0))
+
+    pub IsForbiddenBy-same : (w r v : ℕ) → IsForbiddenBy events sources before w r v ↔ IsForbiddenBy events sources other w r v
+    IsForbiddenBy-same w r v = (forbidden_by before other (λ e d. (same e d).0) w r v, forbidden_by other before (λ e d. (same e d).1) w r v)

@@ -1,0 +1,12 @@
+-- Sets of events (this project's own).
+use Rattle.std.specs.Prelude.{◌≡◌, ℕ}
+use Rattle.std.specs.Int.{bit_at}
+use Rattle.lit_rel.specs.declared.event_set.EventSet.{EventSet}
+
+-- the event with this number is in the set
+abbrev pub HasEvent : EventSet → ℕ → Type 0
+HasEvent set e = bit_at set.bits e ≡ 1
+
+-- the set of no event
+abbrev pub no_events : EventSet
+no_events = record { bits = 0 }

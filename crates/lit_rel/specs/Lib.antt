@@ -1,0 +1,13 @@
+pub mod EventSet
+pub mod Rows
+pub mod Between
+pub mod ReadsFrom
+pub mod AgentOrder
+pub mod SynchronizesWith
+pub mod HappensBefore
+pub mod Coherent
+pub mod TearFree
+pub mod Forbidden
+pub mod Part
+pub mod WideEvents
+pub mod Parts

@@ -1,0 +1,3 @@
+-- Notions of the contracts inside this crate: what a part has, and the steps that no source decides.
+pub mod Given
+pub mod Steps

@@ -1,0 +1,31 @@
+//! Relations closed under chains.
+
+ghost use Rattle.std.specs.Prelude.{◌≡◌, ◌⊎◌, ◌↔◌, ℕ, ◌<◌, List};
+ghost use Rattle.lit_rel.specs.HappensBefore.{Chain};
+ghost use Rattle.lit_rel.specs.Rows.{Holds, rows_len};
+
+use crate::bit_rows::Rows;
+
+/// The least transitive relation that contains the rows.
+pub(crate) fn close(rows: &mut Rows)
+    ensures len { rows_len rows.new ≡ rows_len rows.old }
+    ensures pairs { (e d : ℕ) → Holds rows.new e d ↔ ((middles : List ℕ) × Chain (Holds rows.old) e middles d) }
+{
+    for middle in 0..rows.len() {
+        lead_through(rows, middle);
+    }
+}
+
+/// Lets each event that leads to the middle one lead to all that the middle one leads to.
+fn lead_through(rows: &mut Rows, middle: usize)
+    requires { middle < rows_len rows.old }
+    ensures len { rows_len rows.new ≡ rows_len rows.old }
+    ensures pairs { (e d : ℕ) →
+        Holds rows.new e d ↔ (Holds rows.old e d ⊎ (Holds rows.old e middle × Holds rows.old middle d)) }
+{
+    for first in 0..rows.len() {
+        if rows.holds(first, middle) {
+            rows.join(first, middle);
+        }
+    }
+}

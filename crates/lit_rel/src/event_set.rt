@@ -1,0 +1,64 @@
+//! Sets of events.
+
+ghost use Rattle.std.specs.Prelude.{◌≡◌, ◌⊎◌, ◌↔◌, ℕ, ◌<◌, IsTrue};
+ghost use Rattle.lit_paths.specs.declared.limits.TheConstants.{EVENT_LIMIT};
+
+/// A set of events, by their numbers: below `EVENT_LIMIT`.
+#[derive(Clone, Copy, Debug, Default, PartialEq, Eq)]
+pub struct EventSet {
+    /// A bit for each number.
+    bits: u64,
+}
+
+impl EventSet {
+    ghost use Rattle.lit_rel.specs.EventSet.{HasEvent, no_events};
+
+    /// The set of no event.
+    pub fn new() -> Self
+        ensures value { result ≡ no_events }
+        ensures empty { (e : ℕ) → ¬ HasEvent result e }
+    {
+        EventSet { bits: 0 }
+    }
+
+    /// Whether an event is in it.
+    pub fn contains(self, event: usize) -> bool
+        requires { event < EVENT_LIMIT }
+        ensures { IsTrue result ↔ HasEvent self event }
+    {
+        (self.bits >> event) & 1 == 1
+    }
+
+    /// The set with an event put in.
+    pub fn with(self, event: usize) -> Self
+        requires { event < EVENT_LIMIT }
+        ensures { (e : ℕ) → HasEvent result e ↔ (HasEvent self e ⊎ (e ≡ event)) }
+    {
+        EventSet {
+            bits: self.bits | (1 << event),
+        }
+    }
+
+    /// The events of both sets.
+    pub fn union(self, other: Self) -> Self
+        ensures { (e : ℕ) → HasEvent result e ↔ (HasEvent self e ⊎ HasEvent other e) }
+    {
+        EventSet {
+            bits: self.bits | other.bits,
+        }
+    }
+
+    /// Whether there is no event in it.
+    pub fn is_empty(self) -> bool
+        ensures { IsTrue result ↔ ((e : ℕ) → ¬ HasEvent self e) }
+    {
+        self.bits == 0
+    }
+
+    /// Whether each event of it is in the other set.
+    pub fn is_within(self, other: Self) -> bool
+        ensures { IsTrue result ↔ ((e : ℕ) → HasEvent self e → HasEvent other e) }
+    {
+        (self.bits | other.bits) == other.bits
+    }
+}

@@ -1,0 +1,31 @@
+//! The relations of a candidate execution, and parts of choices.
+//!
+//! A `Part` is a combination of a test's paths with sources for its first byte reads. Once each byte read has one, it
+//! answers the relations of clause 29 of ECMA-262, whether the reads are coherent and tear free, what may not stand
+//! between a source and its read, and the values read, each exactly as its definition in `specs/`.
+#![tactic(auto)]
+
+mod bit_rows;
+mod closing;
+mod event_set;
+mod fixed_steps;
+mod forbidding;
+mod given;
+mod part;
+mod ranges;
+mod reading_checks;
+mod relating;
+#[cfg(test)]
+mod tests;
+mod triples;
+mod values;
+mod wide_events;
+
+pub use bit_rows::Rows;
+pub use event_set::EventSet;
+pub use part::Part;
+pub use triples::Between;
+pub use wide_events::{
+    mixed_sizes_never_synchronize, never_reads_itself, typed_load_mixes_with_init_only,
+    viewed_load_mixes,
+};

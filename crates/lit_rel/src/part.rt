@@ -1,0 +1,184 @@
+//! A combination of paths, with sources for its first byte reads.
+
+ghost use Rattle.std.specs.Prelude.{◌≡◌, ◌↔◌, ℕ, ◌-◌, ◌<◌, ◌≤◌, IsTrue, [], ◌∷◌, ◌++◌, length, take};
+ghost use Rattle.lit_paths.specs.ByteReads.{byte_reads};
+ghost use Rattle.lit_paths.specs.Choice.{combinations_of};
+ghost use Rattle.lit_paths.specs.Event.{does_read, event_at};
+ghost use Rattle.lit_rel.specs.Between.{between_len, Forbids};
+ghost use Rattle.lit_rel.specs.Coherent.{HasCoherentReads};
+ghost use Rattle.lit_rel.specs.Forbidden.{IsForbidden};
+ghost use Rattle.lit_rel.specs.HappensBefore.{HappensBefore};
+ghost use Rattle.lit_rel.specs.Part.{IsComplete, IsNextSource, part_events, with_sources};
+ghost use Rattle.lit_rel.specs.ReadsFrom.{ReadsFrom, value_of};
+ghost use Rattle.lit_rel.specs.Rows.{Holds, rows_len};
+ghost use Rattle.lit_rel.specs.SynchronizesWith.{Synchronizes};
+ghost use Rattle.lit_rel.specs.TearFree.{HasTearFreeReads};
+
+use crate::bit_rows::Rows;
+use crate::fixed_steps::fixed_steps;
+use crate::given::{Given, SourcedByte, SourcedBytes};
+use crate::triples::Between;
+use lit_paths::{Combination, Plan};
+use std::marker::Model;
+
+/// A combination of a test's paths, with sources for its first byte reads. Its size is fixed. A clause sees it as the
+/// test's value, the combination's number, and the sources given so far.
+#[derive(Drop)]
+pub struct Part<'p> {
+    combination: Combination<'p>,
+    /// The steps of happens-before that no source decides.
+    fixed: Rows,
+    bytes: SourcedBytes,
+}
+
+impl<'p> Model for Part<'p> {
+    ghost use Rattle.lit_paths.specs.Plan.{events_in};
+    ghost use Rattle.lit_rel.specs.Part.{PartModel, coded_part};
+    ghost use Rattle.lit_rel.specs.Parts.Given.{IsKept, sources_of};
+
+    ghost Value = { PartModel };
+
+    ghost coded = { coded_part };
+
+    ghost view = { λ p. record { test = p.combination.0; combination = p.combination.1; sources = sources_of p.bytes.items } };
+
+    ghost invariant = { λ p. IsKept p.combination.0.bytes (events_in p.combination.0 p.combination.1) p.fixed p.bytes.items };
+}
+
+impl<'p> Part<'p> {
+    ghost use Rattle.lit_rel.specs.Parts.Given.{sources_of};
+
+    /// A combination of a plan's test, by its number: below `combinations`. No byte read has a source yet.
+    pub fn open(plan: &'p Plan<'p>, combination: usize) -> Self
+        requires { combination < length (combinations_of plan.now) }
+        ensures { result ≡ record { test = plan.now; combination = combination; sources = [] } }
+    {
+        let combination = plan.enter(combination);
+        let fixed = fixed_steps(combination.events());
+        Part {
+            combination,
+            fixed,
+            bytes: SourcedBytes::new(),
+        }
+    }
+
+    /// Gives the next byte read its source, by event number: a candidate of it. A byte read is left.
+    pub fn push(&mut self, source: u8)
+        requires { IsNextSource self.old source }
+        ensures { self.new ≡ with_sources self.old (self.old.sources ++ source ∷ []) }
+    {
+        let next = self.combination.byte_reads()[self.bytes.len()];
+        self.bytes.push(SourcedByte {
+            read: next.read,
+            byte: next.byte,
+            source,
+        });
+    }
+
+    /// Takes the last source back. There is one.
+    pub fn pop(&mut self)
+        requires { 0 < length self.old.sources }
+        ensures { self.new ≡ with_sources self.old (take (length self.old.sources - 1) self.old.sources) }
+    {
+        self.bytes.pop();
+    }
+
+    /// How many sources are given.
+    pub fn len(&self) -> usize
+        ensures value { result ≡ length self.now.sources }
+        ensures few { result ≤ length (byte_reads (part_events self.now)) }
+    {
+        self.bytes.len()
+    }
+
+    /// How many byte reads there are in all.
+    pub fn reads(&self) -> usize
+        ensures { result ≡ length (byte_reads (part_events self.now)) }
+    {
+        self.combination.byte_reads().len()
+    }
+
+    /// Its events, and the byte reads that have a source.
+    fn given(&self) -> Given<'_>
+        ensures events { result.events.now ≡ part_events self.now }
+        ensures sources { sources_of result.bytes.now ≡ self.now.sources }
+        ensures small { (n : ℕ) → (event_at result.events.now n).size ≤ 4 }
+    {
+        Given {
+            events: self.combination.events(),
+            bytes: self.bytes.as_slice(),
+        }
+    }
+
+    /// happens-before of the sources given.
+    fn order(&self) -> Rows
+        ensures len { rows_len result ≡ length (part_events self.now) }
+        ensures pairs { (e d : ℕ) → Holds result e d ↔ HappensBefore (part_events self.now) self.now.sources e d }
+    {
+        self.given().happens_before(&self.fixed)
+    }
+
+    /// reads-from (ECMA-262, 2024, 29.6.3), as pairs of a read and a source. Each byte read has a source.
+    pub fn reads_from(&self) -> Rows
+        requires { IsComplete self.now }
+        ensures len { rows_len result ≡ length (part_events self.now) }
+        ensures pairs { (r w : ℕ) → Holds result r w ↔ ReadsFrom (part_events self.now) self.now.sources r w }
+    {
+        self.given().reads_from()
+    }
+
+    /// synchronizes-with (29.6.5), as pairs of a write and a read. Each byte read has a source.
+    pub fn synchronizes(&self) -> Rows
+        requires { IsComplete self.now }
+        ensures len { rows_len result ≡ length (part_events self.now) }
+        ensures pairs { (w r : ℕ) → Holds result w r ↔ Synchronizes (part_events self.now) self.now.sources w r }
+    {
+        let given = self.given();
+        given.with_synchronized(Rows::new(given.events.len()))
+    }
+
+    /// happens-before (29.6.6). Each byte read has a source.
+    pub fn happens_before(&self) -> Rows
+        requires { IsComplete self.now }
+        ensures len { rows_len result ≡ length (part_events self.now) }
+        ensures pairs { (e d : ℕ) → Holds result e d ↔ HappensBefore (part_events self.now) self.now.sources e d }
+    {
+        self.order()
+    }
+
+    /// Whether the reads are coherent (29.7.2). Each byte read has a source.
+    pub fn coherent(&self) -> bool
+        requires { IsComplete self.now }
+        ensures { IsTrue result ↔ HasCoherentReads (part_events self.now) self.now.sources }
+    {
+        self.given().is_coherent(&self.order())
+    }
+
+    /// Whether the reads are tear free (29.7.3). Each byte read has a source.
+    pub fn tear_free(&self) -> bool
+        requires { IsComplete self.now }
+        ensures { IsTrue result ↔ HasTearFreeReads (part_events self.now) self.now.sources }
+    {
+        self.given().is_tear_free()
+    }
+
+    /// What may not stand between each source and its read in the order of memory (29.7.4). Each byte read has a
+    /// source.
+    pub fn between(&self) -> Between
+        requires { IsComplete self.now }
+        ensures len { between_len result ≡ length (part_events self.now) }
+        ensures triples { (w r v : ℕ) → Forbids result w r v ↔ IsForbidden (part_events self.now) self.now.sources w r v }
+    {
+        self.given().between(&self.order())
+    }
+
+    /// The value of a read (29.5.4 and 29.5.5), by its event number. Each byte read has a source.
+    pub fn value(&self, read: u8) -> u32
+        requires complete { IsComplete self.now }
+        requires known { read < length (part_events self.now) }
+        requires reads { IsTrue (does_read (event_at (part_events self.now) read).kind) }
+        ensures { result ≡ value_of (part_events self.now) self.now.sources read }
+    {
+        self.given().value(usize::from(read))
+    }
+}

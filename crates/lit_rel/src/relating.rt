@@ -1,0 +1,65 @@
+//! The relations of a candidate execution (ECMA-262, 2024, 29.6), for the sources given so far, as `Rows`.
+
+ghost use Rattle.std.specs.Prelude.{◌≡◌, ◌⊎◌, ◌↔◌, ℕ, IsTrue, length};
+ghost use Rattle.lit_rel.specs.HappensBefore.{HappensBefore};
+ghost use Rattle.lit_rel.specs.Parts.Given.{sources_of};
+ghost use Rattle.lit_rel.specs.Parts.Steps.{IsFixedStep};
+ghost use Rattle.lit_rel.specs.ReadsFrom.{ReadsFrom};
+ghost use Rattle.lit_rel.specs.Rows.{Holds, rows_len};
+ghost use Rattle.lit_rel.specs.SynchronizesWith.{CanSynchronize, Synchronizes};
+
+use crate::bit_rows::Rows;
+use crate::closing::close;
+use crate::given::Given;
+use crate::ranges::{event_at, has_same_range, is_seq_cst};
+use lit_paths::Event;
+
+/// Whether a source and its read synchronize.
+pub(crate) fn can_synchronize(source: &Event, read: &Event) -> bool
+    ensures { IsTrue result ↔ CanSynchronize source.now read.now }
+{
+    is_seq_cst(source) && is_seq_cst(read) && has_same_range(source, read)
+}
+
+impl Given<'_> {
+    /// reads-from (29.6.3), as pairs of a read and a source.
+    pub(crate) fn reads_from(&self) -> Rows
+        ensures len { rows_len result ≡ length self.now.events.now }
+        ensures pairs { (r w : ℕ) → Holds result r w ↔ ReadsFrom self.now.events.now (sources_of self.now.bytes.now) r w }
+    {
+        let mut rows = Rows::new(self.events.len());
+        for byte in self.bytes {
+            rows.put(usize::from(byte.read), usize::from(byte.source));
+        }
+        rows
+    }
+
+    /// The rows with synchronizes-with (29.6.5) put in, as pairs of a write and a read.
+    pub(crate) fn with_synchronized(&self, rows: Rows) -> Rows
+        requires { rows_len rows ≡ length self.now.events.now }
+        ensures len { rows_len result ≡ length self.now.events.now }
+        ensures pairs { (w r : ℕ) → Holds result w r ↔ (Holds rows w r ⊎ Synchronizes self.now.events.now (sources_of self.now.bytes.now) w r) }
+    {
+        let mut rows = rows;
+        for byte in self.bytes {
+            let source = usize::from(byte.source);
+            let read = usize::from(byte.read);
+            if can_synchronize(event_at(self.events, source), event_at(self.events, read)) {
+                rows.put(source, read);
+            }
+        }
+        rows
+    }
+
+    /// happens-before (29.6.6), from the steps that no source decides.
+    pub(crate) fn happens_before(&self, fixed: &Rows) -> Rows
+        requires len { rows_len fixed.now ≡ length self.now.events.now }
+        requires pairs { (e d : ℕ) → Holds fixed.now e d ↔ IsFixedStep self.now.events.now e d }
+        ensures len { rows_len result ≡ length self.now.events.now }
+        ensures pairs { (e d : ℕ) → Holds result e d ↔ HappensBefore self.now.events.now (sources_of self.now.bytes.now) e d }
+    {
+        let mut rows = self.with_synchronized(*fixed);
+        close(&mut rows);
+        rows
+    }
+}

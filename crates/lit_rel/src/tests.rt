@@ -1,0 +1,38 @@
+mod parts;
+mod sets;
+
+ghost use Rattle.std.specs.Prelude.{◌≡◌, ◌+◌, ◌<◌, ◌≤◌, length};
+ghost use Rattle.lit_paths.specs.Choice.{combinations_of};
+ghost use Rattle.lit_paths.specs.Plan.{choices_before};
+ghost use Rattle.lit_rel.specs.Part.{IsComplete};
+
+use crate::bit_rows::Rows;
+use crate::part::Part;
+use lit_paths::Plan;
+use std::process::Abort;
+
+/// The part with all sources of a choice, which is one of a combination's.
+fn part_of<'p>(plan: &'p Plan<'p>, combination: usize, choice: u64) -> Part<'p>
+    requires known { combination < length (combinations_of plan.now) }
+    requires low { choices_before plan.now combination ≤ choice }
+    requires high { choice < choices_before plan.now (combination + 1) }
+    ensures complete { IsComplete result }
+    ensures test { result.test ≡ plan.now }
+    ensures combination { result.combination ≡ combination }
+{
+    let sources = plan.enter(combination).sources(choice);
+    let mut part = Part::open(plan, combination);
+    for source in sources.as_slice() {
+        part.push(*source);
+    }
+    part
+}
+
+/// The rows hold of these pairs and of no other.
+fn assert_pairs(rt: &impl Abort, rows: &Rows, wanted: &[(usize, usize)]) {
+    for a in 0..rows.len() {
+        for d in 0..rows.len() {
+            assert_eq!(rt; rows.holds(a, d), wanted.contains(&(a, d)), "at {a} {d}");
+        }
+    }
+}

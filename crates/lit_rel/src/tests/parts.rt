@@ -1,0 +1,220 @@
+use super::{assert_pairs, part_of};
+use crate::part::Part;
+use lit_paths::{Plan, plan};
+use lit_read::read;
+use std::process::Abort;
+use std::test::Fail;
+
+const STORE_BUFFERING: &[u8] = b"test sb
+bytes 2
+agent A
+Atomics.store(U8, 0, 1)
+r0 = Atomics.load(U8, 1)
+agent B
+Atomics.store(U8, 1, 1)
+r0 = Atomics.load(U8, 0)
+check A.r0 == 0 && B.r0 == 0
+";
+
+const PLAIN: &[u8] = b"test sbplain
+bytes 2
+agent A
+U8[0] = 1
+r0 = U8[1]
+agent B
+U8[1] = 1
+r0 = U8[0]
+check A.r0 == 0 && B.r0 == 0
+";
+
+const MIXED: &[u8] = b"test sbmixed
+bytes 4
+agent A
+Atomics.store(U16, 0, 1)
+r0 = Atomics.load(U8, 2)
+agent B
+Atomics.store(U16, 1, 1)
+r0 = Atomics.load(U8, 0)
+check A.r0 == 0 && B.r0 == 0
+";
+
+const TYPED: &[u8] = b"test tear
+bytes 2
+agent A
+U16[0] = 257
+agent B
+U16[0] = 514
+agent C
+r0 = U16[0]
+check C.r0 == 258 || C.r0 == 513
+";
+
+const VIEWED: &[u8] = b"test teardv
+bytes 2
+agent A
+U16[0] = 257
+agent B
+U16[0] = 514
+agent C
+r0 = DV.getUint16(0, true)
+check C.r0 == 258 || C.r0 == 513
+";
+
+const OWN: &[u8] = b"test own
+bytes 1
+agent A
+U8[0] = 1
+r0 = U8[0]
+check A.r0 == 1
+";
+
+#[test]
+fn store_buffering_forbids_these_triples(rt: HostRuntime) -> Result<(), Fail> {
+    let test = read(rt.alloc(), STORE_BUFFERING)?;
+    let plan = plan(rt.alloc(), &test)?;
+    assert_eq!(rt; plan.total(), 4);
+    let combination = plan.combination(0);
+    let between = part_of(&plan, combination, 0).between();
+    assert_eq!(rt; between.len(), 6);
+    for w in 0..between.len() {
+        for r in 0..between.len() {
+            for v in 0..between.len() {
+                let wanted = (w, r, v) == (1, 3, 4) || (w, r, v) == (0, 5, 2);
+                assert_eq!(rt; between.forbids(w, r, v), wanted, "at {w} {r} {v}");
+            }
+        }
+    }
+    Ok(())
+}
+
+#[test]
+fn store_buffering_synchronizes(rt: HostRuntime) -> Result<(), Fail> {
+    let test = read(rt.alloc(), STORE_BUFFERING)?;
+    let plan = plan(rt.alloc(), &test)?;
+    assert_eq!(rt; plan.total(), 4);
+    let combination = plan.combination(2);
+    let part = part_of(&plan, combination, 2);
+    assert_pairs(&rt, &part.reads_from(), &[(3, 4), (5, 0)]);
+    assert_pairs(&rt, &part.synchronizes(), &[(4, 3)]);
+    Ok(())
+}
+
+/// The init events are one list, each agent's accesses another, and an init event comes before each access of its byte.
+#[test]
+fn plain_accesses_are_agent_ordered(rt: HostRuntime) -> Result<(), Fail> {
+    let test = read(rt.alloc(), PLAIN)?;
+    let plan = plan(rt.alloc(), &test)?;
+    for choice in 0..plan.total() {
+        let combination = plan.combination(choice);
+        let part = part_of(&plan, combination, choice);
+        assert_pairs(&rt, &part.synchronizes(), &[]);
+        // A stores byte 0 (2) and loads byte 1 (3), B stores byte 1 (4) and loads byte 0 (5).
+        assert_pairs(
+            &rt,
+            &part.happens_before(),
+            &[
+                (0, 1),
+                (0, 2),
+                (0, 3),
+                (0, 4),
+                (0, 5),
+                (1, 3),
+                (1, 4),
+                (1, 5),
+                (2, 3),
+                (4, 5),
+            ],
+        );
+    }
+    Ok(())
+}
+
+#[test]
+fn mixed_sizes_never_synchronize_nor_forbid(rt: HostRuntime) -> Result<(), Fail> {
+    let test = read(rt.alloc(), MIXED)?;
+    let plan = plan(rt.alloc(), &test)?;
+    assert_eq!(rt; plan.total(), 4);
+    for choice in 0..plan.total() {
+        let combination = plan.combination(choice);
+        let part = part_of(&plan, combination, choice);
+        assert_pairs(&rt, &part.synchronizes(), &[]);
+        let between = part.between();
+        for w in 0..between.len() {
+            for r in 0..between.len() {
+                for v in 0..between.len() {
+                    assert!(rt; !between.forbids(w, r, v), "at {choice} {w} {r} {v}");
+                }
+            }
+        }
+    }
+    Ok(())
+}
+
+/// Some choice has these sources, and there event 4 has this value, and the reads are tear free or not.
+fn assert_read(rt: &impl Abort, plan: &Plan<'_>, wanted: [u8; 2], value: u32, tear_free: bool) {
+    let mut found = false;
+    for choice in 0..plan.total() {
+        let combination = plan.combination(choice);
+        let sources = plan.enter(combination).sources(choice);
+        if sources.as_slice() == wanted.as_slice() {
+            let events = plan.events(combination);
+            assert!(rt; events.len() == 5 && events[4].kind.does_read());
+            let part = part_of(plan, combination, choice);
+            assert_eq!(rt; part.value(4), value);
+            assert_eq!(rt; part.tear_free(), tear_free);
+            found = true;
+        }
+    }
+    assert!(rt; found);
+}
+
+#[test]
+fn typed_loads_mix_with_init_alone(rt: HostRuntime) -> Result<(), Fail> {
+    let test = read(rt.alloc(), TYPED)?;
+    let plan = plan(rt.alloc(), &test)?;
+    assert_eq!(rt; plan.total(), 9);
+    assert_read(&rt, &plan, [0, 2], 256, true);
+    assert_read(&rt, &plan, [2, 3], 513, false);
+    assert_read(&rt, &plan, [3, 2], 258, false);
+    assert_read(&rt, &plan, [2, 2], 257, true);
+    Ok(())
+}
+
+#[test]
+fn viewed_loads_mix(rt: HostRuntime) -> Result<(), Fail> {
+    let test = read(rt.alloc(), VIEWED)?;
+    let plan = plan(rt.alloc(), &test)?;
+    assert_read(&rt, &plan, [0, 2], 256, true);
+    assert_read(&rt, &plan, [2, 3], 513, true);
+    assert_read(&rt, &plan, [3, 2], 258, true);
+    Ok(())
+}
+
+#[test]
+fn own_store_hides_init(rt: HostRuntime) -> Result<(), Fail> {
+    let test = read(rt.alloc(), OWN)?;
+    let plan = plan(rt.alloc(), &test)?;
+    assert_eq!(rt; plan.total(), 2);
+    for choice in 0..plan.total() {
+        let combination = plan.combination(choice);
+        assert_eq!(rt; part_of(&plan, combination, choice).coherent(), choice == 1);
+    }
+    Ok(())
+}
+
+#[test]
+fn sources_are_taken_back(rt: HostRuntime) -> Result<(), Fail> {
+    let test = read(rt.alloc(), TYPED)?;
+    let plan = plan(rt.alloc(), &test)?;
+    assert_eq!(rt; plan.total(), 9);
+    let combination = plan.combination(0);
+    let mut part = part_of(&plan, combination, 0);
+    assert_eq!(rt; part.reads(), 2);
+    assert_eq!(rt; part.len(), 2);
+    part.pop();
+    assert_eq!(rt; part.len(), 1);
+    assert_eq!(rt; part.reads(), 2);
+    let empty = Part::open(&plan, combination);
+    assert_eq!(rt; empty.len(), 0);
+    Ok(())
+}

@@ -1,0 +1,52 @@
+use super::assert_pairs;
+use crate::bit_rows::Rows;
+use crate::event_set::EventSet;
+use crate::triples::Between;
+use crate::wide_events::{
+    mixed_sizes_never_synchronize, never_reads_itself, typed_load_mixes_with_init_only,
+    viewed_load_mixes,
+};
+
+#[test]
+fn sets_have_what_is_put_in(rt: HostRuntime) {
+    let first = EventSet::new().with(0).with(27);
+    let other = EventSet::new().with(27);
+    assert!(rt; first.contains(0) && first.contains(27) && !first.contains(26));
+    assert!(rt; EventSet::new().is_empty() && !other.is_empty());
+    assert!(rt; other.is_within(first) && !first.is_within(other));
+    assert!(rt; other.union(EventSet::new().with(0)) == first);
+}
+
+#[test]
+fn rows_hold_of_what_is_put_in(rt: HostRuntime) {
+    let mut rows = Rows::new(28);
+    assert_eq!(rt; rows.len(), 28);
+    rows.put(3, 27);
+    rows.put(0, 27);
+    assert_pairs(&rt, &rows, &[(0, 27), (3, 27)]);
+    assert!(rt; rows.predecessors(27) == EventSet::new().with(0).with(3));
+    assert!(rt; rows.is_irreflexive());
+    rows.put(5, 5);
+    assert!(rt; !rows.is_irreflexive());
+}
+
+#[test]
+fn pairs_forbid_their_triples(rt: HostRuntime) {
+    let mut between = Between::new(4);
+    between.forbid(0, 1, EventSet::new().with(2));
+    assert_eq!(rt; between.len(), 4);
+    assert!(rt; between.forbids(0, 1, 2) && !between.forbids(0, 1, 3));
+    assert!(rt; !between.forbids(1, 0, 2));
+    assert!(rt; between.allows(2, EventSet::new().with(1)));
+    assert!(rt; !between.allows(2, EventSet::new().with(0)));
+    assert!(rt; between.allows(2, EventSet::new().with(0).with(1)));
+}
+
+#[test]
+fn laws_are_named(rt: HostRuntime) {
+    mixed_sizes_never_synchronize();
+    typed_load_mixes_with_init_only();
+    viewed_load_mixes();
+    never_reads_itself();
+    assert!(rt; true);
+}

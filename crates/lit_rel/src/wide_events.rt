@@ -1,0 +1,24 @@
+//! What the model says of small executions with accesses of two bytes. The functions do nothing: their contracts are
+//! theorems.
+
+ghost use Rattle.lit_rel.specs.WideEvents.{MixedSizesNeverSynchronize, NeverReadsItself, TypedLoadMixesWithInitOnly, ViewedLoadMixes};
+
+/// Store buffering with stores of two bytes and loads of one: nothing synchronizes.
+pub fn mixed_sizes_never_synchronize()
+    ensures { MixedSizesNeverSynchronize }
+{}
+
+/// A load of two bytes through a typed array never mixes two stores of its range, though it may mix one with init.
+pub fn typed_load_mixes_with_init_only()
+    ensures { TypedLoadMixesWithInitOnly }
+{}
+
+/// A load of two bytes through a DataView may mix two stores of its range.
+pub fn viewed_load_mixes()
+    ensures { ViewedLoadMixes }
+{}
+
+/// No read-modify-write is a source of itself.
+pub fn never_reads_itself()
+    ensures { NeverReadsItself }
+{}
