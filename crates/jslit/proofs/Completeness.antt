@@ -4,13 +4,12 @@ use Rattle.std.specs.Prelude.{slice_get, Contains}
 use Rattle.std.proofs.lemmas.List.{length-map, get_or-map}
 use Rattle.std.proofs.lemmas.Option.{slice_get_within, get_or_from_slice_get}
 use Rattle.lit_read.specs.Syntax.{Litmus}
-use Rattle.lit_search.specs.Choice.{IsChoice, ListsChoices, choices_of}
+use Rattle.lit_paths.specs.Choice.{IsChoice, ListsChoices, choices_of}
 use Rattle.lit_search.specs.Report.{Entry, Report, IsReport}
-use Rattle.lit_search.specs.ValidExecution.{Execution, execution_choice, execution_outcome, IsCandidateExecution}
+use Rattle.lit_paths.specs.Execution.{Execution, execution_choice, execution_outcome, IsCandidateExecution}
 use Rattle.lit_read.specs.Spelling.{Spells}
-use Rattle.lit_search.specs.declared.planning.PlanFault.{PlanFault}
-use Rattle.lit_search.specs.Plan.{IsRefusal}
-use Rattle.lit_search.specs.Supported.{IsSupported}
+use Rattle.lit_paths.specs.declared.planning.PlanFault.{PlanFault}
+use Rattle.lit_paths.specs.Plan.{IsRefusal}
 use Rattle.jslit.specs.declared.verdict.Verdict.{Verdict}
 use Rattle.jslit.specs.ReportText.{report_text}
 use Rattle.jslit.specs.Verdict.{IsVerdict}
@@ -35,10 +34,10 @@ complete t report chosen lists is x valid =
     listed report.entries found.0 found.1 (execution_outcome t x) found.2 found.3
 
 -- the report of a test's plan, with its text
-pub report_on : (text answer : List ℕ) (t plan : Litmus) (total : ℕ) (report : Report) (verdict : Verdict) → Spells text t → IsSupported t → ((fault : PlanFault) → ¬ IsRefusal t fault)
+pub report_on : (text answer : List ℕ) (t plan : Litmus) (total : ℕ) (report : Report) (verdict : Verdict) → Spells text t → ((fault : PlanFault) → ¬ IsRefusal t fault)
     → plan ≡ t → total ≡ length (choices_of plan) → IsReport plan 0 total report → ((u : Litmus) (r : Report) → IsReport u 0 (length (choices_of u)) r → IsComplete u r)
     → IsVerdict plan report verdict → answer ≡ report_text t report verdict → IsReportOn text answer
-report_on text answer t plan total report verdict spelled supported planned same all reported law judged is =
+report_on text answer t plan total report verdict spelled planned same all reported law judged is =
     let P : ℕ → Type 0 = λ n. IsReport plan 0 n report in
     let Q : Litmus → Type 0 = λ u. IsReport u 0 (length (choices_of u)) report in
     let V : Litmus → Type 0 = λ u. IsVerdict u report verdict in
@@ -46,7 +45,6 @@ report_on text answer t plan total report verdict spelled supported planned same
     record {
       test = t;
       spelled = spelled;
-      supported = supported;
       planned = planned;
       report = report;
       reported = here;

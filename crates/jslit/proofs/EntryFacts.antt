@@ -6,12 +6,12 @@ use Rattle.std.proofs.lemmas.List.{length-map, append-nil, take_more, take_all}
 use Rattle.std.proofs.lemmas.Grind.{flat_map-append}
 use Rattle.std.proofs.lemmas.Option.{slice_get-get_or, get_or_from_slice_get}
 use Rattle.lit_read.specs.Syntax.{Litmus}
-use Rattle.lit_search.specs.declared.event.Event.{Event}
-use Rattle.lit_search.specs.ReadsFrom.{byte_reads}
-use Rattle.lit_search.specs.Choice.{Choice, AreSources, choices_of}
-use Rattle.lit_search.specs.ChoiceEvents.{choice_at}
-use Rattle.lit_search.specs.Outcome.{names_of}
-use Rattle.lit_search.specs.ValidExecution.{Execution, execution_events, execution_choice, IsCandidateExecution}
+use Rattle.lit_paths.specs.declared.event.Event.{Event}
+use Rattle.lit_paths.specs.ByteReads.{byte_reads}
+use Rattle.lit_paths.specs.Choice.{Choice, AreSources, choices_of}
+use Rattle.jslit.specs.ChoiceEvents.{choice_at}
+use Rattle.lit_paths.specs.Outcome.{names_of}
+use Rattle.lit_paths.specs.Execution.{Execution, execution_events, execution_choice, IsCandidateExecution}
 use Rattle.lit_search.specs.Report.{Entry, Report, entry_at, Gives, HasLeastOrder, IsEntry, IsReport}
 
 -- an outcome has a value for each register

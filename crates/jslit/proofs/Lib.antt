@@ -2,6 +2,7 @@ pub mod Written
 pub mod SourceLines
 mod Statuses
 pub mod Registers
+pub mod ChosenEvents
 pub mod EntryFacts
 pub mod Judging
 pub mod Refusals

@@ -1,5 +1,5 @@
 -- A fault of the reader or of the plan, as a fault of a run.
-use Rattle.std.proofs.Common.{◌≡◌, ◌≢◌, ◌⊎◌, ◌+◌, inl, inr, ℕ, List, [], take, Option, Some, None, IfErr, OnErr, IsErrOf, Ok, Err, refl, sym, subst, ◌∙◌}
+use Rattle.std.proofs.Common.{◌≡◌, ◌≢◌, ◌⊎◌, ◌+◌, ◌≤◌, inl, inr, ℕ, List, [], length, arith, take, Option, Some, None, IfErr, OnErr, IsErrOf, Ok, Err, refl, sym, subst, ◌∙◌}
 use Rattle.std.specs.declared.result.Result.{Result}
 use Rattle.std.specs.Result.{IsErrAnd}
 use Rattle.lit_read.specs.Syntax.{Litmus}
@@ -9,10 +9,11 @@ use Rattle.lit_read.specs.declared.limits.TheConstants.{TEXT_LIMIT}
 use Rattle.lit_read.specs.declared.fault.ReadFault.{ReadFault}
 use Rattle.lit_read.specs.declared.fault.ReadKind.{ReadKind}
 use Rattle.lit_read.specs.declared.fault.ReadKind.TheVariants as kinds
-use Rattle.lit_search.specs.declared.planning.PlanFault.{PlanFault}
-use Rattle.lit_search.specs.declared.planning.PlanFault.TheVariants as plan_faults
-use Rattle.lit_search.specs.Plan as plan
-use Rattle.lit_search.specs.Supported.{IsSupported}
+use Rattle.lit_paths.specs.declared.planning.PlanFault.{PlanFault}
+use Rattle.lit_paths.specs.declared.planning.PlanFault.TheVariants as plan_faults
+use Rattle.lit_paths.specs.Plan as plan
+use Rattle.lit_paths.specs.Choice.{choices_of, combinations_of}
+use Rattle.lit_paths.specs.declared.limits.TheConstants.{CHOICE_LIMIT, COMBINATION_LIMIT}
 use Rattle.jslit.specs.declared.engine.RunFault.{RunFault}
 use Rattle.jslit.specs.declared.engine.RunFault.TheVariants as faults
 use Rattle.jslit.specs.Answer.{IsFaultOn}
@@ -38,15 +39,25 @@ module _ (text : List ℕ) (fault : ReadFault) (result : RunFault) (refused : ((
   pub read_of_text : IsOfText result
   read_of_text = as_run IsOfText tt (λ first. tt)
 
-module _ (text : List ℕ) (t : Litmus) (fault : PlanFault) (result : RunFault) (spelled : Spells text t) (supported : IsSupported t) (refused : plan.IsRefusal t fault) (given : fault ≢ plan_faults.OutOfMemory → result ≡ faults.Plan fault) where
-  is_plan : result ≡ faults.Plan fault
-  is_plan = given (λ is. subst (plan.IsRefusal t) is refused)
+module _ (text : List ℕ) (t : Litmus) (fault : PlanFault) (result : RunFault) (spelled : Spells text t) (refused : plan.IsPlanFault t fault) (memory : fault ≡ plan_faults.OutOfMemory → result ≡ faults.OutOfMemory) (given : fault ≢ plan_faults.OutOfMemory → result ≡ faults.Plan fault) where
+  as_plan : (P : RunFault → Type 0) → P faults.OutOfMemory → (plan.IsRefusal t fault → P (faults.Plan fault)) → P result
+  as_plan P at_memory at_fault = elim refused [
+    | inl none ↦ subst P (sym (memory none)) at_memory
+    | inr refusal ↦ subst P (sym (given (λ is. subst (plan.IsRefusal t) is refusal))) (at_fault refusal)
+  ]
 
   pub plan_refused : IsFaultOn text result
-  plan_refused = subst (IsFaultOn text) (sym is_plan) (record { test = t; spelled = spelled; supported = supported; refused = refused })
+  plan_refused = as_plan (IsFaultOn text) tt (λ refusal. record { test = t; spelled = spelled; refused = refusal })
 
   pub plan_of_text : IsOfText result
-  plan_of_text = subst IsOfText (sym is_plan) tt
+  plan_of_text = as_plan IsOfText tt (λ refusal. tt)
+
+-- a test within the limits is refused for none of them
+pub not_refused : (t : Litmus) → plan.HasFewEvents t → length (combinations_of t) ≤ COMBINATION_LIMIT → length (choices_of t) ≤ CHOICE_LIMIT → (fault : PlanFault) → ¬ plan.IsRefusal t fault
+not_refused t few_events few_paths few_choices plan_faults.TooManyEvents (paths, combined, many) = absurd (omega (arith, few_events paths combined, many))
+not_refused t few_events few_paths few_choices plan_faults.TooManyPaths (few, many) = absurd (omega (arith, few_paths, many))
+not_refused t few_events few_paths few_choices plan_faults.TooManyChoices (few, fewer, many) = absurd (omega (arith, few_choices, many))
+not_refused t few_events few_paths few_choices plan_faults.OutOfMemory refused = refused
 
 -- what is said of each fault is said of the one that there is
 pub if_err : {X F : Type 0} (r : Result X F) (P Q : F → Type 0) → IsErrAnd r P → ((e : F) → P e → Q e) → IfErr r Q
@@ -70,7 +81,6 @@ of_any_text (Some bytes) Holds holds = record { text = take (TEXT_LIMIT + 1) byt
 -- a failure of reading is a fault on any text, and no failure to write
 pub read_failed : (before after : ℕ) (fault : RunFault) → IsReadFailure before after fault → (text : List ℕ) → IsFaultOn text fault
 read_failed before after (faults.Read f) failed text = absurd failed
-read_failed before after faults.Unsupported failed text = absurd failed
 read_failed before after (faults.Plan f) failed text = absurd failed
 read_failed before after faults.OutOfMemory failed text = tt
 read_failed before after faults.InputFailed failed text = tt

@@ -5,9 +5,10 @@ use Rattle.std.specs.List.{AllByRecursion, flat_map, zip, range_with_len}
 use Rattle.std.proofs.lemmas.List.{append-nil, length-append, length-take, length-drop, at_drop_more}
 use Rattle.std.proofs.lemmas.List.Elements.{filter-append, All-drop}
 use Rattle.lit_read.specs.Syntax.{Litmus}
-use Rattle.lit_search.specs.declared.event.Event.{Event}
-use Rattle.lit_search.specs.Event.{does_read, event_at}
-use Rattle.lit_search.specs.ReadsFrom.{bytes_read_by, byte_reads_from, byte_reads, read_numbers_from}
+use Rattle.lit_paths.specs.declared.event.Event.{Event}
+use Rattle.lit_paths.specs.Event.{does_read, event_at}
+use Rattle.lit_paths.specs.ByteReads.{bytes_read_by, byte_reads_from, byte_reads}
+use Rattle.lit_search.specs.ValidExecution.{read_numbers_from}
 use Rattle.jslit.specs.ReportText.{source_line, from_lines}
 use Rattle.jslit.specs.Steps.ReadLine.{read_line, rest_after}
 

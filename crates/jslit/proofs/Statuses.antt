@@ -8,7 +8,6 @@ use Rattle.jslit.specs.Answer.{status_of}
 -- no fault gives the status of a report
 pub never_zero : (fault : RunFault) → status_of fault ≡ 0 → ⊥
 never_zero (faults.Read f) is = absurd cc
-never_zero faults.Unsupported is = absurd cc
 never_zero (faults.Plan f) is = absurd cc
 never_zero faults.OutOfMemory is = absurd cc
 never_zero faults.InputFailed is = absurd cc
@@ -17,7 +16,6 @@ never_zero faults.OutputFailed is = absurd cc
 -- the status 4 is that of a device that failed
 pub failed_device : (fault : RunFault) (A : Type 0) → status_of fault ≡ 4 → (fault ≡ faults.InputFailed → A) → (fault ≡ faults.OutputFailed → A) → A
 failed_device (faults.Read f) A is input output = absurd cc
-failed_device faults.Unsupported A is input output = absurd cc
 failed_device (faults.Plan f) A is input output = absurd cc
 failed_device faults.OutOfMemory A is input output = absurd cc
 failed_device faults.InputFailed A is input output = input refl

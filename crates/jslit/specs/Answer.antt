@@ -4,12 +4,12 @@ use Rattle.std.specs.Io.KnownBytes.{Appends}
 use Rattle.lit_read.specs.Syntax.{Litmus}
 use Rattle.lit_read.specs.Faults.{IsFirstFault}
 use Rattle.lit_read.specs.Spelling.{Spells}
-use Rattle.lit_search.specs.Choice.{choices_of}
-use Rattle.lit_search.specs.declared.planning.PlanFault.{PlanFault}
-use Rattle.lit_search.specs.Plan.{IsRefusal}
+use Rattle.lit_paths.specs.Choice.{choices_of}
+use Rattle.lit_paths.specs.declared.planning.PlanFault.{PlanFault}
+use Rattle.lit_paths.specs.Plan.{IsRefusal}
 use Rattle.lit_search.specs.Report.{Report, IsReport}
-use Rattle.lit_search.specs.Supported.{IsSupported}
-use Rattle.lit_search.specs.ValidExecution.{Execution, execution_outcome, IsValidExecution}
+use Rattle.lit_paths.specs.Execution.{Execution, execution_outcome}
+use Rattle.lit_search.specs.ValidExecution.{IsValidExecution}
 use Rattle.jslit.specs.declared.engine.RunFault.{RunFault}
 use Rattle.jslit.specs.declared.engine.RunFault.TheVariants as faults
 use Rattle.jslit.specs.declared.verdict.Verdict.{Verdict}
@@ -21,12 +21,11 @@ use Rattle.jslit.specs.Verdict.{IsVerdict}
 abbrev pub IsComplete : Litmus → Report → Type 0
 IsComplete t report = (x : Execution) → IsValidExecution t x → Contains (map (λ entry. entry.outcome) report.entries) (execution_outcome t x)
 
--- The text spells a test that the search takes and whose plan is not refused, and the answer is the text of the test's
--- report on all its choices and of the verdict that is true of it.
+-- The text spells a test whose plan is not refused, and the answer is the text of the test's report on all its choices
+-- and of the verdict that is true of it.
 pub record IsReportOn (text answer : List ℕ) : Type 0 where
   pub test : Litmus
   pub spelled : Spells text test
-  pub supported : IsSupported test
   pub planned : (fault : PlanFault) → ¬ IsRefusal test fault
   pub report : Report
   pub reported : IsReport test 0 (length (choices_of test)) report
@@ -35,23 +34,15 @@ pub record IsReportOn (text answer : List ℕ) : Type 0 where
   pub judged : IsVerdict test report verdict
   pub is : answer ≡ report_text test report verdict
 
--- the text spells a test that the search does not take
-pub record IsUnsupported (text : List ℕ) : Type 0 where
-  pub test : Litmus
-  pub spelled : Spells text test
-  pub unsupported : ¬ IsSupported test
-
--- the text spells a test that the search takes and that is refused so
+-- the text spells a test that is refused so
 pub record IsPlanRefused (text : List ℕ) (fault : PlanFault) : Type 0 where
   pub test : Litmus
   pub spelled : Spells text test
-  pub supported : IsSupported test
   pub refused : IsRefusal test fault
 
 -- what a fault says of the text
 abbrev pub IsFaultOn : List ℕ → RunFault → Type 0
 IsFaultOn text (faults.Read fault) = IsFirstFault text fault.kind fault.line
-IsFaultOn text faults.Unsupported = IsUnsupported text
 IsFaultOn text (faults.Plan fault) = IsPlanRefused text fault
 IsFaultOn text faults.OutOfMemory = Unit {0}
 IsFaultOn text faults.InputFailed = Unit {0}
@@ -72,7 +63,6 @@ pub record HasBegun (text : List ℕ) (old new : Option (List ℕ)) : Type 0 whe
 -- the status that the program gives for a fault
 abbrev pub status_of : RunFault → ℕ
 status_of (faults.Read fault) = 1
-status_of faults.Unsupported = 1
 status_of (faults.Plan fault) = 1
 status_of faults.OutOfMemory = 3
 status_of faults.InputFailed = 4

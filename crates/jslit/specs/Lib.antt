@@ -1,6 +1,7 @@
 pub mod Counted
 pub mod Devices
 pub mod Verdict
+pub mod ChoiceEvents
 pub mod ReportText
 pub mod Answer
 pub mod Steps

@@ -3,11 +3,12 @@ use Rattle.std.specs.Prelude.{ℕ, ◌==◌, Option, None, Some, List, [], ◌�
 use Rattle.std.specs.List.{flat_map, zip}
 use Rattle.std.specs.Fmt.{decimal}
 use Rattle.lit_read.specs.Syntax.{Litmus, agent_of}
-use Rattle.lit_search.specs.declared.event.Event.{Event}
-use Rattle.lit_search.specs.Event.{event_at}
-use Rattle.lit_search.specs.ReadsFrom.{byte_reads, read_numbers}
-use Rattle.lit_search.specs.ChoiceEvents.{choice_at, choice_events}
-use Rattle.lit_search.specs.Outcome.{names_of}
+use Rattle.lit_paths.specs.declared.event.Event.{Event}
+use Rattle.lit_paths.specs.Event.{event_at}
+use Rattle.lit_paths.specs.ByteReads.{byte_reads}
+use Rattle.lit_search.specs.ValidExecution.{read_numbers}
+use Rattle.jslit.specs.ChoiceEvents.{choice_at, choice_events}
+use Rattle.lit_paths.specs.Outcome.{names_of}
 use Rattle.lit_search.specs.Report.{Entry, Report}
 use Rattle.jslit.specs.declared.verdict.Verdict.{Verdict}
 use Rattle.jslit.specs.declared.verdict.Verdict.TheVariants.{Always, Sometimes, Never}

@@ -1,7 +1,7 @@
 -- The verdict on a test (this project's own).
 use Rattle.std.specs.Prelude.{◌≡◌, ◌<◌, true, false, All, length}
 use Rattle.lit_read.specs.Syntax.{Litmus}
-use Rattle.lit_search.specs.Outcome.{meets}
+use Rattle.lit_paths.specs.Outcome.{meets}
 use Rattle.lit_search.specs.Report.{Report}
 use Rattle.jslit.specs.declared.verdict.Verdict.{Verdict}
 use Rattle.jslit.specs.declared.verdict.Verdict.TheVariants.{Always, Sometimes, Never}

@@ -41,7 +41,7 @@ pub fn program<T: Threads, R: Read, W: Write, E: Write>(
         (failures_of input.old < failures_of input.new)
         ⊎ (failures_of output.old < failures_of output.new)
         ⊎ OfToldText (R.remaining (device_of input.old)) (λ text.
-            HasReported text (W.contents (device_of output.old)) (W.contents (device_of output.new))) }
+        HasReported text (W.contents (device_of output.old)) (W.contents (device_of output.new))) }
 {
     match run(rt, alloc, input, output, USUAL) {
         Ok(()) => match output.flush() {
@@ -60,7 +60,7 @@ fn say<W: Write, E: Write>(output: &mut Counted<W>, errors: &mut E, fault: RunFa
     ensures output { fault ≡ RunFault.OutputFailed → output.new ≡ output.old }
 {
     match fault {
-        RunFault::Read(_) | RunFault::Unsupported | RunFault::Plan(_) => {
+        RunFault::Read(_) | RunFault::Plan(_) => {
             let _ = writeln!(output, "{fault}");
             let _ = output.flush();
             1

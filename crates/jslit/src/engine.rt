@@ -13,8 +13,9 @@ use crate::laws::reports_are_complete;
 use crate::reading::read_text;
 use crate::reporting::report_text;
 use crate::verdict::verdict_on;
+use lit_paths::{PlanFault, plan};
 use lit_read::{ReadFault, ReadKind, read};
-use lit_search::{PlanFault, plan, search_range, supported};
+use lit_search::search_range;
 use std::alloc::Global;
 use std::io::{Read, Write};
 use std::thread::Threads;
@@ -35,10 +36,7 @@ pub enum RunFault {
     /// The text spells no test: its first fault.
     #[error("refused {0}")]
     Read(ReadFault),
-    /// The search does not take the test: it has another statement than loads and stores of one byte of a `Uint8Array`.
-    #[error("refused 19 unsupported")]
-    Unsupported,
-    /// The test has too many events or choices.
+    /// The test has too many events, paths or choices.
     #[error("refused {0}")]
     Plan(PlanFault),
     /// A growth was refused, in any layer.
@@ -62,9 +60,6 @@ fn answer(alloc: Global, text: &[u8]) -> Result<String, RunFault>
         Ok(test) => test,
         Err(fault) => return Err(read_fault(fault)),
     };
-    if !supported(&test) {
-        return Err(RunFault::Unsupported);
-    }
     let plan = match plan(alloc, &test) {
         Ok(plan) => plan,
         Err(fault) => return Err(plan_fault(fault)),
@@ -124,10 +119,10 @@ fn put<W: Write>(output: &mut Counted<W>, bytes: &[u8]) -> Result<(), RunFault>
 /// Reads a litmus text, to the end of the input or to one byte more than a text may have, and writes the report on its
 /// test once it is whole. Neither count of failures stands at `u64::MAX` before.
 ///
-/// Answers `RunFault::Read` with the first fault of a text that spells no test, `RunFault::Unsupported` for a test that
-/// the search does not take, and `RunFault::Plan` with the limit that a test passes. `RunFault::InputFailed` and
-/// `RunFault::OutputFailed` come where a read or a write failed, and then alone; `RunFault::OutOfMemory` where a growth
-/// was refused. Nothing is written but after `RunFault::OutputFailed`, which leaves a beginning of the report.
+/// Answers `RunFault::Read` with the first fault of a text that spells no test, and `RunFault::Plan` with the limit that
+/// a test passes. `RunFault::InputFailed` and `RunFault::OutputFailed` come where a read or a write failed, and then
+/// alone; `RunFault::OutOfMemory` where a growth was refused. Nothing is written but after `RunFault::OutputFailed`, which
+/// leaves a beginning of the report.
 pub fn run<T: Threads, R: Read, W: Write>(
     _rt: &T,
     alloc: Global,
@@ -142,8 +137,7 @@ pub fn run<T: Threads, R: Read, W: Write>(
     ensures reported { OnOk result (OfToldText (R.remaining (device_of input.old)) (λ text.
         HasReported text (W.contents (device_of output.old)) (W.contents (device_of output.new)))) }
 
-    // A text is refused for its first fault, and a test because the search does not take it, or for the limit that it
-    // passes.
+    // A text is refused for its first fault, and a test for the limit that it passes.
     ensures refused { IfErr result (λ fault. OfToldText (R.remaining (device_of input.old)) (λ text. IsFaultOn text fault)) }
 
     // A device is said to have failed exactly where it did, in this call.

@@ -2,8 +2,8 @@
 //!
 //! `run` reads a litmus text from a reader and writes its report to a writer: its contract is the theorem of this
 //! repository, from the bytes in to the bytes out. `program` is the program around it. The definitions stand in specs/:
-//! `Answer` (what a run answers for a text), `ReportText`, `Verdict`, `Devices` and `Counted`; those in `Steps` serve
-//! private contracts alone.
+//! `Answer` (what a run answers for a text), `ReportText`, `ChoiceEvents`, `Verdict`, `Devices` and `Counted`; those in
+//! `Steps` serve private contracts alone.
 #![tactic(auto)]
 
 mod command;

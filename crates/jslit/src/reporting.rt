@@ -1,17 +1,18 @@
 //! The text of a report.
 
 ghost use Rattle.std.specs.Prelude.{◌≡◌, ℕ, ◌<◌, ◌≤◌, true, ◌++◌, All, OnOk, IfOk, IfSome, length, codes, string_bytes};
-ghost use Rattle.lit_search.specs.Event.{does_read};
-ghost use Rattle.lit_search.specs.Choice.{choices_of};
-ghost use Rattle.lit_search.specs.ReadsFrom.{byte_reads};
+ghost use Rattle.lit_paths.specs.Event.{does_read};
+ghost use Rattle.lit_paths.specs.Choice.{choices_of};
+ghost use Rattle.lit_paths.specs.ByteReads.{byte_reads};
 ghost use Rattle.lit_search.specs.Report.{IsEntry, IsReport};
 ghost use Rattle.std.specs.Fmt.{decimal};
 ghost use Rattle.jslit.specs.ReportText.{line, verdict_text, event_name, names_text, source_line, from_lines, register_text, registers_text, entry_text, report_text as text_of};
 ghost use Rattle.jslit.specs.Steps.ReadLine.{read_line, rest_after};
 
 use crate::verdict::Verdict;
+use lit_paths::{Event, Kind, Plan, combinations_are_listed};
 use lit_read::Test;
-use lit_search::{Event, Example, Found, Kind, Plan};
+use lit_search::{Example, Found};
 use std::alloc::{AllocError, Global};
 
 /// Writes a blank and the name of an event: of a byte of the block, or of an agent's access.
@@ -150,9 +151,10 @@ fn put_entry(
     ensures { OnOk result (string_bytes out.new ≡ string_bytes out.old
         ++ entry_text test.now (record { outcome = outcome.now; choice = example.now.choice; order = example.now.order.items })) }
 {
-    let events = plan.events(plan.combination(example.choice));
-    let events = events.as_slice();
-    let sources = plan.sources(example.choice);
+    combinations_are_listed();
+    let combination = plan.enter(plan.combination(example.choice));
+    let events = combination.events();
+    let sources = combination.sources(example.choice);
     out.push_str("outcome")?;
     put_registers(out, test, plan.names(), outcome)?;
     out.push_str("\n")?;

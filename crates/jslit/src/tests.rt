@@ -3,7 +3,9 @@
 use crate::command::program;
 use crate::counted::Counted;
 use crate::engine::{Options, run};
+use paths::PATH_REPORTS;
 use reports::REPORTS;
+use sizes::SIZE_REPORTS;
 use std::alloc::AllocGlobal;
 use std::process::Abort;
 use std::test::Fail;
@@ -11,8 +13,10 @@ use std::thread::Threads;
 
 mod devices;
 mod independent_reads;
+mod paths;
 mod refusals;
 mod reports;
+mod sizes;
 
 const ONE_WORKER: Options = Options {
     workers: 1,
@@ -60,6 +64,22 @@ fn prints(
 #[test]
 fn run_reports(rt: HostRuntime) -> Result<(), Fail> {
     for (text, report) in REPORTS {
+        writes(&rt, text.as_bytes(), report.as_bytes())?;
+    }
+    Ok(())
+}
+
+#[test]
+fn run_reports_on_paths(rt: HostRuntime) -> Result<(), Fail> {
+    for (text, report) in PATH_REPORTS {
+        writes(&rt, text.as_bytes(), report.as_bytes())?;
+    }
+    Ok(())
+}
+
+#[test]
+fn run_reports_on_sizes(rt: HostRuntime) -> Result<(), Fail> {
+    for (text, report) in SIZE_REPORTS {
         writes(&rt, text.as_bytes(), report.as_bytes())?;
     }
     Ok(())

@@ -1,11 +1,12 @@
 //! Whether a test's condition holds of its outcomes.
 
 ghost use Rattle.std.specs.Prelude.{◌≡◌, ℕ, ◌<◌, length};
-ghost use Rattle.lit_search.specs.Outcome.{names_of};
+ghost use Rattle.lit_paths.specs.Outcome.{names_of};
 ghost use Rattle.lit_search.specs.Report.{entry_at};
 ghost use Rattle.jslit.specs.Verdict.{IsVerdict};
 
-use lit_search::{Found, Plan};
+use lit_paths::Plan;
+use lit_search::Found;
 use std::fmt;
 
 /// What is true of the outcomes of a test and its condition.

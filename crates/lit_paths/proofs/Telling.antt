@@ -305,3 +305,7 @@ tells-whole owner ss steps walked = record {
 pub tells_runs : (owner : ℕ) (ss : Statements) (steps : List Step) → IsWalk ss steps → TellsRuns owner ss (path_on owner steps) (with_steps owner nothing_told steps)
 tells_runs owner ss steps walked =
     subst (λ (told : Told). TellsRuns owner ss (path_on owner steps) told) (sym (with_steps-told owner [] [] (replicate REGISTERS None) steps)) (tells-whole owner ss steps walked)
+
+pub one_value_each : (owner : ℕ) (ss : Statements) (run : Run) → IsRun owner ss run → length run.values ≡ length (read_places run.events)
+one_value_each owner ss run is =
+    (tells-whole owner ss is.path.steps is.path.walked).one_each run is (sym is.path.taken) ∙ ap (λ (p : Path). length (read_places p.events)) is.path.taken

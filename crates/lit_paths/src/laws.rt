@@ -1,9 +1,11 @@
 //! Laws of the definitions that the contracts cite.
 
-ghost use Rattle.std.specs.Prelude.{◌≡◌, map};
-ghost use Rattle.lit_read.specs.Syntax.{Litmus};
+ghost use Rattle.std.specs.Prelude.{◌≡◌, ℕ, length, map};
+ghost use Rattle.lit_read.specs.Syntax.{Litmus, Statements};
 ghost use Rattle.lit_paths.specs.Choice.{IsChoice, ListsChoices, ListsCombinations};
 ghost use Rattle.lit_paths.specs.Execution.{Execution, execution_choice, IsCandidateExecution};
+ghost use Rattle.lit_paths.specs.Run.{Run, IsRun};
+ghost use Rattle.lit_paths.specs.Told.{read_places};
 
 /// The list of a test's choices has exactly its choices, each once, and rises strictly: so a choice's number, its place
 /// in the list, is how many choices come before it.
@@ -15,6 +17,11 @@ pub fn choices_are_listed()
 /// strictly by the paths' decisions.
 pub fn combinations_are_listed()
     ensures { (t : Litmus) → ListsCombinations t }
+{}
+
+/// A run has one chosen value for each of its reads.
+pub fn runs_choose_for_each_read()
+    ensures { (owner : ℕ) (body : Statements) (run : Run) → IsRun owner body run → length run.values ≡ length (read_places run.events) }
 {}
 
 /// The decisions and sources of every candidate execution of a test are a choice of the test. So no decision of a run

@@ -25,7 +25,7 @@ pub use entered::Combination;
 pub use event::{Event, Events, Kind, Order3, Sources};
 pub use laws::{
     candidate_executions_have_choices, choices_are_listed, combinations_are_listed,
-    values_have_one_choice,
+    runs_choose_for_each_read, values_have_one_choice,
 };
 pub use limits::{
     ACCESS_LIMIT, BYTE_READ_LIMIT, CHOICE_LIMIT, COMBINATION_LIMIT, EVENT_LIMIT, NAME_LIMIT,

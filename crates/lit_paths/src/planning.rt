@@ -4,7 +4,7 @@ ghost use Rattle.std.specs.Prelude.{◌≡◌, ℕ, ◌+◌, ◌<◌, ◌≤◌,
 ghost use Rattle.std.specs.List.Sorted.{IsNonDecreasingBy};
 ghost use Rattle.lit_read.specs.declared.limits.TheConstants.{REGISTERS};
 ghost use Rattle.lit_paths.specs.Choice.{choices_of, combinations_of};
-ghost use Rattle.lit_paths.specs.declared.limits.TheConstants.{CHOICE_LIMIT, COMBINATION_LIMIT};
+ghost use Rattle.lit_paths.specs.declared.limits.TheConstants.{CHOICE_LIMIT, COMBINATION_LIMIT, NAME_LIMIT};
 ghost use Rattle.lit_paths.specs.Event.{event_at};
 ghost use Rattle.lit_paths.specs.Outcome.{names_of, meets as is_met};
 ghost use Rattle.lit_paths.specs.Plan.{events_in, choices_before, AreEventsIn, HasSources, IsOfCombination, ListsCandidates, TellsPath};
@@ -236,9 +236,10 @@ impl<'t> Plan<'t> {
         candidates_of(events, ByteRead { read, byte })
     }
 
-    /// The registers of an outcome, as agent and register: agents in order, registers rising.
+    /// The registers of an outcome, as agent and register: agents in order, registers rising. At most `NAME_LIMIT`.
     pub fn names(&self) -> &[(u8, u8)]
         ensures value { result.now ≡ names_of self.now }
+        ensures few { length result.now ≤ NAME_LIMIT }
         ensures known { All (λ name. (name.0 < length self.now.agents) × (name.1 < REGISTERS)) result.now }
     {
         self.names.as_slice()

@@ -49,7 +49,7 @@ impl<'p> Part<'p> {
     ghost use Rattle.lit_rel.specs.Parts.Given.{sources_of};
 
     /// A combination of a plan's test, by its number: below `combinations`. No byte read has a source yet.
-    pub fn open(plan: &'p Plan<'p>, combination: usize) -> Self
+    pub fn open(plan: &Plan<'p>, combination: usize) -> Self
         requires { combination < length (combinations_of plan.now) }
         ensures { result ≡ record { test = plan.now; combination = combination; sources = [] } }
     {
@@ -60,6 +60,13 @@ impl<'p> Part<'p> {
             fixed,
             bytes: SourcedBytes::new(),
         }
+    }
+
+    /// Its combination.
+    pub fn combination(&self) -> &Combination<'p>
+        ensures { result.now ≡ (self.now.test, self.now.combination) }
+    {
+        &self.combination
     }
 
     /// Gives the next byte read its source, by event number: a candidate of it. A byte read is left.

@@ -1,7 +1,9 @@
 -- A report with one more choice.
-use Rattle.std.proofs.Common.{◌≡◌, ◌≢◌, ◌⊎◌, inl, inr, ℕ, zero, suc, ◌+◌, ◌<◌, ◌≤◌, List, [], ◌∷◌, Some, refl, sym, ap, subst, ◌∙◌, arith}
-use Rattle.std.specs.Prelude.{slice_get}
+use Rattle.std.proofs.Common.{◌≡◌, ◌≢◌, ◌⊎◌, inl, inr, Ok, Err, ℕ, zero, suc, ◌+◌, ◌<◌, ◌≤◌, List, [], ◌∷◌, Some, refl, sym, ap, subst, ◌∙◌, arith}
+use Rattle.std.specs.Prelude.{OnOk, slice_get}
+use Rattle.std.specs.declared.result.Result.{Result}
 use Rattle.std.specs.List.{AllByRecursion}
+use Rattle.std.specs.List.Sorted.{IsStrictlySortedBy}
 use Rattle.std.specs.Cmp.Lexicographic.{slice_cmp, nat_list_cmp_total}
 use Rattle.std.specs.Ordering.{nat_cmp, match_ordering, ordering_reverse}
 use Rattle.std.specs.declared.cmp.Ordering.{Ordering}
@@ -10,8 +12,9 @@ use Rattle.std.proofs.lemmas.Map.Lookups.{exact_bytes}
 use Rattle.std.proofs.lemmas.Bool.{cases_lt}
 use Rattle.lit_read.specs.Syntax.{Litmus}
 use Rattle.lit_search.specs.Report.{Entry, Report, Gives, HasLeastOrder, IsEntry, IsReport}
-use Rattle.lit_search.specs.Examined.{IsExample, IsInvalid}
-use Rattle.lit_search.specs.Kept.{AreRising, with_entry}
+use Rattle.lit_search.specs.Searching.Examined.{IsExample, IsInvalid}
+use Rattle.lit_search.specs.Searching.Kept.{HasOutcome, with_entry}
+use Rattle.lit_search.proofs.RisingEntries.{AreRising, AreRising-with_entry}
 
 abbrev cmp : List ℕ → List ℕ → Ordering
 cmp a b = slice_cmp nat_cmp a b
@@ -110,6 +113,7 @@ kind_at e x y xs rest Greater is h f s = from_greater e x y xs is h (stands_case
 
 -- what stands in a list with e taken in
 kind : (e y : Entry) (xs : List Entry) → AreRising xs → Stands (with_entry e xs) y → Kind e xs y
+unfolding IsStrictlySortedBy
 kind e y [] h s = cases_to_kind (stands_cases e y [] s)
   where
     cases_to_kind : (y ≡ e) ⊎ Stands [] y → Kind e [] y
@@ -139,16 +143,6 @@ comes_at e x xs rest Greater is w = record { entry = e; stands = first_stands e 
 comes : (e : Entry) (xs : List Entry) → StandsWith (with_entry e xs) e.outcome
 comes e [] = record { entry = e; stands = first_stands e []; same = refl }
 comes e (x ∷ xs) = comes_at e x xs (with_entry e xs) (cmp x.outcome e.outcome) refl (comes e xs)
-
-rises : (xs : List Entry) → AreRising xs → (i j : ℕ) (a b : Entry) → i < j → slice_get xs i ≡ Some a → slice_get xs j ≡ Some b → cmp a.outcome b.outcome ≡ Less
-rises [] h i j a b lt p q = absurd (let e = p in cc)
-rises (x ∷ xs) h zero zero a b lt p q = absurd (omega arith)
-rises (x ∷ xs) h zero (suc j) a b lt p q =
-    let same : x ≡ a = (let e : Some x ≡ Some a = p in cc) in
-    let P : Entry → Type 0 = λ w. cmp w.outcome b.outcome ≡ Less in
-    subst P same (below x b xs h.0 (record { place = j; is = q }))
-rises (x ∷ xs) h (suc i) zero a b lt p q = absurd (omega arith)
-rises (x ∷ xs) h (suc i) (suc j) a b lt p q = rises xs h.1 i j a b (omega arith) p q
 
 module _ (t : Litmus) (from n : ℕ) where
   later : (entry : Entry) → IsEntry t from n entry → IsEntry t from (n + 1) entry
@@ -181,10 +175,10 @@ module _ (t : Litmus) (from n : ℕ) where
     entry_of_kind y (inr s) = later y (h.each s.place y s.is)
 
     -- an example adds its outcome, unless it is there already
-    pub IsReport-example : AreRising xs → AreRising (with_entry e xs) → IsReport t from (n + 1) (record { entries = with_entry e xs })
-    IsReport-example up risen = record {
-      rising = rises (with_entry e xs) risen;
-      each = λ i y is. entry_of_kind y (kind e y xs up (record { place = i; is = is }));
+    pub IsReport-example : IsReport t from (n + 1) (record { entries = with_entry e xs })
+    IsReport-example = record {
+      rising = AreRising-with_entry e xs h.rising;
+      each = λ i y is. entry_of_kind y (kind e y xs h.rising (record { place = i; is = is }));
       whole = λ m outcome low lt g. by m outcome low lt g (cases_lt m n);
     }
       where
@@ -201,28 +195,39 @@ module _ (t : Litmus) (from n : ℕ) where
 
 -- nothing is reported of no choice
 pub IsReport-empty : (t : Litmus) (n : ℕ) → IsReport t n n (record { entries = [] })
+unfolding IsStrictlySortedBy
 IsReport-empty t n = record {
-  rising = λ i j a b lt p q. absurd (let e = p in cc);
+  rising = tt;
   each = λ i entry is. absurd (let e = is in cc);
   whole = λ m outcome low high g. absurd (omega arith);
 }
 
--- what a search keeps: the report of the choices before n, with its entries in rising order
-pub record IsSoFar (t : Litmus) (from n : ℕ) (found : Report) : Type 0 where
-  pub rising : AreRising found.entries
-  pub report : IsReport t from n found
-
 report_is : (a : Report) (xs : List Entry) → a.entries ≡ xs → (P : Report → Type 0) → P (record { entries = xs }) → P a
 report_is a xs e P p = let Q : List Entry → Type 0 = λ ys. P (record { entries = ys }) in subst Q (sym e) p
 
-pub so_far_empty : (t : Litmus) (n : ℕ) (found : Report) → found.entries ≡ [] → IsSoFar t n n found
-so_far_empty t n found is = record { rising = let Q : List Entry → Type 0 = AreRising in subst Q (sym is) tt; report = report_is found [] is (IsReport t n n) (IsReport-empty t n) }
+pub so_far_empty : (t : Litmus) (n : ℕ) (found : Report) → found.entries ≡ [] → IsReport t n n found
+so_far_empty t n found is = report_is found [] is (IsReport t n n) (IsReport-empty t n)
 
-pub so_far_more : (t : Litmus) (from n : ℕ) (e : Entry) (old new : Report) → from ≤ n → e.choice ≡ n → IsSoFar t from n old → IsExample t n e.outcome e.order → new.entries ≡ with_entry e old.entries → AreRising new.entries → IsSoFar t from (n + 1) new
-so_far_more t from n e old new le chosen s example is risen = record {
-  rising = risen;
-  report = report_is new (with_entry e old.entries) is (IsReport t from (n + 1)) (IsReport-example t from n e old.entries example chosen le s.report s.rising (let Q : List Entry → Type 0 = AreRising in subst Q is risen));
+pub so_far_more : (t : Litmus) (from n : ℕ) (e : Entry) (old new : Report) → from ≤ n → e.choice ≡ n → IsReport t from n old → IsExample t n e.outcome e.order → new.entries ≡ with_entry e old.entries → IsReport t from (n + 1) new
+so_far_more t from n e old new le chosen so_far example is =
+    report_is new (with_entry e old.entries) is (IsReport t from (n + 1)) (IsReport-example t from n e old.entries example chosen le so_far)
+
+-- a choice whose outcome stands already adds nothing
+pub IsReport-kept : (t : Litmus) (from n : ℕ) (found : Report) (outcome : List ℕ) → IsReport t from n found → HasOutcome found outcome → ((other : List ℕ) → Gives t n other → other ≡ outcome) → IsReport t from (n + 1) found
+IsReport-kept t from n found outcome so_far has only = record {
+  rising = so_far.rising;
+  each = λ i entry is. later t from n entry (so_far.each i entry is);
+  whole = λ m other le lt g. by m other le lt g (cases_lt m n);
 }
+  where
+    by : (m : ℕ) (other : List ℕ) → from ≤ m → m < n + 1 → Gives t m other → (m < n) ⊎ (n ≤ m) → (i : ℕ) × (entry : Entry) × (slice_get found.entries i ≡ Some entry) × (entry.outcome ≡ other)
+    by m other le lt g (inl below) = so_far.whole m other le below g
+    by m other le lt g (inr above) =
+        let same : m ≡ n = omega arith in
+        let P : ℕ → Type 0 = λ k. Gives t k other in
+        (has.place, has.entry, has.is, has.same ∙ sym (only other (subst P same g)))
 
-pub so_far_same : (t : Litmus) (from n : ℕ) (found : Report) → IsSoFar t from n found → IsInvalid t n → IsSoFar t from (n + 1) found
-so_far_same t from n found s invalid = record { rising = s.rising; report = IsReport-invalid t from n found s.report invalid }
+-- what follows from what holds where there is no fault
+pub on_ok : {X E : Type 0} (r : Result X E) (A B : Type 0) → (A → B) → OnOk r A → OnOk r B
+on_ok (Ok x) A B f a = f a
+on_ok (Err e) A B f a = tt

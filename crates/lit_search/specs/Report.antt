@@ -2,11 +2,13 @@
 use Rattle.std.specs.Prelude.{◌≡◌, ℕ, ◌<◌, ◌≤◌, List, [], Some, slice_get, slice_index_or}
 use Rattle.std.specs.Cmp.Lexicographic.{slice_cmp}
 use Rattle.std.specs.Ordering.{nat_cmp}
-use Rattle.std.specs.declared.cmp.Ordering.TheVariants.{Less}
+use Rattle.std.specs.declared.cmp.Ordering.{Ordering}
+use Rattle.std.specs.List.Sorted.{IsStrictlySortedBy}
 use Rattle.lit_read.specs.Syntax.{Litmus}
-use Rattle.lit_search.specs.Choice.{choices_of}
-use Rattle.lit_search.specs.MemoryOrder.{IsLeastMemoryOrder}
-use Rattle.lit_search.specs.ValidExecution.{Execution, execution_events, execution_choice, execution_outcome, IsValidExecution}
+use Rattle.lit_paths.specs.Choice.{choices_of}
+use Rattle.lit_order.specs.MemoryOrder.{IsLeastMemoryOrder}
+use Rattle.lit_paths.specs.Execution.{Execution, execution_events, execution_choice, execution_outcome}
+use Rattle.lit_search.specs.ValidExecution.{IsValidExecution}
 
 -- an outcome with its example: the number of a choice, and a memory-order of it
 pub record Entry : Type 0 where
@@ -16,6 +18,10 @@ pub record Entry : Type 0 where
 
 pub record Report : Type 0 where
   pub entries : List Entry
+
+-- how entries compare by their outcomes, as lists
+abbrev pub outcome_cmp : Entry → Entry → Ordering
+outcome_cmp a b = slice_cmp nat_cmp a.outcome b.outcome
 
 -- the entry at a place; past the last one, one with no outcome and no order
 abbrev pub entry_at : Report → ℕ → Entry
@@ -44,6 +50,6 @@ pub record IsEntry (t : Litmus) (from to : ℕ) (entry : Entry) : Type 0 where
 -- The report of the choices [from, to): the outcomes of all valid executions whose choice has a number there,
 -- rising, each once, each with the least choice and the least memory-order of that choice.
 pub record IsReport (t : Litmus) (from to : ℕ) (report : Report) : Type 0 where
-  pub rising : (i j : ℕ) (a b : Entry) → i < j → slice_get report.entries i ≡ Some a → slice_get report.entries j ≡ Some b → slice_cmp nat_cmp a.outcome b.outcome ≡ Less
+  pub rising : IsStrictlySortedBy outcome_cmp report.entries
   pub each : (i : ℕ) (entry : Entry) → slice_get report.entries i ≡ Some entry → IsEntry t from to entry
   pub whole : (n : ℕ) (outcome : List ℕ) → from ≤ n → n < to → Gives t n outcome → (i : ℕ) × (entry : Entry) × (slice_get report.entries i ≡ Some entry) × (entry.outcome ≡ outcome)

@@ -4,11 +4,11 @@ ghost use Rattle.std.specs.Prelude.{◌≡◌, length};
 ghost use Rattle.std.specs.List.Sorted.{IsBinarySearchResult, IsSearchInRange};
 ghost use Rattle.std.specs.Cmp.Lexicographic.{slice_cmp};
 ghost use Rattle.std.specs.Ordering.{nat_cmp};
-ghost use Rattle.lit_search.specs.KeptEntry.{entry_of};
+ghost use Rattle.lit_search.specs.Entry.{entry_of};
 
-use crate::event::Order;
-use crate::limits::NAME_LIMIT;
 use arrayvec::ArrayVec;
+use lit_order::Order;
+use lit_paths::NAME_LIMIT;
 use std::alloc::{AllocError, Global};
 use std::cmp::Ordering;
 use std::marker::Model;
@@ -45,31 +45,32 @@ impl From<AllocError> for SearchFault {
     }
 }
 
+/// An outcome with its example.
 #[derive(Debug, Drop)]
-struct Kept {
-    outcome: Outcome,
-    example: Example,
+pub(crate) struct Entry {
+    pub outcome: Outcome,
+    pub example: Example,
 }
 
-/// How a kept outcome compares with another one, as lists.
-fn compared(kept: &Kept, outcome: &[u32]) -> Ordering
-    ensures { result ≡ slice_cmp nat_cmp (entry_of kept.now).outcome outcome.now }
+/// How the outcome of an entry compares with another one, as lists.
+fn compared(entry: &Entry, outcome: &[u32]) -> Ordering
+    ensures { result ≡ slice_cmp nat_cmp (entry_of entry.now).outcome outcome.now }
 {
-    kept.outcome.as_slice().cmp(&outcome)
+    entry.outcome.as_slice().cmp(&outcome)
 }
 
-/// Where an outcome is kept, or where it would be.
-fn place_of(kept: &[Kept], outcome: &[u32]) -> Result<usize, usize>
-    ensures bound { IsSearchInRange result (length kept.now) }
-    ensures position { IsBinarySearchResult (λ k. slice_cmp nat_cmp (entry_of k).outcome outcome.now) kept.now result }
+/// Where an outcome is, or where it would be.
+fn place_of(entries: &[Entry], outcome: &[u32]) -> Result<usize, usize>
+    ensures bound { IsSearchInRange result (length entries.now) }
+    ensures position { IsBinarySearchResult (λ k. slice_cmp nat_cmp (entry_of k).outcome outcome.now) entries.now result }
 {
-    kept.binary_search_by(|k| compared(k, outcome))
+    entries.binary_search_by(|k| compared(k, outcome))
 }
 
 /// The outcomes of a range of choices, rising, each with its example. A clause sees it as a `Report`.
 #[derive(Drop)]
 pub struct Found {
-    kept: Vec<Kept>,
+    entries: Vec<Entry>,
 }
 
 impl Model for Found {
@@ -78,24 +79,25 @@ impl Model for Found {
     ghost Value = { Report };
 
     ghost use Rattle.lit_search.specs.Found.{report_of};
-    ghost use Rattle.lit_search.specs.Kept.{AreRising};
+    ghost use Rattle.std.specs.List.Sorted.{IsStrictlySortedBy};
+    ghost use Rattle.lit_search.specs.Report.{outcome_cmp};
 
     ghost view = { report_of };
 
-    ghost invariant = { λ f. AreRising (report_of f).entries };
+    ghost invariant = { λ f. IsStrictlySortedBy outcome_cmp (report_of f).entries };
 }
 
 impl Found {
-    ghost use Rattle.std.specs.Prelude.{◌≡◌, ◌<◌, ◌==◌, [], length, OnOk, OnErr};
+    ghost use Rattle.std.specs.Prelude.{◌≡◌, ◌↔◌, ◌<◌, ◌==◌, [], length, IsTrue, OnOk, OnErr};
     ghost use Rattle.lit_search.specs.Report.{entry_at};
-    ghost use Rattle.lit_search.specs.Kept.{AreRising, with_entry};
+    ghost use Rattle.lit_search.specs.Searching.Kept.{HasOutcome, with_entry};
 
     /// Nothing found yet.
     pub(crate) fn new(alloc: Global) -> Self
         ensures { result.entries ≡ [] }
     {
         Found {
-            kept: Vec::new(alloc),
+            entries: Vec::new(alloc),
         }
     }
 
@@ -103,14 +105,14 @@ impl Found {
     pub fn len(&self) -> usize
         ensures { result ≡ length self.now.entries }
     {
-        self.kept.len()
+        self.entries.len()
     }
 
     /// Whether there is no outcome.
     pub fn is_empty(&self) -> bool
         ensures { result ≡ (length self.now.entries == 0) }
     {
-        self.kept.is_empty()
+        self.entries.is_empty()
     }
 
     /// The values of an outcome, by its place in the rising order, from 0. The place is below `len()`.
@@ -118,7 +120,7 @@ impl Found {
         requires { place < length self.now.entries }
         ensures { result.now ≡ (entry_at self.now place).outcome }
     {
-        &self.kept[place].outcome
+        &self.entries[place].outcome
     }
 
     /// The example of an outcome, by its place in the rising order, from 0. The place is below `len()`.
@@ -127,19 +129,24 @@ impl Found {
         ensures choice { result.now.choice ≡ (entry_at self.now place).choice }
         ensures order { result.now.order.items ≡ (entry_at self.now place).order }
     {
-        &self.kept[place].example
+        &self.entries[place].example
+    }
+
+    /// Whether an outcome is there.
+    pub(crate) fn has(&self, outcome: &[u32]) -> bool
+        ensures { IsTrue result ↔ HasOutcome self.now outcome.now }
+    {
+        place_of(&self.entries, outcome).is_ok()
     }
 
     /// Takes in one more choice: its outcome gets its place, unless it is there already.
-    pub(crate) fn keep(&mut self, outcome: Outcome, example: Example) -> Result<(), AllocError>
-        ensures ok { OnOk result (self.new.entries ≡ with_entry (record { outcome = outcome.items; choice = example.choice; order = example.order.items }) self.old.entries) }
+    pub(crate) fn keep(&mut self, entry: Entry) -> Result<(), AllocError>
+        ensures ok { OnOk result (self.new.entries ≡ with_entry (entry_of entry) self.old.entries) }
         ensures err { OnErr result (self.new ≡ self.old) }
-        ensures was_rising { AreRising self.old.entries }
-        ensures rising { AreRising self.new.entries }
     {
-        match place_of(&self.kept, &outcome) {
+        match place_of(&self.entries, &entry.outcome) {
             Ok(_) => Ok(()),
-            Err(place) => Ok(self.kept.insert(place, Kept { outcome, example })?),
+            Err(place) => Ok(self.entries.insert(place, entry)?),
         }
     }
 }

@@ -1,63 +1,89 @@
 //! The outcomes of a range of choices.
 
-ghost use Rattle.std.specs.Prelude.{ℕ, ◌<◌, ◌≤◌, ◌↔◌, List, length, IsTrue, MatchOption, IfOk};
-ghost use Rattle.lit_search.specs.Choice.{choices_of};
-ghost use Rattle.lit_search.specs.Examined.{IsAllowed, IsOrdered, IsLeastOrdered, IsExample, IsInvalid};
-ghost use Rattle.lit_search.specs.Given.{AreGiven};
-ghost use Rattle.lit_search.specs.Relating.{IsHappensBefore};
+ghost use Rattle.std.specs.Prelude.{◌≡◌, ℕ, ◌+◌, ◌<◌, ◌≤◌, ◌↔◌, List, length, IsTrue, MatchOption, IfOk, OnOk};
+ghost use Rattle.lit_paths.specs.Choice.{AreSources, choices_of, combinations_of};
+ghost use Rattle.lit_paths.specs.Plan.{choices_before};
+ghost use Rattle.lit_rel.specs.Part.{IsComplete, part_events, with_sources};
 ghost use Rattle.lit_search.specs.Report.{IsReport};
+ghost use Rattle.lit_search.specs.Searching.Examined.{IsOrdered, IsLeastOrdered};
 
-use crate::bit_rows::Rows;
-use crate::event::{Event, Order};
-use crate::forbidding::between;
-use crate::found::{Example, Found, Outcome, SearchFault};
-use crate::orders::least_order;
+use crate::decisions::all_agree;
+use crate::found::{Entry, Example, Found, SearchFault};
 use crate::outcomes::outcome_of;
-use crate::planning::Plan;
-use crate::reading_checks::{is_coherent, is_tear_free};
-use crate::relations::{happens_before, is_acyclic};
-use std::alloc::Global;
+use crate::values::values_of;
+use lit_order::{Order, OrderFinder, PlainFinder};
+use lit_paths::{Plan, combinations_are_listed, runs_choose_for_each_read};
+use lit_rel::Part;
+use std::alloc::{AllocError, Global};
 
-/// Whether the clauses of a valid execution hold that do not speak of the order of memory.
-fn is_allowed(events: &[Event], sources: &[u8], before: &Rows) -> bool
-    requires given { AreGiven events.now sources.now }
-    requires rows { IsHappensBefore events.now sources.now before.now }
-    ensures { IsTrue result ↔ IsAllowed events.now sources.now }
+/// Gives a part these sources in place of those that it has.
+fn give(part: &mut Part<'_>, sources: &[u8])
+    requires { AreSources (part_events part.old) sources.now }
+    ensures { part.new ≡ with_sources part.old sources.now }
 {
-    if !is_acyclic(before) {
-        return false;
+    while part.len() > 0 {
+        part.pop();
     }
-    if !is_coherent(events, sources, before) {
-        return false;
+    for source in sources {
+        part.push(*source);
     }
-    is_tear_free(events, sources)
 }
 
-/// The least memory-order of events and sources, or `None` where no valid execution has them.
-fn order_of(events: &[Event], sources: &[u8]) -> Option<Order>
-    requires { AreGiven events.now sources.now }
-    ensures { MatchOption result ((order : List ℕ) → ¬ IsOrdered events.now sources.now order) (λ order. IsLeastOrdered events.now sources.now order.items) }
+/// The least memory-order of a part, or `None` where no valid execution has it. Each byte read has a source.
+fn order_of<F: OrderFinder>(finder: &F, part: &Part<'_>) -> Option<Order>
+    requires { IsComplete part.now }
+    ensures { MatchOption result
+        ((order : List ℕ) → ¬ IsOrdered (part_events part.now) part.now.sources order)
+        (λ order. IsLeastOrdered (part_events part.now) part.now.sources order.items) }
 {
-    let before = happens_before(events, sources);
-    if !is_allowed(events, sources, &before) {
+    if !part.tear_free() {
         return None;
     }
-    least_order(&before, &between(events, sources, &before))
+    let before = part.happens_before();
+    if !before.is_irreflexive() || !part.coherent() {
+        return None;
+    }
+    finder.least_order(&before, &part.between())
 }
 
-/// The outcome of a choice and its least memory-order, or `None` where no valid execution has this choice.
-fn examine(plan: &Plan<'_>, choice: u64) -> Option<(Outcome, Order)>
-    requires { choice < length (choices_of plan.now) }
-    ensures { MatchOption result (IsInvalid plan.now choice) (λ shown. IsExample plan.now choice shown.0.items shown.1.items) }
+/// Takes one more choice on a part's combination into what is found: its outcome with this example, unless no valid
+/// execution has the choice, or the outcome is there already. The part is given the choice's sources.
+fn take_in<F: OrderFinder>(
+    finder: &F,
+    plan: &Plan<'_>,
+    combination: usize,
+    part: &mut Part<'_>,
+    choice: u64,
+    found: &mut Found,
+) -> Result<(), AllocError>
+    requires known { combination < length (combinations_of plan.now) }
+    requires test { part.old.test ≡ plan.now }
+    requires combination { part.old.combination ≡ combination }
+    requires low { choices_before plan.now combination ≤ choice }
+    requires high { choice < choices_before plan.now (combination + 1) }
+    ensures found { OnOk result ((from : ℕ) → from ≤ choice → IsReport plan.now from choice found.old → IsReport plan.now from (choice + 1) found.new) }
+    ensures test { part.new.test ≡ plan.now }
+    ensures combination { part.new.combination ≡ combination }
 {
-    let test = plan.test();
-    let events = plan.events(plan.combination(choice));
-    let events = events.as_slice();
-    let sources = plan.sources(choice);
-    let sources = sources.as_slice();
-    match order_of(events, sources) {
-        None => None,
-        Some(order) => Some((outcome_of(test, plan.names(), events, sources), order)),
+    combinations_are_listed();
+    runs_choose_for_each_read();
+    let sources = part.combination().sources(choice);
+    give(part, sources.as_slice());
+    let values = values_of(part);
+    let values = values.as_slice();
+    if !all_agree(plan, combination, values) {
+        return Ok(());
+    }
+    let outcome = outcome_of(plan, combination, values);
+    if found.has(outcome.as_slice()) {
+        return Ok(());
+    }
+    match order_of(finder, part) {
+        None => Ok(()),
+        Some(order) => {
+            let example = Example { choice, order };
+            found.keep(Entry { outcome, example })
+        }
     }
 }
 
@@ -74,10 +100,25 @@ pub fn search_range(
     ensures { IfOk result (IsReport plan.now from to) }
 {
     let mut found = Found::new(alloc);
-    for choice in from..to {
-        if let Some((outcome, order)) = examine(plan, choice) {
-            found.keep(outcome, Example { choice, order })?;
+    let mut next = from;
+    while next < to {
+        let combination = plan.combination(next);
+        let mut part = Part::open(plan, combination);
+        let end = part.combination().end().min(to);
+        for choice in next..end {
+            take_in(
+                &PlainFinder,
+                plan,
+                combination,
+                &mut part,
+                choice,
+                &mut found,
+            )?;
         }
+        next = end;
     }
     Ok(found)
 }
+
+#[cfg(test)]
+mod tests;

@@ -1,37 +1,40 @@
-//! The values that are read (ECMA-262, 2024, 29.5.4 and 29.5.5).
+//! The values that are read in a choice.
 
-ghost use Rattle.std.specs.Prelude.{◌≡◌, ◌≤◌};
-ghost use Rattle.lit_search.specs.Event.{event_at, payload_at};
-ghost use Rattle.lit_search.specs.Given.{AreGiven};
-ghost use Rattle.lit_search.specs.ReadsFrom.{value_of};
+ghost use Rattle.std.specs.Prelude.{◌≡◌, ◌<◌, length};
+ghost use Rattle.lit_paths.specs.Event.{event_at};
+ghost use Rattle.lit_rel.specs.Part.{IsComplete, part_events};
+ghost use Rattle.lit_rel.specs.ReadsFrom.{value_of};
+ghost use Rattle.lit_search.specs.Searching.ReadValues.{read_values, value_or_0};
 
-use crate::byte_sources::sourced_bytes;
-use crate::event::Event;
-use crate::ranges::event_at;
+use arrayvec::ArrayVec;
+use lit_paths::{EVENT_LIMIT, Event};
+use lit_rel::Part;
 
-/// The value of a read of at most four bytes, from the payload bytes of its sources.
-pub fn value_of_read(events: &[Event], sources: &[u8], read: usize) -> u32
-    requires given { AreGiven events.now sources.now }
-    requires size { (event_at events.now read).size ≤ 4 }
-    ensures { result ≡ value_of events.now sources.now read }
+/// What each event of a choice reads, by the event's number; 0 of one that does not read.
+pub(crate) type Values = ArrayVec<u32, EVENT_LIMIT>;
+
+/// What the events of a choice read from its sources. Each byte read has one.
+pub(crate) fn values_of(part: &Part<'_>) -> Values
+    requires { IsComplete part.now }
+    ensures { result.items ≡ read_values (part_events part.now) part.now.sources }
 {
-    let sourced = sourced_bytes(events, sources);
-    let bytes = sourced.as_slice();
-    let mut value: u32 = 0;
-    for place in (0..bytes.len()).rev() {
-        let byte = bytes[place];
-        if usize::from(byte.read) == read {
-            let source = event_at(events, usize::from(byte.source));
-            value = 256 * value + u32::from(payload_at(source, byte.byte));
-        }
+    let mut values = Values::new();
+    for (number, event) in part.combination().events().iter().enumerate() {
+        values.push(value_of_event(part, number as u8, event));
     }
-    value
+    values
 }
 
-/// The byte that an event stores at a byte of its range, from the block's start.
-fn payload_at(event: &Event, byte: u16) -> u8
-    ensures { result ≡ payload_at event.now byte }
+/// What the event with a number reads, or 0 where it does not read.
+fn value_of_event(part: &Part<'_>, number: u8, event: &Event) -> u32
+    requires complete { IsComplete part.now }
+    requires known { number < length (part_events part.now) }
+    requires event { event.now ≡ event_at (part_events part.now) number }
+    ensures { result ≡ value_or_0 (value_of (part_events part.now) part.now.sources) number event.now }
 {
-    let offset = usize::from(byte.saturating_sub(u16::from(event.first)));
-    event.payload.get(offset).copied().unwrap_or(0)
+    if event.kind.does_read() {
+        part.value(number)
+    } else {
+        0
+    }
 }

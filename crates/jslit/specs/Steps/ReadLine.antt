@@ -1,8 +1,8 @@
 -- The line of one event, where the sources of its bytes are the first of a list (this project's own).
 use Rattle.std.specs.Prelude.{ℕ, if◌then◌else◌, List, [], take, drop}
 use Rattle.lit_read.specs.Syntax.{Litmus}
-use Rattle.lit_search.specs.declared.event.Event.{Event}
-use Rattle.lit_search.specs.Event.{does_read}
+use Rattle.lit_paths.specs.declared.event.Event.{Event}
+use Rattle.lit_paths.specs.Event.{does_read}
 use Rattle.jslit.specs.ReportText.{source_line}
 
 -- the line of an event that reads; nothing of another event

@@ -5,7 +5,7 @@ use super::{prints, writes};
 use std::test::Fail;
 
 /// In the order of the faults' numbers.
-const REFUSALS: [Reported; 22] = [
+const REFUSALS: [Reported; 20] = [
     // comparison without value
     (
         "test sb
@@ -106,16 +106,6 @@ r0 = Atomics.load(U8, 0)
 ",
         "refused 12 missing_part line 8\n",
     ),
-    // wider view
-    (
-        "test t\nbytes 4\nagent A\nr0 = U16[0]\ncheck A.r0 == 0\n",
-        "refused 19 unsupported\n",
-    ),
-    // branch
-    (
-        "test t\nbytes 4\nagent A\nr0 = U8[0]\nif r0 == 0 {\n}\ncheck A.r0 == 0\n",
-        "refused 19 unsupported\n",
-    ),
     // empty text
     ("", "refused 12 missing_part line 1\n"),
 ];
@@ -159,4 +149,15 @@ fn thirteen_accesses(rt: HostRuntime) -> Result<(), Fail> {
     text.extend_from_slice(b"check A.r0 == 0\n")?;
     writes(&rt, &text, b"refused 14 too_many_events\n")?;
     prints(&rt, &text, b"refused 14 too_many_events\n", 1)
+}
+
+#[test]
+fn thirteen_branches(rt: HostRuntime) -> Result<(), Fail> {
+    let mut text = Vec::from_slice(rt.alloc(), b"test t\nbytes 1\nagent A\nr0 = U8[0]\n")?;
+    for _ in 0..13 {
+        text.extend_from_slice(b"if r0 == 0 {\n}\n")?;
+    }
+    text.extend_from_slice(b"check A.r0 == 0\n")?;
+    writes(&rt, &text, b"refused 13 too_many_paths\n")?;
+    prints(&rt, &text, b"refused 13 too_many_paths\n", 1)
 }

@@ -1,8 +1,8 @@
 use Rattle.std.proofs.Common.{◌≡◌, ◌++◌, ℕ, false, List, [], None, length, drop, get_or, string_bytes, sym, ap, ◌∙◌, append_assoc}
 use Rattle.std.proofs.lemmas.List.{append-nil, drop_all}
-use Rattle.lit_search.specs.declared.event.Event.{Event}
-use Rattle.lit_search.specs.declared.event.Kind.TheVariants.{Read}
-use Rattle.lit_search.specs.declared.event.Order3.TheVariants.{SeqCst}
+use Rattle.lit_paths.specs.declared.event.Event.{Event}
+use Rattle.lit_paths.specs.declared.event.Kind.TheVariants.{Read}
+use Rattle.lit_paths.specs.declared.event.Order3.TheVariants.{SeqCst}
 use Rattle.jslit.proofs.SourceLines.{lines_from, lines_more, left_more, room, from_lines-is, known_after}
 use Rattle.jslit.proofs.reporting.put_sources.Goals as goal
 

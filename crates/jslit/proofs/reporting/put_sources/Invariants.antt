@@ -1,6 +1,6 @@
 use Rattle.std.proofs.Common.{◌≡◌, ◌++◌, ◌<◌, drop, length, string_bytes}
 use Rattle.std.specs.Prelude.{All}
-use Rattle.lit_search.specs.ReadsFrom.{byte_reads_from}
+use Rattle.lit_paths.specs.ByteReads.{byte_reads_from}
 use Rattle.jslit.proofs.SourceLines.{lines_from}
 use Rattle.jslit.proofs.reporting.put_sources.Given as goal
 

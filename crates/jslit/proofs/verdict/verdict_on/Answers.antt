@@ -1,5 +1,5 @@
 use Rattle.std.proofs.Common.{◌≡◌, ◌+◌, true, sym, ap, ◌∙◌}
-use Rattle.lit_search.specs.Outcome.{meets}
+use Rattle.lit_paths.specs.Outcome.{meets}
 use Rattle.jslit.proofs.Judging.{met_at, judged_start, judged_met, judged_unmet, judged_with}
 use Rattle.jslit.proofs.verdict.verdict_on.Goals as goal
 use Rattle.jslit.proofs.verdict.verdict_on.Goals.{then-meets, else-meets}

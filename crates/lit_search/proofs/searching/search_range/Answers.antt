@@ -1,21 +1,26 @@
-use Rattle.std.proofs.Common.{ℕ, ◌+◌, refl, subst, sym, arith}
-use Rattle.lit_search.specs.Report.{Report}
-use Rattle.lit_search.proofs.Reports.{IsSoFar, so_far_empty, so_far_more, so_far_same}
+use Rattle.std.proofs.Common.{◌≡◌, ◌≤◌, ℕ, ◌+◌, subst, ap, ◌∙◌, arith}
+use Rattle.lit_read.specs.Syntax.{Litmus}
+use Rattle.lit_paths.specs.Plan.{choices_before}
+use Rattle.lit_rel.specs.Part.{PartModel}
+use Rattle.lit_search.specs.Report.{IsReport}
 use Rattle.lit_search.proofs.searching.search_range.Goals as goal
-use Rattle.lit_search.proofs.searching.search_range.Goals.{in-Some+in_ok-keep, in_default}
-
-pub loop-choice-init : goal.loop-choice-init
-loop-choice-init c = so_far_empty _ _ c.new-found.result c.new-found.ensures
 
 pub loop-choice-preserved : goal.loop-choice-preserved
-loop-choice-preserved c =
-    let P : Report → Type 0 = IsSoFar c.args.plan.now c.args.from (c.loop-choice.choice + 1) in
-    elim c.match-examine.branch [
-      | in-Some+in_ok-keep w ↦ subst P (sym w.found-is) (so_far_more c.args.plan.now c.args.from c.loop-choice.choice _ c.loop-choice.found w.keep.new.self c.loop-choice.auto.choice refl c.loop-choice.invariant w.in-Some.ensures w.in_ok-keep.ensures.ok w.in_ok-keep.ensures.rising)
-      | in_default w ↦ subst P (sym w.found-is) (so_far_same c.args.plan.now c.args.from c.loop-choice.choice c.loop-choice.found c.loop-choice.invariant w.in_default.ensures)
-    ]
+loop-choice-preserved c = record {
+  so_far = c.in_ok-take_in.ensures.found c.args.from (omega (arith, c.loop-next.invariant.after, c.loop-choice.auto.choice)) c.loop-choice.invariant.so_far;
+  test = c.take_in.ensures.test;
+  combination = c.take_in.ensures.combination;
+}
 
-pub returns : goal.returns
-returns c =
-    let P : ℕ → Type 0 = λ n. IsSoFar c.args.plan.now c.args.from n c.loop-choice.found in
-    (subst P (omega arith) c.loop-choice.invariant).report
+pub loop-next-preserved : goal.loop-next-preserved
+loop-next-preserved c =
+    let entered : c.combination.result.now ≡ (c.args.plan.now, c.combination-combination.result) =
+    c.combination.ensures ∙ ap (λ (p : PartModel). (p.test, p.combination)) c.open-part.ensures in
+    let next : c.loop-next.next ≤ c.min-end.result =
+    omega (arith, c.min-end.ensures, c.end.ensures, ap (λ (e : Litmus × ℕ). choices_before e.0 (e.1 + 1)) entered, c.combination-combination.ensures.high, c.loop-next-test.true) in
+    let at_end : c.loop-choice.choice ≡ c.min-end.result = omega (arith, next, c.loop-choice-test.false, c.loop-choice.auto.choice-end, c.loop-choice.auto.choice) in
+    record {
+      after = omega (arith, next, c.loop-next.invariant.after);
+      before = omega (arith, c.min-end.ensures);
+      so_far = subst (λ (n : ℕ). IsReport c.args.plan.now c.args.from n c.loop-choice.found) at_end c.loop-choice.invariant.so_far;
+    }

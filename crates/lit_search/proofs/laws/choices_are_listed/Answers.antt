@@ -1,5 +1,0 @@
-use Rattle.lit_search.proofs.ChoiceLists.{lists_choices}
-use Rattle.lit_search.proofs.laws.choices_are_listed.Goals as goal
-
-pub returns : goal.returns
-returns c = lists_choices

@@ -1,0 +1,88 @@
+use super::*;
+use lit_paths::plan;
+use lit_read::read;
+use std::test::Fail;
+
+const LOAD_BUFFERING: &[u8] = b"test lb
+bytes 2
+agent A
+r0 = U8[0]
+if r0 == 1 {
+U8[1] = 1
+}
+agent B
+r0 = U8[1]
+if r0 == 1 {
+U8[0] = 1
+}
+check A.r0 == 1 && B.r0 == 1
+";
+
+const EXCHANGES: &[u8] = b"test cas
+bytes 1
+agent A
+r0 = Atomics.compareExchange(U8, 0, 0, 1)
+agent B
+r0 = Atomics.compareExchange(U8, 0, 0, 1)
+check A.r0 == 0 && B.r0 == 0
+";
+
+#[test]
+fn load_buffering_outcomes(rt: HostRuntime) -> Result<(), Fail> {
+    let test = read(rt.alloc(), LOAD_BUFFERING)?;
+    let plan = plan(rt.alloc(), &test)?;
+    assert_eq!(rt; plan.total(), 9);
+    let found = search_range(rt.alloc(), &plan, 0, 9)?;
+    assert_eq!(rt; found.len(), 2);
+    assert_eq!(rt; found.outcome(0), [0, 0].as_slice());
+    assert_eq!(rt; found.example(0).choice, 8);
+    assert_eq!(rt; found.outcome(1), [1, 1].as_slice());
+    assert_eq!(rt; found.example(1).choice, 3);
+    let found = search_range(rt.alloc(), &plan, 4, 8)?;
+    assert!(rt; found.is_empty());
+    Ok(())
+}
+
+#[test]
+fn exchanges_outcomes(rt: HostRuntime) -> Result<(), Fail> {
+    let test = read(rt.alloc(), EXCHANGES)?;
+    let plan = plan(rt.alloc(), &test)?;
+    assert_eq!(rt; plan.total(), 9);
+    let found = search_range(rt.alloc(), &plan, 0, 9)?;
+    assert_eq!(rt; found.len(), 2);
+    assert_eq!(rt; found.outcome(0), [0, 1].as_slice());
+    assert_eq!(rt; found.example(0).choice, 5);
+    assert_eq!(rt; found.outcome(1), [1, 0].as_slice());
+    assert_eq!(rt; found.example(1).choice, 7);
+    let found = search_range(rt.alloc(), &plan, 6, 9)?;
+    assert_eq!(rt; found.len(), 1);
+    assert_eq!(rt; found.example(0).choice, 7);
+    Ok(())
+}
+
+#[test]
+fn store_buffering_leaves_a_choice_out(rt: HostRuntime) -> Result<(), Fail> {
+    let text = b"test sb
+bytes 2
+agent A
+Atomics.store(U8, 0, 1)
+r0 = Atomics.load(U8, 1)
+agent B
+Atomics.store(U8, 1, 1)
+r0 = Atomics.load(U8, 0)
+check A.r0 == 0 && B.r0 == 0
+";
+    let test = read(rt.alloc(), text)?;
+    let plan = plan(rt.alloc(), &test)?;
+    assert_eq!(rt; plan.total(), 4);
+    let found = search_range(rt.alloc(), &plan, 0, 1)?;
+    assert!(rt; found.is_empty());
+    let found = search_range(rt.alloc(), &plan, 0, 4)?;
+    assert_eq!(rt; found.len(), 3);
+    assert_eq!(rt; found.example(0).choice, 1);
+    assert_eq!(rt;
+        found.example(0).order.as_slice(),
+        [0, 1, 2, 3, 4, 5].as_slice()
+    );
+    Ok(())
+}
