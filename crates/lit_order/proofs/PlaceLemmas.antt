@@ -35,10 +35,10 @@ place-push (x ∷ xs) e (suc k) d h =
     ]
 
 -- the words of std's lemmas on how many numbers a list has
-any_from_place : (xs : List ℕ) (k e : ℕ) → slice_get xs k ≡ Some e → list_any (eqb e) xs ≡ true
+pub any_from_place : (xs : List ℕ) (k e : ℕ) → slice_get xs k ≡ Some e → list_any (eqb e) xs ≡ true
 any_from_place xs k e h = list_any-from_Contains nat_eq_equiv e xs (k, slice_get_within xs k e h, get_or_from_slice_get xs k e e h)
 
-place_from_any : (xs : List ℕ) (e : ℕ) → list_any (eqb e) xs ≡ true → Stands xs e
+pub place_from_any : (xs : List ℕ) (e : ℕ) → list_any (eqb e) xs ≡ true → Stands xs e
 place_from_any xs e h =
     let found : Contains xs e = Contains-from_any eqb-true e xs h in
     record { place = found.0; at_place = slice_get-get_or xs found.0 e found.1 ∙ ap Some found.2 }

@@ -2,3 +2,5 @@
 pub mod Beginning
 pub mod Precedence
 pub mod Constrained
+pub mod Deciding
+pub mod Narrowed

@@ -1,2 +1,3 @@
 pub mod MemoryOrder
+pub mod Forcing
 pub mod Finding

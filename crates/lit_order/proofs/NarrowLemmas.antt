@@ -1,0 +1,98 @@
+-- An event put before all that do not stand yet comes next in each order.
+use Rattle.std.proofs.Common.{◌≡◌, ◌≢◌, ◌⊎◌, ◌↔◌, ℕ, ◌<◌, Some, List, [], ◌∷◌, ◌++◌, length, refl, sym, ap, ◌∙◌, subst, arith, inl, inr, append_assoc, append-nil}
+use Rattle.std.proofs.lemmas.Bool.{cases_eq, cases_lt}
+use Rattle.std.proofs.lemmas.Option.{same_Some, slice_get_within}
+use Rattle.std.specs.List.{slice_get}
+use Rattle.lit_order.specs.Finding.Beginning.{Stands}
+use Rattle.lit_order.specs.Finding.Narrowed.{IsNarrowed}
+use Rattle.lit_order.specs.MemoryOrder.{StandsBefore, IsOrderOf}
+use Rattle.lit_order.proofs.PlaceLemmas.{place-left, place_from-left, place-middle}
+
+-- a relation with no more pairs has all orders
+pub IsOrderOf-fewer : (n : ℕ) (before other : ℕ → ℕ → Type 0) (forbidden : ℕ → ℕ → ℕ → Type 0) → ((a d : ℕ) → other a d → before a d) → (order : List ℕ) → IsOrderOf n before forbidden order → IsOrderOf n other forbidden order
+IsOrderOf-fewer n before other forbidden fewer order o = record { complete = o.complete; keeps = λ a d h. o.keeps a d (fewer a d h); avoids = o.avoids }
+
+-- with no beginning nothing is narrowed
+pub IsNarrowed-nil : (n : ℕ) (before : ℕ → ℕ → Type 0) (forbidden : ℕ → ℕ → ℕ → Type 0) (narrow : ℕ → ℕ → Type 0) → ((a d : ℕ) → narrow a d ↔ before a d) → IsNarrowed n before forbidden narrow []
+IsNarrowed-nil n before forbidden narrow same = record {
+  only = λ order o. IsOrderOf-fewer n narrow before forbidden (λ a d h. (same a d).1 h) order o;
+  begins = λ order o. (order, refl);
+  all = λ rest o. IsOrderOf-fewer n before narrow forbidden (λ a d h. (same a d).0 h) rest o;
+}
+
+-- the event is put before all others that do not stand
+abbrev pub PutsNext : (n : ℕ) (narrow next : ℕ → ℕ → Type 0) (start : List ℕ) (event : ℕ) → Type 0
+PutsNext n narrow next start event = (a d : ℕ) → next a d ↔ (narrow a d ⊎ ((a ≡ event) × (d < n) × ¬ (Stands start d ⊎ (d ≡ event))))
+
+module _ (n : ℕ) (before : ℕ → ℕ → Type 0) (forbidden : ℕ → ℕ → ℕ → Type 0) (narrow next : ℕ → ℕ → Type 0) (start : List ℕ) (event : ℕ) (within : event < n) (left : ¬ Stands start event) (puts : PutsNext n narrow next start event) (narrowed : IsNarrowed n before forbidden narrow start) where
+  as_narrow : (order : List ℕ) → IsOrderOf n next forbidden order → IsOrderOf n narrow forbidden order
+  as_narrow order o = IsOrderOf-fewer n next narrow forbidden (λ a d h. (puts a d).1 (inl h)) order o
+
+  -- another event can't come next
+  not_other : (y : ℕ) (rest : List ℕ) → IsOrderOf n next forbidden (start ++ y ∷ rest) → ¬ (y ≢ event)
+  not_other y rest o other =
+      let in_y : y < n = o.complete.only (length start) y (place-middle start rest y) in
+      let not_there : ¬ (Stands start y ⊎ (y ≡ event)) =
+      λ s. elim s [
+        | inl here ↦
+            let same : here.place ≡ length start = o.complete.once here.place (length start) y (place-left start (y ∷ rest) here.place y here.at_place) (place-middle start rest y) in
+            let l : here.place < length start = slice_get_within start here.place y here.at_place in
+            absurd (omega arith)
+        | inr same ↦ other same
+      ] in
+      let s = o.keeps event y ((puts event y).1 (inr (refl, in_y, not_there))) in
+      let at_y : s.second ≡ length start = o.complete.once s.second (length start) y s.second_is (place-middle start rest y) in
+      let l : s.first < s.second = s.earlier in
+      left (record { place = s.first; at_place = place_from-left start (y ∷ rest) s.first event (omega arith) s.first_is })
+
+  begins_next : (rest : List ℕ) → IsOrderOf n next forbidden (start ++ rest) → (more : List ℕ) × (start ++ rest ≡ (start ++ event ∷ []) ++ more)
+  begins_next [] o =
+      let here = o.complete.all event within in
+      absurd (left (record { place = here.0; at_place = subst (λ (xs : List ℕ). slice_get xs here.0 ≡ Some event) (append-nil start) here.1 }))
+  begins_next (y ∷ rest) o =
+      elim (cases_eq y event) [
+        | inl same ↦ (rest, ap (λ (x : ℕ). start ++ x ∷ rest) same ∙ sym (append_assoc start (event ∷ []) rest))
+        | inr other ↦ absurd (not_other y rest o other)
+      ]
+
+  begins : (order : List ℕ) → IsOrderOf n next forbidden order → (rest : List ℕ) × (order ≡ (start ++ event ∷ []) ++ rest)
+  begins order o =
+      let first = narrowed.begins order (as_narrow order o) in
+      let more = begins_next first.0 (subst (λ (xs : List ℕ). IsOrderOf n next forbidden xs) first.1 o) in
+      (more.0, first.1 ∙ more.1)
+
+  -- what does not stand yet comes after the event
+  comes_after : (rest : List ℕ) → IsOrderOf n narrow forbidden (start ++ event ∷ rest) → (d : ℕ) → d < n → ¬ (Stands start d ⊎ (d ≡ event)) → StandsBefore (start ++ event ∷ rest) event d
+  comes_after rest o d in_d not_there =
+      let here = o.complete.all d in_d in
+      let behind : length start < here.0 =
+      elim (cases_lt here.0 (length start)) [
+        | inl earlier ↦ absurd (not_there (inl (record { place = here.0; at_place = place_from-left start (event ∷ rest) here.0 d earlier here.1 })))
+        | inr later ↦
+            elim (cases_eq here.0 (length start)) [
+              | inl same ↦ absurd (not_there (inr (same_Some d event (sym here.1 ∙ ap (slice_get (start ++ event ∷ rest)) same ∙ place-middle start rest event))))
+              | inr other ↦ omega arith
+            ]
+      ] in
+      record { first = length start; second = here.0; earlier = behind; first_is = place-middle start rest event; second_is = here.1 }
+
+  all : (rest : List ℕ) → IsOrderOf n before forbidden (start ++ event ∷ rest) → IsOrderOf n next forbidden (start ++ event ∷ rest)
+  all rest o =
+      let narrow_order = narrowed.all (event ∷ rest) o in
+      record {
+        complete = o.complete;
+        keeps = λ a d h. elim ((puts a d).0 h) [
+            | inl old ↦ narrow_order.keeps a d old
+            | inr put ↦ subst (λ (x : ℕ). StandsBefore (start ++ event ∷ rest) x d) (sym put.0) (comes_after rest narrow_order d put.1 put.2)
+          ];
+        avoids = o.avoids;
+      }
+
+  pub IsNarrowed-next : IsNarrowed n before forbidden next (start ++ event ∷ [])
+  IsNarrowed-next = record {
+    only = λ order o. narrowed.only order (as_narrow order o);
+    begins = begins;
+    all = λ rest o.
+        let regrouped : IsOrderOf n before forbidden (start ++ event ∷ rest) = subst (λ (xs : List ℕ). IsOrderOf n before forbidden xs) (append_assoc start (event ∷ []) rest) o in
+        subst (λ (xs : List ℕ). IsOrderOf n next forbidden xs) (sym (append_assoc start (event ∷ []) rest)) (all rest regrouped);
+  }
