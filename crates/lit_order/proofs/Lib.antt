@@ -3,6 +3,8 @@ pub mod OrderLemmas
 pub mod SameOrders
 pub mod StandingLemmas
 pub mod ForcedLemmas
+pub mod ForcingLemmas
 pub mod LinearLemmas
 pub mod MissingLemmas
 pub mod NarrowLemmas
+pub mod RowsLemmas

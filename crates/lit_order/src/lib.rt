@@ -7,9 +7,12 @@
 
 mod constraints;
 mod finding;
+mod forcing;
 mod plain;
+mod triples;
 #[cfg(test)]
 mod tests;
 
 pub use finding::{Order, OrderFinder};
+pub use forcing::forced_precedence;
 pub use plain::PlainFinder;

@@ -1,0 +1,140 @@
+//! What a relation says of forbidden triples: which pairs they force, and which triples it does not decide.
+
+ghost use Rattle.std.specs.Prelude.{◌≡◌, ◌↔◌, ℕ, ◌<◌, IsTrue, MatchOption};
+ghost use Rattle.lit_rel.specs.Between.{Forbids};
+ghost use Rattle.lit_rel.specs.Rows.{rows_len, Holds};
+ghost use Rattle.lit_order.specs.Finding.Deciding.{AreDecided, Forces, HasAllForced, HasForced, IsDecided, IsForcedByPair, IsForcedNext, IsOtherOf, IsUndecided};
+
+use lit_rel::{Between, Pair, Rows};
+
+/// A pair of events, the first before the second.
+#[derive(Clone, Copy)]
+pub(crate) struct Precedence {
+    pub first: usize,
+    pub second: usize,
+}
+
+/// A source, its read, and another event that may not stand between them.
+#[derive(Clone, Copy)]
+pub(crate) struct Triple {
+    pub source: usize,
+    pub read: usize,
+    pub other: usize,
+}
+
+impl Triple {
+    /// The pair that it forces and that is not there yet, if there is one.
+    fn forced(self, rows: &Rows) -> Option<Precedence>
+        requires source { self.source < rows_len rows.now }
+        requires read { self.read < rows_len rows.now }
+        requires other { self.other < rows_len rows.now }
+        ensures { MatchOption result
+            (HasForced (Holds rows.now) self.source self.read self.other)
+            (λ pair. Forces (Holds rows.now) self.source self.read self.other pair.first pair.second) }
+    {
+        if self.other == self.source || self.other == self.read {
+            return None;
+        }
+        if rows.holds(self.source, self.other) && !rows.holds(self.read, self.other) {
+            return Some(Precedence {
+                first: self.read,
+                second: self.other,
+            });
+        }
+        if rows.holds(self.other, self.read) && !rows.holds(self.other, self.source) {
+            return Some(Precedence {
+                first: self.other,
+                second: self.source,
+            });
+        }
+        None
+    }
+
+    /// Whether the other event is neither the source nor the read, and neither after the read nor before the source.
+    fn is_undecided(self, rows: &Rows) -> bool
+        requires source { self.source < rows_len rows.now }
+        requires read { self.read < rows_len rows.now }
+        requires other { self.other < rows_len rows.now }
+        ensures { IsTrue result ↔ IsUndecided (Holds rows.now) self.source self.read self.other }
+    {
+        self.other != self.source
+            && self.other != self.read
+            && !rows.holds(self.read, self.other)
+            && !rows.holds(self.other, self.source)
+    }
+}
+
+/// A pair of events that some triple of a source and its read forces and that is not there yet.
+fn forced_by(rows: &Rows, pair: &Pair) -> Option<Precedence>
+    requires source { pair.now.source < rows_len rows.now }
+    requires read { pair.now.read < rows_len rows.now }
+    ensures { MatchOption result
+        ((v : ℕ) → IsOtherOf (rows_len rows.now) pair.now v → HasForced (Holds rows.now) pair.now.source pair.now.read v)
+        (λ forced. IsForcedByPair (rows_len rows.now) (Holds rows.now) pair.now forced.first forced.second) }
+{
+    for other in 0..rows.len() {
+        if pair.others.contains(other) {
+            let triple = Triple {
+                source: usize::from(pair.source),
+                read: usize::from(pair.read),
+                other,
+            };
+            if let Some(forced) = triple.forced(rows) {
+                return Some(forced);
+            }
+        }
+    }
+    None
+}
+
+/// A pair of events that some triple forces and that is not there yet.
+pub(crate) fn next_forced(rows: &Rows, between: &Between) -> Option<Precedence>
+    requires { rows_len rows.now ≡ between.now.len }
+    ensures { MatchOption result
+        (HasAllForced (Holds rows.now) (Forbids between.now))
+        (λ forced. IsForcedNext (Holds rows.now) (Forbids between.now) forced.first forced.second) }
+{
+    for pair in between.pairs() {
+        if let Some(forced) = forced_by(rows, pair) {
+            return Some(forced);
+        }
+    }
+    None
+}
+
+/// An undecided triple of a source and its read.
+fn undecided_of(rows: &Rows, pair: &Pair) -> Option<Triple>
+    requires source { pair.now.source < rows_len rows.now }
+    requires read { pair.now.read < rows_len rows.now }
+    ensures { MatchOption result
+        ((v : ℕ) → IsOtherOf (rows_len rows.now) pair.now v → ¬ IsUndecided (Holds rows.now) pair.now.source pair.now.read v)
+        (λ t. (t.source ≡ pair.now.source) × (t.read ≡ pair.now.read) × IsOtherOf (rows_len rows.now) pair.now t.other
+        × IsUndecided (Holds rows.now) t.source t.read t.other) }
+{
+    for other in 0..rows.len() {
+        let triple = Triple {
+            source: usize::from(pair.source),
+            read: usize::from(pair.read),
+            other,
+        };
+        if pair.others.contains(other) && triple.is_undecided(rows) {
+            return Some(triple);
+        }
+    }
+    None
+}
+
+/// An undecided triple.
+pub(crate) fn undecided(rows: &Rows, between: &Between) -> Option<Triple>
+    requires { rows_len rows.now ≡ between.now.len }
+    ensures { MatchOption result
+        ((w r v : ℕ) → Forbids between.now w r v → ¬ IsUndecided (Holds rows.now) w r v)
+        (λ t. Forbids between.now t.source t.read t.other × IsUndecided (Holds rows.now) t.source t.read t.other) }
+{
+    for pair in between.pairs() {
+        if let Some(triple) = undecided_of(rows, pair) {
+            return Some(triple);
+        }
+    }
+    None
+}
