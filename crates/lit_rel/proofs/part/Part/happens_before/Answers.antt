@@ -2,7 +2,7 @@ use Rattle.std.proofs.Common.{◌↔◌}
 use Rattle.lit_rel.specs.HappensBefore.{HappensBefore}
 use Rattle.lit_rel.specs.Rows.{Holds}
 use Rattle.lit_rel.proofs.PartLemmas.{of_part}
-use Rattle.lit_rel.proofs.part.Part.order.Goals as goal
+use Rattle.lit_rel.proofs.part.Part.happens_before.Goals as goal
 
 pub returns-clause-pairs : goal.returns-clause-pairs
 returns-clause-pairs c e d =
