@@ -10,7 +10,7 @@ pub type Order = ArrayVec<u8, EVENT_LIMIT>;
 /// A way to find the least memory-order.
 pub trait OrderFinder {
     ghost use Rattle.std.specs.Prelude.{◌≡◌, List, ℕ, IfSome, IfNone};
-    ghost use Rattle.lit_rel.specs.Between.{between_len, Forbids};
+    ghost use Rattle.lit_rel.specs.Between.{Forbids};
     ghost use Rattle.lit_rel.specs.Rows.{rows_len, Holds};
     ghost use Rattle.lit_order.specs.MemoryOrder.{IsOrderOf, IsLeastOrderOf};
 
@@ -18,7 +18,7 @@ pub trait OrderFinder {
     /// `between` forbids after a w and before an r stands there. `None` exactly where there is none. Both are on the
     /// same events.
     fn least_order(&self, before: &Rows, between: &Between) -> Option<Order>
-        requires { rows_len before.now ≡ between_len between.now }
+        requires { rows_len before.now ≡ between.now.len }
         ensures found { IfSome result (λ order.
             IsLeastOrderOf (rows_len before.now) (Holds before.now) (Forbids between.now) order.items) }
         ensures none { IfNone result

@@ -1,5 +1,4 @@
 ghost use Rattle.std.specs.Prelude.{◌≡◌};
-ghost use Rattle.lit_rel.specs.Between.{between_len};
 ghost use Rattle.lit_rel.specs.Rows.{rows_len};
 
 use crate::finding::OrderFinder;
@@ -15,7 +14,7 @@ fn assert_order<F: OrderFinder>(
     between: &Between,
     wanted: Option<&[u8]>,
 )
-    requires { rows_len before.now ≡ between_len between.now }
+    requires { rows_len before.now ≡ between.now.len }
 {
     match finder.least_order(before, between) {
         Some(order) => assert!(rt; wanted == Some(order.as_slice())),

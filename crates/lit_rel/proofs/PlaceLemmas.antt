@@ -1,7 +1,9 @@
 -- Places in lists after an append.
-use Rattle.std.proofs.Common.{◌≡◌, ◌⊎◌, ℕ, ◌<◌, suc, zero, Some, List, [], ◌∷◌, ◌++◌, length, refl, ap, arith, inl, inr}
+use Rattle.std.proofs.Common.{◌≡◌, ◌≢◌, ◌⊎◌, ℕ, ◌<◌, suc, zero, Some, List, [], ◌∷◌, ◌++◌, length, drop, refl, ap, ◌∙◌, arith, inl, inr}
+use Rattle.std.proofs.Math.ListN.{set, length-set}
+use Rattle.std.proofs.lemmas.List.{take_at}
 use Rattle.std.proofs.lemmas.Option.{none-some, same_Some}
-use Rattle.std.specs.List.{slice_get}
+use Rattle.std.specs.List.{refill, slice_get}
 
 pub place-left : {X : Type 0} (xs ys : List X) (k : ℕ) (e : X) → slice_get xs k ≡ Some e → slice_get (xs ++ ys) k ≡ Some e
 place-left [] ys k e h = absurd (none-some e h)
@@ -26,3 +28,22 @@ place-push (x ∷ xs) e (suc k) d h =
       | inl old ↦ inl (omega arith, old.1)
       | inr last ↦ inr (ap suc last.0, last.1)
     ]
+
+-- after a write
+pub place-set_same : {X : Type 0} (xs : List X) (i : ℕ) (e x : X) → slice_get xs i ≡ Some x → slice_get (set xs i e) i ≡ Some e
+place-set_same [] i e x h = absurd (none-some x h)
+place-set_same (y ∷ xs) zero e x h = refl
+place-set_same (y ∷ xs) (suc i) e x h = place-set_same xs i e x h
+
+pub place-set_other : {X : Type 0} (xs : List X) (i k : ℕ) (e : X) → k ≢ i → slice_get (set xs i e) k ≡ slice_get xs k
+place-set_other [] i k e other = refl
+place-set_other (y ∷ xs) zero zero e other = absurd (other refl)
+place-set_other (y ∷ xs) zero (suc k) e other = refl
+place-set_other (y ∷ xs) (suc i) zero e other = refl
+place-set_other (y ∷ xs) (suc i) (suc k) e other = place-set_other xs i k e (λ h. other (ap suc h))
+
+-- a list written over with one of its length
+pub refill-set : {X : Type 0} (xs ys : List X) (i : ℕ) (e : X) → ys ≡ xs → refill (length xs) xs (set ys i e) ≡ set xs i e
+refill-set xs ys i e same =
+    let count : length (set ys i e) ≡ length xs = length-set ys i e ∙ ap length same in
+    take_at (set ys i e) (drop (length (set ys i e)) xs) (length xs) count ∙ ap (λ zs. set zs i e) same

@@ -1,10 +1,12 @@
 -- Sets of events as words: after an event is put in, of two sets together, sets of no event, and sets within another.
-use Rattle.std.proofs.Common.{◌≡◌, ◌⊎◌, ◌↔◌, ℕ, ◌*◌, ◌^◌, ◌%◌, ◌<◌, max, List, [], ◌∷◌, get_or, bit_or, inl, inr, arith, refl, subst, sym, ◌∙◌, w64, suc, zero}
-use Rattle.std.proofs.lemmas.Nat.Bits.{bit_at_or, bit_at-lt, bit_at-zero, bit_at_set_same, bit_at_set_other, same_from_bits}
+use Rattle.std.proofs.Common.{◌≡◌, ◌⊎◌, ◌↔◌, ℕ, ◌*◌, ◌^◌, ◌%◌, ◌<◌, max, min, List, [], ◌∷◌, get_or, length, bit_and, bit_or, inl, inr, arith, refl, subst, sym, ◌∙◌, w64, suc, zero}
+use Rattle.std.proofs.Math.ListN.{set}
+use Rattle.std.proofs.lemmas.List.{get_or-set_same, get_or-set_other}
+use Rattle.std.proofs.lemmas.Nat.Bits.{bit_at_or, bit_at_and, bit_at-lt, bit_at-zero, bit_at_set_same, bit_at_set_other, same_from_bits}
 use Rattle.std.proofs.lemmas.Bool.{cases_eq}
 use Rattle.std.specs.Int.{bit_at}
 use Rattle.lit_rel.specs.declared.event_set.EventSet.{EventSet}
-use Rattle.lit_rel.specs.EventSet.{HasEvent, no_events}
+use Rattle.lit_rel.specs.EventSet.{AreWithin, HasEvent, no_events}
 
 -- bit k of the word is set
 abbrev pub HasBit : ℕ → ℕ → Type 0
@@ -21,6 +23,12 @@ pub HasBit-or : (a b k : ℕ) → HasBit (bit_or a b) k ↔ (HasBit a k ⊎ HasB
 HasBit-or a b k = (
   (λ h. one_of_max (bit_at a k) (bit_at b k) (bit_at-lt a k) (sym (bit_at_or a b k) ∙ h)),
   (λ h. bit_at_or a b k ∙ max_of_one (bit_at a k) (bit_at b k) (bit_at-lt a k) (bit_at-lt b k) h),
+)
+
+pub HasBit-and : (a b k : ℕ) → HasBit (bit_and a b) k ↔ (HasBit a k × HasBit b k)
+HasBit-and a b k = (
+  (λ h. let least : min (bit_at a k) (bit_at b k) ≡ 1 = sym (bit_at_and a b k) ∙ h in let first : bit_at a k < 2 = bit_at-lt a k in let second : bit_at b k < 2 = bit_at-lt b k in (omega arith, omega arith)),
+  (λ h. let first : bit_at a k ≡ 1 = h.0 in let second : bit_at b k ≡ 1 = h.1 in bit_at_and a b k ∙ omega arith),
 )
 
 pub HasBit-set : (word number k : ℕ) → number < 64 → HasBit (bit_or word (1 * 2 ^ number % 2 ^ 64)) k ↔ (HasBit word k ⊎ (k ≡ number))
@@ -72,3 +80,21 @@ get_or-empty (s ∷ ss) e (suc k) = get_or-empty ss e.1 k
 
 pub HasEvent-none : (ss : List EventSet) → AreEmpty ss → (a d : ℕ) → HasEvent (get_or ss a no_events) d → ⊥
 HasEvent-none ss e a d h = HasBit-zero (get_or ss a no_events).bits d (get_or-empty ss e a) h
+
+-- the sets of events below n alone: at first, and after a write
+pub AreWithin-none : (n : ℕ) (ss : List EventSet) → AreEmpty ss → AreWithin n ss
+AreWithin-none n ss e = record { first_known = λ a d h. absurd (HasEvent-none ss e a d h); second_known = λ a d h. absurd (HasEvent-none ss e a d h) }
+
+pub AreWithin-set : (n : ℕ) (ss : List EventSet) (a : ℕ) (s : EventSet) → AreWithin n ss → a < n → a < length ss → ((d : ℕ) → HasEvent s d → d < n) → AreWithin n (set ss a s)
+AreWithin-set n ss a s w below within known = record {
+  first_known = λ x d h. elim (cases_eq x a) [
+    | inl same ↦ subst (λ (k : ℕ). k < n) (sym same) below
+    | inr other ↦ w.first_known x d (subst (λ (t : EventSet). HasEvent t d) (get_or-set_other ss a x s no_events other) h)
+  ];
+  second_known = λ x d h. elim (cases_eq x a) [
+    | inl same ↦
+        let at_a : HasEvent (get_or (set ss a s) a no_events) d = subst (λ (k : ℕ). HasEvent (get_or (set ss a s) k no_events) d) same h in
+        known d (subst (λ (t : EventSet). HasEvent t d) (get_or-set_same ss a s no_events within) at_a)
+    | inr other ↦ w.second_known x d (subst (λ (t : EventSet). HasEvent t d) (get_or-set_other ss a x s no_events other) h)
+  ];
+}

@@ -1,5 +1,5 @@
 -- Sets of events (this project's own).
-use Rattle.std.specs.Prelude.{◌≡◌, ℕ}
+use Rattle.std.specs.Prelude.{◌≡◌, ℕ, ◌<◌, List, slice_index_or}
 use Rattle.std.specs.Int.{bit_at}
 use Rattle.lit_rel.specs.declared.event_set.EventSet.{EventSet}
 
@@ -10,3 +10,8 @@ HasEvent set e = bit_at set.bits e ≡ 1
 -- the set of no event
 abbrev pub no_events : EventSet
 no_events = record { bits = 0 }
+
+-- one set for each event below n, all of events below n
+pub record AreWithin (n : ℕ) (sets : List EventSet) : Type 0 where
+  pub first_known : (a d : ℕ) → HasEvent (slice_index_or sets a no_events) d → a < n
+  pub second_known : (a d : ℕ) → HasEvent (slice_index_or sets a no_events) d → d < n

@@ -2,6 +2,7 @@
 
 ghost use Rattle.std.specs.Prelude.{◌≡◌, ◌⊎◌, ◌↔◌, ℕ, ◌<◌, ◌≤◌, IsTrue};
 ghost use Rattle.lit_paths.specs.declared.limits.TheConstants.{EVENT_LIMIT};
+ghost use Rattle.lit_rel.specs.EventSet.{AreWithin};
 
 use crate::event_set::EventSet;
 use lit_paths::EVENT_LIMIT;
@@ -13,11 +14,12 @@ pub struct Rows {
     /// For each event the set of those that it leads to.
     sets: [EventSet; EVENT_LIMIT],
     ghost in_limit: { len ≤ EVENT_LIMIT },
+    ghost within: { AreWithin len sets },
 }
 
 impl Rows {
     ghost use Rattle.lit_rel.specs.EventSet.{HasEvent};
-    ghost use Rattle.lit_rel.specs.Rows.{Holds, rows_len};
+    ghost use Rattle.lit_rel.specs.Rows.{Holds, IsTransitive, WithPair, rows_len};
 
     /// The empty relation on so many events, at most `EVENT_LIMIT`.
     pub fn new(len: usize) -> Self
@@ -55,6 +57,16 @@ impl Rows {
         a < self.len && d < self.len && self.holds(a, d)
     }
 
+    /// Lets event a lead to all events of a set, all numbers below `len()`.
+    fn put_all(&mut self, a: usize, set: EventSet)
+        requires first { a < rows_len self.old }
+        requires second { (d : ℕ) → HasEvent set d → d < rows_len self.old }
+        ensures len { rows_len self.new ≡ rows_len self.old }
+        ensures pairs { (x y : ℕ) → Holds self.new x y ↔ (Holds self.old x y ⊎ ((x ≡ a) × HasEvent set y)) }
+    {
+        self.sets[a] = self.sets[a].union(set);
+    }
+
     /// Puts a pair in, both numbers below `len()`.
     pub fn put(&mut self, a: usize, d: usize)
         requires first { a < rows_len self.old }
@@ -62,7 +74,7 @@ impl Rows {
         ensures len { rows_len self.new ≡ rows_len self.old }
         ensures pairs { (x y : ℕ) → Holds self.new x y ↔ (Holds self.old x y ⊎ ((x ≡ a) × (y ≡ d))) }
     {
-        self.sets[a] = self.sets[a].with(d);
+        self.put_all(a, EventSet::new().with(d));
     }
 
     /// Lets event `a` lead to all that event `d` leads to, both numbers below `len()`.
@@ -72,7 +84,15 @@ impl Rows {
         ensures len { rows_len self.new ≡ rows_len self.old }
         ensures pairs { (x y : ℕ) → Holds self.new x y ↔ (Holds self.old x y ⊎ ((x ≡ a) × Holds self.old d y)) }
     {
-        self.sets[a] = self.sets[a].union(self.sets[d]);
+        self.put_all(a, self.successors(d));
+    }
+
+    /// The events that an event leads to, whose number is below `len()`.
+    pub fn successors(&self, event: usize) -> EventSet
+        requires { event < rows_len self.now }
+        ensures { (d : ℕ) → HasEvent result d ↔ Holds self.now event d }
+    {
+        self.sets[event]
     }
 
     /// The events that lead to an event, whose number is below `len()`.
@@ -87,6 +107,33 @@ impl Rows {
             }
         }
         set
+    }
+
+    /// Whether an event is another one or leads to it, both numbers below `len()`.
+    fn leads(&self, a: usize, d: usize) -> bool
+        requires first { a < rows_len self.now }
+        requires second { d < rows_len self.now }
+        ensures { IsTrue result ↔ (Holds self.now a d ⊎ (a ≡ d)) }
+    {
+        a == d || self.holds(a, d)
+    }
+
+    /// Puts a pair in, both numbers below `len()`, and with it what it leads through: from a, and from all that lead
+    /// to a, to d, and to all that d leads to. A transitive relation becomes the least transitive one that has it and
+    /// the pair.
+    pub fn close_with(&mut self, a: usize, d: usize)
+        requires first { a < rows_len self.old }
+        requires second { d < rows_len self.old }
+        ensures len { rows_len self.new ≡ rows_len self.old }
+        ensures pairs { (x y : ℕ) → Holds self.new x y ↔ WithPair (Holds self.old) a d x y }
+        ensures transitive { IsTransitive (Holds self.old) → IsTransitive (Holds self.new) }
+    {
+        let behind = self.successors(d).with(d);
+        for first in 0..self.len {
+            if self.leads(first, a) {
+                self.put_all(first, behind);
+            }
+        }
     }
 
     /// Whether it holds of no event and itself.

@@ -48,6 +48,15 @@ impl EventSet {
         }
     }
 
+    /// The events that are in both sets.
+    pub fn intersection(self, other: Self) -> Self
+        ensures { (e : ℕ) → HasEvent result e ↔ (HasEvent self e × HasEvent other e) }
+    {
+        EventSet {
+            bits: self.bits & other.bits,
+        }
+    }
+
     /// Whether there is no event in it.
     pub fn is_empty(self) -> bool
         ensures { IsTrue result ↔ ((e : ℕ) → ¬ HasEvent self e) }

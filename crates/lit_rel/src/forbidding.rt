@@ -1,7 +1,7 @@
 //! Which events may not stand between a source and its read in the order of memory (ECMA-262, 2024, 29.7.4).
 
 ghost use Rattle.std.specs.Prelude.{◌≡◌, ◌⊎◌, ◌↔◌, ℕ, ◌<◌, IsTrue, length};
-ghost use Rattle.lit_rel.specs.Between.{between_len, Forbids};
+ghost use Rattle.lit_rel.specs.Between.{Forbids};
 ghost use Rattle.lit_rel.specs.EventSet.{HasEvent};
 ghost use Rattle.lit_rel.specs.Forbidden.{IsAfterSource, IsBeforeRead, IsBetweenSynchronized, IsForbiddenBetween, IsForbiddenBy};
 ghost use Rattle.lit_rel.specs.Parts.Given.{IsKnown, sources_of};
@@ -83,7 +83,7 @@ impl Triple<'_> {
 impl Given<'_> {
     /// What may not stand between each source and its read, by a relation that orders the events.
     pub(crate) fn between(&self, before: &Rows) -> Between
-        ensures len { between_len result ≡ length self.now.events.now }
+        ensures len { result.len ≡ length self.now.events.now }
         ensures triples { (w r v : ℕ) → Forbids result w r v
             ↔ IsForbiddenBy self.now.events.now (sources_of self.now.bytes.now) (Holds before.now) w r v }
     {

@@ -24,7 +24,7 @@ mod wide_events;
 pub use bit_rows::Rows;
 pub use event_set::EventSet;
 pub use part::Part;
-pub use triples::Between;
+pub use triples::{Between, Pair};
 pub use wide_events::{
     mixed_sizes_never_synchronize, never_reads_itself, typed_load_mixes_with_init_only,
     viewed_load_mixes,

@@ -4,7 +4,7 @@ ghost use Rattle.std.specs.Prelude.{◌≡◌, ◌↔◌, ℕ, ◌-◌, ◌<◌,
 ghost use Rattle.lit_paths.specs.ByteReads.{byte_reads};
 ghost use Rattle.lit_paths.specs.Choice.{combinations_of};
 ghost use Rattle.lit_paths.specs.Event.{does_read, event_at};
-ghost use Rattle.lit_rel.specs.Between.{between_len, Forbids};
+ghost use Rattle.lit_rel.specs.Between.{Forbids};
 ghost use Rattle.lit_rel.specs.Coherent.{HasCoherentReads};
 ghost use Rattle.lit_rel.specs.Forbidden.{IsForbidden};
 ghost use Rattle.lit_rel.specs.HappensBefore.{HappensBefore};
@@ -117,26 +117,16 @@ impl<'p> Part<'p> {
         }
     }
 
-    /// happens-before of the sources given.
-    fn order(&self) -> Rows
-        ensures len { rows_len result ≡ length (part_events self.now) }
-        ensures pairs { (e d : ℕ) → Holds result e d ↔ HappensBefore (part_events self.now) self.now.sources e d }
-    {
-        self.given().happens_before(&self.fixed)
-    }
-
-    /// reads-from (ECMA-262, 2024, 29.6.3), as pairs of a read and a source. Each byte read has a source.
+    /// reads-from (ECMA-262, 2024, 29.6.3), as pairs of a read and a source, of the sources given.
     pub fn reads_from(&self) -> Rows
-        requires { IsComplete self.now }
         ensures len { rows_len result ≡ length (part_events self.now) }
         ensures pairs { (r w : ℕ) → Holds result r w ↔ ReadsFrom (part_events self.now) self.now.sources r w }
     {
         self.given().reads_from()
     }
 
-    /// synchronizes-with (29.6.5), as pairs of a write and a read. Each byte read has a source.
+    /// synchronizes-with (29.6.5), as pairs of a write and a read, of the sources given.
     pub fn synchronizes(&self) -> Rows
-        requires { IsComplete self.now }
         ensures len { rows_len result ≡ length (part_events self.now) }
         ensures pairs { (w r : ℕ) → Holds result w r ↔ Synchronizes (part_events self.now) self.now.sources w r }
     {
@@ -144,39 +134,34 @@ impl<'p> Part<'p> {
         given.with_synchronized(Rows::new(given.events.len()))
     }
 
-    /// happens-before (29.6.6). Each byte read has a source.
+    /// happens-before (29.6.6) of the sources given.
     pub fn happens_before(&self) -> Rows
-        requires { IsComplete self.now }
         ensures len { rows_len result ≡ length (part_events self.now) }
         ensures pairs { (e d : ℕ) → Holds result e d ↔ HappensBefore (part_events self.now) self.now.sources e d }
     {
-        self.order()
+        self.given().happens_before(&self.fixed)
     }
 
-    /// Whether the reads are coherent (29.7.2). Each byte read has a source.
+    /// Whether the reads are coherent (29.7.2), as far as sources are given.
     pub fn coherent(&self) -> bool
-        requires { IsComplete self.now }
         ensures { IsTrue result ↔ HasCoherentReads (part_events self.now) self.now.sources }
     {
-        self.given().is_coherent(&self.order())
+        self.given().is_coherent(&self.happens_before())
     }
 
-    /// Whether the reads are tear free (29.7.3). Each byte read has a source.
+    /// Whether the reads are tear free (29.7.3), as far as sources are given.
     pub fn tear_free(&self) -> bool
-        requires { IsComplete self.now }
         ensures { IsTrue result ↔ HasTearFreeReads (part_events self.now) self.now.sources }
     {
         self.given().is_tear_free()
     }
 
-    /// What may not stand between each source and its read in the order of memory (29.7.4). Each byte read has a
-    /// source.
+    /// What may not stand between each source given and its read in the order of memory (29.7.4).
     pub fn between(&self) -> Between
-        requires { IsComplete self.now }
-        ensures len { between_len result ≡ length (part_events self.now) }
+        ensures len { result.len ≡ length (part_events self.now) }
         ensures triples { (w r v : ℕ) → Forbids result w r v ↔ IsForbidden (part_events self.now) self.now.sources w r v }
     {
-        self.given().between(&self.order())
+        self.given().between(&self.happens_before())
     }
 
     /// The value of a read (29.5.4 and 29.5.5), by its event number. Each byte read has a source.

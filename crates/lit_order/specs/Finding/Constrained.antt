@@ -1,12 +1,12 @@
 -- What constraints ask of orders.
 use Rattle.std.specs.Prelude.{ℕ}
-use Rattle.lit_rel.specs.Between.{between_len, Forbids}
+use Rattle.lit_rel.specs.Between.{Forbids}
 use Rattle.lit_order.specs.declared.constraints.Constraints.{Constraints}
 use Rattle.lit_order.specs.Finding.Precedence.{Precedes}
 
 -- of how many events
 abbrev pub constrained_len : Constraints → ℕ
-constrained_len constraints = between_len constraints.between.now
+constrained_len constraints = constraints.between.now.len
 
 -- a comes before e
 abbrev pub ComesBefore : Constraints → ℕ → ℕ → Type 0

@@ -15,6 +15,7 @@ fn sets_have_what_is_put_in(rt: HostRuntime) {
     assert!(rt; EventSet::new().is_empty() && !other.is_empty());
     assert!(rt; other.is_within(first) && !first.is_within(other));
     assert!(rt; other.union(EventSet::new().with(0)) == first);
+    assert!(rt; first.intersection(other) == other);
 }
 
 #[test]
@@ -30,6 +31,24 @@ fn rows_hold_of_what_is_put_in(rt: HostRuntime) {
     assert!(rt; !rows.is_irreflexive());
 }
 
+/// 0 leads to 1, and 2 to 3. With 1 before 2, both 0 and 1 lead to 2 and 3.
+#[test]
+fn one_more_pair_is_closed(rt: HostRuntime) {
+    let mut rows = Rows::new(5);
+    rows.put(0, 1);
+    rows.put(2, 3);
+    rows.close_with(1, 2);
+    assert_pairs(
+        &rt,
+        &rows,
+        &[(0, 1), (0, 2), (0, 3), (1, 2), (1, 3), (2, 3)],
+    );
+    assert!(rt; rows.successors(1) == EventSet::new().with(2).with(3));
+    assert!(rt; rows.predecessors(2) == EventSet::new().with(0).with(1));
+    rows.close_with(3, 0);
+    assert!(rt; rows.holds(2, 2) && !rows.holds(4, 4));
+}
+
 #[test]
 fn pairs_forbid_their_triples(rt: HostRuntime) {
     let mut between = Between::new(4);
@@ -37,9 +56,13 @@ fn pairs_forbid_their_triples(rt: HostRuntime) {
     assert_eq!(rt; between.len(), 4);
     assert!(rt; between.forbids(0, 1, 2) && !between.forbids(0, 1, 3));
     assert!(rt; !between.forbids(1, 0, 2));
-    assert!(rt; between.allows(2, EventSet::new().with(1)));
-    assert!(rt; !between.allows(2, EventSet::new().with(0)));
-    assert!(rt; between.allows(2, EventSet::new().with(0).with(1)));
+    between.forbid(0, 1, EventSet::new().with(3));
+    between.forbid(3, 1, EventSet::new().with(0));
+    let pairs = between.pairs();
+    assert_eq!(rt; pairs.len(), 2);
+    assert!(rt; pairs[0].source == 0 && pairs[0].read == 1);
+    assert!(rt; pairs[0].others == EventSet::new().with(2).with(3));
+    assert!(rt; pairs[1].source == 3 && pairs[1].read == 1);
 }
 
 #[test]

@@ -1,7 +1,7 @@
 use Rattle.std.proofs.Common.{◌≡◌, ◌↔◌, ◌≤◌, ◌<◌, ◌+◌, ℕ, length, refl, sym, subst, ◌∙◌, arith}
 use Rattle.lit_rel.specs.declared.given.SourcedByte.{SourcedByte}
-use Rattle.lit_rel.specs.declared.triples.Between.{Between}
-use Rattle.lit_rel.specs.Between.{between_len, pair_count, Forbids}
+use Rattle.lit_rel.specs.Between.{BetweenModel}
+use Rattle.lit_rel.specs.Between.{Forbids}
 use Rattle.lit_rel.specs.Rows.{Holds}
 use Rattle.lit_rel.proofs.EachLemmas.{SomeBelow, SomeBelow-put, SomeBelow-skip}
 use Rattle.lit_rel.proofs.ForbiddenLemmas.{IsForbidding, IsForbiddenBy-iff}
@@ -17,9 +17,9 @@ loop-byte-preserved c =
     let before = Holds c.args.before.now in
     let old = c.loop-byte.between in
     let found = c.forbidden-others.ensures in
-    let Kept : Between → Type 0 = λ between. record {
-      len : between_len between ≡ length events;
-      count : pair_count between ≤ i + 1;
+    let Kept : BetweenModel → Type 0 = λ between. record {
+      len : between.len ≡ length events;
+      count : length between.pairs ≤ i + 1;
       triples : (w r v : ℕ) → Forbids between w r v ↔ SomeBelow {X = SourcedByte} (IsForbidding events before w r v) bytes (i + 1);
     } in
     elim c.if-not-is_empty.branch [
