@@ -6,8 +6,8 @@ ghost use Rattle.lit_rel.specs.Rows.{Holds, rows_len};
 
 use crate::bit_rows::Rows;
 
-/// The least transitive relation that contains the rows.
-pub(crate) fn close(rows: &mut Rows)
+/// Makes a relation the least transitive one that contains it.
+pub fn close(rows: &mut Rows)
     ensures len { rows_len rows.new ≡ rows_len rows.old }
     ensures pairs { (e d : ℕ) → Holds rows.new e d ↔ ((middles : List ℕ) × Chain (Holds rows.old) e middles d) }
 {

@@ -22,6 +22,7 @@ mod values;
 mod wide_events;
 
 pub use bit_rows::Rows;
+pub use closing::close;
 pub use event_set::EventSet;
 pub use part::Part;
 pub use triples::{Between, Pair};
