@@ -3,6 +3,7 @@ pub mod OrderLemmas
 pub mod SameOrders
 pub mod StandingLemmas
 pub mod ForcedLemmas
+pub mod ExtendLemmas
 pub mod ForcingLemmas
 pub mod LinearLemmas
 pub mod MissingLemmas

@@ -1,3 +1,4 @@
 pub mod MemoryOrder
 pub mod Forcing
+pub mod Forced
 pub mod Finding

@@ -27,6 +27,10 @@ pub record IsOrderOf (n : ℕ) (before : ℕ → ℕ → Type 0) (forbidden : �
   pub keeps : (a d : ℕ) → before a d → StandsBefore order a d
   pub avoids : (w r v : ℕ) → forbidden w r v → StandsBefore order w v → StandsBefore order v r → ⊥
 
+-- there is one
+abbrev pub HasOrder : ℕ → (ℕ → ℕ → Type 0) → (ℕ → ℕ → ℕ → Type 0) → Type 0
+HasOrder n before forbidden = (order : List ℕ) × IsOrderOf n before forbidden order
+
 -- one of them, of which none is less as a list
 pub record IsLeastOrderOf (n : ℕ) (before : ℕ → ℕ → Type 0) (forbidden : ℕ → ℕ → ℕ → Type 0) (order : List ℕ) : Type 0 where
   pub is_order : IsOrderOf n before forbidden order

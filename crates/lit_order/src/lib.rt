@@ -6,6 +6,7 @@
 #![tactic(auto)]
 
 mod constraints;
+mod extending;
 mod finding;
 mod forcing;
 mod plain;
@@ -13,6 +14,7 @@ mod triples;
 #[cfg(test)]
 mod tests;
 
+pub use extending::Forced;
 pub use finding::{Order, OrderFinder};
 pub use forcing::forced_precedence;
 pub use plain::PlainFinder;

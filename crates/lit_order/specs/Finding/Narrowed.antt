@@ -7,7 +7,3 @@ pub record IsNarrowed (n : ℕ) (before : ℕ → ℕ → Type 0) (forbidden : �
   pub only : (order : List ℕ) → IsOrderOf n narrow forbidden order → IsOrderOf n before forbidden order
   pub begins : (order : List ℕ) → IsOrderOf n narrow forbidden order → (rest : List ℕ) × (order ≡ start ++ rest)
   pub all : (rest : List ℕ) → IsOrderOf n before forbidden (start ++ rest) → IsOrderOf n narrow forbidden (start ++ rest)
-
--- there is an order
-abbrev pub HasOrder : ℕ → (ℕ → ℕ → Type 0) → (ℕ → ℕ → ℕ → Type 0) → Type 0
-HasOrder n before forbidden = (order : List ℕ) × IsOrderOf n before forbidden order
