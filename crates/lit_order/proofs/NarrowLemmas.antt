@@ -3,9 +3,9 @@ use Rattle.std.proofs.Common.{◌≡◌, ◌≢◌, ◌⊎◌, ◌↔◌, ℕ, �
 use Rattle.std.proofs.lemmas.Bool.{cases_eq, cases_lt}
 use Rattle.std.proofs.lemmas.Option.{same_Some, slice_get_within}
 use Rattle.std.specs.List.{slice_get}
-use Rattle.lit_order.specs.Finding.Beginning.{Stands}
+use Rattle.lit_order.specs.Finding.Beginning.{Stands, HasNoOrder}
 use Rattle.lit_order.specs.Finding.Narrowed.{IsNarrowed}
-use Rattle.lit_order.specs.MemoryOrder.{StandsBefore, IsOrderOf}
+use Rattle.lit_order.specs.MemoryOrder.{StandsBefore, HasOrder, IsOrderOf}
 use Rattle.lit_order.proofs.PlaceLemmas.{place-left, place_from-left, place-middle}
 
 -- a relation with no more pairs has all orders
@@ -96,3 +96,31 @@ module _ (n : ℕ) (before : ℕ → ℕ → Type 0) (forbidden : ℕ → ℕ �
         let regrouped : IsOrderOf n before forbidden (start ++ event ∷ rest) = subst (λ (xs : List ℕ). IsOrderOf n before forbidden xs) (append_assoc start (event ∷ []) rest) o in
         subst (λ (xs : List ℕ). IsOrderOf n next forbidden xs) (sym (append_assoc start (event ∷ []) rest)) (all rest regrouped);
   }
+
+-- the same, of the events placed
+pub PutsNext-from_placed : (n m : ℕ) (narrow next : ℕ → ℕ → Type 0) (start : List ℕ) (event : ℕ) (placed more : ℕ → Type 0) → m ≡ n → ((e : ℕ) → placed e ↔ Stands start e) → ((e : ℕ) → more e ↔ (placed e ⊎ (e ≡ event)))
+    → ((a d : ℕ) → next a d ↔ (narrow a d ⊎ ((a ≡ event) × (d < m) × ¬ more d))) → PutsNext n narrow next start event
+PutsNext-from_placed n m narrow next start event placed more len is_placed with_event pairs a d = (
+  (λ h. elim ((pairs a d).0 h) [
+    | inl old ↦ inl old
+    | inr put ↦
+        inr (put.0, subst (λ (x : ℕ). d < x) len put.1, λ s. put.2 ((with_event d).1 (elim s [ inl here ↦ inl ((is_placed d).1 here) | inr same ↦ inr same ])))
+  ]),
+  (λ h. elim h [
+    | inl old ↦ (pairs a d).1 (inl old)
+    | inr put ↦
+        (pairs a d).1 (inr (put.0, subst (λ (x : ℕ). d < x) (sym len) put.1, λ m. put.2 (elim ((with_event d).0 m) [ inl here ↦ inl ((is_placed d).0 here) | inr same ↦ inr same ])))
+  ]),
+)
+
+-- where the narrow relation has no order, none begins so
+pub HasNoOrder-narrow : (n m : ℕ) (before : ℕ → ℕ → Type 0) (forbidden : ℕ → ℕ → ℕ → Type 0) (narrow : ℕ → ℕ → Type 0) (start : List ℕ) → m ≡ n → IsNarrowed n before forbidden narrow start → ¬ HasOrder m narrow forbidden → HasNoOrder n before forbidden start
+HasNoOrder-narrow n m before forbidden narrow start len narrowed none rest o =
+    none (start ++ rest, subst (λ (x : ℕ). IsOrderOf x narrow forbidden (start ++ rest)) (sym len) (narrowed.all rest o))
+
+-- where it has one, some order begins so
+pub not_HasNoOrder : (n m : ℕ) (before : ℕ → ℕ → Type 0) (forbidden : ℕ → ℕ → ℕ → Type 0) (narrow : ℕ → ℕ → Type 0) (start : List ℕ) → m ≡ n → IsNarrowed n before forbidden narrow start → HasOrder m narrow forbidden → ¬ HasNoOrder n before forbidden start
+not_HasNoOrder n m before forbidden narrow start len narrowed some none =
+    let o = subst (λ (x : ℕ). IsOrderOf x narrow forbidden some.0) len some.1 in
+    let begins = narrowed.begins some.0 o in
+    none begins.0 (subst (λ (xs : List ℕ). IsOrderOf n before forbidden xs) begins.1 (narrowed.only some.0 o))

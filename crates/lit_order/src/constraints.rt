@@ -95,6 +95,13 @@ impl<'a> Constraints<'a> {
         self.between.len()
     }
 
+    /// What may not stand between a source and its read.
+    pub(crate) fn between(&self) -> &'a Between
+        ensures { result.now ≡ self.now.between.now }
+    {
+        self.between
+    }
+
     /// Whether an event, below `len()`, can stand after the events placed: it is not placed, all that come before it
     /// are, and it does not stand between a source and its read.
     pub(crate) fn can_stand_next(&self, event: usize, placed: EventSet) -> bool

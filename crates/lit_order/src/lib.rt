@@ -9,6 +9,7 @@ mod constraints;
 mod extending;
 mod finding;
 mod forcing;
+mod lining;
 mod plain;
 mod triples;
 #[cfg(test)]
@@ -17,4 +18,5 @@ mod tests;
 pub use extending::Forced;
 pub use finding::{Order, OrderFinder};
 pub use forcing::forced_precedence;
+pub use lining::ForcedFinder;
 pub use plain::PlainFinder;

@@ -1,0 +1,99 @@
+use Rattle.std.proofs.Common.{◌≡◌, ◌↔◌, ℕ, List, [], refl, sym, ◌∙◌, subst, None}
+use Rattle.std.proofs.lemmas.Bool.{false≢true}
+use Rattle.std.specs.Option.{IfNone}
+use Rattle.std.specs.Prelude.{Option}
+use Rattle.lit_rel.specs.declared.bit_rows.Rows.{Rows}
+use Rattle.lit_rel.specs.Between.{BetweenModel, Forbids}
+use Rattle.lit_rel.specs.Rows.{Holds, rows_len}
+use Rattle.lit_order.specs.declared.constraints.Constraints.{Constraints}
+use Rattle.lit_order.specs.Finding.Beginning.{HasNoOrder, IsLeastFrom}
+use Rattle.lit_order.specs.Finding.Constrained.{constrained_len, ComesBefore, MayNotStand}
+use Rattle.lit_order.specs.Finding.Narrowed.{IsNarrowed}
+use Rattle.lit_order.specs.Forcing.{IsForced}
+use Rattle.lit_order.specs.MemoryOrder.{IsOrderOf, IsLeastOrderOf}
+use Rattle.lit_order.proofs.ExtendLemmas.{no_order-from_cycle, order_of_forced, order_from_forced}
+use Rattle.lit_order.proofs.ForcedLemmas.{AreTriplesBelow}
+use Rattle.lit_order.proofs.ForcingLemmas.{Forbids-below}
+use Rattle.lit_order.proofs.NarrowLemmas.{IsNarrowed-nil}
+use Rattle.lit_order.proofs.OrderLemmas.{IsLeastOrderOf-from_nothing}
+use Rattle.lit_order.proofs.SameOrders.{IsLeastOrderOf-same, order_back}
+use Rattle.lit_order.proofs.lining.ForcedFinderOrderFinder.least_order.Goals as goal
+
+-- the constraints ask what the rows that a relation and triples force ask
+record AreForced (before : Rows) (between : BetweenModel) (it : Constraints) : Type 0 where
+  same : rows_len before ≡ between.len
+  len : constrained_len it ≡ rows_len before
+  pairs : (a d : ℕ) → ComesBefore it a d ↔ IsForced (Holds before) (Forbids between) a d
+  triples : (w r v : ℕ) → MayNotStand it w r v ↔ Forbids between w r v
+
+module _ (before : Rows) (between : BetweenModel) (it : Constraints) (f : AreForced before between it) where
+  below : AreTriplesBelow (rows_len before) (Forbids between)
+  below = subst (λ (n : ℕ). AreTriplesBelow n (Forbids between)) (sym f.same) (Forbids-below between)
+
+  least : (start order : List ℕ) → start ≡ [] → IsLeastFrom (constrained_len it) (ComesBefore it) (MayNotStand it) start order → IsLeastOrderOf (rows_len before) (Holds before) (Forbids between) order
+  least start order empty from_start =
+      let n = rows_len before in
+      let forced : IsLeastOrderOf n (IsForced (Holds before) (Forbids between)) (Forbids between) order =
+      IsLeastOrderOf-same (constrained_len it) n (ComesBefore it) (IsForced (Holds before) (Forbids between)) (MayNotStand it) (Forbids between) f.len f.pairs f.triples order
+      (IsLeastOrderOf-from_nothing (constrained_len it) (ComesBefore it) (MayNotStand it) start order empty from_start) in
+      record {
+        is_order = order_from_forced n (Holds before) (Forbids between) below (IsForced (Holds before) (Forbids between)) (λ a d. ((λ h. h), (λ h. h))) order forced.is_order;
+        least = λ other o. forced.least other (order_of_forced n (Holds before) (Forbids between) below (IsForced (Holds before) (Forbids between)) (λ a d. ((λ h. h), (λ h. h))) other o);
+      }
+
+  none : (start : List ℕ) → start ≡ [] → HasNoOrder (constrained_len it) (ComesBefore it) (MayNotStand it) start → (order : List ℕ) → ¬ IsOrderOf (rows_len before) (Holds before) (Forbids between) order
+  none start empty from_start order o =
+      let n = rows_len before in
+      let forced = order_of_forced n (Holds before) (Forbids between) below (IsForced (Holds before) (Forbids between)) (λ a d. ((λ h. h), (λ h. h))) order o in
+      subst (λ (xs : List ℕ). HasNoOrder (constrained_len it) (ComesBefore it) (MayNotStand it) xs) empty from_start order
+      (order_back (constrained_len it) n (ComesBefore it) (IsForced (Holds before) (Forbids between)) (MayNotStand it) (Forbids between) f.len f.pairs f.triples order forced)
+
+-- pairs that are equal to pairs that are equal
+both : {A B C : Type 0} → A ↔ B → B ↔ C → A ↔ C
+both p q = ((λ a. q.0 (p.0 a)), (λ c. p.1 (q.1 c)))
+
+pub returns-in_err-forced-clause-none : goal.returns-in_err-forced-clause-none
+returns-in_err-forced-clause-none c =
+    let n = rows_len c.args.before.now in
+    let triples : AreTriplesBelow n (Forbids c.args.between.now) = subst (λ (m : ℕ). AreTriplesBelow m (Forbids c.args.between.now)) (sym c.requires) (Forbids-below c.args.between.now) in
+    subst (λ (x : Option _). IfNone x ((order : List ℕ) → ¬ IsOrderOf n (Holds c.args.before.now) (Forbids c.args.between.now) order)) (sym c.from_residual.ensures)
+    (no_order-from_cycle n (Holds c.args.before.now) (Forbids c.args.between.now) triples (c.in_err-forced.ensures.cycle.0 refl))
+
+pub returns-then-walk-clause-found : goal.returns-then-walk-clause-found
+returns-then-walk-clause-found c =
+    let it = c.new-constraints.result in
+    let f : AreForced c.args.before.now c.args.between.now it = record {
+      same = c.requires;
+      len = c.new-constraints.ensures.len ∙ c.in_ok-forced.ensures.len;
+      pairs = λ a d. both (c.new-constraints.ensures.pairs a d) (c.in_ok-forced.ensures.pairs a d);
+      triples = c.new-constraints.ensures.triples;
+    } in
+    least c.args.before.now c.args.between.now it f c.new-walked.result.items c.walk.new.order.items c.new-walked.ensures (c.if-walk.ensures refl)
+
+pub complete-requires-clause-narrowed : goal.complete-requires-clause-narrowed
+complete-requires-clause-narrowed c =
+    let it = c.new-constraints.result in
+    subst (λ (xs : List ℕ). IsNarrowed (constrained_len it) (ComesBefore it) (MayNotStand it) (Holds c.in_ok-forced.forced) xs) (sym c.new-order.ensures)
+    (IsNarrowed-nil (constrained_len it) (ComesBefore it) (MayNotStand it) (Holds c.in_ok-forced.forced) (λ a d. ((c.new-constraints.ensures.pairs a d).1, (c.new-constraints.ensures.pairs a d).0)))
+
+pub returns-then-complete-clause-found : goal.returns-then-complete-clause-found
+returns-then-complete-clause-found c =
+    let it = c.new-constraints.result in
+    let f : AreForced c.args.before.now c.args.between.now it = record {
+      same = c.requires;
+      len = c.new-constraints.ensures.len ∙ c.in_ok-forced.ensures.len;
+      pairs = λ a d. both (c.new-constraints.ensures.pairs a d) (c.in_ok-forced.ensures.pairs a d);
+      triples = c.new-constraints.ensures.triples;
+    } in
+    least c.args.before.now c.args.between.now it f c.new-order.result.items c.complete.new.order.items c.new-order.ensures (c.if-complete.ensures.found refl)
+
+pub returns-else-complete-clause-none : goal.returns-else-complete-clause-none
+returns-else-complete-clause-none c order o =
+    let it = c.new-constraints.result in
+    let f : AreForced c.args.before.now c.args.between.now it = record {
+      same = c.requires;
+      len = c.new-constraints.ensures.len ∙ c.in_ok-forced.ensures.len;
+      pairs = λ a d. both (c.new-constraints.ensures.pairs a d) (c.in_ok-forced.ensures.pairs a d);
+      triples = c.new-constraints.ensures.triples;
+    } in
+    none c.args.before.now c.args.between.now it f c.new-order.result.items c.new-order.ensures (c.if-complete.ensures.none false≢true) order o
