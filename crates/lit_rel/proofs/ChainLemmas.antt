@@ -2,7 +2,8 @@
 use Rattle.std.proofs.Common.{◌↔◌, ◌⊎◌, ℕ, ◌+◌, ◌<◌, List, [], ◌∷◌, ◌++◌, arith, inl, inr, subst}
 use Rattle.std.proofs.lemmas.Bool.{cases_eq}
 use Rattle.lit_paths.specs.declared.event.Event.{Event}
-use Rattle.lit_rel.specs.HappensBefore.{Chain, HappensBefore, Step}
+use Rattle.lit_rel.specs.HappensBefore.{Chain, HappensBefore, StepBy}
+use Rattle.lit_rel.specs.ReadsFrom.{ReadsByteFrom}
 
 -- there is a chain of at least one step
 abbrev pub HasChain : (ℕ → ℕ → Type 0) → ℕ → ℕ → Type 0
@@ -86,9 +87,9 @@ Chain-same step other to e [] d p = to e d p
 Chain-same step other to e (m ∷ middles) d p = (to e m p.0, Chain-same step other to m middles d p.1)
 
 -- what has a chain of the rows' steps happens before
-pub HappensBefore-iff : (events : List Event) (sources : List ℕ) (steps : ℕ → ℕ → Type 0) → ((e d : ℕ) → steps e d ↔ Step events sources e d) → (e d : ℕ) (holds : Type 0) → holds ↔ HasChain steps e d → holds ↔ HappensBefore events sources e d
+pub HappensBefore-iff : (events : List Event) (sources : List ℕ) (steps : ℕ → ℕ → Type 0) → ((e d : ℕ) → steps e d ↔ StepBy events (ReadsByteFrom events sources) e d) → (e d : ℕ) (holds : Type 0) → holds ↔ HasChain steps e d → holds ↔ HappensBefore events sources e d
 HappensBefore-iff events sources steps are e d holds has = (
   (λ h. let chain = has.0 h in
-      record { middles = chain.0; chain = Chain-same steps (Step events sources) (λ a b. (are a b).0) e chain.0 d chain.1 }),
-  (λ h. has.1 (h.middles, Chain-same (Step events sources) steps (λ a b. (are a b).1) e h.middles d h.chain)),
+      record { middles = chain.0; chain = Chain-same steps (StepBy events (ReadsByteFrom events sources)) (λ a b. (are a b).0) e chain.0 d chain.1 }),
+  (λ h. has.1 (h.middles, Chain-same (StepBy events (ReadsByteFrom events sources)) steps (λ a b. (are a b).1) e h.middles d h.chain)),
 )

@@ -2,9 +2,9 @@
 use Rattle.std.proofs.Common.{◌≡◌, ◌↔◌, ℕ, ◌<◌, ◌≤◌, List, length, sym, subst}
 use Rattle.lit_paths.specs.declared.event.Event.{Event}
 use Rattle.lit_rel.specs.declared.given.SourcedByte.{SourcedByte}
-use Rattle.lit_rel.specs.Forbidden.{IsForbiddenBetween, IsForbiddenBy}
+use Rattle.lit_rel.specs.Forbidden.{IsForbiddenBetween, IsForbiddenTriple}
 use Rattle.lit_rel.specs.Parts.Given.{AreFirstReads, sources_of}
-use Rattle.lit_rel.specs.ReadsFrom.{ReadsFrom}
+use Rattle.lit_rel.specs.ReadsFrom.{ReadsByteFrom, ReadsFrom}
 use Rattle.lit_rel.proofs.EachLemmas.{SomeBelow, SomeBelow-all}
 use Rattle.lit_rel.proofs.ReadingLemmas.{write_known}
 use Rattle.lit_rel.proofs.RelatingLemmas.{ReadsFrom-iff}
@@ -17,8 +17,8 @@ pub record IsForbidding (events : List Event) (before : ℕ → ℕ → Type 0) 
   pub known : v < length events
   pub between : IsForbiddenBetween events before p.source p.read v
 
-pub IsForbiddenBy-iff : (events : List Event) (bytes : List SourcedByte) (n : ℕ) → AreFirstReads events bytes → length bytes ≤ n → (before : ℕ → ℕ → Type 0) (w r v : ℕ) → SomeBelow (IsForbidding events before w r v) bytes n ↔ IsForbiddenBy events (sources_of bytes) before w r v
-IsForbiddenBy-iff events bytes n first all before w r v = (
+pub IsForbiddenTriple-iff : (events : List Event) (bytes : List SourcedByte) (n : ℕ) → AreFirstReads events bytes → length bytes ≤ n → (before : ℕ → ℕ → Type 0) (w r v : ℕ) → SomeBelow (IsForbidding events before w r v) bytes n ↔ IsForbiddenTriple events (ReadsByteFrom events (sources_of bytes)) before w r v
+IsForbiddenTriple-iff events bytes n first all before w r v = (
   (λ h.
       let reads : ReadsFrom events (sources_of bytes) r w = (ReadsFrom-iff events bytes n first all r w).0 (record { place = h.place; item = h.item; below = h.below; at_place = h.at_place; has = (h.has.read, h.has.source) }) in
       record {

@@ -1,6 +1,7 @@
 pub mod ChainLemmas
 pub mod EachLemmas
 pub mod ForbiddenLemmas
+pub mod GrowthLemmas
 pub mod PartLemmas
 pub mod PlaceLemmas
 pub mod RangeLemmas

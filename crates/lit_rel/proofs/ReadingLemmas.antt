@@ -9,7 +9,8 @@ use Rattle.lit_paths.specs.Event.{does_write, event_at, no_event}
 use Rattle.lit_rel.specs.declared.given.SourcedByte.{SourcedByte}
 use Rattle.lit_rel.specs.Coherent.{AreCoherentReads, IsCoherentRead}
 use Rattle.lit_rel.specs.Parts.Given.{AreFirstReads, Tears, sources_of}
-use Rattle.lit_rel.specs.TearFree.{CanReadWhole, HasTearFreeReads, ReadsWhole}
+use Rattle.lit_rel.specs.ReadsFrom.{ReadsByteFrom}
+use Rattle.lit_rel.specs.TearFree.{CanReadWhole, HasTearFreeReads, ReadsWholeBy}
 use Rattle.lit_rel.proofs.SourceLemmas.{IsByte, read_at, byte_at}
 
 -- what writes is an event
@@ -24,7 +25,7 @@ write_known events v writes =
 
 module _ (events : List Event) (bytes : List SourcedByte) (first : AreFirstReads events bytes) where
   module _ (before : ℕ → ℕ → Type 0) where
-    pub AreCoherentReads-from_each : ((k : ℕ) (p : SourcedByte) → slice_get bytes k ≡ Some p → IsCoherentRead events before p.read p.byte p.source) → AreCoherentReads events (sources_of bytes) before
+    pub AreCoherentReads-from_each : ((k : ℕ) (p : SourcedByte) → slice_get bytes k ≡ Some p → IsCoherentRead events before p.read p.byte p.source) → AreCoherentReads events (ReadsByteFrom events (sources_of bytes)) before
     AreCoherentReads-from_each each r b w h =
         let found = byte_at events bytes first r b w h in
         let p = found.1 in
@@ -33,7 +34,7 @@ module _ (events : List Event) (bytes : List SourcedByte) (first : AreFirstReads
         (subst (λ (x : ℕ). IsCoherentRead events before p.read x w) is_byte.byte
         (subst (IsCoherentRead events before p.read p.byte) is_byte.source (each found.0 p found.2)))
 
-    pub coherent_at : AreCoherentReads events (sources_of bytes) before → (k : ℕ) (p : SourcedByte) → slice_get bytes k ≡ Some p → IsCoherentRead events before p.read p.byte p.source
+    pub coherent_at : AreCoherentReads events (ReadsByteFrom events (sources_of bytes)) before → (k : ℕ) (p : SourcedByte) → slice_get bytes k ≡ Some p → IsCoherentRead events before p.read p.byte p.source
     coherent_at has k p h = has p.read p.byte p.source (read_at events bytes first k p h)
 
   pub HasTearFreeReads-from_each : ((j : ℕ) (p : SourcedByte) → slice_get bytes j ≡ Some p → (k : ℕ) (q : SourcedByte) → slice_get bytes k ≡ Some q → Tears events p q → ⊥) → HasTearFreeReads events (sources_of bytes)
@@ -62,6 +63,6 @@ module _ (events : List Event) (bytes : List SourcedByte) (first : AreFirstReads
 
   pub not_torn : HasTearFreeReads events (sources_of bytes) → (j : ℕ) (p : SourcedByte) → slice_get bytes j ≡ Some p → (k : ℕ) (q : SourcedByte) → slice_get bytes k ≡ Some q → Tears events p q → ⊥
   not_torn has j p hp k q hq t =
-      let reads_p : ReadsWhole events (sources_of bytes) p.read p.source = record { reads = (p.byte, read_at events bytes first j p hp); can = t.first_whole } in
-      let reads_q : ReadsWhole events (sources_of bytes) q.read q.source = record { reads = (q.byte, read_at events bytes first k q hq); can = t.second_whole } in
-      t.two_sources (sym (has p.read p.source q.source reads_p (subst (λ (x : ℕ). ReadsWhole events (sources_of bytes) x q.source) (sym t.one_read) reads_q)))
+      let reads_p : ReadsWholeBy events (ReadsByteFrom events (sources_of bytes)) p.read p.source = record { reads = (p.byte, read_at events bytes first j p hp); can = t.first_whole } in
+      let reads_q : ReadsWholeBy events (ReadsByteFrom events (sources_of bytes)) q.read q.source = record { reads = (q.byte, read_at events bytes first k q hq); can = t.second_whole } in
+      t.two_sources (sym (has p.read p.source q.source reads_p (subst (λ (x : ℕ). ReadsWholeBy events (ReadsByteFrom events (sources_of bytes)) x q.source) (sym t.one_read) reads_q)))

@@ -3,7 +3,7 @@ use Rattle.std.proofs.Common.{◌≡◌, ◌↔◌, ◌⊎◌, ℕ, ◌≤◌, i
 use Rattle.lit_paths.specs.declared.event.Event.{Event}
 use Rattle.lit_paths.specs.Event.{event_at}
 use Rattle.lit_rel.specs.declared.given.SourcedByte.{SourcedByte}
-use Rattle.lit_rel.specs.HappensBefore.{Step}
+use Rattle.lit_rel.specs.HappensBefore.{StepBy}
 use Rattle.lit_rel.specs.Parts.Given.{AreFirstReads, sources_of}
 use Rattle.lit_rel.specs.Parts.Steps.{IsFixedStep}
 use Rattle.lit_rel.specs.ReadsFrom.{ReadsByteFrom, ReadsFrom}
@@ -45,7 +45,7 @@ module _ (events : List Event) (bytes : List SourcedByte) (n : ℕ) (first : Are
   )
 
 -- the steps of happens-before are those that no source decides, and synchronizes-with
-pub Step-iff : (events : List Event) (sources : List ℕ) (e d : ℕ) (fixed both : Type 0) → fixed ↔ IsFixedStep events e d → both ↔ (fixed ⊎ Synchronizes events sources e d) → both ↔ Step events sources e d
+pub Step-iff : (events : List Event) (sources : List ℕ) (e d : ℕ) (fixed both : Type 0) → fixed ↔ IsFixedStep events e d → both ↔ (fixed ⊎ Synchronizes events sources e d) → both ↔ StepBy events (ReadsByteFrom events sources) e d
 Step-iff events sources e d fixed both is put = (
   (λ h. elim (put.0 h) [
     | inl old ↦ elim (is.0 old) [ inl ordered ↦ inl ordered | inr made ↦ inr (inr made) ]

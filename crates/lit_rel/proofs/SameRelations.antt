@@ -2,10 +2,10 @@
 use Rattle.std.proofs.Common.{◌↔◌, ℕ, List, inl, inr}
 use Rattle.lit_paths.specs.declared.event.Event.{Event}
 use Rattle.lit_rel.specs.Coherent.{AreCoherentReads}
-use Rattle.lit_rel.specs.Forbidden.{IsForbiddenBy}
+use Rattle.lit_rel.specs.Forbidden.{IsForbiddenTriple}
 
-module _ (events : List Event) (sources : List ℕ) where
-  coherent_by : (before other : ℕ → ℕ → Type 0) → ((e d : ℕ) → other e d → before e d) → AreCoherentReads events sources before → AreCoherentReads events sources other
+module _ (events : List Event) (given : ℕ → ℕ → ℕ → Type 0) where
+  coherent_by : (before other : ℕ → ℕ → Type 0) → ((e d : ℕ) → other e d → before e d) → AreCoherentReads events given before → AreCoherentReads events given other
   coherent_by before other to has r b w h =
       let read = has r b w h in
       record {
@@ -13,7 +13,7 @@ module _ (events : List Event) (sources : List ℕ) where
         not_hidden = λ v hides. read.not_hidden v record { writes = hides.writes; in_range = hides.in_range; after_source = to w v hides.after_source; before_read = to v r hides.before_read };
       }
 
-  forbidden_by : (before other : ℕ → ℕ → Type 0) → ((e d : ℕ) → before e d → other e d) → (w r v : ℕ) → IsForbiddenBy events sources before w r v → IsForbiddenBy events sources other w r v
+  forbidden_by : (before other : ℕ → ℕ → Type 0) → ((e d : ℕ) → before e d → other e d) → (w r v : ℕ) → IsForbiddenTriple events given before w r v → IsForbiddenTriple events given other w r v
   forbidden_by before other to w r v f =
       record {
         reads = f.reads;
@@ -33,8 +33,8 @@ module _ (events : List Event) (sources : List ℕ) where
       }
 
   module _ (before other : ℕ → ℕ → Type 0) (same : (e d : ℕ) → before e d ↔ other e d) where
-    pub AreCoherentReads-same : AreCoherentReads events sources before ↔ AreCoherentReads events sources other
+    pub AreCoherentReads-same : AreCoherentReads events given before ↔ AreCoherentReads events given other
     AreCoherentReads-same = (coherent_by before other (λ e d. (same e d).1), coherent_by other before (λ e d. (same e d).0))
 
-    pub IsForbiddenBy-same : (w r v : ℕ) → IsForbiddenBy events sources before w r v ↔ IsForbiddenBy events sources other w r v
-    IsForbiddenBy-same w r v = (forbidden_by before other (λ e d. (same e d).0) w r v, forbidden_by other before (λ e d. (same e d).1) w r v)
+    pub IsForbiddenTriple-same : (w r v : ℕ) → IsForbiddenTriple events given before w r v ↔ IsForbiddenTriple events given other w r v
+    IsForbiddenTriple-same w r v = (forbidden_by before other (λ e d. (same e d).0) w r v, forbidden_by other before (λ e d. (same e d).1) w r v)

@@ -9,7 +9,7 @@ use Rattle.lit_paths.specs.Choice.{AreSources}
 use Rattle.lit_paths.specs.Event.{HasByte, HasSameRange, does_write, event_at}
 use Rattle.lit_paths.specs.ByteReads.{IsCandidate}
 use Rattle.lit_rel.specs.ReadsFrom.{ReadsByteFrom}
-use Rattle.lit_rel.specs.TearFree.{HasTearFreeReads, ReadsWhole}
+use Rattle.lit_rel.specs.TearFree.{HasTearFreeReads, ReadsWholeBy}
 use Rattle.lit_rel.specs.WideEvents.{mixed_sizes, typed_load, viewed_load, MixedSizesNeverSynchronize, TypedLoadMixesWithInitOnly, ViewedLoadMixes, NeverReadsItself}
 
 -- the source of a byte is a candidate
@@ -82,14 +82,14 @@ two_events h = absurd (omega arith)
 
 first_mix_refused : HasTearFreeReads typed_load (3 ∷ 2 ∷ []) → ⊥
 first_mix_refused has =
-    let from_b : ReadsWhole typed_load (3 ∷ 2 ∷ []) 4 3 = record { reads = (0, (0, refl, refl)); can = record { reader = refl; writer = refl; same_range = same_range (event_at typed_load 4) (event_at typed_load 3) refl refl } } in
-    let from_a : ReadsWhole typed_load (3 ∷ 2 ∷ []) 4 2 = record { reads = (1, (1, refl, refl)); can = record { reader = refl; writer = refl; same_range = same_range (event_at typed_load 4) (event_at typed_load 2) refl refl } } in
+    let from_b : ReadsWholeBy typed_load (ReadsByteFrom typed_load (3 ∷ 2 ∷ [])) 4 3 = record { reads = (0, (0, refl, refl)); can = record { reader = refl; writer = refl; same_range = same_range (event_at typed_load 4) (event_at typed_load 3) refl refl } } in
+    let from_a : ReadsWholeBy typed_load (ReadsByteFrom typed_load (3 ∷ 2 ∷ [])) 4 2 = record { reads = (1, (1, refl, refl)); can = record { reader = refl; writer = refl; same_range = same_range (event_at typed_load 4) (event_at typed_load 2) refl refl } } in
     two_events (has 4 3 2 from_b from_a)
 
 second_mix_refused : HasTearFreeReads typed_load (2 ∷ 3 ∷ []) → ⊥
 second_mix_refused has =
-    let from_a : ReadsWhole typed_load (2 ∷ 3 ∷ []) 4 2 = record { reads = (0, (0, refl, refl)); can = record { reader = refl; writer = refl; same_range = same_range (event_at typed_load 4) (event_at typed_load 2) refl refl } } in
-    let from_b : ReadsWhole typed_load (2 ∷ 3 ∷ []) 4 3 = record { reads = (1, (1, refl, refl)); can = record { reader = refl; writer = refl; same_range = same_range (event_at typed_load 4) (event_at typed_load 3) refl refl } } in
+    let from_a : ReadsWholeBy typed_load (ReadsByteFrom typed_load (2 ∷ 3 ∷ [])) 4 2 = record { reads = (0, (0, refl, refl)); can = record { reader = refl; writer = refl; same_range = same_range (event_at typed_load 4) (event_at typed_load 2) refl refl } } in
+    let from_b : ReadsWholeBy typed_load (ReadsByteFrom typed_load (2 ∷ 3 ∷ [])) 4 3 = record { reads = (1, (1, refl, refl)); can = record { reader = refl; writer = refl; same_range = same_range (event_at typed_load 4) (event_at typed_load 3) refl refl } } in
     two_events (sym (has 4 2 3 from_a from_b))
 
 init_mix_read : (r b w : ℕ) → ReadsByteFrom typed_load (0 ∷ 2 ∷ []) r b w → (r ≡ 4) × ((w ≡ 0) ⊎ (w ≡ 2))
@@ -98,7 +98,7 @@ init_mix_read r b w (suc zero, hr, hw) = (sym (some_pair_parts 4 r 1 b hr).0, in
 init_mix_read r b w (suc (suc i), hr, hw) = absurd (none-some {A = ℕ × ℕ} (r, b) hr)
 
 -- only the store is read whole
-init_mix_whole : (r w : ℕ) → ReadsWhole typed_load (0 ∷ 2 ∷ []) r w → w ≡ 2
+init_mix_whole : (r w : ℕ) → ReadsWholeBy typed_load (ReadsByteFrom typed_load (0 ∷ 2 ∷ [])) r w → w ≡ 2
 init_mix_whole r w h =
     let read = init_mix_read r h.reads.0 w h.reads.1 in
     elim read.1 [

@@ -4,9 +4,9 @@ use Rattle.std.specs.Prelude.{◌≡◌, ◌≢◌, ◌⊎◌, ℕ, IsTrue, List
 use Rattle.lit_paths.specs.declared.event.Order3.TheVariants.{SeqCst}
 use Rattle.lit_paths.specs.declared.event.Event.{Event}
 use Rattle.lit_paths.specs.Event.{HasSameRange, does_write, event_at}
-use Rattle.lit_rel.specs.ReadsFrom.{ReadsFrom}
+use Rattle.lit_rel.specs.ReadsFrom.{ReadsByteFrom, ReadsFromBy}
 use Rattle.lit_rel.specs.SynchronizesWith.{CanSynchronize}
-use Rattle.lit_rel.specs.HappensBefore.{HappensBefore}
+use Rattle.lit_rel.specs.HappensBefore.{HappensBeforeBy}
 
 -- source w synchronizes with its read r, and v has the range of r
 pub record IsBetweenSynchronized (events : List Event) (w r v : ℕ) : Type 0 where
@@ -35,10 +35,13 @@ pub record IsForbiddenBetween (events : List Event) (before : ℕ → ℕ → Ty
   pub ordered : (event_at events v).order ≡ SeqCst
   pub pattern : IsBetweenSynchronized events w r v ⊎ IsAfterSource events before w r v ⊎ IsBeforeRead events before w r v
 
--- r reads from w, and v may not stand between them
-pub record IsForbiddenBy (events : List Event) (sources : List ℕ) (before : ℕ → ℕ → Type 0) (w r v : ℕ) : Type 0 where
-  pub reads : ReadsFrom events sources r w
+-- r reads from w by what is given, and v may not stand between them
+pub record IsForbiddenTriple (events : List Event) (given : ℕ → ℕ → ℕ → Type 0) (before : ℕ → ℕ → Type 0) (w r v : ℕ) : Type 0 where
+  pub reads : ReadsFromBy given r w
   pub between : IsForbiddenBetween events before w r v
 
+abbrev pub IsForbiddenBy : List Event → (ℕ → ℕ → ℕ → Type 0) → ℕ → ℕ → ℕ → Type 0
+IsForbiddenBy events given = IsForbiddenTriple events given (HappensBeforeBy events given)
+
 abbrev pub IsForbidden : List Event → List ℕ → ℕ → ℕ → ℕ → Type 0
-IsForbidden events sources = IsForbiddenBy events sources (HappensBefore events sources)
+IsForbidden events sources = IsForbiddenBy events (ReadsByteFrom events sources)

@@ -4,7 +4,8 @@ use Rattle.lit_paths.specs.declared.event.Order3.TheVariants.{Init}
 use Rattle.lit_paths.specs.declared.event.Event.{Event}
 use Rattle.lit_paths.specs.Event.{SharesByte, event_at}
 use Rattle.lit_rel.specs.AgentOrder.{IsAgentOrdered}
-use Rattle.lit_rel.specs.SynchronizesWith.{Synchronizes}
+use Rattle.lit_rel.specs.ReadsFrom.{ReadsByteFrom}
+use Rattle.lit_rel.specs.SynchronizesWith.{SynchronizesBy}
 
 -- e makes a byte of the block, and d is another event with that byte in its range (equal ranges too: this project's own)
 pub record IsMadeBefore (events : List Event) (e d : ℕ) : Type 0 where
@@ -14,9 +15,9 @@ pub record IsMadeBefore (events : List Event) (e d : ℕ) : Type 0 where
   pub other : e ≢ d
   pub shares : SharesByte (event_at events e) (event_at events d)
 
--- one step of happens-before
-abbrev pub Step : List Event → List ℕ → ℕ → ℕ → Type 0
-Step events sources e d = IsAgentOrdered events e d ⊎ Synchronizes events sources e d ⊎ IsMadeBefore events e d
+-- one step of happens-before, by what is given
+abbrev pub StepBy : List Event → (ℕ → ℕ → ℕ → Type 0) → ℕ → ℕ → Type 0
+StepBy events given e d = IsAgentOrdered events e d ⊎ SynchronizesBy events given e d ⊎ IsMadeBefore events e d
 
 -- steps from e to d, by way of these
 abbrev pub Chain : (ℕ → ℕ → Type 0) → ℕ → List ℕ → ℕ → Type 0
@@ -24,6 +25,9 @@ Chain step e [] d = step e d
 Chain step e (m ∷ middles) d = step e m × Chain step m middles d
 
 -- there is a chain of at least one step from e to d
-pub record HappensBefore (events : List Event) (sources : List ℕ) (e d : ℕ) : Type 0 where
+pub record HappensBeforeBy (events : List Event) (given : ℕ → ℕ → ℕ → Type 0) (e d : ℕ) : Type 0 where
   pub middles : List ℕ
-  pub chain : Chain (Step events sources) e middles d
+  pub chain : Chain (StepBy events given) e middles d
+
+abbrev pub HappensBefore : List Event → List ℕ → ℕ → ℕ → Type 0
+HappensBefore events sources = HappensBeforeBy events (ReadsByteFrom events sources)

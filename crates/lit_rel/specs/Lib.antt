@@ -8,6 +8,7 @@ pub mod HappensBefore
 pub mod Coherent
 pub mod TearFree
 pub mod Forbidden
+pub mod Growth
 pub mod Part
 pub mod WideEvents
 pub mod Parts

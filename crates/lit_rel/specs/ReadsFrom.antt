@@ -1,6 +1,7 @@
 -- reads-bytes-from, reads-from, and the value of a read (ECMA-262, 2024, 29.6.2, 29.6.3, 29.5.4 and 29.5.5).
 -- The sources are one event number for each byte that is read, in the order of `byte_reads`. They may be fewer than
--- all: the relations are then those of the sources given.
+-- all: the relations are then those of the sources given. Each relation is defined by what is given: that byte b of
+-- read r has the source w, for any set of bytes.
 use Rattle.std.specs.Prelude.{◌≡◌, ℕ, ◌+◌, ◌*◌, ◌==◌, Some, List, [], ◌∷◌, map, filter, slice_get}
 use Rattle.std.specs.List.{zip}
 use Rattle.lit_paths.specs.declared.event.Event.{Event}
@@ -11,9 +12,12 @@ use Rattle.lit_paths.specs.ByteReads.{byte_reads}
 abbrev pub ReadsByteFrom : List Event → List ℕ → ℕ → ℕ → ℕ → Type 0
 ReadsByteFrom events sources r b w = (i : ℕ) × (slice_get (byte_reads events) i ≡ Some (r, b)) × (slice_get sources i ≡ Some w)
 
--- some byte of read r has the source w
+-- some byte of read r has the source w, by what is given
+abbrev pub ReadsFromBy : (ℕ → ℕ → ℕ → Type 0) → ℕ → ℕ → Type 0
+ReadsFromBy given r w = (b : ℕ) × given r b w
+
 abbrev pub ReadsFrom : List Event → List ℕ → ℕ → ℕ → Type 0
-ReadsFrom events sources r w = (b : ℕ) × ReadsByteFrom events sources r b w
+ReadsFrom events sources = ReadsFromBy (ReadsByteFrom events sources)
 
 -- the payload byte of each source of read r, by rising byte
 abbrev pub bytes_of_read : List Event → List ℕ → ℕ → List ℕ

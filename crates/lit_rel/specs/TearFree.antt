@@ -2,7 +2,7 @@
 use Rattle.std.specs.Prelude.{◌≡◌, ℕ, true, List}
 use Rattle.lit_paths.specs.declared.event.Event.{Event}
 use Rattle.lit_paths.specs.Event.{HasSameRange, event_at}
-use Rattle.lit_rel.specs.ReadsFrom.{ReadsFrom}
+use Rattle.lit_rel.specs.ReadsFrom.{ReadsByteFrom, ReadsFromBy}
 
 -- both must not tear, and their ranges are equal
 pub record CanReadWhole (r w : Event) : Type 0 where
@@ -10,10 +10,13 @@ pub record CanReadWhole (r w : Event) : Type 0 where
   pub writer : w.no_tear ≡ true
   pub same_range : HasSameRange r w
 
--- read r has w among its sources, both must not tear, and their ranges are equal
-pub record ReadsWhole (events : List Event) (sources : List ℕ) (r w : ℕ) : Type 0 where
-  pub reads : ReadsFrom events sources r w
+-- read r has w among its sources by what is given, both must not tear, and their ranges are equal
+pub record ReadsWholeBy (events : List Event) (given : ℕ → ℕ → ℕ → Type 0) (r w : ℕ) : Type 0 where
+  pub reads : ReadsFromBy given r w
   pub can : CanReadWhole (event_at events r) (event_at events w)
 
+abbrev pub HasTearFreeReadsBy : List Event → (ℕ → ℕ → ℕ → Type 0) → Type 0
+HasTearFreeReadsBy events given = (r w v : ℕ) → ReadsWholeBy events given r w → ReadsWholeBy events given r v → v ≡ w
+
 abbrev pub HasTearFreeReads : List Event → List ℕ → Type 0
-HasTearFreeReads events sources = (r w v : ℕ) → ReadsWhole events sources r w → ReadsWhole events sources r v → v ≡ w
+HasTearFreeReads events sources = HasTearFreeReadsBy events (ReadsByteFrom events sources)

@@ -3,8 +3,9 @@
 ghost use Rattle.std.specs.Prelude.{◌≡◌, ◌⊎◌, ◌↔◌, ℕ, ◌<◌, IsTrue, length};
 ghost use Rattle.lit_rel.specs.Between.{Forbids};
 ghost use Rattle.lit_rel.specs.EventSet.{HasEvent};
-ghost use Rattle.lit_rel.specs.Forbidden.{IsAfterSource, IsBeforeRead, IsBetweenSynchronized, IsForbiddenBetween, IsForbiddenBy};
+ghost use Rattle.lit_rel.specs.Forbidden.{IsAfterSource, IsBeforeRead, IsBetweenSynchronized, IsForbiddenBetween, IsForbiddenTriple};
 ghost use Rattle.lit_rel.specs.Parts.Given.{IsKnown, sources_of};
+ghost use Rattle.lit_rel.specs.ReadsFrom.{ReadsByteFrom};
 ghost use Rattle.lit_rel.specs.Rows.{Holds};
 
 use crate::bit_rows::Rows;
@@ -85,7 +86,7 @@ impl Given<'_> {
     pub(crate) fn between(&self, before: &Rows) -> Between
         ensures len { result.len ≡ length self.now.events.now }
         ensures triples { (w r v : ℕ) → Forbids result w r v
-            ↔ IsForbiddenBy self.now.events.now (sources_of self.now.bytes.now) (Holds before.now) w r v }
+            ↔ IsForbiddenTriple self.now.events.now (ReadsByteFrom self.now.events.now (sources_of self.now.bytes.now)) (Holds before.now) w r v }
     {
         let mut between = Between::new(self.events.len());
         for byte in self.bytes {

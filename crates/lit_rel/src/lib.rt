@@ -11,6 +11,7 @@ mod event_set;
 mod fixed_steps;
 mod forbidding;
 mod given;
+mod growth;
 mod part;
 mod ranges;
 mod reading_checks;
@@ -24,6 +25,7 @@ mod wide_events;
 pub use bit_rows::Rows;
 pub use closing::close;
 pub use event_set::EventSet;
+pub use growth::{relations_grow_with_bytes, values_stay};
 pub use part::Part;
 pub use triples::{Between, Pair};
 pub use wide_events::{

@@ -5,6 +5,7 @@ ghost use Rattle.lit_paths.specs.Event.{event_at};
 ghost use Rattle.lit_rel.specs.declared.given.SourcedByte.{SourcedByte as Sourced};
 ghost use Rattle.lit_rel.specs.Coherent.{AreCoherentReads, Hides, IsCoherentRead};
 ghost use Rattle.lit_rel.specs.Parts.Given.{IsKnown, Tears, sources_of};
+ghost use Rattle.lit_rel.specs.ReadsFrom.{ReadsByteFrom};
 ghost use Rattle.lit_rel.specs.Rows.{Holds};
 ghost use Rattle.lit_rel.specs.TearFree.{CanReadWhole, HasTearFreeReads};
 
@@ -50,7 +51,7 @@ fn is_coherent_byte(events: &[Event], byte: SourcedByte, before: &Rows) -> bool
 impl Given<'_> {
     /// Coherent reads (29.7.2), by a relation that orders the events.
     pub(crate) fn is_coherent(&self, before: &Rows) -> bool
-        ensures { IsTrue result ↔ AreCoherentReads self.now.events.now (sources_of self.now.bytes.now) (Holds before.now) }
+        ensures { IsTrue result ↔ AreCoherentReads self.now.events.now (ReadsByteFrom self.now.events.now (sources_of self.now.bytes.now)) (Holds before.now) }
     {
         for byte in self.bytes {
             if !is_coherent_byte(self.events, *byte, before) {

@@ -1,6 +1,7 @@
 use super::assert_pairs;
 use crate::bit_rows::Rows;
 use crate::event_set::EventSet;
+use crate::growth::{relations_grow_with_bytes, values_stay};
 use crate::triples::Between;
 use crate::wide_events::{
     mixed_sizes_never_synchronize, never_reads_itself, typed_load_mixes_with_init_only,
@@ -71,5 +72,7 @@ fn laws_are_named(rt: HostRuntime) {
     typed_load_mixes_with_init_only();
     viewed_load_mixes();
     never_reads_itself();
+    relations_grow_with_bytes();
+    values_stay();
     assert!(rt; true);
 }

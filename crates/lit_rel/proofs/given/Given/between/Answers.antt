@@ -4,7 +4,7 @@ use Rattle.lit_rel.specs.Between.{BetweenModel}
 use Rattle.lit_rel.specs.Between.{Forbids}
 use Rattle.lit_rel.specs.Rows.{Holds}
 use Rattle.lit_rel.proofs.EachLemmas.{SomeBelow, SomeBelow-put, SomeBelow-skip}
-use Rattle.lit_rel.proofs.ForbiddenLemmas.{IsForbidding, IsForbiddenBy-iff}
+use Rattle.lit_rel.proofs.ForbiddenLemmas.{IsForbidding, IsForbiddenTriple-iff}
 use Rattle.lit_rel.proofs.SourceLemmas.{no_byte}
 use Rattle.lit_rel.proofs.given.Given.between.Goals as goal
 use Rattle.lit_rel.proofs.given.Given.between.Goals.{then-not-is_empty, else-not-is_empty}
@@ -40,6 +40,6 @@ loop-byte-preserved c =
 
 pub returns-clause-triples : goal.returns-clause-triples
 returns-clause-triples c w r v =
-    let iff = IsForbiddenBy-iff c.args.self.now.events.now c.args.self.now.bytes.now c.loop-byte.byte-index c.args.self.now.first_reads c.loop-byte-test.false (Holds c.args.before.now) w r v in
+    let iff = IsForbiddenTriple-iff c.args.self.now.events.now c.args.self.now.bytes.now c.loop-byte.byte-index c.args.self.now.first_reads c.loop-byte-test.false (Holds c.args.before.now) w r v in
     let kept = c.loop-byte.invariant.triples w r v in
     (λ x. iff.0 (kept.0 x), λ x. kept.1 (iff.1 x))

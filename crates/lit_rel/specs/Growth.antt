@@ -1,0 +1,37 @@
+-- What becomes of the relations, and of what is asked of reads, when more bytes are given a source (this project's own).
+use Rattle.std.specs.Prelude.{◌≡◌, ℕ, ◌<◌, Bool, IsTrue, List, ◌++◌, length, Some, slice_get}
+use Rattle.lit_paths.specs.declared.event.Event.{Event}
+use Rattle.lit_paths.specs.ByteReads.{byte_reads}
+use Rattle.lit_rel.specs.ReadsFrom.{ReadsByteFrom, ReadsFromBy, value_of}
+use Rattle.lit_rel.specs.SynchronizesWith.{SynchronizesBy}
+use Rattle.lit_rel.specs.HappensBefore.{HappensBeforeBy}
+use Rattle.lit_rel.specs.Coherent.{HasCoherentReadsBy}
+use Rattle.lit_rel.specs.TearFree.{HasTearFreeReadsBy}
+use Rattle.lit_rel.specs.Forbidden.{IsForbiddenBy}
+
+-- The relations only grow. That the reads are coherent and tear free only goes from true to false.
+pub record Grows (events : List Event) (less more : ℕ → ℕ → ℕ → Type 0) : Type 0 where
+  pub reads_from : (r w : ℕ) → ReadsFromBy less r w → ReadsFromBy more r w
+  pub synchronizes : (w r : ℕ) → SynchronizesBy events less w r → SynchronizesBy events more w r
+  pub happens_before : (e d : ℕ) → HappensBeforeBy events less e d → HappensBeforeBy events more e d
+  pub forbidden : (w r v : ℕ) → IsForbiddenBy events less w r v → IsForbiddenBy events more w r v
+  pub coherent : HasCoherentReadsBy events more → HasCoherentReadsBy events less
+  pub tear_free : HasTearFreeReadsBy events more → HasTearFreeReadsBy events less
+
+-- the bytes of a set are given these sources
+abbrev pub GivenBy : (ℕ → ℕ → ℕ → Bool) → ℕ → ℕ → ℕ → Type 0
+GivenBy given r b w = IsTrue (given r b w)
+
+-- from any set of bytes to any that has it, also to that of a list of sources, and from a list to any longer one
+pub record GrowWithBytes : Type 0 where
+  pub sets : (events : List Event) (less more : ℕ → ℕ → ℕ → Bool) → ((r b w : ℕ) → GivenBy less r b w → GivenBy more r b w) → Grows events (GivenBy less) (GivenBy more)
+  pub into_lists : (events : List Event) (less : ℕ → ℕ → ℕ → Bool) (sources : List ℕ) → ((r b w : ℕ) → GivenBy less r b w → ReadsByteFrom events sources r b w) → Grows events (GivenBy less) (ReadsByteFrom events sources)
+  pub lists : (events : List Event) (sources rest : List ℕ) → Grows events (ReadsByteFrom events sources) (ReadsByteFrom events (sources ++ rest))
+
+-- all bytes of read r have a source
+abbrev pub IsGivenWhole : List Event → List ℕ → ℕ → Type 0
+IsGivenWhole events sources r = (i b : ℕ) → slice_get (byte_reads events) i ≡ Some (r, b) → i < length sources
+
+-- the value of a read all of whose bytes have a source does not change with further ones
+abbrev pub ValuesStay : Type 0
+ValuesStay = (events : List Event) (sources rest : List ℕ) (r : ℕ) → IsGivenWhole events sources r → value_of events (sources ++ rest) r ≡ value_of events sources r

@@ -1,0 +1,14 @@
+//! What becomes of relations with more bytes given. The functions do nothing: their contracts are theorems.
+
+ghost use Rattle.lit_rel.specs.Growth.{GrowWithBytes, ValuesStay};
+
+/// With more bytes given, reads-from, synchronizes-with, happens-before and the forbidden triples only grow, and that
+/// the reads are coherent and tear free only goes from true to false.
+pub fn relations_grow_with_bytes()
+    ensures { GrowWithBytes }
+{}
+
+/// Once all bytes of a read are given, further bytes do not change its value.
+pub fn values_stay()
+    ensures { ValuesStay }
+{}
