@@ -11,7 +11,7 @@ use Rattle.lit_paths.specs.Path.{Path}
 use Rattle.lit_paths.specs.Run.{Run, IsRun, run_path}
 use Rattle.lit_paths.specs.ByteReads.{byte_reads}
 use Rattle.lit_paths.specs.Choice.{Choice, AreSources, ListsCombinations, choices_of, combinations_of, events_of}
-use Rattle.lit_paths.specs.Outcome.{outcome_of}
+use Rattle.lit_paths.specs.Outcome.{names_of, outcome_of}
 use Rattle.lit_paths.specs.Execution.{Execution, execution_events, execution_choice, IsCandidateExecution}
 use Rattle.lit_paths.specs.Plan.{HasSources, IsOfCombination, accesses_on, events_in, combination_at}
 use Rattle.lit_paths.specs.Told.{read_places}
@@ -27,14 +27,9 @@ use Rattle.lit_search.specs.Report.{Gives}
 use Rattle.lit_search.specs.Searching.Examined.{IsAllowed, IsOrdered, IsExample, IsInvalid}
 use Rattle.lit_search.specs.Searching.ReadValues.{path_at, first_number, read_values}
 use Rattle.lit_search.specs.Searching.GivenRuns.{IsGivenRun, HasGivenRun, AreGivenRuns}
+use Rattle.lit_search.specs.Searching.GivenChoices.{IsPlaced, IsGivenChoice}
 use Rattle.lit_search.proofs.OwnValues.{length-values_from}
 use Rattle.lit_search.proofs.Takings.{AreTaken, AreCounted, taken_apart, taken_together, taken_at, taken_each, counted_each, gathered, read_numbers-accesses}
-
--- choice n, one of combination c, with its sources
-pub record IsPlaced (t : Litmus) (n c : ℕ) (sources : List ℕ) : Type 0 where
-  pub of : IsOfCombination t n c
-  pub has : HasSources t n sources
-  pub sourced : AreSources (events_in t c) sources
 
 choice_is : (a b : Choice) → Some a ≡ Some b → a ≡ b
 choice_is a b e = cc
@@ -205,6 +200,10 @@ module _ (t : Litmus) (n c : ℕ) (sources : List ℕ) (placed : IsPlaced t n c 
         let g : List ℕ → Choice = λ ws. record { decisions = map (λ run. run.decisions) example.runs; sources = ws } in
         placed.has.listed ∙ ap (λ (ch : Choice). Some ch) (ap f decided ∙ ap g placed.has.same)
 
+    -- the outcome has a value for each name
+    pub length-outcome : (outcome : List ℕ) → ((runs : List Run) → AreGivenRuns t c sources runs → outcome_of t (map (λ run. run.registers) runs) ≡ outcome) → length outcome ≡ length (names_of t)
+    length-outcome outcome is = sym (ap (λ (o : List ℕ). length o) (is example.runs example_given)) ∙ length-map (names_of t) _
+
     pub example_gives : (outcome : List ℕ) → ((runs : List Run) → AreGivenRuns t c sources runs → outcome_of t (map (λ run. run.registers) runs) ≡ outcome)
         → IsAllowed events sources → (order : List ℕ) → IsMemoryOrder events sources order → Gives t n outcome
     example_gives outcome is allowed order ordered = record {
@@ -228,12 +227,6 @@ module _ (t : Litmus) (n c : ℕ) (sources : List ℕ) (placed : IsPlaced t n c 
       only = only_of outcome is;
       least = λ x valid at. carried_back (λ es ws. IsLeastMemoryOrder es ws order) x (same_execution x valid.candidate at) least;
     }
-
--- a part that has the sources of choice n, one of combination c
-pub record IsGivenChoice (t : Litmus) (n c : ℕ) (part : PartModel) : Type 0 where
-  pub test : part.test ≡ t
-  pub combination : part.combination ≡ c
-  pub placed : IsPlaced t n c part.sources
 
 -- a part of the combination has them once they are given to it
 pub given_choice : (t : Litmus) (n c : ℕ) (old new : PartModel) (entered : Litmus × ℕ) (given sources : List ℕ) → old.test ≡ t → old.combination ≡ c → entered ≡ (old.test, old.combination)
@@ -263,3 +256,8 @@ module _ (t : Litmus) (n c : ℕ) (part : PartModel) (is : IsGivenChoice t n c p
   pub length-values : (values given : List ℕ) → given ≡ read_values (part_events part) part.sources → values ≡ given → length values ≡ length (events_in t c)
   length-values values given read as_given =
       ap (λ vs. length vs) (values_are values given read as_given) ∙ length-values_from (value_of (events_in t c) part.sources) 0 (events_in t c)
+
+-- the same of what is given by other names
+pub given_as : (t u : Litmus) (n c d : ℕ) (part : PartModel) → u ≡ t → d ≡ c → IsGivenChoice u n d part → IsGivenChoice t n c part
+given_as t u n c d part test combination is =
+    subst (λ (v : Litmus). IsGivenChoice v n c part) test (subst (λ (k : ℕ). IsGivenChoice u n k part) combination is)
