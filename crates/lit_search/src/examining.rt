@@ -13,7 +13,7 @@ use crate::decisions::all_agree;
 use crate::found::{Example, Outcome};
 use crate::outcomes::outcome_of;
 use crate::values::values_of;
-use lit_order::{Order, OrderFinder, PlainFinder};
+use lit_order::{Order, OrderFinder, ForcedFinder};
 use lit_paths::{Plan, combinations_are_listed, runs_choose_for_each_read};
 use lit_rel::Part;
 
@@ -111,7 +111,7 @@ fn examine<W: Wanted>(
     if !wanted.wants(plan, outcome.as_slice()) {
         return None;
     }
-    let Some(order) = order_of(&PlainFinder, part) else {
+    let Some(order) = order_of(&ForcedFinder, part) else {
         return None;
     };
     let example = Example { choice, order };
