@@ -5,9 +5,9 @@ use Rattle.lit_rel.specs.declared.bit_rows.Rows.{Rows}
 use Rattle.lit_rel.specs.Rows.{Holds, rows_len, IsTransitive, WithPair}
 use Rattle.lit_order.specs.Finding.Deciding.{AreDecided, IsUndecided}
 use Rattle.lit_order.specs.Forced.{AndPair}
-use Rattle.lit_order.specs.Forcing.{HasChain, HasCycle, IsForced, Given, Through, HasForcedCycle}
+use Rattle.lit_order.specs.Forcing.{HasChain, IsForced, Given, Through, HasForcedCycle}
 use Rattle.lit_order.specs.MemoryOrder.{StandsBefore, IsOrderOf}
-use Rattle.lit_order.proofs.ForcedLemmas.{AreTriplesBelow, keeps_forced, stands_after_read, stands_before_source}
+use Rattle.lit_order.proofs.ForcedLemmas.{AreTriplesBelow, keeps_forced, stands_before_source}
 use Rattle.lit_order.proofs.ForcingLemmas.{HasChain-through}
 use Rattle.lit_order.proofs.LinearLemmas.{IsStrict}
 use Rattle.lit_order.proofs.NarrowLemmas.{IsOrderOf-fewer}

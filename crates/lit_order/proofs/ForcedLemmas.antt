@@ -1,8 +1,8 @@
 -- What is forced, every order keeps.
-use Rattle.std.proofs.Common.{◌≡◌, ◌≢◌, ◌↔◌, ℕ, ◌<◌, List, arith, inl, inr}
+use Rattle.std.proofs.Common.{◌≢◌, ℕ, ◌<◌, List, inl, inr}
 use Rattle.lit_order.specs.Forcing.{IsForced, Given, Through, AfterRead, BeforeSource}
 use Rattle.lit_order.specs.MemoryOrder.{StandsBefore, IsOrderOf}
-use Rattle.lit_order.proofs.StandingLemmas.{StandsBefore-through, never_both, either_before}
+use Rattle.lit_order.proofs.StandingLemmas.{StandsBefore-through, either_before}
 
 -- triples speak of events below n
 pub record AreTriplesBelow (n : ℕ) (forbidden : ℕ → ℕ → ℕ → Type 0) : Type 0 where

@@ -1,5 +1,5 @@
 -- How what is forced is found, pair by pair.
-use Rattle.std.proofs.Common.{◌≡◌, ◌≢◌, ◌⊎◌, ℕ, ◌<◌, List, [], ◌∷◌, ◌++◌, sym, ◌∙◌, subst, inl, inr}
+use Rattle.std.proofs.Common.{◌≢◌, ℕ, ◌<◌, List, [], ◌∷◌, ◌++◌, sym, ◌∙◌, subst, inl, inr}
 use Rattle.lit_rel.specs.Between.{BetweenModel, Forbids}
 use Rattle.lit_rel.specs.HappensBefore.{Chain}
 use Rattle.lit_rel.specs.Rows.{IsTransitive, WithPair}

@@ -1,5 +1,5 @@
 -- Where every triple is decided, events can be lined up one after another.
-use Rattle.std.proofs.Common.{◌≡◌, ◌≢◌, ◌⊎◌, ℕ, ◌+◌, ◌<◌, ◌≤◌, suc, zero, List, [], ◌∷◌, ◌++◌, length, true, eqb, refl, arith, inl, inr, subst, sym, ◌∙◌}
+use Rattle.std.proofs.Common.{◌≡◌, ◌≢◌, ◌⊎◌, ℕ, ◌+◌, ◌<◌, ◌≤◌, suc, zero, List, [], ◌∷◌, ◌++◌, length, eqb, arith, inl, inr, subst, sym, ◌∙◌}
 use Rattle.std.proofs.lemmas.Bool.{cases_eq, cases_Bool, false≢true}
 use Rattle.std.proofs.lemmas.List.{length_push}
 use Rattle.std.specs.List.{list_any}
@@ -42,11 +42,14 @@ module _ (n : ℕ) (before : ℕ → ℕ → Type 0) (strict : IsStrict n before
 
       passed : Stands order k → ((m : ℕ) × IsFirstLeft before order k m) ⊎ ((e : ℕ) → e < k → Stands order e) → ((m : ℕ) × IsFirstLeft before order (suc k) m) ⊎ ((e : ℕ) → e < suc k → Stands order e)
       passed here (inl found) =
-          inl (found.0, record {
-            below = (let l : found.0 < k = found.1.below in omega arith);
-            left = found.1.left;
-            first = λ y h left b. elim (split y h) [ inl l ↦ found.1.first y l left b | inr same ↦ left (subst (Stands order) (sym same) here) ];
-          })
+          inl (
+            found.0,
+            record {
+              below = (let l : found.0 < k = found.1.below in omega arith);
+              left = found.1.left;
+              first = λ y h left b. elim (split y h) [ inl l ↦ found.1.first y l left b | inr same ↦ left (subst (Stands order) (sym same) here) ];
+            },
+          )
       passed here (inr all) = inr (λ e h. elim (split e h) [ inl l ↦ all e l | inr same ↦ subst (Stands order) (sym same) here ])
 
       itself : ¬ Stands order k → ((y : ℕ) → y < k → ¬ Stands order y → ¬ before y k) → IsFirstLeft before order (suc k) k
@@ -62,11 +65,14 @@ module _ (n : ℕ) (before : ℕ → ℕ → Type 0) (strict : IsStrict n before
           elim (strict.cases k found.0) [
             | inl earlier ↦ inl (k, itself left (λ y l other b. found.1.first y l other (strict.through y k found.0 b earlier)))
             | inr not_earlier ↦
-                inl (found.0, record {
-                  below = (let l : found.0 < k = found.1.below in omega arith);
-                  left = found.1.left;
-                  first = λ y h other b. elim (split y h) [ inl l ↦ found.1.first y l other b | inr same ↦ not_earlier (subst (λ (x : ℕ). before x found.0) same b) ];
-                })
+                inl (
+                  found.0,
+                  record {
+                    below = (let l : found.0 < k = found.1.below in omega arith);
+                    left = found.1.left;
+                    first = λ y h other b. elim (split y h) [ inl l ↦ found.1.first y l other b | inr same ↦ not_earlier (subst (λ (x : ℕ). before x found.0) same b) ];
+                  },
+                )
           ]
 
   module _ (forbidden : ℕ → ℕ → ℕ → Type 0) (triples : AreTriplesBelow n forbidden) (decided : AreDecided before forbidden) where

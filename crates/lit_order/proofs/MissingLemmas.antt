@@ -1,6 +1,6 @@
 -- How many pairs a relation on the events below n has not: fewer, when one is put in.
-use Rattle.std.proofs.Common.{◌≡◌, ℕ, ◌+◌, ◌<◌, ◌≤◌, suc, zero, Bool, true, false, cond, arith, refl, subst, sym, ◌∙◌, inl, inr}
-use Rattle.std.proofs.lemmas.Bool.{cases_eq, cases_Bool, false≢true}
+use Rattle.std.proofs.Common.{◌≡◌, ℕ, ◌+◌, ◌<◌, ◌≤◌, suc, zero, Bool, true, false, cond, arith, refl, subst, sym, inl, inr}
+use Rattle.std.proofs.lemmas.Bool.{cases_eq, false≢true}
 
 -- the sum of what f gives for the numbers below n
 pub sum_below : (ℕ → ℕ) → ℕ → ℕ

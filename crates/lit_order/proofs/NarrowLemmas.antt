@@ -82,9 +82,9 @@ module _ (n : ℕ) (before : ℕ → ℕ → Type 0) (forbidden : ℕ → ℕ �
       record {
         complete = o.complete;
         keeps = λ a d h. elim ((puts a d).0 h) [
-            | inl old ↦ narrow_order.keeps a d old
-            | inr put ↦ subst (λ (x : ℕ). StandsBefore (start ++ event ∷ rest) x d) (sym put.0) (comes_after rest narrow_order d put.1 put.2)
-          ];
+          | inl old ↦ narrow_order.keeps a d old
+          | inr put ↦ subst (λ (x : ℕ). StandsBefore (start ++ event ∷ rest) x d) (sym put.0) (comes_after rest narrow_order d put.1 put.2)
+        ];
         avoids = o.avoids;
       }
 

@@ -1,5 +1,5 @@
 -- Relations on events as tests, and how many pairs they have not.
-use Rattle.std.proofs.Common.{◌≡◌, ◌⊎◌, ◌↔◌, ℕ, ◌<◌, ◌≤◌, suc, zero, Bool, true, ◌&&◌, ltb, eqb, eq-eqb, eqb-true, refl, arith, inl, inr, subst, sym, ◌∙◌}
+use Rattle.std.proofs.Common.{◌≡◌, ◌⊎◌, ℕ, ◌<◌, ◌≤◌, suc, zero, Bool, true, ◌&&◌, ltb, eqb, eq-eqb, eqb-true, arith, inl, inr, subst, sym, ◌∙◌}
 use Rattle.std.proofs.lemmas.Bool.{cases_eq, cases_Bool, ltb-true, lt-ltb, and_parts, and_from, false≢true, false_from_ne_true}
 use Rattle.std.specs.Prelude.{slice_index_or}
 use Rattle.std.specs.Int.{bit_at}

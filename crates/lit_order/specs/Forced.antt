@@ -1,10 +1,9 @@
 -- Precedences between events that are given one after another, as a value of the program's type `Forced` keeps them
 -- (this project's own).
-use Rattle.std.specs.Prelude.{◌≡◌, ◌⊎◌, ◌↔◌, ℕ, List}
+use Rattle.std.specs.Prelude.{◌≡◌, ◌⊎◌, ◌↔◌, ℕ}
 use Rattle.lit_rel.specs.Between.{Forbids}
 use Rattle.lit_rel.specs.Rows.{Holds, rows_len}
 use Rattle.lit_order.specs.declared.extending.Forced.{Forced}
-use Rattle.lit_order.specs.MemoryOrder.{IsOrderOf}
 
 -- between how many events
 abbrev pub forced_len : Forced → ℕ

@@ -1,6 +1,6 @@
 -- What a relation and forbidden triples force every order to keep (this project's own; the triples are those of
 -- ECMA-262, 2024, 29.7.4).
-use Rattle.std.specs.Prelude.{◌≢◌, ℕ, ◌<◌, List}
+use Rattle.std.specs.Prelude.{◌≢◌, ℕ, List}
 use Rattle.lit_rel.specs.HappensBefore.{Chain}
 
 -- The least transitive relation that has the given one, and in which each triple (w, r, v), with v neither w nor r, puts

@@ -12,9 +12,9 @@ mod forcing;
 mod laws;
 mod lining;
 mod plain;
-mod triples;
 #[cfg(test)]
 mod tests;
+mod triples;
 
 pub use extending::Forced;
 pub use finding::{Order, OrderFinder};

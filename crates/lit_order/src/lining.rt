@@ -48,7 +48,7 @@ fn walk(order: &mut Order, placed: EventSet, constraints: &Constraints<'_>) -> b
     if order.len() == constraints.len() {
         return true;
     }
-    for event in 0..constraints.len() {
+    'walking: for event in 0..constraints.len() {
         if constraints.can_stand_next(event, placed) {
             order.push(event as u8);
             return walk(order, placed.with(event), constraints);

@@ -157,7 +157,9 @@ fn one_side_of_a_triple_is_extendable(rt: HostRuntime) {
         None => assert!(&rt; false),
     }
     match forced_precedence(&before, &between) {
-        Some(forced) => assert!(&rt; forced.holds(3, 4) && forced.holds(2, 5) && !forced.holds(3, 2)),
+        Some(forced) => assert!(&rt;
+            forced.holds(3, 4) && forced.holds(2, 5) && !forced.holds(3, 2)
+        ),
         None => assert!(&rt; false),
     }
 }

@@ -1,4 +1,4 @@
-use Rattle.std.proofs.Common.{rules, arith, ◌≡◌, ℕ, ◌<◌, ◌≤◌, List, refl, sym, ◌∙◌, subst, inl, inr}
+use Rattle.std.proofs.Common.{rules, arith, ◌≡◌, ℕ, ◌<◌, ◌≤◌, refl, sym, ◌∙◌, subst, inl, inr}
 use Rattle.std.proofs.lemmas.Bool.{true≢false, false≢true}
 use Rattle.lit_rel.specs.declared.bit_rows.Rows.{Rows}
 use Rattle.lit_rel.specs.Between.{BetweenModel, Forbids}
@@ -26,9 +26,11 @@ module _ (before : Rows) (between : BetweenModel) (forced : Rows) (f : IsForcing
   -- an order of rows with one pair more is one of what was given
   from_more : (more : Rows) (a d : ℕ) → rows_len more ≡ rows_len forced → ((x y : ℕ) → (Holds more x y → WithPair (Holds forced) a d x y) × (WithPair (Holds forced) a d x y → Holds more x y)) → HasOrder (rows_len more) (Holds more) (Forbids between) → HasOrder (rows_len before) (Holds before) (Forbids between)
   from_more more a d len with_pair o =
-      let at_n : IsOrderOf (rows_len before) (Holds more) (Forbids between) o.0 = subst (λ (n : ℕ). IsOrderOf n (Holds more) (Forbids between) o.0) (len ∙ f.len) o.1 in
-      (o.0, order_from_forced (rows_len before) (Holds before) (Forbids between) triples (Holds forced) f.pairs o.0
-      (order_without (rows_len before) (Holds forced) (Holds more) (Forbids between) a d with_pair o.0 at_n))
+      let at_n : IsOrderOf (rows_len before) (Holds more) (Forbids between) o.0 = subst (λ (n : ℕ). IsOrderOf n (Holds more) (Forbids between) o.0) (len ∙ f.len) o.1 in (
+        o.0,
+        order_from_forced (rows_len before) (Holds before) (Forbids between) triples (Holds forced) f.pairs o.0
+            (order_without (rows_len before) (Holds forced) (Holds more) (Forbids between) a d with_pair o.0 at_n),
+      )
 
   -- rows with one pair more have fewer that are missing
   fewer_missing : (more : Rows) (a d : ℕ) → rows_len more ≡ rows_len forced → ((x y : ℕ) → (Holds more x y → WithPair (Holds forced) a d x y) × (WithPair (Holds forced) a d x y → Holds more x y)) → (Holds forced a d → ⊥) → pairs_missing more < pairs_missing before
@@ -63,16 +65,14 @@ module _ (before : Rows) (between : BetweenModel) (forced : Rows) (f : IsForcing
 pub returns-in_default : goal.returns-in_default
 returns-in_default t c =
     let triples_below : AreTriplesBelow (rows_len c.args.before.now) (Forbids c.args.between.now) =
-    subst (λ (n : ℕ). AreTriplesBelow n (Forbids c.args.between.now)) (sym c.requires) (Forbids-below c.args.between.now) in
-    (
+    subst (λ (n : ℕ). AreTriplesBelow n (Forbids c.args.between.now)) (sym c.requires) (Forbids-below c.args.between.now) in (
       (λ h. absurd (false≢true h)),
       (λ o. absurd (no_order-from_cycle (rows_len c.args.before.now) (Holds c.args.before.now) (Forbids c.args.between.now) triples_below (c.in_default.ensures.cycle.0 refl) o.0 o.1)),
     )
 
 pub returns-in_default-undecided : goal.returns-in_default-undecided
 returns-in_default-undecided t c =
-    let f : IsForcing c.args.before.now c.args.between.now c.in-Some.forced = record { same = c.requires; len = c.in-Some.ensures.len; pairs = c.in-Some.ensures.pairs } in
-    (
+    let f : IsForcing c.args.before.now c.args.between.now c.in-Some.forced = record { same = c.requires; len = c.in-Some.ensures.len; pairs = c.in-Some.ensures.pairs } in (
       (λ _. decided c.args.before.now c.args.between.now c.in-Some.forced f (λ cycle. true≢false (c.in-Some.ensures.cycle.1 cycle)) c.in_default-undecided.ensures),
       (λ _. refl),
     )
@@ -88,8 +88,7 @@ has_order-requires t c =
 pub returns-then-has_order : goal.returns-then-has_order
 returns-then-has_order t c =
     let f : IsForcing c.args.before.now c.args.between.now c.in-Some.forced = record { same = c.requires; len = c.in-Some.ensures.len; pairs = c.in-Some.ensures.pairs } in
-    let triple = c.in-Some-undecided.triple in
-    (
+    let triple = c.in-Some-undecided.triple in (
       (λ _. from_more c.args.before.now c.args.between.now c.in-Some.forced f c.close_with.new.self triple.read triple.other c.close_with.ensures.len c.close_with.ensures.pairs (c.if-has_order.ensures.0 refl)),
       (λ _. refl),
     )
@@ -105,9 +104,8 @@ has_order-requires-2 t c =
 pub returns : goal.returns
 returns t c =
     let f : IsForcing c.args.before.now c.args.between.now c.in-Some.forced = record { same = c.requires; len = c.in-Some.ensures.len; pairs = c.in-Some.ensures.pairs } in
-    let triple = c.in-Some-undecided.triple in
-    (
+    let triple = c.in-Some-undecided.triple in (
       (λ h. from_more c.args.before.now c.args.between.now c.in-Some.forced f c.close_with-2.new.self triple.other triple.source c.close_with-2.ensures.len c.close_with-2.ensures.pairs (c.has_order-2.ensures.0 h)),
       (λ o. c.has_order-2.ensures.1
-      (to_more c.args.before.now c.args.between.now c.in-Some.forced f c.close_with.new.self c.close_with-2.new.self triple.source triple.read triple.other c.in-Some-undecided.ensures.0 c.in-Some-undecided.ensures.1 c.close_with.ensures.len c.close_with-2.ensures.len c.close_with.ensures.pairs c.close_with-2.ensures.pairs (λ some. false≢true (c.if-has_order.ensures.1 some)) o)),
+          (to_more c.args.before.now c.args.between.now c.in-Some.forced f c.close_with.new.self c.close_with-2.new.self triple.source triple.read triple.other c.in-Some-undecided.ensures.0 c.in-Some-undecided.ensures.1 c.close_with.ensures.len c.close_with-2.ensures.len c.close_with.ensures.pairs c.close_with-2.ensures.pairs (λ some. false≢true (c.if-has_order.ensures.1 some)) o)),
     )

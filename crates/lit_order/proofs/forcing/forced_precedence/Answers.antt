@@ -1,10 +1,9 @@
-use Rattle.std.proofs.Common.{◌≡◌, ℕ, ◌<◌, [], refl, sym, ◌∙◌, subst, inl, inr, false, is_some}
+use Rattle.std.proofs.Common.{◌≡◌, [], refl, sym, ◌∙◌, subst, inl, inr, false, is_some}
 use Rattle.std.proofs.lemmas.Bool.{true≢false, false≢true}
 use Rattle.lit_rel.specs.Between.{Forbids}
-use Rattle.lit_rel.specs.Rows.{rows_len, Holds}
+use Rattle.lit_rel.specs.Rows.{Holds}
 use Rattle.lit_order.specs.Forcing.{Through}
-use Rattle.lit_order.proofs.ForcedLemmas.{AreTriplesBelow}
-use Rattle.lit_order.proofs.ForcingLemmas.{HasChain-through, chain_forced, forced_within, next_is_forced, with_pair_forced, with_pair_no_cycle, next_apart, first_known, second_known, Forbids-below}
+use Rattle.lit_order.proofs.ForcingLemmas.{HasChain-through, chain_forced, forced_within, next_is_forced, with_pair_forced, with_pair_no_cycle, next_apart}
 use Rattle.lit_order.proofs.RowsLemmas.{pairs_missing-lt}
 use Rattle.lit_order.proofs.forcing.forced_precedence.Goals as goal
 
@@ -21,8 +20,7 @@ forcing-init c =
 
 pub returns-in_err-forced-clause-cycle : goal.returns-in_err-forced-clause-cycle
 returns-in_err-forced-clause-cycle c =
-    let cycle = c.in_err-forced.ensures.cycle.0 refl in
-    (
+    let cycle = c.in_err-forced.ensures.cycle.0 refl in (
       (λ _. (cycle.0, chain_forced (Holds c.args.before.now) (Forbids c.args.between.now) cycle.0 cycle.1.0 cycle.0 cycle.1.1)),
       (λ _. subst (λ (x : _). is_some x ≡ false) (sym c.from_residual.ensures) refl),
     )
@@ -66,16 +64,14 @@ pub returns-clause-cycle : goal.returns-clause-cycle
 returns-clause-cycle c =
     let before = Holds c.args.before.now in
     let forbidden = Forbids c.args.between.now in
-    let kept = c.forcing.invariant in
-    (
+    let kept = c.forcing.invariant in (
       (λ h. absurd (true≢false h)),
       (λ cycle. absurd (kept.no_cycle cycle.0 (forced_within before forbidden (Holds c.forcing.forced) kept.given kept.transitive c.in_default.ensures cycle.0 cycle.0 cycle.1))),
     )
 
 pub returns-clause-pairs : goal.returns-clause-pairs
 returns-clause-pairs c a d =
-    let kept = c.forcing.invariant in
-    (
+    let kept = c.forcing.invariant in (
       kept.sound a d,
       forced_within (Holds c.args.before.now) (Forbids c.args.between.now) (Holds c.forcing.forced) kept.given kept.transitive c.in_default.ensures a d,
     )

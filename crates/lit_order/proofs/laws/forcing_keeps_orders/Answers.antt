@@ -7,8 +7,7 @@ use Rattle.lit_order.proofs.laws.forcing_keeps_orders.Goals as goal
 
 pub returns : goal.returns
 returns c before between same order =
-    let triples : AreTriplesBelow (rows_len before) (Forbids between) = subst (λ (n : ℕ). AreTriplesBelow n (Forbids between)) (sym same) (Forbids-below between) in
-    (
+    let triples : AreTriplesBelow (rows_len before) (Forbids between) = subst (λ (n : ℕ). AreTriplesBelow n (Forbids between)) (sym same) (Forbids-below between) in (
       IsOrderOf-forced (rows_len before) (Holds before) (Forbids between) triples order,
       IsOrderOf-given (rows_len before) (Holds before) (Forbids between) order,
     )

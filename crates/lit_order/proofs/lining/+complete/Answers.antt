@@ -41,8 +41,7 @@ complete-requires t c =
     let pushed : c.push.new.self.items ≡ order ++ event ∷ [] = c.push.ensures.items ∙ ap (λ (xs : List ℕ). xs ++ event ∷ []) c.loop-event.invariant.kept in
     let same_length : length c.loop-event.order.items ≡ length order = ap length c.loop-event.invariant.kept in
     let shorter : n - length c.push.new.self.items < n - length order = omega arith in
-    let next = narrowed_next n (ComesBefore it) (MayNotStand it) c.args.narrow.now c.placed_next-next.result order event placed (HasEvent c.with.result) c.requires.len (omega arith) c.requires.placed can c.with.ensures c.placed_next-next.ensures.pairs c.requires.narrowed in
-    (
+    let next = narrowed_next n (ComesBefore it) (MayNotStand it) c.args.narrow.now c.placed_next-next.result order event placed (HasEvent c.with.result) c.requires.len (omega arith) c.requires.placed can c.with.ensures c.placed_next-next.ensures.pairs c.requires.narrowed in (
       search rules,
       (
         omega arith,

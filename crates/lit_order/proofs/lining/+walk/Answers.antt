@@ -19,14 +19,14 @@ walk-requires t c =
     let it = c.args.constraints.now in
     let n = constrained_len it in
     let order = c.args.order.now.items in
-    let same_length : length c.loop-event.order.items ≡ length order = ap length c.loop-event.invariant.kept in
+    let same_length : length c.walking.order.items ≡ length order = ap length c.walking.invariant.kept in
     let shorter : n - length c.push.new.self.items < n - length order = omega arith in (
       search rules,
       (
         omega arith,
         (
-          IsBeginning-next n (ComesBefore it) (MayNotStand it) (HasEvent c.args.placed) order _ c.requires.placed c.loop-event.order.items c.push.new.self.items c.loop-event.invariant.kept c.push.ensures.items (omega arith) c.requires.begins (c.if-can_stand_next.ensures.0 refl),
-          placed-next n (ComesBefore it) (MayNotStand it) (HasEvent c.args.placed) order _ c.requires.placed (HasEvent c.with.result) c.loop-event.order.items c.push.new.self.items c.loop-event.invariant.kept c.push.ensures.items c.with.ensures,
+          IsBeginning-next n (ComesBefore it) (MayNotStand it) (HasEvent c.args.placed) order _ c.requires.placed c.walking.order.items c.push.new.self.items c.walking.invariant.kept c.push.ensures.items (omega arith) c.requires.begins (c.if-can_stand_next.ensures.0 refl),
+          placed-next n (ComesBefore it) (MayNotStand it) (HasEvent c.args.placed) order _ c.requires.placed (HasEvent c.with.result) c.walking.order.items c.push.new.self.items c.walking.invariant.kept c.push.ensures.items c.with.ensures,
         ),
       ),
     )
@@ -36,20 +36,20 @@ returns-then-can_stand_next t c found =
     let it = c.args.constraints.now in
     let n = constrained_len it in
     let order = c.args.order.now.items in
-    let event = c.loop-event.event in
-    let pushed : c.push.new.self.items ≡ order ++ event ∷ [] = c.push.ensures.items ∙ ap (λ (xs : List ℕ). xs ++ event ∷ []) c.loop-event.invariant.kept in
+    let event = c.walking.event in
+    let pushed : c.push.new.self.items ≡ order ++ event ∷ [] = c.push.ensures.items ∙ ap (λ (xs : List ℕ). xs ++ event ∷ []) c.walking.invariant.kept in
     let least : IsLeastFrom n (ComesBefore it) (MayNotStand it) (order ++ event ∷ []) c.walk.new.order.items =
     subst (λ (xs : List ℕ). IsLeastFrom n (ComesBefore it) (MayNotStand it) xs c.walk.new.order.items) pushed (c.walk.ensures found) in
-    IsLeastFrom-push n (ComesBefore it) (MayNotStand it) order event c.walk.new.order.items (omega arith) c.loop-event.invariant.none least
+    IsLeastFrom-push n (ComesBefore it) (MayNotStand it) order event c.walk.new.order.items (omega arith) c.walking.invariant.none least
 
-pub loop-event-preserved : goal.loop-event-preserved
-loop-event-preserved t c =
+pub walking-preserved : goal.walking-preserved
+walking-preserved t c =
     let it = c.args.constraints.now in
     let n = constrained_len it in
     let order = c.args.order.now.items in
     let NoneAt : ℕ → Type 0 = λ e. HasNoOrder n (ComesBefore it) (MayNotStand it) (order ++ e ∷ []) in
     record {
-      kept = c.loop-event.invariant.kept;
-      none = below_more NoneAt c.loop-event.event c.loop-event.invariant.none
-          (HasNoOrder-cannot n (ComesBefore it) (MayNotStand it) (HasEvent c.args.placed) order c.loop-event.event c.requires.placed (λ x r v f. f.read_known) (λ can. false≢true (c.if-can_stand_next.ensures.1 can)));
+      kept = c.walking.invariant.kept;
+      none = below_more NoneAt c.walking.event c.walking.invariant.none
+          (HasNoOrder-cannot n (ComesBefore it) (MayNotStand it) (HasEvent c.args.placed) order c.walking.event c.requires.placed (λ x r v f. f.read_known) (λ can. false≢true (c.if-can_stand_next.ensures.1 can)));
     }

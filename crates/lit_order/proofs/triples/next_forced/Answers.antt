@@ -1,10 +1,10 @@
-use Rattle.std.proofs.Common.{◌≡◌, ℕ, ◌<◌, Some, refl, sym, ap, ◌∙◌, subst, arith, inl, inr}
+use Rattle.std.proofs.Common.{ℕ, ◌<◌, refl, sym, ap, ◌∙◌, subst, arith, inl, inr}
 use Rattle.std.proofs.lemmas.Bool.{cases_eq}
 use Rattle.std.proofs.lemmas.Option.{get_or_from_slice_get, slice_get-get_or, slice_get_within}
 use Rattle.std.specs.List.{slice_get}
 use Rattle.lit_rel.specs.declared.triples.Pair.{Pair}
 use Rattle.lit_rel.specs.Rows.{rows_len, Holds}
-use Rattle.lit_order.specs.Finding.Deciding.{HasForced, IsForcedByPair, IsForcedNext, IsOtherOf}
+use Rattle.lit_order.specs.Finding.Deciding.{HasForced, IsForcedByPair, IsOtherOf}
 use Rattle.lit_order.proofs.triples.next_forced.Goals as goal
 
 pub loop-pair-preserved : goal.loop-pair-preserved

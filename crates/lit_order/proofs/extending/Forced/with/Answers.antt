@@ -1,8 +1,6 @@
-use Rattle.std.proofs.Common.{ℕ, [], ◌∷◌, refl, sym, subst, ◌∙◌, inl, inr}
+use Rattle.std.proofs.Common.{[], ◌∷◌, refl, sym, ◌∙◌, inl, inr}
 use Rattle.std.proofs.lemmas.Bool.{true≢false, false≢true}
 use Rattle.lit_rel.specs.Rows.{Holds}
-use Rattle.lit_order.specs.Forced.{AndPair, IsBefore}
-use Rattle.lit_order.specs.Forcing.{HasChain}
 use Rattle.lit_order.proofs.ExtendLemmas.{more_is_chain}
 use Rattle.lit_order.proofs.ForcingLemmas.{with_pair_no_cycle}
 use Rattle.lit_order.proofs.extending.Forced.with.Goals as goal
@@ -30,11 +28,10 @@ invariant_of-result c =
 pub returns-clause-cycle : goal.returns-clause-cycle
 returns-clause-cycle c =
     let forced = c.args.self.now in
-    let is_chain = more_is_chain (Holds forced.rows) (Holds c.close_with.new.self) c.args.a c.args.d c.close_with.ensures.pairs (c.close_with.ensures.transitive forced.transitive) in
-    (
+    let is_chain = more_is_chain (Holds forced.rows) (Holds c.close_with.new.self) c.args.a c.args.d c.close_with.ensures.pairs (c.close_with.ensures.transitive forced.transitive) in (
       (λ h. absurd (true≢false h)),
       (λ cycle. absurd (with_pair_no_cycle (Holds forced.rows) forced.transitive forced.no_cycle c.args.a c.args.d c.if-a-d.false (λ back. false≢true (sym c.if-holds.false ∙ c.holds.ensures.1 back)) cycle.0
-      ((c.close_with.ensures.pairs cycle.0 cycle.0).0 ((is_chain cycle.0 cycle.0).1 cycle.1)))),
+          ((c.close_with.ensures.pairs cycle.0 cycle.0).0 ((is_chain cycle.0 cycle.0).1 cycle.1)))),
     )
 
 pub returns-clause-made : goal.returns-clause-made
