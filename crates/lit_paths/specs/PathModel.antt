@@ -1,6 +1,6 @@
 -- What a path asks of the values that are read on it, and which read each register holds at its end (this project's
 -- own). A place is that of an access in the agent's event list, from 0.
-use Rattle.std.specs.Prelude.{ℕ, ◌+◌, ◌<◌, ◌==◌, Bool, true, false, not, if◌then◌else◌, IsTrue, Option, Some, None, List, [], ◌∷◌, ◌++◌, length, map, count_by}
+use Rattle.std.specs.Prelude.{ℕ, ◌+◌, ◌<◌, ◌==◌, Bool, true, false, not, if◌then◌else◌, IsTrue, Option, Some, None, List, [], ◌∷◌, ◌++◌, length, map}
 use Rattle.std.specs.List.{range_with_len}
 use Rattle.std.specs.Option.{option_or}
 use Rattle.lit_read.specs.declared.limits.TheConstants.{REGISTERS}
@@ -15,17 +15,18 @@ pub record PathModel : Type 0 where
   pub tests : List Tested
   pub last : List (Option ℕ)
 
--- whether a statement met is an access
-abbrev pub is_access : Step → Bool
-is_access (LoadMet reg window index atomic) = true
-is_access (StoreMet window index value atomic) = true
-is_access (ExchangeMet reg window index value) = true
-is_access (CompareExchangeMet reg window index expected value succeeds) = true
-is_access (IfMet reg equal value holds) = false
+-- how many accesses a statement met is: an `if` is none
+abbrev pub accesses_of : Step → ℕ
+accesses_of (LoadMet reg window index atomic) = 1
+accesses_of (StoreMet window index value atomic) = 1
+accesses_of (ExchangeMet reg window index value) = 1
+accesses_of (CompareExchangeMet reg window index expected value succeeds) = 1
+accesses_of (IfMet reg equal value holds) = 0
 
 -- how many accesses are on the way: the place of the next one
 abbrev pub access_count : List Step → ℕ
-access_count steps = count_by is_access steps
+access_count [] = 0
+access_count (step ∷ steps) = accesses_of step + access_count steps
 
 -- whether a statement met reads, and puts what it reads into this register
 abbrev pub reads_into : ℕ → Step → Bool
@@ -35,12 +36,11 @@ reads_into r (ExchangeMet reg window index value) = reg == r
 reads_into r (CompareExchangeMet reg window index expected value succeeds) = reg == r
 reads_into r (IfMet reg equal value holds) = false
 
--- of these steps, the first of which is the access with this place or comes before it, the place of the last read
--- into a register: it is among the later steps, or else it is this one
-abbrev pub last_read_from : ℕ → List Step → ℕ → Option ℕ
+-- the place of the last read into a register among steps of which the first access has this place: it is among the
+-- later steps, or else it is the first one
+abbrev pub last_read_from : (place : ℕ) → List Step → ℕ → Option ℕ
 last_read_from place [] r = None
-last_read_from place (step ∷ steps) r =
-    option_or (last_read_from (if is_access step then place + 1 else place) steps r) (if reads_into r step then Some place else None)
+last_read_from place (step ∷ steps) r = option_or (last_read_from (place + accesses_of step) steps r) (if reads_into r step then Some place else None)
 
 -- the place of the last read on the way that goes into a register, `None` where there is none
 abbrev pub last_read : List Step → ℕ → Option ℕ

@@ -2,7 +2,7 @@
 -- combination a choice is of (this project's own).
 use Rattle.std.specs.Prelude.{◌≡◌, ◌≢◌, ◌⊎◌, ℕ, ◌+◌, ◌<◌, ◌≤◌, All, IsSome, List, [], length, map, take, Some, slice_get, slice_index_or}
 use Rattle.std.specs.List.{flat_map}
-use Rattle.lit_read.specs.Syntax.{Litmus, agent_of}
+use Rattle.lit_read.specs.Syntax.{Litmus, AreStatementsIn, agent_of}
 use Rattle.lit_paths.specs.declared.limits.TheConstants.{ACCESS_LIMIT, EVENT_LIMIT, BYTE_READ_LIMIT, COMBINATION_LIMIT, CHOICE_LIMIT}
 use Rattle.lit_paths.specs.declared.event.Event.{Event}
 use Rattle.lit_paths.specs.declared.event.Order3.TheVariants.{Init}
@@ -103,6 +103,7 @@ pub record AreEventsIn (bytes : ℕ) (events : List Event) : Type 0 where
 -- These steps are the walk of an agent on the path that it has in combination c. Each of its events, by its place, is
 -- one of the combination's; it asks one thing at each decision; and what is asked and held is of events that read.
 pub record IsWalkIn (t : Litmus) (c agent : ℕ) (steps : List Step) : Type 0 where
+  pub said : AreStatementsIn t.bytes (agent_of t agent).body
   pub walked : IsWalk (agent_of t agent).body steps
   pub listed : slice_get (combination_at t c) agent ≡ Some (path_on agent steps)
   pub one_test_each : length (tests_on steps) ≡ length (decisions_on steps)

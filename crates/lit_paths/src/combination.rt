@@ -1,18 +1,22 @@
 //! A combination of paths, entered: what the choices on it share.
 
-ghost use Rattle.std.specs.Prelude.{◌≡◌, ℕ, ◌+◌, ◌/◌, ◌%◌, ◌<◌, ◌≤◌, length, map, Some, slice_get};
+ghost use Rattle.std.specs.Prelude.{◌≡◌, ◌+◌, ◌/◌, ◌%◌, ◌<◌, ◌≤◌, length, map, Some, slice_get};
 ghost use Rattle.lit_paths.specs.declared.limits.TheConstants.{BYTE_READ_LIMIT as READS, CHOICE_LIMIT, EVENT_LIMIT};
-ghost use Rattle.lit_paths.specs.Choice.{product, AreSources, combinations_of};
-ghost use Rattle.lit_paths.specs.ByteReads.{byte_reads};
-ghost use Rattle.lit_paths.specs.Plan.{events_in, choices_before, AreEventsIn, HasSources, IsOfCombination};
-ghost use Rattle.lit_paths.specs.Planning.Planned.{IsEntered, ways_after};
-ghost use Rattle.lit_paths.specs.Planning.Ways.{pair_of, all_ways};
+ghost use Rattle.lit_paths.specs.ByteReads.{byte_reads, byte_read_at, pair_of};
+ghost use Rattle.lit_paths.specs.Choice.{product, AreSources, candidates_of as candidates_among, combinations_of};
+ghost use Rattle.lit_paths.specs.Numbers.{ways_from};
+ghost use Rattle.lit_paths.specs.Plan.{events_in, choices_before, first_event, path_in, walk_in, AreEventsIn, HasSources, IsOfCombination, IsWalkIn, ListsCandidates};
+ghost use Rattle.lit_paths.specs.Planning.CandidateLists.{candidate_lists, ways_after};
+ghost use Rattle.lit_paths.specs.Planning.Combining.{IsJoined};
+ghost use Rattle.lit_paths.specs.Planning.Walks.{IsInLimits};
 
-use crate::event::{Event, Events, Sources};
+use crate::agent_paths::AgentPaths;
+use crate::event::{Event, Sources};
+use crate::joined::Joined;
 use crate::limits::BYTE_READ_LIMIT;
+use crate::path::Path;
 use crate::sources::{ByteRead, ByteReads, Candidates, byte_reads_of, candidates_of};
 use arrayvec::ArrayVec;
-use lit_read::Test;
 use std::marker::Model;
 
 /// The candidates of each byte read, and how many ways the later ones leave.
@@ -26,10 +30,10 @@ struct Ways {
 fn ways_of(events: &[Event], reads: &[ByteRead], total: u64) -> Ways
     requires few { length events.now ≤ EVENT_LIMIT }
     requires room { length reads.now ≤ READS }
-    requires whole { total ≡ length (product (all_ways events.now reads.now)) }
+    requires whole { total ≡ length (product (candidate_lists events.now reads.now)) }
     requires some { 1 ≤ total }
-    ensures candidates { map (λ list. list.items) result.candidates.items ≡ all_ways events.now reads.now }
-    ensures later { result.later.items ≡ ways_after (all_ways events.now reads.now) }
+    ensures candidates { map (λ list. list.items) result.candidates.items ≡ candidate_lists events.now reads.now }
+    ensures later { result.later.items ≡ ways_after (candidate_lists events.now reads.now) }
 {
     let mut candidates = ArrayVec::new();
     let mut later = ArrayVec::new();
@@ -53,56 +57,62 @@ fn candidate_at(candidates: &[u8], later: u64, place: u64) -> u8
     candidates[index as usize]
 }
 
-/// One combination of paths: its events, the bytes that they read with the candidates of each, and the choices on it.
-/// Its size is fixed. A clause sees it as the test's value and the combination's number.
+/// One combination of paths: the path of each agent, its events, the bytes that they read with the candidates of each,
+/// and the choices on it. It borrows the plan, and its size is fixed. A clause sees it as the test's value and the
+/// combination's number.
 #[derive(Drop)]
-pub struct Combination<'t> {
-    test: &'t Test,
+pub struct Combination<'p> {
+    paths: &'p AgentPaths<'p>,
     number: usize,
-    events: Events,
+    joined: Joined,
     reads: ByteReads,
-    candidates: ArrayVec<Candidates, BYTE_READ_LIMIT>,
-    later: ArrayVec<u64, BYTE_READ_LIMIT>,
+    ways: Ways,
     first: u64,
     total: u64,
 }
 
-impl<'t> Model for Combination<'t> {
+impl<'p> Model for Combination<'p> {
     ghost use Rattle.std.specs.Prelude.{ℕ};
     ghost use Rattle.std.specs.Coded.{coded×, coded_ℕ};
     ghost use Rattle.lit_read.specs.Syntax.{Litmus};
     ghost use Rattle.lit_read.specs.SyntaxCodes.{coded_litmus};
-    ghost use Rattle.lit_paths.specs.Planning.Planned.{IsEntered};
+    ghost use Rattle.lit_paths.specs.Planning.Entered.{IsEntered};
 
     ghost Value = { Litmus × ℕ };
 
     ghost coded = { coded× coded_litmus coded_ℕ };
 
-    ghost view = { λ x. (x.test.now, x.number) };
+    ghost view = { λ x. (x.paths.now, x.number) };
 
-    ghost invariant = { λ x. IsEntered x.test.now x.number x.events.items x.reads.items x.candidates.items x.later.items x.first x.total };
+    ghost invariant = { IsEntered };
 }
 
-impl<'t> Combination<'t> {
-    /// Combination `number` of a test's plan, with so many choices from number `first` on.
-    pub(crate) fn new(test: &'t Test, number: usize, events: Events, first: u64, total: u64) -> Self
-        requires known { number < length (combinations_of test.now) }
-        requires events { events.items ≡ events_in test.now number }
-        requires sound { AreEventsIn test.now.bytes events.items }
-        requires first { first ≡ choices_before test.now number }
-        requires whole { first + total ≡ choices_before test.now (number + 1) }
+impl<'p> Combination<'p> {
+    /// Combination `number` of a plan's test, with so many choices from number `first` on.
+    pub(crate) fn new(
+        paths: &'p AgentPaths<'p>,
+        number: usize,
+        joined: Joined,
+        first: u64,
+        total: u64,
+    ) -> Self
+        requires limits { IsInLimits paths.now }
+        requires known { number < length (combinations_of paths.now) }
+        requires joined { IsJoined paths.now number joined }
+        requires sound { AreEventsIn paths.now.bytes joined.events.items }
+        requires first { first ≡ choices_before paths.now number }
+        requires whole { first + total ≡ choices_before paths.now (number + 1) }
         requires few { first + total ≤ CHOICE_LIMIT }
-        ensures { result ≡ (test.now, number) }
+        ensures { result ≡ (paths.now, number) }
     {
-        let reads = byte_reads_of(events.as_slice());
-        let ways = ways_of(events.as_slice(), reads.as_slice(), total);
+        let reads = byte_reads_of(joined.events.as_slice());
+        let ways = ways_of(joined.events.as_slice(), reads.as_slice(), total);
         Combination {
-            test,
+            paths,
             number,
-            events,
+            joined,
             reads,
-            candidates: ways.candidates,
-            later: ways.later,
+            ways,
             first,
             total,
         }
@@ -113,7 +123,26 @@ impl<'t> Combination<'t> {
         ensures value { result.now ≡ events_in self.now.0 self.now.1 }
         ensures sound { AreEventsIn self.now.0.bytes result.now }
     {
-        self.events.as_slice()
+        self.joined.events.as_slice()
+    }
+
+    /// The path of an agent, by its number: below the number of agents.
+    pub fn path(&self, agent: usize) -> &'p Path
+        requires { agent < length self.now.0.agents }
+        ensures exact { result.now ≡ path_in self.now.0 self.now.1 agent }
+        ensures walk { IsWalkIn self.now.0 self.now.1 agent (walk_in self.now.0 self.now.1 agent) }
+    {
+        let number = self.joined.numbers.as_slice()[agent];
+        self.paths.path(agent, usize::from(number))
+    }
+
+    /// The number of the first event of an agent, by the agent's number: below the number of agents. Where the agent
+    /// has no event, it is the number behind those of the agents before.
+    pub fn first_event(&self, agent: usize) -> u8
+        requires { agent < length self.now.0.agents }
+        ensures { result ≡ first_event self.now.0 self.now.1 agent }
+    {
+        self.joined.firsts.as_slice()[agent]
     }
 
     /// Each byte that is read: reads by rising number, bytes rising within a read.
@@ -121,6 +150,26 @@ impl<'t> Combination<'t> {
         ensures { map pair_of result.now ≡ byte_reads (events_in self.now.0 self.now.1) }
     {
         self.reads.as_slice()
+    }
+
+    /// The candidates of a byte read, by its place in `byte_reads`: by rising event number, and at least one.
+    pub fn candidates(&self, place: usize) -> &[u8]
+        requires { place < length (byte_reads (events_in self.now.0 self.now.1)) }
+        ensures value { result.now ≡ candidates_among (events_in self.now.0 self.now.1) (byte_read_at (events_in self.now.0 self.now.1) place) }
+        ensures lists { ListsCandidates (events_in self.now.0 self.now.1) (byte_read_at (events_in self.now.0 self.now.1) place).0 (byte_read_at (events_in self.now.0 self.now.1) place).1 result.now }
+        ensures some { 1 ≤ length result.now }
+    {
+        self.ways.candidates.as_slice()[place].as_slice()
+    }
+
+    /// How many choices on the combination each candidate of a byte read leads to, by the byte read's place in
+    /// `byte_reads`: the product of the numbers of candidates of the byte reads after it.
+    pub fn ways_after(&self, place: usize) -> u64
+        requires { place < length (byte_reads (events_in self.now.0 self.now.1)) }
+        ensures value { result ≡ ways_from (events_in self.now.0 self.now.1) (place + 1) }
+        ensures some { 1 ≤ result }
+    {
+        self.ways.later.as_slice()[place]
     }
 
     /// The number of its first choice.
@@ -146,8 +195,8 @@ impl<'t> Combination<'t> {
         ensures sourced { AreSources (events_in self.now.0 self.now.1) result.items }
     {
         let place = n - self.first;
-        let candidates = self.candidates.as_slice();
-        let later = self.later.as_slice();
+        let candidates = self.ways.candidates.as_slice();
+        let later = self.ways.later.as_slice();
         let mut sources = Sources::new();
         for i in 0..candidates.len() {
             sources.push(candidate_at(candidates[i].as_slice(), later[i], place));

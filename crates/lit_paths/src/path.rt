@@ -3,14 +3,14 @@
 ghost use Rattle.std.specs.Prelude.{◌≡◌, ◌<◌, length, Some, None, IfOk, slice_index_or};
 ghost use Rattle.lit_read.specs.declared.limits.TheConstants.{REGISTERS as HELD};
 ghost use Rattle.lit_paths.specs.declared.limits.TheConstants.{ACCESS_LIMIT as ACCESSES};
-ghost use Rattle.lit_paths.specs.Told.{told_of};
-ghost use Rattle.lit_paths.specs.Planning.Telling.{nothing_told, with_event, with_read, with_test};
+ghost use Rattle.lit_paths.specs.Planning.PathSteps.{empty_path, with_access, with_read, with_test};
 
 use crate::event::Event;
 use crate::limits::ACCESS_LIMIT;
 use arrayvec::ArrayVec;
 use lit_read::REGISTERS;
 use std::alloc::{AllocError, Global};
+use std::marker::Model;
 
 /// What a path asks of the values that are read on it.
 #[derive(Clone, Copy, Debug, PartialEq, Eq)]
@@ -25,18 +25,26 @@ pub struct Tested {
 }
 
 /// A path of an agent through its text: the events on it, the tests of its decisions, and the reads that its registers
-/// hold at the end.
-#[derive(Debug, Drop)]
+/// hold at the end. A clause sees it as a `PathModel`.
+#[derive(Drop)]
 pub struct Path {
     events: ArrayVec<Event, ACCESS_LIMIT>,
     tests: Vec<Tested>,
     last: [Option<u8>; REGISTERS],
 }
 
+impl Model for Path {
+    ghost use Rattle.lit_paths.specs.PathModel.{PathModel};
+
+    ghost Value = { PathModel };
+
+    ghost view = { λ p. record { events = p.events.items; tests = p.tests.items; last = p.last } };
+}
+
 impl Path {
     /// A path before its first step.
     pub(crate) fn new(alloc: Global) -> Path
-        ensures { told_of result ≡ nothing_told }
+        ensures { result ≡ empty_path }
     {
         Path {
             events: ArrayVec::new(),
@@ -47,14 +55,14 @@ impl Path {
 
     /// The events on the path, by their places: at most 12.
     pub fn events(&self) -> &[Event]
-        ensures { result.now ≡ (told_of self.now).events }
+        ensures { result.now ≡ self.now.events }
     {
         self.events.as_slice()
     }
 
-    /// What the path asks, of each `if` and compareExchange on it in order.
+    /// What the path asks: one test for each `if` and compareExchange on it, in order.
     pub fn tests(&self) -> &[Tested]
-        ensures { result.now ≡ (told_of self.now).tests }
+        ensures { result.now ≡ self.now.tests }
     {
         self.tests.as_slice()
     }
@@ -63,32 +71,38 @@ impl Path {
     /// not written.
     pub fn last(&self, reg: u8) -> Option<u8>
         requires { reg < HELD }
-        ensures { result ≡ slice_index_or (told_of self.now).last reg None }
+        ensures { result ≡ slice_index_or self.now.last reg None }
     {
         self.last[usize::from(reg)]
     }
 
-    /// Adds an access.
-    pub(crate) fn write(&mut self, event: Event)
-        requires { length (told_of self.old).events < ACCESSES }
-        ensures { told_of self.new ≡ with_event (told_of self.old) event }
+    /// Adds an access without a register.
+    pub(crate) fn add_without_register(&mut self, event: Event)
+        requires { length self.old.events < ACCESSES }
+        ensures { self.new ≡ with_access self.old event }
     {
         self.events.push(event);
     }
 
     /// Adds an access whose value goes into a register.
-    pub(crate) fn read(&mut self, reg: u8, event: Event)
-        requires room { length (told_of self.old).events < ACCESSES }
+    pub(crate) fn add_into_register(&mut self, reg: u8, event: Event)
+        requires room { length self.old.events < ACCESSES }
         requires register { reg < HELD }
-        ensures { told_of self.new ≡ with_read (told_of self.old) reg event }
+        ensures { self.new ≡ with_read self.old reg event }
     {
-        self.last[usize::from(reg)] = Some(self.events.len() as u8);
+        let register = usize::from(reg);
+        self.last[register] = Some(self.events.len() as u8);
         self.events.push(event);
     }
 
     /// Adds a test.
-    pub(crate) fn ask(&mut self, on: Option<u8>, equal: bool, value: u32) -> Result<(), AllocError>
-        ensures { IfOk result (λ _. told_of self.new ≡ with_test (told_of self.old) (record { on = on; equal = equal; value = value })) }
+    pub(crate) fn add_test(
+        &mut self,
+        on: Option<u8>,
+        equal: bool,
+        value: u32,
+    ) -> Result<(), AllocError>
+        ensures { IfOk result (λ _. self.new ≡ with_test self.old (record { on = on; equal = equal; value = value })) }
     {
         self.tests.push(Tested { on, equal, value })?;
         Ok(())

@@ -3,7 +3,6 @@ pub mod EachLemmas
 pub mod ForbiddenLemmas
 pub mod PartLemmas
 pub mod PlaceLemmas
-pub mod RangeLemmas
 pub mod ReadingLemmas
 pub mod RelatingLemmas
 pub mod RowLemmas

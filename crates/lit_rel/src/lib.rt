@@ -12,7 +12,6 @@ mod fixed_steps;
 mod forbidding;
 mod given;
 mod part;
-mod ranges;
 mod reading_checks;
 mod relating;
 #[cfg(test)]
