@@ -17,6 +17,7 @@ use crate::limits::BYTE_READ_LIMIT;
 use crate::path::Path;
 use crate::sources::{ByteRead, ByteReads, Candidates, byte_reads_of, candidates_of};
 use arrayvec::ArrayVec;
+use lit_read::Test;
 use std::marker::Model;
 
 /// The candidates of each byte read, and how many ways the later ones leave.
@@ -116,6 +117,13 @@ impl<'p> Combination<'p> {
             first,
             total,
         }
+    }
+
+    /// The test.
+    pub fn test(&self) -> &'p Test
+        ensures { result.now ≡ self.now.0 }
+    {
+        self.paths.test()
     }
 
     /// All events of the combination, by number.

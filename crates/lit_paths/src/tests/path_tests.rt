@@ -103,6 +103,7 @@ check A.r0 == 0 && B.r0 == 0
     let plan = plan(rt.alloc(), &test)?;
     assert!(rt; plan.combinations() == 4 && plan.test().agents() == 2);
     let combination = plan.enter(1);
+    assert!(rt; combination.test().agents() == 2);
     let (success, failure) = (combination.path(0), combination.path(1));
     assert_asks(&rt, success, &[of_place(0, true, 0)]);
     assert_asks(&rt, failure, &[of_place(0, false, 0)]);
