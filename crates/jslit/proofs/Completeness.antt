@@ -1,11 +1,12 @@
 -- A report on all choices of a test leaves out no valid execution, and is what is answered for its text.
 use Rattle.std.proofs.Common.{◌≡◌, ℕ, ◌<◌, List, length, map, Some, refl, ap, subst, ◌∙◌, arith}
-use Rattle.std.specs.Prelude.{slice_get, Contains}
+use Rattle.std.specs.Prelude.{slice_get, Contains, IsTrue}
+use Rattle.std.proofs.lemmas.Bool.Decides.{nat_tests}
 use Rattle.std.proofs.lemmas.List.{length-map, get_or-map}
 use Rattle.std.proofs.lemmas.Option.{slice_get_within, get_or_from_slice_get}
 use Rattle.lit_read.specs.Syntax.{Litmus}
 use Rattle.lit_paths.specs.Choice.{IsChoice, ListsChoices, choices_of}
-use Rattle.lit_search.specs.Report.{Entry, Report, IsReport}
+use Rattle.lit_search.specs.Report.{Entry, Report, IsReport, in_range}
 use Rattle.lit_paths.specs.Execution.{Execution, execution_choice, execution_outcome, IsCandidateExecution}
 use Rattle.lit_read.specs.Spelling.{Spells}
 use Rattle.lit_paths.specs.declared.planning.PlanFault.{PlanFault}
@@ -25,23 +26,26 @@ listed entries i entry outcome at is =
       get_or-map (λ (e : Entry). e.outcome) entries i entry outcome lt ∙ ap (λ (e : Entry). e.outcome) (get_or_from_slice_get entries i entry entry at) ∙ is,
     )
 
+below_total : (total n : ℕ) → n < total → IsTrue (in_range 0 total n)
+below_total total n lt = grind (arith, nat_tests)
+
 pub complete : (t : Litmus) (report : Report) → ((x : Execution) → IsCandidateExecution t x → IsChoice t (execution_choice x)) → ListsChoices t
-    → IsReport t 0 (length (choices_of t)) report → IsComplete t report
+    → IsReport t (in_range 0 (length (choices_of t))) report → IsComplete t report
 complete t report chosen lists is x valid =
     let number = lists.all (execution_choice x) (chosen x valid.candidate) in
     let lt : number.0 < length (choices_of t) = slice_get_within (choices_of t) number.0 (execution_choice x) number.1 in
-    let found = is.whole number.0 (execution_outcome t x) (omega arith) lt (record { execution = x; valid = valid; chosen = number.1; result = refl }) in
+    let found = is.whole number.0 (execution_outcome t x) (below_total (length (choices_of t)) number.0 lt) (record { execution = x; valid = valid; chosen = number.1; result = refl }) in
     listed report.entries found.0 found.1 (execution_outcome t x) found.2 found.3
 
 -- the report of a test's plan, with its text
 pub report_on : (text answer : List ℕ) (t plan : Litmus) (total : ℕ) (report : Report) (verdict : Verdict) → Spells text t → ((fault : PlanFault) → ¬ IsRefusal t fault)
-    → plan ≡ t → total ≡ length (choices_of plan) → IsReport plan 0 total report → ((u : Litmus) (r : Report) → IsReport u 0 (length (choices_of u)) r → IsComplete u r)
+    → plan ≡ t → total ≡ length (choices_of plan) → IsReport plan (in_range 0 total) report → ((u : Litmus) (r : Report) → IsReport u (in_range 0 (length (choices_of u))) r → IsComplete u r)
     → IsVerdict plan report verdict → answer ≡ report_text t report verdict → IsReportOn text answer
 report_on text answer t plan total report verdict spelled planned same all reported law judged is =
-    let P : ℕ → Type 0 = λ n. IsReport plan 0 n report in
-    let Q : Litmus → Type 0 = λ u. IsReport u 0 (length (choices_of u)) report in
+    let P : ℕ → Type 0 = λ n. IsReport plan (in_range 0 n) report in
+    let Q : Litmus → Type 0 = λ u. IsReport u (in_range 0 (length (choices_of u))) report in
     let V : Litmus → Type 0 = λ u. IsVerdict u report verdict in
-    let here : IsReport t 0 (length (choices_of t)) report = subst Q same (subst P all reported) in
+    let here : IsReport t (in_range 0 (length (choices_of t))) report = subst Q same (subst P all reported) in
     record {
       test = t;
       spelled = spelled;

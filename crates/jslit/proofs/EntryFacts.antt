@@ -12,7 +12,7 @@ use Rattle.lit_paths.specs.Choice.{Choice, AreSources, choices_of}
 use Rattle.jslit.specs.ChoiceEvents.{choice_at}
 use Rattle.lit_paths.specs.Outcome.{names_of}
 use Rattle.lit_paths.specs.Execution.{Execution, execution_events, execution_choice, IsCandidateExecution}
-use Rattle.lit_search.specs.Report.{Entry, Report, entry_at, Gives, HasLeastOrder, IsEntry, IsReport}
+use Rattle.lit_search.specs.Report.{Entry, Report, entry_at, Gives, HasLeastOrder, IsEntry, IsReport, in_range}
 
 -- an outcome has a value for each register
 pub length-outcome : (t : Litmus) (n : ℕ) (outcome : List ℕ) → Gives t n outcome → length outcome ≡ length (names_of t)
@@ -41,7 +41,7 @@ pub entry_joined : (o a r l f w n o1 o2 o3 o4 o5 o6 o7 : List ℕ) → o1 ≡ o 
 entry_joined o a r l f w n o1 o2 o3 o4 o5 o6 o7 e1 e2 e3 e4 e5 e6 e7 = rw (e7, e6, e5, e4, e3, e2, e1) (simp append_assoc)
 
 -- an entry of a report is one of its entries
-pub entry_in : (t : Litmus) (to : ℕ) (report : Report) (i : ℕ) → IsReport t 0 to report → i < length report.entries → IsEntry t 0 to (entry_at report i)
+pub entry_in : (t : Litmus) (to : ℕ) (report : Report) (i : ℕ) → IsReport t (in_range 0 to) report → i < length report.entries → IsEntry t (in_range 0 to) (entry_at report i)
 entry_in t to report i is lt = is.each i (entry_at report i) (slice_get-get_or report.entries i _ lt)
 
 -- the text of one more entry

@@ -8,3 +8,4 @@ pub mod Judging
 pub mod Refusals
 pub mod Completeness
 pub mod Told
+pub mod OneAnswer

@@ -7,7 +7,7 @@ use Rattle.lit_read.specs.Spelling.{Spells}
 use Rattle.lit_paths.specs.Choice.{choices_of}
 use Rattle.lit_paths.specs.declared.planning.PlanFault.{PlanFault}
 use Rattle.lit_paths.specs.Plan.{IsRefusal}
-use Rattle.lit_search.specs.Report.{Report, IsReport}
+use Rattle.lit_search.specs.Report.{Report, IsReport, in_range}
 use Rattle.lit_paths.specs.Execution.{Execution, execution_outcome}
 use Rattle.lit_search.specs.ValidExecution.{IsValidExecution}
 use Rattle.jslit.specs.declared.engine.RunFault.{RunFault}
@@ -28,7 +28,7 @@ pub record IsReportOn (text answer : List ℕ) : Type 0 where
   pub spelled : Spells text test
   pub planned : (fault : PlanFault) → ¬ IsRefusal test fault
   pub report : Report
-  pub reported : IsReport test 0 (length (choices_of test)) report
+  pub reported : IsReport test (in_range 0 (length (choices_of test))) report
   pub complete : IsComplete test report
   pub verdict : Verdict
   pub judged : IsVerdict test report verdict

@@ -17,7 +17,7 @@ mod verdict;
 pub use command::program;
 pub use counted::Counted;
 pub use engine::{Options, RunFault, run};
-pub use laws::reports_are_complete;
+pub use laws::{answers_are_unique, reports_are_complete};
 
 #[cfg(test)]
 mod tests;

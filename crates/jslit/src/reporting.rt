@@ -4,7 +4,7 @@ ghost use Rattle.std.specs.Prelude.{◌≡◌, ℕ, ◌<◌, ◌≤◌, true, �
 ghost use Rattle.lit_paths.specs.Event.{does_read};
 ghost use Rattle.lit_paths.specs.Choice.{choices_of};
 ghost use Rattle.lit_paths.specs.ByteReads.{byte_reads};
-ghost use Rattle.lit_search.specs.Report.{IsEntry, IsReport};
+ghost use Rattle.lit_search.specs.Report.{IsEntry, IsReport, in_range};
 ghost use Rattle.std.specs.Fmt.{decimal};
 ghost use Rattle.jslit.specs.ReportText.{line, verdict_text, event_name, names_text, source_line, from_lines, register_text, registers_text, entry_text, report_text as text_of};
 ghost use Rattle.jslit.specs.Steps.ReadLine.{read_line, rest_after};
@@ -147,7 +147,7 @@ fn put_entry(
     example: &Example,
 ) -> Result<(), AllocError>
     requires same { plan.now ≡ test.now }
-    requires entry { IsEntry plan.now 0 (length (choices_of plan.now)) (record { outcome = outcome.now; choice = example.now.choice; order = example.now.order.items }) }
+    requires entry { IsEntry plan.now (in_range 0 (length (choices_of plan.now))) (record { outcome = outcome.now; choice = example.now.choice; order = example.now.order.items }) }
     ensures { OnOk result (string_bytes out.new ≡ string_bytes out.old
         ++ entry_text test.now (record { outcome = outcome.now; choice = example.now.choice; order = example.now.order.items })) }
 {
@@ -188,7 +188,7 @@ pub fn report_text(
     verdict: Verdict,
 ) -> Result<String, AllocError>
     requires same { plan.now ≡ test.now }
-    requires report { IsReport plan.now 0 (length (choices_of plan.now)) found.now }
+    requires report { IsReport plan.now (in_range 0 (length (choices_of plan.now))) found.now }
     ensures { IfOk result (λ text. string_bytes text ≡ text_of test.now found.now verdict) }
 {
     let mut out = String::new(alloc);

@@ -11,7 +11,7 @@ use Rattle.lit_paths.specs.Path.{Path}
 use Rattle.lit_paths.specs.Run.{Run, IsRun, run_path}
 use Rattle.lit_paths.specs.ByteReads.{byte_reads}
 use Rattle.lit_paths.specs.Choice.{Choice, AreSources, ListsCombinations, choices_of, combinations_of, events_of}
-use Rattle.lit_paths.specs.Outcome.{outcome_of}
+use Rattle.lit_paths.specs.Outcome.{names_of, outcome_of}
 use Rattle.lit_paths.specs.Execution.{Execution, execution_events, execution_choice, IsCandidateExecution}
 use Rattle.lit_paths.specs.Plan.{HasSources, IsOfCombination, accesses_on, events_in, combination_at, first_event}
 use Rattle.lit_paths.specs.Told.{read_places}
@@ -24,17 +24,15 @@ use Rattle.lit_order.specs.MemoryOrder.{IsMemoryOrder, IsLeastMemoryOrder}
 use Rattle.lit_rel.specs.Part.{PartModel, IsComplete, part_events, with_sources}
 use Rattle.lit_search.specs.ValidExecution.{HasValidChosenReads, IsValidExecution}
 use Rattle.lit_search.specs.Report.{Gives}
-use Rattle.lit_search.specs.Searching.Examined.{IsAllowed, IsOrdered}
-use Rattle.lit_search.proofs.ExampleFacts.{IsExample, IsInvalid}
+use Rattle.lit_search.specs.Searching.Examined.{IsAllowed, IsOrdered, IsExample}
 use Rattle.lit_search.specs.Searching.ReadValues.{path_at}
 use Rattle.lit_search.specs.Searching.GivenRuns.{IsGivenRun, HasGivenRun, AreGivenRuns}
+use Rattle.lit_search.specs.Searching.GivenChoices.{IsPlaced, IsGivenChoice}
 use Rattle.lit_search.proofs.Takings.{AreTaken, AreCounted, taken_apart, taken_together, taken_at, taken_each, counted_each, gathered, read_numbers-accesses}
 
--- choice n, one of combination c, with its sources
-pub record IsPlaced (t : Litmus) (n c : ℕ) (sources : List ℕ) : Type 0 where
-  pub of : IsOfCombination t n c
-  pub has : HasSources t n sources
-  pub sourced : AreSources (events_in t c) sources
+-- no valid execution has the choice with this number
+abbrev pub IsInvalid : Litmus → ℕ → Type 0
+IsInvalid t n = (outcome : List ℕ) → ¬ Gives t n outcome
 
 choice_is : (a b : Choice) → Some a ≡ Some b → a ≡ b
 choice_is a b e = cc
@@ -205,6 +203,10 @@ module _ (t : Litmus) (n c : ℕ) (sources : List ℕ) (placed : IsPlaced t n c 
         let g : List ℕ → Choice = λ ws. record { decisions = map (λ run. run.decisions) example.runs; sources = ws } in
         placed.has.listed ∙ ap (λ (ch : Choice). Some ch) (ap f decided ∙ ap g placed.has.same)
 
+    -- the outcome has a value for each name
+    pub length-outcome : (outcome : List ℕ) → ((runs : List Run) → AreGivenRuns t c sources runs → outcome_of t (map (λ run. run.registers) runs) ≡ outcome) → length outcome ≡ length (names_of t)
+    length-outcome outcome is = sym (ap (λ (o : List ℕ). length o) (is example.runs example_given)) ∙ length-map (names_of t) _
+
     pub example_gives : (outcome : List ℕ) → ((runs : List Run) → AreGivenRuns t c sources runs → outcome_of t (map (λ run. run.registers) runs) ≡ outcome)
         → IsAllowed events sources → (order : List ℕ) → IsMemoryOrder events sources order → Gives t n outcome
     example_gives outcome is allowed order ordered = record {
@@ -228,12 +230,6 @@ module _ (t : Litmus) (n c : ℕ) (sources : List ℕ) (placed : IsPlaced t n c 
       only = only_of outcome is;
       least = λ x valid at. carried_back (λ es ws. IsLeastMemoryOrder es ws order) x (same_execution x valid.candidate at) least;
     }
-
--- a part that has the sources of choice n, one of combination c
-pub record IsGivenChoice (t : Litmus) (n c : ℕ) (part : PartModel) : Type 0 where
-  pub test : part.test ≡ t
-  pub combination : part.combination ≡ c
-  pub placed : IsPlaced t n c part.sources
 
 -- a part of the combination has them once they are given to it
 pub given_choice : (t : Litmus) (n c : ℕ) (old new : PartModel) (entered : Litmus × ℕ) (given sources : List ℕ) → old.test ≡ t → old.combination ≡ c → entered ≡ (old.test, old.combination)
@@ -271,3 +267,8 @@ module _ (t : Litmus) (n c : ℕ) (part : PartModel) (is : IsGivenChoice t n c p
       → (runs : List Run) → AreGivenRuns t c part.sources runs → outcome_of t (map (λ run. run.registers) runs) ≡ outcome
   outcome_here outcome each = subst (λ (k : ℕ). (runs : List Run) → AreGivenRuns t k part.sources runs → outcome_of t (map (λ run. run.registers) runs) ≡ outcome) is.combination
       (subst (λ (u : Litmus). (runs : List Run) → AreGivenRuns u part.combination part.sources runs → outcome_of u (map (λ run. run.registers) runs) ≡ outcome) is.test each)
+
+-- the same of what is given by other names
+pub given_as : (t u : Litmus) (n c d : ℕ) (part : PartModel) → u ≡ t → d ≡ c → IsGivenChoice u n d part → IsGivenChoice t n c part
+given_as t u n c d part test combination is =
+    subst (λ (v : Litmus). IsGivenChoice v n c part) test (subst (λ (k : ℕ). IsGivenChoice u n k part) combination is)

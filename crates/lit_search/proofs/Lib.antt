@@ -1,10 +1,12 @@
-pub mod ExampleFacts
 pub mod OwnValues
 pub mod LastValues
 pub mod Takings
 pub mod GivenRunLemmas
-pub mod Reports
 pub mod LeastOrders
 pub mod Giving
 pub mod Examples
-pub mod RisingEntries
+pub mod Entries
+pub mod MergedEntries
+pub mod Reports
+pub mod KeptEntries
+pub mod Keeping

@@ -1,233 +1,268 @@
--- A report with one more choice.
-use Rattle.std.proofs.Common.{◌≡◌, ◌≢◌, ◌⊎◌, inl, inr, Ok, Err, ℕ, zero, suc, ◌+◌, ◌<◌, ◌≤◌, List, [], ◌∷◌, Some, refl, sym, ap, subst, ◌∙◌, arith}
-use Rattle.std.specs.Prelude.{OnOk, slice_get}
-use Rattle.std.specs.declared.result.Result.{Result}
+-- Reports of sets of choices: of one choice, of more choices that show nothing new, and of two sets.
+use Rattle.std.proofs.Common.{◌≡◌, ◌⊎◌, inl, inr, ℕ, ◌+◌, ◌<◌, ◌≤◌, Bool, true, false, ◌&&◌, ◌||◌, ◌==◌, List, [], ◌∷◌, length, Some, refl, sym, ap, subst, ◌∙◌, arith}
+use Rattle.std.specs.Prelude.{IsTrue, IsFalse, nat_le, nat_lt, slice_get}
 use Rattle.std.specs.List.{AllByRecursion}
 use Rattle.std.specs.List.Sorted.{IsStrictlySortedBy}
-use Rattle.std.specs.Cmp.Lexicographic.{slice_cmp, nat_list_cmp_total}
-use Rattle.std.specs.Ordering.{nat_cmp, match_ordering, ordering_reverse}
+use Rattle.std.specs.Cmp.Lexicographic.{nat_list_cmp_total}
+use Rattle.std.specs.Ordering.{is_gt}
 use Rattle.std.specs.declared.cmp.Ordering.{Ordering}
 use Rattle.std.specs.declared.cmp.Ordering.TheVariants.{Less, Equal, Greater}
+use Rattle.std.proofs.lemmas.Bool.Decides.{nat_tests}
 use Rattle.std.proofs.lemmas.Map.Lookups.{exact_bytes}
 use Rattle.std.proofs.lemmas.Bool.{cases_lt}
+use Rattle.std.proofs.lemmas.Option.{slice_get_within}
 use Rattle.lit_read.specs.Syntax.{Litmus}
-use Rattle.lit_search.specs.Report.{Entry, Report, Gives, HasLeastOrder, IsEntry, IsReport}
-use Rattle.lit_search.proofs.ExampleFacts.{IsExample, IsInvalid}
-use Rattle.lit_search.specs.Searching.Kept.{HasOutcome, with_entry}
-use Rattle.lit_search.proofs.RisingEntries.{AreRising, AreRising-with_entry}
+use Rattle.lit_paths.specs.Choice.{choices_of}
+use Rattle.lit_paths.specs.Execution.{execution_choice, execution_events}
+use Rattle.lit_order.specs.MemoryOrder.{IsLeastMemoryOrder}
+use Rattle.lit_search.specs.Report.{Entry, Report, Gives, HasEntry, HasLeastOrder, IsEntry, IsReport, example_cmp, in_either, in_none, in_range}
+use Rattle.lit_search.specs.Merge.{HasInEither, IsMerge}
+use Rattle.lit_search.specs.Searching.Examined.{IsExample}
+use Rattle.lit_search.specs.Searching.Outcomes.{HasOutcome}
+use Rattle.lit_search.proofs.Entries.{AreRising, Stands, cmp, cmp_same, first_stands, reversed, same_rising, stands_cases, stands_in_none}
 
-abbrev cmp : List ℕ → List ℕ → Ordering
-cmp a b = slice_cmp nat_cmp a b
+-- ---- sets of numbers
+both : (a b : Bool) → IsTrue a → IsTrue b → IsTrue (a && b)
+both true true p q = refl
+both true false p q = q
+both false b p q = p
 
--- the entry stands somewhere in the list
-pub record Stands (xs : List Entry) (entry : Entry) : Type 0 where
-  pub place : ℕ
-  pub is : slice_get xs place ≡ Some entry
+first_of : (a b : Bool) → IsTrue (a && b) → IsTrue a
+first_of true b p = refl
+first_of false b p = p
 
-first_stands : (x : Entry) (xs : List Entry) → Stands (x ∷ xs) x
-first_stands x xs = record { place = 0; is = refl }
+second_of : (a b : Bool) → IsTrue (a && b) → IsTrue b
+second_of true b p = p
+second_of false b p = absurd (let e = p in cc)
 
-later_stands : (x y : Entry) (xs : List Entry) → Stands xs y → Stands (x ∷ xs) y
-later_stands x y xs s = record { place = suc s.place; is = s.is }
+pub in_some : (a b : Bool) → IsTrue a → IsTrue (a || b)
+in_some true b p = refl
+in_some false b p = absurd (let e = p in cc)
 
--- no entry has this outcome
-abbrev IsNew : List ℕ → List Entry → Type 0
-IsNew outcome xs = (y : Entry) → Stands xs y → y.outcome ≢ outcome
+pub in_other : (a b : Bool) → IsTrue b → IsTrue (a || b)
+in_other true b p = refl
+in_other false b p = p
 
--- of an entry with e taken in: it is e, which is new, or it stood there
-abbrev Kind : Entry → List Entry → Entry → Type 0
-Kind e xs y = ((y ≡ e) × IsNew e.outcome xs) ⊎ Stands xs y
+pub either_cases : (a b : Bool) → IsTrue (a || b) → IsTrue a ⊎ IsTrue b
+either_cases true b p = inl refl
+either_cases false b p = inr p
 
--- where e is taken in, its outcome stands
-pub record StandsWith (xs : List Entry) (outcome : List ℕ) : Type 0 where
-  pub entry : Entry
-  pub stands : Stands xs entry
-  pub same : entry.outcome ≡ outcome
+test_le : (m n : ℕ) → m ≤ n → IsTrue (nat_le m n)
+test_le m n h = grind (arith, nat_tests)
 
-itself : (o : Ordering) → o ≡ ordering_reverse o → o ≡ Equal
-itself Less e = absurd cc
-itself Equal e = refl
-itself Greater e = absurd cc
+test_lt : (m n : ℕ) → m < n → IsTrue (nat_lt m n)
+test_lt m n h = grind (arith, nat_tests)
 
-cmp_same : (a : List ℕ) → cmp a a ≡ Equal
-cmp_same a = itself (cmp a a) (nat_list_cmp_total.antisymm a a)
+le_test : (m n : ℕ) → IsTrue (nat_le m n) → m ≤ n
+le_test m n h = grind (arith, nat_tests)
 
--- what does not compare equal differs
-differs : (a b : List ℕ) → cmp a b ≢ Equal → a ≢ b
-differs a b ne e = let P : List ℕ → Type 0 = λ z. cmp a z ≡ Equal in ne (subst P e (cmp_same a))
+lt_test : (m n : ℕ) → IsTrue (nat_lt m n) → m < n
+lt_test m n h = grind (arith, nat_tests)
 
-differs_back : (a b : List ℕ) → cmp a b ≢ Equal → b ≢ a
-differs_back a b ne e = differs a b ne (sym e)
+pub within : (from to n : ℕ) → from ≤ n → n < to → IsTrue (in_range from to n)
+within from to n low high = both (nat_le from n) (nat_lt n to) (test_le from n low) (test_lt n to high)
 
-reversed : (a b : List ℕ) → cmp a b ≡ Greater → cmp b a ≡ Less
-reversed a b h = nat_list_cmp_total.antisymm b a ∙ ap ordering_reverse h
+pub not_below : (from to n : ℕ) → IsTrue (in_range from to n) → from ≤ n
+not_below from to n h = le_test from n (first_of (nat_le from n) (nat_lt n to) h)
 
-less_is : (o : Ordering) → o ≡ Less → o ≢ Equal
-less_is o e f = absurd cc
+pub before_end : (from to n : ℕ) → IsTrue (in_range from to n) → n < to
+before_end from to n h = lt_test n to (second_of (nat_le from n) (nat_lt n to) h)
 
-greater_is : (o : Ordering) → o ≡ Greater → o ≢ Equal
-greater_is o e f = absurd cc
+-- two tests that imply each other
+pub same_test : (a b : Bool) → (IsTrue a → IsTrue b) → (IsTrue b → IsTrue a) → a ≡ b
+same_test true b f g = sym (f refl)
+same_test false true f g = absurd (let e = g refl in cc)
+same_test false false f g = refl
 
-stands_in_none : (y : Entry) → Stands [] y → ⊥
-stands_in_none y s = absurd (let e = s.is in cc)
+-- ---- what a choice gives
+listed : (t : Litmus) (n : ℕ) (outcome : List ℕ) → Gives t n outcome → n < length (choices_of t)
+listed t n outcome g = slice_get_within (choices_of t) n (execution_choice g.execution) g.chosen
 
--- an entry of x ∷ xs is x, or stands in xs
-stands_cases : (x y : Entry) (xs : List Entry) → Stands (x ∷ xs) y → (y ≡ x) ⊎ Stands xs y
-stands_cases x y xs s = by s.place s.is
+-- its least order is one
+pub one_order : (t : Litmus) (n : ℕ) (outcome first second : List ℕ) → Gives t n outcome → HasLeastOrder t n first → HasLeastOrder t n second → first ≡ second
+one_order t n outcome first second g f s =
+    let x = g.execution in
+    let p : IsLeastMemoryOrder (execution_events t x) x.sources first = f x g.valid g.chosen in
+    let q : IsLeastMemoryOrder (execution_events t x) x.sources second = s x g.valid g.chosen in
+    exact_bytes first second (by (cmp first second) (q.least first p.is_order) (λ e. p.least second q.is_order (reversed first second e)))
   where
-    by : (k : ℕ) → slice_get (x ∷ xs) k ≡ Some y → (y ≡ x) ⊎ Stands xs y
-    by zero e = inl (let f : Some y ≡ Some x = sym e in cc)
-    by (suc k) e = inr (record { place = k; is = e })
+    by : (o : Ordering) → ¬ (o ≡ Less) → ¬ (o ≡ Greater) → o ≡ Equal
+    by Less f g = absurd (f refl)
+    by Equal f g = refl
+    by Greater f g = absurd (g refl)
 
-cases_to : (P : Entry → Type 0) (y z : Entry) (zs : List Entry) → P z → (Stands zs y → P y) → (y ≡ z) ⊎ Stands zs y → P y
-cases_to P y z zs p f (inl e) = subst P (sym e) p
-cases_to P y z zs p f (inr s) = f s
+-- ---- reports
+-- a report of a set with the same of the test's choices
+pub IsReport-same : (t : Litmus) (some others : ℕ → Bool) (r : Report) → ((n : ℕ) → n < length (choices_of t) → some n ≡ others n) → IsReport t some r → IsReport t others r
+IsReport-same t some others r same h = record {
+  rising = h.rising;
+  each = λ i e is.
+      let k = h.each i e is in
+      record {
+        among = sym (same e.choice (listed t e.choice e.outcome k.gives)) ∙ k.among;
+        gives = k.gives;
+        least_choice = λ n inside lt g. k.least_choice n (same n (listed t n e.outcome g) ∙ inside) lt g;
+        least_order = k.least_order;
+      };
+  whole = λ n outcome inside g. h.whole n outcome (same n (listed t n outcome g) ∙ inside) g;
+}
 
-below : (x y : Entry) (xs : List Entry) → AllByRecursion (λ z. cmp x.outcome z.outcome ≡ Less) xs → Stands xs y → cmp x.outcome y.outcome ≡ Less
-below x y [] h s = absurd (stands_in_none y s)
-below x y (z ∷ zs) h s = cases_to (λ w. cmp x.outcome w.outcome ≡ Less) y z zs h.0 (below x y zs h.1) (stands_cases z y zs s)
-
--- what stands in a list with one more in front
-new_in : (outcome : List ℕ) (x : Entry) (xs : List Entry) → x.outcome ≢ outcome → IsNew outcome xs → IsNew outcome (x ∷ xs)
-new_in outcome x xs ne new y s = cases_to (λ w. w.outcome ≢ outcome) y x xs ne (new y) (stands_cases x y xs s)
-
-from_less : (e x y : Entry) (xs rest : List Entry) → cmp x.outcome e.outcome ≡ Less → (Stands rest y → Kind e xs y) → (y ≡ x) ⊎ Stands rest y → Kind e (x ∷ xs) y
-from_less e x y xs rest is f (inl same) = inr (let P : Entry → Type 0 = λ w. Stands (x ∷ xs) w in subst P (sym same) (first_stands x xs))
-from_less e x y xs rest is f (inr s) = by (f s)
-  where
-    by : Kind e xs y → Kind e (x ∷ xs) y
-    by (inl k) = inl (k.0, new_in e.outcome x xs (differs x.outcome e.outcome (less_is _ is)) k.1)
-    by (inr t) = inr (later_stands x y xs t)
-
-new_before : (e x : Entry) (xs : List Entry) → cmp x.outcome e.outcome ≡ Greater → AllByRecursion (λ y. cmp x.outcome y.outcome ≡ Less) xs → IsNew e.outcome (x ∷ xs)
-new_before e x xs is h = new_in e.outcome x xs (differs x.outcome e.outcome (greater_is _ is)) (λ y s. differs_back e.outcome y.outcome (less_is _ (nat_list_cmp_total.trans e.outcome x.outcome y.outcome (reversed x.outcome e.outcome is) (below x y xs h s))))
-
-from_greater : (e x y : Entry) (xs : List Entry) → cmp x.outcome e.outcome ≡ Greater → AllByRecursion (λ z. cmp x.outcome z.outcome ≡ Less) xs → (y ≡ e) ⊎ Stands (x ∷ xs) y → Kind e (x ∷ xs) y
-from_greater e x y xs is h (inl same) = inl (same, new_before e x xs is h)
-from_greater e x y xs is h (inr s) = inr s
-
-kind_at : (e x y : Entry) (xs rest : List Entry) (o : Ordering) → cmp x.outcome e.outcome ≡ o → AllByRecursion (λ z. cmp x.outcome z.outcome ≡ Less) xs → (Stands rest y → Kind e xs y) → Stands (match_ordering o (x ∷ rest) (x ∷ xs) (e ∷ x ∷ xs)) y → Kind e (x ∷ xs) y
-kind_at e x y xs rest Less is h f s = from_less e x y xs rest is f (stands_cases x y rest s)
-kind_at e x y xs rest Equal is h f s = inr s
-kind_at e x y xs rest Greater is h f s = from_greater e x y xs is h (stands_cases e y (x ∷ xs) s)
-
--- what stands in a list with e taken in
-kind : (e y : Entry) (xs : List Entry) → AreRising xs → Stands (with_entry e xs) y → Kind e xs y
+none_rise : (xs : List Entry) → xs ≡ [] → AreRising xs
 unfolding IsStrictlySortedBy
-kind e y [] h s = cases_to_kind (stands_cases e y [] s)
+none_rise [] e = tt
+none_rise (x ∷ xs) e = absurd cc
+
+-- nothing is reported of no choice
+pub IsReport-none : (t : Litmus) (r : Report) → r.entries ≡ [] → IsReport t in_none r
+IsReport-none t r is = record {
+  rising = none_rise r.entries is;
+  each = λ i e at. absurd (stands_in_none e (record { place = i; is = sym (ap (λ (xs : List Entry). slice_get xs i) is) ∙ at }));
+  whole = λ n outcome inside g. absurd (let e : false ≡ true = inside in cc);
+}
+
+-- one choice is reported by its example
+pub IsReport-one : (t : Litmus) (n : ℕ) (e : Entry) → e.choice ≡ n → IsExample t n e.outcome e.order → IsReport t (in_range n (n + 1)) (record { entries = e ∷ [] })
+unfolding IsStrictlySortedBy
+IsReport-one t n e chosen example = record {
+  rising = (tt, tt);
+  each = λ i y at. by y (stands_cases e y [] (record { place = i; is = at }));
+  whole = λ m outcome inside g.
+      let same : m ≡ n = omega (arith, not_below n (n + 1) m inside, before_end n (n + 1) m inside) in
+      let P : ℕ → Type 0 = λ k. Gives t k outcome in
+      (0, e, refl, sym (example.only outcome (subst P same g)));
+}
   where
-    cases_to_kind : (y ≡ e) ⊎ Stands [] y → Kind e [] y
-    cases_to_kind (inl same) = inl (same, λ z t f. stands_in_none z t)
-    cases_to_kind (inr t) = absurd (stands_in_none y t)
-kind e y (x ∷ xs) h s = kind_at e x y xs (with_entry e xs) (cmp x.outcome e.outcome) refl h.0 (kind e y xs h.1) s
-
-stays_at : (e x y : Entry) (xs rest : List Entry) (o : Ordering) → (Stands xs y → Stands rest y) → Stands (x ∷ xs) y → Stands (match_ordering o (x ∷ rest) (x ∷ xs) (e ∷ x ∷ xs)) y
-stays_at e x y xs rest Less f s = by (stands_cases x y xs s)
-  where
-    by : (y ≡ x) ⊎ Stands xs y → Stands (x ∷ rest) y
-    by (inl same) = let P : Entry → Type 0 = λ w. Stands (x ∷ rest) w in subst P (sym same) (first_stands x rest)
-    by (inr t) = later_stands x y rest (f t)
-stays_at e x y xs rest Equal f s = s
-stays_at e x y xs rest Greater f s = later_stands e y (x ∷ xs) s
-
-stays : (e y : Entry) (xs : List Entry) → Stands xs y → Stands (with_entry e xs) y
-stays e y [] s = absurd (stands_in_none y s)
-stays e y (x ∷ xs) s = stays_at e x y xs (with_entry e xs) (cmp x.outcome e.outcome) (stays e y xs) s
-
-comes_at : (e x : Entry) (xs rest : List Entry) (o : Ordering) → cmp x.outcome e.outcome ≡ o → StandsWith rest e.outcome → StandsWith (match_ordering o (x ∷ rest) (x ∷ xs) (e ∷ x ∷ xs)) e.outcome
-comes_at e x xs rest Less is w = record { entry = w.entry; stands = later_stands x w.entry rest w.stands; same = w.same }
-comes_at e x xs rest Equal is w = record { entry = x; stands = first_stands x xs; same = exact_bytes x.outcome e.outcome is }
-comes_at e x xs rest Greater is w = record { entry = e; stands = first_stands e (x ∷ xs); same = refl }
-
--- the outcome of e stands where e was taken in
-comes : (e : Entry) (xs : List Entry) → StandsWith (with_entry e xs) e.outcome
-comes e [] = record { entry = e; stands = first_stands e []; same = refl }
-comes e (x ∷ xs) = comes_at e x xs (with_entry e xs) (cmp x.outcome e.outcome) refl (comes e xs)
-
-module _ (t : Litmus) (from n : ℕ) where
-  later : (entry : Entry) → IsEntry t from n entry → IsEntry t from (n + 1) entry
-  later entry h = record { not_below = h.not_below; below = omega (arith, h.below); gives = h.gives; least_choice = h.least_choice; least_order = h.least_order }
-
-  -- a choice of no valid execution adds nothing
-  pub IsReport-invalid : (report : Report) → IsReport t from n report → IsInvalid t n → IsReport t from (n + 1) report
-  IsReport-invalid report h invalid = record {
-    rising = h.rising;
-    each = λ i entry is. later entry (h.each i entry is);
-    whole = λ m outcome le lt g. by m outcome le lt g (cases_lt m n);
-  }
-    where
-      by : (m : ℕ) (outcome : List ℕ) → from ≤ m → m < n + 1 → Gives t m outcome → (m < n) ⊎ (n ≤ m) → (i : ℕ) × (entry : Entry) × (slice_get report.entries i ≡ Some entry) × (entry.outcome ≡ outcome)
-      by m outcome le lt g (inl below) = h.whole m outcome le below g
-      by m outcome le lt g (inr above) = let same : m ≡ n = omega arith in let P : ℕ → Type 0 = λ k. Gives t k outcome in absurd (invalid outcome (subst P same g))
-
-  module _ (e : Entry) (xs : List Entry) (example : IsExample t n e.outcome e.order) (chosen : e.choice ≡ n) (le : from ≤ n) (h : IsReport t from n (record { entries = xs })) where
-    taken_in : IsNew e.outcome xs → IsEntry t from (n + 1) e
-    taken_in new = record {
-      not_below = omega arith;
-      below = omega arith;
+    itself : IsEntry t (in_range n (n + 1)) e
+    itself = record {
+      among = within n (n + 1) e.choice (omega arith) (omega arith);
       gives = let P : ℕ → Type 0 = λ k. Gives t k e.outcome in subst P (sym chosen) example.gives;
-      least_choice = λ m low high g. let w = h.whole m e.outcome low (omega arith) g in new w.1 (record { place = w.0; is = w.2 }) w.3;
+      least_choice = λ m inside lt g. absurd (omega (arith, not_below n (n + 1) m inside));
       least_order = let P : ℕ → Type 0 = λ k. HasLeastOrder t k e.order in subst P (sym chosen) example.least;
     }
 
-    entry_of_kind : (y : Entry) → Kind e xs y → IsEntry t from (n + 1) y
-    entry_of_kind y (inl k) = let P : Entry → Type 0 = λ w. IsEntry t from (n + 1) w in subst P (sym k.0) (taken_in k.1)
-    entry_of_kind y (inr s) = later y (h.each s.place y s.is)
+    by : (y : Entry) → (y ≡ e) ⊎ Stands [] y → IsEntry t (in_range n (n + 1)) y
+    by y (inl same) = subst (IsEntry t (in_range n (n + 1))) (sym same) itself
+    by y (inr s) = absurd (stands_in_none y s)
 
-    -- an example adds its outcome, unless it is there already
-    pub IsReport-example : IsReport t from (n + 1) (record { entries = with_entry e xs })
-    IsReport-example = record {
-      rising = AreRising-with_entry e xs h.rising;
-      each = λ i y is. entry_of_kind y (kind e y xs h.rising (record { place = i; is = is }));
-      whole = λ m outcome low lt g. by m outcome low lt g (cases_lt m n);
-    }
-      where
-        by : (m : ℕ) (outcome : List ℕ) → from ≤ m → m < n + 1 → Gives t m outcome → (m < n) ⊎ (n ≤ m) → (i : ℕ) × (entry : Entry) × (slice_get (with_entry e xs) i ≡ Some entry) × (entry.outcome ≡ outcome)
-        by m outcome low lt g (inl before) =
-            let w = h.whole m outcome low before g in
-            let s = stays e w.1 xs (record { place = w.0; is = w.2 }) in
-            (s.place, w.1, s.is, w.3)
-        by m outcome low lt g (inr after) =
-            let same : m ≡ n = omega arith in
-            let P : ℕ → Type 0 = λ k. Gives t k outcome in
-            let s = comes e xs in
-            (s.stands.place, s.entry, s.stands.is, s.same ∙ sym (example.only outcome (subst P same g)))
-
--- nothing is reported of no choice
-pub IsReport-empty : (t : Litmus) (n : ℕ) → IsReport t n n (record { entries = [] })
-unfolding IsStrictlySortedBy
-IsReport-empty t n = record {
-  rising = tt;
-  each = λ i entry is. absurd (let e = is in cc);
-  whole = λ m outcome low high g. absurd (omega arith);
-}
-
-report_is : (a : Report) (xs : List Entry) → a.entries ≡ xs → (P : Report → Type 0) → P (record { entries = xs }) → P a
-report_is a xs e P p = let Q : List Entry → Type 0 = λ ys. P (record { entries = ys }) in subst Q (sym e) p
-
-pub so_far_empty : (t : Litmus) (n : ℕ) (found : Report) → found.entries ≡ [] → IsReport t n n found
-so_far_empty t n found is = report_is found [] is (IsReport t n n) (IsReport-empty t n)
-
-pub so_far_more : (t : Litmus) (from n : ℕ) (e : Entry) (old new : Report) → from ≤ n → e.choice ≡ n → IsReport t from n old → IsExample t n e.outcome e.order → new.entries ≡ with_entry e old.entries → IsReport t from (n + 1) new
-so_far_more t from n e old new le chosen so_far example is =
-    report_is new (with_entry e old.entries) is (IsReport t from (n + 1)) (IsReport-example t from n e old.entries example chosen le so_far)
-
--- a choice whose outcome stands already adds nothing
-pub IsReport-kept : (t : Litmus) (from n : ℕ) (found : Report) (outcome : List ℕ) → IsReport t from n found → HasOutcome found outcome → ((other : List ℕ) → Gives t n other → other ≡ outcome) → IsReport t from (n + 1) found
-IsReport-kept t from n found outcome so_far has only = record {
-  rising = so_far.rising;
-  each = λ i entry is. later t from n entry (so_far.each i entry is);
-  whole = λ m other le lt g. by m other le lt g (cases_lt m n);
+-- more choices, all behind the others, that give no outcome but those reported
+pub IsReport-passed : (t : Litmus) (some others : ℕ → Bool) (r : Report) → IsReport t some r → ((m n : ℕ) → IsTrue (some m) → IsTrue (others n) → m < n)
+    → ((n : ℕ) (outcome : List ℕ) → IsTrue (others n) → Gives t n outcome → HasOutcome r outcome) → IsReport t (in_either some others) r
+IsReport-passed t some others r h behind kept = record {
+  rising = h.rising;
+  each = λ i e is.
+      let k = h.each i e is in
+      record {
+        among = in_some (some e.choice) (others e.choice) k.among;
+        gives = k.gives;
+        least_choice = λ n inside lt g. by n e k (either_cases (some n) (others n) inside) lt g;
+        least_order = k.least_order;
+      };
+  whole = λ n outcome inside g. there n outcome (either_cases (some n) (others n) inside) g;
 }
   where
-    by : (m : ℕ) (other : List ℕ) → from ≤ m → m < n + 1 → Gives t m other → (m < n) ⊎ (n ≤ m) → (i : ℕ) × (entry : Entry) × (slice_get found.entries i ≡ Some entry) × (entry.outcome ≡ other)
-    by m other le lt g (inl below) = so_far.whole m other le below g
-    by m other le lt g (inr above) =
-        let same : m ≡ n = omega arith in
-        let P : ℕ → Type 0 = λ k. Gives t k other in
-        (has.place, has.entry, has.is, has.same ∙ sym (only other (subst P same g)))
+    by : (n : ℕ) (e : Entry) → IsEntry t some e → IsTrue (some n) ⊎ IsTrue (others n) → n < e.choice → ¬ Gives t n e.outcome
+    by n e k (inl p) lt g = k.least_choice n p lt g
+    by n e k (inr q) lt g = omega (arith, behind e.choice n k.among q, lt)
 
--- what follows from what holds where there is no fault
-pub on_ok : {X E : Type 0} (r : Result X E) (A B : Type 0) → (A → B) → OnOk r A → OnOk r B
-on_ok (Ok x) A B f a = f a
-on_ok (Err e) A B f a = tt
+    there : (n : ℕ) (outcome : List ℕ) → IsTrue (some n) ⊎ IsTrue (others n) → Gives t n outcome → (i : ℕ) × (entry : Entry) × (slice_get r.entries i ≡ Some entry) × (entry.outcome ≡ outcome)
+    there n outcome (inl p) g = h.whole n outcome p g
+    there n outcome (inr q) g = let o = kept n outcome q g in (o.place, o.entry, o.is, o.same)
+
+-- ---- merging
+-- what is not greater by its example has no greater choice
+choice_of_least : (e w : Entry) → IsFalse (is_gt (example_cmp e w)) → e.choice ≤ w.choice
+choice_of_least e w h = by (cases_lt w.choice e.choice)
+  where
+    by : (w.choice < e.choice) ⊎ (e.choice ≤ w.choice) → e.choice ≤ w.choice
+    by (inl lt) = absurd (impossible lt)
+      where
+        impossible : w.choice < e.choice → ⊥
+        impossible lt = let greater : is_gt (example_cmp e w) ≡ true = rw (test_not_lt lt, test_not_same lt) refl in absurd (let bad : true ≡ false = sym greater ∙ h in cc)
+          where
+            test_not_lt : w.choice < e.choice → nat_lt e.choice w.choice ≡ false
+            test_not_lt k = grind (arith, nat_tests)
+
+            test_not_same : w.choice < e.choice → (e.choice == w.choice) ≡ false
+            test_not_same k = grind (arith, nat_tests)
+    by (inr le) = le
+
+module _ (t : Litmus) (some others : ℕ → Bool) (a b c : Report) (h : IsReport t some a) (k : IsReport t others b) (m : IsMerge a b c) where
+  -- the outcome that a number of either set gives is reported in one of the two, with no greater choice
+  record Reported (n : ℕ) (outcome : List ℕ) : Type 0 where
+    pub entry : Entry
+    pub there : HasInEither a b entry
+    pub same : entry.outcome ≡ outcome
+    pub least : entry.choice ≤ n
+
+  no_greater : (numbers : ℕ → Bool) (e : Entry) (n : ℕ) (outcome : List ℕ) → IsEntry t numbers e → IsTrue (numbers n) → Gives t n outcome → e.outcome ≡ outcome → e.choice ≤ n
+  no_greater numbers e n outcome is inside g same = by (cases_lt n e.choice)
+    where
+      by : (n < e.choice) ⊎ (e.choice ≤ n) → e.choice ≤ n
+      by (inl lt) = absurd (is.least_choice n inside lt (let P : List ℕ → Type 0 = λ o. Gives t n o in subst P (sym same) g))
+      by (inr le) = le
+
+  reported : (n : ℕ) (outcome : List ℕ) → IsTrue (some n) ⊎ IsTrue (others n) → Gives t n outcome → Reported n outcome
+  reported n outcome (inl p) g =
+      let w = h.whole n outcome p g in
+      record { entry = w.1; there = inl (w.0, w.2); same = w.3; least = no_greater some w.1 n outcome (h.each w.0 w.1 w.2) p g w.3 }
+  reported n outcome (inr q) g =
+      let w = k.whole n outcome q g in
+      record { entry = w.1; there = inr (w.0, w.2); same = w.3; least = no_greater others w.1 n outcome (k.each w.0 w.1 w.2) q g w.3 }
+
+  record IsOfEither (e : Entry) : Type 0 where
+    pub among : IsTrue (in_either some others e.choice)
+    pub gives : Gives t e.choice e.outcome
+    pub least_order : HasLeastOrder t e.choice e.order
+
+  of_either : (e : Entry) → HasInEither a b e → IsOfEither e
+  of_either e (inl p) = let is = h.each p.0 e p.1 in record { among = in_some (some e.choice) (others e.choice) is.among; gives = is.gives; least_order = is.least_order }
+  of_either e (inr q) = let is = k.each q.0 e q.1 in record { among = in_other (some e.choice) (others e.choice) is.among; gives = is.gives; least_order = is.least_order }
+
+  pub IsReport-merged : IsReport t (in_either some others) c
+  IsReport-merged = record {
+    rising = m.rising;
+    each = λ i e is.
+        let o = of_either e (m.of_either e (i, is)) in
+        record {
+          among = o.among;
+          gives = o.gives;
+          least_choice = λ n inside lt g.
+              let w = reported n e.outcome (either_cases (some n) (others n) inside) g in
+              omega (arith, choice_of_least e w.entry (m.least e w.entry (i, is) w.there w.same), w.least, lt);
+          least_order = o.least_order;
+        };
+    whole = λ n outcome inside g.
+        let w = reported n outcome (either_cases (some n) (others n) inside) g in
+        let e = m.whole w.entry w.there in
+        (e.1.0, e.0, e.1.1, e.2 ∙ w.same);
+  }
+
+-- ---- a set has one report
+one_choice : (t : Litmus) (numbers : ℕ → Bool) (e f : Entry) → IsEntry t numbers e → IsEntry t numbers f → e.outcome ≡ f.outcome → e.choice ≤ f.choice
+one_choice t numbers e f is other same = by (cases_lt f.choice e.choice)
+  where
+    by : (f.choice < e.choice) ⊎ (e.choice ≤ f.choice) → e.choice ≤ f.choice
+    by (inl lt) = absurd (is.least_choice f.choice other.among lt (let P : List ℕ → Type 0 = λ o. Gives t f.choice o in subst P (sym same) other.gives))
+    by (inr le) = le
+
+one_entry : (t : Litmus) (numbers : ℕ → Bool) (e f : Entry) → IsEntry t numbers e → IsEntry t numbers f → e.outcome ≡ f.outcome → e ≡ f
+one_entry t numbers e f is other same =
+    let choices : e.choice ≡ f.choice = omega (arith, one_choice t numbers e f is other same, one_choice t numbers f e other is (sym same)) in
+    let P : ℕ → Type 0 = λ n. HasLeastOrder t n f.order in
+    let orders : e.order ≡ f.order = one_order t e.choice e.outcome e.order f.order is.gives is.least_order (subst P (sym choices) other.least_order) in
+    ap (λ (o : List ℕ). record { outcome = o; choice = e.choice; order = e.order }) same
+    ∙ ap (λ (n : ℕ). record { outcome = f.outcome; choice = n; order = e.order }) choices
+    ∙ ap (λ (o : List ℕ). record { outcome = f.outcome; choice = f.choice; order = o }) orders
+
+into : (t : Litmus) (numbers : ℕ → Bool) (a b : Report) → IsReport t numbers a → IsReport t numbers b → (e : Entry) → Stands a.entries e → Stands b.entries e
+into t numbers a b h k e s =
+    let is = h.each s.place e s.is in
+    let w = k.whole e.choice e.outcome is.among is.gives in
+    let same : w.1 ≡ e = one_entry t numbers w.1 e (k.each w.0 w.1 w.2) is w.3 in
+    let P : Entry → Type 0 = λ v. Stands b.entries v in
+    subst P same (record { place = w.0; is = w.2 })
+
+pub IsReport-unique : (t : Litmus) (numbers : ℕ → Bool) (a b : Report) → IsReport t numbers a → IsReport t numbers b → a ≡ b
+IsReport-unique t numbers a b h k =
+    let same : a.entries ≡ b.entries = same_rising a.entries b.entries h.rising k.rising (into t numbers a b h k) (into t numbers b a k h) in
+    ap (λ (xs : List Entry). record { entries = xs }) same

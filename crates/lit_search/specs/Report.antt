@@ -1,7 +1,8 @@
--- The report of a range of choices (this project's own): the outcomes of the valid executions, each with its example.
-use Rattle.std.specs.Prelude.{◌≡◌, ℕ, ◌<◌, ◌≤◌, List, [], Some, slice_get, slice_index_or}
+-- The report of a set of choices (this project's own): the outcomes of the valid executions, each with its example. A
+-- set of choices is a test on their numbers.
+use Rattle.std.specs.Prelude.{◌≡◌, ℕ, ◌<◌, Bool, false, ◌&&◌, ◌||◌, nat_le, nat_lt, IsTrue, List, [], Some, slice_get, slice_index_or}
 use Rattle.std.specs.Cmp.Lexicographic.{slice_cmp}
-use Rattle.std.specs.Ordering.{nat_cmp}
+use Rattle.std.specs.Ordering.{nat_cmp, ordering_then}
 use Rattle.std.specs.declared.cmp.Ordering.{Ordering}
 use Rattle.std.specs.List.Sorted.{IsStrictlySortedBy}
 use Rattle.lit_read.specs.Syntax.{Litmus}
@@ -23,10 +24,32 @@ pub record Report : Type 0 where
 abbrev pub outcome_cmp : Entry → Entry → Ordering
 outcome_cmp a b = slice_cmp nat_cmp a.outcome b.outcome
 
+-- how entries compare by their examples: by choice, and then by order as a list
+abbrev pub example_cmp : Entry → Entry → Ordering
+example_cmp a b = ordering_then (nat_cmp a.choice b.choice) (slice_cmp nat_cmp a.order b.order)
+
 -- the entry at a place; past the last one, one with no outcome and no order
 abbrev pub entry_at : Report → ℕ → Entry
 entry_at report i = slice_index_or report.entries i (record { outcome = []; choice = 0; order = [] })
 
+-- the report has this entry
+abbrev pub HasEntry : Report → Entry → Type 0
+HasEntry report entry = (i : ℕ) × (slice_get report.entries i ≡ Some entry)
+
+-- ---- sets of numbers
+-- none
+abbrev pub in_none : ℕ → Bool
+in_none n = false
+
+-- those from a first one up to and without a last one
+abbrev pub in_range : ℕ → ℕ → ℕ → Bool
+in_range from to n = nat_le from n && nat_lt n to
+
+-- those of one set or the other
+abbrev pub in_either : (ℕ → Bool) → (ℕ → Bool) → ℕ → Bool
+in_either some others n = some n || others n
+
+-- ---- reports
 -- Some valid execution has the choice with this number, and this outcome.
 pub record Gives (t : Litmus) (n : ℕ) (outcome : List ℕ) : Type 0 where
   pub execution : Execution
@@ -39,17 +62,16 @@ abbrev pub HasLeastOrder : Litmus → ℕ → List ℕ → Type 0
 HasLeastOrder t n order =
     (x : Execution) → IsValidExecution t x → slice_get (choices_of t) n ≡ Some (execution_choice x) → IsLeastMemoryOrder (execution_events t x) x.sources order
 
--- an entry of the report of [from, to)
-pub record IsEntry (t : Litmus) (from to : ℕ) (entry : Entry) : Type 0 where
-  pub not_below : from ≤ entry.choice
-  pub below : entry.choice < to
+-- an entry of the report of the choices with these numbers
+pub record IsEntry (t : Litmus) (numbers : ℕ → Bool) (entry : Entry) : Type 0 where
+  pub among : IsTrue (numbers entry.choice)
   pub gives : Gives t entry.choice entry.outcome
-  pub least_choice : (n : ℕ) → from ≤ n → n < entry.choice → ¬ Gives t n entry.outcome
+  pub least_choice : (n : ℕ) → IsTrue (numbers n) → n < entry.choice → ¬ Gives t n entry.outcome
   pub least_order : HasLeastOrder t entry.choice entry.order
 
--- The report of the choices [from, to): the outcomes of all valid executions whose choice has a number there,
+-- The report of the choices with these numbers: the outcomes of all valid executions that have one of these choices,
 -- rising, each once, each with the least choice and the least memory-order of that choice.
-pub record IsReport (t : Litmus) (from to : ℕ) (report : Report) : Type 0 where
+pub record IsReport (t : Litmus) (numbers : ℕ → Bool) (report : Report) : Type 0 where
   pub rising : IsStrictlySortedBy outcome_cmp report.entries
-  pub each : (i : ℕ) (entry : Entry) → slice_get report.entries i ≡ Some entry → IsEntry t from to entry
-  pub whole : (n : ℕ) (outcome : List ℕ) → from ≤ n → n < to → Gives t n outcome → (i : ℕ) × (entry : Entry) × (slice_get report.entries i ≡ Some entry) × (entry.outcome ≡ outcome)
+  pub each : (i : ℕ) (entry : Entry) → slice_get report.entries i ≡ Some entry → IsEntry t numbers entry
+  pub whole : (n : ℕ) (outcome : List ℕ) → IsTrue (numbers n) → Gives t n outcome → (i : ℕ) × (entry : Entry) × (slice_get report.entries i ≡ Some entry) × (entry.outcome ≡ outcome)

@@ -1,24 +1,20 @@
 //! The outcomes found, each with its example.
 
 ghost use Rattle.std.specs.Prelude.{◌≡◌, length};
-ghost use Rattle.std.specs.List.Sorted.{IsBinarySearchResult, IsSearchInRange};
-ghost use Rattle.std.specs.Cmp.Lexicographic.{slice_cmp};
-ghost use Rattle.std.specs.Ordering.{nat_cmp};
-ghost use Rattle.lit_search.specs.Entry.{entry_of};
 
 use arrayvec::ArrayVec;
 use lit_order::Order;
 use lit_paths::NAME_LIMIT;
-use std::alloc::{AllocError, Global};
-use std::cmp::Ordering;
+use std::alloc::{AllocError, AllocFailed};
+use std::boxed::BoxedSlice;
 use std::marker::Model;
 use thiserror::Error;
 
 /// The last values of the registers of an outcome, one for each of `Plan::names` and in that order.
 pub type Outcome = ArrayVec<u32, NAME_LIMIT>;
 
-/// An execution that shows an outcome.
-#[derive(Debug, Drop)]
+/// An execution that shows an outcome. Examples compare by choice, and then by order as a list.
+#[derive(Debug, PartialEq, Eq, PartialOrd, Ord, Drop)]
 pub struct Example {
     /// The number of its choice, below `Plan::total`.
     pub choice: u64,
@@ -45,29 +41,25 @@ impl From<AllocError> for SearchFault {
     }
 }
 
+impl<T: Drop> From<AllocFailed<T>> for SearchFault {
+    ghost use Rattle.std.specs.Prelude.{◌≡◌};
+    ghost use Rattle.lit_search.specs.declared.found.SearchFault.TheVariants.{OutOfMemory};
+
+    ghost from_gives = { λ _ e. e ≡ OutOfMemory };
+
+    fn from(_e: AllocFailed<T>) -> SearchFault {
+        SearchFault::OutOfMemory
+    }
+}
+
 /// An outcome with its example.
 #[derive(Debug, Drop)]
 pub(crate) struct Entry {
-    pub outcome: Outcome,
+    pub outcome: BoxedSlice<u32>,
     pub example: Example,
 }
 
-/// How the outcome of an entry compares with another one, as lists.
-fn compared(entry: &Entry, outcome: &[u32]) -> Ordering
-    ensures { result ≡ slice_cmp nat_cmp (entry_of entry.now).outcome outcome.now }
-{
-    entry.outcome.as_slice().cmp(&outcome)
-}
-
-/// Where an outcome is, or where it would be.
-fn place_of(entries: &[Entry], outcome: &[u32]) -> Result<usize, usize>
-    ensures bound { IsSearchInRange result (length entries.now) }
-    ensures position { IsBinarySearchResult (λ k. slice_cmp nat_cmp (entry_of k).outcome outcome.now) entries.now result }
-{
-    entries.binary_search_by(|k| compared(k, outcome))
-}
-
-/// The outcomes of a range of choices, rising, each with its example. A clause sees it as a `Report`.
+/// The outcomes of a set of choices, rising, each with its example. A clause sees it as a `Report`.
 #[derive(Drop)]
 pub struct Found {
     entries: Vec<Entry>,
@@ -88,17 +80,26 @@ impl Model for Found {
 }
 
 impl Found {
-    ghost use Rattle.std.specs.Prelude.{◌≡◌, ◌↔◌, ◌<◌, ◌==◌, [], length, IsTrue, OnOk, OnErr};
-    ghost use Rattle.lit_search.specs.Report.{entry_at};
-    ghost use Rattle.lit_search.specs.Searching.Kept.{HasOutcome, with_entry};
+    ghost use Rattle.std.specs.Prelude.{◌≡◌, ◌<◌, ◌==◌, length, map};
+    ghost use Rattle.std.specs.List.Sorted.{IsStrictlySortedBy};
+    ghost use Rattle.lit_search.specs.Entry.{entry_of};
+    ghost use Rattle.lit_search.specs.Report.{entry_at, outcome_cmp};
 
-    /// Nothing found yet.
-    pub(crate) fn new(alloc: Global) -> Self
-        ensures { result.entries ≡ [] }
+    /// These outcomes, rising, with their examples.
+    pub(crate) fn from_rising(entries: Vec<Entry>) -> Self
+        requires { IsStrictlySortedBy outcome_cmp (map entry_of entries.items) }
+        ensures { result.entries ≡ map entry_of entries.items }
     {
-        Found {
-            entries: Vec::new(alloc),
-        }
+        Found { entries }
+    }
+
+    /// The outcomes with their examples.
+    pub(crate) fn into_entries(self) -> Vec<Entry>
+        ensures entries { map entry_of result.items ≡ self.entries }
+        ensures rising { IsStrictlySortedBy outcome_cmp self.entries }
+    {
+        let Found { entries } = self;
+        entries
     }
 
     /// How many outcomes there are.
@@ -130,23 +131,5 @@ impl Found {
         ensures order { result.now.order.items ≡ (entry_at self.now place).order }
     {
         &self.entries[place].example
-    }
-
-    /// Whether an outcome is there.
-    pub(crate) fn has(&self, outcome: &[u32]) -> bool
-        ensures { IsTrue result ↔ HasOutcome self.now outcome.now }
-    {
-        place_of(&self.entries, outcome).is_ok()
-    }
-
-    /// Takes in one more choice: its outcome gets its place, unless it is there already.
-    pub(crate) fn keep(&mut self, entry: Entry) -> Result<(), AllocError>
-        ensures ok { OnOk result (self.new.entries ≡ with_entry (entry_of entry) self.old.entries) }
-        ensures err { OnErr result (self.new ≡ self.old) }
-    {
-        match place_of(&self.entries, &entry.outcome) {
-            Ok(_) => Ok(()),
-            Err(place) => Ok(self.entries.insert(place, entry)?),
-        }
     }
 }

@@ -6,11 +6,21 @@
 #![tactic(auto)]
 
 mod agent_values;
+mod class;
+mod collector;
 mod decisions;
+mod examining;
 mod found;
+mod kept;
+mod laws;
+mod merging;
 mod outcomes;
 mod searching;
 mod values;
 
+pub use class::Class;
+pub use collector::Collector;
 pub use found::{Example, Found, Outcome, SearchFault};
-pub use searching::search_range;
+pub use laws::{reports_are_unique, reports_go_by_choices};
+pub use merging::merge;
+pub use searching::{first_in, search_range};

@@ -1,91 +1,17 @@
-//! The outcomes of a range of choices.
+//! Searching a range of choices.
 
-ghost use Rattle.std.specs.Prelude.{◌≡◌, ℕ, ◌+◌, ◌<◌, ◌≤◌, ◌↔◌, List, length, IsTrue, MatchOption, IfOk, OnOk};
-ghost use Rattle.lit_paths.specs.Choice.{AreSources, choices_of, combinations_of};
-ghost use Rattle.lit_paths.specs.Plan.{choices_before};
-ghost use Rattle.lit_rel.specs.Part.{IsComplete, part_events, with_sources};
-ghost use Rattle.lit_search.specs.Report.{IsReport};
-ghost use Rattle.lit_search.specs.Searching.Examined.{IsOrdered, IsLeastOrdered};
+ghost use Rattle.std.specs.Prelude.{◌≡◌, ◌+◌, ◌<◌, ◌≤◌, length, IfOk, MatchOption};
+ghost use Rattle.lit_paths.specs.Choice.{choices_of};
+ghost use Rattle.lit_search.specs.Class.{HasNoneOf, IsFirstOf};
+ghost use Rattle.lit_search.specs.Report.{IsReport, in_range};
 
-use crate::decisions::all_agree;
-use crate::found::{Entry, Example, Found, SearchFault};
-use crate::outcomes::outcome_of;
-use crate::values::values_of;
-use lit_order::{Order, OrderFinder, PlainFinder};
-use lit_paths::{Plan, combinations_are_listed, runs_choose_for_each_read};
+use crate::class::Class;
+use crate::collector::Collector;
+use crate::examining::next_wanted;
+use crate::found::{Found, SearchFault};
+use lit_paths::Plan;
 use lit_rel::Part;
-use std::alloc::{AllocError, Global};
-
-/// Gives a part these sources in place of those that it has.
-fn give(part: &mut Part<'_>, sources: &[u8])
-    requires { AreSources (part_events part.old) sources.now }
-    ensures { part.new ≡ with_sources part.old sources.now }
-{
-    while part.len() > 0 {
-        part.pop();
-    }
-    for source in sources {
-        part.push(*source);
-    }
-}
-
-/// The least memory-order of a part, or `None` where no valid execution has it. Each byte read has a source.
-fn order_of<F: OrderFinder>(finder: &F, part: &Part<'_>) -> Option<Order>
-    requires { IsComplete part.now }
-    ensures { MatchOption result
-        ((order : List ℕ) → ¬ IsOrdered (part_events part.now) part.now.sources order)
-        (λ order. IsLeastOrdered (part_events part.now) part.now.sources order.items) }
-{
-    if !part.tear_free() {
-        return None;
-    }
-    let before = part.happens_before();
-    if !before.is_irreflexive() || !part.coherent() {
-        return None;
-    }
-    finder.least_order(&before, &part.between())
-}
-
-/// Takes one more choice on a part's combination into what is found: its outcome with this example, unless no valid
-/// execution has the choice, or the outcome is there already. The part is given the choice's sources.
-fn take_in<F: OrderFinder>(
-    finder: &F,
-    plan: &Plan<'_>,
-    combination: usize,
-    part: &mut Part<'_>,
-    choice: u64,
-    found: &mut Found,
-) -> Result<(), AllocError>
-    requires known { combination < length (combinations_of plan.now) }
-    requires test { part.old.test ≡ plan.now }
-    requires combination { part.old.combination ≡ combination }
-    requires low { choices_before plan.now combination ≤ choice }
-    requires high { choice < choices_before plan.now (combination + 1) }
-    ensures found { OnOk result ((from : ℕ) → from ≤ choice → IsReport plan.now from choice found.old → IsReport plan.now from (choice + 1) found.new) }
-    ensures test { part.new.test ≡ plan.now }
-    ensures combination { part.new.combination ≡ combination }
-{
-    combinations_are_listed();
-    runs_choose_for_each_read();
-    let sources = part.combination().sources(choice);
-    give(part, sources.as_slice());
-    let values = values_of(part);
-    let values = values.as_slice();
-    if !all_agree(part, values) {
-        return Ok(());
-    }
-    let outcome = outcome_of(plan, part, values);
-    if found.has(outcome.as_slice()) {
-        return Ok(());
-    }
-    match order_of(finder, part) {
-        None => Ok(()),
-        Some(order) => {
-            let example = Example { choice, order };
-            found.keep(Entry { outcome, example })
-        }
-    }
-}
+use std::alloc::Global;
 
 /// The report of the choices with numbers from `from` up to and without `to`: `from` is at most `to`, and `to` at most
 /// `plan.total()`. Answers `SearchFault::OutOfMemory` where a growth was refused, and no other fault.
@@ -97,27 +23,32 @@ pub fn search_range(
 ) -> Result<Found, SearchFault>
     requires order { from ≤ to }
     requires known { to ≤ length (choices_of plan.now) }
-    ensures { IfOk result (IsReport plan.now from to) }
+    ensures { IfOk result (IsReport plan.now (in_range from to)) }
 {
-    let mut found = Found::new(alloc);
+    let mut collector = Collector::new(alloc);
+    collector.take(plan, from, to)?;
+    collector.into_found()
+}
+
+/// Of the choices with numbers from `from` up to and without `to`, the first that a valid execution with an outcome in
+/// the class has; `None` where there is none. `from` is at most `to`, and `to` at most `plan.total()`. No choice behind
+/// the one given is looked at.
+pub fn first_in(plan: &Plan<'_>, class: Class, from: u64, to: u64) -> Option<u64>
+    requires order { from ≤ to }
+    requires known { to ≤ length (choices_of plan.now) }
+    ensures { MatchOption result (HasNoneOf plan.now class (in_range from to)) (IsFirstOf plan.now class (in_range from to)) }
+{
     let mut next = from;
     while next < to {
         let combination = plan.combination(next);
         let mut part = Part::open(&*plan, combination);
         let end = part.combination().end().min(to);
-        for choice in next..end {
-            take_in(
-                &PlainFinder,
-                plan,
-                combination,
-                &mut part,
-                choice,
-                &mut found,
-            )?;
+        if let Some(shown) = next_wanted(plan, combination, &mut part, next, end, &class) {
+            return Some(shown.example.choice);
         }
         next = end;
     }
-    Ok(found)
+    None
 }
 
 #[cfg(test)]

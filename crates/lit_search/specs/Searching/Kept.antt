@@ -1,15 +1,8 @@
--- Entries in rising order with one more taken in: it gets its place, unless its outcome is there already.
-use Rattle.std.specs.Prelude.{◌≡◌, ℕ, List, [], ◌∷◌, Some, slice_get}
-use Rattle.std.specs.Ordering.{match_ordering}
-use Rattle.lit_search.specs.Report.{Entry, Report, outcome_cmp}
+-- The report that a value of the program's type `Kept` stands for.
+use Rattle.std.specs.Prelude.{map}
+use Rattle.std.specs.Box.{boxed_slice_items}
+use Rattle.lit_search.specs.declared.kept.Kept.TheInside.{Inside}
+use Rattle.lit_search.specs.Report.{Report}
 
-abbrev pub with_entry : Entry → List Entry → List Entry
-with_entry e [] = e ∷ []
-with_entry e (x ∷ xs) = match_ordering (outcome_cmp x e) (x ∷ with_entry e xs) (x ∷ xs) (e ∷ x ∷ xs)
-
--- an entry of the report has this outcome
-pub record HasOutcome (report : Report) (outcome : List ℕ) : Type 0 where
-  pub place : ℕ
-  pub entry : Entry
-  pub is : slice_get report.entries place ≡ Some entry
-  pub same : entry.outcome ≡ outcome
+abbrev pub report_of : Inside → Report
+report_of kept = record { entries = map (λ p. record { outcome = boxed_slice_items p.0; choice = p.1.choice; order = p.1.order.items }) kept.examples.entries }

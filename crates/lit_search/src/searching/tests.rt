@@ -1,4 +1,5 @@
 use super::*;
+use crate::merging::merge;
 use lit_paths::plan;
 use lit_read::read;
 use std::test::Fail;
@@ -84,5 +85,121 @@ check A.r0 == 0 && B.r0 == 0
         found.example(0).order.as_slice(),
         [0, 1, 2, 3, 4, 5].as_slice()
     );
+    Ok(())
+}
+
+const LOAD_BUFFERING_WITH_ATOMICS: &[u8] = b"test lb
+bytes 2
+agent A
+r0 = Atomics.load(U8, 0)
+if r0 == 1 {
+Atomics.store(U8, 1, 1)
+}
+agent B
+r0 = Atomics.load(U8, 1)
+if r0 == 1 {
+Atomics.store(U8, 0, 1)
+}
+check A.r0 == 1 && B.r0 == 1
+";
+
+const TWINS: &[u8] = b"test twin
+bytes 1
+agent A
+U8[0] = 1
+agent B
+U8[0] = 1
+agent C
+r0 = U8[0]
+check C.r0 == 1
+";
+
+#[test]
+fn load_buffering_first_choices(rt: HostRuntime) -> Result<(), Fail> {
+    let test = read(rt.alloc(), LOAD_BUFFERING)?;
+    let plan = plan(rt.alloc(), &test)?;
+    assert_eq!(rt; plan.total(), 9);
+    assert_eq!(rt; first_in(&plan, Class::Met, 0, 9), Some(3));
+    assert_eq!(rt; first_in(&plan, Class::Unmet, 0, 9), Some(8));
+    assert_eq!(rt; first_in(&plan, Class::Met, 0, 3), None);
+    assert_eq!(rt; first_in(&plan, Class::Met, 2, 5), Some(3));
+    assert_eq!(rt; first_in(&plan, Class::Unmet, 2, 5), None);
+    assert_eq!(rt; first_in(&plan, Class::Met, 5, 9), None);
+    assert_eq!(rt; first_in(&plan, Class::Unmet, 5, 9), Some(8));
+    Ok(())
+}
+
+#[test]
+fn first_choices_in_short_ranges(rt: HostRuntime) -> Result<(), Fail> {
+    let test = read(rt.alloc(), LOAD_BUFFERING)?;
+    let plan = plan(rt.alloc(), &test)?;
+    assert_eq!(rt; plan.total(), 9);
+    assert_eq!(rt; first_in(&plan, Class::Met, 3, 3), None);
+    assert_eq!(rt; first_in(&plan, Class::Unmet, 9, 9), None);
+    assert_eq!(rt; first_in(&plan, Class::Met, 3, 4), Some(3));
+    assert_eq!(rt; first_in(&plan, Class::Unmet, 3, 4), None);
+    assert_eq!(rt; first_in(&plan, Class::Unmet, 8, 9), Some(8));
+    Ok(())
+}
+
+#[test]
+fn load_buffering_with_atomics_first_choices(rt: HostRuntime) -> Result<(), Fail> {
+    let test = read(rt.alloc(), LOAD_BUFFERING_WITH_ATOMICS)?;
+    let plan = plan(rt.alloc(), &test)?;
+    assert_eq!(rt; plan.total(), 9);
+    assert_eq!(rt; first_in(&plan, Class::Met, 0, 9), None);
+    assert_eq!(rt; first_in(&plan, Class::Unmet, 0, 9), Some(8));
+    assert_eq!(rt; first_in(&plan, Class::Met, 2, 5), None);
+    assert_eq!(rt; first_in(&plan, Class::Unmet, 5, 8), None);
+    Ok(())
+}
+
+#[test]
+fn reading_and_planning(rt: HostRuntime) -> Result<(), Fail> {
+    let test = read(rt.alloc(), LOAD_BUFFERING)?;
+    let plan = plan(rt.alloc(), &test)?;
+    assert_eq!(rt; plan.total(), 9);
+    Ok(())
+}
+
+#[test]
+fn collector_of_several_ranges(rt: HostRuntime) -> Result<(), Fail> {
+    let test = read(rt.alloc(), LOAD_BUFFERING)?;
+    let plan = plan(rt.alloc(), &test)?;
+    assert_eq!(rt; plan.total(), 9);
+    let mut collector = Collector::new(rt.alloc());
+    collector.take(&plan, 0, 2)?;
+    collector.take(&plan, 2, 2)?;
+    collector.take(&plan, 5, 9)?;
+    assert_eq!(rt; collector.end(), 9);
+    let found = collector.into_found()?;
+    assert_eq!(rt; found.len(), 1);
+    assert_eq!(rt; found.outcome(0), [0, 0].as_slice());
+    assert_eq!(rt; found.example(0).choice, 8);
+    Ok(())
+}
+
+#[test]
+fn twins_merged(rt: HostRuntime) -> Result<(), Fail> {
+    let test = read(rt.alloc(), TWINS)?;
+    let plan = plan(rt.alloc(), &test)?;
+    assert_eq!(rt; plan.total(), 3);
+    let later = search_range(rt.alloc(), &plan, 2, 3)?;
+    let earlier = search_range(rt.alloc(), &plan, 1, 2)?;
+    let found = merge(rt.alloc(), later, earlier)?;
+    assert_eq!(rt; found.len(), 1);
+    assert_eq!(rt; found.outcome(0), [1].as_slice());
+    assert_eq!(rt; found.example(0).choice, 1);
+    let later = search_range(rt.alloc(), &plan, 2, 3)?;
+    let earlier = search_range(rt.alloc(), &plan, 1, 2)?;
+    let found = merge(rt.alloc(), earlier, later)?;
+    assert_eq!(rt; found.len(), 1);
+    assert_eq!(rt; found.example(0).choice, 1);
+    let first = search_range(rt.alloc(), &plan, 0, 1)?;
+    let found = merge(rt.alloc(), found, first)?;
+    assert_eq!(rt; found.len(), 2);
+    assert_eq!(rt; found.outcome(0), [0].as_slice());
+    assert_eq!(rt; found.example(0).choice, 0);
+    assert_eq!(rt; found.example(1).choice, 1);
     Ok(())
 }

@@ -1,0 +1,165 @@
+-- What is kept, and what is found first, while choices are looked at in order.
+use Rattle.std.proofs.Common.{◌≡◌, ◌⊎◌, inl, inr, Ok, Err, ℕ, zero, suc, ◌+◌, ◌<◌, ◌≤◌, Bool, true, false, List, [], ◌∷◌, Some, refl, sym, subst, arith}
+use Rattle.std.specs.Prelude.{IfOk, IsTrue, slice_get}
+use Rattle.std.specs.declared.result.Result.{Result}
+use Rattle.std.specs.declared.cmp.Ordering.{Ordering}
+use Rattle.std.specs.declared.cmp.Ordering.TheVariants.{Less, Equal, Greater}
+use Rattle.std.proofs.lemmas.Bool.{cases_lt}
+use Rattle.std.proofs.lemmas.Map.Lookups.{exact_bytes}
+use Rattle.lit_read.specs.Syntax.{Litmus}
+use Rattle.lit_search.specs.declared.class.Class.{Class}
+use Rattle.lit_search.specs.Class.{GivesClass, HasNoneOf, IsFirstOf, is_of_class}
+use Rattle.lit_search.specs.Collected.{Collected, HasTaken}
+use Rattle.lit_search.specs.Report.{Entry, Report, Gives, IsReport, in_either, in_range}
+use Rattle.lit_search.specs.Searching.Examined.{IsExample}
+use Rattle.lit_search.specs.Searching.Merged.{merged}
+use Rattle.lit_search.specs.Searching.Outcomes.{HasOutcome}
+use Rattle.lit_search.specs.Searching.Shown.{IsNext, IsShown, NoneShow, ShowsNone}
+use Rattle.lit_search.specs.Searching.Taking.{KeepsRange}
+use Rattle.lit_search.proofs.Entries.{cmp, differs}
+use Rattle.lit_search.proofs.MergedEntries.{IsMerge-merged}
+use Rattle.lit_search.proofs.Reports.{IsReport-merged, IsReport-one, IsReport-passed, IsReport-same, before_end, either_cases, in_other, in_some, not_below, same_test, within}
+
+-- ---- an outcome is kept, or it is not
+kept_or_not : (outcome : List ℕ) (xs : List Entry) → HasOutcome (record { entries = xs }) outcome ⊎ ¬ HasOutcome (record { entries = xs }) outcome
+kept_or_not outcome [] = inr (λ o. absurd (let e = o.is in cc))
+kept_or_not outcome (x ∷ xs) = by (cmp x.outcome outcome) refl (kept_or_not outcome xs)
+  where
+    later : HasOutcome (record { entries = xs }) outcome → HasOutcome (record { entries = x ∷ xs }) outcome
+    later o = record { place = suc o.place; entry = o.entry; is = o.is; same = o.same }
+
+    none : ¬ (x.outcome ≡ outcome) → ¬ HasOutcome (record { entries = xs }) outcome → ¬ HasOutcome (record { entries = x ∷ xs }) outcome
+    none ne not o = at o.place o.entry o.is o.same
+      where
+        at : (i : ℕ) (entry : Entry) → slice_get (x ∷ xs) i ≡ Some entry → entry.outcome ≡ outcome → ⊥
+        at zero entry is same = ne (let e : Some x ≡ Some entry = is in let here : x ≡ entry = cc in let P : Entry → Type 0 = λ w. w.outcome ≡ outcome in subst P (sym here) same)
+        at (suc i) entry is same = not (record { place = i; entry = entry; is = is; same = same })
+
+    split : ¬ (x.outcome ≡ outcome) → HasOutcome (record { entries = xs }) outcome ⊎ ¬ HasOutcome (record { entries = xs }) outcome
+        → HasOutcome (record { entries = x ∷ xs }) outcome ⊎ ¬ HasOutcome (record { entries = x ∷ xs }) outcome
+    split ne (inl o) = inl (later o)
+    split ne (inr not) = inr (none ne not)
+
+    by : (o : Ordering) → cmp x.outcome outcome ≡ o → HasOutcome (record { entries = xs }) outcome ⊎ ¬ HasOutcome (record { entries = xs }) outcome
+        → HasOutcome (record { entries = x ∷ xs }) outcome ⊎ ¬ HasOutcome (record { entries = x ∷ xs }) outcome
+    by Less e rest = split (differs x.outcome outcome (λ f. absurd cc)) rest
+    by Equal e rest = inl (record { place = 0; entry = x; is = refl; same = exact_bytes x.outcome outcome e })
+    by Greater e rest = split (differs x.outcome outcome (λ f. absurd cc)) rest
+
+kept_from : (r : Report) (outcome : List ℕ) → ¬ ¬ HasOutcome r outcome → HasOutcome r outcome
+kept_from r outcome not = by (kept_or_not outcome r.entries)
+  where
+    by : HasOutcome r outcome ⊎ ¬ HasOutcome r outcome → HasOutcome r outcome
+    by (inl o) = o
+    by (inr bad) = absurd (not bad)
+
+-- ---- what choices show
+module _ (t : Litmus) (Wanted : List ℕ → Type 0) where
+  pub none_at_first : (n : ℕ) → NoneShow t Wanted (in_range n n)
+  none_at_first n m inside = absurd (omega (arith, not_below n n m inside, before_end n n m inside))
+
+  pub none_more : (from n : ℕ) → NoneShow t Wanted (in_range from n) → ShowsNone t Wanted n → NoneShow t Wanted (in_range from (n + 1))
+  none_more from n before here m inside = by (cases_lt m n)
+    where
+      by : (m < n) ⊎ (n ≤ m) → ShowsNone t Wanted m
+      by (inl lt) = before m (within from n m (not_below from (n + 1) m inside) lt)
+      by (inr le) = let same : n ≡ m = omega (arith, before_end from (n + 1) m inside) in subst (ShowsNone t Wanted) same here
+
+  pub none_fewer : (from to n : ℕ) → to ≤ n → NoneShow t Wanted (in_range from n) → NoneShow t Wanted (in_range from to)
+  none_fewer from to n le none m inside = none m (within from n m (not_below from to m inside) (omega (arith, before_end from to m inside)))
+
+  pub next_shown : (from to n : ℕ) (e : Entry) → from ≤ n → n < to → NoneShow t Wanted (in_range from n) → IsShown t Wanted n e → IsNext t Wanted from to e
+  next_shown from to n e low high none is =
+      let P : ℕ → Type 0 = λ k. IsShown t Wanted k e in
+      let Q : ℕ → Type 0 = λ k. NoneShow t Wanted (in_range from k) in
+      record { after = omega (arith, is.choice); before = omega (arith, is.choice); shown = subst P (sym is.choice) is; none_before = subst Q (sym is.choice) none }
+
+-- ---- keeping
+module _ (t : Litmus) where
+  pub keeps_none : (n : ℕ) (r : Report) → KeepsRange t n n r r
+  keeps_none n r taken below h = IsReport-same t taken (in_either taken (in_range n n)) r (λ m known. same_test (taken m) (in_either taken (in_range n n) m) (in_some (taken m) (in_range n n m)) (λ p. by m (either_cases (taken m) (in_range n n m) p))) h
+    where
+      by : (m : ℕ) → IsTrue (taken m) ⊎ IsTrue (in_range n n m) → IsTrue (taken m)
+      by m (inl p) = p
+      by m (inr q) = absurd (omega (arith, not_below n n m q, before_end n n m q))
+
+  pub keeps_joined : (from mid to : ℕ) (old kept new : Report) → from ≤ mid → mid ≤ to → KeepsRange t from mid old kept → KeepsRange t mid to kept new → KeepsRange t from to old new
+  keeps_joined from mid to old kept new low high first second taken below h =
+      IsReport-same t (in_either (in_either taken (in_range from mid)) (in_range mid to)) (in_either taken (in_range from to)) new
+      (λ m known. same_test (in_either (in_either taken (in_range from mid)) (in_range mid to) m) (in_either taken (in_range from to) m)
+      (λ p. over m (either_cases (in_either taken (in_range from mid) m) (in_range mid to m) p))
+      (λ p. back m (either_cases (taken m) (in_range from to m) p)))
+      (second (in_either taken (in_range from mid)) (λ n p. before n (either_cases (taken n) (in_range from mid n) p)) (first taken below h))
+    where
+      before : (n : ℕ) → IsTrue (taken n) ⊎ IsTrue (in_range from mid n) → n < mid
+      before n (inl p) = omega (arith, below n p, low)
+      before n (inr q) = before_end from mid n q
+
+      over_first : (m : ℕ) → IsTrue (taken m) ⊎ IsTrue (in_range from mid m) → IsTrue (in_either taken (in_range from to) m)
+      over_first m (inl p) = in_some (taken m) (in_range from to m) p
+      over_first m (inr q) = in_other (taken m) (in_range from to m) (within from to m (not_below from mid m q) (omega (arith, before_end from mid m q, high)))
+
+      over : (m : ℕ) → IsTrue (in_either taken (in_range from mid) m) ⊎ IsTrue (in_range mid to m) → IsTrue (in_either taken (in_range from to) m)
+      over m (inl p) = over_first m (either_cases (taken m) (in_range from mid m) p)
+      over m (inr q) = in_other (taken m) (in_range from to m) (within from to m (omega (arith, not_below mid to m q, low)) (before_end mid to m q))
+
+      first_part : (m : ℕ) → IsTrue (in_either taken (in_range from mid) m) → IsTrue (in_either (in_either taken (in_range from mid)) (in_range mid to) m)
+      first_part m p = in_some (in_either taken (in_range from mid) m) (in_range mid to m) p
+
+      cut : (m : ℕ) → IsTrue (in_range from to m) → (m < mid) ⊎ (mid ≤ m) → IsTrue (in_either (in_either taken (in_range from mid)) (in_range mid to) m)
+      cut m q (inl lt) = first_part m (in_other (taken m) (in_range from mid m) (within from mid m (not_below from to m q) lt))
+      cut m q (inr le) = in_other (in_either taken (in_range from mid) m) (in_range mid to m) (within mid to m le (before_end from to m q))
+
+      back : (m : ℕ) → IsTrue (taken m) ⊎ IsTrue (in_range from to m) → IsTrue (in_either (in_either taken (in_range from mid)) (in_range mid to) m)
+      back m (inl p) = first_part m (in_some (taken m) (in_range from mid m) p)
+      back m (inr q) = cut m q (cases_lt m mid)
+
+  -- choices that show nothing new
+  pub keeps_passed : (from to : ℕ) (r : Report) → NoneShow t (λ outcome. ¬ HasOutcome r outcome) (in_range from to) → KeepsRange t from to r r
+  keeps_passed from to r none taken below h =
+      IsReport-passed t taken (in_range from to) r h (λ m n p q. omega (arith, below m p, not_below from to n q)) (λ n outcome inside g. kept_from r outcome (λ not. none n inside outcome g not))
+
+  -- a choice with its example
+  pub keeps_one : (n : ℕ) (r new : Report) (e : Entry) → e.choice ≡ n → IsExample t n e.outcome e.order → new.entries ≡ merged r.entries (e ∷ []) → KeepsRange t n (n + 1) r new
+  keeps_one n r new e chosen example is taken below h =
+      let one = IsReport-one t n e chosen example in
+      IsReport-merged t taken (in_range n (n + 1)) r (record { entries = e ∷ [] }) new h one (IsMerge-merged r (record { entries = e ∷ [] }) new h.rising one.rising is)
+
+  -- the next one that is new, and those before it
+  pub keeps_next : (from to : ℕ) (r new : Report) (e : Entry) → IsNext t (λ outcome. ¬ HasOutcome r outcome) from to e → new.entries ≡ merged r.entries (e ∷ []) → KeepsRange t from (e.choice + 1) r new
+  keeps_next from to r new e next is =
+      keeps_joined from e.choice (e.choice + 1) r r new next.after (omega arith) (keeps_passed from e.choice r next.none_before) (keeps_one e.choice r new e refl next.shown.example is)
+
+  pub taken_more : (from to : ℕ) (taken : ℕ → Bool) (old new : Collected) → old.end ≤ from → from ≤ to → new.end ≡ to → KeepsRange t from to old.report new.report → HasTaken t taken old → HasTaken t (in_either taken (in_range from to)) new
+  taken_more from to taken old new follows order end keeps h = record {
+    below = λ n p. by n (either_cases (taken n) (in_range from to n) p);
+    reported = keeps taken (λ n p. omega (arith, h.below n p, follows)) h.reported;
+  }
+    where
+      by : (n : ℕ) → IsTrue (taken n) ⊎ IsTrue (in_range from to n) → n < new.end
+      by n (inl p) = omega (arith, h.below n p, follows, order, end)
+      by n (inr q) = omega (arith, before_end from to n q, end)
+
+-- ---- the first of a class
+module _ (t : Litmus) (class : Class) (from next end : ℕ) (none : HasNoneOf t class (in_range from next)) where
+  abbrev Wanted : List ℕ → Type 0
+  Wanted outcome = IsTrue (is_of_class t class outcome)
+
+  earlier : (n m : ℕ) → NoneShow t Wanted (in_range next n) → from ≤ m → m < n → (m < next) ⊎ (next ≤ m) → ¬ GivesClass t class m
+  earlier n m behind low high (inl lt) g = none m (within from next m low lt) g
+  earlier n m behind low high (inr le) g = behind m (within next n m le high) g.outcome g.gives g.of_class
+
+  pub none_behind : NoneShow t Wanted (in_range next end) → HasNoneOf t class (in_range from end)
+  none_behind behind m inside g = earlier end m behind (not_below from end m inside) (before_end from end m inside) (cases_lt m next) g
+
+  pub first_found : (to : ℕ) (e : Entry) → from ≤ next → end ≤ to → IsNext t Wanted next end e → IsFirstOf t class (in_range from to) e.choice
+  first_found to e low high is = record {
+    among = within from to e.choice (omega (arith, is.after)) (omega (arith, is.before));
+    gives = record { outcome = e.outcome; gives = is.shown.example.gives; of_class = is.shown.wanted };
+    least = λ m inside lt g. earlier e.choice m is.none_before (not_below from to m inside) lt (cases_lt m next) g;
+  }
+
+-- what follows from what holds where there is no fault
+pub if_ok : {X E : Type 0} (r : Result X E) (P Q : X → Type 0) → ((x : X) → P x → Q x) → IfOk r P → IfOk r Q
+if_ok (Ok x) P Q f p = f x p
+if_ok (Err e) P Q f p = p

@@ -1,0 +1,24 @@
+use Rattle.std.proofs.Common.{◌≡◌, List, [], ◌∷◌, ◌++◌, map, sym, ap, subst, ◌∙◌}
+use Rattle.std.proofs.lemmas.List.{append-nil}
+use Rattle.lit_search.specs.Entry.{entry_of}
+use Rattle.lit_search.specs.Report.{Entry}
+use Rattle.lit_search.specs.Searching.Merged.{merged}
+use Rattle.lit_search.proofs.Entries.{AreRising}
+use Rattle.lit_search.proofs.MergedEntries.{AreRising-merged, IsMerge-merged, all_taken}
+use Rattle.lit_search.proofs.Reports.{IsReport-merged}
+use Rattle.lit_search.proofs.merging.merge.Goals as goal
+
+pub from_rising-requires : goal.from_rising-requires
+from_rising-requires c =
+    let whole = all_taken (map entry_of c.loop-entry.entries.items) _ _ _ c.loop-entry.invariant c.in_default.ensures.taken c.in_default.ensures.end in
+    subst AreRising (sym whole) (AreRising-merged c.args.a.entries c.args.b.entries c.into_entries.ensures.rising c.into_entries-2.ensures.rising)
+
+pub returns-clause-merged : goal.returns-clause-merged
+returns-clause-merged c =
+    let whole = all_taken (map entry_of c.loop-entry.entries.items) _ _ _ c.loop-entry.invariant c.in_default.ensures.taken c.in_default.ensures.end in
+    IsMerge-merged c.args.a c.args.b c.from_rising.result c.into_entries.ensures.rising c.into_entries-2.ensures.rising (c.from_rising.ensures ∙ whole)
+
+pub returns-clause-reported : goal.returns-clause-reported
+returns-clause-reported c t some others h k =
+    let whole = all_taken (map entry_of c.loop-entry.entries.items) _ _ _ c.loop-entry.invariant c.in_default.ensures.taken c.in_default.ensures.end in
+    IsReport-merged t some others c.args.a c.args.b c.from_rising.result h k (IsMerge-merged c.args.a c.args.b c.from_rising.result h.rising k.rising (c.from_rising.ensures ∙ whole))

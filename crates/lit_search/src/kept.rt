@@ -1,0 +1,89 @@
+//! The outcomes kept while choices are taken.
+
+ghost use Rattle.std.specs.Prelude.{◌≡◌, ◌↔◌, ◌∷◌, [], IsTrue, OnOk, OnErr, IfOk, map};
+ghost use Rattle.std.specs.List.Sorted.{IsStrictlySortedBy};
+ghost use Rattle.lit_search.specs.Entry.{entry_of};
+ghost use Rattle.lit_search.specs.Report.{outcome_cmp};
+
+use crate::examining::{Shown, Wanted};
+use crate::found::{Entry, Example};
+use lit_paths::Plan;
+use std::alloc::{AllocError, Global};
+use std::boxed::BoxedSlice;
+use std::collections::BTreeMap;
+use std::marker::Model;
+
+/// Outcomes, each with its example. A clause sees it as a `Report`.
+#[derive(Drop)]
+pub(crate) struct Kept {
+    alloc: Global,
+    examples: BTreeMap<BoxedSlice<u32>, Example>,
+}
+
+impl Model for Kept {
+    ghost use Rattle.lit_search.specs.Report.{Report};
+
+    ghost Value = { Report };
+
+    ghost use Rattle.lit_search.specs.Searching.Kept.{report_of};
+
+    ghost view = { report_of };
+}
+
+impl Kept {
+    ghost use Rattle.lit_search.specs.Searching.Outcomes.{HasOutcome};
+    ghost use Rattle.lit_search.specs.Searching.Merged.{merged};
+    ghost use Rattle.lit_search.specs.Searching.Shown.{shown_entry};
+
+    /// Nothing kept yet.
+    pub(crate) fn new(alloc: Global) -> Self
+        ensures { result.entries ≡ [] }
+    {
+        Kept {
+            alloc,
+            examples: BTreeMap::new(alloc),
+        }
+    }
+
+    /// Whether an outcome is kept.
+    pub(crate) fn has(&self, outcome: &[u32]) -> bool
+        ensures { IsTrue result ↔ HasOutcome self.now outcome.now }
+    {
+        self.examples.contains_key(outcome)
+    }
+
+    /// Keeps one more outcome, with its example.
+    pub(crate) fn keep(&mut self, shown: Shown) -> Result<(), AllocError>
+        requires { ¬ HasOutcome self.old shown.outcome.items }
+        ensures ok { OnOk result (self.new.entries ≡ merged self.old.entries (shown_entry shown ∷ [])) }
+        ensures err { OnErr result (self.new ≡ self.old) }
+    {
+        let outcome = BoxedSlice::from_slice(self.alloc, shown.outcome.as_slice())?;
+        self.examples.insert(outcome, shown.example)?;
+        Ok(())
+    }
+
+    /// What is kept, rising by outcome.
+    pub(crate) fn into_entries(self) -> Result<Vec<Entry>, AllocError>
+        ensures entries { IfOk result (λ entries. map entry_of entries.items ≡ self.entries) }
+        ensures rising { IsStrictlySortedBy outcome_cmp self.entries }
+    {
+        let Kept { alloc, examples } = self;
+        let mut entries = Vec::with_capacity(alloc, examples.len())?;
+        for (outcome, example) in examples {
+            entries.push(Entry { outcome, example })?;
+        }
+        Ok(entries)
+    }
+}
+
+/// A search for outcomes that are not kept yet.
+impl Wanted for Kept {
+    ghost use Rattle.lit_search.specs.Searching.Outcomes.{HasOutcome};
+
+    ghost IsWanted = { λ kept t outcome. ¬ HasOutcome kept outcome };
+
+    fn wants(&self, _plan: &Plan<'_>, outcome: &[u32]) -> bool {
+        !self.has(outcome)
+    }
+}
