@@ -4,7 +4,6 @@ pub mod ForbiddenLemmas
 pub mod GrowthLemmas
 pub mod PartLemmas
 pub mod PlaceLemmas
-pub mod RangeLemmas
 pub mod ReadingLemmas
 pub mod RelatingLemmas
 pub mod RowLemmas

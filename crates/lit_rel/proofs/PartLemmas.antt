@@ -7,10 +7,9 @@ use Rattle.std.specs.Prelude.{All}
 use Rattle.std.specs.List.{slice_get}
 use Rattle.lit_paths.specs.declared.event.Event.{Event}
 use Rattle.lit_paths.specs.declared.sources.ByteRead.{ByteRead}
-use Rattle.lit_paths.specs.ByteReads.{byte_reads}
+use Rattle.lit_paths.specs.ByteReads.{byte_reads, pair_of}
 use Rattle.lit_paths.specs.Event.{event_at, no_event}
 use Rattle.lit_paths.specs.Plan.{AreEventsIn}
-use Rattle.lit_paths.specs.Planning.Ways.{pair_of}
 use Rattle.lit_rel.specs.declared.bit_rows.Rows.{Rows}
 use Rattle.lit_rel.specs.declared.given.SourcedByte.{SourcedByte}
 use Rattle.lit_rel.specs.Parts.Given.{IsKept, IsKnown, sources_of}

@@ -13,7 +13,6 @@ mod forbidding;
 mod given;
 mod growth;
 mod part;
-mod ranges;
 mod reading_checks;
 mod relating;
 #[cfg(test)]

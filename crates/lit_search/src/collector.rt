@@ -47,7 +47,7 @@ fn keep_range(kept: &mut Kept, plan: &Plan<'_>, from: u64, to: u64) -> Result<()
     let mut next = from;
     while next < to {
         let combination = plan.combination(next);
-        let mut part = Part::open(plan, combination);
+        let mut part = Part::open(&*plan, combination);
         let end = part.combination().end().min(to);
         keep_on(kept, plan, combination, &mut part, next, end)?;
         next = end;

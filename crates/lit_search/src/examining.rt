@@ -104,10 +104,10 @@ fn examine<W: Wanted>(
     give_choice(part, choice);
     let values = values_of(part);
     let values = values.as_slice();
-    if !all_agree(plan, combination, values) {
+    if !all_agree(part, values) {
         return None;
     }
-    let outcome = outcome_of(plan, combination, values);
+    let outcome = outcome_of(plan, part, values);
     if !wanted.wants(plan, outcome.as_slice()) {
         return None;
     }

@@ -41,7 +41,7 @@ pub fn first_in(plan: &Plan<'_>, class: Class, from: u64, to: u64) -> Option<u64
     let mut next = from;
     while next < to {
         let combination = plan.combination(next);
-        let mut part = Part::open(plan, combination);
+        let mut part = Part::open(&*plan, combination);
         let end = part.combination().end().min(to);
         if let Some(shown) = next_wanted(plan, combination, &mut part, next, end, &class) {
             return Some(shown.example.choice);

@@ -29,7 +29,3 @@ pub record IsExample (t : Litmus) (n : ℕ) (outcome order : List ℕ) : Type 0 
   pub gives : Gives t n outcome
   pub only : (other : List ℕ) → Gives t n other → other ≡ outcome
   pub least : HasLeastOrder t n order
-
--- no valid execution has the choice with this number
-abbrev pub IsInvalid : Litmus → ℕ → Type 0
-IsInvalid t n = (outcome : List ℕ) → ¬ Gives t n outcome
