@@ -39,9 +39,16 @@ module _ (text : List ℕ) (fault : ReadFault) (result : RunFault) (refused : ((
   pub read_of_text : IsOfText result
   read_of_text = as_run IsOfText tt (λ first. tt)
 
+-- a plan's fault is want of memory or a refusal
+memory_or : (t : Litmus) (fault : PlanFault) → plan.IsPlanFault t fault → (fault ≡ plan_faults.OutOfMemory) ⊎ plan.IsRefusal t fault
+memory_or t plan_faults.TooManyEvents refused = inr refused
+memory_or t plan_faults.TooManyPaths refused = inr refused
+memory_or t plan_faults.TooManyChoices refused = inr refused
+memory_or t plan_faults.OutOfMemory refused = inl refl
+
 module _ (text : List ℕ) (t : Litmus) (fault : PlanFault) (result : RunFault) (spelled : Spells text t) (refused : plan.IsPlanFault t fault) (memory : fault ≡ plan_faults.OutOfMemory → result ≡ faults.OutOfMemory) (given : fault ≢ plan_faults.OutOfMemory → result ≡ faults.Plan fault) where
   as_plan : (P : RunFault → Type 0) → P faults.OutOfMemory → (plan.IsRefusal t fault → P (faults.Plan fault)) → P result
-  as_plan P at_memory at_fault = elim refused [
+  as_plan P at_memory at_fault = elim (memory_or t fault refused) [
     | inl none ↦ subst P (sym (memory none)) at_memory
     | inr refusal ↦ subst P (sym (given (λ is. subst (plan.IsRefusal t) is refusal))) (at_fault refusal)
   ]

@@ -1,37 +1,40 @@
 -- The paths of each agent, one more at a time.
 use Rattle.std.proofs.Common.{◌≡◌, ℕ, zero, suc, ◌+◌, ◌<◌, ◌≤◌, List, [], ◌∷◌, ◌++◌, length, map, take, get_or, arith, sym, ap, ◌∙◌, mul-le-mul}
-use Rattle.std.proofs.lemmas.List.{map_more, map-append, take_all}
+use Rattle.std.proofs.lemmas.List.{map_more, take_all}
+use Rattle.std.proofs.lemmas.Option.{slice_get-get_or}
 use Rattle.lit_read.specs.Syntax.{Statements, Agent, Litmus, IsLitmus, agent_of}
-use Rattle.lit_paths.specs.declared.walked.Path as walked
-use Rattle.lit_paths.specs.Path.{Step, walks_of}
-use Rattle.lit_paths.specs.Told.{Told, told_of}
-use Rattle.lit_paths.specs.Planning.Telling.{nothing_told, with_steps, told_paths, told_of_agents, told_in}
+use Rattle.lit_paths.specs.Path.{walks_of}
+use Rattle.lit_paths.specs.PathModel.{PathModel, path_model}
+use Rattle.lit_paths.specs.Planning.PathSteps.{empty_path, with_steps}
+use Rattle.lit_paths.specs.Planning.Combining.{path_models, all_path_models}
 use Rattle.lit_paths.specs.Planning.Walks.{AreSaid, longest, longest_of, count_of, walk_at}
-use Rattle.lit_paths.proofs.Walks.{walks_of-some}
+use Rattle.lit_paths.proofs.PathSteps.{with_steps-model, walk-registers}
+use Rattle.lit_paths.proofs.Walks.{walks_of-known, walks_of-some}
 
 -- the first so many paths
-abbrev pub AreTold : ℕ → Statements → ℕ → List walked.Path → Type 0
-AreTold owner ss n paths = told_in paths ≡ map (λ steps. with_steps owner nothing_told steps) (take n (walks_of ss))
+abbrev pub AreFirst : ℕ → Statements → ℕ → List PathModel → Type 0
+AreFirst owner ss n paths = paths ≡ map (path_model owner) (take n (walks_of ss))
 
-pub told_more : (owner : ℕ) (ss : Statements) (n : ℕ) (paths new : List walked.Path) (path : walked.Path) → n < length (walks_of ss) → AreTold owner ss n paths
-    → new ≡ paths ++ path ∷ [] → told_of path ≡ with_steps owner nothing_told (walk_at ss n) → AreTold owner ss (n + 1) new
-told_more owner ss n paths new path inside are pushed walked =
-    let tell : List Step → Told = λ steps. with_steps owner nothing_told steps in
-    ap told_in pushed ∙ map-append told_of paths (path ∷ []) ∙ ap (λ (ts : List Told). ts ++ told_of path ∷ []) are
-    ∙ ap (λ (t : Told). map tell (take n (walks_of ss)) ++ t ∷ []) walked ∙ sym (map_more tell (walks_of ss) n [] inside)
+pub first_more : (owner : ℕ) (ss : Statements) (n : ℕ) (paths new : List PathModel) (path : PathModel) → AreSaid ss → n < length (walks_of ss) → AreFirst owner ss n paths
+    → new ≡ paths ++ path ∷ [] → path ≡ with_steps owner empty_path (walk_at ss n) → AreFirst owner ss (n + 1) new
+first_more owner ss n paths new path said inside are pushed walked =
+    let registers = walk-registers said.0 ss (walk_at ss n) said.2 (walks_of-known ss n (walk_at ss n) (slice_get-get_or (walks_of ss) n [] inside)) in
+    pushed ∙ ap (λ (ps : List PathModel). ps ++ path ∷ []) are
+    ∙ ap (λ (p : PathModel). map (path_model owner) (take n (walks_of ss)) ++ p ∷ []) (walked ∙ with_steps-model owner (walk_at ss n) registers)
+    ∙ sym (map_more (path_model owner) (walks_of ss) n [] inside)
 
-pub told_all : (owner : ℕ) (ss : Statements) (n : ℕ) (paths : List walked.Path) → length (walks_of ss) ≤ n → AreTold owner ss n paths → told_in paths ≡ told_paths owner ss
-told_all owner ss n paths past are = are ∙ ap (λ ws. map (λ steps. with_steps owner nothing_told steps) ws) (take_all n (walks_of ss) past)
+pub first_all : (owner : ℕ) (ss : Statements) (n : ℕ) (paths : List PathModel) → length (walks_of ss) ≤ n → AreFirst owner ss n paths → paths ≡ path_models owner ss
+first_all owner ss n paths past are = are ∙ ap (λ ws. map (path_model owner) ws) (take_all n (walks_of ss) past)
 
-pub told_of_agents_more : (n : ℕ) (agents : List Agent) (i : ℕ) (d : Agent) → i < length agents
-    → told_of_agents n (take (i + 1) agents) ≡ told_of_agents n (take i agents) ++ told_paths (n + i) (get_or agents i d).body ∷ []
-told_of_agents_more n [] i d inside = absurd (omega (arith, inside))
-told_of_agents_more n (a ∷ agents) zero d inside = ap (λ m. told_paths m a.body ∷ []) (let e : n ≡ n + 0 = omega arith in e)
-told_of_agents_more n (a ∷ agents) (suc i) d inside =
+all_path_models_more : (n : ℕ) (agents : List Agent) (i : ℕ) (d : Agent) → i < length agents
+    → all_path_models n (take (i + 1) agents) ≡ all_path_models n (take i agents) ++ path_models (n + i) (get_or agents i d).body ∷ []
+all_path_models_more n [] i d inside = absurd (omega (arith, inside))
+all_path_models_more n (a ∷ agents) zero d inside = ap (λ m. path_models m a.body ∷ []) (let e : n ≡ n + 0 = omega arith in e)
+all_path_models_more n (a ∷ agents) (suc i) d inside =
     let at : suc i + 1 ≡ suc (i + 1) = omega arith in
-    ap (λ m. told_of_agents n (take m (a ∷ agents))) at
-    ∙ ap (λ (ls : List (List Told)). told_paths n a.body ∷ ls) (told_of_agents_more (n + 1) agents i d (omega (arith, inside)))
-    ∙ ap (λ m. told_paths n a.body ∷ told_of_agents (n + 1) (take i agents) ++ told_paths m (get_or agents i d).body ∷ []) (let e : (n + 1) + i ≡ n + suc i = omega arith in e)
+    ap (λ m. all_path_models n (take m (a ∷ agents))) at
+    ∙ ap (λ (ls : List (List PathModel)). path_models n a.body ∷ ls) (all_path_models_more (n + 1) agents i d (omega (arith, inside)))
+    ∙ ap (λ m. path_models n a.body ∷ all_path_models (n + 1) (take i agents) ++ path_models m (get_or agents i d).body ∷ []) (let e : (n + 1) + i ≡ n + suc i = omega arith in e)
 
 -- ---- limits of one agent
 pub longest-agent : (agents : List Agent) (i : ℕ) (d : Agent) → i < length agents → longest (get_or agents i d).body ≤ longest_of agents
@@ -59,8 +62,8 @@ longest-agent_of t i inside = longest-agent t.agents i _ inside
 pub count-agent_of : (t : Litmus) (i : ℕ) → i < length t.agents → length (walks_of (agent_of t i).body) ≤ count_of t.agents
 count-agent_of t i inside = count-agent t.agents i _ inside
 
-pub told_of_agents_next : (t : Litmus) (i : ℕ) → i < length t.agents
-    → told_of_agents 0 (take (i + 1) t.agents) ≡ told_of_agents 0 (take i t.agents) ++ told_paths i (agent_of t i).body ∷ []
-told_of_agents_next t i inside =
-    told_of_agents_more 0 t.agents i _ inside
-    ∙ ap (λ m. told_of_agents 0 (take i t.agents) ++ told_paths m (agent_of t i).body ∷ []) (let e : 0 + i ≡ i = omega arith in e)
+pub all_path_models_next : (t : Litmus) (i : ℕ) → i < length t.agents
+    → all_path_models 0 (take (i + 1) t.agents) ≡ all_path_models 0 (take i t.agents) ++ path_models i (agent_of t i).body ∷ []
+all_path_models_next t i inside =
+    all_path_models_more 0 t.agents i _ inside
+    ∙ ap (λ m. all_path_models 0 (take i t.agents) ++ path_models m (agent_of t i).body ∷ []) (let e : 0 + i ≡ i = omega arith in e)

@@ -1,55 +1,61 @@
 -- The paths of a combination, agent by agent.
-use Rattle.std.proofs.Common.{◌≡◌, ℕ, zero, suc, ◌+◌, ◌*◌, ◌/◌, ◌%◌, ◌^◌, ◌<◌, ◌≤◌, List, [], ◌∷◌, length, drop, get_or, arith, refl, sym, ap, ◌∙◌, mul_assoc, mul-le-mul}
+use Rattle.std.proofs.Common.{◌≡◌, ℕ, zero, suc, ◌+◌, ◌*◌, ◌/◌, ◌%◌, ◌^◌, ◌<◌, ◌≤◌, List, [], ◌∷◌, length, map, drop, get_or, subst, arith, refl, sym, ap, ◌∙◌, mul_assoc, mul-le-mul}
 use Rattle.std.specs.Global.{Vec}
 use Rattle.std.proofs.lemmas.List.{drop_more, drop_all, get_or-map, get_or_default, length-map}
 use Rattle.lit_read.specs.Syntax.{Litmus, Agent, agent_of}
-use Rattle.lit_paths.specs.declared.walked.Path as walked
-use Rattle.lit_paths.specs.Path.{Step, walks_of}
-use Rattle.lit_paths.specs.Told.{Told, told_of}
-use Rattle.lit_paths.specs.Planning.Telling.{nothing_told, with_steps, told_paths, told_of_agents, told_in}
+use Rattle.lit_paths.specs.declared.agent_paths.AgentPaths.TheInside.{Inside}
+use Rattle.lit_paths.specs.Planning.AllPaths.{AreAllPaths}
+use Rattle.lit_paths.specs.Path.{walks_of}
+use Rattle.lit_paths.specs.PathModel.{PathModel, path_model}
 use Rattle.lit_paths.specs.Planning.Walks.{count_of, walk_at}
-use Rattle.lit_paths.specs.Planning.Combining.{IsWalked, walk_number, told_in_combination}
+use Rattle.lit_paths.specs.Planning.Combining.{path_models, all_path_models, walk_number}
+use Rattle.lit_paths.proofs.Products.{next_places}
 use Rattle.lit_paths.proofs.Walks.{walks_of-some}
 use Rattle.lit_paths.proofs.AgentPaths.{count_of-some}
 
-length-told_of_agents : (n : ℕ) (agents : List Agent) → length (told_of_agents n agents) ≡ length agents
-length-told_of_agents n [] = refl
-length-told_of_agents n (a ∷ agents) = omega (arith, length-told_of_agents (n + 1) agents)
+length-all_path_models : (n : ℕ) (agents : List Agent) → length (all_path_models n agents) ≡ length agents
+length-all_path_models n [] = refl
+length-all_path_models n (a ∷ agents) = omega (arith, length-all_path_models (n + 1) agents)
 
-told_of_agents-at : (n : ℕ) (agents : List Agent) (i : ℕ) (d : Agent) (e : List Told) → i < length agents
-    → get_or (told_of_agents n agents) i e ≡ told_paths (n + i) (get_or agents i d).body
-told_of_agents-at n [] i d e inside = absurd (omega (arith, inside))
-told_of_agents-at n (a ∷ agents) zero d e inside = ap (λ m. told_paths m a.body) (let s : n ≡ n + 0 = omega arith in s)
-told_of_agents-at n (a ∷ agents) (suc i) d e inside =
-    told_of_agents-at (n + 1) agents i d e (omega (arith, inside)) ∙ ap (λ m. told_paths m (get_or agents i d).body) (let s : (n + 1) + i ≡ n + suc i = omega arith in s)
+all_path_models-at : (n : ℕ) (agents : List Agent) (i : ℕ) (d : Agent) (e : List PathModel) → i < length agents
+    → get_or (all_path_models n agents) i e ≡ path_models (n + i) (get_or agents i d).body
+all_path_models-at n [] i d e inside = absurd (omega (arith, inside))
+all_path_models-at n (a ∷ agents) zero d e inside = ap (λ m. path_models m a.body) (let s : n ≡ n + 0 = omega arith in s)
+all_path_models-at n (a ∷ agents) (suc i) d e inside =
+    all_path_models-at (n + 1) agents i d e (omega (arith, inside)) ∙ ap (λ m. path_models m (get_or agents i d).body) (let s : (n + 1) + i ≡ n + suc i = omega arith in s)
 
 -- the list of an agent's paths
-pub record IsListOf (t : Litmus) (i : ℕ) (paths : List walked.Path) : Type 0 where
-  pub told : told_in paths ≡ told_paths i (agent_of t i).body
+pub record IsListOf (t : Litmus) (i : ℕ) (paths : List PathModel) : Type 0 where
+  pub models : paths ≡ path_models i (agent_of t i).body
   pub count : length paths ≡ length (walks_of (agent_of t i).body)
 
-pub length-lists : (t : Litmus) (lists : List (Vec walked.Path)) → IsWalked t lists → length lists ≡ length t.agents
-length-lists t lists is =
-    sym (length-map lists (λ paths. told_in paths.items)) ∙ ap (λ ls. length ls) is.told ∙ length-told_of_agents 0 t.agents
+-- the lists of all agents
+abbrev pub AreLists : Litmus → List (Vec PathModel) → Type 0
+AreLists t lists = map (λ paths. paths.items) lists ≡ all_path_models 0 t.agents
 
-pub few-lists : (t : Litmus) (lists : List (Vec walked.Path)) (i : ℕ) → IsWalked t lists → i < length t.agents → i < 2 ^ 16
-few-lists t lists i is inside = omega (arith, is.litmus.few_agents, inside)
+pub length-lists : (t : Litmus) (lists : List (Vec PathModel)) → AreLists t lists → length lists ≡ length t.agents
+length-lists t lists are = sym (length-map lists (λ paths. paths.items)) ∙ ap (λ ls. length ls) are ∙ length-all_path_models 0 t.agents
 
-pub list_at : (t : Litmus) (lists : List (Vec walked.Path)) (i : ℕ) (v : Vec walked.Path) → IsWalked t lists → i < length t.agents → v ≡ get_or lists i v → IsListOf t i v.items
-list_at t lists i v is inside at =
-    let tell : Vec walked.Path → List Told = λ paths. told_in paths.items in
-    let none : List Told = [] in
-    let told : told_in v.items ≡ told_paths i (agent_of t i).body =
-    ap tell at ∙ sym (get_or-map tell lists i v none (omega (arith, inside, length-lists t lists is))) ∙ ap (λ ls. get_or ls i none) is.told
-    ∙ told_of_agents-at 0 t.agents i (agent_of t i) none inside ∙ same inside in
-    record {
-      told = told;
-      count = sym (length-map v.items told_of) ∙ ap (λ l. length l) told ∙ length-map (walks_of (agent_of t i).body) (λ steps. with_steps i nothing_told steps);
-    }
+pub list_at : (t : Litmus) (lists : List (Vec PathModel)) (i : ℕ) (v : Vec PathModel) → AreLists t lists → i < length t.agents → v ≡ get_or lists i v → IsListOf t i v.items
+list_at t lists i v are inside at =
+    let none : List PathModel = [] in
+    let items : Vec PathModel → List PathModel = λ paths. paths.items in
+    let models : v.items ≡ path_models i (agent_of t i).body =
+    ap items at ∙ sym (get_or-map items lists i v none (omega (arith, inside, length-lists t lists are))) ∙ ap (λ ls. get_or ls i none) are
+    ∙ all_path_models-at 0 t.agents i (agent_of t i) none inside ∙ same inside in
+    record { models = models; count = ap (λ l. length l) models ∙ length-map (walks_of (agent_of t i).body) (path_model i) }
   where
-    same : i < length t.agents → told_paths (0 + i) (get_or t.agents i (agent_of t i)).body ≡ told_paths i (agent_of t i).body
-    same h = ap (λ m. told_paths m (get_or t.agents i (agent_of t i)).body) (let e : 0 + i ≡ i = omega arith in e)
-        ∙ ap (λ (a : Agent). told_paths i a.body) (get_or_default t.agents i (agent_of t i) _ h)
+    same : i < length t.agents → path_models (0 + i) (get_or t.agents i (agent_of t i)).body ≡ path_models i (agent_of t i).body
+    same h = ap (λ m. path_models m (get_or t.agents i (agent_of t i)).body) (let e : 0 + i ≡ i = omega arith in e)
+        ∙ ap (λ (a : Agent). path_models i a.body) (get_or_default t.agents i (agent_of t i) _ h)
+
+-- the same of what is kept of a test's paths
+pub lists_here : (p : Inside) → AreAllPaths p → (t : Litmus) → p.test.now ≡ t → length p.lists.items ≡ length t.agents
+lists_here p is t view = length-lists p.test.now p.lists.items is.all ∙ ap (λ (s : Litmus). length s.agents) view
+
+pub list_here : (p : Inside) → AreAllPaths p → (t : Litmus) → p.test.now ≡ t → (i : ℕ) (v : Vec PathModel) → i < length t.agents → v ≡ get_or p.lists.items i v → IsListOf t i v.items
+list_here p is t view i v inside at =
+    subst (λ (s : Litmus). IsListOf s i v.items) view (list_at p.test.now p.lists.items i v is.all (omega (arith, inside, ap (λ (s : Litmus). length s.agents) view)) at)
 
 -- ---- how many combinations there are
 pub count_of-drop : (agents : List Agent) (i : ℕ) (d : Agent) → i < length agents → count_of (drop i agents) ≡ length (walks_of (get_or agents i d).body) * count_of (drop (i + 1) agents)
@@ -85,16 +91,18 @@ later_end t i count all past before = omega (arith, before, ap (λ n. count * n)
 pub walk_number-known : (t : Litmus) (c i : ℕ) → walk_number t c i < length (walks_of (agent_of t i).body)
 walk_number-known t c i = let some : 0 < length (walks_of (agent_of t i).body) = omega (arith, walks_of-some (agent_of t i).body) in omega (arith, some)
 
-pub path_told : (t : Litmus) (c i number : ℕ) (paths : List walked.Path) (d : walked.Path) → IsListOf t i paths → number ≡ walk_number t c i
-    → told_of (get_or paths number d) ≡ told_in_combination t c i
-path_told t c i number paths d is at =
-    let body = (agent_of t i).body in
-    let tell : List Step → Told = λ steps. with_steps i nothing_told steps in
-    let known : number < length (walks_of body) = omega (arith, at, walk_number-known t c i) in
-    sym (get_or-map told_of paths number d (told_of d) (omega (arith, known, is.count))) ∙ ap (λ ts. get_or ts number (told_of d)) is.told
-    ∙ get_or-map tell (walks_of body) number [] (told_of d) known ∙ ap (λ n. tell (walk_at body n)) at
+-- the path with a number
+pub path_numbered : (t : Litmus) (i number : ℕ) (paths : List PathModel) (d : PathModel) → IsListOf t i paths → number < length (walks_of (agent_of t i).body)
+    → get_or paths number d ≡ path_model i (walk_at (agent_of t i).body number)
+path_numbered t i number paths d is known =
+    ap (λ ps. get_or ps number d) is.models ∙ get_or-map (path_model i) (walks_of (agent_of t i).body) number [] d known
 
-pub number_is : (t : Litmus) (c i later : ℕ) (paths items : List walked.Path) → IsListOf t i items → paths ≡ items → later ≡ count_of (drop (i + 1) t.agents)
-    → c / later % length paths ≡ walk_number t c i
-number_is t c i later paths items is same counted =
-    ap (λ n. c / n % length paths) counted ∙ ap (λ n. c / count_of (drop (i + 1) t.agents) % n) (ap (λ ps. length ps) same ∙ is.count)
+-- ---- the paths of a combination, one agent more
+pub next_number : (t : Litmus) (c i count later left : ℕ) → i < length t.agents → count ≡ length (walks_of (agent_of t i).body) → later ≡ count_of (drop i t.agents) → left ≡ later / count
+    → (left ≡ count_of (drop (i + 1) t.agents)) × (c / left % count ≡ walk_number t c i)
+next_number t c i count later left inside counted behind is =
+    let rest : ℕ = count_of (drop (i + 1) t.agents) in
+    let whole : later ≡ count * rest = behind ∙ count_of-left t i inside ∙ ap (λ n. n * rest) (sym counted) in
+    let some : 0 < later = omega (arith, behind, count_of-some (drop i t.agents)) in
+    let next : left ≡ rest = is ∙ next_places later count rest 0 whole some in
+    (next, ap (λ n. c / n % count) next ∙ ap (λ n. c / rest % n) counted)

@@ -1,24 +1,25 @@
 -- The combination of paths with a number, and its events.
-use Rattle.std.proofs.Common.{◌≡◌, ℕ, zero, suc, ◌+◌, ◌*◌, ◌/◌, ◌%◌, ◌<◌, ◌≤◌, List, [], ◌∷◌, ◌++◌, length, map, flat_map, drop, take, get_or, slice_get, Some, Option, unwrap_or, arith, refl, sym, ap, ◌∙◌, add-one, ⊎_elim, append_assoc, append-nil, length-append}
+use Rattle.std.proofs.Common.{◌≡◌, ℕ, zero, suc, ◌+◌, ◌*◌, ◌/◌, ◌%◌, ◌<◌, ◌≤◌, List, [], ◌∷◌, ◌++◌, length, map, flat_map, drop, take, get_or, slice_get, Some, Option, unwrap_or, arith, refl, sym, ap, ap₂, ◌∙◌, subst, add-one, ⊎_elim, append_assoc, append-nil, length-append}
 use Rattle.std.proofs.lemmas.List.{length-map, map_more, take_all, drop_more}
 use Rattle.std.proofs.lemmas.Option.{slice_get-get_or, slice_get_within}
+use Rattle.std.specs.List.{range_with_len}
+use Rattle.std.proofs.lemmas.List.FromFn.{map-range_with_len_more}
 use Rattle.lit_read.specs.Syntax.{Litmus, Agent, Statement, Statements, Load, Store, Exchange, CompareExchange, If, End, Then, agent_of}
 use Rattle.lit_paths.specs.declared.event.Event.{Event}
 use Rattle.lit_paths.specs.Event.{init_events}
 use Rattle.lit_paths.specs.Path.{Path, Step, IsStatementWalk, IsWalk, walks_of, paths_of, path_on, events_on}
 use Rattle.lit_paths.specs.Choice.{product, paths_of_agents, combinations_of}
-use Rattle.lit_paths.specs.Plan.{combination_at, events_in}
-use Rattle.lit_paths.specs.Told.{Told, TellsRuns}
-use Rattle.lit_paths.specs.Planning.Walks.{longest, statement_longest, longest_of, count_of}
-use Rattle.lit_paths.specs.Planning.Combining.{walk_number, walk_in, told_in_combination}
+use Rattle.lit_paths.specs.PathModel.{PathModel, path_model}
+use Rattle.lit_paths.specs.Plan.{combination_at, events_in, walks_in, walk_in, path_in, first_event}
+use Rattle.lit_paths.specs.Planning.Walks.{longest, statement_longest, longest_of, count_of, walk_at}
+use Rattle.lit_paths.specs.Planning.Combining.{walk_number, numbered_walk}
 use Rattle.lit_paths.proofs.Products.{length-product}
 use Rattle.lit_paths.proofs.Digits.{later_ways, digit}
 use Rattle.lit_paths.proofs.Rising.{slice_get-map-found}
 use Rattle.lit_paths.proofs.Walks.{walks_of-known}
 use Rattle.lit_paths.proofs.PathLists.{combinations_of-known, agent_paths, slice_get-agent_paths}
-use Rattle.lit_paths.proofs.Telling.{tells_runs}
 use Rattle.lit_paths.proofs.EventLists.{length-init_events}
-use Rattle.lit_paths.proofs.Combined.{walk_number-known}
+use Rattle.lit_paths.proofs.Combined.{walk_number-known, next_number}
 
 -- ---- how many combinations
 pub count_of-product : (n : ℕ) (agents : List Agent) → length (product (paths_of_agents n agents)) ≡ count_of agents
@@ -36,11 +37,44 @@ later_paths n agents zero = count_of-product n agents
 later_paths n [] (suc k) = refl
 later_paths n (a ∷ agents) (suc k) = later_paths (n + 1) agents k
 
--- ---- the paths of a combination
-pub walk_in-walks : (t : Litmus) (c i : ℕ) → IsWalk (agent_of t i).body (walk_in t c i)
-walk_in-walks t c i =
-    walks_of-known (agent_of t i).body (walk_number t c i) (walk_in t c i) (slice_get-get_or (walks_of (agent_of t i).body) (walk_number t c i) [] (walk_number-known t c i))
+-- ---- the walks of a combination
+abbrev bodies_walks : List Agent → List (List (List Step))
+bodies_walks agents = map (λ agent. walks_of agent.body) agents
 
+later_walks : (agents : List Agent) (k : ℕ) → length (product (drop k (bodies_walks agents))) ≡ count_of (drop k agents)
+later_walks [] zero = refl
+later_walks [] (suc k) = refl
+later_walks (a ∷ agents) zero = length-product (walks_of a.body) (bodies_walks agents) ∙ ap (λ m. length (walks_of a.body) * m) (later_walks agents zero)
+later_walks (a ∷ agents) (suc k) = later_walks agents k
+
+bodies_walks-at : (agents : List Agent) (i : ℕ) (d : Agent) → i < length agents → slice_get (bodies_walks agents) i ≡ Some (walks_of (get_or agents i d).body)
+bodies_walks-at [] i d inside = absurd (omega (arith, inside))
+bodies_walks-at (a ∷ agents) zero d inside = refl
+bodies_walks-at (a ∷ agents) (suc i) d inside = bodies_walks-at agents i d (omega (arith, inside))
+
+get_or-found : {A : Type 0} (xs : List A) (i : ℕ) (d p : A) → slice_get xs i ≡ Some p → get_or xs i d ≡ p
+get_or-found {A} xs i d p at =
+    let same : Some (get_or xs i d) ≡ Some p = sym (slice_get-get_or xs i d (slice_get_within xs i p at)) ∙ at in
+    ap (λ (o : Option A). unwrap_or o d) same
+
+-- the walk of an agent has its number among those of the agent
+pub walk_in-numbered : (t : Litmus) (c i : ℕ) → c < length (combinations_of t) → i < length t.agents → walk_in t c i ≡ numbered_walk t c i
+walk_in-numbered t c i known inside =
+    let all : List (List (List Step)) = bodies_walks t.agents in
+    let body : Statements = (agent_of t i).body in
+    let within : c < length (product all) = omega (arith, known, count_of-combinations t, later_walks t.agents 0) in
+    let later : later_ways all i ≡ count_of (drop (i + 1) t.agents) = later_walks t.agents (suc i) ∙ ap (λ k. count_of (drop k t.agents)) (sym (add-one i)) in
+    get_or-found (walks_in t c) i [] (numbered_walk t c i)
+    (digit all c i (walks_in t c) (walks_of body) (slice_get-get_or (product all) c [] within) (bodies_walks-at t.agents i _ inside)
+    ∙ ap (λ n. slice_get (walks_of body) (c / n % length (walks_of body))) later
+    ∙ slice_get-get_or (walks_of body) (walk_number t c i) [] (walk_number-known t c i))
+
+pub walk_in-walks : (t : Litmus) (c i : ℕ) → c < length (combinations_of t) → i < length t.agents → IsWalk (agent_of t i).body (walk_in t c i)
+walk_in-walks t c i known inside =
+    subst (λ (steps : List Step). IsWalk (agent_of t i).body steps) (sym (walk_in-numbered t c i known inside))
+    (walks_of-known (agent_of t i).body (walk_number t c i) (numbered_walk t c i) (slice_get-get_or (walks_of (agent_of t i).body) (walk_number t c i) [] (walk_number-known t c i)))
+
+-- ---- the paths of a combination
 pub path_at : (t : Litmus) (c i : ℕ) → c < length (combinations_of t) → i < length t.agents → slice_get (combination_at t c) i ≡ Some (path_on i (walk_in t c i))
 path_at t c i known inside =
     let body : Statements = (agent_of t i).body in
@@ -49,30 +83,20 @@ path_at t c i known inside =
     ap (λ n. (c / n) % length (agent_paths t i)) later ∙ ap (λ n. c / count_of (drop (i + 1) t.agents) % n) (length-map (walks_of body) (path_on i)) in
     digit (paths_of_agents 0 t.agents) c i (combination_at t c) (agent_paths t i) (slice_get-get_or (combinations_of t) c [] known) (slice_get-agent_paths t i inside)
     ∙ ap (λ n. slice_get (agent_paths t i) n) index
-    ∙ slice_get-map-found (path_on i) (walks_of body) (walk_number t c i) (walk_in t c i) (slice_get-get_or (walks_of body) (walk_number t c i) [] (walk_number-known t c i))
-
-pub tells-combination : (t : Litmus) (c i : ℕ) → TellsRuns i (agent_of t i).body (path_on i (walk_in t c i)) (told_in_combination t c i)
-tells-combination t c i = tells_runs i (agent_of t i).body (walk_in t c i) (walk_in-walks t c i)
-
-pub told-events : (t : Litmus) (c i : ℕ) → (told_in_combination t c i).events ≡ events_on i 0 (walk_in t c i)
-told-events t c i = (tells-combination t c i).events
+    ∙ slice_get-map-found (path_on i) (walks_of body) (walk_number t c i) (numbered_walk t c i) (slice_get-get_or (walks_of body) (walk_number t c i) [] (walk_number-known t c i))
+    ∙ ap (λ steps. Some (path_on i steps)) (sym (walk_in-numbered t c i known inside))
 
 -- ---- the events
 -- those of the first so many agents
 abbrev pub accesses_before : Litmus → ℕ → ℕ → List Event
 accesses_before t c zero = []
-accesses_before t c (suc i) = accesses_before t c i ++ (told_in_combination t c i).events
+accesses_before t c (suc i) = accesses_before t c i ++ (path_in t c i).events
 
 flat_map_pushed : (ess : List (List Event)) (es : List Event) → flat_map (λ x. x) (ess ++ es ∷ []) ≡ flat_map (λ x. x) ess ++ es
 flat_map_pushed [] es = append-nil es
 flat_map_pushed (ds ∷ ess) es = ap (λ xs. ds ++ xs) (flat_map_pushed ess es) ∙ sym (append_assoc ds (flat_map (λ x. x) ess) es)
 
-get_or-some : (paths : List Path) (i : ℕ) (d p : Path) → slice_get paths i ≡ Some p → get_or paths i d ≡ p
-get_or-some paths i d p at =
-    let same : Some (get_or paths i d) ≡ Some p = sym (slice_get-get_or paths i d (slice_get_within paths i p at)) ∙ at in
-    ap (λ (o : Option Path). unwrap_or o d) same
-
-first_accesses : (t : Litmus) (c i : ℕ) → c < length (combinations_of t) → length (combination_at t c) ≡ length t.agents → i ≤ length t.agents
+pub first_accesses : (t : Litmus) (c i : ℕ) → c < length (combinations_of t) → length (combination_at t c) ≡ length t.agents → i ≤ length t.agents
     → flat_map (λ es. es) (map (λ path. path.events) (take i (combination_at t c))) ≡ accesses_before t c i
 first_accesses t c zero known long le = refl
 first_accesses t c (suc i) known long le =
@@ -82,9 +106,8 @@ first_accesses t c (suc i) known long le =
     ap (λ k. flat_map (λ es. es) (map events (take k (combination_at t c)))) (sym (add-one i))
     ∙ ap (λ ess. flat_map (λ es. es) ess) (map_more events (combination_at t c) i path (omega (arith, inside, long)))
     ∙ flat_map_pushed (map events (take i (combination_at t c))) (events (get_or (combination_at t c) i path))
-    ∙ ap (λ (p : Path). flat_map (λ es. es) (map events (take i (combination_at t c))) ++ p.events) (get_or-some (combination_at t c) i path path (path_at t c i known inside))
+    ∙ ap (λ (p : Path). flat_map (λ es. es) (map events (take i (combination_at t c))) ++ p.events) (get_or-found (combination_at t c) i path path (path_at t c i known inside))
     ∙ ap (λ xs. xs ++ path.events) (first_accesses t c i known long (omega (arith, le)))
-    ∙ ap (λ xs. accesses_before t c i ++ xs) (sym (told-events t c i))
 
 pub length-combination : (t : Litmus) (c : ℕ) → c < length (combinations_of t) → length (combination_at t c) ≡ length t.agents
 length-combination t c known =
@@ -138,40 +161,87 @@ events-longest ss owner place steps is =
     )
 
 -- how many accesses the first so many agents have, with what the others may have
-pub length-accesses_before : (t : Litmus) (c i : ℕ) → i ≤ length t.agents → length (accesses_before t c i) + longest_of (drop i t.agents) ≤ longest_of t.agents
-length-accesses_before t c zero le = omega arith
-length-accesses_before t c (suc i) le =
+pub length-accesses_before : (t : Litmus) (c i : ℕ) → c < length (combinations_of t) → i ≤ length t.agents → length (accesses_before t c i) + longest_of (drop i t.agents) ≤ longest_of t.agents
+length-accesses_before t c zero known le = omega arith
+length-accesses_before t c (suc i) known le =
     let inside : i < length t.agents = omega (arith, le) in
-    let here : length (told_in_combination t c i).events ≤ longest (agent_of t i).body =
-    omega (arith, ap (λ (es : List Event). length es) (told-events t c i), events-longest (agent_of t i).body i 0 (walk_in t c i) (walk_in-walks t c i)) in
+    let here : length (path_in t c i).events ≤ longest (agent_of t i).body = events-longest (agent_of t i).body i 0 (walk_in t c i) (walk_in-walks t c i known inside) in
     let split : longest_of (drop i t.agents) ≡ longest (agent_of t i).body + longest_of (drop (suc i) t.agents) =
     ap longest_of (drop_more t.agents i _ inside) ∙ ap (λ k. longest (agent_of t i).body + longest_of (drop k t.agents)) (add-one i) in
-    omega (arith, length-accesses_before t c i (omega (arith, le)), here, split, length-append (accesses_before t c i) (told_in_combination t c i).events)
-
--- one agent more
-pub accesses_next : (t : Litmus) (c i : ℕ) (made now new : List Event) (told : Told) → now ≡ made ++ accesses_before t c i → told ≡ told_in_combination t c i → new ≡ now ++ told.events
-    → new ≡ made ++ accesses_before t c (i + 1)
-accesses_next t c i made now new told is tells pushed =
-    pushed ∙ ap (λ xs. xs ++ told.events) is ∙ ap (λ (x : Told). (made ++ accesses_before t c i) ++ x.events) tells
-    ∙ append_assoc made (accesses_before t c i) (told_in_combination t c i).events
-    ∙ ap (λ k. made ++ accesses_before t c k) (sym (add-one i))
+    omega (arith, length-accesses_before t c i known (omega (arith, le)), here, split, length-append (accesses_before t c i) (path_in t c i).events)
 
 pub events_whole : (t : Litmus) (c i : ℕ) (events : List Event) → c < length (combinations_of t) → i ≡ length t.agents → events ≡ init_events t.bytes ++ accesses_before t c i → events ≡ events_in t c
 events_whole t c i events known at is =
     is ∙ ap (λ k. init_events t.bytes ++ accesses_before t c k) at ∙ ap (λ xs. init_events t.bytes ++ xs) (sym (accesses_of-combination t c known))
 
+-- ---- joining the paths, agent after agent
+pub record AreJoined (t : Litmus) (c i : ℕ) (later : ℕ) (numbers firsts : List ℕ) (events : List Event) : Type 0 where
+  pub behind : later ≡ count_of (drop i t.agents)
+  pub all_numbers : numbers ≡ map (walk_number t c) (range_with_len 0 i)
+  pub all_firsts : firsts ≡ map (first_event t c) (range_with_len 0 i)
+  pub all_events : events ≡ init_events t.bytes ++ accesses_before t c i
+
+-- the number of an agent's first event
+pub first_counted : (t : Litmus) (c i : ℕ) (events : List Event) → c < length (combinations_of t) → i < length t.agents → events ≡ init_events t.bytes ++ accesses_before t c i
+    → length events ≡ first_event t c i
+first_counted t c i events known inside is =
+    ap (λ (es : List Event). length es) is ∙ length-append (init_events t.bytes) (accesses_before t c i)
+    ∙ ap (λ n. n + length (accesses_before t c i)) (length-init_events t.bytes)
+    ∙ ap (λ (es : List Event). t.bytes + length es) (sym (first_accesses t c i known (length-combination t c known) (omega (arith, inside))))
+
+-- what joining one agent more does
+pub record IsNextJoined (t : Litmus) (c i count later left number first : ℕ) (now : List Event) (path : PathModel) (new : List Event) : Type 0 where
+  pub known : c < length (combinations_of t)
+  pub inside : i < length t.agents
+  pub counted : count ≡ length (walks_of (agent_of t i).body)
+  pub left_is : left ≡ later / count
+  pub number_is : number ≡ c / left % count
+  pub first_is : first ≡ length now
+  pub path_is : path ≡ path_model i (walk_at (agent_of t i).body number)
+  pub pushed : new ≡ now ++ path.events
+
+pub joined_none : (t : Litmus) (c : ℕ) (later : ℕ) (numbers firsts : List ℕ) (made : List Event) → later ≡ count_of t.agents → numbers ≡ [] → firsts ≡ [] → made ≡ init_events t.bytes
+    → AreJoined t c 0 later numbers firsts made
+joined_none t c later numbers firsts made counted a b is = record { behind = counted; all_numbers = a; all_firsts = b; all_events = is ∙ sym (append-nil (init_events t.bytes)) }
+
+pub numbered_is : (t : Litmus) (c i count later left : ℕ) (numbers firsts : List ℕ) (now : List Event) → i < length t.agents → count ≡ length (walks_of (agent_of t i).body) → left ≡ later / count
+    → AreJoined t c i later numbers firsts now → (left ≡ count_of (drop (i + 1) t.agents)) × (c / left % count ≡ walk_number t c i)
+numbered_is t c i count later left numbers firsts now inside counted is joined = next_number t c i count later left inside counted joined.behind is
+
+pub path_joined : (t : Litmus) (c i count later left number first : ℕ) (numbers firsts : List ℕ) (now new : List Event) (path : PathModel)
+    → IsNextJoined t c i count later left number first now path new → AreJoined t c i later numbers firsts now → path ≡ path_in t c i
+path_joined t c i count later left number first numbers firsts now new path next joined =
+    let number_is : number ≡ walk_number t c i = next.number_is ∙ (next_number t c i count later left next.inside next.counted joined.behind next.left_is).1 in
+    next.path_is ∙ ap (λ n. path_model i (walk_at (agent_of t i).body n)) number_is ∙ ap (path_model i) (sym (walk_in-numbered t c i next.known next.inside))
+
+pub joined_more : (t : Litmus) (c i count later left number first : ℕ) (numbers firsts more_numbers more_firsts : List ℕ) (now new : List Event) (path : PathModel)
+    → IsNextJoined t c i count later left number first now path new → more_numbers ≡ numbers ++ number ∷ [] → more_firsts ≡ firsts ++ first ∷ []
+    → AreJoined t c i later numbers firsts now → AreJoined t c (i + 1) left more_numbers more_firsts new
+joined_more t c i count later left number first numbers firsts more_numbers more_firsts now new path next put_number put_first joined =
+    let numbered : (left ≡ count_of (drop (i + 1) t.agents)) × (c / left % count ≡ walk_number t c i) = next_number t c i count later left next.inside next.counted joined.behind next.left_is in
+    let at : 0 + i ≡ i = omega arith in
+    record {
+      behind = numbered.0;
+      all_numbers = put_number ∙ ap₂ (λ (ns : List ℕ) (n : ℕ). ns ++ n ∷ []) joined.all_numbers (next.number_is ∙ numbered.1) ∙ sym (map-range_with_len_more (walk_number t c) 0 i i at);
+      all_firsts = put_first ∙ ap₂ (λ (ns : List ℕ) (n : ℕ). ns ++ n ∷ []) joined.all_firsts (next.first_is ∙ first_counted t c i now next.known next.inside joined.all_events)
+          ∙ sym (map-range_with_len_more (first_event t c) 0 i i at);
+      all_events = next.pushed ∙ ap (λ (es : List Event). es ++ path.events) joined.all_events
+          ∙ append_assoc (init_events t.bytes) (accesses_before t c i) path.events
+          ∙ ap (λ (p : PathModel). init_events t.bytes ++ (accesses_before t c i ++ p.events)) (path_joined t c i count later left number first numbers firsts now new path next joined)
+          ∙ ap (λ k. init_events t.bytes ++ accesses_before t c k) (sym (add-one i));
+    }
+
 -- room for the events of one agent more
-pub accesses_room : (t : Litmus) (c i limit : ℕ) (now : List Event) (told : Told) → i < length t.agents → now ≡ init_events t.bytes ++ accesses_before t c i → told ≡ told_in_combination t c i
-    → t.bytes + longest_of t.agents ≤ limit → length now + length told.events ≤ limit
-accesses_room t c i limit now told inside is tells few =
-    let next = length-accesses_before t c (suc i) (omega (arith, inside)) in
+pub accesses_room : (t : Litmus) (c i limit : ℕ) (now : List Event) (path : PathModel) → c < length (combinations_of t) → i < length t.agents → now ≡ init_events t.bytes ++ accesses_before t c i
+    → path ≡ path_in t c i → t.bytes + longest_of t.agents ≤ limit → length now + length path.events ≤ limit
+accesses_room t c i limit now path known inside is same few =
     omega (
       arith,
-      next,
+      length-accesses_before t c (suc i) known (omega (arith, inside)),
       few,
       ap (λ (es : List Event). length es) is,
-      ap (λ (x : Told). length x.events) tells,
+      ap (λ (x : PathModel). length x.events) same,
       length-append (init_events t.bytes) (accesses_before t c i),
       length-init_events t.bytes,
-      length-append (accesses_before t c i) (told_in_combination t c i).events,
+      length-append (accesses_before t c i) (path_in t c i).events,
     )

@@ -1,22 +1,23 @@
 -- What holds of the events of a combination: sizes, ranges, payloads, and how many bytes are read.
 use Rattle.std.proofs.Common.{◌≡◌, ◌⊎◌, ℕ, zero, suc, ◌+◌, ◌*◌, ◌<◌, ◌≤◌, Bool, true, false, List, [], ◌∷◌, ◌++◌, length, map, get_or, arith, refl, sym, ap, ◌∙◌, subst, inl, inr, ⊎_elim, append_assoc, append-nil, length-append}
-use Rattle.std.specs.Prelude.{◌/◌, All, IsTrue}
+use Rattle.std.specs.Prelude.{◌/◌, ◌≢◌, All, IsTrue, IsSome}
 use Rattle.std.proofs.lemmas.Bool.{ltb-true, leb-true}
 use Rattle.std.specs.List.{AllByRecursion, range_with_len}
 use Rattle.std.proofs.lemmas.List.Elements.{All-from_recursion}
 use Rattle.lit_read.specs.Syntax.{Litmus, IsLitmus, Window, Uint8, Uint16, Uint32, DataView8, DataView16, DataView32, window_size, is_in_block, Statement, Statements, Load, Store, Exchange, CompareExchange, If, End, Then, IsStatementIn, AreStatementsIn, agent_of}
 use Rattle.lit_paths.specs.declared.limits.TheConstants.{ACCESS_LIMIT}
 use Rattle.lit_paths.specs.declared.event.Event.{Event}
-use Rattle.lit_paths.specs.Event.{no_event, init_event, init_events}
+use Rattle.lit_paths.specs.declared.event.Order3.TheVariants.{Init}
+use Rattle.lit_paths.specs.Event.{no_event, event_at, init_event, init_events}
 use Rattle.lit_paths.specs.Path.{Step, IsStatementWalk, IsWalk, events_on, first_byte, payload_of, compare_exchange_event, read_event, write_event, modify_event}
 use Rattle.lit_paths.specs.ByteReads.{byte_reads, byte_reads_from, bytes_read_by}
 use Rattle.lit_paths.specs.Choice.{combinations_of}
-use Rattle.lit_paths.specs.Plan.{AreEventsIn, events_in}
+use Rattle.lit_paths.specs.Plan.{AreEventsIn, events_in, walk_in, path_in}
 use Rattle.lit_paths.specs.Planning.Walks.{longest_of}
-use Rattle.lit_paths.specs.Planning.Combining.{walk_in, told_in_combination}
 use Rattle.lit_paths.proofs.ByteReads.{length-bytes_read_by}
 use Rattle.lit_paths.proofs.EventLists.{length-init_events}
-use Rattle.lit_paths.proofs.CombinedPaths.{accesses_before, accesses_of-combination, length-accesses_before, told-events, walk_in-walks}
+use Rattle.lit_paths.proofs.Placed.{event-owned, event-accessed, event-placed}
+use Rattle.lit_paths.proofs.CombinedPaths.{accesses_before, accesses_of-combination, length-accesses_before, walk_in-walks}
 
 -- ---- one event
 pub record IsSound (bytes : ℕ) (e : Event) : Type 0 where
@@ -101,12 +102,11 @@ sound-append : (bytes : ℕ) (xs ys : List Event) → AllSound bytes xs → AllS
 sound-append bytes [] ys p q = q
 sound-append bytes (x ∷ xs) ys p q = (p.0, sound-append bytes xs ys p.1 q)
 
-accesses-sound : (t : Litmus) (c i : ℕ) → IsLitmus t → i ≤ length t.agents → AllSound t.bytes (accesses_before t c i)
-accesses-sound t c zero litmus le = tt
-accesses-sound t c (suc i) litmus le =
-    sound-append t.bytes (accesses_before t c i) (told_in_combination t c i).events (accesses-sound t c i litmus (omega (arith, le)))
-    (subst (λ (es : List Event). AllSound t.bytes es) (sym (told-events t c i))
-    (events-sound t.bytes (agent_of t i).body i (walk_in t c i) (litmus.bodies i (omega (arith, le))) (walk_in-walks t c i)))
+accesses-sound : (t : Litmus) (c i : ℕ) → IsLitmus t → c < length (combinations_of t) → i ≤ length t.agents → AllSound t.bytes (accesses_before t c i)
+accesses-sound t c zero litmus known le = tt
+accesses-sound t c (suc i) litmus known le =
+    sound-append t.bytes (accesses_before t c i) (path_in t c i).events (accesses-sound t c i litmus known (omega (arith, le)))
+    (events-sound t.bytes (agent_of t i).body i (walk_in t c i) (litmus.bodies i (omega (arith, le))) (walk_in-walks t c i known (omega (arith, le))))
 
 made-sound : (bytes low count : ℕ) → low + count ≤ bytes → AllSound bytes (map init_event (range_with_len low count))
 made-sound bytes low zero le = tt
@@ -145,12 +145,12 @@ accesses_in t c = accesses_before t c (length t.agents)
 pub events_split : (t : Litmus) (c : ℕ) → c < length (combinations_of t) → events_in t c ≡ init_events t.bytes ++ accesses_in t c
 events_split t c known = ap (λ xs. init_events t.bytes ++ xs) (accesses_of-combination t c known)
 
-pub few_accesses : (t : Litmus) (c : ℕ) → longest_of t.agents ≤ ACCESS_LIMIT → length (accesses_in t c) ≤ ACCESS_LIMIT
-few_accesses t c short = omega (arith, length-accesses_before t c (length t.agents) (omega arith), short)
+pub few_accesses : (t : Litmus) (c : ℕ) → c < length (combinations_of t) → longest_of t.agents ≤ ACCESS_LIMIT → length (accesses_in t c) ≤ ACCESS_LIMIT
+few_accesses t c known short = omega (arith, length-accesses_before t c (length t.agents) known (omega arith), short)
 
-all-sound : (t : Litmus) (c : ℕ) → IsLitmus t → AllSound t.bytes (init_events t.bytes ++ accesses_in t c)
-all-sound t c litmus =
-    sound-append t.bytes (init_events t.bytes) (accesses_in t c) (made-sound t.bytes 0 t.bytes (omega arith)) (accesses-sound t c (length t.agents) litmus (omega arith))
+all-sound : (t : Litmus) (c : ℕ) → IsLitmus t → c < length (combinations_of t) → AllSound t.bytes (init_events t.bytes ++ accesses_in t c)
+all-sound t c litmus known =
+    sound-append t.bytes (init_events t.bytes) (accesses_in t c) (made-sound t.bytes 0 t.bytes (omega arith)) (accesses-sound t c (length t.agents) litmus known (omega arith))
 
 get_or-left : (xs ys : List Event) (i : ℕ) (d : Event) → i < length xs → get_or (xs ++ ys) i d ≡ get_or xs i d
 get_or-left [] ys i d inside = absurd (omega (arith, inside))
@@ -166,8 +166,8 @@ pub are_events : (t : Litmus) (c : ℕ) → IsLitmus t → longest_of t.agents �
 are_events t c litmus short known =
     let made : List Event = init_events t.bytes in
     let all : List Event = made ++ accesses_in t c in
-    let sound : AllSound t.bytes all = all-sound t c litmus in
-    let few : length (accesses_in t c) ≤ ACCESS_LIMIT = few_accesses t c short in
+    let sound : AllSound t.bytes all = all-sound t c litmus known in
+    let few : length (accesses_in t c) ≤ ACCESS_LIMIT = few_accesses t c known short in
     let long : length all ≡ t.bytes + length (accesses_in t c) = length-append made (accesses_in t c) ∙ ap (λ n. n + length (accesses_in t c)) (length-init_events t.bytes) in
     let reads : length (byte_reads all) ≤ 4 * length (accesses_in t c) =
     omega (
@@ -175,10 +175,11 @@ are_events t c litmus short known =
       ap (λ rs. length rs) (reads-append 0 made (accesses_in t c)),
       ap (λ rs. length rs) (made-reads 0 0 t.bytes),
       length-append (byte_reads_from 0 made) (byte_reads_from (0 + length made) (accesses_in t c)),
-      reads-four t.bytes (0 + length made) (accesses_in t c) (accesses-sound t c (length t.agents) litmus (omega arith)),
+      reads-four t.bytes (0 + length made) (accesses_in t c) (accesses-sound t c (length t.agents) litmus known (omega arith)),
     ) in
     let zero_add : (b : ℕ) → 0 + b ≡ b = λ b. omega arith in
-    subst (λ (es : List Event). AreEventsIn t.bytes es) (sym (events_split t c known)) (record {
+    let split : events_in t c ≡ all = events_split t c known in
+    subst (λ (es : List Event). AreEventsIn t.bytes es) (sym split) (record {
       few = omega (arith, long, few, litmus.block);
       few_reads = omega (arith, reads, few);
       made = omega (arith, long);
@@ -186,4 +187,8 @@ are_events t c litmus short known =
       sized = λ n inside. (sound-at t.bytes all n no_event inside sound).sized;
       in_block = λ n inside. (sound-at t.bytes all n no_event inside sound).in_block;
       payload = λ n inside. (sound-at t.bytes all n no_event inside sound).payload;
+      owned = subst (λ (es : List Event). (n : ℕ) → t.bytes ≤ n → n < length es → IsSome (event_at es n).owner) split (λ n behind inside. event-owned t c n known behind inside);
+      accessed = subst (λ (es : List Event). (n : ℕ) → t.bytes ≤ n → n < length es → (event_at es n).order ≢ Init) split (λ n behind inside. event-accessed t c n known behind inside);
+      placed = subst (λ (es : List Event). (e d : ℕ) → e < length es → d < length es → (event_at es e).owner ≡ (event_at es d).owner → (event_at es e).place < (event_at es d).place → e < d) split
+          (λ e d first second one_list before. event-placed t c e d known first second one_list before);
     })

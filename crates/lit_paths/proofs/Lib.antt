@@ -5,6 +5,8 @@ pub mod Walks
 pub mod PathLists
 pub mod ChoiceLists
 pub mod RunPaths
+pub mod PathSteps
+pub mod RangeLemmas
 pub mod Telling
 pub mod Parts
 pub mod Counts
@@ -17,8 +19,11 @@ pub mod Conditions
 pub mod Combined
 pub mod EventLists
 pub mod CombinedPaths
+pub mod Placed
 pub mod EventFacts
 pub mod Totals
 pub mod WaySteps
 pub mod PlanFacts
+pub mod Entered
+pub mod NumberLaws
 pub mod MakingSteps

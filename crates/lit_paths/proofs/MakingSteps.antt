@@ -10,7 +10,7 @@ use Rattle.lit_paths.specs.declared.planning.PlanFault.{PlanFault}
 use Rattle.lit_paths.specs.declared.planning.PlanFault.TheVariants.{OutOfMemory, TooManyChoices}
 use Rattle.lit_paths.specs.Path.{Path, Step, LoadMet, StoreMet, ExchangeMet, CompareExchangeMet, IfMet, IsStatementWalk, IsWalk, IsPath, walks_of, events_on, path_on}
 use Rattle.lit_paths.specs.Choice.{combinations_of, choices_of}
-use Rattle.lit_paths.specs.Plan.{accesses_on, HasTooManyEvents, HasFewEvents, IsRefusal, IsPlanFault}
+use Rattle.lit_paths.specs.Plan.{accesses_on, HasTooManyEvents, HasFewEvents, IsPlanFault}
 use Rattle.lit_paths.specs.Planning.Walks.{longest, statement_longest, longest_of, count_of}
 use Rattle.lit_paths.proofs.Walks.{walks_of-some}
 use Rattle.lit_paths.proofs.AgentPaths.{count_of-some}
@@ -195,6 +195,6 @@ pub made_fault : (t : Litmus) (fault : PlanFault) → longest_of t.agents ≤ AC
     → (fault ≡ OutOfMemory) ⊎ ((fault ≡ TooManyChoices) × (CHOICE_LIMIT < length (choices_of t))) → IsPlanFault t fault
 made_fault t fault short few h =
     ⊎_elim
-    (λ memory. inl memory)
-    (λ many. inr (subst (λ (f : PlanFault). IsRefusal t f) (sym many.0) (few_events t short, few, many.1)))
+    (λ memory. subst (λ (f : PlanFault). IsPlanFault t f) (sym memory) (few_events t short, few))
+    (λ many. subst (λ (f : PlanFault). IsPlanFault t f) (sym many.0) (few_events t short, few, many.1))
     h

@@ -3,22 +3,24 @@ use Rattle.std.proofs.Common.{◌≡◌, ◌⊎◌, ℕ, zero, suc, ◌+◌, ◌
 use Rattle.std.specs.Prelude.{slice_index}
 use Rattle.std.specs.List.{range_with_len}
 use Rattle.std.specs.List.Sorted.{IsNonDecreasingBy}
-use Rattle.std.specs.Global.{Vec}
 use Rattle.std.proofs.lemmas.Bool.{cases_lt}
 use Rattle.std.proofs.lemmas.List.FromFn.{length-map-range_with_len}
 use Rattle.std.proofs.lemmas.Option.{slice_get-get_or}
 use Rattle.lit_read.specs.Syntax.{Litmus, agent_of}
-use Rattle.lit_paths.specs.declared.walked.Path as walked
 use Rattle.lit_paths.specs.declared.limits.TheConstants.{COMBINATION_LIMIT, CHOICE_LIMIT}
 use Rattle.lit_paths.specs.Choice.{sources_of, combinations_of, choices_of, choices_on, candidates_of}
-use Rattle.lit_paths.specs.Path.{path_on}
-use Rattle.lit_paths.specs.Told.{Told, TellsRuns}
-use Rattle.lit_paths.specs.Plan.{events_in, choices_before, AreEventsIn, IsOfCombination, ListsCandidates, TellsPath}
+use Rattle.lit_paths.specs.declared.planning.Plan.TheInside.{Inside}
+use Rattle.lit_paths.specs.Path.{Step}
+use Rattle.lit_paths.specs.Plan.{events_in, choices_before, walk_in, AreEventsIn, IsOfCombination, IsWalkIn, ListsCandidates}
 use Rattle.lit_paths.specs.declared.event.Event.{Event}
-use Rattle.lit_paths.specs.Planning.Combining.{walk_in, told_in_combination}
-use Rattle.lit_paths.specs.Planning.Planned.{IsPlanned, totals_below}
+use Rattle.lit_paths.specs.Event.{no_event}
+use Rattle.lit_paths.specs.Planning.Planned.{IsPlanned}
+use Rattle.lit_paths.specs.Planning.Totals.{totals_below}
+use Rattle.lit_paths.specs.Planning.Walks.{IsInLimits}
 use Rattle.lit_paths.proofs.AgentPaths.{count_of-some}
-use Rattle.lit_paths.proofs.CombinedPaths.{count_of-combinations, path_at, tells-combination}
+use Rattle.lit_paths.proofs.CombinedPaths.{count_of-combinations, path_at, walk_in-walks}
+use Rattle.lit_paths.proofs.PathSteps.{length-tests_on, tests_reads, holds_reads}
+use Rattle.lit_paths.proofs.Placed.{agent-stands}
 use Rattle.lit_paths.proofs.EventFacts.{are_events}
 use Rattle.lit_paths.proofs.Candidates.{candidates_of-known, candidates_of-found, candidates_from-rising}
 use Rattle.lit_paths.proofs.Totals.{before_more, before_all, before_le, some_choice, of_combination}
@@ -52,9 +54,15 @@ totals-rise t count i j d le inside =
     omega (arith, totals-at t count i d (omega (arith, le, there)), totals-at t count j d there, before_mono t (i + 1) (j + 1) (omega (arith, le)))
 
 -- ---- the plan of a test
-module _ (t : Litmus) (lists : List (Vec walked.Path)) (totals : List ℕ) (names : List (ℕ × ℕ)) (is : IsPlanned t lists totals names) where
+module _ (p : Inside) (is : IsPlanned p) where
+  abbrev t : Litmus
+  t = p.paths
+
+  abbrev totals : List ℕ
+  totals = p.totals.items
+
   pub planned-few : length (combinations_of t) ≤ COMBINATION_LIMIT
-  planned-few = omega (arith, is.walked.short.few, count_of-combinations t)
+  planned-few = omega (arith, is.limits.short.few, count_of-combinations t)
 
   pub planned-some : 1 ≤ length (combinations_of t)
   planned-some = omega (arith, count_of-some t.agents, count_of-combinations t)
@@ -69,7 +77,7 @@ module _ (t : Litmus) (lists : List (Vec walked.Path)) (totals : List ℕ) (name
   planned-rise = subst (λ (ns : List ℕ). IsNonDecreasingBy (λ (x : ℕ). x) ns) (sym is.all_totals) (totals-rise t (length (combinations_of t)))
 
   pub planned-events : (c : ℕ) → c < length (combinations_of t) → AreEventsIn t.bytes (events_in t c)
-  planned-events c known = are_events t c is.walked.litmus is.walked.short.short known
+  planned-events c known = are_events t c is.limits.litmus is.limits.short.short known
 
   pub planned-total : choices_before t (length (combinations_of t)) ≡ length (choices_of t)
   planned-total = before_all t (length (combinations_of t)) (omega arith)
@@ -110,12 +118,21 @@ module _ (t : Litmus) (lists : List (Vec walked.Path)) (totals : List ℕ) (name
       let within : place < length (sources_of (events_in t c)) = omega (arith, low, high, before_more t c known) in
       of_combination t c n (get_or (sources_of (events_in t c)) place []) known low high (slice_get-get_or (sources_of (events_in t c)) place [] within)
 
-  pub planned-path : (c agent : ℕ) (told : Told) → c < length (combinations_of t) → agent < length t.agents → told ≡ told_in_combination t c agent → TellsPath t c agent told
-  planned-path c agent told known inside same = record {
-    path = path_on agent (walk_in t c agent);
-    listed = path_at t c agent known inside;
-    tells = subst (λ (x : Told). TellsRuns agent (agent_of t agent).body (path_on agent (walk_in t c agent)) x) (sym same) (tells-combination t c agent);
-  }
+-- ---- the walk of an agent in a combination
+pub walk_in-known : (t : Litmus) (c agent : ℕ) → IsInLimits t → c < length (combinations_of t) → agent < length t.agents → IsWalkIn t c agent (walk_in t c agent)
+walk_in-known t c agent limits known inside =
+    let steps : List Step = walk_in t c agent in
+    let stands = agent-stands t c agent known inside in
+    record {
+      said = limits.litmus.bodies agent inside;
+      walked = walk_in-walks t c agent known inside;
+      listed = path_at t c agent known inside;
+      one_test_each = length-tests_on steps;
+      tests_reads = λ k place test at on. tests_reads agent steps k place test at on;
+      holds_reads = λ r place at. holds_reads agent steps r place at;
+      within = stands.within;
+      numbered = λ place within. stands.each place no_event within;
+    }
 
 pub lists-candidates : (events : List Event) (r b : ℕ) → ListsCandidates events r b (candidates_of events (r, b))
 lists-candidates events r b = record {

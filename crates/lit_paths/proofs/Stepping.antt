@@ -6,8 +6,8 @@ use Rattle.lit_read.specs.declared.syntax.Stmt.{Stmt}
 use Rattle.lit_read.specs.Syntax.{Statement, Statements, Then, End, Load, Store, Exchange, CompareExchange, If, IsStatementIn, AreStatementsIn}
 use Rattle.lit_read.specs.Litmus.{statement_of, statements_of}
 use Rattle.lit_paths.specs.Path.{Step, IfMet, walks_of, statement_walks}
-use Rattle.lit_paths.specs.Told.{Told}
-use Rattle.lit_paths.specs.Planning.Telling.{with_step, with_steps}
+use Rattle.lit_paths.specs.PathModel.{PathModel}
+use Rattle.lit_paths.specs.Planning.PathSteps.{with_step, with_steps}
 use Rattle.lit_paths.specs.Planning.Walks.{IsSaid, AreSaid, longest, statement_longest, walk_at, statement_walk_at}
 use Rattle.lit_paths.proofs.Products.{slice_get_left, slice_get_right}
 use Rattle.lit_paths.proofs.Rising.{slice_get-map-found}
@@ -67,9 +67,9 @@ walk_at-else_part reg equal value body other n k is inside =
     (slice_get_right (map (λ a. IfMet reg equal value true ∷ a) (walks_of body)) (map arm (walks_of other)) n k (omega (arith, is, length-map (walks_of body) (λ a. IfMet reg equal value true ∷ a)))
     ∙ slice_get-map-found arm (walks_of other) k (walk_at other k) (slice_get-get_or (walks_of other) k [] inside))
 
-pub with_steps-append : (owner : ℕ) (told : Told) (a b : List Step) → with_steps owner told (a ++ b) ≡ with_steps owner (with_steps owner told a) b
-with_steps-append owner told [] b = refl
-with_steps-append owner told (step ∷ steps) b = with_steps-append owner (with_step owner told step) steps b
+pub with_steps-append : (owner : ℕ) (path : PathModel) (a b : List Step) → with_steps owner path (a ++ b) ≡ with_steps owner (with_steps owner path a) b
+with_steps-append owner path [] b = refl
+with_steps-append owner path (step ∷ steps) b = with_steps-append owner (with_step owner path step) steps b
 
 -- ---- what is left of the statements
 pub AreSaid-left : (xs : List Stmt) (i : ℕ) (x : Stmt) → i < length xs → x ≡ get_or xs i x → AreSaid (statements_of xs) → IsSaid (statement_of x)
@@ -84,11 +84,11 @@ abbrev pub left_of : List Stmt → ℕ → Statements
 left_of xs i = statements_of (drop i xs)
 
 -- Walking on from here by this number is the whole walk.
-pub record IsOnWay (owner : ℕ) (xs : List Stmt) (number : ℕ) (begun : Told) (i left : ℕ) (told : Told) : Type 0 where
-  pub same : with_steps owner told (walk_at (left_of xs i) left) ≡ with_steps owner begun (walk_at (statements_of xs) number)
+pub record IsOnWay (owner : ℕ) (xs : List Stmt) (number : ℕ) (begun : PathModel) (i left : ℕ) (path : PathModel) : Type 0 where
+  pub same : with_steps owner path (walk_at (left_of xs i) left) ≡ with_steps owner begun (walk_at (statements_of xs) number)
   pub known : left < length (walks_of (left_of xs i))
   pub few : length (walks_of (left_of xs i)) ≤ length (walks_of (statements_of xs))
-  pub room : length told.events + longest (left_of xs i) ≤ length begun.events + longest (statements_of xs)
+  pub room : length path.events + longest (left_of xs i) ≤ length begun.events + longest (statements_of xs)
 
 -- where the walk is at a statement
 pub record IsHere (xs : List Stmt) (i left later k : ℕ) (s : Statement) : Type 0 where
@@ -99,10 +99,10 @@ pub record IsHere (xs : List Stmt) (i left later k : ℕ) (s : Statement) : Type
   pub count : length (walks_of (left_of xs i)) ≡ length (statement_walks s) * length (walks_of (left_of xs (i + 1)))
   pub long : longest (left_of xs i) ≡ statement_longest s + longest (left_of xs (i + 1))
 
-pub here-on_way : (owner : ℕ) (xs : List Stmt) (number : ℕ) (begun : Told) (i left later k : ℕ) (told : Told) (x : Stmt)
+pub here-on_way : (owner : ℕ) (xs : List Stmt) (number : ℕ) (begun : PathModel) (i left later k : ℕ) (path : PathModel) (x : Stmt)
     → i < length xs → x ≡ get_or xs i x → length (walks_of (statements_of xs)) ≤ k → later ≡ min (length (walks_of (left_of xs (i + 1)))) (k + 1)
-    → IsOnWay owner xs number begun i left told → IsHere xs i left later k (statement_of x)
-here-on_way owner xs number begun i left later k told x inside is few counted way =
+    → IsOnWay owner xs number begun i left path → IsHere xs i left later k (statement_of x)
+here-on_way owner xs number begun i left later k path x inside is few counted way =
     let s : Statement = statement_of x in
     let rest : Statements = left_of xs (i + 1) in
     let split : left_of xs i ≡ Then s rest = statements_left xs i x inside is in
@@ -121,11 +121,11 @@ here-on_way owner xs number begun i left later k told x inside is few counted wa
       long = ap longest split;
     }
 
-pub on_way_more : (owner : ℕ) (xs : List Stmt) (number : ℕ) (begun : Told) (i left later k : ℕ) (told new : Told) (x : Stmt)
+pub on_way_more : (owner : ℕ) (xs : List Stmt) (number : ℕ) (begun : PathModel) (i left later k : ℕ) (path new : PathModel) (x : Stmt)
     → i < length xs → x ≡ get_or xs i x → IsHere xs i left later k (statement_of x)
-    → new ≡ with_steps owner told (statement_walk_at (statement_of x) (left / later)) → length new.events ≤ length told.events + statement_longest (statement_of x)
-    → IsOnWay owner xs number begun i left told → IsOnWay owner xs number begun (i + 1) (left % later) new
-on_way_more owner xs number begun i left later k told new x inside is here walked short way =
+    → new ≡ with_steps owner path (statement_walk_at (statement_of x) (left / later)) → length new.events ≤ length path.events + statement_longest (statement_of x)
+    → IsOnWay owner xs number begun i left path → IsOnWay owner xs number begun (i + 1) (left % later) new
+on_way_more owner xs number begun i left later k path new x inside is here walked short way =
     let s : Statement = statement_of x in
     let rest : Statements = left_of xs (i + 1) in
     let split : left_of xs i ≡ Then s rest = statements_left xs i x inside is in
@@ -135,24 +135,24 @@ on_way_more owner xs number begun i left later k told new x inside is here walke
     let lower : 1 * length (walks_of rest) ≤ length (statement_walks s) * length (walks_of rest) = mul-le-mul (statement_walks-some s) (let le : length (walks_of rest) ≤ length (walks_of rest) = omega arith in le) in
     record {
       same = ap (λ t. with_steps owner t (walk_at rest (left % later))) walked
-          ∙ sym (with_steps-append owner told (statement_walk_at s (left / later)) (walk_at rest (left % later)))
-          ∙ ap (λ w. with_steps owner told w) (sym both) ∙ way.same;
+          ∙ sym (with_steps-append owner path (statement_walk_at s (left / later)) (walk_at rest (left % later)))
+          ∙ ap (λ w. with_steps owner path w) (sym both) ∙ way.same;
       known = let less : left % later < later = omega (arith, here.some) in omega (arith, less, here.later_is);
       few = omega (arith, lower, here.count, way.few);
       room = omega (arith, short, here.long, way.room);
     }
 
-pub on_way_begin : (owner : ℕ) (xs : List Stmt) (number : ℕ) (begun : Told) → number < length (walks_of (statements_of xs)) → IsOnWay owner xs number begun 0 number begun
+pub on_way_begin : (owner : ℕ) (xs : List Stmt) (number : ℕ) (begun : PathModel) → number < length (walks_of (statements_of xs)) → IsOnWay owner xs number begun 0 number begun
 on_way_begin owner xs number begun known = record { same = refl; known = known; few = omega arith; room = omega arith }
 
-pub on_way_end : (owner : ℕ) (xs : List Stmt) (number : ℕ) (begun : Told) (i left : ℕ) (told : Told) → length xs ≤ i → IsOnWay owner xs number begun i left told
-    → told ≡ with_steps owner begun (walk_at (statements_of xs) number)
-on_way_end owner xs number begun i left told past way =
+pub on_way_end : (owner : ℕ) (xs : List Stmt) (number : ℕ) (begun : PathModel) (i left : ℕ) (path : PathModel) → length xs ≤ i → IsOnWay owner xs number begun i left path
+    → path ≡ with_steps owner begun (walk_at (statements_of xs) number)
+on_way_end owner xs number begun i left path past way =
     let nothing : left_of xs i ≡ End = statements_end xs i past in
     let known : left < 1 = subst (λ (ss : Statements). left < length (walks_of ss)) nothing way.known in
     let first : left ≡ 0 = omega (arith, known) in
     let none : walk_at (left_of xs i) left ≡ [] = ap (λ ss. walk_at ss left) nothing ∙ ap (λ n. walk_at End n) first in
-    ap (λ w. with_steps owner told w) (sym none) ∙ way.same
+    ap (λ w. with_steps owner path w) (sym none) ∙ way.same
 
 -- ---- an `if`, by its parts
 -- The statement is an `if` with these parts.
@@ -174,19 +174,19 @@ said-then s reg equal value body other known said = (said.0, said.1, (subst (λ 
 pub said-else : (s : Statement) (reg : ℕ) (equal : Bool) (value : ℕ) (body other : Statements) → IsIf s reg equal value body other → IsSaid s → AreSaid other
 said-else s reg equal value body other known said = (said.0, said.1, (subst (λ (x : Statement). IsStatementIn said.0 x) known.is said.2).3)
 
-pub told-then : (owner : ℕ) (s : Statement) (reg : ℕ) (equal : Bool) (value : ℕ) (body other : Statements) (n : ℕ) (told asked new : Told)
-    → IsIf s reg equal value body other → n < length (walks_of body) → asked ≡ with_step owner told (IfMet reg equal value true)
-    → new ≡ with_steps owner asked (walk_at body n) → new ≡ with_steps owner told (statement_walk_at s n)
-told-then owner s reg equal value body other n told asked new known inside put walked =
+pub walked-then : (owner : ℕ) (s : Statement) (reg : ℕ) (equal : Bool) (value : ℕ) (body other : Statements) (n : ℕ) (path asked new : PathModel)
+    → IsIf s reg equal value body other → n < length (walks_of body) → asked ≡ with_step owner path (IfMet reg equal value true)
+    → new ≡ with_steps owner asked (walk_at body n) → new ≡ with_steps owner path (statement_walk_at s n)
+walked-then owner s reg equal value body other n path asked new known inside put walked =
     walked ∙ ap (λ t. with_steps owner t (walk_at body n)) put
-    ∙ ap (λ w. with_steps owner told w) (sym (walk_at-then_part reg equal value body other n inside) ∙ sym (ap (λ x. statement_walk_at x n) known.is))
+    ∙ ap (λ w. with_steps owner path w) (sym (walk_at-then_part reg equal value body other n inside) ∙ sym (ap (λ x. statement_walk_at x n) known.is))
 
-pub told-else : (owner : ℕ) (s : Statement) (reg : ℕ) (equal : Bool) (value : ℕ) (body other : Statements) (n k : ℕ) (told asked new : Told)
-    → IsIf s reg equal value body other → n ≡ length (walks_of body) + k → k < length (walks_of other) → asked ≡ with_step owner told (IfMet reg equal value false)
-    → new ≡ with_steps owner asked (walk_at other k) → new ≡ with_steps owner told (statement_walk_at s n)
-told-else owner s reg equal value body other n k told asked new known is inside put walked =
+pub walked-else : (owner : ℕ) (s : Statement) (reg : ℕ) (equal : Bool) (value : ℕ) (body other : Statements) (n k : ℕ) (path asked new : PathModel)
+    → IsIf s reg equal value body other → n ≡ length (walks_of body) + k → k < length (walks_of other) → asked ≡ with_step owner path (IfMet reg equal value false)
+    → new ≡ with_steps owner asked (walk_at other k) → new ≡ with_steps owner path (statement_walk_at s n)
+walked-else owner s reg equal value body other n k path asked new known is inside put walked =
     walked ∙ ap (λ t. with_steps owner t (walk_at other k)) put
-    ∙ ap (λ w. with_steps owner told w) (sym (walk_at-else_part reg equal value body other n k is inside) ∙ sym (ap (λ x. statement_walk_at x n) known.is))
+    ∙ ap (λ w. with_steps owner path w) (sym (walk_at-else_part reg equal value body other n k is inside) ∙ sym (ap (λ x. statement_walk_at x n) known.is))
 
 -- ---- what the recursion goes down
 abbrev mutual

@@ -1,85 +1,19 @@
--- What a path tells is true of its runs.
-use Rattle.std.proofs.Common.{◌≡◌, ℕ, zero, suc, ◌+◌, ◌≤◌, ◌==◌, Bool, true, false, not, if◌then◌else◌, Option, Some, None, List, [], ◌∷◌, ◌++◌, length, map, replicate, arith, refl, sym, ap, ap₂, ◌∙◌, subst, append_assoc, append-nil, length-append}
+-- What a path asks and holds, by its steps, is what it has once it is walked, and is true of its runs.
+use Rattle.std.proofs.Common.{◌≡◌, ℕ, zero, suc, ◌+◌, ◌<◌, ◌≤◌, ◌==◌, Bool, true, false, not, if◌then◌else◌, Option, Some, None, List, [], ◌∷◌, ◌++◌, length, map, replicate, arith, refl, sym, ap, ap₂, ◌∙◌, subst}
 use Rattle.std.specs.Prelude.{slice_set, slice_index, slice_index_or}
-use Rattle.std.specs.List.{list_all, zip}
-use Rattle.std.proofs.lemmas.Bool.{and_from, and_parts, eq-eqb, ne_eqb}
+use Rattle.std.specs.List.{list_all, zip, range_with_len}
+use Rattle.std.specs.Option.{option_or}
+use Rattle.std.proofs.lemmas.Bool.{and_from, and_parts, eq-eqb, ne_eqb, eqb-true}
 use Rattle.lit_read.specs.declared.limits.TheConstants.{REGISTERS}
-use Rattle.lit_read.specs.Syntax.{Statements}
+use Rattle.lit_read.specs.Syntax.{Statements, AreStatementsIn}
 use Rattle.lit_paths.specs.declared.event.Event.{Event}
-use Rattle.lit_paths.specs.declared.walked.Tested.{Tested}
+use Rattle.lit_paths.specs.declared.path.Tested.{Tested}
 use Rattle.lit_paths.specs.Path.{Path, Step, LoadMet, StoreMet, ExchangeMet, CompareExchangeMet, IfMet, IsWalk, read_event, write_event, modify_event, compare_exchange_event, events_on, path_on}
+use Rattle.lit_paths.specs.PathModel.{PathModel, asked, path_model}
 use Rattle.lit_paths.specs.Run.{Run, IsRun, AgreesWith, compares, run_path}
-use Rattle.lit_paths.specs.Told.{Told, read_places, chosen_on, value_at, value_on, is_true_of, TellsRuns}
-use Rattle.lit_paths.specs.Planning.Telling.{nothing_told, with_steps, asked}
+use Rattle.lit_paths.specs.Told.{read_places, chosen_on, value_at, value_on, is_true_of, TellsRuns}
 use Rattle.lit_paths.proofs.Walks.{walk-decided}
-
--- ---- what is told of steps, apart from what was told before them
-abbrev pub tests_on : ℕ → List (Option ℕ) → List Step → List Tested
-tests_on place last [] = []
-tests_on place last (LoadMet reg window index atomic ∷ steps) = tests_on (place + 1) (slice_set last reg (Some place)) steps
-tests_on place last (StoreMet window index value atomic ∷ steps) = tests_on (place + 1) last steps
-tests_on place last (ExchangeMet reg window index value ∷ steps) = tests_on (place + 1) (slice_set last reg (Some place)) steps
-tests_on place last (CompareExchangeMet reg window index expected value succeeds ∷ steps) =
-    record { on = Some place; equal = succeeds; value = expected } ∷ tests_on (place + 1) (slice_set last reg (Some place)) steps
-tests_on place last (IfMet reg equal value holds ∷ steps) =
-    record { on = slice_index_or last reg None; equal = asked equal holds; value = value } ∷ tests_on place last steps
-
-abbrev pub last_on : ℕ → List (Option ℕ) → List Step → List (Option ℕ)
-last_on place last [] = last
-last_on place last (LoadMet reg window index atomic ∷ steps) = last_on (place + 1) (slice_set last reg (Some place)) steps
-last_on place last (StoreMet window index value atomic ∷ steps) = last_on (place + 1) last steps
-last_on place last (ExchangeMet reg window index value ∷ steps) = last_on (place + 1) (slice_set last reg (Some place)) steps
-last_on place last (CompareExchangeMet reg window index expected value succeeds ∷ steps) = last_on (place + 1) (slice_set last reg (Some place)) steps
-last_on place last (IfMet reg equal value holds ∷ steps) = last_on place last steps
-
-abbrev pub told_from : ℕ → List Event → List Tested → List (Option ℕ) → List Step → Told
-told_from owner events tests last steps = record {
-  events = events ++ events_on owner (length events) steps;
-  tests = tests ++ tests_on (length events) last steps;
-  last = last_on (length events) last steps;
-}
-
-longer : (events : List Event) (e : Event) → length (events ++ e ∷ []) ≡ length events + 1
-longer events e = length-append events (e ∷ [])
-
--- one event in front of what the later steps make
-moved : (owner : ℕ) (events : List Event) (e : Event) (tests : List Tested) (last : List (Option ℕ)) (steps : List Step)
-    → told_from owner (events ++ e ∷ []) tests last steps
-    ≡ record { events = events ++ e ∷ events_on owner (length events + 1) steps; tests = tests ++ tests_on (length events + 1) last steps; last = last_on (length events + 1) last steps }
-moved owner events e tests last steps =
-    let n : ℕ = length events + 1 in
-    ap (λ (k : ℕ). record { events = (events ++ e ∷ []) ++ events_on owner k steps; tests = tests ++ tests_on k last steps; last = last_on k last steps }) (longer events e)
-    ∙ ap (λ (es : List Event). record { events = es; tests = tests ++ tests_on n last steps; last = last_on n last steps }) (append_assoc events (e ∷ []) (events_on owner n steps))
-
-abbrev put_tests : Told → List Tested → Told
-put_tests told tests = record { events = told.events; tests = tests; last = told.last }
-
-pub with_steps-told : (owner : ℕ) (events : List Event) (tests : List Tested) (last : List (Option ℕ)) (steps : List Step)
-    → with_steps owner (record { events = events; tests = tests; last = last }) steps ≡ told_from owner events tests last steps
-with_steps-told owner events tests last [] =
-    ap₂ (λ (es : List Event) (ts : List Tested). record { events = es; tests = ts; last = last }) (sym (append-nil events)) (sym (append-nil tests))
-with_steps-told owner events tests last (LoadMet reg window index atomic ∷ steps) =
-    let e = read_event owner (length events) window index atomic in
-    let held = slice_set last reg (Some (length events)) in
-    with_steps-told owner (events ++ e ∷ []) tests held steps ∙ moved owner events e tests held steps
-with_steps-told owner events tests last (StoreMet window index value atomic ∷ steps) =
-    let e = write_event owner (length events) window index value atomic in
-    with_steps-told owner (events ++ e ∷ []) tests last steps ∙ moved owner events e tests last steps
-with_steps-told owner events tests last (ExchangeMet reg window index value ∷ steps) =
-    let e = modify_event owner (length events) window index value in
-    let held = slice_set last reg (Some (length events)) in
-    with_steps-told owner (events ++ e ∷ []) tests held steps ∙ moved owner events e tests held steps
-with_steps-told owner events tests last (CompareExchangeMet reg window index expected value succeeds ∷ steps) =
-    let e = compare_exchange_event owner (length events) window index value succeeds in
-    let held = slice_set last reg (Some (length events)) in
-    let test : Tested = record { on = Some (length events); equal = succeeds; value = expected } in
-    let whole : Told = record { events = events ++ e ∷ events_on owner (length events + 1) steps; tests = tests; last = last_on (length events + 1) held steps } in
-    with_steps-told owner (events ++ e ∷ []) (tests ++ test ∷ []) held steps ∙ moved owner events e (tests ++ test ∷ []) held steps
-    ∙ ap (put_tests whole) (append_assoc tests (test ∷ []) (tests_on (length events + 1) held steps))
-with_steps-told owner events tests last (IfMet reg equal value holds ∷ steps) =
-    let test : Tested = record { on = slice_index_or last reg None; equal = asked equal holds; value = value } in
-    with_steps-told owner events (tests ++ test ∷ []) last steps
-    ∙ ap (put_tests (told_from owner events tests last steps)) (append_assoc tests (test ∷ []) (tests_on (length events) last steps))
+use Rattle.lit_paths.proofs.PathSteps.{tests_from, last_from, path_model-tests, path_model-last, walk-registers}
 
 -- ---- registers
 map-set : (f : Option ℕ → ℕ) (xs : List (Option ℕ)) (i : ℕ) (x : Option ℕ) → map f (slice_set xs i x) ≡ slice_set (map f xs) i (f x)
@@ -192,7 +126,7 @@ pub record Agreed (chosen : List (ℕ × ℕ)) (tests : List Tested) (last : Lis
 
 pub agrees-tells : (owner place : ℕ) (steps : List Step) (chosen : List (ℕ × ℕ)) (last : List (Option ℕ)) (before values after : List ℕ)
     → before ≡ map (value_on chosen) last → Looks chosen (chosen_on (events_on owner place steps) values) → AgreesWith steps before values after
-    → Agreed chosen (tests_on place last steps) (last_on place last steps) (read_places (events_on owner place steps)) values after
+    → Agreed chosen (tests_from place last steps) (last_from place last steps) (read_places (events_on owner place steps)) values after
 agrees-tells owner place [] chosen last before values after held looks agrees =
     record { true_of = refl; held = agrees.1 ∙ held; one_each = ap (λ vs. length vs) agrees.0 }
 agrees-tells owner place (LoadMet reg window index atomic ∷ steps) chosen last before values after held looks agrees =
@@ -235,7 +169,7 @@ agrees-tells owner place (IfMet reg equal value holds ∷ steps) chosen last bef
 -- agreement from what is told
 pub tells-agrees : (owner place : ℕ) (steps : List Step) (chosen : List (ℕ × ℕ)) (last : List (Option ℕ)) (before values : List ℕ)
     → before ≡ map (value_on chosen) last → Looks chosen (chosen_on (events_on owner place steps) values) → length values ≡ length (read_places (events_on owner place steps))
-    → list_all (is_true_of chosen) (tests_on place last steps) ≡ true → AgreesWith steps before values (map (value_on chosen) (last_on place last steps))
+    → list_all (is_true_of chosen) (tests_from place last steps) ≡ true → AgreesWith steps before values (map (value_on chosen) (last_from place last steps))
 tells-agrees owner place [] chosen last before [] held looks one_each true_of = (refl, sym held)
 tells-agrees owner place [] chosen last before (v ∷ values) held looks one_each true_of = absurd (omega (arith, one_each))
 tells-agrees owner place (LoadMet reg window index atomic ∷ steps) chosen last before [] held looks one_each true_of = absurd (omega (arith, one_each))
@@ -251,7 +185,7 @@ tells-agrees owner place (CompareExchangeMet reg window index expected stored su
 tells-agrees owner place (CompareExchangeMet reg window index expected stored succeeds ∷ steps) chosen last before (v ∷ values) held looks one_each true_of =
     let places = compare_exchange-places owner place window index stored succeeds (events_on owner (place + 1) steps) in
     let here : (value_at chosen place ≡ v) × Looks chosen (zip (read_places (events_on owner (place + 1) steps)) values) = subst (λ (ps : List ℕ). Looks chosen (zip ps (v ∷ values))) places looks in
-    let both = and_parts (compares succeeds (value_at chosen place) expected) (list_all (is_true_of chosen) (tests_on (place + 1) (slice_set last reg (Some place)) steps)) true_of in (
+    let both = and_parts (compares succeeds (value_at chosen place) expected) (list_all (is_true_of chosen) (tests_from (place + 1) (slice_set last reg (Some place)) steps)) true_of in (
       v,
       values,
       refl,
@@ -261,24 +195,21 @@ tells-agrees owner place (CompareExchangeMet reg window index expected stored su
     )
 tells-agrees owner place (IfMet reg equal value holds ∷ steps) chosen last before values held looks one_each true_of =
     let now : slice_index before reg ≡ value_on chosen (slice_index_or last reg None) = ap (λ (rs : List ℕ). slice_index rs reg) held ∙ held-index chosen last reg in
-    let both = and_parts (compares (asked equal holds) (value_on chosen (slice_index_or last reg None)) value) (list_all (is_true_of chosen) (tests_on place last steps)) true_of in (
+    let both = and_parts (compares (asked equal holds) (value_on chosen (slice_index_or last reg None)) value) (list_all (is_true_of chosen) (tests_from place last steps)) true_of in (
       asked-from equal holds (value_on chosen (slice_index_or last reg None)) value both.0 ∙ ap (λ v. compares equal v value) (sym now),
       tells-agrees owner place steps chosen last before values held looks one_each both.1,
     )
 
 -- ---- the whole of a walk
-no_reads : List (Option ℕ)
-no_reads = replicate REGISTERS None
-
 zeros : (chosen : List (ℕ × ℕ)) (n : ℕ) → replicate n 0 ≡ map (value_on chosen) (replicate n None)
 zeros chosen zero = refl
 zeros chosen (suc n) = ap (λ rs. 0 ∷ rs) (zeros chosen n)
 
-abbrev told_whole : ℕ → List Step → Told
-told_whole owner steps = record { events = events_on owner 0 steps; tests = tests_on 0 (replicate REGISTERS None) steps; last = last_on 0 (replicate REGISTERS None) steps }
+abbrev whole : ℕ → List Step → PathModel
+whole owner steps = record { events = events_on owner 0 steps; tests = tests_from 0 (replicate REGISTERS None) steps; last = last_from 0 (replicate REGISTERS None) steps }
 
 run-agreed : (owner : ℕ) (ss : Statements) (steps : List Step) → IsWalk ss steps → (run : Run) → IsRun owner ss run → run_path run ≡ path_on owner steps
-    → Agreed (chosen_on (events_on owner 0 steps) run.values) (tests_on 0 (replicate REGISTERS None) steps) (last_on 0 (replicate REGISTERS None) steps) (read_places (events_on owner 0 steps)) run.values run.registers
+    → Agreed (chosen_on (events_on owner 0 steps) run.values) (tests_from 0 (replicate REGISTERS None) steps) (last_from 0 (replicate REGISTERS None) steps) (read_places (events_on owner 0 steps)) run.values run.registers
 run-agreed owner ss steps walked run is on =
     let same : is.path.steps ≡ steps = walk-decided ss is.path.steps steps is.path.walked walked
     (ap (λ (p : Path). p.decisions) is.path.taken ∙ ap (λ (p : Path). p.decisions) on) in
@@ -287,7 +218,7 @@ run-agreed owner ss steps walked run is on =
     (looks-all 0 chosen (places-from owner 0 steps run.values))
     (subst (λ (l : List Step). AgreesWith l (replicate REGISTERS 0) run.values run.registers) same is.agrees)
 
-tells-whole : (owner : ℕ) (ss : Statements) (steps : List Step) → IsWalk ss steps → TellsRuns owner ss (path_on owner steps) (told_whole owner steps)
+tells-whole : (owner : ℕ) (ss : Statements) (steps : List Step) → IsWalk ss steps → TellsRuns owner ss (path_on owner steps) (whole owner steps)
 tells-whole owner ss steps walked = record {
   events = refl;
   run = λ values long true_of.
@@ -302,9 +233,12 @@ tells-whole owner ss steps walked = record {
   held = λ run is on. (run-agreed owner ss steps walked run is on).held;
 }
 
-pub tells_runs : (owner : ℕ) (ss : Statements) (steps : List Step) → IsWalk ss steps → TellsRuns owner ss (path_on owner steps) (with_steps owner nothing_told steps)
-tells_runs owner ss steps walked =
-    subst (λ (told : Told). TellsRuns owner ss (path_on owner steps) told) (sym (with_steps-told owner [] [] (replicate REGISTERS None) steps)) (tells-whole owner ss steps walked)
+pub tells_runs : (bytes owner : ℕ) (ss : Statements) (steps : List Step) → AreStatementsIn bytes ss → IsWalk ss steps → TellsRuns owner ss (path_on owner steps) (path_model owner steps)
+tells_runs bytes owner ss steps said walked =
+    let with_tests : List Tested → PathModel = λ tests. record { events = events_on owner 0 steps; tests = tests; last = last_from 0 (replicate REGISTERS None) steps } in
+    let with_last : List (Option ℕ) → PathModel = λ last. record { events = events_on owner 0 steps; tests = (path_model owner steps).tests; last = last } in
+    let same : whole owner steps ≡ path_model owner steps = ap with_tests (path_model-tests steps (walk-registers bytes ss steps said walked)) ∙ ap with_last (path_model-last steps) in
+    subst (λ (told : PathModel). TellsRuns owner ss (path_on owner steps) told) same (tells-whole owner ss steps walked)
 
 pub one_value_each : (owner : ℕ) (ss : Statements) (run : Run) → IsRun owner ss run → length run.values ≡ length (read_places run.events)
 one_value_each owner ss run is =

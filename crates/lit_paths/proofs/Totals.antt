@@ -6,7 +6,7 @@ use Rattle.lit_read.specs.Syntax.{Litmus}
 use Rattle.lit_paths.specs.declared.event.Event.{Event}
 use Rattle.lit_paths.specs.Event.{event_at, init_event, does_read, does_write}
 use Rattle.lit_paths.specs.Path.{Path}
-use Rattle.lit_paths.specs.ByteReads.{byte_reads}
+use Rattle.lit_paths.specs.ByteReads.{byte_reads, pair_of}
 use Rattle.lit_paths.specs.Choice.{Choice, AreSources, candidates_of, sources_of, combinations_of, choices_on, choices_of, product}
 use Rattle.lit_paths.specs.Plan.{combination_at, events_in, choices_before, AreEventsIn, IsOfCombination, HasSources}
 use Rattle.lit_paths.proofs.Products.{slice_get_left, slice_get_right, product-some, AreSome-map}
@@ -14,14 +14,14 @@ use Rattle.lit_paths.proofs.Rising.{slice_get-map-found}
 use Rattle.lit_paths.proofs.ByteReads.{byte_reads-known}
 use Rattle.lit_paths.proofs.Candidates.{candidates_of-found}
 use Rattle.lit_paths.proofs.ChoiceLists.{events_on, choice_on, AreSources-sources_of}
-use Rattle.arrayvec.specs.ArrayVec.{ArrayVec}
 use Rattle.lit_paths.specs.declared.sources.ByteRead.{ByteRead}
 use Rattle.lit_paths.specs.Execution.{execution_choice}
-use Rattle.lit_paths.specs.Planning.Ways.{pair_of, ways_of, all_ways}
-use Rattle.lit_paths.specs.Planning.Planned.{IsEntered}
+use Rattle.lit_paths.specs.declared.combination.Combination.TheInside.{Inside}
+use Rattle.lit_paths.specs.Planning.CandidateLists.{candidates_for, candidate_lists}
+use Rattle.lit_paths.specs.Planning.Entered.{IsEntered}
 use Rattle.lit_paths.proofs.PathLists.{combinations_of-known}
 use Rattle.lit_paths.proofs.RunPaths.{runs-on_paths}
-use Rattle.lit_paths.proofs.WaySteps.{all_ways-known}
+use Rattle.lit_paths.proofs.WaySteps.{candidate_lists-are}
 
 -- ---- lists joined end to end
 joined_more : {A B : Type 0} (f : A → List B) (xs : List A) (c : ℕ) (d : A) → c < length xs
@@ -97,7 +97,7 @@ some_candidate bytes events i r b are at =
     omega (arith, slice_get_within (candidates_of events (r, b)) found.0 b found.1)
 
 pub ways-some : (bytes : ℕ) (events : List Event) (reads : List ByteRead) (i : ℕ) (read : ByteRead) → AreEventsIn bytes events → map pair_of reads ≡ byte_reads events
-    → slice_get reads i ≡ Some read → 1 ≤ length (ways_of events read)
+    → slice_get reads i ≡ Some read → 1 ≤ length (candidates_for events read)
 ways-some bytes events reads i read are same at =
     some_candidate bytes events i read.read read.byte are (ap (λ ps. slice_get ps i) (sym same) ∙ slice_get-map-found pair_of reads i read at)
 
@@ -124,72 +124,62 @@ pub has_sources : (t : Litmus) (c n : ℕ) (sources : List ℕ) → c < length (
     → slice_get (sources_of (events_in t c)) (n - choices_before t c) ≡ Some sources → HasSources t n sources
 has_sources t c n sources known low high at = record { choice = choice_on (combination_at t c) sources; listed = choice_in t c n sources known low high at; same = refl }
 
--- what an entered combination has of its choices
-pub entered_place : (t : Litmus) (c : ℕ) (events : List Event) (reads : List ByteRead) (candidates : List (ArrayVec ℕ)) (later : List ℕ) (first total n : ℕ)
-    → IsEntered t c events reads candidates later first total → choices_before t c ≤ n → n < choices_before t (c + 1) → n - first < length (product (all_ways events reads))
-entered_place t c events reads candidates later first total n is low high =
-    omega (
-      arith,
-      is.before,
-      low,
-      high,
-      before_more t c is.known,
-      ap (λ (l : List (List ℕ)). length l) (all_ways-known events reads is.all_reads),
-      ap (λ (es : List Event). length (sources_of es)) is.all_events,
-    )
-
-pub entered_end : (t : Litmus) (c : ℕ) (events : List Event) (reads : List ByteRead) (candidates : List (ArrayVec ℕ)) (later : List ℕ) (first total : ℕ)
-    → IsEntered t c events reads candidates later first total → first + total ≡ choices_before t (c + 1)
-entered_end t c events reads candidates later first total is =
-    omega (
-      arith,
-      is.before,
-      is.whole,
-      before_more t c is.known,
-      ap (λ (l : List (List ℕ)). length l) (all_ways-known events reads is.all_reads),
-      ap (λ (es : List Event). length (sources_of es)) is.all_events,
-    )
-
-pub entered_at : (t : Litmus) (c : ℕ) (events : List Event) (reads : List ByteRead) (candidates : List (ArrayVec ℕ)) (later : List ℕ) (first total n : ℕ) (sources : List ℕ)
-    → IsEntered t c events reads candidates later first total → slice_get (product (all_ways events reads)) (n - first) ≡ Some sources
-    → slice_get (sources_of (events_in t c)) (n - choices_before t c) ≡ Some sources
-entered_at t c events reads candidates later first total n sources is at =
-    ap (λ (es : List Event). slice_get (sources_of es) (n - choices_before t c)) (sym is.all_events)
-    ∙ ap (λ (l : List (List ℕ)). slice_get l (n - choices_before t c)) (sym (all_ways-known events reads is.all_reads))
-    ∙ ap (λ f. slice_get (product (all_ways events reads)) (n - f)) (sym is.before) ∙ at
-
 -- a combination has a choice
 pub some_choice : (bytes : ℕ) (events : List Event) → AreEventsIn bytes events → 1 ≤ length (sources_of events)
 some_choice bytes events are =
     product-some (map (candidates_of events) (byte_reads events))
     (AreSome-map (candidates_of events) (byte_reads events) (λ i read at. some_candidate bytes events i read.0 read.1 are at))
 
--- the same, where the combination is seen as a pair
-module _ (p : Litmus × ℕ) (t : Litmus) (c : ℕ) (view : (t, c) ≡ p) (events : List Event) (reads : List ByteRead) (candidates : List (ArrayVec ℕ)) (later : List ℕ) (first total n : ℕ)
-    (is : IsEntered t c events reads candidates later first total) (low : choices_before p.0 p.1 ≤ n) (high : n < choices_before p.0 (p.1 + 1)) where
-  seen_low : choices_before t c ≤ n
-  seen_low = omega (arith, low, ap (λ (q : Litmus × ℕ). choices_before q.0 q.1) view)
+-- ---- what an entered combination has of its choices
+module _ (x : Inside) (is : IsEntered x) where
+  abbrev t : Litmus
+  t = x.paths.now
 
-  seen_high : n < choices_before t (c + 1)
-  seen_high = omega (arith, high, ap (λ (q : Litmus × ℕ). choices_before q.0 (q.1 + 1)) view)
+  abbrev c : ℕ
+  c = x.number
 
-  pub seen_place : n - first < length (product (all_ways events reads))
-  seen_place = entered_place t c events reads candidates later first total n is seen_low seen_high
+  abbrev lists : List (List ℕ)
+  lists = candidate_lists x.joined.events.items x.reads.items
 
-  pub seen_first : first ≤ n
-  seen_first = omega (arith, is.before, seen_low)
+  pub entered_lists : lists ≡ map (candidates_of (events_in t c)) (byte_reads (events_in t c))
+  entered_lists =
+      candidate_lists-are x.joined.events.items x.reads.items is.all_reads
+      ∙ ap (λ (es : List Event). map (candidates_of es) (byte_reads es)) is.joined.events
 
-  pub seen_listed : (sources : List ℕ) → slice_get (product (all_ways events reads)) (n - first) ≡ Some sources → HasSources p.0 n sources
-  seen_listed sources at =
-      subst (λ (q : Litmus × ℕ). HasSources q.0 n sources) view
-      (has_sources t c n sources is.known seen_low seen_high (entered_at t c events reads candidates later first total n sources is at))
+  pub entered_count : length (product lists) ≡ length (sources_of (events_in t c))
+  entered_count = ap (λ (ws : List (List ℕ)). length (product ws)) entered_lists
 
-  pub seen_of : (sources : List ℕ) → slice_get (product (all_ways events reads)) (n - first) ≡ Some sources → IsOfCombination p.0 n p.1
-  seen_of sources at =
-      subst (λ (q : Litmus × ℕ). IsOfCombination q.0 n q.1) view
-      (of_combination t c n sources is.known seen_low seen_high (entered_at t c events reads candidates later first total n sources is at))
+  pub entered_end : x.first + x.total ≡ choices_before t (c + 1)
+  entered_end = omega (arith, is.before, is.whole, before_more t c is.known, entered_count)
 
-  pub seen_sourced : (sources : List ℕ) → slice_get (product (all_ways events reads)) (n - first) ≡ Some sources → AreSources (events_in p.0 p.1) sources
-  seen_sourced sources at =
-      subst (λ (q : Litmus × ℕ). AreSources (events_in q.0 q.1) sources) view
-      (AreSources-sources_of (events_in t c) (n - choices_before t c) sources (entered_at t c events reads candidates later first total n sources is at))
+  entered_at : (n : ℕ) (sources : List ℕ) → slice_get (product lists) (n - x.first) ≡ Some sources → slice_get (sources_of (events_in t c)) (n - choices_before t c) ≡ Some sources
+  entered_at n sources at =
+      ap (λ (ws : List (List ℕ)). slice_get (product ws) (n - choices_before t c)) (sym entered_lists)
+      ∙ ap (λ f. slice_get (product lists) (n - f)) (sym is.before) ∙ at
+
+  -- the same, where the combination is seen as a pair
+  module _ (p : Litmus × ℕ) (view : (t, c) ≡ p) (n : ℕ) (low : choices_before p.0 p.1 ≤ n) (high : n < choices_before p.0 (p.1 + 1)) where
+    seen_low : choices_before t c ≤ n
+    seen_low = omega (arith, low, ap (λ (q : Litmus × ℕ). choices_before q.0 q.1) view)
+
+    seen_high : n < choices_before t (c + 1)
+    seen_high = omega (arith, high, ap (λ (q : Litmus × ℕ). choices_before q.0 (q.1 + 1)) view)
+
+    pub seen_place : n - x.first < length (product lists)
+    seen_place = omega (arith, is.before, seen_low, seen_high, before_more t c is.known, entered_count)
+
+    pub seen_first : x.first ≤ n
+    seen_first = omega (arith, is.before, seen_low)
+
+    pub seen_listed : (sources : List ℕ) → slice_get (product lists) (n - x.first) ≡ Some sources → HasSources p.0 n sources
+    seen_listed sources at =
+        subst (λ (q : Litmus × ℕ). HasSources q.0 n sources) view (has_sources t c n sources is.known seen_low seen_high (entered_at n sources at))
+
+    pub seen_of : (sources : List ℕ) → slice_get (product lists) (n - x.first) ≡ Some sources → IsOfCombination p.0 n p.1
+    seen_of sources at =
+        subst (λ (q : Litmus × ℕ). IsOfCombination q.0 n q.1) view (of_combination t c n sources is.known seen_low seen_high (entered_at n sources at))
+
+    pub seen_sourced : (sources : List ℕ) → slice_get (product lists) (n - x.first) ≡ Some sources → AreSources (events_in p.0 p.1) sources
+    seen_sourced sources at =
+        subst (λ (q : Litmus × ℕ). AreSources (events_in q.0 q.1) sources) view
+        (AreSources-sources_of (events_in t c) (n - choices_before t c) sources (entered_at n sources at))

@@ -5,60 +5,62 @@ use Rattle.std.proofs.lemmas.Option.{slice_get-get_or, slice_get_within, slice_g
 use Rattle.arrayvec.specs.ArrayVec.{ArrayVec}
 use Rattle.lit_paths.specs.declared.event.Event.{Event}
 use Rattle.lit_paths.specs.declared.sources.ByteRead.{ByteRead}
-use Rattle.lit_paths.specs.ByteReads.{byte_reads}
+use Rattle.lit_paths.specs.ByteReads.{byte_reads, pair_of}
 use Rattle.lit_paths.specs.Choice.{product, candidates_of, sources_of}
-use Rattle.lit_paths.specs.Planning.Ways.{pair_of, ways_of, all_ways}
-use Rattle.lit_paths.specs.Planning.Planned.{ways_after}
+use Rattle.lit_paths.specs.Planning.CandidateLists.{candidates_for, candidate_lists, ways_after}
 use Rattle.lit_paths.proofs.Products.{length-product, next_places, next_positive, factors-positive, product-known}
 use Rattle.lit_paths.proofs.Digits.{later_ways, ways_split, digit}
 
--- ---- the ways are those of the definition
-pub all_ways-known : (events : List Event) (reads : List ByteRead) → map pair_of reads ≡ byte_reads events → product (all_ways events reads) ≡ sources_of events
-all_ways-known events reads same = ap (λ (ws : List (List ℕ)). product ws) (maps reads) ∙ ap (λ ps. product (map (candidates_of events) ps)) same
+-- ---- the lists are those of the definition
+pub candidate_lists-are : (events : List Event) (reads : List ByteRead) → map pair_of reads ≡ byte_reads events → candidate_lists events reads ≡ map (candidates_of events) (byte_reads events)
+candidate_lists-are events reads same = maps reads ∙ ap (map (candidates_of events)) same
   where
-    maps : (rs : List ByteRead) → all_ways events rs ≡ map (candidates_of events) (map pair_of rs)
+    maps : (rs : List ByteRead) → candidate_lists events rs ≡ map (candidates_of events) (map pair_of rs)
     maps [] = refl
     maps (r ∷ rs) = ap (λ ws. candidates_of events (pair_of r) ∷ ws) (maps rs)
 
+pub candidate_lists-known : (events : List Event) (reads : List ByteRead) → map pair_of reads ≡ byte_reads events → product (candidate_lists events reads) ≡ sources_of events
+candidate_lists-known events reads same = ap (λ (ws : List (List ℕ)). product ws) (candidate_lists-are events reads same)
+
 -- ---- forming them
 pub record AreFormed (events : List Event) (reads : List ByteRead) (i : ℕ) (candidates : List (List ℕ)) (later : List ℕ) (left : ℕ) : Type 0 where
-  pub formed : candidates ≡ all_ways events (take i reads)
-  pub behind : later ++ ways_after (all_ways events (drop i reads)) ≡ ways_after (all_ways events reads)
-  pub left_is : left ≡ length (product (all_ways events (drop i reads)))
+  pub formed : candidates ≡ candidate_lists events (take i reads)
+  pub behind : later ++ ways_after (candidate_lists events (drop i reads)) ≡ ways_after (candidate_lists events reads)
+  pub left_is : left ≡ length (product (candidate_lists events (drop i reads)))
   pub some : 1 ≤ left
   pub counted : length later ≡ i
 
-pub formed_none : (events : List Event) (reads : List ByteRead) (total : ℕ) → total ≡ length (product (all_ways events reads)) → 1 ≤ total → AreFormed events reads 0 [] [] total
+pub formed_none : (events : List Event) (reads : List ByteRead) (total : ℕ) → total ≡ length (product (candidate_lists events reads)) → 1 ≤ total → AreFormed events reads 0 [] [] total
 formed_none events reads total whole some = record { formed = refl; behind = refl; left_is = whole; some = some; counted = refl }
 
 left_split : (events : List Event) (reads : List ByteRead) (i : ℕ) (d : ByteRead) → i < length reads
-    → all_ways events (drop i reads) ≡ ways_of events (get_or reads i d) ∷ all_ways events (drop (i + 1) reads)
-left_split events reads i d inside = ap (all_ways events) (drop_more reads i d inside)
+    → candidate_lists events (drop i reads) ≡ candidates_for events (get_or reads i d) ∷ candidate_lists events (drop (i + 1) reads)
+left_split events reads i d inside = ap (candidate_lists events) (drop_more reads i d inside)
 
-pub left_product : (events : List Event) (reads : List ByteRead) (i : ℕ) (d : ByteRead) (left : ℕ) → i < length reads → left ≡ length (product (all_ways events (drop i reads)))
-    → left ≡ length (ways_of events (get_or reads i d)) * length (product (all_ways events (drop (i + 1) reads)))
+pub left_product : (events : List Event) (reads : List ByteRead) (i : ℕ) (d : ByteRead) (left : ℕ) → i < length reads → left ≡ length (product (candidate_lists events (drop i reads)))
+    → left ≡ length (candidates_for events (get_or reads i d)) * length (product (candidate_lists events (drop (i + 1) reads)))
 left_product events reads i d left inside is =
-    is ∙ ap (λ ws. length (product ws)) (left_split events reads i d inside) ∙ length-product (ways_of events (get_or reads i d)) (all_ways events (drop (i + 1) reads))
+    is ∙ ap (λ ws. length (product ws)) (left_split events reads i d inside) ∙ length-product (candidates_for events (get_or reads i d)) (candidate_lists events (drop (i + 1) reads))
 
 pub some_way : (events : List Event) (reads : List ByteRead) (i : ℕ) (d : ByteRead) (candidates : List (List ℕ)) (later : List ℕ) (left count : ℕ) → i < length reads
-    → count ≡ length (ways_of events (get_or reads i d)) → AreFormed events reads i candidates later left → 0 < count
+    → count ≡ length (candidates_for events (get_or reads i d)) → AreFormed events reads i candidates later left → 0 < count
 some_way events reads i d candidates later left count inside counted formed =
     let split = left_product events reads i d left inside formed.left_is in
-    omega (arith, counted, (factors-positive (length (ways_of events (get_or reads i d))) (length (product (all_ways events (drop (i + 1) reads)))) 0 (omega (arith, split, formed.some))).0)
+    omega (arith, counted, (factors-positive (length (candidates_for events (get_or reads i d))) (length (product (candidate_lists events (drop (i + 1) reads)))) 0 (omega (arith, split, formed.some))).0)
 
 pub formed_more : (events : List Event) (reads : List ByteRead) (i : ℕ) (d : ByteRead) (candidates more : List (List ℕ)) (later longer : List ℕ) (left count : ℕ) → i < length reads
-    → count ≡ length (ways_of events (get_or reads i d)) → more ≡ candidates ++ ways_of events (get_or reads i d) ∷ [] → longer ≡ later ++ (left / count) ∷ []
+    → count ≡ length (candidates_for events (get_or reads i d)) → more ≡ candidates ++ candidates_for events (get_or reads i d) ∷ [] → longer ≡ later ++ (left / count) ∷ []
     → AreFormed events reads i candidates later left → AreFormed events reads (i + 1) more longer (left / count)
 formed_more events reads i d candidates more later longer left count inside counted pushed put before =
-    let rest : ℕ = length (product (all_ways events (drop (i + 1) reads))) in
+    let rest : ℕ = length (product (candidate_lists events (drop (i + 1) reads))) in
     let split : left ≡ count * rest = left_product events reads i d left inside before.left_is ∙ ap (λ n. n * rest) (sym counted) in
     let within : 0 < left = omega (arith, before.some) in
     let next : left / count ≡ rest = next_places left count rest 0 split within in
     record {
-      formed = pushed ∙ ap (λ (ws : List (List ℕ)). ws ++ ways_of events (get_or reads i d) ∷ []) before.formed ∙ sym (map_more (ways_of events) reads i d inside);
-      behind = ap (λ (ls : List ℕ). ls ++ ways_after (all_ways events (drop (i + 1) reads))) put
-          ∙ append_assoc later ((left / count) ∷ []) (ways_after (all_ways events (drop (i + 1) reads)))
-          ∙ ap (λ n. later ++ n ∷ ways_after (all_ways events (drop (i + 1) reads))) next
+      formed = pushed ∙ ap (λ (ws : List (List ℕ)). ws ++ candidates_for events (get_or reads i d) ∷ []) before.formed ∙ sym (map_more (candidates_for events) reads i d inside);
+      behind = ap (λ (ls : List ℕ). ls ++ ways_after (candidate_lists events (drop (i + 1) reads))) put
+          ∙ append_assoc later ((left / count) ∷ []) (ways_after (candidate_lists events (drop (i + 1) reads)))
+          ∙ ap (λ n. later ++ n ∷ ways_after (candidate_lists events (drop (i + 1) reads))) next
           ∙ ap (λ (ws : List (List ℕ)). later ++ ways_after ws) (sym (left_split events reads i d inside)) ∙ before.behind;
       left_is = next;
       some = omega (arith, next_positive left count rest 0 split within);
@@ -66,13 +68,13 @@ formed_more events reads i d candidates more later longer left count inside coun
     }
 
 pub formed_all : (events : List Event) (reads : List ByteRead) (i : ℕ) (candidates : List (List ℕ)) (later : List ℕ) (left : ℕ) → length reads ≤ i
-    → AreFormed events reads i candidates later left → candidates ≡ all_ways events reads
-formed_all events reads i candidates later left past is = is.formed ∙ ap (all_ways events) (take_all i reads past)
+    → AreFormed events reads i candidates later left → candidates ≡ candidate_lists events reads
+formed_all events reads i candidates later left past is = is.formed ∙ ap (candidate_lists events) (take_all i reads past)
 
 pub behind_all : (events : List Event) (reads : List ByteRead) (i : ℕ) (candidates : List (List ℕ)) (later : List ℕ) (left : ℕ) → length reads ≤ i
-    → AreFormed events reads i candidates later left → later ≡ ways_after (all_ways events reads)
+    → AreFormed events reads i candidates later left → later ≡ ways_after (candidate_lists events reads)
 behind_all events reads i candidates later left past is =
-    sym (append-nil later) ∙ ap (λ (rs : List ByteRead). later ++ ways_after (all_ways events rs)) (sym (drop_all i reads past)) ∙ is.behind
+    sym (append-nil later) ∙ ap (λ (rs : List ByteRead). later ++ ways_after (candidate_lists events rs)) (sym (drop_all i reads past)) ∙ is.behind
 
 -- ---- taking the sources of a choice
 pub ways_after-at : {A : Type 0} (xss : List (List A)) (i d : ℕ) → i < length xss → get_or (ways_after xss) i d ≡ later_ways xss i

@@ -1,5 +1,6 @@
 pub mod Event
 pub mod Path
+pub mod PathModel
 pub mod Run
 pub mod ByteReads
 pub mod Choice
@@ -7,4 +8,5 @@ pub mod Outcome
 pub mod Execution
 pub mod Told
 pub mod Plan
+pub mod Numbers
 pub mod Planning

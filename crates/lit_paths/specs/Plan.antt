@@ -1,19 +1,21 @@
 -- What a plan says of a test: the combinations of paths and the events of each, when a test is refused, and which
 -- combination a choice is of (this project's own).
-use Rattle.std.specs.Prelude.{◌≡◌, ◌⊎◌, ℕ, ◌+◌, ◌<◌, ◌≤◌, All, List, [], length, map, take, Some, slice_get, slice_index_or}
+use Rattle.std.specs.Prelude.{◌≡◌, ◌≢◌, ◌⊎◌, ℕ, ◌+◌, ◌<◌, ◌≤◌, All, IsSome, List, [], length, map, take, Some, slice_get, slice_index_or}
 use Rattle.std.specs.List.{flat_map}
-use Rattle.lit_read.specs.Syntax.{Litmus, agent_of}
+use Rattle.lit_read.specs.Syntax.{Litmus, AreStatementsIn, agent_of}
 use Rattle.lit_paths.specs.declared.limits.TheConstants.{ACCESS_LIMIT, EVENT_LIMIT, BYTE_READ_LIMIT, COMBINATION_LIMIT, CHOICE_LIMIT}
 use Rattle.lit_paths.specs.declared.event.Event.{Event}
+use Rattle.lit_paths.specs.declared.event.Order3.TheVariants.{Init}
+use Rattle.lit_paths.specs.declared.path.Tested.{Tested}
 use Rattle.lit_paths.specs.declared.planning.PlanFault.{PlanFault}
 use Rattle.lit_paths.specs.declared.planning.PlanFault.TheVariants.{TooManyEvents, TooManyPaths, TooManyChoices, OutOfMemory}
 use Rattle.lit_paths.specs.Event.{event_at, init_event}
-use Rattle.lit_paths.specs.Path.{Path}
+use Rattle.lit_paths.specs.Path.{Path, Step, IsWalk, walks_of, decisions_on, path_on}
+use Rattle.lit_paths.specs.PathModel.{PathModel, IsReadAt, last_read, tests_on, path_model}
 use Rattle.lit_paths.specs.Run.{run_path}
 use Rattle.lit_paths.specs.ByteReads.{byte_reads, IsCandidate}
-use Rattle.lit_paths.specs.Choice.{Choice, AreCombined, AreSources, events_of, choices_on, combinations_of, choices_of}
+use Rattle.lit_paths.specs.Choice.{Choice, AreCombined, AreSources, events_of, product, choices_on, combinations_of, choices_of}
 use Rattle.lit_paths.specs.Execution.{Execution, execution_choice, IsCandidateExecution}
-use Rattle.lit_paths.specs.Told.{Told, TellsRuns}
 
 -- the events of the accesses on a combination of paths: agents in order
 abbrev pub accesses_on : List Path → List Event
@@ -34,9 +36,12 @@ IsRefusal t TooManyPaths = HasFewEvents t × (COMBINATION_LIMIT < length (combin
 IsRefusal t TooManyChoices = HasFewEvents t × (length (combinations_of t) ≤ COMBINATION_LIMIT) × (CHOICE_LIMIT < length (choices_of t))
 IsRefusal t OutOfMemory = ⊥
 
--- memory ran out, or the test is refused
+-- The test is refused, or memory ran out. The first two refusals come before any growth.
 abbrev pub IsPlanFault : Litmus → PlanFault → Type 0
-IsPlanFault t fault = (fault ≡ OutOfMemory) ⊎ IsRefusal t fault
+IsPlanFault t TooManyEvents = IsRefusal t TooManyEvents
+IsPlanFault t TooManyPaths = IsRefusal t TooManyPaths
+IsPlanFault t TooManyChoices = IsRefusal t TooManyChoices
+IsPlanFault t OutOfMemory = HasFewEvents t × (length (combinations_of t) ≤ COMBINATION_LIMIT)
 
 -- the combination of paths with a number
 abbrev pub combination_at : Litmus → ℕ → List Path
@@ -45,6 +50,21 @@ combination_at t c = slice_index_or (combinations_of t) c []
 -- all events of the combination of paths with a number
 abbrev pub events_in : Litmus → ℕ → List Event
 events_in t c = events_of t.bytes (map (λ path. path.events) (combination_at t c))
+
+-- the walks of the agents on the combination of paths with a number
+abbrev pub walks_in : Litmus → ℕ → List (List Step)
+walks_in t c = slice_index_or (product (map (λ agent. walks_of agent.body) t.agents)) c []
+
+abbrev pub walk_in : (t : Litmus) → (c agent : ℕ) → List Step
+walk_in t c agent = slice_index_or (walks_in t c) agent []
+
+-- the path of an agent in a combination: its events, what it asks, and what its registers hold at the end
+abbrev pub path_in : (t : Litmus) → (c agent : ℕ) → PathModel
+path_in t c agent = path_model agent (walk_in t c agent)
+
+-- the number of the first event of an agent in a combination
+abbrev pub first_event : (t : Litmus) → (c agent : ℕ) → ℕ
+first_event t c agent = t.bytes + length (accesses_on (take agent (combination_at t c)))
 
 -- how many choices the combinations before one have
 abbrev pub choices_before : Litmus → ℕ → ℕ
@@ -75,12 +95,23 @@ pub record AreEventsIn (bytes : ℕ) (events : List Event) : Type 0 where
   pub sized : (n : ℕ) → n < length events → ((event_at events n).size ≡ 1) ⊎ (((event_at events n).size ≡ 2) ⊎ ((event_at events n).size ≡ 4))
   pub in_block : (n : ℕ) → n < length events → (event_at events n).first + (event_at events n).size ≤ bytes
   pub payload : (n : ℕ) → n < length events → All (λ b. b < 256) (event_at events n).payload
+  pub owned : (n : ℕ) → bytes ≤ n → n < length events → IsSome (event_at events n).owner
+  pub accessed : (n : ℕ) → bytes ≤ n → n < length events → (event_at events n).order ≢ Init
+  pub placed : (e d : ℕ) → e < length events → d < length events → (event_at events e).owner ≡ (event_at events d).owner
+      → (event_at events e).place < (event_at events d).place → e < d
 
--- This is what the path of an agent in a combination tells.
-pub record TellsPath (t : Litmus) (c agent : ℕ) (told : Told) : Type 0 where
-  pub path : Path
-  pub listed : slice_get (combination_at t c) agent ≡ Some path
-  pub tells : TellsRuns agent (agent_of t agent).body path told
+-- These steps are the walk of an agent on the path that it has in combination c. Each of its events, by its place, is
+-- one of the combination's; it asks one thing at each decision; and what is asked and held is of events that read.
+pub record IsWalkIn (t : Litmus) (c agent : ℕ) (steps : List Step) : Type 0 where
+  pub said : AreStatementsIn t.bytes (agent_of t agent).body
+  pub walked : IsWalk (agent_of t agent).body steps
+  pub listed : slice_get (combination_at t c) agent ≡ Some (path_on agent steps)
+  pub one_test_each : length (tests_on steps) ≡ length (decisions_on steps)
+  pub tests_reads : (k place : ℕ) (test : Tested) → slice_get (tests_on steps) k ≡ Some test → test.on ≡ Some place → IsReadAt (path_on agent steps).events place
+  pub holds_reads : (r place : ℕ) → last_read steps r ≡ Some place → IsReadAt (path_on agent steps).events place
+  pub within : first_event t c agent + length (path_on agent steps).events ≤ length (events_in t c)
+  pub numbered : (place : ℕ) → place < length (path_on agent steps).events
+      → event_at (events_in t c) (first_event t c agent + place) ≡ event_at (path_on agent steps).events place
 
 -- exactly the candidates of a byte of a read, rising
 pub record ListsCandidates (events : List Event) (r b : ℕ) (candidates : List ℕ) : Type 0 where

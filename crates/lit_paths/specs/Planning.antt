@@ -1,6 +1,9 @@
 -- Notions of the contracts inside this crate: how its answers are put together.
-pub mod Telling
+pub mod PathSteps
 pub mod Walks
-pub mod Ways
+pub mod CandidateLists
 pub mod Combining
+pub mod AllPaths
+pub mod Totals
 pub mod Planned
+pub mod Entered

@@ -4,21 +4,11 @@ use Rattle.std.specs.Prelude.{◌≡◌, ℕ, ◌==◌, Bool, true, if◌then◌
 use Rattle.std.specs.List.{list_all, zip}
 use Rattle.lit_read.specs.Syntax.{Statements}
 use Rattle.lit_paths.specs.declared.event.Event.{Event}
-use Rattle.lit_paths.specs.declared.walked.Path as walked
-use Rattle.lit_paths.specs.declared.walked.Tested.{Tested}
+use Rattle.lit_paths.specs.declared.path.Tested.{Tested}
 use Rattle.lit_paths.specs.Event.{does_read}
 use Rattle.lit_paths.specs.Path.{Path}
+use Rattle.lit_paths.specs.PathModel.{PathModel}
 use Rattle.lit_paths.specs.Run.{Run, IsRun, compares, run_path}
-
--- its events, what it asks of the values read on it, and for each register the place of the read that it holds
-pub record Told : Type 0 where
-  pub events : List Event
-  pub tests : List Tested
-  pub last : List (Option ℕ)
-
--- what a value of the program's type `Path` tells
-abbrev pub told_of : walked.Path → Told
-told_of path = record { events = path.events.items; tests = path.tests.items; last = path.last }
 
 -- the places of the events that read, in order
 abbrev pub read_places : List Event → List ℕ
@@ -45,7 +35,7 @@ is_true_of chosen test = compares test.equal (value_on chosen test.on) test.valu
 
 -- For each list of values, one for each read on the path, there is a run with them on this path exactly where each test
 -- is true of them, and then each register holds what `last` says.
-pub record TellsRuns (owner : ℕ) (body : Statements) (path : Path) (told : Told) : Type 0 where
+pub record TellsRuns (owner : ℕ) (body : Statements) (path : Path) (told : PathModel) : Type 0 where
   pub events : told.events ≡ path.events
   pub run : (values : List ℕ) → length values ≡ length (read_places path.events) → list_all (is_true_of (chosen_on path.events values)) told.tests ≡ true
       → IsRun owner body (record { values = values; decisions = path.decisions; events = path.events; registers = map (value_on (chosen_on path.events values)) told.last })

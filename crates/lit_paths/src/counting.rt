@@ -16,14 +16,14 @@ pub(crate) fn walk_count(body: &[Stmt]) -> usize
 {
     let mut count = 1;
     for statement in body {
-        count = (count * ways(statement)).min(COMBINATION_LIMIT + 1);
+        count = (count * statement_walk_count(statement)).min(COMBINATION_LIMIT + 1);
     }
     count
 }
 
 /// How many walks lead through a statement, as far.
 #[cycle(walk_counts)]
-fn ways(statement: &Stmt) -> usize
+fn statement_walk_count(statement: &Stmt) -> usize
     ensures { result ≡ min (length (statement_walks (statement_of statement.now))) many_walks }
 {
     match statement {
@@ -42,14 +42,14 @@ pub(crate) fn longest_walk(body: &[Stmt]) -> usize
 {
     let mut count = 0;
     for statement in body {
-        count = (count + longest_way(statement)).min(ACCESS_LIMIT + 1);
+        count = (count + longest_statement_walk(statement)).min(ACCESS_LIMIT + 1);
     }
     count
 }
 
 /// How many accesses the longest walk through a statement has, as far.
 #[cycle(longest_walks)]
-fn longest_way(statement: &Stmt) -> usize
+fn longest_statement_walk(statement: &Stmt) -> usize
     ensures { result ≡ min (statement_longest (statement_of statement.now)) many_accesses }
 {
     match statement {

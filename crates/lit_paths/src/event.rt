@@ -1,5 +1,8 @@
 //! Events (ECMA-262, 2024, clause 29, "Memory Model Fundamentals").
 
+ghost use Rattle.std.specs.Prelude.{◌≡◌, ◌<◌, length};
+ghost use Rattle.lit_paths.specs.Event.{event_at};
+
 use crate::limits::{BYTE_READ_LIMIT, EVENT_LIMIT};
 use arrayvec::ArrayVec;
 
@@ -66,6 +69,53 @@ pub struct Event {
     pub owner: Option<u8>,
     /// Its place, from 0, in the event list of its owner; of an event that makes the block, the byte that it makes.
     pub place: u8,
+}
+
+impl Event {
+    ghost use Rattle.std.specs.Prelude.{◌≡◌, ◌↔◌, IsTrue};
+    ghost use Rattle.lit_paths.specs.declared.event.Order3.TheVariants.{SeqCst};
+    ghost use Rattle.lit_paths.specs.Event.{HasByte, HasSameRange, SharesByte};
+
+    /// Whether a byte, from the block's start, is in its range.
+    pub fn has_byte(&self, byte: u8) -> bool
+        ensures { IsTrue result ↔ HasByte self.now byte }
+    {
+        self.first <= byte && u16::from(byte) < u16::from(self.first) + u16::from(self.size)
+    }
+
+    /// Whether its range and that of another event are the same bytes.
+    pub fn has_same_range(&self, other: &Event) -> bool
+        ensures { IsTrue result ↔ HasSameRange self.now other.now }
+    {
+        if self.size == 0 {
+            other.size == 0
+        } else {
+            self.first == other.first && self.size == other.size
+        }
+    }
+
+    /// Whether some byte is in its range and in that of another event.
+    pub fn shares_byte(&self, other: &Event) -> bool
+        ensures { IsTrue result ↔ SharesByte self.now other.now }
+    {
+        let start = self.first.max(other.first);
+        self.has_byte(start) && other.has_byte(start)
+    }
+
+    /// Whether it is sequentially consistent.
+    pub fn is_seq_cst(&self) -> bool
+        ensures { IsTrue result ↔ (self.now.order ≡ SeqCst) }
+    {
+        self.order == Order3::SeqCst
+    }
+}
+
+/// The event with a number, which is below their count.
+pub fn event_at(events: &[Event], number: usize) -> &Event
+    requires { number < length events.now }
+    ensures { result.now ≡ event_at events.now number }
+{
+    &events[number]
 }
 
 /// The events of a candidate execution: those that make the block, by byte, then each agent's in order. An event's

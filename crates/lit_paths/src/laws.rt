@@ -1,11 +1,14 @@
 //! Laws of the definitions that the contracts cite.
 
-ghost use Rattle.std.specs.Prelude.{◌≡◌, ℕ, length, map};
-ghost use Rattle.lit_read.specs.Syntax.{Litmus, Statements};
-ghost use Rattle.lit_paths.specs.Choice.{IsChoice, ListsChoices, ListsCombinations};
+ghost use Rattle.std.specs.Prelude.{◌≡◌, ℕ, ◌<◌, List, length, map};
+ghost use Rattle.lit_read.specs.Syntax.{Litmus, Statements, AreStatementsIn};
+ghost use Rattle.lit_paths.specs.Choice.{IsChoice, ListsChoices, ListsCombinations, combinations_of};
 ghost use Rattle.lit_paths.specs.Execution.{Execution, execution_choice, IsCandidateExecution};
+ghost use Rattle.lit_paths.specs.Numbers.{NumbersChoices};
+ghost use Rattle.lit_paths.specs.Path.{Step, IsWalk, path_on};
+ghost use Rattle.lit_paths.specs.PathModel.{path_model};
 ghost use Rattle.lit_paths.specs.Run.{Run, IsRun};
-ghost use Rattle.lit_paths.specs.Told.{read_places};
+ghost use Rattle.lit_paths.specs.Told.{read_places, TellsRuns};
 
 /// The list of a test's choices has exactly its choices, each once, and rises strictly: so a choice's number, its place
 /// in the list, is how many choices come before it.
@@ -17,6 +20,19 @@ pub fn choices_are_listed()
 /// strictly by the paths' decisions.
 pub fn combinations_are_listed()
     ensures { (t : Litmus) → ListsCombinations t }
+{}
+
+/// The choices on a combination that begin with given sources have a run of numbers, whose length is the product of the
+/// numbers of candidates of the byte reads not given yet.
+pub fn choices_have_numbers()
+    ensures { (t : Litmus) (c : ℕ) → c < length (combinations_of t) → NumbersChoices t c }
+{}
+
+/// Of statements that a text can say: there is a run on a path with given values exactly where each test of the path is true of them, and its registers
+/// hold the reads that the path says.
+pub fn paths_tell_their_runs()
+    ensures { (bytes owner : ℕ) (body : Statements) (steps : List Step) → AreStatementsIn bytes body → IsWalk body steps
+        → TellsRuns owner body (path_on owner steps) (path_model owner steps) }
 {}
 
 /// A run has one chosen value for each of its reads.

@@ -5,33 +5,34 @@
 #![tactic(auto)]
 
 mod accesses;
-mod agents;
-mod combining;
+mod agent_paths;
+mod combination;
 mod counting;
-mod entered;
 mod event;
+mod joined;
 mod laws;
 mod limits;
 mod making;
 mod names;
+mod path;
 mod planning;
 mod sources;
 #[cfg(test)]
 mod tests;
-mod walked;
 mod walking;
 
-pub use entered::Combination;
-pub use event::{Event, Events, Kind, Order3, Sources};
+pub use combination::Combination;
+pub use event::{Event, Events, Kind, Order3, Sources, event_at};
 pub use laws::{
-    candidate_executions_have_choices, choices_are_listed, combinations_are_listed,
-    runs_choose_for_each_read, values_have_one_choice,
+    candidate_executions_have_choices, choices_are_listed, choices_have_numbers,
+    combinations_are_listed, paths_tell_their_runs, runs_choose_for_each_read,
+    values_have_one_choice,
 };
 pub use limits::{
     ACCESS_LIMIT, BYTE_READ_LIMIT, CHOICE_LIMIT, COMBINATION_LIMIT, EVENT_LIMIT, NAME_LIMIT,
 };
 pub use making::plan;
 pub use names::Names;
+pub use path::{Path, Tested};
 pub use planning::{Plan, PlanFault};
 pub use sources::{ByteRead, ByteReads, Candidates};
-pub use walked::{Path, Tested};

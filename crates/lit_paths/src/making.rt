@@ -7,17 +7,15 @@ ghost use Rattle.lit_paths.specs.declared.planning.PlanFault.TheVariants.{OutOfM
 ghost use Rattle.lit_paths.specs.Choice.{sources_of, combinations_of, choices_of};
 ghost use Rattle.lit_paths.specs.Plan.{events_in, HasFewEvents, IsPlanFault};
 ghost use Rattle.lit_paths.specs.Planning.Walks.{longest_of, count_of, many_walks};
-ghost use Rattle.lit_paths.specs.Planning.Combining.{IsWalked};
-ghost use Rattle.lit_paths.specs.Planning.Planned.{totals_below};
+ghost use Rattle.lit_paths.specs.Planning.Totals.{totals_below};
 
-use crate::agents::paths_of_agents;
-use crate::combining::events_of;
+use crate::agent_paths::AgentPaths;
 use crate::counting::{longest_walk, walk_count};
+use crate::joined::join;
 use crate::limits::{ACCESS_LIMIT, CHOICE_LIMIT, COMBINATION_LIMIT};
 use crate::names::written_names;
 use crate::planning::{Plan, PlanFault};
 use crate::sources::{byte_reads_of, count_sources};
-use crate::walked::Path;
 use lit_read::Test;
 use std::alloc::Global;
 
@@ -45,29 +43,27 @@ fn combination_count(test: &Test) -> usize
 }
 
 /// How many choices a combination has, or `None` where these are more than there may be.
-fn choice_count(test: &Test, lists: &[Vec<Path>], combination: usize) -> Option<u64>
-    requires walked { IsWalked test.now lists.now }
-    requires known { combination < count_of test.now.agents }
-    ensures { MatchOption result (CHOICES < length (sources_of (events_in test.now combination)))
-        (λ count. (count ≡ length (sources_of (events_in test.now combination))) × (count ≤ CHOICES)) }
+fn choice_count(paths: &AgentPaths<'_>, combination: usize) -> Option<u64>
+    requires { combination < count_of paths.now.agents }
+    ensures { MatchOption result (CHOICES < length (sources_of (events_in paths.now combination)))
+        (λ count. (count ≡ length (sources_of (events_in paths.now combination))) × (count ≤ CHOICES)) }
 {
-    let events = events_of(test, lists, combination);
+    let events = join(paths, combination).events;
     let reads = byte_reads_of(events.as_slice());
     count_sources(events.as_slice(), reads.as_slice())
 }
 
 /// How many choices the first combinations have, up to each.
-fn running_totals(alloc: Global, test: &Test, lists: &[Vec<Path>]) -> Result<Vec<u64>, PlanFault>
-    requires { IsWalked test.now lists.now }
-    ensures totals { IfOk result (λ totals. totals.items ≡ totals_below test.now (length (combinations_of test.now))) }
-    ensures few { OnOk result (length (choices_of test.now) ≤ CHOICES) }
-    ensures many { IfErr result (λ e. (e ≡ OutOfMemory) ⊎ ((e ≡ TooManyChoices) × (CHOICES < length (choices_of test.now)))) }
+fn running_totals(alloc: Global, paths: &AgentPaths<'_>) -> Result<Vec<u64>, PlanFault>
+    ensures totals { IfOk result (λ totals. totals.items ≡ totals_below paths.now (length (combinations_of paths.now))) }
+    ensures few { OnOk result (length (choices_of paths.now) ≤ CHOICES) }
+    ensures many { IfErr result (λ e. (e ≡ OutOfMemory) ⊎ ((e ≡ TooManyChoices) × (CHOICES < length (choices_of paths.now)))) }
 {
-    let count = combination_count(test);
+    let count = paths.combinations();
     let mut totals = Vec::with_capacity(alloc, count)?;
     let mut total = 0;
     for combination in 0..count {
-        let Some(choices) = choice_count(test, lists, combination) else {
+        let Some(choices) = choice_count(paths, combination) else {
             return Err(PlanFault::TooManyChoices);
         };
         total += choices;
@@ -96,10 +92,10 @@ pub fn plan<'t>(alloc: Global, test: &'t Test) -> Result<Plan<'t>, PlanFault>
     if combination_count(test) > COMBINATION_LIMIT {
         return Err(PlanFault::TooManyPaths);
     }
-    let lists = paths_of_agents(alloc, test)?;
-    let totals = match running_totals(alloc, test, lists.as_slice()) {
+    let paths = AgentPaths::new(alloc, test)?;
+    let totals = match running_totals(alloc, &paths) {
         Ok(totals) => totals,
         Err(fault) => return Err(fault),
     };
-    Ok(Plan::new(test, lists, totals, written_names(test)))
+    Ok(Plan::new(paths, totals, written_names(test)))
 }

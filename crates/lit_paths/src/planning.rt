@@ -7,15 +7,15 @@ ghost use Rattle.lit_paths.specs.Choice.{choices_of, combinations_of};
 ghost use Rattle.lit_paths.specs.declared.limits.TheConstants.{CHOICE_LIMIT, COMBINATION_LIMIT, NAME_LIMIT};
 ghost use Rattle.lit_paths.specs.Event.{event_at};
 ghost use Rattle.lit_paths.specs.Outcome.{names_of, meets as is_met};
-ghost use Rattle.lit_paths.specs.Plan.{events_in, choices_before, AreEventsIn, HasSources, IsOfCombination, ListsCandidates, TellsPath};
-ghost use Rattle.lit_paths.specs.Told.{told_of};
+ghost use Rattle.lit_paths.specs.Plan.{events_in, choices_before, path_in, walk_in, AreEventsIn, HasSources, IsOfCombination, IsWalkIn, ListsCandidates};
 
-use crate::combining::{events_of, path_in};
-use crate::entered::Combination;
-use crate::event::{Event, Events, Sources};
+use crate::agent_paths::AgentPaths;
+use crate::combination::Combination;
+use crate::event::{Events, Sources, event_at};
+use crate::joined::join;
 use crate::names::{Names, holds};
+use crate::path::Path;
 use crate::sources::{ByteRead, Candidates, candidates_of};
-use crate::walked::Path;
 use lit_read::Test;
 use std::alloc::{AllocError, AllocFailed};
 use std::marker::Model;
@@ -63,8 +63,7 @@ impl<T: Drop> From<AllocFailed<T>> for PlanFault {
 /// The choices of a test, by number, and what all of them share. A clause sees it as the test's value.
 #[derive(Drop)]
 pub struct Plan<'t> {
-    test: &'t Test,
-    lists: Vec<Vec<Path>>,
+    paths: AgentPaths<'t>,
     totals: Vec<u64>,
     names: Names,
 }
@@ -78,17 +77,9 @@ impl<'t> Model for Plan<'t> {
 
     ghost coded = { coded_litmus };
 
-    ghost view = { λ p. p.test.now };
+    ghost view = { λ p. p.paths };
 
-    ghost invariant = { λ p. IsPlanned p.test.now p.lists.items p.totals.items p.names.items };
-}
-
-/// The event with a number.
-fn event_at(events: &[Event], number: usize) -> &Event
-    requires { number < length events.now }
-    ensures { result.now ≡ event_at events.now number }
-{
-    &events[number]
+    ghost invariant = { IsPlanned };
 }
 
 /// The number of the combination that a choice is of: the first one whose choices end behind it.
@@ -106,16 +97,19 @@ fn combination_of(totals: &[u64], n: u64) -> usize
 }
 
 impl<'t> Plan<'t> {
-    ghost use Rattle.lit_paths.specs.Planning.Planned.{IsPlanned};
+    ghost use Rattle.lit_paths.specs.Planning.Totals.{totals_below};
+    ghost use Rattle.lit_paths.specs.Planning.Walks.{IsInLimits};
 
     /// The plan of a test, from what it keeps of it.
-    pub(crate) fn new(test: &'t Test, lists: Vec<Vec<Path>>, totals: Vec<u64>, names: Names) -> Self
-        requires { IsPlanned test.now lists.items totals.items names.items }
-        ensures { result ≡ test.now }
+    pub(crate) fn new(paths: AgentPaths<'t>, totals: Vec<u64>, names: Names) -> Self
+        requires limits { IsInLimits paths }
+        requires totals { totals.items ≡ totals_below paths (length (combinations_of paths)) }
+        requires few { length (choices_of paths) ≤ CHOICE_LIMIT }
+        requires names { names.items ≡ names_of paths }
+        ensures { result ≡ paths.entry }
     {
         Plan {
-            test,
-            lists,
+            paths,
             totals,
             names,
         }
@@ -125,7 +119,7 @@ impl<'t> Plan<'t> {
     pub fn test(&self) -> &'t Test
         ensures { result.now ≡ self.now }
     {
-        self.test
+        self.paths.test()
     }
 
     /// How many combinations of paths there are: 1 to `COMBINATION_LIMIT`.
@@ -179,19 +173,14 @@ impl<'t> Plan<'t> {
     }
 
     /// A combination of paths, by its number: below `combinations`.
-    pub fn enter(&self, combination: usize) -> Combination<'t>
+    pub fn enter<'p>(&'p self, combination: usize) -> Combination<'p>
         requires { combination < length (combinations_of self.now) }
         ensures { result ≡ (self.now, combination) }
     {
         let first = self.first_of(combination);
         let total = self.end_of(combination) - first;
-        Combination::new(
-            self.test,
-            combination,
-            self.events(combination),
-            first,
-            total,
-        )
+        let joined = join(&self.paths, combination);
+        Combination::new(&self.paths, combination, joined, first, total)
     }
 
     /// The sources of a choice, by its number: below `total`.
@@ -208,7 +197,7 @@ impl<'t> Plan<'t> {
         ensures value { result.items ≡ events_in self.now combination }
         ensures sound { AreEventsIn self.now.bytes result.items }
     {
-        events_of(self.test, self.lists.as_slice(), combination)
+        join(&self.paths, combination).events
     }
 
     /// The path of an agent in a combination. The combination is below `combinations`, the agent below the number of
@@ -216,9 +205,10 @@ impl<'t> Plan<'t> {
     pub fn path(&self, combination: usize, agent: usize) -> &Path
         requires combination { combination < length (combinations_of self.now) }
         requires agent { agent < length self.now.agents }
-        ensures { TellsPath self.now combination agent (told_of result.now) }
+        ensures exact { result.now ≡ path_in self.now combination agent }
+        ensures walk { IsWalkIn self.now combination agent (walk_in self.now combination agent) }
     {
-        path_in(self.test, self.lists.as_slice(), combination, agent)
+        self.enter(combination).path(agent)
     }
 
     /// The candidates of a byte of a read, by rising event number. The combination is below `combinations`, `read` the
@@ -250,6 +240,6 @@ impl<'t> Plan<'t> {
         requires { length outcome.now ≡ length (names_of self.now) }
         ensures { result ≡ is_met self.now outcome.now }
     {
-        holds(self.names.as_slice(), outcome, self.test.check())
+        holds(self.names.as_slice(), outcome, self.test().check())
     }
 }

@@ -3,10 +3,10 @@
 ghost use Rattle.std.specs.Prelude.{◌≡◌, ℕ, ◌+◌, ◌<◌, ◌≤◌, ◌^◌, ◌++◌, length, map, MatchOption, slice_get, Some};
 ghost use Rattle.arrayvec.specs.ArrayVec.{array_vec_len};
 ghost use Rattle.lit_paths.specs.Event.{event_at};
-ghost use Rattle.lit_paths.specs.ByteReads.{bytes_read_by, byte_reads};
+ghost use Rattle.lit_paths.specs.ByteReads.{bytes_read_by, byte_reads, pair_of};
 ghost use Rattle.lit_paths.specs.Choice.{product, is_candidate as may_be_source};
 ghost use Rattle.lit_paths.specs.declared.sources.ByteRead.{ByteRead as Read};
-ghost use Rattle.lit_paths.specs.Planning.Ways.{pair_of, ways_of, all_ways};
+ghost use Rattle.lit_paths.specs.Planning.CandidateLists.{candidates_for, candidate_lists};
 
 use crate::event::{Event, Sources};
 use crate::limits::{BYTE_READ_LIMIT, CHOICE_LIMIT, EVENT_LIMIT};
@@ -61,16 +61,13 @@ pub(crate) fn byte_reads_of(events: &[Event]) -> ByteReads
 fn is_candidate(number: usize, event: &Event, read: ByteRead) -> bool
     ensures { result ≡ may_be_source read.read read.byte (number, event.now) }
 {
-    event.kind.does_write()
-        && event.first <= read.byte
-        && usize::from(read.byte) < usize::from(event.first) + usize::from(event.size)
-        && number != usize::from(read.read)
+    event.kind.does_write() && event.has_byte(read.byte) && number != usize::from(read.read)
 }
 
 /// The candidates of a byte of a read.
 pub(crate) fn candidates_of(events: &[Event], read: ByteRead) -> Candidates
     requires { length events.now ≤ EVENT_LIMIT }
-    ensures { result.items ≡ ways_of events.now read }
+    ensures { result.items ≡ candidates_for events.now read }
 {
     let mut candidates = Candidates::new();
     for (number, event) in events.iter().enumerate() {
@@ -84,7 +81,7 @@ pub(crate) fn candidates_of(events: &[Event], read: ByteRead) -> Candidates
 /// How many candidates a byte of a read has.
 fn candidate_count(events: &[Event], read: ByteRead) -> u64
     requires { length events.now ≤ EVENT_LIMIT }
-    ensures value { result ≡ length (ways_of events.now read) }
+    ensures value { result ≡ length (candidates_for events.now read) }
     ensures few { result ≤ EVENT_LIMIT }
 {
     let mut count = 0;
@@ -99,9 +96,9 @@ fn candidate_count(events: &[Event], read: ByteRead) -> u64
 /// How many sources the reads can have in all, or `None` where these are more than there may be choices.
 pub(crate) fn count_sources(events: &[Event], reads: &[ByteRead]) -> Option<u64>
     requires few { length events.now ≤ EVENT_LIMIT }
-    requires some { (i : ℕ) (read : Read) → slice_get reads.now i ≡ Some read → 1 ≤ length (ways_of events.now read) }
-    ensures { MatchOption result (CHOICE_LIMIT < length (product (all_ways events.now reads.now)))
-        (λ total. (total ≡ length (product (all_ways events.now reads.now))) × (1 ≤ total) × (total ≤ CHOICE_LIMIT)) }
+    requires some { (i : ℕ) (read : Read) → slice_get reads.now i ≡ Some read → 1 ≤ length (candidates_for events.now read) }
+    ensures { MatchOption result (CHOICE_LIMIT < length (product (candidate_lists events.now reads.now)))
+        (λ total. (total ≡ length (product (candidate_lists events.now reads.now))) × (1 ≤ total) × (total ≤ CHOICE_LIMIT)) }
 {
     let mut total = 1;
     for read in reads {

@@ -1,4 +1,6 @@
 mod branches;
+mod numbers;
+mod path_tests;
 mod refusals;
 mod refused_memory;
 

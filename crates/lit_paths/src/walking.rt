@@ -5,55 +5,54 @@ ghost use Rattle.lit_read.specs.declared.limits.TheConstants.{REGISTERS};
 ghost use Rattle.lit_read.specs.Litmus.{window_of, statement_of, statements_of};
 ghost use Rattle.lit_paths.specs.declared.limits.TheConstants.{ACCESS_LIMIT, COMBINATION_LIMIT};
 ghost use Rattle.lit_paths.specs.Path.{LoadMet, StoreMet, ExchangeMet, CompareExchangeMet, walks_of, statement_walks};
-ghost use Rattle.lit_paths.specs.Told.{told_of};
-ghost use Rattle.lit_paths.specs.Planning.Telling.{with_step, with_steps};
+ghost use Rattle.lit_paths.specs.Planning.PathSteps.{with_step, with_steps};
 ghost use Rattle.lit_paths.specs.Planning.Walks.{IsAccess, IsSaid, AreSaid, longest, statement_longest, walk_at, statement_walk_at};
 
 use crate::accesses::{Access, event_of};
 use crate::counting::walk_count;
 use crate::event::Kind;
-use crate::walked::Path;
+use crate::path::Path;
 use lit_read::Stmt;
 use std::alloc::AllocError;
 
 /// The place of the next access on a path.
 fn next_place(path: &Path) -> u8
-    requires { length (told_of path.now).events ≤ ACCESS_LIMIT }
-    ensures { result ≡ length (told_of path.now).events }
+    requires { length path.now.events ≤ ACCESS_LIMIT }
+    ensures { result ≡ length path.now.events }
 {
     path.events().len() as u8
 }
 
 /// Adds a load.
 fn load(path: &mut Path, access: Access, reg: u8, atomic: bool)
-    requires room { length (told_of path.old).events < ACCESS_LIMIT }
+    requires room { length path.old.events < ACCESS_LIMIT }
     requires register { reg < REGISTERS }
     requires block { IsAccess (window_of access.view) access.index }
-    ensures { told_of path.new ≡ with_step access.owner (told_of path.old) (LoadMet reg (window_of access.view) access.index atomic) }
+    ensures { path.new ≡ with_step access.owner path.old (LoadMet reg (window_of access.view) access.index atomic) }
 {
     let event = event_of(access, next_place(path), Kind::Read, atomic, 0);
-    path.read(reg, event);
+    path.add_into_register(reg, event);
 }
 
 /// Adds a store.
 fn store(path: &mut Path, access: Access, value: u32, atomic: bool)
-    requires room { length (told_of path.old).events < ACCESS_LIMIT }
+    requires room { length path.old.events < ACCESS_LIMIT }
     requires block { IsAccess (window_of access.view) access.index }
-    ensures { told_of path.new ≡ with_step access.owner (told_of path.old) (StoreMet (window_of access.view) access.index value atomic) }
+    ensures { path.new ≡ with_step access.owner path.old (StoreMet (window_of access.view) access.index value atomic) }
 {
     let event = event_of(access, next_place(path), Kind::Write, atomic, value);
-    path.write(event);
+    path.add_without_register(event);
 }
 
 /// Adds an exchange.
 fn exchange(path: &mut Path, access: Access, reg: u8, value: u32)
-    requires room { length (told_of path.old).events < ACCESS_LIMIT }
+    requires room { length path.old.events < ACCESS_LIMIT }
     requires register { reg < REGISTERS }
     requires block { IsAccess (window_of access.view) access.index }
-    ensures { told_of path.new ≡ with_step access.owner (told_of path.old) (ExchangeMet reg (window_of access.view) access.index value) }
+    ensures { path.new ≡ with_step access.owner path.old (ExchangeMet reg (window_of access.view) access.index value) }
 {
     let event = event_of(access, next_place(path), Kind::Modify, true, value);
-    path.read(reg, event);
+    path.add_into_register(reg, event);
 }
 
 /// Adds a compareExchange that succeeds, or fails.
@@ -65,10 +64,10 @@ fn compare_exchange(
     value: u32,
     succeeds: bool,
 ) -> Result<(), AllocError>
-    requires room { length (told_of path.old).events < ACCESS_LIMIT }
+    requires room { length path.old.events < ACCESS_LIMIT }
     requires register { reg < REGISTERS }
     requires block { IsAccess (window_of access.view) access.index }
-    ensures { IfOk result (λ _. told_of path.new ≡ with_step access.owner (told_of path.old) (CompareExchangeMet reg (window_of access.view) access.index expected value succeeds)) }
+    ensures { IfOk result (λ _. path.new ≡ with_step access.owner path.old (CompareExchangeMet reg (window_of access.view) access.index expected value succeeds)) }
 {
     let place = next_place(path);
     let met = if succeeds {
@@ -76,8 +75,8 @@ fn compare_exchange(
     } else {
         event_of(access, place, Kind::Read, true, 0)
     };
-    path.read(reg, met);
-    path.ask(Some(place), succeeds, expected)
+    path.add_into_register(reg, met);
+    path.add_test(Some(place), succeeds, expected)
 }
 
 /// Walks on through statements, by the walk with this number, from 0.
@@ -91,9 +90,9 @@ pub(crate) fn walk(
     requires said { AreSaid (statements_of body.now) }
     requires few { length (walks_of (statements_of body.now)) ≤ COMBINATION_LIMIT }
     requires known { number < length (walks_of (statements_of body.now)) }
-    requires room { length (told_of path.old).events + longest (statements_of body.now) ≤ ACCESS_LIMIT }
-    ensures told { IfOk result (λ _. told_of path.new ≡ with_steps owner (told_of path.old) (walk_at (statements_of body.now) number)) }
-    ensures short { IfOk result (λ _. length (told_of path.new).events ≤ length (told_of path.old).events + longest (statements_of body.now)) }
+    requires room { length path.old.events + longest (statements_of body.now) ≤ ACCESS_LIMIT }
+    ensures walked { IfOk result (λ _. path.new ≡ with_steps owner path.old (walk_at (statements_of body.now) number)) }
+    ensures short { IfOk result (λ _. length path.new.events ≤ length path.old.events + longest (statements_of body.now)) }
 {
     let mut left = number;
     for (place, statement) in body.iter().enumerate() {
@@ -110,9 +109,9 @@ fn meet(path: &mut Path, owner: u8, statement: &Stmt, number: usize) -> Result<(
     requires said { IsSaid (statement_of statement.now) }
     requires few { length (statement_walks (statement_of statement.now)) ≤ COMBINATION_LIMIT }
     requires known { number < length (statement_walks (statement_of statement.now)) }
-    requires room { length (told_of path.old).events + statement_longest (statement_of statement.now) ≤ ACCESS_LIMIT }
-    ensures told { IfOk result (λ _. told_of path.new ≡ with_steps owner (told_of path.old) (statement_walk_at (statement_of statement.now) number)) }
-    ensures short { IfOk result (λ _. length (told_of path.new).events ≤ length (told_of path.old).events + statement_longest (statement_of statement.now)) }
+    requires room { length path.old.events + statement_longest (statement_of statement.now) ≤ ACCESS_LIMIT }
+    ensures walked { IfOk result (λ _. path.new ≡ with_steps owner path.old (statement_walk_at (statement_of statement.now) number)) }
+    ensures short { IfOk result (λ _. length path.new.events ≤ length path.old.events + statement_longest (statement_of statement.now)) }
 {
     match statement {
         Stmt::Load {
@@ -181,10 +180,10 @@ fn meet(path: &mut Path, owner: u8, statement: &Stmt, number: usize) -> Result<(
             let on = path.last(*reg);
             let first_else = walk_count(body);
             if number < first_else {
-                path.ask(on, *equal, *value)?;
+                path.add_test(on, *equal, *value)?;
                 walk(path, owner, body, number)
             } else {
-                path.ask(on, !*equal, *value)?;
+                path.add_test(on, !*equal, *value)?;
                 walk(path, owner, other, number - first_else)
             }
         }

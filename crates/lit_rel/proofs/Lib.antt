@@ -7,7 +7,6 @@ pub mod GrowthLemmas
 pub mod LevelLemmas
 pub mod PartLemmas
 pub mod PlaceLemmas
-pub mod RangeLemmas
 pub mod ReadingLemmas
 pub mod RelatingLemmas
 pub mod RowLemmas

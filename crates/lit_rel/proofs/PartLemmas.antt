@@ -13,10 +13,9 @@ use Rattle.lit_read.specs.Syntax.{Litmus}
 use Rattle.lit_paths.specs.declared.event.Event.{Event}
 use Rattle.lit_paths.specs.declared.limits.TheConstants.{BYTE_READ_LIMIT}
 use Rattle.lit_paths.specs.declared.sources.ByteRead.{ByteRead}
-use Rattle.lit_paths.specs.ByteReads.{byte_reads}
+use Rattle.lit_paths.specs.ByteReads.{byte_reads, pair_of}
 use Rattle.lit_paths.specs.Event.{event_at, no_event}
 use Rattle.lit_paths.specs.Plan.{AreEventsIn}
-use Rattle.lit_paths.specs.Planning.Ways.{pair_of}
 use Rattle.lit_rel.specs.declared.bit_rows.Rows.{Rows}
 use Rattle.lit_rel.specs.declared.given.SourcedByte.{SourcedByte}
 use Rattle.lit_rel.specs.declared.levels.Level.{Level}

@@ -13,7 +13,7 @@ ghost use Rattle.lit_rel.specs.SynchronizesWith.{CanSynchronize};
 use crate::bit_rows::Rows;
 use crate::event_set::EventSet;
 use crate::given::{Given, SourcedByte};
-use crate::ranges::event_at;
+use lit_paths::event_at;
 use crate::reading_checks::is_coherent_byte;
 use crate::relating::can_synchronize;
 

@@ -8,8 +8,7 @@ ghost use Rattle.lit_rel.specs.Parts.Steps.{IsFixedStep};
 ghost use Rattle.lit_rel.specs.Rows.{Holds, rows_len};
 
 use crate::bit_rows::Rows;
-use crate::ranges::{event_at, shares_byte};
-use lit_paths::{Event, Order3};
+use lit_paths::{Event, Order3, event_at};
 
 /// All of them.
 pub(crate) fn fixed_steps(events: &[Event]) -> Rows
@@ -64,5 +63,5 @@ fn is_made_before(events: &[Event], first: usize, second: usize) -> bool
     ensures { IsTrue result ↔ IsMadeBefore events.now first second }
 {
     let (e, d) = (event_at(events, first), event_at(events, second));
-    first != second && e.order == Order3::Init && shares_byte(e, d)
+    first != second && e.order == Order3::Init && e.shares_byte(d)
 }

@@ -11,10 +11,9 @@ ghost use Rattle.lit_rel.specs.Rows.{Holds};
 use crate::bit_rows::Rows;
 use crate::event_set::EventSet;
 use crate::given::{Given, SourcedByte};
-use crate::ranges::{event_at, has_same_range, is_seq_cst};
 use crate::relating::can_synchronize;
 use crate::triples::Between;
-use lit_paths::Event;
+use lit_paths::{Event, event_at};
 
 /// A source, its read and another event, by their numbers, and a relation that orders the events.
 #[derive(Clone, Copy)]
@@ -40,7 +39,7 @@ impl Triple<'_> {
         self.other != self.source
             && self.other != self.read
             && event.kind.does_write()
-            && is_seq_cst(event)
+            && event.is_seq_cst()
             && (self.is_between_synchronized() || self.is_after_source() || self.is_before_read())
     }
 
@@ -51,7 +50,7 @@ impl Triple<'_> {
         let source = event_at(self.events, self.source);
         let read = event_at(self.events, self.read);
         let other = event_at(self.events, self.other);
-        can_synchronize(source, read) && has_same_range(other, read)
+        can_synchronize(source, read) && other.has_same_range(read)
     }
 
     /// Whether a sequentially consistent source and an event with its range happen before the read.
@@ -63,8 +62,8 @@ impl Triple<'_> {
         let other = event_at(self.events, self.other);
         self.before.has_pair(self.source, self.read)
             && self.before.has_pair(self.other, self.read)
-            && is_seq_cst(source)
-            && has_same_range(source, other)
+            && source.is_seq_cst()
+            && source.has_same_range(other)
     }
 
     /// Whether the source happens before a sequentially consistent read and an event with the read's range.
@@ -76,8 +75,8 @@ impl Triple<'_> {
         let other = event_at(self.events, self.other);
         self.before.has_pair(self.source, self.read)
             && self.before.has_pair(self.source, self.other)
-            && is_seq_cst(read)
-            && has_same_range(other, read)
+            && read.is_seq_cst()
+            && other.has_same_range(read)
     }
 }
 

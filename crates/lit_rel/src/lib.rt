@@ -15,7 +15,6 @@ mod given;
 mod growth;
 mod levels;
 mod part;
-mod ranges;
 mod reading_checks;
 mod relating;
 #[cfg(test)]

@@ -55,7 +55,7 @@ impl<'p> Part<'p> {
     ghost use Rattle.lit_rel.specs.Parts.Given.{sources_of};
 
     /// A combination of a plan's test, by its number: below `combinations`. No byte read has a source yet.
-    pub fn open(plan: &Plan<'p>, combination: usize) -> Self
+    pub fn open(plan: &'p Plan<'p>, combination: usize) -> Self
         requires { combination < length (combinations_of plan.now) }
         ensures { result ≡ record { test = plan.now; combination = combination; sources = [] } }
     {

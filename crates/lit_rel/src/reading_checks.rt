@@ -11,14 +11,13 @@ ghost use Rattle.lit_rel.specs.TearFree.{CanReadWhole, HasTearFreeReads};
 
 use crate::bit_rows::Rows;
 use crate::given::{Given, SourcedByte};
-use crate::ranges::{event_at, has_byte, has_same_range};
-use lit_paths::Event;
+use lit_paths::{Event, event_at};
 
 /// Whether neither a read nor its source may tear, and their ranges are equal.
 fn can_read_whole(read: &Event, source: &Event) -> bool
     ensures { IsTrue result ↔ CanReadWhole read.now source.now }
 {
-    read.no_tear && source.no_tear && has_same_range(read, source)
+    read.no_tear && source.no_tear && read.has_same_range(source)
 }
 
 /// Whether an event writes a byte after its source and before its read.
@@ -30,7 +29,7 @@ fn hides(events: &[Event], byte: SourcedByte, other: usize, before: &Rows) -> bo
     before.has_pair(usize::from(byte.source), other)
         && before.has_pair(other, usize::from(byte.read))
         && event.kind.does_write()
-        && has_byte(event, byte.byte)
+        && event.has_byte(byte.byte)
 }
 
 /// Whether a byte is read from no later event, and no write hides its source.

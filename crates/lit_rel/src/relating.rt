@@ -8,14 +8,13 @@ ghost use Rattle.lit_rel.specs.SynchronizesWith.{CanSynchronize, Synchronizes};
 
 use crate::bit_rows::Rows;
 use crate::given::Given;
-use crate::ranges::{event_at, has_same_range, is_seq_cst};
-use lit_paths::Event;
+use lit_paths::{Event, event_at};
 
 /// Whether a source and its read synchronize.
 pub(crate) fn can_synchronize(source: &Event, read: &Event) -> bool
     ensures { IsTrue result ↔ CanSynchronize source.now read.now }
 {
-    is_seq_cst(source) && is_seq_cst(read) && has_same_range(source, read)
+    source.is_seq_cst() && read.is_seq_cst() && source.has_same_range(read)
 }
 
 impl Given<'_> {

@@ -6,8 +6,7 @@ ghost use Rattle.lit_rel.specs.Parts.Given.{sources_of};
 ghost use Rattle.lit_rel.specs.ReadsFrom.{value_of};
 
 use crate::given::Given;
-use crate::ranges::event_at;
-use lit_paths::Event;
+use lit_paths::{Event, event_at};
 
 /// The byte that an event stores at a byte of its range, from the block's start.
 fn payload_at(event: &Event, byte: u8) -> u8

@@ -13,7 +13,7 @@ use Rattle.lit_paths.specs.ByteReads.{byte_reads}
 use Rattle.lit_paths.specs.Choice.{Choice, AreSources, ListsCombinations, choices_of, combinations_of, events_of}
 use Rattle.lit_paths.specs.Outcome.{outcome_of}
 use Rattle.lit_paths.specs.Execution.{Execution, execution_events, execution_choice, IsCandidateExecution}
-use Rattle.lit_paths.specs.Plan.{HasSources, IsOfCombination, accesses_on, events_in, combination_at}
+use Rattle.lit_paths.specs.Plan.{HasSources, IsOfCombination, accesses_on, events_in, combination_at, first_event}
 use Rattle.lit_paths.specs.Told.{read_places}
 use Rattle.lit_rel.specs.ReadsFrom.{value_of}
 use Rattle.lit_search.specs.ValidExecution.{read_numbers, read_numbers_from}
@@ -24,10 +24,10 @@ use Rattle.lit_order.specs.MemoryOrder.{IsMemoryOrder, IsLeastMemoryOrder}
 use Rattle.lit_rel.specs.Part.{PartModel, IsComplete, part_events, with_sources}
 use Rattle.lit_search.specs.ValidExecution.{HasValidChosenReads, IsValidExecution}
 use Rattle.lit_search.specs.Report.{Gives}
-use Rattle.lit_search.specs.Searching.Examined.{IsAllowed, IsOrdered, IsExample, IsInvalid}
-use Rattle.lit_search.specs.Searching.ReadValues.{path_at, first_number, read_values}
+use Rattle.lit_search.specs.Searching.Examined.{IsAllowed, IsOrdered}
+use Rattle.lit_search.proofs.ExampleFacts.{IsExample, IsInvalid}
+use Rattle.lit_search.specs.Searching.ReadValues.{path_at}
 use Rattle.lit_search.specs.Searching.GivenRuns.{IsGivenRun, HasGivenRun, AreGivenRuns}
-use Rattle.lit_search.proofs.OwnValues.{length-values_from}
 use Rattle.lit_search.proofs.Takings.{AreTaken, AreCounted, taken_apart, taken_together, taken_at, taken_each, counted_each, gathered, read_numbers-accesses}
 
 -- choice n, one of combination c, with its sources
@@ -88,7 +88,7 @@ module _ (t : Litmus) (n c : ℕ) (sources : List ℕ) (placed : IsPlaced t n c 
             on_path = path_is i run at;
             given = taken_at value t.bytes runs taken i run at
                 ∙ ap (λ (ps : List Path). map value (read_numbers_from (t.bytes + length (accesses_on (take i ps))) run.events)) on_paths
-                ∙ ap (λ (p : Path). map value (read_numbers_from (first_number t c i) p.events)) (path_is i run at);
+                ∙ ap (λ (p : Path). map value (read_numbers_from (first_event t c i) p.events)) (path_is i run at);
           };
         }
 
@@ -96,7 +96,7 @@ module _ (t : Litmus) (n c : ℕ) (sources : List ℕ) (placed : IsPlaced t n c 
     given_together given =
         taken_together value t.bytes runs (taken_each value t.bytes runs (λ i run at.
         (given.each i run at).given
-        ∙ ap (λ (p : Path). map value (read_numbers_from (first_number t c i) p.events)) (sym (path_is i run at))
+        ∙ ap (λ (p : Path). map value (read_numbers_from (first_event t c i) p.events)) (sym (path_is i run at))
         ∙ ap (λ (ps : List Path). map value (read_numbers_from (t.bytes + length (accesses_on (take i ps))) run.events)) (sym on_paths)))
         ∙ ap (λ ess. map value (read_numbers_from t.bytes (flat_map (λ (es : List Event). es) ess))) made
         ∙ sym reads_are
@@ -257,9 +257,17 @@ module _ (t : Litmus) (n c : ℕ) (part : PartModel) (is : IsGivenChoice t n c p
   pub complete : IsComplete part
   complete = is.placed.sourced.one_each ∙ ap (λ (es : List Event). length (byte_reads es)) (sym its_events)
 
-  pub values_are : (values given : List ℕ) → given ≡ read_values (part_events part) part.sources → values ≡ given → values ≡ read_values (events_in t c) part.sources
-  values_are values given read as_given = as_given ∙ read ∙ ap (λ es. read_values es part.sources) its_events
+  -- each agent has a run that is given what it reads
+  pub agreed : ((agent : ℕ) → agent < length part.test.agents → HasGivenRun part.test part.combination part.sources agent) → (agent : ℕ) → agent < length t.agents → HasGivenRun t c part.sources agent
+  agreed each = subst (λ (k : ℕ). (agent : ℕ) → agent < length t.agents → HasGivenRun t k part.sources agent) is.combination
+      (subst (λ (u : Litmus). (agent : ℕ) → agent < length u.agents → HasGivenRun u part.combination part.sources agent) is.test each)
 
-  pub length-values : (values given : List ℕ) → given ≡ read_values (part_events part) part.sources → values ≡ given → length values ≡ length (events_in t c)
-  length-values values given read as_given =
-      ap (λ vs. length vs) (values_are values given read as_given) ∙ length-values_from (value_of (events_in t c) part.sources) 0 (events_in t c)
+  pub agreed_back : ((agent : ℕ) → agent < length t.agents → HasGivenRun t c part.sources agent) → (agent : ℕ) → agent < length part.test.agents → HasGivenRun part.test part.combination part.sources agent
+  agreed_back each = subst (λ (u : Litmus). (agent : ℕ) → agent < length u.agents → HasGivenRun u part.combination part.sources agent) (sym is.test)
+      (subst (λ (k : ℕ). (agent : ℕ) → agent < length t.agents → HasGivenRun t k part.sources agent) (sym is.combination) each)
+
+  -- the outcome of the runs
+  pub outcome_here : (outcome : List ℕ) → ((runs : List Run) → AreGivenRuns part.test part.combination part.sources runs → outcome_of part.test (map (λ run. run.registers) runs) ≡ outcome)
+      → (runs : List Run) → AreGivenRuns t c part.sources runs → outcome_of t (map (λ run. run.registers) runs) ≡ outcome
+  outcome_here outcome each = subst (λ (k : ℕ). (runs : List Run) → AreGivenRuns t k part.sources runs → outcome_of t (map (λ run. run.registers) runs) ≡ outcome) is.combination
+      (subst (λ (u : Litmus). (runs : List Run) → AreGivenRuns u part.combination part.sources runs → outcome_of u (map (λ run. run.registers) runs) ≡ outcome) is.test each)

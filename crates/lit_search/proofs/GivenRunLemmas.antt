@@ -1,19 +1,19 @@
 -- Runs that are given what their reads take: whether an agent has one, and what its registers hold.
-use Rattle.std.proofs.Common.{◌≡◌, ℕ, ◌+◌, ◌<◌, ◌&&◌, Bool, true, false, cond, Option, None, List, [], ◌∷◌, length, map, zero, suc, refl, sym, ap, ap₂, subst, ◌∙◌}
+use Rattle.std.proofs.Common.{◌≡◌, ℕ, ◌+◌, ◌&&◌, Bool, true, false, cond, Option, None, List, [], ◌∷◌, length, map, zero, suc, refl, sym, ap, ap₂, subst, ◌∙◌}
 use Rattle.std.specs.Prelude.{slice_index, slice_index_or}
 use Rattle.std.specs.List.{list_all}
 use Rattle.lit_read.specs.Syntax.{Litmus, agent_of}
 use Rattle.lit_paths.specs.declared.event.Event.{Event}
 use Rattle.lit_paths.specs.Event.{does_read}
-use Rattle.lit_paths.specs.Path.{Path}
+use Rattle.lit_paths.specs.Path.{Path, Step, path_on}
+use Rattle.lit_paths.specs.PathModel.{PathModel, path_model}
 use Rattle.lit_paths.specs.Run.{Run, compares}
-use Rattle.lit_paths.specs.Choice.{combinations_of}
-use Rattle.lit_paths.specs.Plan.{TellsPath}
-use Rattle.lit_paths.specs.Told.{Told, TellsRuns, read_places, chosen_on, value_on, is_true_of}
+use Rattle.lit_paths.specs.Plan.{IsWalkIn}
+use Rattle.lit_paths.specs.Told.{TellsRuns, read_places, chosen_on, value_on, is_true_of}
 use Rattle.lit_search.specs.ValidExecution.{read_numbers_from}
 use Rattle.lit_search.specs.Searching.ReadValues.{path_at, taken_by, value_at_place, AreOwnValues, is_true_by}
 use Rattle.lit_search.specs.Searching.GivenRuns.{IsGivenRun, HasGivenRun}
-use Rattle.lit_search.proofs.OwnValues.{path_told}
+use Rattle.lit_search.proofs.OwnValues.{path_walked}
 
 -- each read takes one value
 pub length-taken : (value : ℕ → ℕ) (n : ℕ) (es : List Event) → length (map value (read_numbers_from n es)) ≡ length (read_places es)
@@ -34,15 +34,19 @@ index-map f none [] k = sym none
 index-map f none (x ∷ xs) zero = refl
 index-map f none (x ∷ xs) (suc k) = index-map f none xs k
 
-module _ (t : Litmus) (c agent : ℕ) (sources own : List ℕ) (told : Told) (known : c < length (combinations_of t)) (inside : agent < length t.agents) (is : TellsPath t c agent told) (are : AreOwnValues t c sources agent own) where
+module _ (t : Litmus) (c agent : ℕ) (steps : List Step) (sources own : List ℕ) (walk : IsWalkIn t c agent steps)
+    (each : TellsRuns agent (agent_of t agent).body (path_on agent steps) (path_model agent steps)) (are : AreOwnValues t c sources agent own) where
   abbrev path : Path
   path = path_at t c agent
+
+  abbrev told : PathModel
+  told = path_model agent steps
 
   abbrev taken : List ℕ
   taken = taken_by t c sources agent
 
   tells : TellsRuns agent (agent_of t agent).body path told
-  tells = subst (λ (p : Path). TellsRuns agent (agent_of t agent).body p told) (sym (path_told t c agent told is)) is.tells
+  tells = subst (λ (p : Path). TellsRuns agent (agent_of t agent).body p told) (sym (path_walked t c agent steps walk)) each
 
   true_here : list_all (is_true_by own) told.tests ≡ list_all (is_true_of (chosen_on path.events taken)) told.tests
   true_here = all_same (is_true_by own) (is_true_of (chosen_on path.events taken)) (λ test. ap (λ v. compares test.equal v test.value) (are test.on)) told.tests

@@ -1,3 +1,4 @@
+pub mod ExampleFacts
 pub mod OwnValues
 pub mod LastValues
 pub mod Takings

@@ -5,17 +5,18 @@ use Rattle.std.proofs.lemmas.Bool.Decides.{nat_tests}
 use Rattle.std.specs.List.{range_with_len}
 use Rattle.std.proofs.lemmas.List.{at_drop_more, length-map}
 use Rattle.std.proofs.lemmas.List.FromFn.{length-range_with_len}
-use Rattle.std.proofs.lemmas.Option.{slice_get-get_or, slice_get_within, get_or_from_slice_get}
-use Rattle.lit_read.specs.Syntax.{Litmus, agent_of, Window}
+use Rattle.std.proofs.lemmas.Option.{slice_get_within, get_or_from_slice_get}
+use Rattle.lit_read.specs.Syntax.{Litmus, Window}
 use Rattle.lit_paths.specs.declared.event.Event.{Event}
 use Rattle.lit_paths.specs.Event.{does_read, init_event, init_events}
-use Rattle.lit_paths.specs.Path.{Path, Step, LoadMet, StoreMet, ExchangeMet, CompareExchangeMet, IfMet, IsPath, events_on, compare_exchange_event}
-use Rattle.lit_paths.specs.Choice.{ListsCombinations, combinations_of}
-use Rattle.lit_paths.specs.Plan.{accesses_on, combination_at, events_in, TellsPath}
-use Rattle.lit_paths.specs.Told.{Told, read_places, value_at, value_on}
+use Rattle.lit_paths.specs.Path.{Path, Step, LoadMet, StoreMet, ExchangeMet, CompareExchangeMet, IfMet, events_on, path_on, compare_exchange_event}
+use Rattle.lit_paths.specs.Plan.{accesses_on, combination_at, events_in, walk_in, path_in, first_event, IsWalkIn}
+use Rattle.lit_paths.specs.PathModel.{PathModel, path_model}
+use Rattle.lit_paths.specs.Told.{read_places, value_at, value_on}
+use Rattle.lit_rel.specs.Part.{PartModel, part_events}
 use Rattle.lit_rel.specs.ReadsFrom.{value_of}
 use Rattle.lit_search.specs.ValidExecution.{read_numbers_from}
-use Rattle.lit_search.specs.Searching.ReadValues.{value_or_0, values_from, read_values, path_at, first_number, value_at_place, AreOwnValues}
+use Rattle.lit_search.specs.Searching.ReadValues.{value_or_0, values_from, read_values, path_at, value_at_place, AreOwnValues}
 
 -- ---- values of events, one after the other
 pub length-values_from : (value : ℕ → ℕ) (n : ℕ) (es : List Event) → length (values_from value n es) ≡ length es
@@ -60,28 +61,12 @@ accesses_split (p ∷ ps) (suc k) d inside =
     ap (λ es. p.events ++ es) (accesses_split ps k d (omega (arith, inside)) ∙ ap (λ j. accesses_on (take k ps) ++ ((get_or ps k d).events ++ accesses_on (drop j (p ∷ ps)))) (let e : suc (k + 1) ≡ suc k + 1 = omega arith in e))
     ∙ sym (append_assoc p.events (accesses_on (take k ps)) ((get_or ps k d).events ++ accesses_on (drop (suc k + 1) (p ∷ ps))))
 
-accesses_more : (paths : List Path) (k : ℕ) (d : Path) → k < length paths → accesses_on (take (k + 1) paths) ≡ accesses_on (take k paths) ++ (get_or paths k d).events
-accesses_more [] k d inside = absurd (omega (arith, inside))
-accesses_more (p ∷ ps) zero d inside = append-nil' p.events
-  where
-    append-nil' : (es : List Event) → es ++ [] ≡ es
-    append-nil' [] = refl
-    append-nil' (e ∷ es) = ap (λ xs. e ∷ xs) (append-nil' es)
-accesses_more (p ∷ ps) (suc k) d inside =
-    ap (λ j. accesses_on (take j (p ∷ ps))) (let e : suc k + 1 ≡ suc (k + 1) = omega arith in e)
-    ∙ ap (λ es. p.events ++ es) (accesses_more ps k d (omega (arith, inside)))
-    ∙ sym (append_assoc p.events (accesses_on (take k ps)) (get_or ps k d).events)
-
 pub length-init_events : (bytes : ℕ) → length (init_events bytes) ≡ bytes
 length-init_events bytes = length-map (range_with_len 0 bytes) init_event ∙ length-range_with_len 0 bytes
 
--- the path of which something is told
-pub path_told : (t : Litmus) (c agent : ℕ) (told : Told) (is : TellsPath t c agent told) → path_at t c agent ≡ is.path
-path_told t c agent told is = get_or_from_slice_get (combination_at t c) agent is.path _ is.listed
-
--- there is one
-pub told_within : (t : Litmus) (c agent : ℕ) (told : Told) → TellsPath t c agent told → agent < length (combination_at t c)
-told_within t c agent told is = slice_get_within (combination_at t c) agent is.path is.listed
+-- the path of a walk
+pub path_walked : (t : Litmus) (c agent : ℕ) (steps : List Step) → IsWalkIn t c agent steps → path_at t c agent ≡ path_on agent steps
+path_walked t c agent steps is = get_or_from_slice_get (combination_at t c) agent (path_on agent steps) _ is.listed
 
 module _ (t : Litmus) (c agent : ℕ) (within : agent < length (combination_at t c)) where
   abbrev before : List Event
@@ -95,29 +80,15 @@ module _ (t : Litmus) (c agent : ℕ) (within : agent < length (combination_at t
       ap (λ es. init_events t.bytes ++ es) (accesses_split (combination_at t c) agent _ within)
       ∙ sym (append_assoc (init_events t.bytes) (accesses_on (take agent (combination_at t c))) ((path_at t c agent).events ++ after))
 
-  length-before : length before ≡ first_number t c agent
+  length-before : length before ≡ first_event t c agent
   length-before = length-append (init_events t.bytes) (accesses_on (take agent (combination_at t c))) ∙ ap (λ k. k + length (accesses_on (take agent (combination_at t c)))) (length-init_events t.bytes)
 
-  -- an agent's events are among all
-  pub own_within : first_number t c agent + length (path_at t c agent).events ≤ length (events_in t c)
-  own_within =
-      omega (arith, ap (λ es. length es) all_split, length-append before ((path_at t c agent).events ++ after), length-append (path_at t c agent).events after, length-before)
-
-  -- the number behind its last one is the first of the next agent
-  pub first_next : first_number t c (agent + 1) ≡ first_number t c agent + length (path_at t c agent).events
-  first_next =
-      omega (
-        arith,
-        ap (λ es. length es) (accesses_more (combination_at t c) agent (record { decisions = []; events = [] }) within),
-        length-append (accesses_on (take agent (combination_at t c))) (path_at t c agent).events,
-      )
-
-  pub own_cut : (sources : List ℕ) → take (length (path_at t c agent).events) (drop (first_number t c agent) (read_values (events_in t c) sources))
-      ≡ values_from (value_of (events_in t c) sources) (first_number t c agent) (path_at t c agent).events
+  pub own_cut : (sources : List ℕ) → take (length (path_at t c agent).events) (drop (first_event t c agent) (read_values (events_in t c) sources))
+      ≡ values_from (value_of (events_in t c) sources) (first_event t c agent) (path_at t c agent).events
   own_cut sources =
       let value = value_of (events_in t c) sources in
       let mine = (path_at t c agent).events in
-      ap (λ es. take (length mine) (drop (first_number t c agent) (values_from value 0 es))) all_split
+      ap (λ es. take (length mine) (drop (first_event t c agent) (values_from value 0 es))) all_split
       ∙ ap (λ k. take (length mine) (drop k (values_from value 0 (before ++ (mine ++ after))))) (sym length-before)
       ∙ values_cut value before mine after
       ∙ ap (λ k. values_from value k mine) length-before
@@ -186,17 +157,31 @@ module _ (value : ℕ → ℕ) where
   on_place n es placed (Some place) = sym (ap (λ p. value_at (placed_values n es) p) (let e : place ≡ 0 + place = omega arith in e) ∙ by_place n 0 place es placed)
 
 -- an agent's part of all values
-pub are_own : (t : Litmus) (c agent : ℕ) (sources values own : List ℕ) → ListsCombinations t → c < length (combinations_of t) → agent < length t.agents → values ≡ read_values (events_in t c) sources
-    → own ≡ take (length (path_at t c agent).events) (drop (first_number t c agent) values) → AreOwnValues t c sources agent own
-are_own t c agent sources values own lists known inside all is place =
+pub are_own : (t : Litmus) (c agent : ℕ) (steps : List Step) (sources values own : List ℕ) → IsWalkIn t c agent steps → values ≡ read_values (events_in t c) sources
+    → own ≡ take (length (path_on agent steps).events) (drop (first_event t c agent) values) → AreOwnValues t c sources agent own
+are_own t c agent steps sources values own walk all is place =
     let value = value_of (events_in t c) sources in
-    let combined = lists.only c (combination_at t c) (slice_get-get_or (combinations_of t) c [] known) in
-    let long : agent < length (combination_at t c) = omega (arith, inside, combined.one_each) in
-    let path : IsPath agent (agent_of t agent).body (path_at t c agent) = combined.each agent (path_at t c agent) (slice_get-get_or (combination_at t c) agent _ long) in
-    let placed : ArePlaced 0 (path_at t c agent).events = subst (λ (p : Path). ArePlaced 0 p.events) path.taken (placed-on agent 0 path.steps) in
-    ap (λ vs. value_at_place vs place) (is ∙ ap (λ vs. take (length (path_at t c agent).events) (drop (first_number t c agent) vs)) all ∙ own_cut t c agent long sources)
-    ∙ on_place value (first_number t c agent) (path_at t c agent).events placed place
+    let long : agent < length (combination_at t c) = slice_get_within (combination_at t c) agent (path_on agent steps) walk.listed in
+    let same : path_at t c agent ≡ path_on agent steps = path_walked t c agent steps walk in
+    let placed : ArePlaced 0 (path_at t c agent).events = subst (λ (p : Path). ArePlaced 0 p.events) (sym same) (placed-on agent 0 steps) in
+    ap (λ vs. value_at_place vs place) (is ∙ ap (λ (p : Path). take (length p.events) (drop (first_event t c agent) values)) (sym same)
+    ∙ ap (λ vs. take (length (path_at t c agent).events) (drop (first_event t c agent) vs)) all ∙ own_cut t c agent long sources)
+    ∙ on_place value (first_event t c agent) (path_at t c agent).events placed place
 
--- what is told of a path has its events
-pub told_length : (t : Litmus) (c agent : ℕ) (told : Told) → TellsPath t c agent told → length told.events ≡ length (path_at t c agent).events
-told_length t c agent told is = ap (λ es. length es) (is.tells.events ∙ ap (λ (p : Path). p.events) (sym (path_told t c agent told is)))
+-- ---- of a part
+module _ (part : PartModel) (agent : ℕ) (entered : Litmus × ℕ) (same : entered ≡ (part.test, part.combination)) where
+  abbrev steps : List Step
+  steps = walk_in part.test part.combination agent
+
+  pub walk_here : IsWalkIn entered.0 entered.1 agent (walk_in entered.0 entered.1 agent) → IsWalkIn part.test part.combination agent steps
+  walk_here is = subst (λ (e : Litmus × ℕ). IsWalkIn e.0 e.1 agent (walk_in e.0 e.1 agent)) same is
+
+  pub path_here : (path : PathModel) → path ≡ path_in entered.0 entered.1 agent → path ≡ path_model agent steps
+  path_here path is = is ∙ ap (λ (e : Litmus × ℕ). path_in e.0 e.1 agent) same
+
+  pub first_here : (first : ℕ) → first ≡ first_event entered.0 entered.1 agent → first ≡ first_event part.test part.combination agent
+  first_here first is = is ∙ ap (λ (e : Litmus × ℕ). first_event e.0 e.1 agent) same
+
+-- as many values as there are events
+pub length-read : (part : PartModel) (values : List ℕ) → values ≡ read_values (part_events part) part.sources → length values ≡ length (part_events part)
+length-read part values is = ap (λ vs. length vs) is ∙ length-values_from (value_of (part_events part) part.sources) 0 (part_events part)

@@ -12,7 +12,7 @@ use Rattle.std.proofs.lemmas.Map.Lookups.{exact_bytes}
 use Rattle.std.proofs.lemmas.Bool.{cases_lt}
 use Rattle.lit_read.specs.Syntax.{Litmus}
 use Rattle.lit_search.specs.Report.{Entry, Report, Gives, HasLeastOrder, IsEntry, IsReport}
-use Rattle.lit_search.specs.Searching.Examined.{IsExample, IsInvalid}
+use Rattle.lit_search.proofs.ExampleFacts.{IsExample, IsInvalid}
 use Rattle.lit_search.specs.Searching.Kept.{HasOutcome, with_entry}
 use Rattle.lit_search.proofs.RisingEntries.{AreRising, AreRising-with_entry}
 

@@ -1,14 +1,14 @@
 //! Whether the decisions of paths agree with the values that are read on them.
 
-ghost use Rattle.std.specs.Prelude.{◌≡◌, ◌↔◌, ◌<◌, ℕ, IsTrue, List, length};
+ghost use Rattle.std.specs.Prelude.{◌≡◌, ◌↔◌, ◌<◌, ℕ, IsTrue, length};
 ghost use Rattle.std.specs.List.{list_all};
-ghost use Rattle.lit_paths.specs.Choice.{combinations_of};
-ghost use Rattle.lit_paths.specs.Plan.{events_in};
+ghost use Rattle.lit_rel.specs.Part.{part_events};
 ghost use Rattle.lit_search.specs.Searching.GivenRuns.{HasGivenRun};
 ghost use Rattle.lit_search.specs.Searching.ReadValues.{is_true_by, read_values};
 
 use crate::agent_values::{own_values, value_at};
-use lit_paths::{Plan, Tested};
+use lit_paths::{Tested, paths_tell_their_runs};
+use lit_rel::Part;
 
 /// Whether what is asked is true of an agent's values.
 fn is_true(test: Tested, values: &[u32]) -> bool
@@ -24,27 +24,24 @@ fn are_true(tests: &[Tested], values: &[u32]) -> bool
     tests.iter().all(|test| is_true(*test, values))
 }
 
-/// Whether the decisions of an agent's path agree with what is read on it, of the values of all events.
-fn agrees(plan: &Plan<'_>, combination: usize, agent: usize, values: &[u32]) -> bool
-    requires combination { combination < length (combinations_of plan.now) }
-    requires agent { agent < length plan.now.agents }
-    requires all { length values.now ≡ length (events_in plan.now combination) }
-    ensures { (sources : List ℕ) → values.now ≡ read_values (events_in plan.now combination) sources →
-        IsTrue result ↔ HasGivenRun plan.now combination sources agent }
+/// Whether the decisions of an agent's path agree with what is read on it, of what all events of the part read.
+fn agrees(part: &Part<'_>, agent: usize, values: &[u32]) -> bool
+    requires agent { agent < length part.now.test.agents }
+    requires values { values.now ≡ read_values (part_events part.now) part.now.sources }
+    ensures { IsTrue result ↔ HasGivenRun part.now.test part.now.combination part.now.sources agent }
 {
-    let tests = plan.path(combination, agent).tests();
-    are_true(tests, own_values(plan, combination, agent, values))
+    paths_tell_their_runs();
+    let tests = part.combination().path(agent).tests();
+    are_true(tests, own_values(part, agent, values))
 }
 
-/// Whether the decisions of each agent's path agree with what is read on it.
-pub(crate) fn all_agree(plan: &Plan<'_>, combination: usize, values: &[u32]) -> bool
-    requires combination { combination < length (combinations_of plan.now) }
-    requires all { length values.now ≡ length (events_in plan.now combination) }
-    ensures { (sources : List ℕ) → values.now ≡ read_values (events_in plan.now combination) sources →
-        IsTrue result ↔ ((agent : ℕ) → agent < length plan.now.agents → HasGivenRun plan.now combination sources agent) }
+/// Whether the decisions of each agent's path agree with what is read on it, of what all events of the part read.
+pub(crate) fn all_agree(part: &Part<'_>, values: &[u32]) -> bool
+    requires { values.now ≡ read_values (part_events part.now) part.now.sources }
+    ensures { IsTrue result ↔ ((agent : ℕ) → agent < length part.now.test.agents → HasGivenRun part.now.test part.now.combination part.now.sources agent) }
 {
-    for agent in 0..plan.test().agents() {
-        if !agrees(plan, combination, agent, values) {
+    for agent in 0..part.combination().test().agents() {
+        if !agrees(part, agent, values) {
             return false;
         }
     }

@@ -71,10 +71,10 @@ fn take_in<F: OrderFinder>(
     give(part, sources.as_slice());
     let values = values_of(part);
     let values = values.as_slice();
-    if !all_agree(plan, combination, values) {
+    if !all_agree(part, values) {
         return Ok(());
     }
-    let outcome = outcome_of(plan, combination, values);
+    let outcome = outcome_of(plan, part, values);
     if found.has(outcome.as_slice()) {
         return Ok(());
     }
@@ -103,7 +103,7 @@ pub fn search_range(
     let mut next = from;
     while next < to {
         let combination = plan.combination(next);
-        let mut part = Part::open(plan, combination);
+        let mut part = Part::open(&*plan, combination);
         let end = part.combination().end().min(to);
         for choice in next..end {
             take_in(

@@ -1,7 +1,7 @@
 -- How many accesses a walk has at the most, and how far is counted.
 use Rattle.std.specs.Prelude.{ℕ, ◌+◌, ◌≤◌, ◌*◌, max, IsTrue, length, List, [], ◌∷◌, slice_index_or}
 use Rattle.lit_read.specs.declared.limits.TheConstants.{BLOCK_LIMIT}
-use Rattle.lit_read.specs.Syntax.{Window, is_in_block, IsStatementIn, AreStatementsIn, Agent, Statement, Statements, Load, Store, Exchange, CompareExchange, If, End, Then}
+use Rattle.lit_read.specs.Syntax.{Window, is_in_block, IsStatementIn, AreStatementsIn, Litmus, IsLitmus, Agent, Statement, Statements, Load, Store, Exchange, CompareExchange, If, End, Then}
 use Rattle.lit_paths.specs.Path.{Step, walks_of, statement_walks}
 use Rattle.lit_paths.specs.declared.limits.TheConstants.{ACCESS_LIMIT, COMBINATION_LIMIT}
 
@@ -56,3 +56,8 @@ count_of (a ∷ agents) = length (walks_of a.body) * count_of agents
 pub record AreShort (agents : List Agent) : Type 0 where
   pub short : longest_of agents ≤ ACCESS_LIMIT
   pub few : count_of agents ≤ COMBINATION_LIMIT
+
+-- a test whose paths can be planned
+pub record IsInLimits (t : Litmus) : Type 0 where
+  pub litmus : IsLitmus t
+  pub short : AreShort t.agents

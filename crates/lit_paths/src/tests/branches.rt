@@ -1,5 +1,5 @@
 use crate::making::plan;
-use crate::walked::Tested;
+use crate::path::Tested;
 use lit_read::read;
 use std::test::Fail;
 

@@ -1,12 +1,10 @@
 -- What is found out of one choice, from its events and sources (this project's own).
-use Rattle.std.specs.Prelude.{◌≡◌, ℕ, List}
-use Rattle.lit_read.specs.Syntax.{Litmus}
+use Rattle.std.specs.Prelude.{ℕ, List}
 use Rattle.lit_paths.specs.declared.event.Event.{Event}
 use Rattle.lit_rel.specs.HappensBefore.{HappensBefore}
 use Rattle.lit_rel.specs.Coherent.{HasCoherentReads}
 use Rattle.lit_rel.specs.TearFree.{HasTearFreeReads}
 use Rattle.lit_order.specs.MemoryOrder.{IsMemoryOrder, IsLeastMemoryOrder}
-use Rattle.lit_search.specs.Report.{Gives, HasLeastOrder}
 
 -- the clauses of a valid execution that speak of events and sources alone, without the order of memory
 pub record IsAllowed (events : List Event) (sources : List ℕ) : Type 0 where
@@ -23,13 +21,3 @@ pub record IsOrdered (events : List Event) (sources order : List ℕ) : Type 0 w
 pub record IsLeastOrdered (events : List Event) (sources order : List ℕ) : Type 0 where
   pub allowed : IsAllowed events sources
   pub least : IsLeastMemoryOrder events sources order
-
--- Some valid execution has the choice with this number. All of them have this outcome, and the order is the least.
-pub record IsExample (t : Litmus) (n : ℕ) (outcome order : List ℕ) : Type 0 where
-  pub gives : Gives t n outcome
-  pub only : (other : List ℕ) → Gives t n other → other ≡ outcome
-  pub least : HasLeastOrder t n order
-
--- no valid execution has the choice with this number
-abbrev pub IsInvalid : Litmus → ℕ → Type 0
-IsInvalid t n = (outcome : List ℕ) → ¬ Gives t n outcome

@@ -1,11 +1,11 @@
 -- What the events of a choice read, by their numbers, and what those of one agent read, by their places.
-use Rattle.std.specs.Prelude.{◌≡◌, ℕ, ◌+◌, Bool, if◌then◌else◌, Option, Some, None, List, [], ◌∷◌, length, map, take, slice_index, slice_index_or}
+use Rattle.std.specs.Prelude.{◌≡◌, ℕ, ◌+◌, Bool, if◌then◌else◌, Option, Some, None, List, [], ◌∷◌, map, slice_index, slice_index_or}
 use Rattle.lit_read.specs.Syntax.{Litmus}
 use Rattle.lit_paths.specs.declared.event.Event.{Event}
-use Rattle.lit_paths.specs.declared.walked.Tested.{Tested}
+use Rattle.lit_paths.specs.declared.path.Tested.{Tested}
 use Rattle.lit_paths.specs.Event.{does_read}
 use Rattle.lit_paths.specs.Path.{Path}
-use Rattle.lit_paths.specs.Plan.{accesses_on, combination_at, events_in}
+use Rattle.lit_paths.specs.Plan.{combination_at, events_in, first_event}
 use Rattle.lit_paths.specs.Run.{compares}
 use Rattle.lit_paths.specs.Told.{chosen_on, value_on}
 use Rattle.lit_rel.specs.ReadsFrom.{value_of}
@@ -28,13 +28,9 @@ read_values events sources = values_from (value_of events sources) 0 events
 abbrev pub path_at : Litmus → ℕ → ℕ → Path
 path_at t c agent = slice_index_or (combination_at t c) agent (record { decisions = []; events = [] })
 
--- the number of the first event of an agent on its path
-abbrev pub first_number : Litmus → ℕ → ℕ → ℕ
-first_number t c agent = t.bytes + length (accesses_on (take agent (combination_at t c)))
-
 -- the values that the reads of an agent take from the sources, in order
 abbrev pub taken_by : Litmus → ℕ → List ℕ → ℕ → List ℕ
-taken_by t c sources agent = map (value_of (events_in t c) sources) (read_numbers_from (first_number t c agent) (path_at t c agent).events)
+taken_by t c sources agent = map (value_of (events_in t c) sources) (read_numbers_from (first_event t c agent) (path_at t c agent).events)
 
 -- the value at a place, or 0 where there is none
 abbrev pub value_at_place : List ℕ → Option ℕ → ℕ

@@ -6,20 +6,20 @@ use Rattle.lit_paths.proofs.Counts.{measured_more, measured_end}
 use Rattle.lit_paths.proofs.counting.+longest_walks.Goals as goal
 
 pub longest_walk-overflow_add-count : goal.longest_walk-overflow_add-count
-longest_walk-overflow_add-count t c = omega (arith, c.loop-statement.invariant.0, c.longest_way.ensures)
+longest_walk-overflow_add-count t c = omega (arith, c.loop-statement.invariant.0, c.longest_statement_walk.ensures)
 
 pub longest_walk-loop-statement-preserved : goal.longest_walk-loop-statement-preserved
 longest_walk-loop-statement-preserved t c = (
   omega (arith, c.min-count.ensures),
-  measured_more many_accesses c.args.body.now c.loop-statement.statement-index c.statement-item.result c.loop-statement.count c.longest_way.result c.min-count.result
-      c.loop-statement-test.true c.statement-item.is c.longest_way.ensures c.min-count.ensures c.loop-statement.invariant.1,
+  measured_more many_accesses c.args.body.now c.loop-statement.statement-index c.statement-item.result c.loop-statement.count c.longest_statement_walk.result c.min-count.result
+      c.loop-statement-test.true c.statement-item.is c.longest_statement_walk.ensures c.min-count.ensures c.loop-statement.invariant.1,
 )
 
 pub longest_walk-returns : goal.longest_walk-returns
 longest_walk-returns t c = measured_end many_accesses c.args.body.now c.loop-statement.statement-index c.loop-statement.count c.loop-statement-test.false c.loop-statement.invariant.0 c.loop-statement.invariant.1
 
-pub longest_way-returns-in-If : goal.longest_way-returns-in-If
-longest_way-returns-in-If t c =
+pub longest_statement_walk-returns-in-If : goal.longest_statement_walk-returns-in-If
+longest_statement_walk-returns-in-If t c =
     let same = ap statement_of c.in-If.is ∙ if_is c.in-If.reg c.in-If.equal c.in-If.value c.in-If.body c.in-If.other in
     omega (
       arith,

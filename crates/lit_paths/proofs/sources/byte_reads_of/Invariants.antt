@@ -1,6 +1,5 @@
 use Rattle.std.proofs.Common.{◌≡◌, ◌++◌, drop, map}
-use Rattle.lit_paths.specs.ByteReads.{byte_reads, byte_reads_from}
-use Rattle.lit_paths.specs.Planning.Ways.{pair_of}
+use Rattle.lit_paths.specs.ByteReads.{byte_reads, byte_reads_from, pair_of}
 use Rattle.lit_paths.proofs.sources.byte_reads_of.Given as goal
 
 abbrev pub invariant-loop-number : goal.invariant-loop-number

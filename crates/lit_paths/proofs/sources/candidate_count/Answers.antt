@@ -1,5 +1,5 @@
 use Rattle.std.proofs.Common.{arith, ap, length, sym, ◌∙◌}
-use Rattle.lit_paths.specs.Planning.Ways.{pair_of}
+use Rattle.lit_paths.specs.ByteReads.{pair_of}
 use Rattle.lit_paths.proofs.Candidates.{candidates_from-candidate, candidates_from-other, length-candidates_from}
 use Rattle.lit_paths.proofs.sources.candidate_count.Goals as goal
 use Rattle.lit_paths.proofs.sources.candidate_count.Goals.{then-is_candidate, else-is_candidate}

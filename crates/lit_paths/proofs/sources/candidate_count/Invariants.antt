@@ -1,5 +1,5 @@
 use Rattle.std.proofs.Common.{◌≡◌, ◌+◌, length, drop}
-use Rattle.lit_paths.specs.Planning.Ways.{pair_of}
+use Rattle.lit_paths.specs.ByteReads.{pair_of}
 use Rattle.lit_paths.proofs.Candidates.{candidates_from}
 use Rattle.lit_paths.specs.Choice.{candidates_of}
 use Rattle.lit_paths.proofs.sources.candidate_count.Given as goal

@@ -1,5 +1,5 @@
 use Rattle.std.proofs.Common.{◌++◌, List, arith, ap, length, sym, ◌∙◌, drop, append-nil, length-append}
-use Rattle.lit_paths.specs.Planning.Ways.{pair_of}
+use Rattle.lit_paths.specs.ByteReads.{pair_of}
 use Rattle.lit_paths.proofs.Candidates.{candidates_from, candidates_from-candidate, candidates_from-end, candidate_step, other_step, length-candidates_from}
 use Rattle.lit_paths.proofs.sources.candidates_of.Goals as goal
 use Rattle.lit_paths.proofs.sources.candidates_of.Goals.{then-is_candidate, else-is_candidate}

@@ -1,6 +1,6 @@
 use Rattle.std.proofs.Common.{◌≡◌, ◌++◌, drop}
 use Rattle.lit_paths.specs.Choice.{candidates_of}
-use Rattle.lit_paths.specs.Planning.Ways.{pair_of}
+use Rattle.lit_paths.specs.ByteReads.{pair_of}
 use Rattle.lit_paths.proofs.Candidates.{candidates_from}
 use Rattle.lit_paths.proofs.sources.candidates_of.Given as goal
 

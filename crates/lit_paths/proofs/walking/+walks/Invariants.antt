@@ -1,6 +1,5 @@
 use Rattle.std.proofs.Common.{◌+◌, ◌*◌}
 use Rattle.lit_read.specs.Litmus.{statement_of, statements_of}
-use Rattle.lit_paths.specs.Told.{told_of}
 use Rattle.lit_paths.proofs.Stepping.{IsOnWay, statement_size, size_of}
 use Rattle.lit_paths.proofs.walking.+walks.Given as goal
 
@@ -11,4 +10,4 @@ abbrev pub decreases-meet : goal.decreases-meet
 decreases-meet l = 2 * statement_size (statement_of l.statement.now)
 
 abbrev pub invariant-walk-loop-place : goal.invariant-walk-loop-place
-invariant-walk-loop-place l = IsOnWay l.owner l.body l.number (told_of l.initial.path) l.place l.left (told_of l.path)
+invariant-walk-loop-place l = IsOnWay l.owner l.body l.number l.initial.path l.place l.left l.path

@@ -1,28 +1,43 @@
 use Rattle.std.proofs.Common.{ℕ, List, length, take, drop, arith, ap, ◌∙◌}
 use Rattle.lit_paths.specs.declared.event.Event.{Event}
-use Rattle.lit_search.specs.Searching.ReadValues.{path_at}
-use Rattle.lit_search.proofs.OwnValues.{own_within, told_length, told_within, are_own}
+use Rattle.lit_paths.specs.Path.{path_on}
+use Rattle.lit_paths.specs.PathModel.{PathModel}
+use Rattle.lit_paths.specs.Plan.{walk_in}
+use Rattle.lit_search.proofs.OwnValues.{are_own, walk_here, path_here, first_here, length-read}
 use Rattle.lit_search.proofs.agent_values.own_values.Goals as goal
 
 pub split_at-requires : goal.split_at-requires
-split_at-requires c = omega (arith, c.first_number-first.ensures, c.requires.all, own_within c.args.plan.now c.args.combination c.args.agent (told_within c.args.plan.now c.args.combination c.args.agent _ c.path.ensures))
+split_at-requires c =
+    omega (
+      arith,
+      first_here c.args.part.now c.args.agent _ c.combination-combination.ensures _ c.first_event.ensures,
+      c.from-first.ensures,
+      length-read c.args.part.now c.args.values.now c.requires.values,
+      (walk_here c.args.part.now c.args.agent _ c.combination-combination.ensures c.path.ensures.walk).within,
+    )
 
 pub split_at-requires-2 : goal.split_at-requires-2
 split_at-requires-2 c =
     omega (
       arith,
-      c.first_number-first.ensures,
-      c.requires.all,
+      first_here c.args.part.now c.args.agent _ c.combination-combination.ensures _ c.first_event.ensures,
+      c.from-first.ensures,
       c.split_at.ensures.back_len,
       ap (λ (es : List Event). length es) c.events-count.ensures,
-      told_length c.args.plan.now c.args.combination c.args.agent _ c.path.ensures,
-      own_within c.args.plan.now c.args.combination c.args.agent (told_within c.args.plan.now c.args.combination c.args.agent _ c.path.ensures),
+      ap (λ (p : PathModel). length p.events) (path_here c.args.part.now c.args.agent _ c.combination-combination.ensures _ c.path.ensures.exact),
+      length-read c.args.part.now c.args.values.now c.requires.values,
+      (walk_here c.args.part.now c.args.agent _ c.combination-combination.ensures c.path.ensures.walk).within,
     )
 
 pub returns : goal.returns
-returns c sources all =
-    let count = ap (λ (es : List Event). length es) c.events-count.ensures ∙ told_length c.args.plan.now c.args.combination c.args.agent _ c.path.ensures in
-    are_own c.args.plan.now c.args.combination c.args.agent sources c.args.values.now c.split_at-2.result.0.now (c.combinations_are_listed.ensures c.args.plan.now) c.requires.combination c.requires.agent all
+returns c =
+    let part = c.args.part.now in
+    let steps = walk_in part.test part.combination c.args.agent in
+    let count = ap (λ (es : List Event). length es) c.events-count.ensures
+    ∙ ap (λ (p : PathModel). length p.events) (path_here part c.args.agent _ c.combination-combination.ensures _ c.path.ensures.exact) in
+    are_own part.test part.combination c.args.agent steps part.sources c.args.values.now c.split_at-2.result.0.now
+    (walk_here part c.args.agent _ c.combination-combination.ensures c.path.ensures.walk) c.requires.values
     (c.split_at-2.ensures.front ∙ ap (λ (vs : List ℕ). take (length c.events-count.result.now) vs) c.split_at.ensures.back
-    ∙ ap (λ (k : ℕ). take k (drop c.first_number-first.result c.args.values.now)) count
-    ∙ ap (λ (k : ℕ). take (length (path_at c.args.plan.now c.args.combination c.args.agent).events) (drop k c.args.values.now)) c.first_number-first.ensures)
+    ∙ ap (λ (k : ℕ). take k (drop c.from-first.result c.args.values.now)) count
+    ∙ ap (λ (k : ℕ). take (length (path_on c.args.agent steps).events) (drop k c.args.values.now))
+    (c.from-first.ensures ∙ first_here part c.args.agent _ c.combination-combination.ensures _ c.first_event.ensures))

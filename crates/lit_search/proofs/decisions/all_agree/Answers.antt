@@ -3,5 +3,5 @@ use Rattle.lit_search.specs.Searching.GivenRuns.{HasGivenRun}
 use Rattle.lit_search.proofs.decisions.all_agree.Goals as goal
 
 pub loop-agent-preserved : goal.loop-agent-preserved
-loop-agent-preserved c sources all =
-    below_more (HasGivenRun c.args.plan.now c.args.combination sources) c.loop-agent.agent (c.loop-agent.invariant sources all) ((c.agrees.ensures sources all).0 c.if-not-agrees.false)
+loop-agent-preserved c =
+    below_more (HasGivenRun c.args.part.now.test c.args.part.now.combination c.args.part.now.sources) c.loop-agent.agent c.loop-agent.invariant (c.agrees.ensures.0 c.if-not-agrees.false)

@@ -8,23 +8,23 @@ use Rattle.lit_paths.proofs.PlanFacts.{planned-rise, found-known, found-low, fou
 use Rattle.lit_paths.proofs.planning.Plan.combination.Goals as goal
 
 pub combination_of-requires : goal.combination_of-requires
-combination_of-requires c = subst (λ (ns : List ℕ). IsNonDecreasingBy (λ (x : ℕ). x) ns) (sym c.as_slice.ensures.value) (planned-rise _ _ _ _ c.self.invariant)
+combination_of-requires c = subst (λ (ns : List ℕ). IsNonDecreasingBy (λ (x : ℕ). x) ns) (sym c.as_slice.ensures.value) (planned-rise _ c.self.invariant)
 
 pub returns-clause-value : goal.returns-clause-value
 returns-clause-value c =
-    let known = (found-known _ _ _ _ c.self.invariant c.args.n c.combination_of.result (omega (arith, c.requires, ap (λ t. length (choices_of t)) c.self.view_is)) (omega (arith, c.combination_of.ensures.bound, ap length c.as_slice.ensures.value)) (λ k h. omega (arith, c.combination_of.ensures.before k h, ap (λ ns. slice_index ns k) c.as_slice.ensures.value))) in
-    let low = (found-low _ _ _ _ c.self.invariant c.args.n c.combination_of.result (omega (arith, known)) (λ k h. omega (arith, c.combination_of.ensures.before k h, ap (λ ns. slice_index ns k) c.as_slice.ensures.value))) in
-    let high = (found-high _ _ _ _ c.self.invariant c.args.n c.combination_of.result known (λ k h l. omega (arith, c.combination_of.ensures.behind k h (omega (arith, l, ap length c.as_slice.ensures.value)), ap (λ ns. slice_index ns k) c.as_slice.ensures.value))) in
-    subst (λ (t : Litmus). IsOfCombination t c.args.n c.combination_of.result) c.self.view_is (found-of _ _ _ _ c.self.invariant c.args.n c.combination_of.result known low high)
+    let known = (found-known _ c.self.invariant c.args.n c.combination_of.result (omega (arith, c.requires, ap (λ t. length (choices_of t)) c.self.view_is)) (omega (arith, c.combination_of.ensures.bound, ap length c.as_slice.ensures.value)) (λ k h. omega (arith, c.combination_of.ensures.before k h, ap (λ ns. slice_index ns k) c.as_slice.ensures.value))) in
+    let low = (found-low _ c.self.invariant c.args.n c.combination_of.result (omega (arith, known)) (λ k h. omega (arith, c.combination_of.ensures.before k h, ap (λ ns. slice_index ns k) c.as_slice.ensures.value))) in
+    let high = (found-high _ c.self.invariant c.args.n c.combination_of.result known (λ k h l. omega (arith, c.combination_of.ensures.behind k h (omega (arith, l, ap length c.as_slice.ensures.value)), ap (λ ns. slice_index ns k) c.as_slice.ensures.value))) in
+    subst (λ (t : Litmus). IsOfCombination t c.args.n c.combination_of.result) c.self.view_is (found-of _ c.self.invariant c.args.n c.combination_of.result known low high)
 
 pub returns-clause-low : goal.returns-clause-low
 returns-clause-low c =
-    let known = (found-known _ _ _ _ c.self.invariant c.args.n c.combination_of.result (omega (arith, c.requires, ap (λ t. length (choices_of t)) c.self.view_is)) (omega (arith, c.combination_of.ensures.bound, ap length c.as_slice.ensures.value)) (λ k h. omega (arith, c.combination_of.ensures.before k h, ap (λ ns. slice_index ns k) c.as_slice.ensures.value))) in
-    let low = (found-low _ _ _ _ c.self.invariant c.args.n c.combination_of.result (omega (arith, known)) (λ k h. omega (arith, c.combination_of.ensures.before k h, ap (λ ns. slice_index ns k) c.as_slice.ensures.value))) in
+    let known = (found-known _ c.self.invariant c.args.n c.combination_of.result (omega (arith, c.requires, ap (λ t. length (choices_of t)) c.self.view_is)) (omega (arith, c.combination_of.ensures.bound, ap length c.as_slice.ensures.value)) (λ k h. omega (arith, c.combination_of.ensures.before k h, ap (λ ns. slice_index ns k) c.as_slice.ensures.value))) in
+    let low = (found-low _ c.self.invariant c.args.n c.combination_of.result (omega (arith, known)) (λ k h. omega (arith, c.combination_of.ensures.before k h, ap (λ ns. slice_index ns k) c.as_slice.ensures.value))) in
     omega (arith, low, ap (λ t. choices_before t c.combination_of.result) c.self.view_is)
 
 pub returns-clause-high : goal.returns-clause-high
 returns-clause-high c =
-    let known = (found-known _ _ _ _ c.self.invariant c.args.n c.combination_of.result (omega (arith, c.requires, ap (λ t. length (choices_of t)) c.self.view_is)) (omega (arith, c.combination_of.ensures.bound, ap length c.as_slice.ensures.value)) (λ k h. omega (arith, c.combination_of.ensures.before k h, ap (λ ns. slice_index ns k) c.as_slice.ensures.value))) in
-    let high = (found-high _ _ _ _ c.self.invariant c.args.n c.combination_of.result known (λ k h l. omega (arith, c.combination_of.ensures.behind k h (omega (arith, l, ap length c.as_slice.ensures.value)), ap (λ ns. slice_index ns k) c.as_slice.ensures.value))) in
+    let known = (found-known _ c.self.invariant c.args.n c.combination_of.result (omega (arith, c.requires, ap (λ t. length (choices_of t)) c.self.view_is)) (omega (arith, c.combination_of.ensures.bound, ap length c.as_slice.ensures.value)) (λ k h. omega (arith, c.combination_of.ensures.before k h, ap (λ ns. slice_index ns k) c.as_slice.ensures.value))) in
+    let high = (found-high _ c.self.invariant c.args.n c.combination_of.result known (λ k h l. omega (arith, c.combination_of.ensures.behind k h (omega (arith, l, ap length c.as_slice.ensures.value)), ap (λ ns. slice_index ns k) c.as_slice.ensures.value))) in
     omega (arith, high, ap (λ t. choices_before t (c.combination_of.result + 1)) c.self.view_is)

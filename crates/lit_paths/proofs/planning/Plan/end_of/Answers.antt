@@ -5,16 +5,16 @@ use Rattle.lit_paths.proofs.PlanFacts.{planned-few, planned-length, planned-at, 
 use Rattle.lit_paths.proofs.planning.Plan.end_of.Goals as goal
 
 pub offset_bounds-as_slice-combination : goal.offset_bounds-as_slice-combination
-offset_bounds-as_slice-combination c = omega (arith, c.requires, ap (λ t. length (combinations_of t)) c.self.view_is, planned-few _ _ _ _ c.self.invariant)
+offset_bounds-as_slice-combination c = omega (arith, c.requires, ap (λ t. length (combinations_of t)) c.self.view_is, planned-few _ c.self.invariant)
 
 pub bounds-as_slice-combination : goal.bounds-as_slice-combination
 bounds-as_slice-combination c =
-    omega (arith, c.requires, ap (λ t. length (combinations_of t)) c.self.view_is, planned-length _ _ _ _ c.self.invariant, ap length c.as_slice.ensures.value)
+    omega (arith, c.requires, ap (λ t. length (combinations_of t)) c.self.view_is, planned-length _ c.self.invariant, ap length c.as_slice.ensures.value)
 
 pub returns-clause-value : goal.returns-clause-value
 returns-clause-value c =
     ap (λ ns. get_or ns c.args.combination 0) c.as_slice.ensures.value
-    ∙ planned-at _ _ _ _ c.self.invariant c.args.combination 0 (omega (arith, c.requires, ap (λ t. length (combinations_of t)) c.self.view_is))
+    ∙ planned-at _ c.self.invariant c.args.combination 0 (omega (arith, c.requires, ap (λ t. length (combinations_of t)) c.self.view_is))
     ∙ ap (λ t. choices_before t (c.args.combination + 1)) c.self.view_is
 
 pub returns-clause-few : goal.returns-clause-few
@@ -22,8 +22,8 @@ returns-clause-few c =
     omega (
       arith,
       ap (λ ns. get_or ns c.args.combination 0) c.as_slice.ensures.value,
-      planned-at _ _ _ _ c.self.invariant c.args.combination 0 (omega (arith, c.requires, ap (λ t. length (combinations_of t)) c.self.view_is)),
-      planned-below _ _ _ _ c.self.invariant (c.args.combination + 1),
+      planned-at _ c.self.invariant c.args.combination 0 (omega (arith, c.requires, ap (λ t. length (combinations_of t)) c.self.view_is)),
+      planned-below _ c.self.invariant (c.args.combination + 1),
     )
 
 pub returns-clause-some : goal.returns-clause-some
@@ -31,6 +31,6 @@ returns-clause-some c =
     omega (
       arith,
       ap (λ ns. get_or ns c.args.combination 0) c.as_slice.ensures.value,
-      planned-at _ _ _ _ c.self.invariant c.args.combination 0 (omega (arith, c.requires, ap (λ t. length (combinations_of t)) c.self.view_is)),
-      planned-end _ _ _ _ c.self.invariant c.args.combination (omega (arith, c.requires, ap (λ t. length (combinations_of t)) c.self.view_is)),
+      planned-at _ c.self.invariant c.args.combination 0 (omega (arith, c.requires, ap (λ t. length (combinations_of t)) c.self.view_is)),
+      planned-end _ c.self.invariant c.args.combination (omega (arith, c.requires, ap (λ t. length (combinations_of t)) c.self.view_is)),
     )

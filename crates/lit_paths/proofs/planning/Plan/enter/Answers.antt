@@ -1,4 +1,6 @@
-use Rattle.std.proofs.Common.{arith, ◌+◌}
+use Rattle.std.proofs.Common.{arith, ap, length, ◌+◌}
+use Rattle.lit_paths.specs.Choice.{combinations_of}
+use Rattle.lit_paths.proofs.CombinedPaths.{count_of-combinations}
 use Rattle.lit_paths.proofs.PlanFacts.{before_mono}
 use Rattle.lit_paths.proofs.planning.Plan.enter.Goals as goal
 
@@ -15,3 +17,6 @@ new-requires-clause-few c =
       c.end_of.ensures.few,
       before_mono c.args.self.now c.args.combination (c.args.combination + 1) (omega arith),
     )
+
+pub join-joined-requires : goal.join-joined-requires
+join-joined-requires c = omega (arith, c.requires, ap (λ t. length (combinations_of t)) c.self.view_is, count_of-combinations c.self.inside.paths)

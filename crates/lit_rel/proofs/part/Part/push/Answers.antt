@@ -3,9 +3,8 @@ use Rattle.std.proofs.Math.ListN.{set, length-set}
 use Rattle.std.proofs.lemmas.Bool.{false≢true}
 use Rattle.std.specs.Bool.{IsTrue}
 use Rattle.lit_paths.specs.declared.event.Event.{Event}
-use Rattle.lit_paths.specs.ByteReads.{byte_reads}
 use Rattle.lit_paths.specs.Event.{event_at}
-use Rattle.lit_paths.specs.Planning.Ways.{pair_of}
+use Rattle.lit_paths.specs.ByteReads.{byte_reads, pair_of}
 use Rattle.lit_paths.specs.declared.limits.TheConstants.{BYTE_READ_LIMIT}
 use Rattle.lit_paths.specs.declared.sources.ByteRead.{ByteRead}
 use Rattle.lit_rel.specs.declared.bit_rows.Rows.{Rows}

@@ -1,0 +1,214 @@
+//! A combination of paths, entered: what the choices on it share.
+
+ghost use Rattle.std.specs.Prelude.{◌≡◌, ◌+◌, ◌/◌, ◌%◌, ◌<◌, ◌≤◌, length, map, Some, slice_get};
+ghost use Rattle.lit_paths.specs.declared.limits.TheConstants.{BYTE_READ_LIMIT as READS, CHOICE_LIMIT, EVENT_LIMIT};
+ghost use Rattle.lit_paths.specs.ByteReads.{byte_reads, byte_read_at, pair_of};
+ghost use Rattle.lit_paths.specs.Choice.{product, AreSources, candidates_of as candidates_among, combinations_of};
+ghost use Rattle.lit_paths.specs.Numbers.{ways_from};
+ghost use Rattle.lit_paths.specs.Plan.{events_in, choices_before, first_event, path_in, walk_in, AreEventsIn, HasSources, IsOfCombination, IsWalkIn, ListsCandidates};
+ghost use Rattle.lit_paths.specs.Planning.CandidateLists.{candidate_lists, ways_after};
+ghost use Rattle.lit_paths.specs.Planning.Combining.{IsJoined};
+ghost use Rattle.lit_paths.specs.Planning.Walks.{IsInLimits};
+
+use crate::agent_paths::AgentPaths;
+use crate::event::{Event, Sources};
+use crate::joined::Joined;
+use crate::limits::BYTE_READ_LIMIT;
+use crate::path::Path;
+use crate::sources::{ByteRead, ByteReads, Candidates, byte_reads_of, candidates_of};
+use arrayvec::ArrayVec;
+use lit_read::Test;
+use std::marker::Model;
+
+/// The candidates of each byte read, and how many ways the later ones leave.
+#[derive(Drop)]
+struct Ways {
+    candidates: ArrayVec<Candidates, BYTE_READ_LIMIT>,
+    later: ArrayVec<u64, BYTE_READ_LIMIT>,
+}
+
+/// The candidates of each of these bytes, whose sources can be chosen in `total` ways.
+fn ways_of(events: &[Event], reads: &[ByteRead], total: u64) -> Ways
+    requires few { length events.now ≤ EVENT_LIMIT }
+    requires room { length reads.now ≤ READS }
+    requires whole { total ≡ length (product (candidate_lists events.now reads.now)) }
+    requires some { 1 ≤ total }
+    ensures candidates { map (λ list. list.items) result.candidates.items ≡ candidate_lists events.now reads.now }
+    ensures later { result.later.items ≡ ways_after (candidate_lists events.now reads.now) }
+{
+    let mut candidates = ArrayVec::new();
+    let mut later = ArrayVec::new();
+    let mut left = total;
+    for read in reads {
+        let list = candidates_of(events, *read);
+        left /= list.len() as u64;
+        candidates.push(list);
+        later.push(left);
+    }
+    Ways { candidates, later }
+}
+
+/// The candidate of a byte that a choice takes: `place / later` counts round and round through them.
+fn candidate_at(candidates: &[u8], later: u64, place: u64) -> u8
+    requires some { 1 ≤ length candidates.now }
+    requires later { 1 ≤ later }
+    ensures { slice_get candidates.now (place / later % length candidates.now) ≡ Some result }
+{
+    let index = place / later % candidates.len() as u64;
+    candidates[index as usize]
+}
+
+/// One combination of paths: the path of each agent, its events, the bytes that they read with the candidates of each,
+/// and the choices on it. It borrows the plan, and its size is fixed. A clause sees it as the test's value and the
+/// combination's number.
+#[derive(Drop)]
+pub struct Combination<'p> {
+    paths: &'p AgentPaths<'p>,
+    number: usize,
+    joined: Joined,
+    reads: ByteReads,
+    ways: Ways,
+    first: u64,
+    total: u64,
+}
+
+impl<'p> Model for Combination<'p> {
+    ghost use Rattle.std.specs.Prelude.{ℕ};
+    ghost use Rattle.std.specs.Coded.{coded×, coded_ℕ};
+    ghost use Rattle.lit_read.specs.Syntax.{Litmus};
+    ghost use Rattle.lit_read.specs.SyntaxCodes.{coded_litmus};
+    ghost use Rattle.lit_paths.specs.Planning.Entered.{IsEntered};
+
+    ghost Value = { Litmus × ℕ };
+
+    ghost coded = { coded× coded_litmus coded_ℕ };
+
+    ghost view = { λ x. (x.paths.now, x.number) };
+
+    ghost invariant = { IsEntered };
+}
+
+impl<'p> Combination<'p> {
+    /// Combination `number` of a plan's test, with so many choices from number `first` on.
+    pub(crate) fn new(
+        paths: &'p AgentPaths<'p>,
+        number: usize,
+        joined: Joined,
+        first: u64,
+        total: u64,
+    ) -> Self
+        requires limits { IsInLimits paths.now }
+        requires known { number < length (combinations_of paths.now) }
+        requires joined { IsJoined paths.now number joined }
+        requires sound { AreEventsIn paths.now.bytes joined.events.items }
+        requires first { first ≡ choices_before paths.now number }
+        requires whole { first + total ≡ choices_before paths.now (number + 1) }
+        requires few { first + total ≤ CHOICE_LIMIT }
+        ensures { result ≡ (paths.now, number) }
+    {
+        let reads = byte_reads_of(joined.events.as_slice());
+        let ways = ways_of(joined.events.as_slice(), reads.as_slice(), total);
+        Combination {
+            paths,
+            number,
+            joined,
+            reads,
+            ways,
+            first,
+            total,
+        }
+    }
+
+    /// The test.
+    pub fn test(&self) -> &'p Test
+        ensures { result.now ≡ self.now.0 }
+    {
+        self.paths.test()
+    }
+
+    /// All events of the combination, by number.
+    pub fn events(&self) -> &[Event]
+        ensures value { result.now ≡ events_in self.now.0 self.now.1 }
+        ensures sound { AreEventsIn self.now.0.bytes result.now }
+    {
+        self.joined.events.as_slice()
+    }
+
+    /// The path of an agent, by its number: below the number of agents.
+    pub fn path(&self, agent: usize) -> &'p Path
+        requires { agent < length self.now.0.agents }
+        ensures exact { result.now ≡ path_in self.now.0 self.now.1 agent }
+        ensures walk { IsWalkIn self.now.0 self.now.1 agent (walk_in self.now.0 self.now.1 agent) }
+    {
+        let number = self.joined.numbers.as_slice()[agent];
+        self.paths.path(agent, usize::from(number))
+    }
+
+    /// The number of the first event of an agent, by the agent's number: below the number of agents. Where the agent
+    /// has no event, it is the number behind those of the agents before.
+    pub fn first_event(&self, agent: usize) -> u8
+        requires { agent < length self.now.0.agents }
+        ensures { result ≡ first_event self.now.0 self.now.1 agent }
+    {
+        self.joined.firsts.as_slice()[agent]
+    }
+
+    /// Each byte that is read: reads by rising number, bytes rising within a read.
+    pub fn byte_reads(&self) -> &[ByteRead]
+        ensures { map pair_of result.now ≡ byte_reads (events_in self.now.0 self.now.1) }
+    {
+        self.reads.as_slice()
+    }
+
+    /// The candidates of a byte read, by its place in `byte_reads`: by rising event number, and at least one.
+    pub fn candidates(&self, place: usize) -> &[u8]
+        requires { place < length (byte_reads (events_in self.now.0 self.now.1)) }
+        ensures value { result.now ≡ candidates_among (events_in self.now.0 self.now.1) (byte_read_at (events_in self.now.0 self.now.1) place) }
+        ensures lists { ListsCandidates (events_in self.now.0 self.now.1) (byte_read_at (events_in self.now.0 self.now.1) place).0 (byte_read_at (events_in self.now.0 self.now.1) place).1 result.now }
+        ensures some { 1 ≤ length result.now }
+    {
+        self.ways.candidates.as_slice()[place].as_slice()
+    }
+
+    /// How many choices on the combination each candidate of a byte read leads to, by the byte read's place in
+    /// `byte_reads`: the product of the numbers of candidates of the byte reads after it.
+    pub fn ways_after(&self, place: usize) -> u64
+        requires { place < length (byte_reads (events_in self.now.0 self.now.1)) }
+        ensures value { result ≡ ways_from (events_in self.now.0 self.now.1) (place + 1) }
+        ensures some { 1 ≤ result }
+    {
+        self.ways.later.as_slice()[place]
+    }
+
+    /// The number of its first choice.
+    pub fn first(&self) -> u64
+        ensures { result ≡ choices_before self.now.0 self.now.1 }
+    {
+        self.first
+    }
+
+    /// The number behind that of its last choice.
+    pub fn end(&self) -> u64
+        ensures { result ≡ choices_before self.now.0 (self.now.1 + 1) }
+    {
+        self.first + self.total
+    }
+
+    /// The sources of a choice on it, by the choice's number: from `first` up to and without `end`.
+    pub fn sources(&self, n: u64) -> Sources
+        requires low { choices_before self.now.0 self.now.1 ≤ n }
+        requires high { n < choices_before self.now.0 (self.now.1 + 1) }
+        ensures listed { HasSources self.now.0 n result.items }
+        ensures of { IsOfCombination self.now.0 n self.now.1 }
+        ensures sourced { AreSources (events_in self.now.0 self.now.1) result.items }
+    {
+        let place = n - self.first;
+        let candidates = self.ways.candidates.as_slice();
+        let later = self.ways.later.as_slice();
+        let mut sources = Sources::new();
+        for i in 0..candidates.len() {
+            sources.push(candidate_at(candidates[i].as_slice(), later[i], place));
+        }
+        sources
+    }
+}
