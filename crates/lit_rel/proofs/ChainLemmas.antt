@@ -10,7 +10,7 @@ abbrev pub HasChain : (ℕ → ℕ → Type 0) → ℕ → ℕ → Type 0
 HasChain step e d = (middles : List ℕ) × Chain step e middles d
 
 -- chains joined at m
-Chain-append : (step : ℕ → ℕ → Type 0) (e : ℕ) (ms : List ℕ) (m : ℕ) (ns : List ℕ) (d : ℕ) → Chain step e ms m → Chain step m ns d → Chain step e (ms ++ m ∷ ns) d
+pub Chain-append : (step : ℕ → ℕ → Type 0) (e : ℕ) (ms : List ℕ) (m : ℕ) (ns : List ℕ) (d : ℕ) → Chain step e ms m → Chain step m ns d → Chain step e (ms ++ m ∷ ns) d
 Chain-append step e [] m ns d p q = (p, q)
 Chain-append step e (k ∷ ms) m ns d p q = (p.0, Chain-append step k ms m ns d p.1 q)
 

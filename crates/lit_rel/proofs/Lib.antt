@@ -1,7 +1,10 @@
+pub mod BrokenLemmas
 pub mod ChainLemmas
 pub mod EachLemmas
+pub mod EdgeLemmas
 pub mod ForbiddenLemmas
 pub mod GrowthLemmas
+pub mod LevelLemmas
 pub mod PartLemmas
 pub mod PlaceLemmas
 pub mod ReadingLemmas

@@ -10,5 +10,6 @@ pub mod TearFree
 pub mod Forbidden
 pub mod Growth
 pub mod Part
+pub mod Broken
 pub mod WideEvents
 pub mod Parts

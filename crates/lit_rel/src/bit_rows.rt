@@ -136,15 +136,22 @@ impl Rows {
         }
     }
 
+    /// Whether it holds of some event and itself.
+    pub(crate) fn has_cycle(&self) -> bool
+        ensures { IsTrue result ↔ ((e : ℕ) × Holds self.now e e) }
+    {
+        for event in 0..self.len {
+            if self.holds(event, event) {
+                return true;
+            }
+        }
+        false
+    }
+
     /// Whether it holds of no event and itself.
     pub fn is_irreflexive(&self) -> bool
         ensures { IsTrue result ↔ ((e : ℕ) → ¬ Holds self.now e e) }
     {
-        for event in 0..self.len {
-            if self.holds(event, event) {
-                return false;
-            }
-        }
-        true
+        !self.has_cycle()
     }
 }

@@ -6,12 +6,14 @@
 #![tactic(auto)]
 
 mod bit_rows;
+mod breaking;
 mod closing;
 mod event_set;
 mod fixed_steps;
 mod forbidding;
 mod given;
 mod growth;
+mod levels;
 mod part;
 mod reading_checks;
 mod relating;

@@ -15,10 +15,11 @@ ghost use Rattle.lit_rel.specs.SynchronizesWith.{Synchronizes};
 ghost use Rattle.lit_rel.specs.TearFree.{HasTearFreeReads};
 
 use crate::bit_rows::Rows;
-use crate::fixed_steps::fixed_steps;
+use crate::closing::unsourced_order;
 use crate::given::{Given, SourcedByte, SourcedBytes};
+use crate::levels::{Level, Levels, rows_at};
 use crate::triples::Between;
-use lit_paths::{Combination, Plan};
+use lit_paths::{BYTE_READ_LIMIT, Combination, Plan};
 use std::marker::Model;
 
 /// A combination of a test's paths, with sources for its first byte reads. Its size is fixed. A clause sees it as the
@@ -26,15 +27,19 @@ use std::marker::Model;
 #[derive(Drop)]
 pub struct Part<'p> {
     combination: Combination<'p>,
-    /// The steps of happens-before that no source decides.
-    fixed: Rows,
     bytes: SourcedBytes,
+    /// happens-before of no source.
+    start: Rows,
+    /// happens-before with so many sources, where one of them added a pair.
+    kept: [Rows; BYTE_READ_LIMIT],
+    earlier: Levels,
+    level: Level,
 }
 
 impl<'p> Model for Part<'p> {
-    ghost use Rattle.lit_paths.specs.Plan.{events_in};
     ghost use Rattle.lit_rel.specs.Part.{PartModel, coded_part};
-    ghost use Rattle.lit_rel.specs.Parts.Given.{IsKept, sources_of};
+    ghost use Rattle.lit_rel.specs.Parts.Given.{sources_of};
+    ghost use Rattle.lit_rel.specs.Parts.Levels.{IsKept};
 
     ghost Value = { PartModel };
 
@@ -42,10 +47,11 @@ impl<'p> Model for Part<'p> {
 
     ghost view = { λ p. record { test = p.combination.0; combination = p.combination.1; sources = sources_of p.bytes.items } };
 
-    ghost invariant = { λ p. IsKept p.combination.0.bytes (events_in p.combination.0 p.combination.1) p.fixed p.bytes.items };
+    ghost invariant = { λ p. IsKept (record { test = p.combination.0; combination = p.combination.1; sources = sources_of p.bytes.items }) p.start p.kept p.bytes.items p.earlier.items p.level };
 }
 
 impl<'p> Part<'p> {
+    ghost use Rattle.lit_rel.specs.Broken.{IsBroken};
     ghost use Rattle.lit_rel.specs.Parts.Given.{sources_of};
 
     /// A combination of a plan's test, by its number: below `combinations`. No byte read has a source yet.
@@ -54,11 +60,15 @@ impl<'p> Part<'p> {
         ensures { result ≡ record { test = plan.now; combination = combination; sources = [] } }
     {
         let combination = plan.enter(combination);
-        let fixed = fixed_steps(combination.events());
+        let start = unsourced_order(combination.events());
+        let broken = start.has_cycle();
         Part {
             combination,
-            fixed,
             bytes: SourcedBytes::new(),
+            start,
+            kept: [start; BYTE_READ_LIMIT],
+            earlier: Levels::new(),
+            level: Level { rows: 0, broken },
         }
     }
 
@@ -75,11 +85,34 @@ impl<'p> Part<'p> {
         ensures { self.new ≡ with_sources self.old (self.old.sources ++ source ∷ []) }
     {
         let next = self.combination.byte_reads()[self.bytes.len()];
-        self.bytes.push(SourcedByte {
+        let byte = SourcedByte {
             read: next.read,
             byte: next.byte,
             source,
-        });
+        };
+        let given = Given {
+            events: self.combination.events(),
+            bytes: self.bytes.as_slice(),
+        };
+        let before = rows_at(&self.start, &self.kept, self.level.rows);
+        let level = if given.adds_pair(byte, before) {
+            let mut now = *before;
+            now.close_with(usize::from(byte.source), usize::from(byte.read));
+            let broken = given.is_broken_with_pair(self.level.broken, byte, before, &now);
+            self.kept[self.bytes.len()] = now;
+            Level {
+                rows: self.bytes.len() as u8 + 1,
+                broken,
+            }
+        } else {
+            Level {
+                rows: self.level.rows,
+                broken: given.is_broken_with(self.level.broken, byte, before),
+            }
+        };
+        self.earlier.push(self.level);
+        self.level = level;
+        self.bytes.push(byte);
     }
 
     /// Takes the last source back. There is one.
@@ -87,7 +120,17 @@ impl<'p> Part<'p> {
         requires { 0 < length self.old.sources }
         ensures { self.new ≡ with_sources self.old (take (length self.old.sources - 1) self.old.sources) }
     {
+        self.level = self.earlier[self.bytes.len() - 1];
+        self.earlier.pop();
         self.bytes.pop();
+    }
+
+    /// Whether no complete choice that begins with its paths and sources can belong to a valid execution, as far as its
+    /// sources show: some event happens before itself, a byte is not coherent, or two bytes tear their read.
+    pub fn broken(&self) -> bool
+        ensures { IsTrue result ↔ IsBroken self.now }
+    {
+        self.level.broken
     }
 
     /// How many sources are given.
@@ -117,6 +160,14 @@ impl<'p> Part<'p> {
         }
     }
 
+    /// happens-before of the sources given, where it is kept.
+    fn rows(&self) -> &Rows
+        ensures len { rows_len result.now ≡ length (part_events self.now) }
+        ensures pairs { (e d : ℕ) → Holds result.now e d ↔ HappensBefore (part_events self.now) self.now.sources e d }
+    {
+        rows_at(&self.start, &self.kept, self.level.rows)
+    }
+
     /// reads-from (ECMA-262, 2024, 29.6.3), as pairs of a read and a source, of the sources given.
     pub fn reads_from(&self) -> Rows
         ensures len { rows_len result ≡ length (part_events self.now) }
@@ -139,14 +190,14 @@ impl<'p> Part<'p> {
         ensures len { rows_len result ≡ length (part_events self.now) }
         ensures pairs { (e d : ℕ) → Holds result e d ↔ HappensBefore (part_events self.now) self.now.sources e d }
     {
-        self.given().happens_before(&self.fixed)
+        *self.rows()
     }
 
     /// Whether the reads are coherent (29.7.2), as far as sources are given.
     pub fn coherent(&self) -> bool
         ensures { IsTrue result ↔ HasCoherentReads (part_events self.now) self.now.sources }
     {
-        self.given().is_coherent(&self.happens_before())
+        self.given().is_coherent(self.rows())
     }
 
     /// Whether the reads are tear free (29.7.3), as far as sources are given.
@@ -161,7 +212,7 @@ impl<'p> Part<'p> {
         ensures len { result.len ≡ length (part_events self.now) }
         ensures triples { (w r v : ℕ) → Forbids result w r v ↔ IsForbidden (part_events self.now) self.now.sources w r v }
     {
-        self.given().between(&self.happens_before())
+        self.given().between(self.rows())
     }
 
     /// The value of a read (29.5.4 and 29.5.5), by its event number. Each byte read has a source.

@@ -26,14 +26,14 @@ fn hides(events: &[Event], byte: SourcedByte, other: usize, before: &Rows) -> bo
     ensures { IsTrue result ↔ Hides events.now (Holds before.now) byte.read byte.byte byte.source other }
 {
     let event = event_at(events, other);
-    event.kind.does_write()
-        && event.has_byte(byte.byte)
-        && before.has_pair(usize::from(byte.source), other)
+    before.has_pair(usize::from(byte.source), other)
         && before.has_pair(other, usize::from(byte.read))
+        && event.kind.does_write()
+        && event.has_byte(byte.byte)
 }
 
 /// Whether a byte is read from no later event, and no write hides its source.
-fn is_coherent_byte(events: &[Event], byte: SourcedByte, before: &Rows) -> bool
+pub(crate) fn is_coherent_byte(events: &[Event], byte: SourcedByte, before: &Rows) -> bool
     ensures { IsTrue result ↔ IsCoherentRead events.now (Holds before.now) byte.read byte.byte byte.source }
 {
     if before.has_pair(usize::from(byte.read), usize::from(byte.source)) {
@@ -65,20 +65,7 @@ impl Given<'_> {
         ensures { IsTrue result ↔ HasTearFreeReads self.now.events.now (sources_of self.now.bytes.now) }
     {
         for byte in self.bytes {
-            if !self.is_tear_free_byte(*byte) {
-                return false;
-            }
-        }
-        true
-    }
-
-    /// Whether no other byte tears a byte's read.
-    fn is_tear_free_byte(&self, byte: SourcedByte) -> bool
-        requires { IsKnown (length self.now.events.now) byte }
-        ensures { IsTrue result ↔ ((k : ℕ) (q : Sourced) → slice_get self.now.bytes.now k ≡ Some q → ¬ Tears self.now.events.now byte q) }
-    {
-        for other in self.bytes {
-            if self.tears(byte, *other) {
+            if self.is_torn_by(*byte) {
                 return false;
             }
         }
@@ -86,7 +73,7 @@ impl Given<'_> {
     }
 
     /// Whether two bytes of one read come whole from two sources.
-    fn tears(&self, byte: SourcedByte, other: SourcedByte) -> bool
+    pub(crate) fn tears(&self, byte: SourcedByte, other: SourcedByte) -> bool
         requires byte { IsKnown (length self.now.events.now) byte }
         requires other { IsKnown (length self.now.events.now) other }
         ensures { IsTrue result ↔ Tears self.now.events.now byte other }

@@ -1,15 +1,12 @@
 //! The relations of a candidate execution (ECMA-262, 2024, 29.6), for the sources given so far, as `Rows`.
 
 ghost use Rattle.std.specs.Prelude.{◌≡◌, ◌⊎◌, ◌↔◌, ℕ, IsTrue, length};
-ghost use Rattle.lit_rel.specs.HappensBefore.{HappensBefore};
 ghost use Rattle.lit_rel.specs.Parts.Given.{sources_of};
-ghost use Rattle.lit_rel.specs.Parts.Steps.{IsFixedStep};
 ghost use Rattle.lit_rel.specs.ReadsFrom.{ReadsFrom};
 ghost use Rattle.lit_rel.specs.Rows.{Holds, rows_len};
 ghost use Rattle.lit_rel.specs.SynchronizesWith.{CanSynchronize, Synchronizes};
 
 use crate::bit_rows::Rows;
-use crate::closing::close;
 use crate::given::Given;
 use lit_paths::{Event, event_at};
 
@@ -47,18 +44,6 @@ impl Given<'_> {
                 rows.put(source, read);
             }
         }
-        rows
-    }
-
-    /// happens-before (29.6.6), from the steps that no source decides.
-    pub(crate) fn happens_before(&self, fixed: &Rows) -> Rows
-        requires len { rows_len fixed.now ≡ length self.now.events.now }
-        requires pairs { (e d : ℕ) → Holds fixed.now e d ↔ IsFixedStep self.now.events.now e d }
-        ensures len { rows_len result ≡ length self.now.events.now }
-        ensures pairs { (e d : ℕ) → Holds result e d ↔ HappensBefore self.now.events.now (sources_of self.now.bytes.now) e d }
-    {
-        let mut rows = self.with_synchronized(*fixed);
-        close(&mut rows);
         rows
     }
 }

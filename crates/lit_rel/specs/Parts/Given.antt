@@ -3,12 +3,8 @@ use Rattle.std.specs.Prelude.{◌≡◌, ◌≢◌, ℕ, ◌<◌, ◌↔◌, All
 use Rattle.lit_paths.specs.declared.event.Event.{Event}
 use Rattle.lit_paths.specs.ByteReads.{byte_reads}
 use Rattle.lit_paths.specs.Event.{event_at}
-use Rattle.lit_paths.specs.Plan.{AreEventsIn}
-use Rattle.lit_rel.specs.declared.bit_rows.Rows.{Rows}
 use Rattle.lit_rel.specs.declared.given.SourcedByte.{SourcedByte}
-use Rattle.lit_rel.specs.Rows.{Holds, rows_len}
 use Rattle.lit_rel.specs.TearFree.{CanReadWhole}
-use Rattle.lit_rel.specs.Parts.Steps.{IsFixedStep}
 
 -- the read and the byte
 abbrev pub read_of : SourcedByte → ℕ × ℕ
@@ -35,12 +31,3 @@ pub record Tears (events : List Event) (p q : SourcedByte) : Type 0 where
   pub two_sources : p.source ≢ q.source
   pub first_whole : CanReadWhole (event_at events p.read) (event_at events p.source)
   pub second_whole : CanReadWhole (event_at events q.read) (event_at events q.source)
-
--- what a part keeps of the events in a block of so many bytes: the steps that no source decides, and the first byte
--- reads, each with a source
-pub record IsKept (block : ℕ) (events : List Event) (fixed : Rows) (bytes : List SourcedByte) : Type 0 where
-  pub sound : AreEventsIn block events
-  pub len : rows_len fixed ≡ length events
-  pub fixed_steps : (e d : ℕ) → Holds fixed e d ↔ IsFixedStep events e d
-  pub first_reads : AreFirstReads events bytes
-  pub known : AreKnown events bytes
