@@ -146,3 +146,6 @@ pub(crate) fn next_wanted<W: Wanted>(
     }
     None
 }
+
+#[cfg(test)]
+mod tests;
