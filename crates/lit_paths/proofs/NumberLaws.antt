@@ -150,11 +150,11 @@ one_combination t d c d_known c_known decided =
     let of : ℕ → List (List ℕ) = λ k. map (λ (path : Path). path.decisions) (combination_at t k) in
     let equal : (xs : List (List ℕ)) → slice_cmp (slice_cmp nat_cmp) xs xs ≡ Equal = λ xs. slice_cmp-same (slice_cmp nat_cmp) (λ ys. slice_cmp-same nat_cmp nat_cmp-same ys) xs in
     let clash : (i j : ℕ) → i < length (combinations_of t) → j < length (combinations_of t) → of i ≡ of j → i < j → ⊥ = λ i j i_known j_known same less.
-        let before : slice_cmp (slice_cmp nat_cmp) (of i) (of j) ≡ Less =
-        combinations_of-rise t i j (combination_at t i) (combination_at t j) less (slice_get-get_or (combinations_of t) i [] i_known) (slice_get-get_or (combinations_of t) j [] j_known) in
-        let not_before : slice_cmp (slice_cmp nat_cmp) (of i) (of j) ≡ Equal = ap (λ (l : List (List ℕ)). slice_cmp (slice_cmp nat_cmp) l (of j)) same ∙ equal (of j) in
-        let never : Less ≡ Equal = sym before ∙ not_before in
-        cc in
+    let before : slice_cmp (slice_cmp nat_cmp) (of i) (of j) ≡ Less =
+    combinations_of-rise t i j (combination_at t i) (combination_at t j) less (slice_get-get_or (combinations_of t) i [] i_known) (slice_get-get_or (combinations_of t) j [] j_known) in
+    let not_before : slice_cmp (slice_cmp nat_cmp) (of i) (of j) ≡ Equal = ap (λ (l : List (List ℕ)). slice_cmp (slice_cmp nat_cmp) l (of j)) same ∙ equal (of j) in
+    let never : Less ≡ Equal = sym before ∙ not_before in
+    cc in
     ⊎_elim
     (λ less. absurd (clash d c d_known c_known decided less))
     (λ not_less. ⊎_elim (λ more. absurd (clash c d c_known d_known (sym decided) more)) (λ not_more. omega (arith, not_less, not_more)) (cases_lt c d))

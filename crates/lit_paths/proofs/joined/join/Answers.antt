@@ -36,15 +36,29 @@ nonzero_rem-number c = omega (arith, c.count-count.ensures, walks_of-some (agent
 pub push-requires : goal.push-requires
 push-requires c = (
   omega arith,
-  omega (arith, ap length c.loop-agent.invariant.all_numbers, length-map-range_with_len (walk_number c.args.paths.now c.args.combination) 0 c.loop-agent.agent, c.loop-agent-test.true, c.agents-agent-end.ensures.value,
-    ap (λ t. length t.agents) c.test-2.ensures, c.combinations-later.ensures.limits.litmus.few_agents),
+  omega (
+    arith,
+    ap length c.loop-agent.invariant.all_numbers,
+    length-map-range_with_len (walk_number c.args.paths.now c.args.combination) 0 c.loop-agent.agent,
+    c.loop-agent-test.true,
+    c.agents-agent-end.ensures.value,
+    ap (λ t. length t.agents) c.test-2.ensures,
+    c.combinations-later.ensures.limits.litmus.few_agents,
+  ),
 )
 
 pub push-requires-in-loop-agent : goal.push-requires-in-loop-agent
 push-requires-in-loop-agent c = (
   omega arith,
-  omega (arith, ap length c.loop-agent.invariant.all_firsts, length-map-range_with_len (first_event c.args.paths.now c.args.combination) 0 c.loop-agent.agent, c.loop-agent-test.true, c.agents-agent-end.ensures.value,
-    ap (λ t. length t.agents) c.test-2.ensures, c.combinations-later.ensures.limits.litmus.few_agents),
+  omega (
+    arith,
+    ap length c.loop-agent.invariant.all_firsts,
+    length-map-range_with_len (first_event c.args.paths.now c.args.combination) 0 c.loop-agent.agent,
+    c.loop-agent-test.true,
+    c.agents-agent-end.ensures.value,
+    ap (λ t. length t.agents) c.test-2.ensures,
+    c.combinations-later.ensures.limits.litmus.few_agents,
+  ),
 )
 
 pub path-requires-clause-number : goal.path-requires-clause-number
