@@ -10,7 +10,6 @@ use Rattle.std.specs.Ordering.{is_gt, nat_cmp, ordering_reverse, then_cmp, on}
 use Rattle.std.specs.declared.cmp.Ordering.{Ordering}
 use Rattle.std.specs.declared.cmp.Ordering.TheVariants.{Less, Equal, Greater}
 use Rattle.std.proofs.Common.{rules}
-use Rattle.std.proofs.lemmas.Map.Lookups.{exact_bytes}
 use Rattle.lit_search.specs.Report.{Entry, example_cmp, outcome_cmp}
 
 -- entries with rising outcomes

@@ -1,5 +1,5 @@
 -- What is kept, and what is found first, while choices are looked at in order.
-use Rattle.std.proofs.Common.{◌≡◌, ◌⊎◌, inl, inr, Ok, Err, ℕ, zero, suc, ◌+◌, ◌<◌, ◌≤◌, Bool, true, false, List, [], ◌∷◌, Some, refl, sym, subst, arith}
+use Rattle.std.proofs.Common.{◌≡◌, ◌⊎◌, inl, inr, Ok, Err, ℕ, zero, suc, ◌+◌, ◌<◌, ◌≤◌, Bool, List, [], ◌∷◌, Some, refl, sym, subst, arith}
 use Rattle.std.specs.Prelude.{IfOk, IsTrue, slice_get}
 use Rattle.std.specs.declared.result.Result.{Result}
 use Rattle.std.specs.declared.cmp.Ordering.{Ordering}
@@ -10,7 +10,7 @@ use Rattle.lit_read.specs.Syntax.{Litmus}
 use Rattle.lit_search.specs.declared.class.Class.{Class}
 use Rattle.lit_search.specs.Class.{GivesClass, HasNoneOf, IsFirstOf, is_of_class}
 use Rattle.lit_search.specs.Collected.{Collected, HasTaken}
-use Rattle.lit_search.specs.Report.{Entry, Report, Gives, IsReport, in_either, in_range}
+use Rattle.lit_search.specs.Report.{Entry, Report, in_either, in_range}
 use Rattle.lit_search.specs.Searching.Examined.{IsExample}
 use Rattle.lit_search.specs.Searching.Merged.{merged}
 use Rattle.lit_search.specs.Searching.Outcomes.{HasOutcome}
