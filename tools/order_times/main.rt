@@ -1,60 +1,112 @@
-//! The mean time of one least memory-order by each finder, over the choices of the test on standard input whose reads
-//! are coherent and tear free. It is no part of the product, and unproved.
+//! The mean time of one least memory-order by each finder, over executions of one test: in a block of sixteen bytes one
+//! agent stores byte 0 four times, and three agents load it eight times, all through Atomics. It is no part of the
+//! product.
 #![tactic(auto)]
 
 use lit_order::{ForcedFinder, OrderFinder, PlainFinder};
-use lit_paths::plan;
-use lit_read::read;
-use lit_rel::{Between, Part, Rows};
-use std::io::Read;
+use lit_paths::BYTE_READ_LIMIT;
+use lit_rel::{Between, EventSet, Rows};
+use std::alloc::AllocError;
+use std::alloc::Global;
+use std::io;
 use std::time::Instant;
 
-/// How many choices are taken at the most, and how often each is asked.
-const TAKEN: usize = 4_096;
-const TURNS: usize = 64;
+/// The events by number: what makes the block, then the stores, then the loads.
+const EVENTS: usize = 28;
+const FIRST_STORE: usize = 16;
+const FIRST_LOAD: usize = 20;
 
-fn nanoseconds<F: OrderFinder>(rt: &HostRuntime, finder: &F, taken: &[(Rows, Between)]) -> anyhow::Result<(u128, usize)> {
-    let mut found = 0;
-    let start = Instant::now(rt)?;
+/// How many executions are tried, and how often each is asked.
+const TRIED: usize = 65_536;
+const TURNS: usize = 16;
+
+/// Puts a pair in, and what it leads through.
+fn close(rows: &mut Rows, a: usize, d: usize) {
+    if a < rows.len() && d < rows.len() {
+        rows.close_with(a, d);
+    }
+}
+
+/// What comes before what, where no load has a source.
+fn unsourced() -> Rows {
+    let mut rows = Rows::new(EVENTS);
+    for event in 1..EVENTS {
+        if event < FIRST_STORE {
+            close(&mut rows, event - 1, event);
+        } else {
+            close(&mut rows, 0, event);
+        }
+        let first_of_agent = event == FIRST_STORE || event == FIRST_LOAD || event == 23 || event == 26;
+        if event > FIRST_STORE && !first_of_agent {
+            close(&mut rows, event - 1, event);
+        }
+    }
+    rows
+}
+
+/// happens-before and the triples, with sources by digits of a number.
+fn execution(unsourced: &Rows, number: u64) -> (Rows, Between) {
+    let mut rows = *unsourced;
+    let mut between = Between::new(EVENTS);
+    let mut left = number;
+    for load in FIRST_LOAD..EVENTS {
+        let digit = (left % 5) as usize;
+        left /= 5;
+        let source = if digit == 0 { 0 } else { FIRST_STORE + digit - 1 };
+        if digit > 0 {
+            close(&mut rows, source, load);
+        }
+        let mut others = EventSet::new();
+        for store in FIRST_STORE..FIRST_LOAD {
+            if store != source {
+                others = others.with(store);
+            }
+        }
+        let room = between.pairs().len() < BYTE_READ_LIMIT && source < between.len() && load < between.len();
+        if room {
+            between.forbid(source as u8, load as u8, others);
+        }
+    }
+    (rows, between)
+}
+
+/// Those executions of the first `TRIED` (by a step that mixes the digits) in which no event happens before itself.
+fn executions(alloc: Global) -> Result<Vec<(Rows, Between)>, AllocError> {
+    let unsourced = unsourced();
+    let mut all = Vec::new(alloc);
+    for number in 0..TRIED {
+        let one = execution(&unsourced, (number as u64).wrapping_mul(48_271) % 390_625);
+        if one.0.is_irreflexive() {
+            all.push(one)?;
+        }
+    }
+    Ok(all)
+}
+
+/// How many orders a finder finds, each execution asked `TURNS` times.
+fn found<F: OrderFinder>(finder: &F, all: &[(Rows, Between)]) -> usize {
+    let mut count: usize = 0;
     for _ in 0..TURNS {
-        for one in taken {
-            if finder.least_order(&one.0, &one.1).is_some() {
-                found += 1;
+        for one in all {
+            if one.0.len() == one.1.len() && finder.least_order(&one.0, &one.1).is_some() {
+                count = count.saturating_add(1);
             }
         }
     }
-    let spent = start.elapsed(rt)?.as_nanos();
-    Ok((spent / (TURNS * taken.len().max(1)) as u128, found / TURNS))
+    count
 }
 
-fn main(rt: HostRuntime) -> anyhow::Result<()> {
-    let alloc = rt.alloc();
-    let mut text = Vec::new(alloc);
-    rt.stdin().read_to_end(&mut text)?;
-    let test = match read(alloc, text.as_slice()) {
-        Ok(test) => test,
-        Err(_) => return Ok(println!(rt; "no test")?),
-    };
-    let plan = match plan(alloc, &test) {
-        Ok(plan) => plan,
-        Err(_) => return Ok(println!(rt; "no plan")?),
-    };
-    let mut taken = Vec::new(alloc);
-    for choice in 0..plan.total() {
-        if taken.len() >= TAKEN {
-            break;
-        }
-        let mut part = Part::open(&plan, plan.combination(choice));
-        for source in plan.sources(choice).as_slice() {
-            part.push(*source);
-        }
-        let before = part.happens_before();
-        if before.is_irreflexive() && part.coherent() && part.tear_free() {
-            taken.push((before, part.between()))?;
-        }
-    }
-    let forced = nanoseconds(&rt, &ForcedFinder, taken.as_slice())?;
-    let plain = nanoseconds(&rt, &PlainFinder, taken.as_slice())?;
-    println!(rt; "{} choices, {} with an order: {} ns by ForcedFinder, {} ns by PlainFinder", taken.len(), forced.1, forced.0, plain.0)?;
-    Ok(())
+/// Prints the mean time of one order.
+fn report<F: OrderFinder>(rt: &HostRuntime, name: &str, finder: &F, all: &[(Rows, Between)]) -> io::Result<()> {
+    let start = Instant::now(rt)?;
+    let orders = found(finder, all);
+    let spent = start.elapsed(rt)?.as_nanos();
+    let asked = all.len().max(1);
+    println!(rt; "{name}: {} ns an answer, {} executions, {} orders", spent / (asked as u128) / (TURNS as u128), asked, orders / TURNS)
+}
+
+fn main(rt: HostRuntime) -> io::Result<()> {
+    let all = executions(rt.alloc())?;
+    report(&rt, "ForcedFinder", &ForcedFinder, all.as_slice())?;
+    report(&rt, "PlainFinder", &PlainFinder, all.as_slice())
 }

@@ -10,7 +10,6 @@ use Rattle.std.specs.Ordering.{is_gt, nat_cmp, ordering_reverse, then_cmp, on}
 use Rattle.std.specs.declared.cmp.Ordering.{Ordering}
 use Rattle.std.specs.declared.cmp.Ordering.TheVariants.{Less, Equal, Greater}
 use Rattle.std.proofs.Common.{rules}
-use Rattle.std.proofs.lemmas.Map.Lookups.{exact_bytes}
 use Rattle.lit_search.specs.Report.{Entry, example_cmp, outcome_cmp}
 
 -- entries with rising outcomes
@@ -23,9 +22,6 @@ cmp a b = slice_cmp nat_cmp a b
 -- ---- comparing
 pub less_is : (o : Ordering) → o ≡ Less → o ≢ Equal
 less_is o e f = absurd cc
-
-pub greater_is : (o : Ordering) → o ≡ Greater → o ≢ Equal
-greater_is o e f = absurd cc
 
 itself : (o : Ordering) → o ≡ ordering_reverse o → o ≡ Equal
 itself Less e = absurd cc
@@ -42,10 +38,7 @@ differs a b ne e = let P : List ℕ → Type 0 = λ z. cmp a z ≡ Equal in ne (
 pub reversed : (a b : List ℕ) → cmp a b ≡ Greater → cmp b a ≡ Less
 reversed a b h = nat_list_cmp_total.antisymm b a ∙ ap ordering_reverse h
 
--- what is less before and after equal lists
-pub below_same : (a b c : List ℕ) → cmp a b ≡ Less → b ≡ c → cmp a c ≡ Less
-below_same a b c h e = let P : List ℕ → Type 0 = λ z. cmp a z ≡ Less in subst P e h
-
+-- what is less after an equal list
 pub same_below : (a b c : List ℕ) → a ≡ b → cmp a c ≡ Less → cmp b c ≡ Less
 same_below a b c e h = let P : List ℕ → Type 0 = λ z. cmp z c ≡ Less in subst P e h
 

@@ -1,5 +1,5 @@
 -- What is kept, and what is found first, while choices are looked at in order.
-use Rattle.std.proofs.Common.{◌≡◌, ◌⊎◌, inl, inr, Ok, Err, ℕ, zero, suc, ◌+◌, ◌<◌, ◌≤◌, Bool, true, false, List, [], ◌∷◌, Some, refl, sym, subst, arith}
+use Rattle.std.proofs.Common.{◌≡◌, ◌⊎◌, inl, inr, Ok, Err, ℕ, zero, suc, ◌+◌, ◌<◌, ◌≤◌, Bool, List, [], ◌∷◌, Some, refl, sym, subst, arith}
 use Rattle.std.specs.Prelude.{IfOk, IsTrue, slice_get}
 use Rattle.std.specs.declared.result.Result.{Result}
 use Rattle.std.specs.declared.cmp.Ordering.{Ordering}
@@ -10,11 +10,11 @@ use Rattle.lit_read.specs.Syntax.{Litmus}
 use Rattle.lit_search.specs.declared.class.Class.{Class}
 use Rattle.lit_search.specs.Class.{GivesClass, HasNoneOf, IsFirstOf, is_of_class}
 use Rattle.lit_search.specs.Collected.{Collected, HasTaken}
-use Rattle.lit_search.specs.Report.{Entry, Report, Gives, IsReport, in_either, in_range}
+use Rattle.lit_search.specs.Report.{Entry, Report, in_either, in_range}
 use Rattle.lit_search.specs.Searching.Examined.{IsExample}
 use Rattle.lit_search.specs.Searching.Merged.{merged}
 use Rattle.lit_search.specs.Searching.Outcomes.{HasOutcome}
-use Rattle.lit_search.specs.Searching.Shown.{IsNext, IsShown, NoneShow, ShowsNone}
+use Rattle.lit_search.specs.Searching.Shown.{IsNext, IsShown, NoneShow}
 use Rattle.lit_search.specs.Searching.Taking.{KeepsRange}
 use Rattle.lit_search.proofs.Entries.{cmp, differs}
 use Rattle.lit_search.proofs.MergedEntries.{IsMerge-merged}
@@ -55,16 +55,6 @@ kept_from r outcome not = by (kept_or_not outcome r.entries)
 
 -- ---- what choices show
 module _ (t : Litmus) (Wanted : List ℕ → Type 0) where
-  pub none_at_first : (n : ℕ) → NoneShow t Wanted (in_range n n)
-  none_at_first n m inside = absurd (omega (arith, not_below n n m inside, before_end n n m inside))
-
-  pub none_more : (from n : ℕ) → NoneShow t Wanted (in_range from n) → ShowsNone t Wanted n → NoneShow t Wanted (in_range from (n + 1))
-  none_more from n before here m inside = by (cases_lt m n)
-    where
-      by : (m < n) ⊎ (n ≤ m) → ShowsNone t Wanted m
-      by (inl lt) = before m (within from n m (not_below from (n + 1) m inside) lt)
-      by (inr le) = let same : n ≡ m = omega (arith, before_end from (n + 1) m inside) in subst (ShowsNone t Wanted) same here
-
   pub none_fewer : (from to n : ℕ) → to ≤ n → NoneShow t Wanted (in_range from n) → NoneShow t Wanted (in_range from to)
   none_fewer from to n le none m inside = none m (within from n m (not_below from to m inside) (omega (arith, before_end from to m inside)))
 

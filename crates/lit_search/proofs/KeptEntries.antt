@@ -10,7 +10,7 @@ use Rattle.std.specs.Ordering.{is_eq, match_ordering, nat_cmp, ordering_reverse}
 use Rattle.std.specs.declared.cmp.Ordering.{Ordering}
 use Rattle.std.specs.declared.cmp.Ordering.TheVariants.{Less, Equal, Greater}
 use Rattle.std.proofs.lemmas.Map.Lookups.{exact_bytes}
-use Rattle.lit_search.specs.Report.{Entry, Report, outcome_cmp}
+use Rattle.lit_search.specs.Report.{Entry, outcome_cmp}
 use Rattle.lit_search.specs.Searching.Merged.{lesser, merged}
 use Rattle.lit_search.specs.Searching.Outcomes.{HasOutcome}
 use Rattle.lit_search.proofs.Entries.{AreRising, cmp, cmp_same}

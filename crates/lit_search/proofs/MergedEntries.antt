@@ -12,7 +12,7 @@ use Rattle.std.proofs.lemmas.Map.Lookups.{exact_bytes}
 use Rattle.lit_search.specs.Report.{Entry, Report, HasEntry, example_cmp, outcome_cmp}
 use Rattle.lit_search.specs.Merge.{HasInEither, IsMerge}
 use Rattle.lit_search.specs.Searching.Merged.{heads_cmp, lesser, merged_from, merged}
-use Rattle.lit_search.proofs.Entries.{AreRising, Stands, all_stand, all_from_each, below_rising, below_same, first_stands, later_stands, not_after_greater, not_after_itself, once, reversed, same_below, stands_cases, stands_in_none}
+use Rattle.lit_search.proofs.Entries.{AreRising, Stands, all_stand, all_from_each, below_rising, first_stands, later_stands, not_after_greater, not_after_itself, once, reversed, same_below, stands_cases, stands_in_none}
 
 -- ---- the lesser of two
 lesser_by : (P : Entry → Type 0) (a b : Entry) (g : Bool) → P a → P b → P (cond g b a)
@@ -186,34 +186,13 @@ merged-less : (x : Entry) (xs ys : List Entry) → heads_cmp (x ∷ xs) ys ≡ L
 merged-less x xs [] h = ap (λ (zs : List Entry). x ∷ zs) (sym (merged-none xs))
 merged-less x xs (y ∷ ys) h = rw h refl
 
-merged-greater : (xs : List Entry) (y : Entry) (ys : List Entry) → heads_cmp xs (y ∷ ys) ≡ Greater → merged xs (y ∷ ys) ≡ y ∷ merged xs ys
-merged-greater [] y ys h = refl
-merged-greater (x ∷ xs) y ys h = rw h refl
-
-merged-equal : (x : Entry) (xs : List Entry) (y : Entry) (ys : List Entry) → heads_cmp (x ∷ xs) (y ∷ ys) ≡ Equal → merged (x ∷ xs) (y ∷ ys) ≡ lesser x y ∷ merged xs ys
-merged-equal x xs y ys h = rw h refl
-
 module _ {K : Type 0} (f : K → Entry) where
+  -- the first of the first list
   pub taken_less : (xs rest ys : List K) (r : Option K) → heads_cmp (map f xs) (map f ys) ≡ Less → xs ≡ option_to_list r ++ rest → merged (map f xs) (map f ys) ≡ option_to_list (option_map f r) ++ merged (map f rest) (map f ys)
   taken_less xs rest ys None h is = ap (λ (zs : List K). merged (map f zs) (map f ys)) is
   taken_less xs rest ys (Some x) h is =
       let P : List K → Type 0 = λ zs. heads_cmp (map f zs) (map f ys) ≡ Less in
       ap (λ (zs : List K). merged (map f zs) (map f ys)) is ∙ merged-less (f x) (map f rest) (map f ys) (subst P is h)
-
-  pub taken_greater : (xs ys rest : List K) (r : Option K) → heads_cmp (map f xs) (map f ys) ≡ Greater → ys ≡ option_to_list r ++ rest → merged (map f xs) (map f ys) ≡ option_to_list (option_map f r) ++ merged (map f xs) (map f rest)
-  taken_greater xs ys rest None h is = ap (λ (zs : List K). merged (map f xs) (map f zs)) is
-  taken_greater xs ys rest (Some y) h is =
-      let P : List K → Type 0 = λ zs. heads_cmp (map f xs) (map f zs) ≡ Greater in
-      ap (λ (zs : List K). merged (map f xs) (map f zs)) is ∙ merged-greater (map f xs) (f y) (map f rest) (subst P is h)
-
-  pub taken_equal : (xs ys rest others : List K) (x y z : K) → heads_cmp (map f xs) (map f ys) ≡ Equal → xs ≡ x ∷ rest → ys ≡ y ∷ others → f z ≡ lesser (f x) (f y) → merged (map f xs) (map f ys) ≡ f z ∷ merged (map f rest) (map f others)
-  taken_equal xs ys rest others x y z h left right is =
-      let P : List K → Type 0 = λ zs. heads_cmp (map f zs) (map f ys) ≡ Equal in
-      let Q : List K → Type 0 = λ zs. heads_cmp (map f (x ∷ rest)) (map f zs) ≡ Equal in
-      ap (λ (zs : List K). merged (map f zs) (map f ys)) left
-      ∙ ap (λ (zs : List K). merged (map f (x ∷ rest)) (map f zs)) right
-      ∙ merged-equal (f x) (map f rest) (f y) (map f others) (subst Q right (subst P left h))
-      ∙ ap (λ (w : Entry). w ∷ merged (map f rest) (map f others)) (sym is)
 
 -- nothing is left to take
 pub all_taken : (done left rest whole : List Entry) → done ++ left ≡ whole → left ≡ [] ++ rest → rest ≡ [] → done ≡ whole

@@ -1,9 +1,7 @@
 -- Reports of sets of choices: of one choice, of more choices that show nothing new, and of two sets.
 use Rattle.std.proofs.Common.{◌≡◌, ◌⊎◌, inl, inr, ℕ, ◌+◌, ◌<◌, ◌≤◌, Bool, true, false, ◌&&◌, ◌||◌, ◌==◌, List, [], ◌∷◌, length, Some, refl, sym, ap, subst, ◌∙◌, arith}
 use Rattle.std.specs.Prelude.{IsTrue, IsFalse, nat_le, nat_lt, slice_get}
-use Rattle.std.specs.List.{AllByRecursion}
 use Rattle.std.specs.List.Sorted.{IsStrictlySortedBy}
-use Rattle.std.specs.Cmp.Lexicographic.{nat_list_cmp_total}
 use Rattle.std.specs.Ordering.{is_gt}
 use Rattle.std.specs.declared.cmp.Ordering.{Ordering}
 use Rattle.std.specs.declared.cmp.Ordering.TheVariants.{Less, Equal, Greater}
@@ -15,11 +13,11 @@ use Rattle.lit_read.specs.Syntax.{Litmus}
 use Rattle.lit_paths.specs.Choice.{choices_of}
 use Rattle.lit_paths.specs.Execution.{execution_choice, execution_events}
 use Rattle.lit_order.specs.MemoryOrder.{IsLeastMemoryOrder}
-use Rattle.lit_search.specs.Report.{Entry, Report, Gives, HasEntry, HasLeastOrder, IsEntry, IsReport, example_cmp, in_either, in_none, in_range}
+use Rattle.lit_search.specs.Report.{Entry, Report, Gives, HasLeastOrder, IsEntry, IsReport, example_cmp, in_either, in_none, in_range}
 use Rattle.lit_search.specs.Merge.{HasInEither, IsMerge}
 use Rattle.lit_search.specs.Searching.Examined.{IsExample}
 use Rattle.lit_search.specs.Searching.Outcomes.{HasOutcome}
-use Rattle.lit_search.proofs.Entries.{AreRising, Stands, cmp, cmp_same, first_stands, reversed, same_rising, stands_cases, stands_in_none}
+use Rattle.lit_search.proofs.Entries.{AreRising, Stands, cmp, reversed, same_rising, stands_cases, stands_in_none}
 
 -- ---- sets of numbers
 both : (a b : Bool) → IsTrue a → IsTrue b → IsTrue (a && b)

@@ -1,8 +1,5 @@
-use Rattle.std.proofs.Common.{◌≡◌, List, [], ◌∷◌, ◌++◌, map, sym, ap, subst, ◌∙◌}
-use Rattle.std.proofs.lemmas.List.{append-nil}
+use Rattle.std.proofs.Common.{map, sym, subst, ◌∙◌}
 use Rattle.lit_search.specs.Entry.{entry_of}
-use Rattle.lit_search.specs.Report.{Entry}
-use Rattle.lit_search.specs.Searching.Merged.{merged}
 use Rattle.lit_search.proofs.Entries.{AreRising}
 use Rattle.lit_search.proofs.MergedEntries.{AreRising-merged, IsMerge-merged, all_taken}
 use Rattle.lit_search.proofs.Reports.{IsReport-merged}

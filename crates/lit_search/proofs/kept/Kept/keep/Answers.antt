@@ -1,4 +1,4 @@
-use Rattle.std.proofs.Common.{List, ◌≡◌, ℕ, [], ◌∷◌, map, subst, sym, ap, ◌∙◌}
+use Rattle.std.proofs.Common.{List, ℕ, [], ◌∷◌, map, subst, sym, ap, ◌∙◌}
 use Rattle.std.specs.Box.{boxed_slice_items}
 use Rattle.lit_search.specs.Report.{Entry, Report}
 use Rattle.lit_search.specs.Searching.Merged.{merged}
