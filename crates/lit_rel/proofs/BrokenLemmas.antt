@@ -1,10 +1,8 @@
 -- When a part with one byte more is broken.
-use Rattle.std.proofs.Common.{◌≡◌, ◌≢◌, ◌↔◌, ◌⊎◌, ℕ, ◌<◌, Some, List, [], ◌∷◌, ◌++◌, length, inl, inr, refl, sym, ap, ◌∙◌, subst}
-use Rattle.std.proofs.lemmas.Bool.{cases_eq}
-use Rattle.std.specs.List.{slice_get}
+use Rattle.std.proofs.Common.{◌≡◌, ◌↔◌, ◌⊎◌, ℕ, List, inl, inr, refl, sym, ◌∙◌, subst}
 use Rattle.lit_paths.specs.declared.event.Event.{Event}
 use Rattle.lit_paths.specs.Event.{event_at}
-use Rattle.lit_rel.specs.Broken.{HasCycleBy, HasIncoherentByteBy, HasTornReadBy, IsBrokenBy}
+use Rattle.lit_rel.specs.Broken.{IsBrokenBy}
 use Rattle.lit_rel.specs.Coherent.{IsCoherentRead}
 use Rattle.lit_rel.specs.HappensBefore.{HappensBeforeBy}
 use Rattle.lit_rel.specs.Parts.Pushed.{CanChange, IsBrokenAnew}

@@ -1,11 +1,10 @@
 -- One byte more: happens-before with the pair of its source and its read, and which bytes break.
-use Rattle.std.proofs.Common.{◌≡◌, ◌≢◌, ◌↔◌, ◌⊎◌, ℕ, List, [], ◌∷◌, ◌++◌, inl, inr, refl, sym, subst}
-use Rattle.std.proofs.lemmas.Bool.{cases_eq}
+use Rattle.std.proofs.Common.{◌≡◌, ◌↔◌, ◌⊎◌, ℕ, List, [], ◌∷◌, ◌++◌, inl, inr, refl, sym, subst}
 use Rattle.lit_paths.specs.declared.event.Event.{Event}
 use Rattle.lit_paths.specs.Event.{event_at}
 use Rattle.lit_rel.specs.HappensBefore.{Chain, HappensBeforeBy, StepBy}
 use Rattle.lit_rel.specs.Rows.{IsTransitive, WithPair}
-use Rattle.lit_rel.specs.SynchronizesWith.{CanSynchronize, SynchronizesBy}
+use Rattle.lit_rel.specs.SynchronizesWith.{CanSynchronize}
 use Rattle.lit_rel.proofs.ChainLemmas.{Chain-append, Chain-same}
 use Rattle.lit_rel.proofs.RowLemmas.{WithPair-transitive}
 

@@ -1,6 +1,5 @@
 -- With more bytes given the relations grow, and what was read whole keeps its value.
-use Rattle.std.proofs.Common.{◌≡◌, ◌≢◌, ℕ, ◌<◌, ◌≤◌, ◌==◌, suc, zero, Bool, true, false, cond, Some, List, [], ◌∷◌, ◌++◌, length, filter, map, refl, sym, ap, ◌∙◌, subst, arith, inl, inr}
-use Rattle.std.proofs.lemmas.Bool.{cases_eq}
+use Rattle.std.proofs.Common.{◌≡◌, ◌≢◌, ℕ, ◌<◌, ◌==◌, suc, Bool, false, cond, Some, List, [], ◌∷◌, ◌++◌, length, filter, map, refl, ap, ◌∙◌, arith, inl, inr}
 use Rattle.std.proofs.lemmas.Bool.Decides.{nat_tests}
 use Rattle.std.specs.List.{slice_get, zip}
 use Rattle.lit_paths.specs.declared.event.Event.{Event}
@@ -8,11 +7,11 @@ use Rattle.lit_paths.specs.ByteReads.{byte_reads}
 use Rattle.lit_paths.specs.Event.{event_at, payload_at}
 use Rattle.lit_rel.specs.Coherent.{HasCoherentReadsBy}
 use Rattle.lit_rel.specs.Forbidden.{IsForbiddenBy}
-use Rattle.lit_rel.specs.Growth.{GivenBy, GrowWithBytes, Grows, IsGivenWhole, ValuesStay}
+use Rattle.lit_rel.specs.Growth.{GivenBy, GrowWithBytes, Grows, ValuesStay}
 use Rattle.lit_rel.specs.HappensBefore.{HappensBeforeBy, StepBy}
-use Rattle.lit_rel.specs.ReadsFrom.{ReadsByteFrom, ReadsFromBy, composed, value_of}
+use Rattle.lit_rel.specs.ReadsFrom.{ReadsByteFrom, ReadsFromBy, composed}
 use Rattle.lit_rel.specs.SynchronizesWith.{SynchronizesBy}
-use Rattle.lit_rel.specs.TearFree.{HasTearFreeReadsBy, ReadsWholeBy}
+use Rattle.lit_rel.specs.TearFree.{ReadsWholeBy}
 use Rattle.lit_rel.proofs.ChainLemmas.{Chain-same}
 use Rattle.lit_rel.proofs.PlaceLemmas.{place-left}
 

@@ -1,5 +1,5 @@
 -- What is known of a part with one source more.
-use Rattle.std.proofs.Common.{◌≡◌, ◌≢◌, ◌↔◌, ◌⊎◌, ℕ, ◌<◌, Bool, true, false, Some, List, [], ◌∷◌, ◌++◌, length, inl, inr, refl, sym, ap, ◌∙◌, subst, arith}
+use Rattle.std.proofs.Common.{◌≡◌, ◌↔◌, ◌⊎◌, ℕ, ◌<◌, Bool, true, false, Some, List, [], ◌∷◌, ◌++◌, length, inl, inr, refl, sym, ap, ◌∙◌, subst, arith}
 use Rattle.std.proofs.lemmas.Bool.{cases_eq, cases_lt, false≢true}
 use Rattle.std.proofs.lemmas.Option.{same_Some}
 use Rattle.std.specs.Bool.{IsTrue}
@@ -19,7 +19,7 @@ use Rattle.lit_rel.specs.Parts.Given.{AreFirstReads, Tears, sources_of}
 use Rattle.lit_rel.specs.Parts.Pushed.{CanChange, HasByteSo, HasChangedByte, HasTearing, IsBrokenAnew, IsChangedByte}
 use Rattle.lit_rel.specs.ReadsFrom.{ReadsByteFrom}
 use Rattle.lit_rel.specs.Rows.{Holds, WithPair, rows_len}
-use Rattle.lit_rel.specs.TearFree.{CanReadWhole, ReadsWholeBy}
+use Rattle.lit_rel.specs.TearFree.{CanReadWhole}
 use Rattle.lit_rel.proofs.BrokenLemmas.{IsBrokenBy-anew, IsBrokenBy-grows, IsBrokenBy-more, IsCoherentRead-kept, IsCoherentRead-same}
 use Rattle.lit_rel.proofs.EdgeLemmas.{HappensBeforeBy-transitive}
 use Rattle.lit_rel.proofs.PlaceLemmas.{place-left, place-middle, place-push}

@@ -8,6 +8,7 @@ pub mod LevelLemmas
 pub mod PartLemmas
 pub mod PlaceLemmas
 pub mod ReadingLemmas
+pub mod RefusalLemmas
 pub mod RelatingLemmas
 pub mod RowLemmas
 pub mod SameRelations

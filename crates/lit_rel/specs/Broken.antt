@@ -1,10 +1,15 @@
 -- When a part is broken: nothing that is given later can make a valid execution of it (this project's own).
-use Rattle.std.specs.Prelude.{◌≢◌, ◌⊎◌, ℕ, List}
+use Rattle.std.specs.Prelude.{◌≡◌, ◌≢◌, ◌⊎◌, ℕ, ◌+◌, ◌<◌, false, Option, Some, None, List, length, slice_get}
+use Rattle.lit_read.specs.Syntax.{Litmus}
 use Rattle.lit_paths.specs.declared.event.Event.{Event}
+use Rattle.lit_paths.specs.declared.path.Tested.{Tested}
+use Rattle.lit_paths.specs.Plan.{first_event, path_in}
+use Rattle.lit_paths.specs.Run.{compares}
 use Rattle.lit_rel.specs.Coherent.{IsCoherentRead}
+use Rattle.lit_rel.specs.Growth.{IsGivenWhole}
 use Rattle.lit_rel.specs.HappensBefore.{HappensBeforeBy}
 use Rattle.lit_rel.specs.Part.{PartModel, part_events}
-use Rattle.lit_rel.specs.ReadsFrom.{ReadsByteFrom}
+use Rattle.lit_rel.specs.ReadsFrom.{ReadsByteFrom, value_of}
 use Rattle.lit_rel.specs.TearFree.{ReadsWholeBy}
 
 -- some event happens before itself, by what is given
@@ -32,5 +37,30 @@ pub record HasTornReadBy (events : List Event) (given : ℕ → ℕ → ℕ → 
 abbrev pub IsBrokenBy : List Event → (ℕ → ℕ → ℕ → Type 0) → Type 0
 IsBrokenBy events given = HasCycleBy events given ⊎ HasIncoherentByteBy events given ⊎ HasTornReadBy events given
 
+abbrev pub HasBrokenRelations : PartModel → Type 0
+HasBrokenRelations part = IsBrokenBy (part_events part) (ReadsByteFrom (part_events part) part.sources)
+
+-- the number of the event with a place on a path whose first event has this number
+abbrev pub number_on : ℕ → Option ℕ → Option ℕ
+number_on first None = None
+number_on first (Some place) = Some (first + place)
+
+-- some test of a path of a combination asks about this event, or about a register that was not written, and is false of the value
+pub record HasFalseTestOn (t : Litmus) (c : ℕ) (asked : Option ℕ) (value : ℕ) : Type 0 where
+  pub agent : ℕ
+  pub known : agent < length t.agents
+  pub place : ℕ
+  pub test : Tested
+  pub at_place : slice_get (path_in t c agent).tests place ≡ Some test
+  pub asks : number_on (first_event t c agent) test.on ≡ asked
+  pub is_false : compares test.equal value test.value ≡ false
+
+-- a test is on a register that was not written and false of 0, or on a read all of whose bytes are given and false of
+-- its value
+abbrev pub HasFalseTest : PartModel → Type 0
+HasFalseTest part =
+    HasFalseTestOn part.test part.combination None 0
+    ⊎ ((r : ℕ) × IsGivenWhole (part_events part) part.sources r × HasFalseTestOn part.test part.combination (Some r) (value_of (part_events part) part.sources r))
+
 abbrev pub IsBroken : PartModel → Type 0
-IsBroken part = IsBrokenBy (part_events part) (ReadsByteFrom (part_events part) part.sources)
+IsBroken part = HasBrokenRelations part ⊎ HasFalseTest part

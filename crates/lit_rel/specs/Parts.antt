@@ -2,4 +2,5 @@
 pub mod Given
 pub mod Levels
 pub mod Pushed
+pub mod Refused
 pub mod Steps

@@ -16,6 +16,8 @@ mod growth;
 mod levels;
 mod part;
 mod reading_checks;
+mod refusing;
+mod related;
 mod relating;
 #[cfg(test)]
 mod tests;

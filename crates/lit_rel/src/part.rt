@@ -15,10 +15,10 @@ ghost use Rattle.lit_rel.specs.SynchronizesWith.{Synchronizes};
 ghost use Rattle.lit_rel.specs.TearFree.{HasTearFreeReads};
 
 use crate::bit_rows::Rows;
-use crate::closing::unsourced_order;
-use crate::given::{Given, SourcedByte, SourcedBytes};
-use crate::levels::{Level, Levels, rows_at};
+use crate::refusing::{has_false_test, is_refused_with};
+use crate::related::Related;
 use crate::triples::Between;
+use arrayvec::ArrayVec;
 use lit_paths::{BYTE_READ_LIMIT, Combination, Plan};
 use std::marker::Model;
 
@@ -26,49 +26,39 @@ use std::marker::Model;
 /// test's value, the combination's number, and the sources given so far.
 #[derive(Drop)]
 pub struct Part<'p> {
-    combination: Combination<'p>,
-    bytes: SourcedBytes,
-    /// happens-before of no source.
-    start: Rows,
-    /// happens-before with so many sources, where one of them added a pair.
-    kept: [Rows; BYTE_READ_LIMIT],
-    earlier: Levels,
-    level: Level,
+    related: Related<'p>,
+    /// Whether a test was false with each lesser number of sources.
+    earlier: ArrayVec<bool, BYTE_READ_LIMIT>,
+    refused: bool,
 }
 
 impl<'p> Model for Part<'p> {
     ghost use Rattle.lit_rel.specs.Part.{PartModel, coded_part};
-    ghost use Rattle.lit_rel.specs.Parts.Given.{sources_of};
-    ghost use Rattle.lit_rel.specs.Parts.Levels.{IsKept};
+    ghost use Rattle.lit_rel.specs.Parts.Refused.{AreRefusals};
 
     ghost Value = { PartModel };
 
     ghost coded = { coded_part };
 
-    ghost view = { λ p. record { test = p.combination.0; combination = p.combination.1; sources = sources_of p.bytes.items } };
+    ghost view = { λ p. p.related };
 
-    ghost invariant = { λ p. IsKept (record { test = p.combination.0; combination = p.combination.1; sources = sources_of p.bytes.items }) p.start p.kept p.bytes.items p.earlier.items p.level };
+    ghost invariant = { λ p. AreRefusals p.related p.earlier.items p.refused };
 }
 
 impl<'p> Part<'p> {
     ghost use Rattle.lit_rel.specs.Broken.{IsBroken};
-    ghost use Rattle.lit_rel.specs.Parts.Given.{sources_of};
 
     /// A combination of a plan's test, by its number: below `combinations`. No byte read has a source yet.
     pub fn open(plan: &'p Plan<'p>, combination: usize) -> Self
         requires { combination < length (combinations_of plan.now) }
         ensures { result ≡ record { test = plan.now; combination = combination; sources = [] } }
     {
-        let combination = plan.enter(combination);
-        let start = unsourced_order(combination.events());
-        let broken = start.has_cycle();
+        let related = Related::open(plan, combination);
+        let refused = has_false_test(&related, None, 0);
         Part {
-            combination,
-            bytes: SourcedBytes::new(),
-            start,
-            kept: [start; BYTE_READ_LIMIT],
-            earlier: Levels::new(),
-            level: Level { rows: 0, broken },
+            related,
+            earlier: ArrayVec::new(),
+            refused,
         }
     }
 
@@ -76,7 +66,7 @@ impl<'p> Part<'p> {
     pub fn combination(&self) -> &Combination<'p>
         ensures { result.now ≡ (self.now.test, self.now.combination) }
     {
-        &self.combination
+        self.related.combination()
     }
 
     /// Gives the next byte read its source, by event number: a candidate of it. A byte read is left.
@@ -84,35 +74,9 @@ impl<'p> Part<'p> {
         requires { IsNextSource self.old source }
         ensures { self.new ≡ with_sources self.old (self.old.sources ++ source ∷ []) }
     {
-        let next = self.combination.byte_reads()[self.bytes.len()];
-        let byte = SourcedByte {
-            read: next.read,
-            byte: next.byte,
-            source,
-        };
-        let given = Given {
-            events: self.combination.events(),
-            bytes: self.bytes.as_slice(),
-        };
-        let before = rows_at(&self.start, &self.kept, self.level.rows);
-        let level = if given.adds_pair(byte, before) {
-            let mut now = *before;
-            now.close_with(usize::from(byte.source), usize::from(byte.read));
-            let broken = given.is_broken_with_pair(self.level.broken, byte, before, &now);
-            self.kept[self.bytes.len()] = now;
-            Level {
-                rows: self.bytes.len() as u8 + 1,
-                broken,
-            }
-        } else {
-            Level {
-                rows: self.level.rows,
-                broken: given.is_broken_with(self.level.broken, byte, before),
-            }
-        };
-        self.earlier.push(self.level);
-        self.level = level;
-        self.bytes.push(byte);
+        self.related.push(source);
+        self.earlier.push(self.refused);
+        self.refused = is_refused_with(self.refused, &self.related);
     }
 
     /// Takes the last source back. There is one.
@@ -120,17 +84,18 @@ impl<'p> Part<'p> {
         requires { 0 < length self.old.sources }
         ensures { self.new ≡ with_sources self.old (take (length self.old.sources - 1) self.old.sources) }
     {
-        self.level = self.earlier[self.bytes.len() - 1];
+        self.refused = self.earlier[self.related.len() - 1];
         self.earlier.pop();
-        self.bytes.pop();
+        self.related.pop();
     }
 
-    /// Whether no complete choice that begins with its paths and sources can belong to a valid execution, as far as its
-    /// sources show: some event happens before itself, a byte is not coherent, or two bytes tear their read.
+    /// Whether no complete choice that begins with its paths and sources belongs to a valid execution, as far as these
+    /// show: some event happens before itself, a byte is not coherent, two bytes tear their read, or a test of a path
+    /// is false, of 0 in a register that was not written or of a read all of whose bytes have a source.
     pub fn broken(&self) -> bool
         ensures { IsTrue result ↔ IsBroken self.now }
     {
-        self.level.broken
+        self.related.broken() || self.refused
     }
 
     /// How many sources are given.
@@ -138,34 +103,14 @@ impl<'p> Part<'p> {
         ensures value { result ≡ length self.now.sources }
         ensures few { result ≤ length (byte_reads (part_events self.now)) }
     {
-        self.bytes.len()
+        self.related.len()
     }
 
     /// How many byte reads there are in all.
     pub fn reads(&self) -> usize
         ensures { result ≡ length (byte_reads (part_events self.now)) }
     {
-        self.combination.byte_reads().len()
-    }
-
-    /// Its events, and the byte reads that have a source.
-    fn given(&self) -> Given<'_>
-        ensures events { result.events.now ≡ part_events self.now }
-        ensures sources { sources_of result.bytes.now ≡ self.now.sources }
-        ensures small { (n : ℕ) → (event_at result.events.now n).size ≤ 4 }
-    {
-        Given {
-            events: self.combination.events(),
-            bytes: self.bytes.as_slice(),
-        }
-    }
-
-    /// happens-before of the sources given, where it is kept.
-    fn rows(&self) -> &Rows
-        ensures len { rows_len result.now ≡ length (part_events self.now) }
-        ensures pairs { (e d : ℕ) → Holds result.now e d ↔ HappensBefore (part_events self.now) self.now.sources e d }
-    {
-        rows_at(&self.start, &self.kept, self.level.rows)
+        self.related.reads()
     }
 
     /// reads-from (ECMA-262, 2024, 29.6.3), as pairs of a read and a source, of the sources given.
@@ -173,7 +118,7 @@ impl<'p> Part<'p> {
         ensures len { rows_len result ≡ length (part_events self.now) }
         ensures pairs { (r w : ℕ) → Holds result r w ↔ ReadsFrom (part_events self.now) self.now.sources r w }
     {
-        self.given().reads_from()
+        self.related.reads_from()
     }
 
     /// synchronizes-with (29.6.5), as pairs of a write and a read, of the sources given.
@@ -181,8 +126,7 @@ impl<'p> Part<'p> {
         ensures len { rows_len result ≡ length (part_events self.now) }
         ensures pairs { (w r : ℕ) → Holds result w r ↔ Synchronizes (part_events self.now) self.now.sources w r }
     {
-        let given = self.given();
-        given.with_synchronized(Rows::new(given.events.len()))
+        self.related.synchronizes()
     }
 
     /// happens-before (29.6.6) of the sources given.
@@ -190,21 +134,21 @@ impl<'p> Part<'p> {
         ensures len { rows_len result ≡ length (part_events self.now) }
         ensures pairs { (e d : ℕ) → Holds result e d ↔ HappensBefore (part_events self.now) self.now.sources e d }
     {
-        *self.rows()
+        *self.related.rows()
     }
 
     /// Whether the reads are coherent (29.7.2), as far as sources are given.
     pub fn coherent(&self) -> bool
         ensures { IsTrue result ↔ HasCoherentReads (part_events self.now) self.now.sources }
     {
-        self.given().is_coherent(self.rows())
+        self.related.coherent()
     }
 
     /// Whether the reads are tear free (29.7.3), as far as sources are given.
     pub fn tear_free(&self) -> bool
         ensures { IsTrue result ↔ HasTearFreeReads (part_events self.now) self.now.sources }
     {
-        self.given().is_tear_free()
+        self.related.tear_free()
     }
 
     /// What may not stand between each source given and its read in the order of memory (29.7.4).
@@ -212,7 +156,7 @@ impl<'p> Part<'p> {
         ensures len { result.len ≡ length (part_events self.now) }
         ensures triples { (w r v : ℕ) → Forbids result w r v ↔ IsForbidden (part_events self.now) self.now.sources w r v }
     {
-        self.given().between(self.rows())
+        self.related.between()
     }
 
     /// The value of a read (29.5.4 and 29.5.5), by its event number. Each byte read has a source.
@@ -222,6 +166,6 @@ impl<'p> Part<'p> {
         requires reads { IsTrue (does_read (event_at (part_events self.now) read).kind) }
         ensures { result ≡ value_of (part_events self.now) self.now.sources read }
     {
-        self.given().value(usize::from(read))
+        self.related.value(read)
     }
 }

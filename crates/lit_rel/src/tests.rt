@@ -1,10 +1,11 @@
+mod broken;
 mod parts;
 mod sets;
 
-ghost use Rattle.std.specs.Prelude.{◌≡◌, ◌+◌, ◌<◌, ◌≤◌, length};
+ghost use Rattle.std.specs.Prelude.{◌≡◌, ◌+◌, ◌<◌, ◌≤◌, [], ◌∷◌, ◌++◌, length};
 ghost use Rattle.lit_paths.specs.Choice.{combinations_of};
 ghost use Rattle.lit_paths.specs.Plan.{choices_before};
-ghost use Rattle.lit_rel.specs.Part.{IsComplete};
+ghost use Rattle.lit_rel.specs.Part.{IsComplete, with_sources};
 
 use crate::bit_rows::Rows;
 use crate::part::Part;
@@ -26,6 +27,17 @@ fn part_of<'p>(plan: &'p Plan<'p>, combination: usize, choice: u64) -> Part<'p>
         part.push(*source);
     }
     part
+}
+
+/// Gives the next byte read a source, which is a candidate of it.
+fn give(rt: &impl Abort, part: &mut Part<'_>, source: u8)
+    ensures { part.new ≡ with_sources part.old (part.old.sources ++ source ∷ []) }
+{
+    let place = part.len();
+    assert!(rt; place < part.reads());
+    let is_candidate = part.combination().candidates(place).contains(&source);
+    assert!(rt; is_candidate);
+    part.push(source);
 }
 
 /// The rows hold of these pairs and of no other.

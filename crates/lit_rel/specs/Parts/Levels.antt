@@ -5,7 +5,7 @@ use Rattle.lit_paths.specs.Plan.{AreEventsIn}
 use Rattle.lit_rel.specs.declared.bit_rows.Rows.{Rows}
 use Rattle.lit_rel.specs.declared.given.SourcedByte.{SourcedByte}
 use Rattle.lit_rel.specs.declared.levels.Level.{Level}
-use Rattle.lit_rel.specs.Broken.{IsBroken}
+use Rattle.lit_rel.specs.Broken.{HasBrokenRelations}
 use Rattle.lit_rel.specs.HappensBefore.{HappensBefore}
 use Rattle.lit_rel.specs.Part.{PartModel, part_events, with_sources}
 use Rattle.lit_rel.specs.Parts.Given.{AreFirstReads, AreKnown}
@@ -20,7 +20,7 @@ pub record IsLevel (part : PartModel) (start : Rows) (kept : List Rows) (level :
   pub below : level.rows ≤ length part.sources
   pub len : rows_len (rows_at start kept level.rows) ≡ length (part_events part)
   pub pairs : (e d : ℕ) → Holds (rows_at start kept level.rows) e d ↔ HappensBefore (part_events part) part.sources e d
-  pub broken : IsTrue level.broken ↔ IsBroken part
+  pub broken : IsTrue level.broken ↔ HasBrokenRelations part
 
 -- what a part keeps: the first byte reads, each with a source, and what is known with all of them and with each lesser
 -- number of them

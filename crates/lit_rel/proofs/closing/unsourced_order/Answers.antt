@@ -1,4 +1,4 @@
-use Rattle.std.proofs.Common.{◌≡◌, ◌↔◌, ◌⊎◌, ℕ, [], inl, inr}
+use Rattle.std.proofs.Common.{ℕ, [], inl, inr}
 use Rattle.std.proofs.lemmas.Option.{none-some}
 use Rattle.lit_rel.specs.Rows.{Holds}
 use Rattle.lit_rel.specs.SynchronizesWith.{Synchronizes}

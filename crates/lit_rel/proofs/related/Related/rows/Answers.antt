@@ -1,10 +1,10 @@
-use Rattle.std.proofs.Common.{◌≡◌, ◌↔◌, ℕ, sym, subst}
+use Rattle.std.proofs.Common.{◌↔◌, sym, subst}
 use Rattle.lit_rel.specs.declared.bit_rows.Rows.{Rows}
 use Rattle.lit_rel.specs.HappensBefore.{HappensBefore}
 use Rattle.lit_rel.specs.Part.{PartModel, part_events}
 use Rattle.lit_rel.specs.Rows.{Holds}
 use Rattle.lit_rel.proofs.PartLemmas.{part_of}
-use Rattle.lit_rel.proofs.part.Part.rows.Goals as goal
+use Rattle.lit_rel.proofs.related.Related.rows.Goals as goal
 
 pub returns-clause-pairs : goal.returns-clause-pairs
 returns-clause-pairs c e d =

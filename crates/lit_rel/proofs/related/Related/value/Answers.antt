@@ -2,7 +2,7 @@ use Rattle.std.proofs.Common.{◌≡◌, ◌∙◌, ap}
 use Rattle.lit_rel.specs.Parts.Given.{sources_of}
 use Rattle.lit_rel.specs.ReadsFrom.{value_of}
 use Rattle.lit_rel.proofs.PartLemmas.{of_part}
-use Rattle.lit_rel.proofs.part.Part.value.Goals as goal
+use Rattle.lit_rel.proofs.related.Related.value.Goals as goal
 
 pub value-requires : goal.value-requires
 value-requires c = c.given.ensures.small c.from.result

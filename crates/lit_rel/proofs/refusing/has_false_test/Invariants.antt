@@ -1,0 +1,10 @@
+use Rattle.std.proofs.Common.{ℕ, ◌<◌}
+use Rattle.lit_paths.specs.Plan.{IsWalkIn, first_event, path_in, walk_in}
+use Rattle.lit_rel.specs.Parts.Refused.{HasFalse}
+use Rattle.lit_rel.proofs.refusing.has_false_test.Given as goal
+
+abbrev pub invariant-loop-agent : goal.invariant-loop-agent
+invariant-loop-agent l = record {
+  none : (i : ℕ) → i < l.agent → HasFalse (path_in l.part.test l.part.combination i).tests (first_event l.part.test l.part.combination i) l.asked l.value → ⊥;
+  walks : (i : ℕ) → i < l.agent → IsWalkIn l.part.test l.part.combination i (walk_in l.part.test l.part.combination i);
+}

@@ -1,0 +1,172 @@
+use super::give;
+use crate::part::Part;
+use lit_paths::plan;
+use lit_read::read;
+use std::test::Fail;
+
+const ATOMIC_LOADS: &[u8] = b"test lb
+bytes 2
+agent A
+r0 = Atomics.load(U8, 0)
+if r0 == 1 {
+Atomics.store(U8, 1, 1)
+}
+agent B
+r0 = Atomics.load(U8, 1)
+if r0 == 1 {
+Atomics.store(U8, 0, 1)
+}
+check A.r0 == 1 && B.r0 == 1
+";
+
+const PLAIN_LOADS: &[u8] = b"test lb
+bytes 2
+agent A
+r0 = U8[0]
+if r0 == 1 {
+U8[1] = 1
+}
+agent B
+r0 = U8[1]
+if r0 == 1 {
+U8[0] = 1
+}
+check A.r0 == 1 && B.r0 == 1
+";
+
+const TYPED: &[u8] = b"test tear
+bytes 2
+agent A
+U16[0] = 257
+agent B
+U16[0] = 514
+agent C
+r0 = U16[0]
+check C.r0 == 258 || C.r0 == 513
+";
+
+const UNWRITTEN: &[u8] = b"test unwritten
+bytes 1
+agent A
+if r0 == 1 {
+r0 = U8[0]
+}
+check A.r0 == 0
+";
+
+const WIDE: &[u8] = b"test wide
+bytes 2
+agent A
+r0 = U16[0]
+if r0 == 256 {
+r1 = U8[0]
+}
+agent B
+U8[1] = 1
+check A.r0 == 256
+";
+
+const BEHIND: &[u8] = b"test behind
+bytes 3
+agent A
+r0 = U8[0]
+Atomics.store(U8, 1, 1)
+agent B
+r0 = Atomics.load(U8, 1)
+Atomics.store(U8, 2, 1)
+agent C
+r0 = Atomics.load(U8, 2)
+U8[0] = 1
+check A.r0 == 1
+";
+
+#[test]
+fn a_test_or_a_cycle_breaks(rt: HostRuntime) -> Result<(), Fail> {
+    let test = read(rt.alloc(), ATOMIC_LOADS)?;
+    let plan = plan(rt.alloc(), &test)?;
+    assert!(rt; plan.combinations() > 0);
+    let mut part = Part::open(&plan, 0);
+    assert!(rt; !part.broken());
+    give(&rt, &mut part, 0);
+    assert!(rt; part.broken());
+    part.pop();
+    give(&rt, &mut part, 5);
+    assert!(rt; !part.broken());
+    give(&rt, &mut part, 3);
+    assert!(rt; part.broken());
+    part.pop();
+    assert!(rt; !part.broken());
+    Ok(())
+}
+
+#[test]
+fn plain_accesses_close_no_cycle(rt: HostRuntime) -> Result<(), Fail> {
+    let test = read(rt.alloc(), PLAIN_LOADS)?;
+    let plan = plan(rt.alloc(), &test)?;
+    assert!(rt; plan.combinations() > 0);
+    let mut part = Part::open(&plan, 0);
+    give(&rt, &mut part, 5);
+    give(&rt, &mut part, 3);
+    assert!(rt; !part.broken());
+    Ok(())
+}
+
+#[test]
+fn two_stores_tear(rt: HostRuntime) -> Result<(), Fail> {
+    let test = read(rt.alloc(), TYPED)?;
+    let plan = plan(rt.alloc(), &test)?;
+    assert!(rt; plan.combinations() > 0);
+    let mut part = Part::open(&plan, 0);
+    give(&rt, &mut part, 2);
+    give(&rt, &mut part, 3);
+    assert!(rt; part.broken());
+    part.pop();
+    give(&rt, &mut part, 1);
+    assert!(rt; !part.broken());
+    Ok(())
+}
+
+/// Combination 0 is the then-part, which asks that a register that holds 0 be 1.
+#[test]
+fn an_unwritten_register_breaks_at_once(rt: HostRuntime) -> Result<(), Fail> {
+    let test = read(rt.alloc(), UNWRITTEN)?;
+    let plan = plan(rt.alloc(), &test)?;
+    assert_eq!(rt; plan.combinations(), 2);
+    assert!(rt; Part::open(&plan, 0).broken());
+    assert!(rt; !Part::open(&plan, 1).broken());
+    Ok(())
+}
+
+/// The load of two bytes is 2, the store 4. Its first byte alone is 0, which is not 256.
+#[test]
+fn a_read_is_tested_when_it_is_whole(rt: HostRuntime) -> Result<(), Fail> {
+    let test = read(rt.alloc(), WIDE)?;
+    let plan = plan(rt.alloc(), &test)?;
+    assert!(rt; plan.combinations() > 0);
+    let mut part = Part::open(&plan, 0);
+    give(&rt, &mut part, 0);
+    assert!(rt; !part.broken());
+    give(&rt, &mut part, 1);
+    assert!(rt; part.broken());
+    part.pop();
+    give(&rt, &mut part, 4);
+    assert!(rt; !part.broken());
+    Ok(())
+}
+
+/// A loads byte 0 (3) from C's last store (8) and then stores byte 1 (4). B loads byte 1 (5) from it and stores byte 2
+/// (6). Where C loads byte 2 (7) from that, its store comes after the load that read it: the load stands before the
+/// edge from 6 to 7.
+#[test]
+fn an_edge_breaks_a_read_before_it(rt: HostRuntime) -> Result<(), Fail> {
+    let test = read(rt.alloc(), BEHIND)?;
+    let plan = plan(rt.alloc(), &test)?;
+    assert!(rt; plan.combinations() > 0);
+    let mut part = Part::open(&plan, 0);
+    give(&rt, &mut part, 8);
+    give(&rt, &mut part, 4);
+    assert!(rt; !part.broken());
+    give(&rt, &mut part, 6);
+    assert!(rt; part.broken());
+    Ok(())
+}
