@@ -3,6 +3,7 @@
 use crate::command::program;
 use crate::counted::Counted;
 use crate::engine::{Options, run};
+use idle_events::{WIDE, WIDER};
 use paths::PATH_REPORTS;
 use reports::REPORTS;
 use sizes::SIZE_REPORTS;
@@ -12,6 +13,7 @@ use std::test::Fail;
 use std::thread::Threads;
 
 mod devices;
+mod idle_events;
 mod independent_reads;
 mod paths;
 mod refusals;
@@ -91,4 +93,11 @@ fn program_reports(rt: HostRuntime) -> Result<(), Fail> {
         prints(&rt, text.as_bytes(), report.as_bytes(), 0)?;
     }
     Ok(())
+}
+
+#[test]
+fn run_reports_among_many_events(rt: HostRuntime) -> Result<(), Fail> {
+    writes(&rt, WIDE.0.as_bytes(), WIDE.1.as_bytes())?;
+    prints(&rt, WIDE.0.as_bytes(), WIDE.1.as_bytes(), 0)?;
+    prints(&rt, WIDER.as_bytes(), b"refused 14 too_many_events\n", 1)
 }

@@ -13,7 +13,7 @@ use crate::decisions::all_agree;
 use crate::found::{Example, Outcome};
 use crate::outcomes::outcome_of;
 use crate::values::values_of;
-use lit_order::{Order, OrderFinder, ForcedFinder};
+use lit_order::{ForcedFinder, Order, OrderFinder};
 use lit_paths::{Plan, combinations_are_listed, runs_choose_for_each_read};
 use lit_rel::Part;
 
