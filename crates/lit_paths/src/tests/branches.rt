@@ -3,7 +3,7 @@ use crate::path::Tested;
 use lit_read::read;
 use std::test::Fail;
 
-const LOAD_BUFFERING: &[u8] = b"test lb
+pub(crate) const LOAD_BUFFERING: &[u8] = b"test lb
 bytes 2
 agent A
 r0 = U8[0]
@@ -18,7 +18,7 @@ U8[0] = 1
 check A.r0 == 1 && B.r0 == 1
 ";
 
-const TWO_EXCHANGES: &[u8] = b"test cas
+pub(crate) const TWO_EXCHANGES: &[u8] = b"test cas
 bytes 1
 agent A
 r0 = Atomics.compareExchange(U8, 0, 0, 1)

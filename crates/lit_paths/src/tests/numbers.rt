@@ -2,33 +2,10 @@
 
 use crate::combination::Combination;
 use crate::making::plan;
+use crate::tests::branches::{LOAD_BUFFERING, TWO_EXCHANGES};
 use lit_read::read;
 use std::process::Abort;
 use std::test::Fail;
-
-const LOAD_BUFFERING: &[u8] = b"test lb
-bytes 2
-agent A
-r0 = U8[0]
-if r0 == 1 {
-U8[1] = 1
-}
-agent B
-r0 = U8[1]
-if r0 == 1 {
-U8[0] = 1
-}
-check A.r0 == 1 && B.r0 == 1
-";
-
-const TWO_EXCHANGES: &[u8] = b"test cas
-bytes 1
-agent A
-r0 = Atomics.compareExchange(U8, 0, 0, 1)
-agent B
-r0 = Atomics.compareExchange(U8, 0, 0, 1)
-check A.r0 == 0 && B.r0 == 0
-";
 
 /// That a byte read has these candidates, each of which leads to so many choices.
 fn assert_read(

@@ -2,6 +2,7 @@
 
 use crate::making::plan;
 use crate::path::{Path, Tested};
+use crate::tests::branches::TWO_EXCHANGES;
 use lit_read::read;
 use std::process::Abort;
 use std::test::Fail;
@@ -91,15 +92,7 @@ check A.r0 == 0
 
 #[test]
 fn two_exchanges(rt: HostRuntime) -> Result<(), Fail> {
-    let text = b"test cas
-bytes 1
-agent A
-r0 = Atomics.compareExchange(U8, 0, 0, 1)
-agent B
-r0 = Atomics.compareExchange(U8, 0, 0, 1)
-check A.r0 == 0 && B.r0 == 0
-";
-    let test = read(rt.alloc(), text)?;
+    let test = read(rt.alloc(), TWO_EXCHANGES)?;
     let plan = plan(rt.alloc(), &test)?;
     assert!(rt; plan.combinations() == 4 && plan.test().agents() == 2);
     let combination = plan.enter(1);
