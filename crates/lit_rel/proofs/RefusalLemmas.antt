@@ -173,7 +173,7 @@ AreRefusals-push part earlier earlier' was now w next is pushed is_now = record 
         inr (
           at.read,
           whole_from_last (part_events part) (part.sources ++ w ∷ []) (length part.sources) at.read at.byte count (sym (ap (slice_get (byte_reads (part_events part))) end) ∙ at.last)
-          (λ n b' at_n. at.whole n b' (ap (slice_get (byte_reads (part_events part))) count ∙ at_n)),
+              (λ n b' at_n. at.whole n b' (ap (slice_get (byte_reads (part_events part))) count ∙ at_n)),
           at.refused,
         )
 
@@ -194,11 +194,11 @@ AreRefusals-push part earlier earlier' was now w next is pushed is_now = record 
               }
           | inr other ↦
               let whole_old : IsGivenWhole (part_events part) part.sources r = λ i b at_i.
-                  let l : i < length (part.sources ++ w ∷ []) = whole i b at_i in
-                  elim (cases_eq i (length part.sources)) [
-                    | inl same ↦ absurd (other (ap (λ (q : ℕ × ℕ). q.0) (same_Some (next.read, next.byte) (r, b) (sym next.left ∙ sym (ap (slice_get (byte_reads (part_events part))) same) ∙ at_i))))
-                    | inr before ↦ omega arith
-                  ] in
+              let l : i < length (part.sources ++ w ∷ []) = whole i b at_i in
+              elim (cases_eq i (length part.sources)) [
+                | inl same ↦ absurd (other (ap (λ (q : ℕ × ℕ). q.0) (same_Some (next.read, next.byte) (r, b) (sym next.left ∙ sym (ap (slice_get (byte_reads (part_events part))) same) ∙ at_i))))
+                | inr before ↦ omega arith
+              ] in
               inl (is.at_all.1 (inr (r, whole_old, subst (λ (v : ℕ). HasFalseTestOn part.test part.combination (Some r) v) (values_stay (part_events part) part.sources (w ∷ []) r whole_old) f)))
         ]
 
