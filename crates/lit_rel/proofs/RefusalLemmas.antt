@@ -1,7 +1,7 @@
 -- Tests that are false, with one source more.
 use Rattle.std.proofs.Common.{◌≡◌, ◌≢◌, ◌↔◌, ◌⊎◌, ℕ, ◌+◌, ◌-◌, ◌<◌, ◌≤◌, suc, zero, Bool, true, false, cond, Option, Some, None, List, [], ◌∷◌, ◌++◌, length, map, take, get_or, refl, sym, ap, ◌∙◌, subst, arith, inl, inr}
 use Rattle.std.proofs.lemmas.Bool.{cases_eq, cases_lt, false≢true}
-use Rattle.std.proofs.lemmas.List.{length_push, length-take-le, take-append-le, take_at, take-take}
+use Rattle.std.proofs.lemmas.List.{length-append, length_push, length-take-le, take-append-le, take_at, take-take}
 use Rattle.std.proofs.lemmas.Option.{none-some, same_Some, slice_get_within, slice_get-get_or}
 use Rattle.std.specs.Bool.{IsTrue}
 use Rattle.std.specs.List.{range_with_len, slice_get}
@@ -10,12 +10,13 @@ use Rattle.lit_paths.specs.declared.sources.ByteRead.{ByteRead}
 use Rattle.lit_paths.specs.ByteReads.{byte_reads, byte_reads_from, bytes_read_by, pair_of}
 use Rattle.lit_paths.specs.Event.{does_read, event_at, no_event}
 use Rattle.lit_paths.specs.Plan.{AreEventsIn, IsWalkIn, first_event, walk_in}
-use Rattle.lit_rel.specs.Broken.{HasFalseTest, HasFalseTestOn, number_on}
+use Rattle.lit_rel.specs.Broken.{HasFalseTest, HasFalseTestOn, StaysBroken, number_on}
 use Rattle.lit_rel.specs.Growth.{IsGivenWhole}
 use Rattle.lit_rel.specs.Part.{IsNextSource, PartModel, part_events, with_sources}
 use Rattle.lit_rel.specs.Parts.Refused.{AreRefusals, IsRefusedAtLast}
-use Rattle.lit_rel.specs.ReadsFrom.{value_of}
-use Rattle.lit_rel.proofs.GrowthLemmas.{values_stay}
+use Rattle.lit_rel.specs.ReadsFrom.{ReadsByteFrom, value_of}
+use Rattle.lit_rel.proofs.GrowthLemmas.{ReadsByteFrom-longer, values_stay}
+use Rattle.lit_rel.proofs.BrokenLemmas.{IsBrokenBy-grows}
 use Rattle.lit_rel.proofs.PlaceLemmas.{place-left, place-push}
 use Rattle.lit_rel.proofs.SourceLemmas.{map_from, map_to, take_from}
 
@@ -173,7 +174,7 @@ AreRefusals-push part earlier earlier' was now w next is pushed is_now = record 
         inr (
           at.read,
           whole_from_last (part_events part) (part.sources ++ w ∷ []) (length part.sources) at.read at.byte count (sym (ap (slice_get (byte_reads (part_events part))) end) ∙ at.last)
-          (λ n b' at_n. at.whole n b' (ap (slice_get (byte_reads (part_events part))) count ∙ at_n)),
+              (λ n b' at_n. at.whole n b' (ap (slice_get (byte_reads (part_events part))) count ∙ at_n)),
           at.refused,
         )
 
@@ -194,11 +195,11 @@ AreRefusals-push part earlier earlier' was now w next is pushed is_now = record 
               }
           | inr other ↦
               let whole_old : IsGivenWhole (part_events part) part.sources r = λ i b at_i.
-                  let l : i < length (part.sources ++ w ∷ []) = whole i b at_i in
-                  elim (cases_eq i (length part.sources)) [
-                    | inl same ↦ absurd (other (ap (λ (q : ℕ × ℕ). q.0) (same_Some (next.read, next.byte) (r, b) (sym next.left ∙ sym (ap (slice_get (byte_reads (part_events part))) same) ∙ at_i))))
-                    | inr before ↦ omega arith
-                  ] in
+              let l : i < length (part.sources ++ w ∷ []) = whole i b at_i in
+              elim (cases_eq i (length part.sources)) [
+                | inl same ↦ absurd (other (ap (λ (q : ℕ × ℕ). q.0) (same_Some (next.read, next.byte) (r, b) (sym next.left ∙ sym (ap (slice_get (byte_reads (part_events part))) same) ∙ at_i))))
+                | inr before ↦ omega arith
+              ] in
               inl (is.at_all.1 (inr (r, whole_old, subst (λ (v : ℕ). HasFalseTestOn part.test part.combination (Some r) v) (values_stay (part_events part) part.sources (w ∷ []) r whole_old) f)))
         ]
 
@@ -247,3 +248,14 @@ AreRefusals-open part earlier now none no_earlier sound is_now walks = record {
     decided : (b : Bool) → ((IsTrue b → ⊥) → (agent : ℕ) → agent < length part.test.agents → IsWalkIn part.test part.combination agent (walk_in part.test part.combination agent)) → (r : ℕ) → IsGivenWhole (part_events part) part.sources r → HasFalseTestOn part.test part.combination (Some r) (value_of (part_events part) part.sources r) → IsTrue b
     decided true w r whole f = refl
     decided false w r whole f = absurd (no_read (w false≢true) r whole _ f)
+
+-- a broken part stays broken
+pub stays_broken : StaysBroken
+stays_broken part rest (inl relations) = inl (IsBrokenBy-grows (part_events part) (ReadsByteFrom (part_events part) part.sources) (ReadsByteFrom (part_events part) (part.sources ++ rest)) (ReadsByteFrom-longer (part_events part) part.sources rest) relations)
+stays_broken part rest (inr (inl f)) = inr (inl f)
+stays_broken part rest (inr (inr (r, whole, f))) =
+    inr (inr (
+      r,
+      (λ i b at_i. let l : i < length part.sources = whole i b at_i in let c : length (part.sources ++ rest) ≡ length part.sources + length rest = length-append part.sources rest in omega arith),
+      subst (λ (v : ℕ). HasFalseTestOn part.test part.combination (Some r) v) (sym (values_stay (part_events part) part.sources rest r whole)) f,
+    ))

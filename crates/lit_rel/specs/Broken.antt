@@ -1,5 +1,5 @@
 -- When a part is broken: nothing that is given later can make a valid execution of it (this project's own).
-use Rattle.std.specs.Prelude.{◌≡◌, ◌≢◌, ◌⊎◌, ℕ, ◌+◌, ◌<◌, false, Option, Some, None, List, length, slice_get}
+use Rattle.std.specs.Prelude.{◌≡◌, ◌≢◌, ◌⊎◌, ℕ, ◌+◌, ◌<◌, false, Option, Some, None, List, ◌++◌, length, slice_get}
 use Rattle.lit_read.specs.Syntax.{Litmus}
 use Rattle.lit_paths.specs.declared.event.Event.{Event}
 use Rattle.lit_paths.specs.declared.path.Tested.{Tested}
@@ -8,7 +8,7 @@ use Rattle.lit_paths.specs.Run.{compares}
 use Rattle.lit_rel.specs.Coherent.{IsCoherentRead}
 use Rattle.lit_rel.specs.Growth.{IsGivenWhole}
 use Rattle.lit_rel.specs.HappensBefore.{HappensBeforeBy}
-use Rattle.lit_rel.specs.Part.{PartModel, part_events}
+use Rattle.lit_rel.specs.Part.{PartModel, part_events, with_sources}
 use Rattle.lit_rel.specs.ReadsFrom.{ReadsByteFrom, value_of}
 use Rattle.lit_rel.specs.TearFree.{ReadsWholeBy}
 
@@ -64,3 +64,7 @@ HasFalseTest part =
 
 abbrev pub IsBroken : PartModel → Type 0
 IsBroken part = HasBrokenRelations part ⊎ HasFalseTest part
+
+-- a broken part is broken with any sources more
+abbrev pub StaysBroken : Type 0
+StaysBroken = (part : PartModel) (rest : List ℕ) → IsBroken part → IsBroken (with_sources part (part.sources ++ rest))

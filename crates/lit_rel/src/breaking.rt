@@ -13,9 +13,9 @@ ghost use Rattle.lit_rel.specs.SynchronizesWith.{CanSynchronize};
 use crate::bit_rows::Rows;
 use crate::event_set::EventSet;
 use crate::given::{Given, SourcedByte};
-use lit_paths::event_at;
 use crate::reading_checks::is_coherent_byte;
 use crate::relating::can_synchronize;
+use lit_paths::event_at;
 
 /// Whether a new pair can have changed the answer for a byte, by what is ahead of the pair and what is behind it, its
 /// ends among them.

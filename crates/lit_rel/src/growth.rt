@@ -1,5 +1,6 @@
 //! What becomes of relations with more bytes given. The functions do nothing: their contracts are theorems.
 
+ghost use Rattle.lit_rel.specs.Broken.{StaysBroken};
 ghost use Rattle.lit_rel.specs.Growth.{GrowWithBytes, ValuesStay};
 
 /// With more bytes given, reads-from, synchronizes-with, happens-before and the forbidden triples only grow, and that
@@ -11,4 +12,9 @@ pub fn relations_grow_with_bytes()
 /// Once all bytes of a read are given, further bytes do not change its value.
 pub fn values_stay()
     ensures { ValuesStay }
+{}
+
+/// A part that is broken is broken with any sources more.
+pub fn broken_parts_stay_broken()
+    ensures { StaysBroken }
 {}

@@ -28,7 +28,7 @@ mod wide_events;
 pub use bit_rows::Rows;
 pub use closing::close;
 pub use event_set::EventSet;
-pub use growth::{relations_grow_with_bytes, values_stay};
+pub use growth::{broken_parts_stay_broken, relations_grow_with_bytes, values_stay};
 pub use part::Part;
 pub use triples::{Between, Pair};
 pub use wide_events::{
