@@ -6,7 +6,7 @@ use mathlib.Core.Former.{Count}
 use Rattle.lit_read.specs.declared.syntax.Cond.{Cond, Row_of-Cond, end_of-Cond, more_of-Cond, items-the_row-Cond, items_hidden-the_row-Cond-0}
 use Rattle.lit_read.specs.declared.syntax.Cond as code
 use Rattle.lit_read.specs.Litmus.{condition_of, conditions_of}
-use Rattle.lit_paths.specs.Outcome.{holds, any_holds, all_hold}
+use Rattle.lit_paths.specs.Outcome.{asks, some_asks, holds, any_holds, all_hold}
 
 -- whether a member of a condition holds
 abbrev pub member_holds : List ((ℕ × ℕ) × ℕ) → Cond → Bool
@@ -48,3 +48,23 @@ list_any_more p xs i d inside = ap (λ ys. list_any p ys) (drop_more xs i d insi
 
 pub list_any_end : {A : Type 0} (p : A → Bool) (xs : List A) (i : ℕ) → length xs ≤ i → list_any p (drop i xs) ≡ false
 list_any_end p xs i past = ap (λ ys. list_any p ys) (drop_all i xs past)
+
+-- ---- the registers that a condition looks at
+module _ (agent reg : ℕ) where
+  -- whether a member of a condition looks at the register
+  abbrev pub member_asks : Cond → Bool
+  member_asks c = asks (condition_of c) agent reg
+
+  some_asks-row : (n : Count) (row : Row_of-Cond n) → some_asks (conditions_of row) agent reg ≡ list_any member_asks (items-the_row-Cond n row)
+  some_asks-row n end_of-Cond = refl
+  some_asks-row n (more_of-Cond c rest) = ap (λ b. asks (condition_of c) agent reg || b) (some_asks-row _ rest)
+
+  pub asks-Any : (members : Vec Cond Global) → asks (condition_of (code.Any members)) agent reg ≡ list_any member_asks members.items
+  asks-Any members =
+      let row = row_of (code.Any members) in
+      some_asks-row row.0 row.1 ∙ ap (λ cs. list_any member_asks cs) (items_hidden-the_row-Cond-0 members)
+
+  pub asks-All : (members : Vec Cond Global) → asks (condition_of (code.All members)) agent reg ≡ list_any member_asks members.items
+  asks-All members =
+      let row = row_of (code.All members) in
+      some_asks-row row.0 row.1 ∙ ap (λ cs. list_any member_asks cs) (items_hidden-the_row-Cond-0 members)

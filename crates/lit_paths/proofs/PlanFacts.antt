@@ -6,7 +6,7 @@ use Rattle.std.specs.List.Sorted.{IsNonDecreasingBy}
 use Rattle.std.proofs.lemmas.Bool.{cases_lt}
 use Rattle.std.proofs.lemmas.List.FromFn.{length-map-range_with_len}
 use Rattle.std.proofs.lemmas.Option.{slice_get-get_or}
-use Rattle.lit_read.specs.Syntax.{Litmus, agent_of}
+use Rattle.lit_read.specs.Syntax.{Litmus, IsLitmus, agent_of}
 use Rattle.lit_paths.specs.declared.limits.TheConstants.{COMBINATION_LIMIT, CHOICE_LIMIT}
 use Rattle.lit_paths.specs.Choice.{sources_of, combinations_of, choices_of, choices_on, candidates_of}
 use Rattle.lit_paths.specs.declared.planning.Plan.TheInside.{Inside}
@@ -52,6 +52,13 @@ pub totals-rise : (t : Litmus) (count : ℕ) → IsNonDecreasingBy (λ (x : ℕ)
 totals-rise t count i j d le inside =
     let there : j < count = omega (arith, inside, length-totals t count) in
     omega (arith, totals-at t count i d (omega (arith, le, there)), totals-at t count j d there, before_mono t (i + 1) (j + 1) (omega (arith, le)))
+
+-- a choice with one of a combination's numbers is of it
+pub of_numbered : (t : Litmus) (n c : ℕ) → c < length (combinations_of t) → choices_before t c ≤ n → n < choices_before t (c + 1) → IsOfCombination t n c
+of_numbered t n c known low high =
+    let place : ℕ = n - choices_before t c in
+    let within : place < length (sources_of (events_in t c)) = omega (arith, low, high, before_more t c known) in
+    of_combination t c n (get_or (sources_of (events_in t c)) place []) known low high (slice_get-get_or (sources_of (events_in t c)) place [] within)
 
 -- ---- the plan of a test
 module _ (p : Inside) (is : IsPlanned p) where
@@ -112,19 +119,13 @@ module _ (p : Inside) (is : IsPlanned p) where
   pub found-high : (n c : ℕ) → c < length (combinations_of t) → ((k : ℕ) → c ≤ k → k < length totals → n < slice_index totals k) → n < choices_before t (c + 1)
   found-high n c known later = omega (arith, later c (omega arith) (omega (arith, known, planned-length)), planned-at c 0 known)
 
-  pub found-of : (n c : ℕ) → c < length (combinations_of t) → choices_before t c ≤ n → n < choices_before t (c + 1) → IsOfCombination t n c
-  found-of n c known low high =
-      let place : ℕ = n - choices_before t c in
-      let within : place < length (sources_of (events_in t c)) = omega (arith, low, high, before_more t c known) in
-      of_combination t c n (get_or (sources_of (events_in t c)) place []) known low high (slice_get-get_or (sources_of (events_in t c)) place [] within)
-
 -- ---- the walk of an agent in a combination
-pub walk_in-known : (t : Litmus) (c agent : ℕ) → IsInLimits t → c < length (combinations_of t) → agent < length t.agents → IsWalkIn t c agent (walk_in t c agent)
-walk_in-known t c agent limits known inside =
+pub walk_in-known : (t : Litmus) (c agent : ℕ) → IsLitmus t → c < length (combinations_of t) → agent < length t.agents → IsWalkIn t c agent (walk_in t c agent)
+walk_in-known t c agent litmus known inside =
     let steps : List Step = walk_in t c agent in
     let stands = agent-stands t c agent known inside in
     record {
-      said = limits.litmus.bodies agent inside;
+      said = litmus.bodies agent inside;
       walked = walk_in-walks t c agent known inside;
       listed = path_at t c agent known inside;
       one_test_each = length-tests_on steps;

@@ -46,3 +46,15 @@ abbrev mutual
 -- whether an outcome meets the test's condition
 abbrev pub meets : Litmus → List ℕ → Bool
 meets t outcome = holds (zip (names_of t) outcome) t.check
+
+-- whether a condition looks at a register of an agent
+abbrev mutual
+  pub asks : Condition → ℕ → ℕ → Bool
+  asks (Any cs) agent reg = some_asks cs agent reg
+  asks (All cs) agent reg = some_asks cs agent reg
+  asks (Not c) agent reg = asks c agent reg
+  asks (Is of r equal value) agent reg = (of == agent) && (r == reg)
+
+  pub some_asks : Conditions → ℕ → ℕ → Bool
+  some_asks NoMore agent reg = false
+  some_asks (Also c cs) agent reg = asks c agent reg || some_asks cs agent reg

@@ -1,12 +1,13 @@
 //! Laws of the definitions that the contracts cite.
 
-ghost use Rattle.std.specs.Prelude.{◌≡◌, ℕ, ◌<◌, List, length, map};
-ghost use Rattle.lit_read.specs.Syntax.{Litmus, Statements, AreStatementsIn};
+ghost use Rattle.std.specs.Prelude.{◌≡◌, ℕ, ◌+◌, ◌<◌, ◌≤◌, List, length, map};
+ghost use Rattle.lit_read.specs.Syntax.{Litmus, IsLitmus, Statements, AreStatementsIn};
 ghost use Rattle.lit_paths.specs.Choice.{IsChoice, ListsChoices, ListsCombinations, combinations_of};
 ghost use Rattle.lit_paths.specs.Execution.{Execution, execution_choice, IsCandidateExecution};
 ghost use Rattle.lit_paths.specs.Numbers.{NumbersChoices};
 ghost use Rattle.lit_paths.specs.Path.{Step, IsWalk, path_on};
 ghost use Rattle.lit_paths.specs.PathModel.{path_model};
+ghost use Rattle.lit_paths.specs.Plan.{choices_before, walk_in, IsOfCombination, IsWalkIn};
 ghost use Rattle.lit_paths.specs.Run.{Run, IsRun};
 ghost use Rattle.lit_paths.specs.Told.{read_places, TellsRuns};
 
@@ -26,6 +27,17 @@ pub fn combinations_are_listed()
 /// numbers of candidates of the byte reads not given yet.
 pub fn choices_have_numbers()
     ensures { (t : Litmus) (c : ℕ) → c < length (combinations_of t) → NumbersChoices t c }
+{}
+
+/// The numbers of a combination's choices are those behind the choices of the combinations before it: such a choice has
+/// the combination's decisions, and its executions run on the combination's paths.
+pub fn choices_are_on_combinations()
+    ensures { (t : Litmus) (n c : ℕ) → c < length (combinations_of t) → choices_before t c ≤ n → n < choices_before t (c + 1) → IsOfCombination t n c }
+{}
+
+/// On a combination of a test that a text can say, each agent's path is that of a walk through its statements.
+pub fn combinations_are_walked()
+    ensures { (t : Litmus) (c agent : ℕ) → IsLitmus t → c < length (combinations_of t) → agent < length t.agents → IsWalkIn t c agent (walk_in t c agent) }
 {}
 
 /// Of statements that a text can say: there is a run on a path with given values exactly where each test of the path is true of them, and its registers

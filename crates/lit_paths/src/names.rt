@@ -6,7 +6,7 @@ ghost use Rattle.arrayvec.specs.ArrayVec.{array_vec_len};
 ghost use Rattle.lit_read.specs.Litmus.{statements_of, condition_of};
 ghost use Rattle.lit_read.specs.declared.limits.TheConstants.{REGISTERS};
 ghost use Rattle.lit_paths.specs.declared.limits.TheConstants.{NAME_LIMIT};
-ghost use Rattle.lit_paths.specs.Outcome.{names_in, names_of, value_in as value_among, holds as holds_of};
+ghost use Rattle.lit_paths.specs.Outcome.{names_in, names_of, asks as asks_of, value_in as value_among, holds as holds_of};
 
 use crate::limits::NAME_LIMIT;
 use arrayvec::ArrayVec;
@@ -81,5 +81,28 @@ pub(crate) fn holds(names: &[(u8, u8)], outcome: &[u32], condition: &Cond) -> bo
             equal,
             value,
         } => (value_in(names, outcome, *agent, *reg) == *value) == *equal,
+    }
+}
+
+/// Whether a condition looks at a register of an agent.
+pub(crate) fn asks(condition: &Cond, agent: u8, register: u8) -> bool
+    ensures { result ≡ asks_of (condition_of condition.now) agent register }
+{
+    match condition {
+        Cond::Any(members) | Cond::All(members) => {
+            'members: for member in members {
+                if asks(member, agent, register) {
+                    return true;
+                }
+            }
+            false
+        }
+        Cond::Not(member) => asks(member, agent, register),
+        Cond::Is {
+            agent: of,
+            reg,
+            equal: _,
+            value: _,
+        } => *of == agent && *reg == register,
     }
 }

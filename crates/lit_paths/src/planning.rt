@@ -2,18 +2,19 @@
 
 ghost use Rattle.std.specs.Prelude.{◌≡◌, ℕ, ◌+◌, ◌<◌, ◌≤◌, length, All, nat_le, slice_index};
 ghost use Rattle.std.specs.List.Sorted.{IsNonDecreasingBy};
+ghost use Rattle.lit_read.specs.Syntax.{IsLitmus};
 ghost use Rattle.lit_read.specs.declared.limits.TheConstants.{REGISTERS};
 ghost use Rattle.lit_paths.specs.Choice.{choices_of, combinations_of};
 ghost use Rattle.lit_paths.specs.declared.limits.TheConstants.{CHOICE_LIMIT, COMBINATION_LIMIT, NAME_LIMIT};
 ghost use Rattle.lit_paths.specs.Event.{event_at};
-ghost use Rattle.lit_paths.specs.Outcome.{names_of, meets as is_met};
+ghost use Rattle.lit_paths.specs.Outcome.{asks as is_asked, names_of, meets as is_met};
 ghost use Rattle.lit_paths.specs.Plan.{events_in, choices_before, path_in, walk_in, AreEventsIn, HasSources, IsOfCombination, IsWalkIn, ListsCandidates};
 
 use crate::agent_paths::AgentPaths;
 use crate::combination::Combination;
 use crate::event::{Events, Sources, event_at};
 use crate::joined::join;
-use crate::names::{Names, holds};
+use crate::names::{Names, asks, holds};
 use crate::path::Path;
 use crate::sources::{ByteRead, Candidates, candidates_of};
 use lit_read::Test;
@@ -117,7 +118,8 @@ impl<'t> Plan<'t> {
 
     /// The test.
     pub fn test(&self) -> &'t Test
-        ensures { result.now ≡ self.now }
+        ensures value { result.now ≡ self.now }
+        ensures litmus { IsLitmus self.now }
     {
         self.paths.test()
     }
@@ -241,5 +243,12 @@ impl<'t> Plan<'t> {
         ensures { result ≡ is_met self.now outcome.now }
     {
         holds(self.names.as_slice(), outcome, self.test().check())
+    }
+
+    /// Whether the test's condition looks at a register, named by agent and register.
+    pub fn asks(&self, name: (u8, u8)) -> bool
+        ensures { result ≡ is_asked self.now.check name.0 name.1 }
+    {
+        asks(self.test().check(), name.0, name.1)
     }
 }

@@ -36,4 +36,4 @@ returns-clause-exact c =
 pub returns-clause-walk : goal.returns-clause-walk
 returns-clause-walk c =
     subst (λ (p : Litmus × ℕ). IsWalkIn p.0 p.1 c.args.agent (walk_in p.0 p.1 c.args.agent)) c.self.view_is
-    (walk_in-known c.self.inside.paths.now c.self.inside.number c.args.agent c.self.invariant.limits c.self.invariant.known (agent_here _ _ _ c.self.view_is c.args.agent c.requires))
+    (walk_in-known c.self.inside.paths.now c.self.inside.number c.args.agent c.self.invariant.limits.litmus c.self.invariant.known (agent_here _ _ _ c.self.view_is c.args.agent c.requires))

@@ -4,7 +4,7 @@ use Rattle.std.specs.List.Sorted.{IsNonDecreasingBy}
 use Rattle.lit_read.specs.Syntax.{Litmus}
 use Rattle.lit_paths.specs.Choice.{choices_of}
 use Rattle.lit_paths.specs.Plan.{IsOfCombination, choices_before}
-use Rattle.lit_paths.proofs.PlanFacts.{planned-rise, found-known, found-low, found-high, found-of}
+use Rattle.lit_paths.proofs.PlanFacts.{planned-rise, found-known, found-low, found-high, of_numbered}
 use Rattle.lit_paths.proofs.planning.Plan.combination.Goals as goal
 
 pub combination_of-requires : goal.combination_of-requires
@@ -15,7 +15,7 @@ returns-clause-value c =
     let known = (found-known _ c.self.invariant c.args.n c.combination_of.result (omega (arith, c.requires, ap (λ t. length (choices_of t)) c.self.view_is)) (omega (arith, c.combination_of.ensures.bound, ap length c.as_slice.ensures.value)) (λ k h. omega (arith, c.combination_of.ensures.before k h, ap (λ ns. slice_index ns k) c.as_slice.ensures.value))) in
     let low = (found-low _ c.self.invariant c.args.n c.combination_of.result (omega (arith, known)) (λ k h. omega (arith, c.combination_of.ensures.before k h, ap (λ ns. slice_index ns k) c.as_slice.ensures.value))) in
     let high = (found-high _ c.self.invariant c.args.n c.combination_of.result known (λ k h l. omega (arith, c.combination_of.ensures.behind k h (omega (arith, l, ap length c.as_slice.ensures.value)), ap (λ ns. slice_index ns k) c.as_slice.ensures.value))) in
-    subst (λ (t : Litmus). IsOfCombination t c.args.n c.combination_of.result) c.self.view_is (found-of _ c.self.invariant c.args.n c.combination_of.result known low high)
+    subst (λ (t : Litmus). IsOfCombination t c.args.n c.combination_of.result) c.self.view_is (of_numbered _ c.args.n c.combination_of.result known low high)
 
 pub returns-clause-low : goal.returns-clause-low
 returns-clause-low c =
