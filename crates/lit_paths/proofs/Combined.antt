@@ -1,5 +1,5 @@
 -- The paths of a combination, agent by agent.
-use Rattle.std.proofs.Common.{◌≡◌, ℕ, zero, suc, ◌+◌, ◌*◌, ◌/◌, ◌%◌, ◌^◌, ◌<◌, ◌≤◌, List, [], ◌∷◌, length, map, drop, get_or, subst, arith, refl, sym, ap, ◌∙◌, mul_assoc, mul-le-mul}
+use Rattle.std.proofs.Common.{◌≡◌, ℕ, zero, suc, ◌+◌, ◌*◌, ◌/◌, ◌%◌, ◌<◌, ◌≤◌, List, [], ◌∷◌, length, map, drop, get_or, subst, arith, refl, sym, ap, ◌∙◌, mul_assoc, mul-le-mul}
 use Rattle.std.specs.Global.{Vec}
 use Rattle.std.proofs.lemmas.List.{drop_more, drop_all, get_or-map, get_or_default, length-map}
 use Rattle.lit_read.specs.Syntax.{Litmus, Agent, agent_of}

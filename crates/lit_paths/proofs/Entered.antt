@@ -1,9 +1,9 @@
 -- What an entered combination keeps, for each agent and each byte read.
-use Rattle.std.proofs.Common.{◌≡◌, ℕ, zero, suc, ◌+◌, ◌*◌, ◌<◌, ◌≤◌, List, [], ◌∷◌, length, map, drop, get_or, slice_get, Some, Option, unwrap_or, arith, refl, sym, ap, ◌∙◌, subst, add-one}
+use Rattle.std.proofs.Common.{◌≡◌, ℕ, zero, suc, ◌+◌, ◌*◌, ◌<◌, ◌≤◌, List, [], ◌∷◌, length, map, drop, get_or, slice_get, Some, arith, refl, sym, ap, ◌∙◌, subst, add-one}
 use Rattle.std.specs.List.{range_with_len}
 use Rattle.std.proofs.lemmas.List.{length-map, get_or-map}
 use Rattle.std.proofs.lemmas.List.FromFn.{length-map-range_with_len}
-use Rattle.std.proofs.lemmas.Option.{slice_get-get_or, slice_get_within}
+use Rattle.std.proofs.lemmas.Option.{slice_get-get_or}
 use Rattle.arrayvec.specs.ArrayVec.{ArrayVec}
 use Rattle.lit_read.specs.Syntax.{Litmus}
 use Rattle.lit_paths.specs.declared.combination.Combination.TheInside.{Inside}
@@ -12,7 +12,7 @@ use Rattle.lit_paths.specs.ByteReads.{byte_reads, byte_read_at}
 use Rattle.lit_paths.specs.Choice.{product, candidates_of}
 use Rattle.lit_paths.specs.Numbers.{length_product, ways_from}
 use Rattle.lit_paths.specs.Plan.{events_in, AreEventsIn, ListsCandidates}
-use Rattle.lit_paths.specs.Planning.CandidateLists.{candidate_lists, ways_after}
+use Rattle.lit_paths.specs.Planning.CandidateLists.{ways_after}
 use Rattle.lit_paths.specs.Planning.Entered.{IsEntered}
 use Rattle.lit_paths.proofs.Digits.{later_ways}
 use Rattle.lit_paths.proofs.PlanFacts.{lists-candidates}

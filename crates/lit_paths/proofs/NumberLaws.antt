@@ -289,6 +289,7 @@ pub numbers_choices : (t : Litmus) (c : ℕ) → c < length (combinations_of t) 
 numbers_choices t c known = record {
   whole = let none : List ℕ = [] in
       subst (λ (low : ℕ). AreNumbered t c none low (ways_from (events_in t c) 0)) (let e : choices_before t c + 0 ≡ choices_before t c = omega arith in e) (numbered t c none none known tt);
+  behind = omega (arith, before_more t c known, ways_are (events_in t c) 0);
   begun = λ given are.
       let places = picked (events_in t c) (byte_reads (events_in t c)) given are.few are.each in
       (choices_before t c + low_of (lists_of (events_in t c)) places.0, numbered t c given places.0 known places.1);

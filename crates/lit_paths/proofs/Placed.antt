@@ -1,12 +1,12 @@
 -- Where the events of agents stand among all events of a combination.
-use Rattle.std.proofs.Common.{◌≡◌, ◌≢◌, ◌⊎◌, ℕ, zero, suc, ◌+◌, ◌-◌, ◌<◌, ◌≤◌, Bool, true, false, List, [], ◌∷◌, ◌++◌, length, map, flat_map, take, get_or, slice_get, Some, None, Option, arith, refl, sym, ap, ◌∙◌, subst, inl, inr, ⊎_elim, length-append}
+use Rattle.std.proofs.Common.{◌≡◌, ◌≢◌, ℕ, zero, suc, ◌+◌, ◌-◌, ◌<◌, ◌≤◌, Bool, true, false, List, [], ◌∷◌, ◌++◌, length, map, take, get_or, slice_get, Some, None, Option, arith, refl, sym, ap, ◌∙◌, subst, ⊎_elim, length-append}
 use Rattle.std.specs.Prelude.{IsSome}
 use Rattle.std.specs.List.{range_with_len}
 use Rattle.std.proofs.lemmas.Bool.{cases_lt}
 use Rattle.std.proofs.lemmas.Option.{slice_get_within}
 use Rattle.lit_read.specs.Syntax.{Litmus}
 use Rattle.lit_paths.specs.declared.event.Event.{Event}
-use Rattle.lit_paths.specs.declared.event.Order3.TheVariants.{SeqCst, Unordered, Init}
+use Rattle.lit_paths.specs.declared.event.Order3.TheVariants.{Init}
 use Rattle.lit_paths.specs.Event.{no_event, event_at, init_event, init_events}
 use Rattle.lit_paths.specs.Path.{Path, Step, LoadMet, StoreMet, ExchangeMet, CompareExchangeMet, IfMet, order_of, compare_exchange_event, events_on, path_on}
 use Rattle.lit_paths.specs.Choice.{combinations_of}

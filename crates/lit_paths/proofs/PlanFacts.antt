@@ -6,7 +6,7 @@ use Rattle.std.specs.List.Sorted.{IsNonDecreasingBy}
 use Rattle.std.proofs.lemmas.Bool.{cases_lt}
 use Rattle.std.proofs.lemmas.List.FromFn.{length-map-range_with_len}
 use Rattle.std.proofs.lemmas.Option.{slice_get-get_or}
-use Rattle.lit_read.specs.Syntax.{Litmus, IsLitmus, agent_of}
+use Rattle.lit_read.specs.Syntax.{Litmus, IsLitmus}
 use Rattle.lit_paths.specs.declared.limits.TheConstants.{COMBINATION_LIMIT, CHOICE_LIMIT}
 use Rattle.lit_paths.specs.Choice.{sources_of, combinations_of, choices_of, choices_on, candidates_of}
 use Rattle.lit_paths.specs.declared.planning.Plan.TheInside.{Inside}
@@ -16,7 +16,6 @@ use Rattle.lit_paths.specs.declared.event.Event.{Event}
 use Rattle.lit_paths.specs.Event.{no_event}
 use Rattle.lit_paths.specs.Planning.Planned.{IsPlanned}
 use Rattle.lit_paths.specs.Planning.Totals.{totals_below}
-use Rattle.lit_paths.specs.Planning.Walks.{IsInLimits}
 use Rattle.lit_paths.proofs.AgentPaths.{count_of-some}
 use Rattle.lit_paths.proofs.CombinedPaths.{count_of-combinations, path_at, walk_in-walks}
 use Rattle.lit_paths.proofs.PathSteps.{length-tests_on, tests_reads, holds_reads}

@@ -189,7 +189,8 @@ impl<'p> Combination<'p> {
 
     /// The number behind that of its last choice.
     pub fn end(&self) -> u64
-        ensures { result ≡ choices_before self.now.0 (self.now.1 + 1) }
+        ensures value { result ≡ choices_before self.now.0 (self.now.1 + 1) }
+        ensures few { result ≤ CHOICE_LIMIT }
     {
         self.first + self.total
     }

@@ -25,8 +25,8 @@ pub use combination::Combination;
 pub use event::{Event, Events, Kind, Order3, Sources, event_at};
 pub use laws::{
     candidate_executions_have_choices, choices_are_listed, choices_are_on_combinations,
-    choices_have_numbers, combinations_are_listed, combinations_are_walked,
-    paths_tell_their_runs, runs_choose_for_each_read, values_have_one_choice,
+    choices_have_numbers, combinations_are_listed, combinations_are_walked, paths_tell_their_runs,
+    runs_choose_for_each_read, values_have_one_choice,
 };
 pub use limits::{
     ACCESS_LIMIT, BYTE_READ_LIMIT, CHOICE_LIMIT, COMBINATION_LIMIT, EVENT_LIMIT, NAME_LIMIT,

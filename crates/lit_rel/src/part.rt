@@ -3,12 +3,12 @@
 ghost use Rattle.std.specs.Prelude.{◌≡◌, ◌↔◌, ℕ, ◌-◌, ◌<◌, ◌≤◌, IsTrue, [], ◌∷◌, ◌++◌, length, take};
 ghost use Rattle.lit_paths.specs.ByteReads.{byte_reads};
 ghost use Rattle.lit_paths.specs.Choice.{combinations_of};
-ghost use Rattle.lit_paths.specs.Event.{does_read, event_at};
+ghost use Rattle.lit_paths.specs.Plan.{AreEventsIn};
 ghost use Rattle.lit_rel.specs.Between.{Forbids};
 ghost use Rattle.lit_rel.specs.Coherent.{HasCoherentReads};
 ghost use Rattle.lit_rel.specs.Forbidden.{IsForbidden};
 ghost use Rattle.lit_rel.specs.HappensBefore.{HappensBefore};
-ghost use Rattle.lit_rel.specs.Part.{IsComplete, IsNextSource, part_events, with_sources};
+ghost use Rattle.lit_rel.specs.Part.{IsNextSource, part_events, with_sources};
 ghost use Rattle.lit_rel.specs.ReadsFrom.{ReadsFrom, value_of};
 ghost use Rattle.lit_rel.specs.Rows.{Holds, rows_len};
 ghost use Rattle.lit_rel.specs.SynchronizesWith.{Synchronizes};
@@ -51,7 +51,8 @@ impl<'p> Part<'p> {
     /// A combination of a plan's test, by its number: below `combinations`. No byte read has a source yet.
     pub fn open(plan: &'p Plan<'p>, combination: usize) -> Self
         requires { combination < length (combinations_of plan.now) }
-        ensures { result ≡ record { test = plan.now; combination = combination; sources = [] } }
+        ensures value { result ≡ record { test = plan.now; combination = combination; sources = [] } }
+        ensures sound { AreEventsIn result.test.bytes (part_events result) }
     {
         let related = Related::open(plan, combination);
         let refused = has_false_test(&related, None, 0);
@@ -159,11 +160,8 @@ impl<'p> Part<'p> {
         self.related.between()
     }
 
-    /// The value of a read (29.5.4 and 29.5.5), by its event number. Each byte read has a source.
+    /// The value of a read (29.5.4 and 29.5.5), by its event number, from the bytes that have a source.
     pub fn value(&self, read: u8) -> u32
-        requires complete { IsComplete self.now }
-        requires known { read < length (part_events self.now) }
-        requires reads { IsTrue (does_read (event_at (part_events self.now) read).kind) }
         ensures { result ≡ value_of (part_events self.now) self.now.sources read }
     {
         self.related.value(read)

@@ -54,7 +54,7 @@ test_lt m n h = grind (arith, nat_tests)
 le_test : (m n : ℕ) → IsTrue (nat_le m n) → m ≤ n
 le_test m n h = grind (arith, nat_tests)
 
-lt_test : (m n : ℕ) → IsTrue (nat_lt m n) → m < n
+pub lt_test : (m n : ℕ) → IsTrue (nat_lt m n) → m < n
 lt_test m n h = grind (arith, nat_tests)
 
 pub within : (from to n : ℕ) → from ≤ n → n < to → IsTrue (in_range from to n)

@@ -1,4 +1,5 @@
 pub mod ValidExecution
+pub mod Completion
 pub mod Report
 pub mod Merge
 pub mod Collected

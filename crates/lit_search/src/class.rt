@@ -2,7 +2,7 @@
 
 ghost use Rattle.std.specs.Prelude.{IsTrue};
 
-use crate::examining::Wanted;
+use crate::wanted::Wanted;
 use lit_paths::Plan;
 
 /// A class of outcomes, by the test's condition.
@@ -15,14 +15,21 @@ pub enum Class {
 }
 
 impl Wanted for Class {
+    ghost use Rattle.lit_paths.specs.Outcome.{asks as is_asked};
     ghost use Rattle.lit_search.specs.Class.{is_of_class};
 
     ghost IsWanted = { λ class t outcome. IsTrue (is_of_class t class outcome) };
+
+    ghost Asks = { λ class t name. is_asked t.check name.0 name.1 };
 
     fn wants(&self, plan: &Plan<'_>, outcome: &[u32]) -> bool {
         match self {
             Class::Met => plan.meets(outcome),
             Class::Unmet => !plan.meets(outcome),
         }
+    }
+
+    fn asks(&self, plan: &Plan<'_>, name: (u8, u8)) -> bool {
+        plan.asks(name)
     }
 }

@@ -1,37 +1,36 @@
 //! What is found while ranges of choices are taken, one after the other.
 
-ghost use Rattle.std.specs.Prelude.{◌≡◌, ℕ, ◌+◌, ◌<◌, ◌≤◌, Bool, IsTrue, length, OnOk};
-ghost use Rattle.lit_paths.specs.Choice.{choices_of, combinations_of};
+ghost use Rattle.std.specs.Prelude.{◌≡◌, ℕ, ◌+◌, ◌≤◌, Bool, IsTrue, length, OnOk};
+ghost use Rattle.lit_paths.specs.Choice.{choices_of};
 ghost use Rattle.lit_paths.specs.Plan.{choices_before};
+ghost use Rattle.lit_search.specs.Searching.Places.{low_at};
 ghost use Rattle.lit_search.specs.Searching.Taking.{KeepsRange};
 
-use crate::examining::next_wanted;
+use crate::cursor::Cursor;
 use crate::found::{Found, SearchFault};
+use crate::holding::known_after;
 use crate::kept::Kept;
 use lit_paths::Plan;
-use lit_rel::Part;
 use std::alloc::{AllocError, Global};
 use std::marker::Model;
 
-/// Keeps what the choices from `from` up to and without `to` show, all on the part's combination.
+/// Keeps what the choices from `from` up to and without `to` show, all on one combination.
 fn keep_on(
     kept: &mut Kept,
     plan: &Plan<'_>,
-    combination: usize,
-    part: &mut Part<'_>,
+    cursor: &mut Cursor<'_>,
     from: u64,
     to: u64,
 ) -> Result<(), AllocError>
-    requires known { combination < length (combinations_of plan.now) }
-    requires test { part.old.test ≡ plan.now }
-    requires combination { part.old.combination ≡ combination }
+    requires test { cursor.old.test ≡ plan.now }
+    requires stands { low_at cursor.old ≤ from }
     requires order { from ≤ to }
-    requires low { choices_before plan.now combination ≤ from }
-    requires high { to ≤ choices_before plan.now (combination + 1) }
+    requires high { to ≤ choices_before plan.now (cursor.old.combination + 1) }
     ensures { OnOk result (KeepsRange plan.now from to kept.old kept.new) }
 {
+    let known = known_after(plan, cursor.part(), kept);
     let mut next = from;
-    while let Some(shown) = next_wanted(plan, combination, part, next, to, kept) {
+    while let Some(shown) = cursor.next(plan, kept, known, next, to) {
         next = shown.example.choice + 1;
         kept.keep(shown)?;
     }
@@ -47,9 +46,9 @@ fn keep_range(kept: &mut Kept, plan: &Plan<'_>, from: u64, to: u64) -> Result<()
     let mut next = from;
     while next < to {
         let combination = plan.combination(next);
-        let mut part = Part::open(&*plan, combination);
-        let end = part.combination().end().min(to);
-        keep_on(kept, plan, combination, &mut part, next, end)?;
+        let mut cursor = Cursor::open(&*plan, combination);
+        let end = cursor.end().min(to);
+        keep_on(kept, plan, &mut cursor, next, end)?;
         next = end;
     }
     Ok(())

@@ -5,8 +5,9 @@ ghost use Rattle.std.specs.List.Sorted.{IsStrictlySortedBy};
 ghost use Rattle.lit_search.specs.Entry.{entry_of};
 ghost use Rattle.lit_search.specs.Report.{outcome_cmp};
 
-use crate::examining::{Shown, Wanted};
 use crate::found::{Entry, Example};
+use crate::passing::Shown;
+use crate::wanted::Wanted;
 use lit_paths::Plan;
 use std::alloc::{AllocError, Global};
 use std::boxed::BoxedSlice;
@@ -79,11 +80,18 @@ impl Kept {
 
 /// A search for outcomes that are not kept yet.
 impl Wanted for Kept {
+    ghost use Rattle.std.specs.Prelude.{true};
     ghost use Rattle.lit_search.specs.Searching.Outcomes.{HasOutcome};
 
     ghost IsWanted = { λ kept t outcome. ¬ HasOutcome kept outcome };
 
+    ghost Asks = { λ kept t name. true };
+
     fn wants(&self, _plan: &Plan<'_>, outcome: &[u32]) -> bool {
         !self.has(outcome)
+    }
+
+    fn asks(&self, _plan: &Plan<'_>, _name: (u8, u8)) -> bool {
+        true
     }
 }

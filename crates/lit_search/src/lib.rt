@@ -5,21 +5,25 @@
 //! and `lit_order`.
 #![tactic(auto)]
 
-mod agent_values;
 mod class;
 mod collector;
-mod decisions;
-mod examining;
+mod completing;
+mod cursor;
 mod found;
+mod holding;
 mod kept;
 mod laws;
 mod merging;
-mod outcomes;
+mod passing;
 mod searching;
-mod values;
+mod wanted;
 
 pub use class::Class;
 pub use collector::Collector;
+pub use completing::{
+    broken_parts_have_no_completion, orders_of_completions_keep_parts,
+    whole_parts_are_decided_by_orders,
+};
 pub use found::{Example, Found, Outcome, SearchFault};
 pub use laws::{reports_are_unique, reports_go_by_choices};
 pub use merging::merge;

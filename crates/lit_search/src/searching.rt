@@ -7,10 +7,10 @@ ghost use Rattle.lit_search.specs.Report.{IsReport, in_range};
 
 use crate::class::Class;
 use crate::collector::Collector;
-use crate::examining::next_wanted;
+use crate::cursor::Cursor;
 use crate::found::{Found, SearchFault};
+use crate::holding::known_after;
 use lit_paths::Plan;
-use lit_rel::Part;
 use std::alloc::Global;
 
 /// The report of the choices with numbers from `from` up to and without `to`: `from` is at most `to`, and `to` at most
@@ -41,9 +41,10 @@ pub fn first_in(plan: &Plan<'_>, class: Class, from: u64, to: u64) -> Option<u64
     let mut next = from;
     while next < to {
         let combination = plan.combination(next);
-        let mut part = Part::open(&*plan, combination);
-        let end = part.combination().end().min(to);
-        if let Some(shown) = next_wanted(plan, combination, &mut part, next, end, &class) {
+        let mut cursor = Cursor::open(&*plan, combination);
+        let known = known_after(plan, cursor.part(), &class);
+        let end = cursor.end().min(to);
+        if let Some(shown) = cursor.next(plan, &class, known, next, end) {
             return Some(shown.example.choice);
         }
         next = end;

@@ -1,8 +1,19 @@
 -- Runs on the paths of a combination whose reads are given the values that they take from the sources.
-use Rattle.std.specs.Prelude.{◌≡◌, ℕ, List, length, Some, slice_get}
+use Rattle.std.specs.Prelude.{◌≡◌, ℕ, List, [], length, map, Some, slice_get, slice_index_or}
 use Rattle.lit_read.specs.Syntax.{Litmus, agent_of}
+use Rattle.lit_paths.specs.Path.{Path}
+use Rattle.lit_paths.specs.Plan.{combination_at, events_in, first_event}
 use Rattle.lit_paths.specs.Run.{Run, IsRun, run_path}
-use Rattle.lit_search.specs.Searching.ReadValues.{path_at, taken_by}
+use Rattle.lit_rel.specs.ReadsFrom.{value_of}
+use Rattle.lit_search.specs.ValidExecution.{read_numbers_from}
+
+-- the path of an agent in a combination; past the last agent, a path of nothing
+abbrev pub path_at : Litmus → ℕ → ℕ → Path
+path_at t c agent = slice_index_or (combination_at t c) agent (record { decisions = []; events = [] })
+
+-- the values that the reads of an agent take from the sources, in order
+abbrev pub taken_by : Litmus → ℕ → List ℕ → ℕ → List ℕ
+taken_by t c sources agent = map (value_of (events_in t c) sources) (read_numbers_from (first_event t c agent) (path_at t c agent).events)
 
 -- a run of one agent
 pub record IsGivenRun (t : Litmus) (c : ℕ) (sources : List ℕ) (agent : ℕ) (run : Run) : Type 0 where

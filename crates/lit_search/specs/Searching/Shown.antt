@@ -1,7 +1,7 @@
 -- What choices show to a search for some of the outcomes.
 use Rattle.std.specs.Prelude.{◌≡◌, ℕ, ◌<◌, ◌≤◌, Bool, IsTrue, List}
 use Rattle.lit_read.specs.Syntax.{Litmus}
-use Rattle.lit_search.specs.declared.examining.Shown.{Shown}
+use Rattle.lit_search.specs.declared.passing.Shown.{Shown}
 use Rattle.lit_search.specs.Report.{Entry, Gives, in_range}
 use Rattle.lit_search.specs.Searching.Examined.{IsExample}
 

@@ -1,4 +1,4 @@
-use Rattle.std.proofs.Common.{◌≤◌, List, arith, ap, ap₂, sym, ◌∙◌, subst, length, slice_get}
+use Rattle.std.proofs.Common.{◌≤◌, List, ap, ap₂, sym, ◌∙◌, subst, length, slice_get}
 use Rattle.lit_paths.specs.declared.event.Event.{Event}
 use Rattle.lit_paths.specs.declared.limits.TheConstants.{CHOICE_LIMIT}
 use Rattle.lit_paths.specs.ByteReads.{byte_reads}

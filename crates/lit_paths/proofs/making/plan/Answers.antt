@@ -1,4 +1,4 @@
-use Rattle.std.proofs.Common.{arith, rules, ◌≡◌, ◌⊎◌, ◌<◌, ◌≤◌, subst, length, refl, inl}
+use Rattle.std.proofs.Common.{arith, rules, ◌≡◌, ◌⊎◌, ◌<◌, subst, length, refl, inl}
 use Rattle.std.specs.Prelude.{IfErr}
 use Rattle.std.proofs.lemmas.Result.{IfErr-weaker}
 use Rattle.std.proofs.lemmas.Bool.{false≢true}

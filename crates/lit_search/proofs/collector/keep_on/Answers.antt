@@ -1,31 +1,56 @@
-use Rattle.std.proofs.Common.{arith}
+use Rattle.std.proofs.Common.{refl, ap, ◌∙◌, sym, arith, length, ℕ, ◌+◌}
+use Rattle.lit_paths.specs.ByteReads.{byte_reads}
+use Rattle.lit_paths.specs.Plan.{choices_before}
+use Rattle.lit_rel.specs.Part.{PartModel, part_events}
 use Rattle.lit_search.specs.Searching.Shown.{shown_entry}
 use Rattle.lit_search.proofs.Keeping.{keeps_none, keeps_joined, keeps_next, keeps_passed}
+use Rattle.lit_search.proofs.NextLemmas.{known_as, known_at, same_reads}
 use Rattle.lit_search.proofs.collector.keep_on.Goals as goal
 
-pub loop-shown-init : goal.loop-shown-init
-loop-shown-init c = record {
+pub loop-next-init : goal.loop-next-init
+loop-next-init c = record {
   after = omega arith;
   before = c.requires.order;
+  stands = c.requires.stands;
   keeps = keeps_none c.args.plan.now c.args.from c.args.kept.now;
   test = c.requires.test;
-  combination = c.requires.combination;
+  combination = refl;
 }
 
-pub loop-shown-preserved : goal.loop-shown-preserved
-loop-shown-preserved c =
+pub next-requires-clause-few : goal.next-requires-clause-few
+next-requires-clause-few c =
+    let first = c.args.cursor.now in
+    omega (
+      arith,
+      c.known_after-known.ensures.few,
+      ap (λ (p : PartModel). length (byte_reads (part_events p))) c.part.ensures.value,
+      same_reads first c.args.plan.now first.combination c.loop-next.cursor c.requires.test refl c.loop-next.invariant.test c.loop-next.invariant.combination,
+    )
+
+pub next-requires-clause-known : goal.next-requires-clause-known
+next-requires-clause-known c =
+    let first = c.args.cursor.now in
+    known_as first.test first.combination c.loop-next.cursor c.known_after-known.result _ (c.loop-next.invariant.test ∙ sym c.requires.test) c.loop-next.invariant.combination
+    (known_at first c.part.result.now c.known_after-known.result _ c.part.ensures.value c.known_after-known.ensures.known)
+
+pub next-requires-clause-high : goal.next-requires-clause-high
+next-requires-clause-high c = omega (arith, c.requires.high, ap (λ (k : ℕ). choices_before c.args.plan.now (k + 1)) c.loop-next.invariant.combination)
+
+pub loop-next-preserved : goal.loop-next-preserved
+loop-next-preserved c =
     let e = shown_entry c.in-Some.shown in
     let is = c.in-Some.ensures.shows in
     record {
-      after = omega (arith, c.loop-shown.invariant.after, is.after);
+      after = omega (arith, c.loop-next.invariant.after, is.after);
       before = omega (arith, is.before);
-      keeps = keeps_joined c.args.plan.now c.args.from c.loop-shown.next _ c.args.kept.now c.loop-shown.kept c.keep.new.self c.loop-shown.invariant.after (omega (arith, is.after)) c.loop-shown.invariant.keeps
-          (keeps_next c.args.plan.now c.loop-shown.next c.args.to c.loop-shown.kept c.keep.new.self e is c.in_ok-keep.ensures.ok);
-      test = c.next_wanted.ensures.test;
-      combination = c.next_wanted.ensures.combination;
+      stands = omega (arith, c.in-Some.ensures.stands);
+      keeps = keeps_joined c.args.plan.now c.args.from c.loop-next.next _ c.args.kept.now c.loop-next.kept c.keep.new.self c.loop-next.invariant.after (omega (arith, is.after)) c.loop-next.invariant.keeps
+          (keeps_next c.args.plan.now c.loop-next.next c.args.to c.loop-next.kept c.keep.new.self e is c.in_ok-keep.ensures.ok);
+      test = c.in-Some.ensures.test;
+      combination = c.in-Some.ensures.combination ∙ c.loop-next.invariant.combination;
     }
 
 pub returns : goal.returns
 returns c =
-    keeps_joined c.args.plan.now c.args.from c.loop-shown.next c.args.to c.args.kept.now c.loop-shown.kept c.loop-shown.kept c.loop-shown.invariant.after c.loop-shown.invariant.before c.loop-shown.invariant.keeps
-    (keeps_passed c.args.plan.now c.loop-shown.next c.args.to c.loop-shown.kept c.in_default.ensures.shows)
+    keeps_joined c.args.plan.now c.args.from c.loop-next.next c.args.to c.args.kept.now c.loop-next.kept c.loop-next.kept c.loop-next.invariant.after c.loop-next.invariant.before c.loop-next.invariant.keeps
+    (keeps_passed c.args.plan.now c.loop-next.next c.args.to c.loop-next.kept c.in_default.ensures.shows)

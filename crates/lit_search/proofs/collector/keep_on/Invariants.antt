@@ -1,15 +1,17 @@
 use Rattle.std.proofs.Common.{◌≡◌, ◌-◌, ◌≤◌}
+use Rattle.lit_search.specs.Searching.Places.{low_at}
 use Rattle.lit_search.specs.Searching.Taking.{KeepsRange}
 use Rattle.lit_search.proofs.collector.keep_on.Given as goal
 
-abbrev pub invariant-loop-shown : goal.invariant-loop-shown
-invariant-loop-shown l = record {
+abbrev pub invariant-loop-next : goal.invariant-loop-next
+invariant-loop-next l = record {
   after : l.from ≤ l.next;
   before : l.next ≤ l.to;
+  stands : low_at l.cursor ≤ l.next;
   keeps : KeepsRange l.plan l.from l.next l.fn.kept l.kept;
-  test : l.part.test ≡ l.plan;
-  combination : l.part.combination ≡ l.combination;
+  test : l.cursor.test ≡ l.plan;
+  combination : l.cursor.combination ≡ l.fn.cursor.combination;
 }
 
-abbrev pub decreases-loop-shown : goal.decreases-loop-shown
-decreases-loop-shown l = l.to - l.next
+abbrev pub decreases-loop-next : goal.decreases-loop-next
+decreases-loop-next l = l.to - l.next

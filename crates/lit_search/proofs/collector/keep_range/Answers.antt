@@ -1,7 +1,6 @@
-use Rattle.std.proofs.Common.{◌≡◌, ◌≤◌, ℕ, ◌+◌, subst, ap, ◌∙◌, arith}
-use Rattle.lit_read.specs.Syntax.{Litmus}
+use Rattle.std.proofs.Common.{◌≡◌, ◌≤◌, ℕ, ◌+◌, subst, ap, arith}
 use Rattle.lit_paths.specs.Plan.{choices_before}
-use Rattle.lit_rel.specs.Part.{PartModel}
+use Rattle.lit_search.specs.Searching.Places.{Stand}
 use Rattle.lit_search.specs.Searching.Taking.{KeepsRange}
 use Rattle.lit_search.proofs.Keeping.{keeps_none, keeps_joined}
 use Rattle.lit_search.proofs.collector.keep_range.Goals as goal
@@ -11,10 +10,8 @@ loop-next-init c = record { after = omega arith; before = c.requires.order; keep
 
 pub loop-next-preserved : goal.loop-next-preserved
 loop-next-preserved c =
-    let entered : c.combination.result.now ≡ (c.args.plan.now, c.combination-combination.result) =
-    c.combination.ensures ∙ ap (λ (p : PartModel). (p.test, p.combination)) c.open-part.ensures in
     let next : c.loop-next.next ≤ c.min-end.result =
-    omega (arith, c.min-end.ensures, c.end.ensures, ap (λ (e : Litmus × ℕ). choices_before e.0 (e.1 + 1)) entered, c.combination-combination.ensures.high, c.loop-next-test.true) in
+    omega (arith, c.min-end.ensures, c.end.ensures, ap (λ (s : Stand). choices_before s.test (s.combination + 1)) c.open-cursor.ensures, c.combination-combination.ensures.high, c.loop-next-test.true) in
     record {
       after = omega (arith, next, c.loop-next.invariant.after);
       before = omega (arith, c.min-end.ensures);

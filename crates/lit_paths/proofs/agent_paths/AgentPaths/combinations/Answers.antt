@@ -1,6 +1,6 @@
 use Rattle.std.proofs.Common.{◌<◌, arith, length, ap}
 use Rattle.lit_paths.specs.Planning.Walks.{count_of}
-use Rattle.lit_paths.proofs.Combined.{later_step, later_fits, later_end}
+use Rattle.lit_paths.proofs.Combined.{later_fits}
 use Rattle.lit_paths.proofs.agent_paths.AgentPaths.combinations.Goals as goal
 
 pub overflow_mul-count : goal.overflow_mul-count

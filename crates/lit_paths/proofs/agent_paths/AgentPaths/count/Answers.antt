@@ -1,6 +1,4 @@
 use Rattle.std.proofs.Common.{ap, ◌∙◌, length}
-use Rattle.lit_read.specs.Syntax.{Litmus, agent_of}
-use Rattle.lit_paths.specs.Path.{walks_of}
 use Rattle.lit_paths.proofs.Combined.{list_here}
 use Rattle.lit_paths.proofs.agent_paths.AgentPaths.count.Goals as goal
 

@@ -1,4 +1,4 @@
-use Rattle.lit_paths.proofs.Entered.{list_length, list_value, list_lists, list_some}
+use Rattle.lit_paths.proofs.Entered.{list_value, list_lists, list_some}
 use Rattle.lit_paths.proofs.combination.Combination.candidates.Goals as goal
 
 pub returns-clause-value : goal.returns-clause-value

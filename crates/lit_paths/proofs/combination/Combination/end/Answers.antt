@@ -6,5 +6,8 @@ use Rattle.lit_paths.proofs.combination.Combination.end.Goals as goal
 pub overflow_add-result : goal.overflow_add-result
 overflow_add-result c = omega (arith, c.self.invariant.few)
 
-pub returns : goal.returns
-returns c = entered_end _ c.self.invariant ∙ ap (λ p. choices_before p.0 (p.1 + 1)) c.self.view_is
+pub returns-clause-value : goal.returns-clause-value
+returns-clause-value c = entered_end _ c.self.invariant ∙ ap (λ p. choices_before p.0 (p.1 + 1)) c.self.view_is
+
+pub returns-clause-few : goal.returns-clause-few
+returns-clause-few c = c.self.invariant.few

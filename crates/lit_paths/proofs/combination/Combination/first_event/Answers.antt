@@ -1,4 +1,4 @@
-use Rattle.std.proofs.Common.{arith, ap, ◌∙◌, get_or, length}
+use Rattle.std.proofs.Common.{ap, ◌∙◌}
 use Rattle.lit_paths.specs.Plan.{first_event}
 use Rattle.lit_paths.proofs.Entered.{kept_length, kept_at}
 use Rattle.lit_paths.proofs.combination.Combination.first_event.Goals as goal

@@ -1,7 +1,6 @@
-use Rattle.std.proofs.Common.{arith, ap, sym, subst, ◌∙◌, length, ℕ}
+use Rattle.std.proofs.Common.{arith, ap, sym, subst, ◌∙◌, ℕ}
 use Rattle.lit_read.specs.Syntax.{Litmus, agent_of}
 use Rattle.lit_paths.specs.PathModel.{path_model}
-use Rattle.lit_paths.specs.Path.{walks_of}
 use Rattle.lit_paths.specs.Plan.{path_in, walk_in, IsWalkIn}
 use Rattle.lit_paths.specs.Planning.Combining.{walk_number}
 use Rattle.lit_paths.specs.Planning.Walks.{walk_at}

@@ -1,0 +1,13 @@
+use Rattle.lit_search.proofs.completing.laws.Goals as goal
+
+pub returns : goal.returns
+returns c = record {
+  walked = c.combinations_are_walked.ensures;
+  tell = c.paths_tell_their_runs.ensures;
+  choose = c.runs_choose_for_each_read.ensures;
+  listed = c.combinations_are_listed.ensures;
+  numbered = c.choices_have_numbers.ensures;
+  placed = c.choices_are_on_combinations.ensures;
+  grow = c.relations_grow_with_bytes.ensures;
+  stay = c.values_stay.ensures;
+}

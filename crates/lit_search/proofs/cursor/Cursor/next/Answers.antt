@@ -1,0 +1,182 @@
+use Rattle.std.proofs.Common.{◌≡◌, ℕ, ◌+◌, ◌-◌, ◌*◌, ◌<◌, List, length, refl, ap, sym, subst, ◌∙◌, arith}
+use Rattle.lit_read.specs.Syntax.{Litmus}
+use Rattle.lit_paths.specs.ByteReads.{byte_reads}
+use Rattle.lit_paths.specs.Plan.{choices_before}
+use Rattle.lit_rel.specs.Part.{PartModel, part_events}
+use Rattle.lit_search.specs.Report.{in_range}
+use Rattle.lit_search.specs.Searching.Held.{part_outcome}
+use Rattle.lit_search.specs.Searching.Passing.{HasAll, first_places}
+use Rattle.lit_search.specs.Searching.Places.{Stand, behind_at, low_at, part_at, stand_events}
+use Rattle.lit_search.specs.Searching.Shown.{IsShown, NoneShow, shown_entry}
+use Rattle.lit_search.specs.Searching.Examined.{IsExample}
+use Rattle.lit_search.proofs.Keeping.{next_shown}
+use Rattle.lit_search.proofs.NextLemmas.{long_entered, low_entered, none_at_first, none_up_to, passed_on, same_reads, smaller_enter, smaller_leave}
+use Rattle.lit_search.proofs.PassingLemmas.{length-part, pass_invalid}
+use Rattle.lit_search.proofs.PlaceLemmas.{ways_end}
+use Rattle.lit_search.proofs.cursor.Cursor.next.Goals as goal
+
+pub loop-self-init : goal.loop-self-init
+loop-self-init g c = record { test = c.requires.test; combination = refl; none = none_at_first c.args.plan.now (g.W.Wanted.IsWanted c.args.wanted.now c.args.plan.now) c.args.from (low_at c.args.self.now) c.requires.low }
+
+pub returns-then-not-leave-clause-shows : goal.returns-then-not-leave-clause-shows
+returns-then-not-leave-clause-shows g c =
+    let t = c.args.plan.now in
+    let Wanted = g.W.Wanted.IsWanted c.args.wanted.now t in
+    let s = c.loop-self.self in
+    let may = c.in-Some.ensures.passed in
+    let more = passed_on t Wanted c.args.from (low_at s) s c.in-Some.depth c.loop-self.invariant.none may.low may in
+    let end : choices_before s.test (s.combination + 1) ≡ behind_at (first_places s c.in-Some.depth) = c.leave.ensures.last c.if-not-leave.true in
+    none_up_to t Wanted c.args.from c.args.to _ (omega (arith, c.requires.high, end, ap (λ (u : Litmus). choices_before u (s.combination + 1)) c.loop-self.invariant.test, ap (λ (k : ℕ). choices_before t (k + 1)) c.loop-self.invariant.combination)) more
+
+pub loop-self-smaller-else-not-leave : goal.loop-self-smaller-else-not-leave
+loop-self-smaller-else-not-leave g c =
+    let s = c.loop-self.self in
+    let new = c.leave.new.self in
+    let may = c.in-Some.ensures.passed in
+    let next : low_at new ≡ behind_at (first_places s c.in-Some.depth) = c.leave.ensures.next c.if-not-leave.false in
+    let reads = same_reads s s.test s.combination new refl refl c.leave.ensures.test c.leave.ensures.combination in
+    omega (
+      arith,
+      smaller_leave c.args.to (low_at s) (low_at new) (length (byte_reads (stand_events s))) (length s.places) (length new.places) (omega (arith, next, may.high, c.in-Some.ensures.some)) (omega (arith, c.loop-self-test.true, c.low.ensures)),
+      ap (λ (r : ℕ). (c.args.to - low_at new) * (r + 1) + (r - length new.places)) reads,
+    )
+
+pub loop-self-preserved-else-not-leave : goal.loop-self-preserved-else-not-leave
+loop-self-preserved-else-not-leave g c =
+    let t = c.args.plan.now in
+    let Wanted = g.W.Wanted.IsWanted c.args.wanted.now t in
+    let s = c.loop-self.self in
+    let may = c.in-Some.ensures.passed in
+    let next : low_at c.leave.new.self ≡ behind_at (first_places s c.in-Some.depth) = c.leave.ensures.next c.if-not-leave.false in
+    record {
+      test = c.leave.ensures.test ∙ c.loop-self.invariant.test;
+      combination = c.leave.ensures.combination ∙ c.loop-self.invariant.combination;
+      none = subst (λ (n : ℕ). NoneShow t Wanted (in_range c.args.from n)) (sym next) (passed_on t Wanted c.args.from (low_at s) s c.in-Some.depth c.loop-self.invariant.none may.low may);
+    }
+
+pub enter-requires : goal.enter-requires
+enter-requires g c =
+    let s = c.loop-self.self in
+    omega (
+      arith,
+      c.if-len-reads.true,
+      c.len.ensures.value,
+      c.reads.ensures,
+      length-part s c.part.result.now c.part.ensures.value,
+      ap (λ (p : PartModel). length (byte_reads (part_events p))) c.part-in_default.ensures.value,
+    )
+
+pub loop-self-smaller-then-len-reads : goal.loop-self-smaller-then-len-reads
+loop-self-smaller-then-len-reads g c =
+    let s = c.loop-self.self in
+    let new = c.enter.new.self in
+    let left : length s.places < length (byte_reads (stand_events s)) =
+    omega (arith, c.if-len-reads.true, c.len.ensures.value, c.reads.ensures, length-part s c.part.result.now c.part.ensures.value, ap (λ (p : PartModel). length (byte_reads (part_events p))) c.part-in_default.ensures.value) in
+    let long : length new.places ≡ length s.places + 1 = ap (λ (u : Stand). length u.places) c.enter.ensures ∙ long_entered s in
+    let low : low_at new ≡ low_at s = ap low_at c.enter.ensures ∙ low_entered s in
+    omega (
+      arith,
+      smaller_enter c.args.to (low_at s) (length (byte_reads (stand_events s))) (length s.places) (length new.places) long left,
+      ap (λ (l : ℕ). (c.args.to - l) * (length (byte_reads (stand_events s)) + 1)) low,
+      ap (λ (u : Stand). (c.args.to - low_at new) * (length (byte_reads (stand_events u)) + 1) + (length (byte_reads (stand_events u)) - length new.places)) c.enter.ensures,
+    )
+
+pub loop-self-preserved-then-len-reads : goal.loop-self-preserved-then-len-reads
+loop-self-preserved-then-len-reads g c =
+    let t = c.args.plan.now in
+    let Wanted = g.W.Wanted.IsWanted c.args.wanted.now t in
+    let s = c.loop-self.self in
+    let low : low_at c.enter.new.self ≡ low_at s = ap low_at c.enter.ensures ∙ low_entered s in
+    record {
+      test = ap (λ (u : Stand). u.test) c.enter.ensures ∙ c.loop-self.invariant.test;
+      combination = ap (λ (u : Stand). u.combination) c.enter.ensures ∙ c.loop-self.invariant.combination;
+      none = subst (λ (n : ℕ). NoneShow t Wanted (in_range c.args.from n)) (sym low) c.loop-self.invariant.none;
+    }
+
+pub shown-requires-clause-all : goal.shown-requires-clause-all
+shown-requires-clause-all g c =
+    let s = c.loop-self.self in
+    omega (
+      arith,
+      c.if-len-reads.false,
+      c.len.ensures.value,
+      c.len.ensures.few,
+      c.reads.ensures,
+      length-part s c.part.result.now c.part.ensures.value,
+      ap (λ (p : PartModel). length (byte_reads (part_events p))) c.part.ensures.value,
+      ap (λ (p : PartModel). length (byte_reads (part_events p))) c.part-in_default.ensures.value,
+    )
+
+pub returns-in-Some-shown-clause-shows : goal.returns-in-Some-shown-clause-shows
+returns-in-Some-shown-clause-shows g c =
+    let t = c.args.plan.now in
+    let Wanted = g.W.Wanted.IsWanted c.args.wanted.now t in
+    let s = c.loop-self.self in
+    let open' = c.in_default.ensures.passed in
+    let all : HasAll s =
+    omega (
+      arith,
+      c.if-len-reads.false,
+      c.len.ensures.value,
+      c.len.ensures.few,
+      c.reads.ensures,
+      length-part s c.part.result.now c.part.ensures.value,
+      ap (λ (p : PartModel). length (byte_reads (part_events p))) c.part.ensures.value,
+      ap (λ (p : PartModel). length (byte_reads (part_events p))) c.part-in_default.ensures.value,
+    ) in
+    let one = ways_end (stand_events s) (length s.places) (omega (arith, all)) in
+    let shown = c.in-Some-shown.shown in
+    let outcome : shown.outcome.items ≡ part_outcome (part_at s) = c.in-Some-shown.ensures.outcome in
+    let is : IsShown t Wanted (low_at s) (shown_entry shown) = record {
+      choice = c.in-Some-shown.ensures.choice;
+      example = subst (λ (o : List ℕ). IsExample t (low_at s) o shown.example.order.items) (sym outcome) c.in-Some-shown.ensures.shows;
+      wanted = subst (λ (o : List ℕ). Wanted o) (sym outcome) (open'.wanted all);
+    } in
+    next_shown t Wanted c.args.from c.args.to (low_at s) (shown_entry shown) (omega (arith, open'.behind, one)) (omega (arith, c.loop-self-test.true, c.low.ensures)) c.loop-self.invariant.none is
+
+pub leave-requires-in_default-shown : goal.leave-requires-in_default-shown
+leave-requires-in_default-shown g c = omega (arith, c.len-depth.ensures.value, length-part c.loop-self.self c.part-in_default-shown.result.now c.part-in_default-shown.ensures.value)
+
+pub returns-then-not-leave-2-clause-shows : goal.returns-then-not-leave-2-clause-shows
+returns-then-not-leave-2-clause-shows g c =
+    let t = c.args.plan.now in
+    let Wanted = g.W.Wanted.IsWanted c.args.wanted.now t in
+    let s = c.loop-self.self in
+    let deep = c.len-depth.ensures.value ∙ length-part s c.part-in_default-shown.result.now c.part-in_default-shown.ensures.value in
+    let may = pass_invalid s t Wanted c.args.from c.len-depth.result deep c.in_default-shown.ensures.none in
+    let more = passed_on t Wanted c.args.from (low_at s) s c.len-depth.result c.loop-self.invariant.none may.low may in
+    let end : choices_before s.test (s.combination + 1) ≡ behind_at (first_places s c.len-depth.result) = c.leave-in_default-shown.ensures.last c.if-not-leave-2.true in
+    none_up_to t Wanted c.args.from c.args.to _ (omega (arith, c.requires.high, end, ap (λ (u : Litmus). choices_before u (s.combination + 1)) c.loop-self.invariant.test, ap (λ (k : ℕ). choices_before t (k + 1)) c.loop-self.invariant.combination)) more
+
+pub loop-self-smaller : goal.loop-self-smaller
+loop-self-smaller g c =
+    let t = c.args.plan.now in
+    let Wanted = g.W.Wanted.IsWanted c.args.wanted.now t in
+    let s = c.loop-self.self in
+    let new = c.leave-in_default-shown.new.self in
+    let deep = c.len-depth.ensures.value ∙ length-part s c.part-in_default-shown.result.now c.part-in_default-shown.ensures.value in
+    let may = pass_invalid s t Wanted c.args.from c.len-depth.result deep c.in_default-shown.ensures.none in
+    let next : low_at new ≡ behind_at (first_places s c.len-depth.result) = c.leave-in_default-shown.ensures.next c.if-not-leave-2.false in
+    let reads = same_reads s s.test s.combination new refl refl c.leave-in_default-shown.ensures.test c.leave-in_default-shown.ensures.combination in
+    omega (
+      arith,
+      smaller_leave c.args.to (low_at s) (low_at new) (length (byte_reads (stand_events s))) (length s.places) (length new.places) (omega (arith, next, may.high, c.in_default.ensures.some)) (omega (arith, c.loop-self-test.true, c.low.ensures)),
+      ap (λ (r : ℕ). (c.args.to - low_at new) * (r + 1) + (r - length new.places)) reads,
+    )
+
+pub loop-self-preserved : goal.loop-self-preserved
+loop-self-preserved g c =
+    let t = c.args.plan.now in
+    let Wanted = g.W.Wanted.IsWanted c.args.wanted.now t in
+    let s = c.loop-self.self in
+    let deep = c.len-depth.ensures.value ∙ length-part s c.part-in_default-shown.result.now c.part-in_default-shown.ensures.value in
+    let may = pass_invalid s t Wanted c.args.from c.len-depth.result deep c.in_default-shown.ensures.none in
+    let next : low_at c.leave-in_default-shown.new.self ≡ behind_at (first_places s c.len-depth.result) = c.leave-in_default-shown.ensures.next c.if-not-leave-2.false in
+    record {
+      test = c.leave-in_default-shown.ensures.test ∙ c.loop-self.invariant.test;
+      combination = c.leave-in_default-shown.ensures.combination ∙ c.loop-self.invariant.combination;
+      none = subst (λ (n : ℕ). NoneShow t Wanted (in_range c.args.from n)) (sym next) (passed_on t Wanted c.args.from (low_at s) s c.len-depth.result c.loop-self.invariant.none may.low may);
+    }
+
+pub returns-clause-shows : goal.returns-clause-shows
+returns-clause-shows g c = none_up_to c.args.plan.now (g.W.Wanted.IsWanted c.args.wanted.now c.args.plan.now) c.args.from c.args.to (low_at c.loop-self.self) (omega (arith, c.loop-self-test.false, c.low.ensures)) c.loop-self.invariant.none

@@ -1,0 +1,55 @@
+//! Laws of the valid executions that go on from a part. The functions do nothing: their contracts are theorems.
+
+ghost use Rattle.std.specs.Prelude.{◌↔◌, ℕ, List};
+ghost use Rattle.lit_paths.specs.Choice.{AreSources};
+ghost use Rattle.lit_paths.specs.Execution.{Execution, execution_events};
+ghost use Rattle.lit_rel.specs.Broken.{IsBroken};
+ghost use Rattle.lit_rel.specs.Part.{PartModel, part_events};
+ghost use Rattle.lit_order.specs.MemoryOrder.{IsMemoryOrder};
+ghost use Rattle.lit_search.specs.Completion.{Completes, HasCompletion, IsEntered};
+ghost use Rattle.lit_search.specs.Searching.Laws.{Laws};
+
+use lit_paths::{
+    choices_are_on_combinations, choices_have_numbers, combinations_are_listed,
+    combinations_are_walked, paths_tell_their_runs, runs_choose_for_each_read,
+};
+use lit_rel::{relations_grow_with_bytes, values_stay};
+
+/// The laws of the crates below.
+pub(crate) fn laws()
+    ensures { Laws }
+{
+    combinations_are_walked();
+    paths_tell_their_runs();
+    runs_choose_for_each_read();
+    combinations_are_listed();
+    choices_have_numbers();
+    choices_are_on_combinations();
+    relations_grow_with_bytes();
+    values_stay();
+}
+
+/// No valid execution goes on from a part that is broken.
+pub fn broken_parts_have_no_completion()
+    ensures { (part : PartModel) (x : Execution) → IsEntered part → IsBroken part → ¬ Completes part x }
+{
+    laws();
+}
+
+/// Each memory-order of a valid execution that goes on from a part keeps the part's happens-before, and no event that
+/// the part forbids between a source and its read stands there.
+pub fn orders_of_completions_keep_parts()
+    ensures { (part : PartModel) (x : Execution) (order : List ℕ) → Completes part x
+        → IsMemoryOrder (execution_events part.test x) x.sources order → IsMemoryOrder (part_events part) part.sources order }
+{
+    laws();
+}
+
+/// Of a part that is not broken, and in which each byte read has a source, there is a valid execution exactly where an
+/// order keeps its happens-before and avoids what it forbids.
+pub fn whole_parts_are_decided_by_orders()
+    ensures { (part : PartModel) → IsEntered part → AreSources (part_events part) part.sources → ¬ IsBroken part
+        → HasCompletion part ↔ ((order : List ℕ) × IsMemoryOrder (part_events part) part.sources order) }
+{
+    laws();
+}

@@ -1,0 +1,181 @@
+//! Going through the choices of a combination, source by source.
+
+ghost use Rattle.std.specs.Prelude.{◌≡◌, ◌↔◌, ◌+◌, ◌<◌, ◌≤◌, IsTrue, IsFalse, [], ◌∷◌, ◌++◌, length, take};
+ghost use Rattle.lit_paths.specs.ByteReads.{byte_reads};
+ghost use Rattle.lit_paths.specs.Choice.{combinations_of};
+ghost use Rattle.lit_paths.specs.declared.limits.TheConstants.{EVENT_LIMIT};
+ghost use Rattle.lit_paths.specs.Plan.{choices_before};
+ghost use Rattle.lit_search.specs.Completion.{IsEntered};
+ghost use Rattle.lit_search.specs.Searching.Places.{ArePlaces, behind_at, candidates_at, low_at, part_at, stand_events, with_places};
+
+use arrayvec::ArrayVec;
+use lit_paths::{BYTE_READ_LIMIT, Plan, choices_have_numbers};
+use lit_rel::Part;
+use std::marker::Model;
+
+/// A stand among the choices of a combination: sources for its first byte reads, and with them the choices that begin
+/// so, whose numbers follow one another. A clause sees it as a `Stand`.
+#[derive(Drop)]
+pub(crate) struct Cursor<'p> {
+    part: Part<'p>,
+    /// The place of each source given among the candidates of its byte read.
+    places: ArrayVec<u8, BYTE_READ_LIMIT>,
+    /// The number of the first choice that begins with these sources.
+    low: u64,
+    /// The number behind the last choice of the combination.
+    end: u64,
+}
+
+impl<'p> Model for Cursor<'p> {
+    ghost use Rattle.lit_search.specs.Searching.Places.{Stand, coded_stand};
+    ghost use Rattle.lit_search.specs.Searching.Standing.{IsStanding};
+
+    ghost Value = { Stand };
+
+    ghost coded = { coded_stand };
+
+    ghost view = { λ c. record { test = c.part.test; combination = c.part.combination; places = c.places.items } };
+
+    ghost invariant = { IsStanding };
+}
+
+impl<'p> Cursor<'p> {
+    /// A combination of a plan's test, by its number: below `combinations`. No byte read has a source yet.
+    pub(crate) fn open(plan: &'p Plan<'p>, combination: usize) -> Self
+        requires { combination < length (combinations_of plan.now) }
+        ensures { result ≡ record { test = plan.now; combination = combination; places = [] } }
+    {
+        let _test = plan.test();
+        let part = Part::open(plan, combination);
+        let low = part.combination().first();
+        let end = part.combination().end();
+        Cursor {
+            part,
+            places: ArrayVec::new(),
+            low,
+            end,
+        }
+    }
+
+    /// Its part.
+    pub(crate) fn part(&self) -> &Part<'p>
+        ensures value { result.now ≡ part_at self.now }
+        ensures entered { IsEntered (part_at self.now) }
+        ensures placed { ArePlaces (stand_events self.now) 0 self.now.places }
+    {
+        &self.part
+    }
+
+    /// The number of the first choice that begins with its sources.
+    pub(crate) fn low(&self) -> u64
+        ensures { result ≡ low_at self.now }
+    {
+        self.low
+    }
+
+    /// The number behind the last choice of its combination.
+    pub(crate) fn end(&self) -> u64
+        ensures { result ≡ choices_before self.now.test (self.now.combination + 1) }
+    {
+        self.end
+    }
+
+    /// The number behind the last choice that begins with its sources. There is one such choice at least.
+    pub(crate) fn behind(&self) -> u64
+        ensures value { result ≡ behind_at self.now }
+        ensures some { low_at self.now < behind_at self.now }
+    {
+        choices_have_numbers();
+        let depth = self.places.len();
+        let combination = self.part.combination();
+        if depth == self.part.reads() {
+            return self.low + 1;
+        }
+        self.low + combination.candidates(depth).len() as u64 * combination.ways_after(depth)
+    }
+
+    /// Whether the next byte read has a candidate with this place among its candidates. A byte read is left.
+    fn has_candidate(&self, place: usize) -> bool
+        requires { length self.now.places < length (byte_reads (stand_events self.now)) }
+        ensures value { IsTrue result ↔ (place < length (candidates_at (stand_events self.now) (length self.now.places))) }
+        ensures few { IsTrue result → place < EVENT_LIMIT }
+        ensures some { 1 ≤ length (candidates_at (stand_events self.now) (length self.now.places)) }
+    {
+        let depth = self.places.len();
+        place < self.part.combination().candidates(depth).len()
+    }
+
+    /// Gives the next byte read the candidate with a place among its candidates. A byte read is left.
+    fn down(&mut self, place: u8)
+        requires left { length self.old.places < length (byte_reads (stand_events self.old)) }
+        requires known { place < length (candidates_at (stand_events self.old) (length self.old.places)) }
+        ensures { self.new ≡ with_places self.old (self.old.places ++ place ∷ []) }
+    {
+        choices_have_numbers();
+        let depth = self.places.len();
+        let combination = self.part.combination();
+        let passed = u64::from(place) * combination.ways_after(depth);
+        let source = combination.candidates(depth)[usize::from(place)];
+        self.part.push(source);
+        self.places.push(place);
+        self.low += passed;
+    }
+
+    /// Gives the next byte read its first candidate. A byte read is left.
+    pub(crate) fn enter(&mut self)
+        requires { length self.old.places < length (byte_reads (stand_events self.old)) }
+        ensures { self.new ≡ with_places self.old (self.old.places ++ 0 ∷ []) }
+    {
+        let _first = self.has_candidate(0);
+        self.down(0);
+    }
+
+    /// Takes the last source back, and gives its place among its candidates. There is one.
+    fn up(&mut self) -> u8
+        requires { 0 < length self.old.places }
+        ensures value { self.old ≡ with_places self.new (self.new.places ++ result ∷ []) }
+        ensures left { length self.new.places < length (byte_reads (stand_events self.new)) }
+        ensures known { result < length (candidates_at (stand_events self.new) (length self.new.places)) }
+    {
+        choices_have_numbers();
+        let Some(place) = self.places.pop() else {
+            unreachable!()
+        };
+        self.part.pop();
+        let depth = self.places.len();
+        self.low -= u64::from(place) * self.part.combination().ways_after(depth);
+        place
+    }
+
+    /// Takes sources back until there are `depth`, of those given.
+    fn back(&mut self, depth: usize)
+        requires { depth ≤ length self.old.places }
+        ensures value { self.new ≡ with_places self.old (take depth self.old.places) }
+        ensures entered { IsEntered (part_at self.new) }
+    {
+        while self.places.len() > depth {
+            self.up();
+        }
+    }
+
+    /// Leaves the choices that begin with the first `depth` sources, of those given, and goes to the next one behind
+    /// them, with as few sources as tell it from these. Answers `false` where they were the combination's last.
+    pub(crate) fn leave(&mut self, depth: usize) -> bool
+        requires { depth ≤ length self.old.places }
+        ensures test { self.new.test ≡ self.old.test }
+        ensures combination { self.new.combination ≡ self.old.combination }
+        ensures next { IsTrue result → low_at self.new ≡ behind_at (with_places self.old (take depth self.old.places)) }
+        ensures last { IsFalse result → choices_before self.old.test (self.old.combination + 1) ≡ behind_at (with_places self.old (take depth self.old.places)) }
+    {
+        choices_have_numbers();
+        self.back(depth);
+        while self.places.len() > 0 {
+            let next = usize::from(self.up()) + 1;
+            if self.has_candidate(next) {
+                self.down(next as u8);
+                return true;
+            }
+        }
+        false
+    }
+}
