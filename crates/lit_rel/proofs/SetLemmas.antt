@@ -1,12 +1,15 @@
 -- Sets of events as words: after an event is put in, of two sets together, sets of no event, and sets within another.
-use Rattle.std.proofs.Common.{◌≡◌, ◌⊎◌, ◌↔◌, ℕ, ◌*◌, ◌^◌, ◌%◌, ◌<◌, max, min, List, [], ◌∷◌, get_or, length, bit_and, bit_or, inl, inr, arith, refl, subst, sym, ◌∙◌, w64, suc, zero}
+use Rattle.std.proofs.Common.{◌≡◌, ◌≢◌, ◌⊎◌, ◌↔◌, ℕ, ◌+◌, ◌-◌, ◌*◌, ◌^◌, ◌%◌, ◌<◌, ◌≤◌, max, min, List, [], ◌∷◌, get_or, length, bit_and, bit_or, ap, inl, inr, arith, refl, subst, sym, ◌∙◌, w64, suc, zero}
 use Rattle.std.proofs.Math.ListN.{set}
 use Rattle.std.proofs.lemmas.List.{get_or-set_same, get_or-set_other}
-use Rattle.std.proofs.lemmas.Nat.Bits.{bit_at_or, bit_at_and, bit_at-lt, bit_at-zero, bit_at_set_same, bit_at_set_other, same_from_bits}
+use Rattle.std.specs.Int.RustNames.{bit_xor}
+use Rattle.std.proofs.lemmas.Nat.Bits.{bit_at_or, bit_at_and, bit_at_xor, bit_at-lt, bit_at-zero, bit_at-trailing_ones, bit_at-trailing_zeros, bit_at_above, bit_at_ones, bit_at_set_same, bit_at_set_other, same_from_bits}
 use Rattle.std.proofs.lemmas.Bool.{cases_eq}
-use Rattle.std.specs.Int.{bit_at}
+use Rattle.std.proofs.lemmas.Nat.{le_or_l}
+use Rattle.std.specs.Int.{bit_at, trailing_ones, trailing_zeros}
+use Rattle.std.specs.Int.Count.{trailing_of_zero}
 use Rattle.lit_rel.specs.declared.event_set.EventSet.{EventSet}
-use Rattle.lit_rel.specs.EventSet.{AreWithin, HasEvent, no_events}
+use Rattle.lit_rel.specs.EventSet.{AreWithin, HasEvent, IsSplit, no_events}
 
 -- bit k of the word is set
 abbrev pub HasBit : ℕ → ℕ → Type 0
@@ -30,6 +33,22 @@ HasBit-and a b k = (
   (λ h. let least : min (bit_at a k) (bit_at b k) ≡ 1 = sym (bit_at_and a b k) ∙ h in let first : bit_at a k < 2 = bit_at-lt a k in let second : bit_at b k < 2 = bit_at-lt b k in (omega arith, omega arith)),
   (λ h. let first : bit_at a k ≡ 1 = h.0 in let second : bit_at b k ≡ 1 = h.1 in bit_at_and a b k ∙ omega arith),
 )
+
+pub HasBit-xor_and : (a b k : ℕ) → HasBit (bit_xor a (bit_and a b)) k ↔ (HasBit a k × ¬ HasBit b k)
+HasBit-xor_and a b k =
+    let e : bit_at (bit_xor a (bit_and a b)) k ≡ (bit_at a k + min (bit_at a k) (bit_at b k)) % 2 = bit_at_xor a (bit_and a b) k ∙ ap (λ (m : ℕ). (bit_at a k + m) % 2) (bit_at_and a b k) in (
+      (λ h. let odd = sym e ∙ h in (first_of_odd (bit_at a k) (bit_at b k) (bit_at-lt a k) (bit_at-lt b k) odd, second_of_odd (bit_at a k) (bit_at b k) (bit_at-lt a k) (bit_at-lt b k) odd)),
+      (λ h. e ∙ odd_of_one (bit_at a k) (bit_at b k) (bit_at-lt b k) h.0 h.1),
+    )
+  where
+    first_of_odd : (x y : ℕ) → x < 2 → y < 2 → (x + min x y) % 2 ≡ 1 → x ≡ 1
+    first_of_odd x y lx ly h = omega arith
+
+    second_of_odd : (x y : ℕ) → x < 2 → y < 2 → (x + min x y) % 2 ≡ 1 → y ≡ 1 → ⊥
+    second_of_odd x y lx ly h one = absurd (omega arith)
+
+    odd_of_one : (x y : ℕ) → y < 2 → x ≡ 1 → (y ≡ 1 → ⊥) → (x + min x y) % 2 ≡ 1
+    odd_of_one x y ly one not_one = elim (cases_eq y 1) [ inl is ↦ absurd (not_one is) | inr is_not ↦ omega arith ]
 
 pub HasBit-set : (word number k : ℕ) → number < 64 → HasBit (bit_or word (1 * 2 ^ number % 2 ^ 64)) k ↔ (HasBit word k ⊎ (k ≡ number))
 HasBit-set word number k within =
@@ -58,6 +77,74 @@ zero_from_none word none = same_from_bits word 0 (λ k. let l : bit_at word k < 
     unset : (b : ℕ) → b < 2 → (b ≡ 1 → ⊥) → b ≡ 0
     unset b l other = elim (cases_eq b 1) [ inl one ↦ absurd (other one) | inr not_one ↦ omega arith ]
 
+-- the bits of a word with one bit set
+bit_of_one-same : (number : ℕ) → number < 64 → bit_at (1 * 2 ^ number % 2 ^ 64) number ≡ 1
+bit_of_one-same number within =
+    other_is (bit_at 0 number) (bit_at (1 * 2 ^ number % 2 ^ 64) number) 1 (bit_at-zero number)
+    (sym (bit_at_or 0 (1 * 2 ^ number % 2 ^ 64) number) ∙ bit_at_set_same w64 0 number within)
+  where
+    other_is : (x y m : ℕ) → x ≡ 0 → max x y ≡ m → y ≡ m
+    other_is x y m z e = omega arith
+
+bit_of_one-other : (number k : ℕ) → number < 64 → k ≢ number → bit_at (1 * 2 ^ number % 2 ^ 64) k ≡ 0
+bit_of_one-other number k within other =
+    none_is (bit_at 0 k) (bit_at (1 * 2 ^ number % 2 ^ 64) k) (bit_at-zero k)
+    (sym (bit_at_or 0 (1 * 2 ^ number % 2 ^ 64) k) ∙ bit_at_set_other w64 0 number within k other)
+  where
+    none_is : (x y : ℕ) → x ≡ 0 → max x y ≡ x → y ≡ 0
+    none_is x y z e = omega arith
+
+-- a bit that is set is taken out
+pub HasBit-taken : (word number k : ℕ) → number < 64 → HasBit word number → HasBit (bit_xor word (1 * 2 ^ number % 2 ^ 64)) k ↔ (HasBit word k × k ≢ number)
+HasBit-taken word number k within here =
+    elim (cases_eq k number) [
+      | inl same ↦ (
+        (λ h. absurd (odd_of_ones (bit_at word number) (bit_at (1 * 2 ^ number % 2 ^ 64) number) here (bit_of_one-same number within)
+            (sym (bit_at_xor word (1 * 2 ^ number % 2 ^ 64) number) ∙ subst (HasBit (bit_xor word (1 * 2 ^ number % 2 ^ 64))) same h))),
+        (λ h. absurd (h.1 same)),
+      )
+      | inr other ↦
+          let e : bit_at (bit_xor word (1 * 2 ^ number % 2 ^ 64)) k ≡ bit_at word k =
+          bit_at_xor word (1 * 2 ^ number % 2 ^ 64) k ∙ as_first (bit_at word k) (bit_at (1 * 2 ^ number % 2 ^ 64) k) (bit_at-lt word k) (bit_of_one-other number k within other) in (
+            (λ h. (sym e ∙ h, other)),
+            (λ h. e ∙ h.0),
+          )
+    ]
+  where
+    odd_of_ones : (x y : ℕ) → x ≡ 1 → y ≡ 1 → (x + y) % 2 ≡ 1 → ⊥
+    odd_of_ones x y ex ey odd = absurd (omega arith)
+
+    as_first : (x y : ℕ) → x < 2 → y ≡ 0 → (x + y) % 2 ≡ x
+    as_first x y l e = omega arith
+
+-- the lowest bit that is set
+pub lowest_bit : (word : ℕ) → word < 2 ^ 64 → (word ≡ 0 → ⊥) → (trailing_zeros w64 word < 64) × HasBit word (trailing_zeros w64 word) × ((k : ℕ) → k < trailing_zeros w64 word → HasBit word k → ⊥)
+lowest_bit word small some =
+    let lowest = bit_at-trailing_zeros w64 word (omega arith) small in
+    (lowest.0, lowest.1, λ k below h. one_is_none (bit_at word k) h (lowest.2 k below))
+  where
+    one_is_none : (x : ℕ) → x ≡ 1 → x ≡ 0 → ⊥
+    one_is_none x one none = absurd (omega arith)
+
+-- the lowest bit that is not set
+pub lowest_missing : (word : ℕ) → word < 2 ^ 64 → (HasBit word (trailing_ones w64 word) → ⊥) × ((k : ℕ) → k < trailing_ones w64 word → HasBit word k)
+lowest_missing word small =
+    elim (cases_eq word (2 ^ 64 - 1)) [
+      | inl full ↦
+          let end : trailing_ones w64 word ≡ 64 = ap (λ (x : ℕ). trailing_ones w64 x) full ∙ trailing_of_zero 64 in (
+            (λ h. absurd (none_is_one (bit_at word 64) (subst (HasBit word) end h) (bit_at_above word 64 64 small (omega arith)))),
+            (λ k below. subst (λ (x : ℕ). HasBit x k) (sym full) (bit_at_ones 64 k (omega arith))),
+          )
+      | inr not_full ↦
+          let lowest = bit_at-trailing_ones w64 word (omega arith) in (
+            (λ h. absurd (none_is_one (bit_at word (trailing_ones w64 word)) h lowest.1)),
+            (λ k below. lowest.2 k below),
+          )
+    ]
+  where
+    none_is_one : (x : ℕ) → x ≡ 1 → x ≡ 0 → ⊥
+    none_is_one x one none = absurd (omega arith)
+
 -- the one word has no bit that the other lacks
 pub within_from_or : (a b k : ℕ) → bit_or a b ≡ b → HasBit a k → HasBit b k
 within_from_or a b k e h = subst (λ (w : ℕ). HasBit w k) e ((HasBit-or a b k).1 (inl h))
@@ -67,6 +154,14 @@ or_from_within a b within = same_from_bits (bit_or a b) b (λ k. bit_at_or a b k
   where
     greatest : (x y : ℕ) → x < 2 → (x ≡ 1 → y ≡ 1) → max x y ≡ y
     greatest x y l h = elim (cases_eq x 1) [ inl one ↦ let also : y ≡ 1 = h one in omega arith | inr not_one ↦ omega arith ]
+
+-- without its least event a set is a lesser number
+pub split_less : (s : EventSet) (event : ℕ) (others : EventSet) → IsSplit s event others → others.bits < s.bits
+split_less s event others split =
+    let joined : bit_or others.bits s.bits ≡ s.bits = or_from_within others.bits s.bits (λ k h. ((split.rest k).0 h).0) in
+    let at_most : others.bits ≤ bit_or others.bits s.bits = le_or_l others.bits s.bits in
+    let apart : others.bits ≡ s.bits → ⊥ = λ same. ((split.rest event).0 (subst (λ (w : ℕ). HasBit w event) (sym same) split.there)).1 refl in
+    omega arith
 
 -- every set of the list is of no event
 abbrev pub AreEmpty : List EventSet → Type 0

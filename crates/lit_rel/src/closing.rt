@@ -1,9 +1,9 @@
 //! Relations closed under chains, and happens-before of no source.
 
-ghost use Rattle.std.specs.Prelude.{◌≡◌, ◌⊎◌, ◌↔◌, ℕ, ◌<◌, ◌≤◌, List, [], length};
+ghost use Rattle.std.specs.Prelude.{◌≡◌, ◌⊎◌, ◌↔◌, ℕ, ◌<◌, ◌≤◌, IsTrue, List, [], length};
 ghost use Rattle.lit_paths.specs.declared.limits.TheConstants.{EVENT_LIMIT};
 ghost use Rattle.lit_rel.specs.HappensBefore.{Chain, HappensBefore};
-ghost use Rattle.lit_rel.specs.Rows.{Holds, rows_len};
+ghost use Rattle.lit_rel.specs.Rows.{Holds, IsTransitive, rows_len};
 
 use crate::bit_rows::Rows;
 use crate::fixed_steps::fixed_steps;
@@ -25,9 +25,41 @@ pub fn close(rows: &mut Rows)
     ensures len { rows_len rows.new ≡ rows_len rows.old }
     ensures pairs { (e d : ℕ) → Holds rows.new e d ↔ ((middles : List ℕ) × Chain (Holds rows.old) e middles d) }
 {
+    if is_transitive(rows) {
+        return;
+    }
     for middle in 0..rows.len() {
         lead_through(rows, middle);
     }
+}
+
+/// Whether what leads through an event leads on.
+fn is_transitive(rows: &Rows) -> bool
+    ensures { IsTrue result ↔ IsTransitive (Holds rows.now) }
+{
+    for event in 0..rows.len() {
+        if !leads_on(rows, event) {
+            return false;
+        }
+    }
+    true
+}
+
+/// Whether an event leads to all that those which it leads to lead to.
+fn leads_on(rows: &Rows, event: usize) -> bool
+    requires { event < rows_len rows.now }
+    ensures { IsTrue result
+        ↔ ((middle d : ℕ) → Holds rows.now event middle → Holds rows.now middle d → Holds rows.now event d) }
+{
+    let reached = rows.successors(event);
+    let mut left = reached;
+    while let Some((middle, others)) = left.split_first() {
+        if !rows.successors(middle).is_within(reached) {
+            return false;
+        }
+        left = others;
+    }
+    true
 }
 
 /// Lets each event that leads to the middle one lead to all that the middle one leads to.
