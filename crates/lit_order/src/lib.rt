@@ -15,6 +15,7 @@ mod plain;
 #[cfg(test)]
 mod tests;
 mod triples;
+mod two_way;
 
 pub use extending::Forced;
 pub use finding::{Order, OrderFinder};

@@ -1,9 +1,9 @@
--- Relations as the sets of what comes before each event.
-use Rattle.std.specs.Prelude.{ℕ, ◌<◌, List, length, slice_index_or}
-use Rattle.lit_rel.specs.declared.event_set.EventSet.{EventSet}
-use Rattle.lit_rel.specs.EventSet.{HasEvent, no_events}
+-- Relations and what comes before each event.
+use Rattle.std.specs.Prelude.{◌≡◌, ◌↔◌, ℕ}
+use Rattle.lit_rel.specs.declared.bit_rows.Rows.{Rows}
+use Rattle.lit_rel.specs.Rows.{Holds, rows_len}
 
--- a is in the set of event e
-pub record Precedes (sets : List EventSet) (a e : ℕ) : Type 0 where
-  pub known : e < length sets
-  pub marked : HasEvent (slice_index_or sets e no_events) a
+-- the one is the other turned round, on the same events
+pub record IsConverse (rows converse : Rows) : Type 0 where
+  pub len : rows_len converse ≡ rows_len rows
+  pub pairs : (a d : ℕ) → Holds converse d a ↔ Holds rows a d

@@ -12,7 +12,7 @@ returns-then-len t c _ =
     let n = constrained_len it in
     let order = c.args.order.now.items in
     IsLeastFrom-itself n (ComesBefore it) (MayNotStand it) order
-    (IsOrderOf-from_beginning n (ComesBefore it) (MayNotStand it) order (λ a d h. subst (λ (m : ℕ). d < m) it.same h.known) (omega arith) c.requires.begins)
+    (IsOrderOf-from_beginning n (ComesBefore it) (MayNotStand it) order (λ a d h. subst (λ (m : ℕ). d < m) it.same h.first_known) (omega arith) c.requires.begins)
 
 pub walk-requires : goal.walk-requires
 walk-requires t c =
@@ -41,6 +41,16 @@ returns-then-can_stand_next t c found =
     let least : IsLeastFrom n (ComesBefore it) (MayNotStand it) (order ++ event ∷ []) c.walk.new.order.items =
     subst (λ (xs : List ℕ). IsLeastFrom n (ComesBefore it) (MayNotStand it) xs c.walk.new.order.items) pushed (c.walk.ensures found) in
     IsLeastFrom-push n (ComesBefore it) (MayNotStand it) order event c.walk.new.order.items (omega arith) c.walking.invariant.none least
+
+pub walking-init : goal.walking-init
+walking-init t c =
+    let it = c.args.constraints.now in
+    let n = constrained_len it in
+    let order = c.args.order.now.items in
+    record {
+      kept = refl;
+      none = λ e below. HasNoOrder-cannot n (ComesBefore it) (MayNotStand it) (HasEvent c.args.placed) order e c.requires.placed (λ x r v f. f.read_known) (λ can. can.new (c.first_missing-event.ensures.first e below));
+    }
 
 pub walking-preserved : goal.walking-preserved
 walking-preserved t c =
