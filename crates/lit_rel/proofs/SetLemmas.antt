@@ -163,6 +163,23 @@ split_less s event others split =
     let apart : others.bits ≡ s.bits → ⊥ = λ same. ((split.rest event).0 (subst (λ (w : ℕ). HasBit w event) (sym same) split.there)).1 refl in
     omega arith
 
+-- a set within another is no greater number
+pub within_le : (s other : EventSet) → ((e : ℕ) → HasEvent s e → HasEvent other e) → s.bits ≤ other.bits
+within_le s other within =
+    let joined : bit_or s.bits other.bits ≡ other.bits = or_from_within s.bits other.bits within in
+    let at_most : s.bits ≤ bit_or s.bits other.bits = le_or_l s.bits other.bits in
+    omega arith
+
+pub split_less_yet : (s : EventSet) (event : ℕ) (others fewer : EventSet) → IsSplit s event others → ((e : ℕ) → HasEvent fewer e → HasEvent others e) → fewer.bits < s.bits
+split_less_yet s event others fewer split within =
+    let less : others.bits < s.bits = split_less s event others split in
+    let at_most : fewer.bits ≤ others.bits = within_le fewer others within in
+    omega arith
+
+-- an event is in a set, or not
+pub event_or_not : (s : EventSet) (e : ℕ) → HasEvent s e ⊎ ¬ HasEvent s e
+event_or_not s e = elim (cases_eq (bit_at s.bits e) 1) [ inl in_set ↦ inl in_set | inr not_in ↦ inr not_in ]
+
 -- every set of the list is of no event
 abbrev pub AreEmpty : List EventSet → Type 0
 AreEmpty [] = Unit {0}

@@ -3,7 +3,7 @@
 ghost use Rattle.std.specs.Prelude.{◌≡◌, ◌⊎◌, ◌↔◌, ℕ, ◌<◌, ◌≤◌, IsTrue, List, [], length};
 ghost use Rattle.lit_paths.specs.declared.limits.TheConstants.{EVENT_LIMIT};
 ghost use Rattle.lit_rel.specs.HappensBefore.{Chain, HappensBefore};
-ghost use Rattle.lit_rel.specs.Rows.{Holds, IsTransitive, rows_len};
+ghost use Rattle.lit_rel.specs.Rows.{Holds, IsCovered, IsTransitive, rows_len};
 
 use crate::bit_rows::Rows;
 use crate::fixed_steps::fixed_steps;
@@ -25,7 +25,7 @@ pub fn close(rows: &mut Rows)
     ensures len { rows_len rows.new ≡ rows_len rows.old }
     ensures pairs { (e d : ℕ) → Holds rows.new e d ↔ ((middles : List ℕ) × Chain (Holds rows.old) e middles d) }
 {
-    if is_transitive(rows) {
+    if is_strict_order(rows) {
         return;
     }
     for middle in 0..rows.len() {
@@ -33,10 +33,13 @@ pub fn close(rows: &mut Rows)
     }
 }
 
-/// Whether what leads through an event leads on.
-fn is_transitive(rows: &Rows) -> bool
-    ensures { IsTrue result ↔ IsTransitive (Holds rows.now) }
+/// Whether what leads through an event leads on, and no event leads to itself.
+fn is_strict_order(rows: &Rows) -> bool
+    ensures { IsTrue result ↔ (IsTransitive (Holds rows.now) × ((e : ℕ) → ¬ Holds rows.now e e)) }
 {
+    if !rows.is_irreflexive() {
+        return false;
+    }
     for event in 0..rows.len() {
         if !leads_on(rows, event) {
             return false;
@@ -45,19 +48,20 @@ fn is_transitive(rows: &Rows) -> bool
     true
 }
 
-/// Whether an event leads to all that those which it leads to lead to.
+/// Whether some of the events that an event leads to reach all of those, and lead only to them.
 fn leads_on(rows: &Rows, event: usize) -> bool
     requires { event < rows_len rows.now }
-    ensures { IsTrue result
-        ↔ ((middle d : ℕ) → Holds rows.now event middle → Holds rows.now middle d → Holds rows.now event d) }
+    ensures covered { IsTrue result → IsCovered (Holds rows.now) event }
+    ensures transitive { IsTransitive (Holds rows.now) → IsTrue result }
 {
     let reached = rows.successors(event);
     let mut left = reached;
     while let Some((middle, others)) = left.split_first() {
-        if !rows.successors(middle).is_within(reached) {
+        let further = rows.successors(middle);
+        if !further.is_within(reached) {
             return false;
         }
-        left = others;
+        left = others.difference(further);
     }
     true
 }
