@@ -59,10 +59,10 @@ fn allows(between: &Between, event: usize, placed: EventSet) -> bool
 #[derive(Drop)]
 pub(crate) struct Constraints<'a> {
     /// What comes before what, turned round.
-    converse: Rows,
+    converse: &'a Rows,
     between: &'a Between,
     contested: EventSet,
-    ghost same: { rows_len converse ≡ between.now.len },
+    ghost same: { rows_len converse.now ≡ between.now.len },
     ghost few: { between.now.len ≤ EVENT_LIMIT },
     ghost marked: { (w r v : ℕ) → Forbids between.now w r v → HasEvent contested v },
 }
@@ -72,10 +72,10 @@ impl<'a> Constraints<'a> {
     ghost use Rattle.lit_order.specs.Finding.Constrained.{constrained_len, ComesBefore, MayNotStand};
 
     /// What the converse of a relation and triples ask, both on the same events.
-    pub(crate) fn new(converse: Rows, between: &'a Between) -> Self
-        requires { rows_len converse ≡ between.now.len }
-        ensures len { constrained_len result ≡ rows_len converse }
-        ensures pairs { (a e : ℕ) → ComesBefore result a e ↔ Holds converse e a }
+    pub(crate) fn new(converse: &'a Rows, between: &'a Between) -> Self
+        requires { rows_len converse.now ≡ between.now.len }
+        ensures len { constrained_len result ≡ rows_len converse.now }
+        ensures pairs { (a e : ℕ) → ComesBefore result a e ↔ Holds converse.now e a }
         ensures triples { (w r v : ℕ) → MayNotStand result w r v ↔ Forbids between.now w r v }
     {
         Constraints {

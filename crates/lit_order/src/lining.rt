@@ -22,7 +22,7 @@ pub struct ForcedFinder;
 impl OrderFinder for ForcedFinder {
     fn least_order(&self, before: &Rows, between: &Between) -> Option<Order> {
         let forced = forced_both_ways(before, between)?;
-        let constraints = Constraints::new(forced.converse, between);
+        let constraints = Constraints::new(&forced.converse, between);
         let mut walked = Order::new();
         if walk(&mut walked, EventSet::new(), &constraints) {
             return Some(walked);

@@ -17,7 +17,8 @@ pub struct PlainFinder;
 
 impl OrderFinder for PlainFinder {
     fn least_order(&self, before: &Rows, between: &Between) -> Option<Order> {
-        let constraints = Constraints::new(converse_of(before), between);
+        let converse = converse_of(before);
+        let constraints = Constraints::new(&converse, between);
         let mut order = Order::new();
         if extend(&mut order, EventSet::new(), &constraints) {
             Some(order)
