@@ -1,8 +1,8 @@
 //! What a relation and forbidden triples force every order to keep.
 
-ghost use Rattle.std.specs.Prelude.{◌≡◌, ◌↔◌, ℕ, IsNone, IfSome};
+ghost use Rattle.std.specs.Prelude.{◌≡◌, ◌↔◌, ℕ, IsNone, IsTrue, IfSome};
 ghost use Rattle.lit_rel.specs.Between.{Forbids};
-ghost use Rattle.lit_rel.specs.Rows.{rows_len, Holds};
+ghost use Rattle.lit_rel.specs.Rows.{rows_len, Holds, IsTransitive};
 ghost use Rattle.lit_order.specs.Forcing.{HasChain, HasCycle, HasForcedCycle, IsForced};
 
 use crate::triples::next_forced;
@@ -25,23 +25,26 @@ pub(crate) fn closed(before: &Rows) -> Option<Rows>
     }
 }
 
-/// What a relation and forbidden triples force, as `forced_precedence` gives it, with its converse.
-pub(crate) fn forced_both_ways(before: &Rows, between: &Between) -> Option<TwoWayRows>
-    requires { rows_len before.now ≡ between.now.len }
-    ensures cycle { IsNone result ↔ HasForcedCycle (Holds before.now) (Forbids between.now) }
-    ensures len { IfSome result (λ forced. rows_len forced.rows ≡ rows_len before.now) }
-    ensures pairs { IfSome result (λ forced. (a d : ℕ) →
-        Holds forced.rows a d ↔ IsForced (Holds before.now) (Forbids between.now) a d) }
+/// Puts in what a transitive relation and forbidden triples force, both on the same events. Says no exactly where an
+/// event is forced before itself; then some of what is forced may be in.
+pub(crate) fn force(forced: &mut TwoWayRows, between: &Between) -> bool
+    requires len { rows_len forced.old.rows ≡ between.now.len }
+    requires transitive { IsTransitive (Holds forced.old.rows) }
+    ensures cycle { (¬ IsTrue result) ↔ HasForcedCycle (Holds forced.old.rows) (Forbids between.now) }
+    ensures len { rows_len forced.new.rows ≡ rows_len forced.old.rows }
+    ensures pairs { IsTrue result → (a d : ℕ) →
+        Holds forced.new.rows a d ↔ IsForced (Holds forced.old.rows) (Forbids between.now) a d }
 {
-    let rows = closed(before)?;
-    let mut forced = TwoWayRows::new(rows);
-    'forcing: while let Some(next) = next_forced(&forced, between) {
+    if !forced.rows.is_irreflexive() {
+        return false;
+    }
+    'forcing: while let Some(next) = next_forced(forced, between) {
         if forced.rows.holds(next.second, next.first) {
-            return None;
+            return false;
         }
         forced.close_with(next.first, next.second);
     }
-    Some(forced)
+    true
 }
 
 /// The pairs of events that a relation and forbidden triples force, or `None` exactly where an event is forced before
@@ -53,6 +56,10 @@ pub fn forced_precedence(before: &Rows, between: &Between) -> Option<Rows>
     ensures pairs { IfSome result (λ forced. (a d : ℕ) →
         Holds forced a d ↔ IsForced (Holds before.now) (Forbids between.now) a d) }
 {
-    let forced = forced_both_ways(before, between)?;
-    Some(forced.rows)
+    let mut forced = TwoWayRows::closed(before);
+    if force(&mut forced, between) {
+        Some(forced.rows)
+    } else {
+        None
+    }
 }

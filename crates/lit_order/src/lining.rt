@@ -11,7 +11,8 @@ ghost use Rattle.lit_order.specs.Finding.Narrowed.{IsNarrowed};
 use crate::constraints::Constraints;
 use crate::extending::has_order;
 use crate::finding::{Order, OrderFinder};
-use crate::forcing::forced_both_ways;
+use crate::forcing::force;
+use crate::two_way::TwoWayRows;
 use lit_rel::{Between, EventSet, Rows};
 
 /// Finds first what is forced, and then places the least event that can stand next, again and again: so it seldom has
@@ -21,7 +22,10 @@ pub struct ForcedFinder;
 
 impl OrderFinder for ForcedFinder {
     fn least_order(&self, before: &Rows, between: &Between) -> Option<Order> {
-        let forced = forced_both_ways(before, between)?;
+        let mut forced = TwoWayRows::closed(before);
+        if !force(&mut forced, between) {
+            return None;
+        }
         let constraints = Constraints::new(&forced.converse, between);
         let mut walked = Order::new();
         if walk(&mut walked, EventSet::new(), &constraints) {

@@ -5,7 +5,7 @@ ghost use Rattle.lit_rel.specs.EventSet.{HasEvent};
 ghost use Rattle.lit_rel.specs.Rows.{rows_len, Holds};
 ghost use Rattle.lit_order.specs.Finding.Precedence.{IsConverse};
 
-use lit_rel::{EventSet, Rows};
+use lit_rel::{EventSet, Rows, close};
 
 /// Lets each event of a set lead to all events of another, all numbers below `len()`.
 fn put_each(rows: &mut Rows, firsts: EventSet, seconds: EventSet)
@@ -46,15 +46,17 @@ pub(crate) struct TwoWayRows {
 
 impl TwoWayRows {
     ghost use Rattle.lit_rel.specs.Rows.{IsTransitive, WithPair};
+    ghost use Rattle.lit_order.specs.Forcing.{HasChain};
 
-    /// Of a relation.
-    pub(crate) fn new(rows: Rows) -> Self
-        ensures { result.rows ≡ rows }
+    /// Of the least transitive relation that has this one.
+    pub(crate) fn closed(before: &Rows) -> Self
+        ensures len { rows_len result.rows ≡ rows_len before.now }
+        ensures pairs { (a d : ℕ) → Holds result.rows a d ↔ HasChain (Holds before.now) a d }
     {
-        TwoWayRows {
-            rows,
-            converse: converse_of(&rows),
-        }
+        let mut rows = *before;
+        close(&mut rows);
+        let converse = converse_of(&rows);
+        TwoWayRows { rows, converse }
     }
 
     /// Puts a pair in, both numbers below the length, and with it what it leads through, as `Rows::close_with` does.
