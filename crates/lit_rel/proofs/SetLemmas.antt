@@ -1,11 +1,12 @@
 -- Sets of events as words: after an event is put in, of two sets together, sets of no event, and sets within another.
-use Rattle.std.proofs.Common.{◌≡◌, ◌≢◌, ◌⊎◌, ◌↔◌, ℕ, ◌+◌, ◌-◌, ◌*◌, ◌^◌, ◌%◌, ◌<◌, ◌≤◌, max, min, List, [], ◌∷◌, get_or, length, bit_and, bit_or, ap, inl, inr, arith, refl, subst, sym, ◌∙◌, w64, suc, zero}
+use Rattle.std.proofs.Common.{◌≡◌, ◌≢◌, ◌⊎◌, ◌↔◌, ℕ, ◌+◌, ◌-◌, ◌*◌, ◌^◌, ◌/◌, ◌%◌, ◌<◌, ◌≤◌, max, min, List, [], ◌∷◌, get_or, length, bit_and, bit_or, ap, inl, inr, arith, refl, subst, sym, ◌∙◌, w64, suc, zero}
 use Rattle.std.proofs.Math.ListN.{set}
 use Rattle.std.proofs.lemmas.List.{get_or-set_same, get_or-set_other}
 use Rattle.std.specs.Int.RustNames.{bit_xor}
-use Rattle.std.proofs.lemmas.Nat.Bits.{bit_at_or, bit_at_and, bit_at_xor, bit_at-lt, bit_at-zero, bit_at-trailing_ones, bit_at-trailing_zeros, bit_at_above, bit_at_ones, bit_at_set_same, bit_at_set_other, same_from_bits}
-use Rattle.std.proofs.lemmas.Bool.{cases_eq}
-use Rattle.std.proofs.lemmas.Nat.{le_or_l}
+use Rattle.std.proofs.lemmas.Nat.Bits.{bit_at_or, bit_at_and, bit_at_xor, bit_at-lt, bit_at-suc, bit_at-zero, bit_at_cat_high, bit_at_cat_low, bit_at_lowest, same_from_bits_below, bit_at-trailing_ones, bit_at-trailing_zeros, bit_at_above, bit_at_ones, bit_at_set_same, bit_at_set_other, same_from_bits}
+use Rattle.std.proofs.lemmas.Bool.{cases_eq, cases_order}
+use Rattle.std.proofs.lemmas.Nat.{div-add-mod', le_or_l, pow_pos}
+use Rattle.std.proofs.Math.Nat.{mod-lt, suc-mul}
 use Rattle.std.specs.Int.{bit_at, trailing_ones, trailing_zeros}
 use Rattle.std.specs.Int.Count.{trailing_of_zero}
 use Rattle.lit_rel.specs.declared.event_set.EventSet.{EventSet}
@@ -71,51 +72,76 @@ HasBit-zero word k e h =
     let z : bit_at 0 k ≡ 1 = subst (λ (w : ℕ). bit_at w k ≡ 1) e h in
     absurd (omega (arith, z, bit_at-zero k))
 
+unset : (b : ℕ) → b < 2 → (b ≡ 1 → ⊥) → b ≡ 0
+unset b l other = elim (cases_eq b 1) [ inl one ↦ absurd (other one) | inr not_one ↦ omega arith ]
+
 pub zero_from_none : (word : ℕ) → ((k : ℕ) → HasBit word k → ⊥) → word ≡ 0
-zero_from_none word none = same_from_bits word 0 (λ k. let l : bit_at word k < 2 = bit_at-lt word k in let other : bit_at word k ≡ 1 → ⊥ = none k in let z : bit_at word k ≡ 0 = unset (bit_at word k) l other in z ∙ sym (bit_at-zero k))
-  where
-    unset : (b : ℕ) → b < 2 → (b ≡ 1 → ⊥) → b ≡ 0
-    unset b l other = elim (cases_eq b 1) [ inl one ↦ absurd (other one) | inr not_one ↦ omega arith ]
+zero_from_none word none = same_from_bits word 0 (λ k. unset (bit_at word k) (bit_at-lt word k) (none k) ∙ sym (bit_at-zero k))
 
--- the bits of a word with one bit set
-bit_of_one-same : (number : ℕ) → number < 64 → bit_at (1 * 2 ^ number % 2 ^ 64) number ≡ 1
-bit_of_one-same number within =
-    other_is (bit_at 0 number) (bit_at (1 * 2 ^ number % 2 ^ 64) number) 1 (bit_at-zero number)
-    (sym (bit_at_or 0 (1 * 2 ^ number % 2 ^ 64) number) ∙ bit_at_set_same w64 0 number within)
-  where
-    other_is : (x y m : ℕ) → x ≡ 0 → max x y ≡ m → y ≡ m
-    other_is x y m z e = omega arith
+-- the lowest bit that is set is taken out
+module _ (word t : ℕ) (here : HasBit word t) (none : (k : ℕ) → k < t → HasBit word k → ⊥) where
+  low_part : word % 2 ^ t ≡ 0
+  low_part = same_from_bits_below t (word % 2 ^ t) 0 (mod-lt word (pow_pos t)) (pow_pos t)
+      (λ i below. sym (bit_at_cat_low (word / 2 ^ t) t (word % 2 ^ t) i below) ∙ ap (λ (w : ℕ). bit_at w i) (div-add-mod' word (2 ^ t)) ∙ unset (bit_at word i) (bit_at-lt word i) (none i below) ∙ sym (bit_at-zero i))
 
-bit_of_one-other : (number k : ℕ) → number < 64 → k ≢ number → bit_at (1 * 2 ^ number % 2 ^ 64) k ≡ 0
-bit_of_one-other number k within other =
-    none_is (bit_at 0 k) (bit_at (1 * 2 ^ number % 2 ^ 64) k) (bit_at-zero k)
-    (sym (bit_at_or 0 (1 * 2 ^ number % 2 ^ 64) k) ∙ bit_at_set_other w64 0 number within k other)
-  where
-    none_is : (x y : ℕ) → x ≡ 0 → max x y ≡ x → y ≡ 0
-    none_is x y z e = omega arith
+  as_product : word ≡ word / 2 ^ t * 2 ^ t + 0
+  as_product = sym (div-add-mod' word (2 ^ t)) ∙ ap (λ (r : ℕ). word / 2 ^ t * 2 ^ t + r) low_part
 
--- a bit that is set is taken out
-pub HasBit-taken : (word number k : ℕ) → number < 64 → HasBit word number → HasBit (bit_xor word (1 * 2 ^ number % 2 ^ 64)) k ↔ (HasBit word k × k ≢ number)
-HasBit-taken word number k within here =
-    elim (cases_eq k number) [
-      | inl same ↦ (
-        (λ h. absurd (odd_of_ones (bit_at word number) (bit_at (1 * 2 ^ number % 2 ^ 64) number) here (bit_of_one-same number within)
-            (sym (bit_at_xor word (1 * 2 ^ number % 2 ^ 64) number) ∙ subst (HasBit (bit_xor word (1 * 2 ^ number % 2 ^ 64))) same h))),
-        (λ h. absurd (h.1 same)),
-      )
-      | inr other ↦
-          let e : bit_at (bit_xor word (1 * 2 ^ number % 2 ^ 64)) k ≡ bit_at word k =
-          bit_at_xor word (1 * 2 ^ number % 2 ^ 64) k ∙ as_first (bit_at word k) (bit_at (1 * 2 ^ number % 2 ^ 64) k) (bit_at-lt word k) (bit_of_one-other number k within other) in (
-            (λ h. (sym e ∙ h, other)),
-            (λ h. e ∙ h.0),
-          )
-    ]
-  where
-    odd_of_ones : (x y : ℕ) → x ≡ 1 → y ≡ 1 → (x + y) % 2 ≡ 1 → ⊥
-    odd_of_ones x y ex ey odd = absurd (omega arith)
+  less_as_product : word - 1 ≡ (word / 2 ^ t - 1) * 2 ^ t + (2 ^ t - 1)
+  less_as_product =
+      let pos : 0 < 2 ^ t = pow_pos t in
+      let odd : word / 2 ^ t % 2 ≡ 1 = here in
+      let some : word / 2 ^ t ≡ suc (word / 2 ^ t - 1) = one_more (word / 2 ^ t) odd in
+      let product : word / 2 ^ t * 2 ^ t ≡ (word / 2 ^ t - 1) * 2 ^ t + 2 ^ t = ap (λ (x : ℕ). x * 2 ^ t) some ∙ suc-mul (word / 2 ^ t - 1) (2 ^ t) in
+      from_product word (word / 2 ^ t * 2 ^ t) ((word / 2 ^ t - 1) * 2 ^ t) (2 ^ t) pos as_product product
+    where
+      one_more : (x : ℕ) → x % 2 ≡ 1 → x ≡ suc (x - 1)
+      one_more x odd = omega arith
 
-    as_first : (x y : ℕ) → x < 2 → y ≡ 0 → (x + y) % 2 ≡ x
-    as_first x y l e = omega arith
+      from_product : (w x y p : ℕ) → 0 < p → w ≡ x + 0 → x ≡ y + p → w - 1 ≡ y + (p - 1)
+      from_product w x y p pos e f = omega arith
+
+  high_bit : (k : ℕ) → t ≤ k → bit_at word k ≡ bit_at (word / 2 ^ t) (k - t)
+  high_bit k above = ap (λ (w : ℕ). bit_at w k) as_product ∙ bit_at_cat_high (word / 2 ^ t) t 0 k (pow_pos t) above
+
+  high_bit_less : (k : ℕ) → t ≤ k → bit_at (word - 1) k ≡ bit_at (word / 2 ^ t - 1) (k - t)
+  high_bit_less k above =
+      let pos : 0 < 2 ^ t = pow_pos t in
+      ap (λ (w : ℕ). bit_at w k) less_as_product ∙ bit_at_cat_high (word / 2 ^ t - 1) t (2 ^ t - 1) k (below_itself (2 ^ t) pos) above
+    where
+      below_itself : (p : ℕ) → 0 < p → p - 1 < p
+      below_itself p pos = omega arith
+
+  less_at : bit_at (word - 1) t ≡ 0
+  less_at = high_bit_less t (omega arith) ∙ ap (bit_at (word / 2 ^ t - 1)) (itself t) ∙ bit_at_lowest (word / 2 ^ t - 1) ∙ even (word / 2 ^ t) here
+    where
+      itself : (x : ℕ) → x - x ≡ 0
+      itself x = omega arith
+
+      even : (x : ℕ) → x % 2 ≡ 1 → (x - 1) % 2 ≡ 0
+      even x odd = omega arith
+
+  less_above : (k : ℕ) → t < k → bit_at (word - 1) k ≡ bit_at word k
+  less_above k above =
+      let at_next : k - t ≡ suc (k - t - 1) = omega arith in
+      let of_less = high_bit_less k (omega arith) ∙ ap (bit_at (word / 2 ^ t - 1)) at_next ∙ bit_at-suc (word / 2 ^ t - 1) (k - t - 1) in
+      let of_word = high_bit k (omega arith) ∙ ap (bit_at (word / 2 ^ t)) at_next ∙ bit_at-suc (word / 2 ^ t) (k - t - 1) in
+      of_less ∙ ap (λ (x : ℕ). bit_at x (k - t - 1)) (same_half (word / 2 ^ t) here) ∙ sym of_word
+    where
+      same_half : (x : ℕ) → x % 2 ≡ 1 → (x - 1) / 2 ≡ x / 2
+      same_half x odd = omega arith
+
+  pub HasBit-taken : (k : ℕ) → HasBit (bit_and word (word - 1)) k ↔ (HasBit word k × k ≢ t)
+  HasBit-taken k = (
+    (λ h. let both = (HasBit-and word (word - 1) k).0 h in (both.0, (λ same. not_both (bit_at (word - 1) t) (subst (HasBit (word - 1)) same both.1) less_at))),
+    (λ h. (HasBit-and word (word - 1) k).1 (h.0, elim (cases_eq_lt k t) [ inl low ↦ absurd (none k low h.0) | inr rest ↦ elim rest [ inl same ↦ absurd (h.1 same) | inr above ↦ less_above k above ∙ h.0 ] ])),
+  )
+    where
+      not_both : (x : ℕ) → x ≡ 1 → x ≡ 0 → ⊥
+      not_both x one zero_is = absurd (omega arith)
+
+      cases_eq_lt : (x y : ℕ) → (x < y) ⊎ ((x ≡ y) ⊎ (y < x))
+      cases_eq_lt x y = elim (cases_order x y) [ inl same ↦ inr (inl same) | inr apart ↦ elim apart [ inl less ↦ inl less | inr more ↦ inr (inr more) ] ]
 
 -- the lowest bit that is set
 pub lowest_bit : (word : ℕ) → word < 2 ^ 64 → (word ≡ 0 → ⊥) → (trailing_zeros w64 word < 64) × HasBit word (trailing_zeros w64 word) × ((k : ℕ) → k < trailing_zeros w64 word → HasBit word k → ⊥)

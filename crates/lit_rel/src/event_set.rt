@@ -77,7 +77,7 @@ impl EventSet {
         }
         let event = self.bits.trailing_zeros();
         let others = EventSet {
-            bits: self.bits ^ (1 << event),
+            bits: self.bits & (self.bits - 1),
         };
         Some((event as usize, others))
     }

@@ -6,4 +6,4 @@ pub returns : goal.returns
 returns c =
     let small : c.args.self.bits < 2 ^ 64 = omega arith in
     let lowest = lowest_bit c.args.self.bits small c.if-self-eq0.false in
-    record { there = lowest.1; least = lowest.2; rest = λ e. HasBit-taken c.args.self.bits _ e lowest.0 lowest.1 }
+    record { there = lowest.1; least = lowest.2; rest = HasBit-taken c.args.self.bits _ lowest.1 lowest.2 }
