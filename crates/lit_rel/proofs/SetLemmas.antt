@@ -3,12 +3,11 @@ use Rattle.std.proofs.Common.{◌≡◌, ◌≢◌, ◌⊎◌, ◌↔◌, ℕ, �
 use Rattle.std.proofs.Math.ListN.{set}
 use Rattle.std.proofs.lemmas.List.{get_or-set_same, get_or-set_other}
 use Rattle.std.specs.Int.RustNames.{bit_xor}
-use Rattle.std.proofs.lemmas.Nat.Bits.{bit_at_or, bit_at_and, bit_at_xor, bit_at-lt, bit_at-suc, bit_at-zero, bit_at_cat_high, bit_at_cat_low, bit_at_lowest, same_from_bits_below, bit_at-trailing_ones, bit_at-trailing_zeros, bit_at_above, bit_at_ones, bit_at_set_same, bit_at_set_other, same_from_bits}
+use Rattle.std.proofs.lemmas.Nat.Bits.{bit_at_or, bit_at_and, bit_at_xor, bit_at-lt, bit_at-suc, bit_at-zero, bit_at_cat_high, bit_at_cat_low, bit_at_lowest, same_from_bits_below, bit_at-trailing_zeros, bit_at_ones, bit_at_ones_above, bit_at_set_same, bit_at_set_other, same_from_bits}
 use Rattle.std.proofs.lemmas.Bool.{cases_eq, cases_order}
-use Rattle.std.proofs.lemmas.Nat.{div-add-mod', le_or_l, pow_pos}
+use Rattle.std.proofs.lemmas.Nat.{div-add-mod', le_or_l, one_shl, pow_pos}
 use Rattle.std.proofs.Math.Nat.{mod-lt, suc-mul}
-use Rattle.std.specs.Int.{bit_at, trailing_ones, trailing_zeros}
-use Rattle.std.specs.Int.Count.{trailing_of_zero}
+use Rattle.std.specs.Int.{bit_at, trailing_zeros}
 use Rattle.lit_rel.specs.declared.event_set.EventSet.{EventSet}
 use Rattle.lit_rel.specs.EventSet.{AreWithin, HasEvent, IsSplit, no_events}
 
@@ -152,24 +151,22 @@ lowest_bit word small some =
     one_is_none : (x : ℕ) → x ≡ 1 → x ≡ 0 → ⊥
     one_is_none x one none = absurd (omega arith)
 
--- the lowest bit that is not set
-pub lowest_missing : (word : ℕ) → word < 2 ^ 64 → (HasBit word (trailing_ones w64 word) → ⊥) × ((k : ℕ) → k < trailing_ones w64 word → HasBit word k)
-lowest_missing word small =
-    elim (cases_eq word (2 ^ 64 - 1)) [
-      | inl full ↦
-          let end : trailing_ones w64 word ≡ 64 = ap (λ (x : ℕ). trailing_ones w64 x) full ∙ trailing_of_zero 64 in (
-            (λ h. absurd (none_is_one (bit_at word 64) (subst (HasBit word) end h) (bit_at_above word 64 64 small (omega arith)))),
-            (λ k below. subst (λ (x : ℕ). HasBit x k) (sym full) (bit_at_ones 64 k (omega arith))),
-          )
-      | inr not_full ↦
-          let lowest = bit_at-trailing_ones w64 word (omega arith) in (
-            (λ h. absurd (none_is_one (bit_at word (trailing_ones w64 word)) h lowest.1)),
-            (λ k below. lowest.2 k below),
-          )
-    ]
+-- as many ones have the bits below, as the code computes them
+pub HasBit-ones : (count k : ℕ) → count < 64 → HasBit (1 * 2 ^ count % 2 ^ 64 - 1) k ↔ (k < count)
+HasBit-ones count k within =
+    let shifted : 1 * 2 ^ count % 2 ^ 64 ≡ 2 ^ count = one_shl count 64 within in (
+      (λ h. elim (cases_lt k count) [
+        | inl below ↦ below
+        | inr above ↦ absurd (not_both (bit_at (2 ^ count - 1) k) (subst (λ (w : ℕ). HasBit (w - 1) k) shifted h) (bit_at_ones_above count k above))
+      ]),
+      (λ below. subst (λ (w : ℕ). HasBit (w - 1) k) (sym shifted) (bit_at_ones count k below)),
+    )
   where
-    none_is_one : (x : ℕ) → x ≡ 1 → x ≡ 0 → ⊥
-    none_is_one x one none = absurd (omega arith)
+    not_both : (x : ℕ) → x ≡ 1 → x ≡ 0 → ⊥
+    not_both x one zero_is = absurd (omega arith)
+
+    cases_lt : (x y : ℕ) → (x < y) ⊎ (y ≤ x)
+    cases_lt x y = elim (cases_order x y) [ inl same ↦ inr (omega arith) | inr apart ↦ elim apart [ inl less ↦ inl less | inr more ↦ inr (omega arith) ] ]
 
 -- the one word has no bit that the other lacks
 pub within_from_or : (a b k : ℕ) → bit_or a b ≡ b → HasBit a k → HasBit b k

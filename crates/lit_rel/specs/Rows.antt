@@ -21,7 +21,3 @@ IsTransitive before = (x y z : ℕ) → before x y → before y z → before x z
 -- Of a transitive relation this is the least transitive one that has it and the pair.
 abbrev pub WithPair : (ℕ → ℕ → Type 0) → ℕ → ℕ → ℕ → ℕ → Type 0
 WithPair before a d x y = before x y ⊎ ((before x a ⊎ (x ≡ a)) × (before d y ⊎ (y ≡ d)))
-
--- All that an event leads to is, or is led to by, one that it leads to and that leads only to what it leads to itself.
-abbrev pub IsCovered : (ℕ → ℕ → Type 0) → ℕ → Type 0
-IsCovered before event = (d : ℕ) → before event d → (middle : ℕ) × before event middle × ((d ≡ middle) ⊎ before middle d) × ((z : ℕ) → before middle z → before event z)

@@ -3,7 +3,8 @@
 ghost use Rattle.std.specs.Prelude.{◌≡◌, ◌⊎◌, ◌↔◌, ℕ, ◌<◌, ◌≤◌, IsTrue, List, [], length};
 ghost use Rattle.lit_paths.specs.declared.limits.TheConstants.{EVENT_LIMIT};
 ghost use Rattle.lit_rel.specs.HappensBefore.{Chain, HappensBefore};
-ghost use Rattle.lit_rel.specs.Rows.{Holds, IsCovered, IsTransitive, rows_len};
+ghost use Rattle.lit_rel.specs.Parts.Closing.{IsCovered};
+ghost use Rattle.lit_rel.specs.Rows.{Holds, IsTransitive, rows_len};
 
 use crate::bit_rows::Rows;
 use crate::fixed_steps::fixed_steps;

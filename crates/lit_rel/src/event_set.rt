@@ -1,6 +1,6 @@
 //! Sets of events.
 
-ghost use Rattle.std.specs.Prelude.{◌≡◌, ◌⊎◌, ◌↔◌, ℕ, ◌<◌, IsTrue, MatchOption};
+ghost use Rattle.std.specs.Prelude.{◌≡◌, ◌⊎◌, ◌↔◌, ℕ, ◌<◌, ◌≤◌, IsTrue, MatchOption};
 ghost use Rattle.lit_paths.specs.declared.limits.TheConstants.{EVENT_LIMIT};
 
 /// A set of events, by their numbers: below `EVENT_LIMIT`.
@@ -19,6 +19,16 @@ impl EventSet {
         ensures empty { (e : ℕ) → ¬ HasEvent result e }
     {
         EventSet { bits: 0 }
+    }
+
+    /// The set of the events with numbers below this one.
+    pub fn below(len: usize) -> Self
+        requires { len ≤ EVENT_LIMIT }
+        ensures { (e : ℕ) → HasEvent result e ↔ (e < len) }
+    {
+        EventSet {
+            bits: (1 << len) - 1,
+        }
     }
 
     /// Whether an event is in it.
@@ -80,14 +90,6 @@ impl EventSet {
             bits: self.bits & (self.bits - 1),
         };
         Some((event as usize, others))
-    }
-
-    /// The least number whose event is not in it.
-    pub fn first_missing(self) -> usize
-        ensures missing { ¬ HasEvent self result }
-        ensures first { (e : ℕ) → e < result → HasEvent self e }
-    {
-        self.bits.trailing_ones() as usize
     }
 
     /// Whether there is no event in it.

@@ -1,6 +1,7 @@
 use Rattle.std.proofs.Common.{arith, below_more, refl}
 use Rattle.std.proofs.lemmas.Bool.{false≢true}
-use Rattle.lit_rel.specs.Rows.{Holds, IsCovered}
+use Rattle.lit_rel.specs.Parts.Closing.{IsCovered}
+use Rattle.lit_rel.specs.Rows.{Holds}
 use Rattle.lit_rel.proofs.CoverLemmas.{IsTransitive-from_covered}
 use Rattle.lit_rel.proofs.closing.is_strict_order.Goals as goal
 
