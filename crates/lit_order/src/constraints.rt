@@ -100,6 +100,13 @@ impl<'a> Constraints<'a> {
         self.between
     }
 
+    /// The events that are not placed.
+    pub(crate) fn unplaced(&self, placed: EventSet) -> EventSet
+        ensures { (e : ℕ) → HasEvent result e ↔ ((e < constrained_len self.now) × ¬ HasEvent placed e) }
+    {
+        EventSet::below(self.len()).difference(placed)
+    }
+
     /// Whether an event, below `len()`, can stand after the events placed: it is not placed, all that come before it
     /// are, and it does not stand between a source and its read.
     pub(crate) fn can_stand_next(&self, event: usize, placed: EventSet) -> bool

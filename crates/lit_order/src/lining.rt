@@ -52,11 +52,13 @@ fn walk(order: &mut Order, placed: EventSet, constraints: &Constraints<'_>) -> b
     if order.len() == constraints.len() {
         return true;
     }
-    'walking: for event in placed.first_missing()..constraints.len() {
+    let mut left = constraints.unplaced(placed);
+    'walking: while let Some((event, others)) = left.split_first() {
         if constraints.can_stand_next(event, placed) {
             order.push(event as u8);
             return walk(order, placed.with(event), constraints);
         }
+        left = others;
     }
     false
 }

@@ -1,6 +1,7 @@
 //! What a relation says of forbidden triples: which pairs they force, and which triples it does not decide.
 
-ghost use Rattle.std.specs.Prelude.{◌≡◌, ◌↔◌, ℕ, ◌<◌, IsTrue, MatchOption};
+ghost use Rattle.std.specs.Prelude.{◌≡◌, ◌≢◌, ◌↔◌, ℕ, ◌<◌, IsTrue, MatchOption};
+ghost use Rattle.lit_paths.specs.declared.limits.TheConstants.{EVENT_LIMIT};
 ghost use Rattle.lit_rel.specs.Between.{Forbids};
 ghost use Rattle.lit_rel.specs.EventSet.{HasEvent};
 ghost use Rattle.lit_rel.specs.Rows.{rows_len, Holds};
@@ -51,6 +52,17 @@ fn first_lacking(set: EventSet, other: EventSet, there: EventSet) -> Option<usiz
     }
 }
 
+/// The events that may not stand between a source and its read, but for these two.
+fn others_of(pair: &Pair) -> EventSet
+    requires source { pair.now.source < EVENT_LIMIT }
+    requires read { pair.now.read < EVENT_LIMIT }
+    ensures { (e : ℕ) →
+        HasEvent result e ↔ (HasEvent pair.now.others e × e ≢ pair.now.source × e ≢ pair.now.read) }
+{
+    let source = EventSet::new().with(usize::from(pair.source));
+    pair.others.difference(source.with(usize::from(pair.read)))
+}
+
 /// A pair of events that some triple of a source and its read forces and that is not there yet.
 fn forced_by(rows: &TwoWayRows, pair: &Pair) -> Option<Precedence>
     requires source { pair.now.source < rows_len rows.now.rows }
@@ -61,9 +73,7 @@ fn forced_by(rows: &TwoWayRows, pair: &Pair) -> Option<Precedence>
 {
     let source = usize::from(pair.source);
     let read = usize::from(pair.read);
-    let others = pair
-        .others
-        .difference(EventSet::new().with(source).with(read));
+    let others = others_of(pair);
     let after_source = rows.rows.successors(source);
     if let Some(other) = first_lacking(others, after_source, rows.rows.successors(read)) {
         return Some(Precedence {

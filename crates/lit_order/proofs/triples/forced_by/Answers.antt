@@ -1,8 +1,7 @@
-use Rattle.std.proofs.Common.{◌≢◌, ℕ, refl, sym, ◌∙◌, subst, inl, inr}
+use Rattle.std.proofs.Common.{◌≢◌, ℕ, refl, sym, subst, inl, inr}
 use Rattle.lit_rel.specs.EventSet.{HasEvent}
 use Rattle.lit_rel.specs.Rows.{Holds}
 use Rattle.lit_order.proofs.RowsLemmas.{holds_or_not}
-use Rattle.lit_order.proofs.TwoWayLemmas.{other_than}
 use Rattle.lit_order.proofs.triples.forced_by.Goals as goal
 
 pub returns-in-Some : goal.returns-in-Some
@@ -11,14 +10,14 @@ returns-in-Some c =
     let w = c.from-source.result in
     let r = c.from-read.result in
     let rows = c.args.rows.now.rows in
-    let apart = (other_than (HasEvent c.difference-others.result) (HasEvent c.args.pair.now.others) (HasEvent c.new.result) (HasEvent c.with.result) (HasEvent c.with-2.result) w r c.new.ensures.empty c.with.ensures c.with-2.ensures c.difference-others.ensures v).0 c.in-Some.ensures.0 in
+    let apart = (c.others_of-others.ensures v).0 c.in-Some.ensures.0 in
     let after : Holds rows w v = (c.successors-after_source.ensures v).0 c.in-Some.ensures.1 in
     record {
       other = v;
       is_other = record { known = after.second_known; marked = apart.0 };
       forces = record {
-        not_source = λ same. apart.1 (same ∙ sym c.from-source.ensures);
-        not_read = λ same. apart.2 (same ∙ sym c.from-read.ensures);
+        not_source = apart.1;
+        not_read = apart.2;
         new = λ there. c.in-Some.ensures.2 ((c.successors.ensures v).1 there);
         side = inl (c.from-read.ensures, refl, subst (λ (x : ℕ). Holds rows x v) c.from-source.ensures after);
       };
@@ -30,14 +29,14 @@ returns-in-Some-first_lacking c =
     let w = c.from-source.result in
     let r = c.from-read.result in
     let rows = c.args.rows.now.rows in
-    let apart = (other_than (HasEvent c.difference-others.result) (HasEvent c.args.pair.now.others) (HasEvent c.new.result) (HasEvent c.with.result) (HasEvent c.with-2.result) w r c.new.ensures.empty c.with.ensures c.with-2.ensures c.difference-others.ensures v).0 c.in-Some-first_lacking.ensures.0 in
+    let apart = (c.others_of-others.ensures v).0 c.in-Some-first_lacking.ensures.0 in
     let earlier : Holds rows v r = (c.args.rows.now.same.pairs v r).0 ((c.successors-before_read.ensures v).0 c.in-Some-first_lacking.ensures.1) in
     record {
       other = v;
       is_other = record { known = earlier.first_known; marked = apart.0 };
       forces = record {
-        not_source = λ same. apart.1 (same ∙ sym c.from-source.ensures);
-        not_read = λ same. apart.2 (same ∙ sym c.from-read.ensures);
+        not_source = apart.1;
+        not_read = apart.2;
         new = λ there. c.in-Some-first_lacking.ensures.2 ((c.successors-2.ensures v).1 ((c.args.rows.now.same.pairs v w).1 there));
         side = inr (refl, c.from-source.ensures, subst (Holds rows v) c.from-read.ensures earlier);
       };
@@ -51,9 +50,8 @@ returns c v other =
     let turned = c.args.rows.now.same in
     let is_w = c.from-source.ensures in
     let is_r = c.from-read.ensures in
-    let among : v ≢ c.args.pair.now.source → v ≢ c.args.pair.now.read → HasEvent c.difference-others.result v =
-    λ not_source not_read. (other_than (HasEvent c.difference-others.result) (HasEvent c.args.pair.now.others) (HasEvent c.new.result) (HasEvent c.with.result) (HasEvent c.with-2.result) w r c.new.ensures.empty c.with.ensures c.with-2.ensures c.difference-others.ensures v).1
-    (other.marked, (λ same. not_source (same ∙ is_w)), (λ same. not_read (same ∙ is_r))) in
+    let among : v ≢ c.args.pair.now.source → v ≢ c.args.pair.now.read → HasEvent c.others_of-others.result v =
+    λ not_source not_read. (c.others_of-others.ensures v).1 (other.marked, not_source, not_read) in
     record {
       after = λ not_source not_read after. elim (holds_or_not rows r v) [
         | inl there ↦ subst (λ (x : ℕ). Holds rows x v) is_r there
