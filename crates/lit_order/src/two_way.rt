@@ -3,7 +3,7 @@
 ghost use Rattle.std.specs.Prelude.{◌≡◌, ◌⊎◌, ◌↔◌, ℕ, ◌<◌};
 ghost use Rattle.lit_rel.specs.EventSet.{HasEvent};
 ghost use Rattle.lit_rel.specs.Rows.{rows_len, Holds};
-ghost use Rattle.lit_order.specs.Finding.Precedence.{IsConverse};
+ghost use Rattle.lit_order.specs.Finding.Converse.{IsConverse};
 
 use lit_rel::{EventSet, Rows, close};
 

@@ -1,4 +1,4 @@
--- Relations and what comes before each event.
+-- Relations turned round.
 use Rattle.std.specs.Prelude.{◌≡◌, ◌↔◌, ℕ}
 use Rattle.lit_rel.specs.declared.bit_rows.Rows.{Rows}
 use Rattle.lit_rel.specs.Rows.{Holds, rows_len}
