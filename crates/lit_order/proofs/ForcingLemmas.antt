@@ -1,5 +1,5 @@
 -- How what is forced is found, pair by pair.
-use Rattle.std.proofs.Common.{◌≢◌, ℕ, ◌<◌, List, [], ◌∷◌, ◌++◌, sym, ◌∙◌, subst, inl, inr}
+use Rattle.std.proofs.Common.{◌≢◌, ◌↔◌, ℕ, ◌<◌, List, [], ◌∷◌, ◌++◌, sym, ◌∙◌, subst, inl, inr}
 use Rattle.lit_rel.specs.Between.{BetweenModel, Forbids}
 use Rattle.lit_rel.specs.HappensBefore.{Chain}
 use Rattle.lit_rel.specs.Rows.{IsTransitive, WithPair}
@@ -59,6 +59,22 @@ module _ (before : ℕ → ℕ → Type 0) (forbidden : ℕ → ℕ → ℕ → 
           | inl later ↦ Through d to_d (sound d y later)
           | inr same ↦ subst (IsForced before forbidden x) (sym same) to_d
         ]
+
+-- what is forced where all chains are given is what is forced
+pub forced_from_closed : (before closed : ℕ → ℕ → Type 0) (forbidden : ℕ → ℕ → ℕ → Type 0) → ((a d : ℕ) → closed a d ↔ HasChain before a d) → (a d : ℕ) → IsForced closed forbidden a d → IsForced before forbidden a d
+forced_from_closed before closed forbidden pairs a d (Given h) = let chain = (pairs a d).0 h in chain_forced before forbidden a chain.0 d chain.1
+forced_from_closed before closed forbidden pairs a d (Through m p q) = Through m (forced_from_closed before closed forbidden pairs a m p) (forced_from_closed before closed forbidden pairs m d q)
+forced_from_closed before closed forbidden pairs r v (AfterRead w f not_source not_read p) = AfterRead w f not_source not_read (forced_from_closed before closed forbidden pairs w v p)
+forced_from_closed before closed forbidden pairs v w (BeforeSource r f not_source not_read p) = BeforeSource r f not_source not_read (forced_from_closed before closed forbidden pairs v r p)
+
+pub forced_to_closed : (before closed : ℕ → ℕ → Type 0) (forbidden : ℕ → ℕ → ℕ → Type 0) → ((a d : ℕ) → closed a d ↔ HasChain before a d) → (a d : ℕ) → IsForced before forbidden a d → IsForced closed forbidden a d
+forced_to_closed before closed forbidden pairs a d (Given h) = Given ((pairs a d).1 ([], h))
+forced_to_closed before closed forbidden pairs a d (Through m p q) = Through m (forced_to_closed before closed forbidden pairs a m p) (forced_to_closed before closed forbidden pairs m d q)
+forced_to_closed before closed forbidden pairs r v (AfterRead w f not_source not_read p) = AfterRead w f not_source not_read (forced_to_closed before closed forbidden pairs w v p)
+forced_to_closed before closed forbidden pairs v w (BeforeSource r f not_source not_read p) = BeforeSource r f not_source not_read (forced_to_closed before closed forbidden pairs v r p)
+
+pub IsTransitive-closed : (before closed : ℕ → ℕ → Type 0) → ((a d : ℕ) → closed a d ↔ HasChain before a d) → IsTransitive closed
+IsTransitive-closed before closed pairs x y z p q = (pairs x z).1 (HasChain-through before x y z ((pairs x y).0 p) ((pairs y z).0 q))
 
 -- the pair that is forced next: of two events, both known
 pub next_apart : (rows : ℕ → ℕ → Type 0) (forbidden : ℕ → ℕ → ℕ → Type 0) (a d : ℕ) → IsForcedNext rows forbidden a d → a ≢ d

@@ -9,3 +9,4 @@ pub mod LinearLemmas
 pub mod MissingLemmas
 pub mod NarrowLemmas
 pub mod RowsLemmas
+pub mod TwoWayLemmas

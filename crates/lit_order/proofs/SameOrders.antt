@@ -2,6 +2,10 @@
 use Rattle.std.proofs.Common.{◌≡◌, ◌↔◌, ℕ, List, sym, subst}
 use Rattle.lit_order.specs.MemoryOrder.{IsListOfAll, IsOrderOf, IsLeastOrderOf}
 
+-- facts that follow from each other, in two steps
+pub both : {A B C : Type 0} → A ↔ B → B ↔ C → A ↔ C
+both p q = ((λ a. q.0 (p.0 a)), (λ c. p.1 (q.1 c)))
+
 pub IsOrderOf-same : (n m : ℕ) (before other : ℕ → ℕ → Type 0) (forbidden refused : ℕ → ℕ → ℕ → Type 0) → n ≡ m → ((a d : ℕ) → other a d → before a d) → ((w r v : ℕ) → refused w r v → forbidden w r v) → (order : List ℕ) → IsOrderOf n before forbidden order → IsOrderOf m other refused order
 IsOrderOf-same n m before other forbidden refused len pairs triples order o =
     record {

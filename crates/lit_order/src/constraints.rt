@@ -1,30 +1,24 @@
 //! What an order keeps.
 
-ghost use Rattle.std.specs.Prelude.{◌≡◌, ◌⊎◌, ℕ, ◌<◌, ◌≤◌, ◌↔◌, IsTrue, length};
-ghost use Rattle.arrayvec.specs.ArrayVec.{array_vec_len};
+ghost use Rattle.std.specs.Prelude.{◌≡◌, ◌⊎◌, ℕ, ◌<◌, ◌≤◌, ◌↔◌, IsTrue};
 ghost use Rattle.lit_paths.specs.declared.limits.TheConstants.{EVENT_LIMIT};
 ghost use Rattle.lit_rel.specs.Between.{Forbids};
 ghost use Rattle.lit_rel.specs.EventSet.{HasEvent};
 ghost use Rattle.lit_rel.specs.Rows.{rows_len, Holds};
-ghost use Rattle.lit_order.specs.Finding.Precedence.{Precedes};
+ghost use Rattle.lit_order.specs.Finding.Contested.{IsContested};
 
-use arrayvec::ArrayVec;
 use lit_paths::EVENT_LIMIT;
 use lit_rel::{Between, EventSet, Pair, Rows};
 
-/// For each event the set of those that come before it.
-type Predecessors = ArrayVec<EventSet, EVENT_LIMIT>;
-
-/// The events that come before each event.
-fn predecessors_of(before: &Rows) -> Predecessors
-    ensures len { array_vec_len result ≡ rows_len before.now }
-    ensures pairs { (a e : ℕ) → Precedes result.items a e ↔ Holds before.now a e }
+/// The events that may not stand between some source and its read.
+fn contested(between: &Between) -> EventSet
+    ensures { (v : ℕ) → HasEvent result v ↔ IsContested between.now.pairs v }
 {
-    let mut predecessors = Predecessors::new();
-    for event in 0..before.len() {
-        predecessors.push(before.predecessors(event));
+    let mut contested = EventSet::new();
+    for pair in between.pairs() {
+        contested = contested.union(pair.others);
     }
-    predecessors
+    contested
 }
 
 /// Whether an event may stand next after the events placed, as far as one pair says: it may stand between the source
@@ -64,26 +58,30 @@ fn allows(between: &Between, event: usize, placed: EventSet) -> bool
 /// What comes before each event, and what may not stand between a source and its read.
 #[derive(Drop)]
 pub(crate) struct Constraints<'a> {
-    predecessors: Predecessors,
+    /// What comes before what, turned round.
+    converse: &'a Rows,
     between: &'a Between,
-    ghost same: { array_vec_len predecessors ≡ between.now.len },
+    contested: EventSet,
+    ghost same: { rows_len converse.now ≡ between.now.len },
     ghost few: { between.now.len ≤ EVENT_LIMIT },
+    ghost marked: { (w r v : ℕ) → Forbids between.now w r v → HasEvent contested v },
 }
 
 impl<'a> Constraints<'a> {
     ghost use Rattle.lit_order.specs.Finding.Beginning.{CanStandNext};
     ghost use Rattle.lit_order.specs.Finding.Constrained.{constrained_len, ComesBefore, MayNotStand};
 
-    /// What a relation and triples ask, both on the same events.
-    pub(crate) fn new(before: &Rows, between: &'a Between) -> Self
-        requires { rows_len before.now ≡ between.now.len }
-        ensures len { constrained_len result ≡ rows_len before.now }
-        ensures pairs { (a e : ℕ) → ComesBefore result a e ↔ Holds before.now a e }
+    /// What the converse of a relation and triples ask, both on the same events.
+    pub(crate) fn new(converse: &'a Rows, between: &'a Between) -> Self
+        requires { rows_len converse.now ≡ between.now.len }
+        ensures len { constrained_len result ≡ rows_len converse.now }
+        ensures pairs { (a e : ℕ) → ComesBefore result a e ↔ Holds converse.now e a }
         ensures triples { (w r v : ℕ) → MayNotStand result w r v ↔ Forbids between.now w r v }
     {
         Constraints {
-            predecessors: predecessors_of(before),
+            converse,
             between,
+            contested: contested(between),
         }
     }
 
@@ -102,6 +100,13 @@ impl<'a> Constraints<'a> {
         self.between
     }
 
+    /// The events that are not placed.
+    pub(crate) fn unplaced(&self, placed: EventSet) -> EventSet
+        ensures { (e : ℕ) → HasEvent result e ↔ ((e < constrained_len self.now) × ¬ HasEvent placed e) }
+    {
+        EventSet::below(self.len()).difference(placed)
+    }
+
     /// Whether an event, below `len()`, can stand after the events placed: it is not placed, all that come before it
     /// are, and it does not stand between a source and its read.
     pub(crate) fn can_stand_next(&self, event: usize, placed: EventSet) -> bool
@@ -109,9 +114,7 @@ impl<'a> Constraints<'a> {
         ensures { IsTrue result
             ↔ CanStandNext (ComesBefore self.now) (MayNotStand self.now) (HasEvent placed) event }
     {
-        !placed.contains(event)
-            && self.follows(event, placed)
-            && allows(self.between, event, placed)
+        !placed.contains(event) && self.follows(event, placed) && self.allows(event, placed)
     }
 
     /// Whether all that come before an event, below `len()`, are placed.
@@ -119,6 +122,15 @@ impl<'a> Constraints<'a> {
         requires { event < constrained_len self.now }
         ensures { IsTrue result ↔ ((a : ℕ) → ComesBefore self.now a event → HasEvent placed a) }
     {
-        self.predecessors.as_slice()[event].is_within(placed)
+        self.converse.successors(event).is_within(placed)
+    }
+
+    /// Whether an event, below `len()`, may stand next after the events placed, as far as the triples say.
+    fn allows(&self, event: usize, placed: EventSet) -> bool
+        requires { event < constrained_len self.now }
+        ensures { IsTrue result
+            ↔ ((w r : ℕ) → MayNotStand self.now w r event → HasEvent placed w → (r ≡ event) ⊎ HasEvent placed r) }
+    {
+        !self.contested.contains(event) || allows(self.between, event, placed)
     }
 }

@@ -1,11 +1,12 @@
 //! What a relation and forbidden triples force every order to keep.
 
-ghost use Rattle.std.specs.Prelude.{◌≡◌, ◌↔◌, ℕ, IsNone, IfSome};
+ghost use Rattle.std.specs.Prelude.{◌≡◌, ◌↔◌, ℕ, IsNone, IsTrue, IfSome};
 ghost use Rattle.lit_rel.specs.Between.{Forbids};
-ghost use Rattle.lit_rel.specs.Rows.{rows_len, Holds};
+ghost use Rattle.lit_rel.specs.Rows.{rows_len, Holds, IsTransitive};
 ghost use Rattle.lit_order.specs.Forcing.{HasChain, HasCycle, HasForcedCycle, IsForced};
 
 use crate::triples::next_forced;
+use crate::two_way::TwoWayRows;
 use lit_rel::{Between, Rows, close};
 
 /// The least transitive relation that has this one, or `None` exactly where a chain of its pairs leads from an event to
@@ -24,6 +25,28 @@ pub(crate) fn closed(before: &Rows) -> Option<Rows>
     }
 }
 
+/// Puts in what a transitive relation and forbidden triples force, both on the same events. Says no exactly where an
+/// event is forced before itself; then some of what is forced may be in.
+pub(crate) fn force(forced: &mut TwoWayRows, between: &Between) -> bool
+    requires len { rows_len forced.old.rows ≡ between.now.len }
+    requires transitive { IsTransitive (Holds forced.old.rows) }
+    ensures cycle { (¬ IsTrue result) ↔ HasForcedCycle (Holds forced.old.rows) (Forbids between.now) }
+    ensures len { rows_len forced.new.rows ≡ rows_len forced.old.rows }
+    ensures pairs { IsTrue result → (a d : ℕ) →
+        Holds forced.new.rows a d ↔ IsForced (Holds forced.old.rows) (Forbids between.now) a d }
+{
+    if !forced.rows.is_irreflexive() {
+        return false;
+    }
+    'forcing: while let Some(next) = next_forced(forced, between) {
+        if forced.rows.holds(next.second, next.first) {
+            return false;
+        }
+        forced.close_with(next.first, next.second);
+    }
+    true
+}
+
 /// The pairs of events that a relation and forbidden triples force, or `None` exactly where an event is forced before
 /// itself. Both are on the same events. Every order keeps these pairs, and where there is `None`, no order is there.
 pub fn forced_precedence(before: &Rows, between: &Between) -> Option<Rows>
@@ -33,12 +56,10 @@ pub fn forced_precedence(before: &Rows, between: &Between) -> Option<Rows>
     ensures pairs { IfSome result (λ forced. (a d : ℕ) →
         Holds forced a d ↔ IsForced (Holds before.now) (Forbids between.now) a d) }
 {
-    let mut forced = closed(before)?;
-    'forcing: while let Some(next) = next_forced(&forced, between) {
-        if forced.holds(next.second, next.first) {
-            return None;
-        }
-        forced.close_with(next.first, next.second);
+    let mut forced = TwoWayRows::closed(before);
+    if force(&mut forced, between) {
+        Some(forced.rows)
+    } else {
+        None
     }
-    Some(forced)
 }

@@ -2,7 +2,7 @@
 //! triple refuses.
 //!
 //! `OrderFinder` is the law: `least_order` gives the least such list, and `None` exactly where there is none.
-//! `PlainFinder` keeps it. The definitions stand in `specs/MemoryOrder`.
+//! `PlainFinder` and `ForcedFinder` keep it. The definitions stand in `specs/MemoryOrder`.
 #![tactic(auto)]
 
 mod constraints;
@@ -15,6 +15,7 @@ mod plain;
 #[cfg(test)]
 mod tests;
 mod triples;
+mod two_way;
 
 pub use extending::Forced;
 pub use finding::{Order, OrderFinder};

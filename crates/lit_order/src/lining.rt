@@ -11,7 +11,8 @@ ghost use Rattle.lit_order.specs.Finding.Narrowed.{IsNarrowed};
 use crate::constraints::Constraints;
 use crate::extending::has_order;
 use crate::finding::{Order, OrderFinder};
-use crate::forcing::forced_precedence;
+use crate::forcing::force;
+use crate::two_way::TwoWayRows;
 use lit_rel::{Between, EventSet, Rows};
 
 /// Finds first what is forced, and then places the least event that can stand next, again and again: so it seldom has
@@ -21,14 +22,17 @@ pub struct ForcedFinder;
 
 impl OrderFinder for ForcedFinder {
     fn least_order(&self, before: &Rows, between: &Between) -> Option<Order> {
-        let forced = forced_precedence(before, between)?;
-        let constraints = Constraints::new(&forced, between);
+        let mut forced = TwoWayRows::closed(before);
+        if !force(&mut forced, between) {
+            return None;
+        }
+        let constraints = Constraints::new(&forced.converse, between);
         let mut walked = Order::new();
         if walk(&mut walked, EventSet::new(), &constraints) {
             return Some(walked);
         }
         let mut order = Order::new();
-        if complete(&mut order, EventSet::new(), &forced, &constraints) {
+        if complete(&mut order, EventSet::new(), &forced.rows, &constraints) {
             Some(order)
         } else {
             None
@@ -48,11 +52,13 @@ fn walk(order: &mut Order, placed: EventSet, constraints: &Constraints<'_>) -> b
     if order.len() == constraints.len() {
         return true;
     }
-    'walking: for event in 0..constraints.len() {
+    let mut left = constraints.unplaced(placed);
+    'walking: while let Some((event, others)) = left.split_first() {
         if constraints.can_stand_next(event, placed) {
             order.push(event as u8);
             return walk(order, placed.with(event), constraints);
         }
+        left = others;
     }
     false
 }

@@ -8,6 +8,7 @@ ghost use Rattle.lit_order.specs.Finding.Constrained.{constrained_len, ComesBefo
 
 use crate::constraints::Constraints;
 use crate::finding::{Order, OrderFinder};
+use crate::two_way::converse_of;
 use lit_rel::{Between, EventSet, Rows};
 
 /// Builds orders event by event, the least event that can stand next first, and goes back where none can be completed.
@@ -16,7 +17,8 @@ pub struct PlainFinder;
 
 impl OrderFinder for PlainFinder {
     fn least_order(&self, before: &Rows, between: &Between) -> Option<Order> {
-        let constraints = Constraints::new(before, between);
+        let converse = converse_of(before);
+        let constraints = Constraints::new(&converse, between);
         let mut order = Order::new();
         if extend(&mut order, EventSet::new(), &constraints) {
             Some(order)

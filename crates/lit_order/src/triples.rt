@@ -1,11 +1,14 @@
 //! What a relation says of forbidden triples: which pairs they force, and which triples it does not decide.
 
-ghost use Rattle.std.specs.Prelude.{◌≡◌, ◌↔◌, ℕ, ◌<◌, IsTrue, MatchOption};
+ghost use Rattle.std.specs.Prelude.{◌≡◌, ◌≢◌, ◌↔◌, ℕ, ◌<◌, IsTrue, MatchOption};
+ghost use Rattle.lit_paths.specs.declared.limits.TheConstants.{EVENT_LIMIT};
 ghost use Rattle.lit_rel.specs.Between.{Forbids};
+ghost use Rattle.lit_rel.specs.EventSet.{HasEvent};
 ghost use Rattle.lit_rel.specs.Rows.{rows_len, Holds};
 ghost use Rattle.lit_order.specs.Finding.Deciding.{AreDecided, Forces, HasAllForced, HasForced, IsDecided, IsForcedByPair, IsForcedNext, IsOtherOf, IsUndecided};
 
-use lit_rel::{Between, Pair, Rows};
+use crate::two_way::TwoWayRows;
+use lit_rel::{Between, EventSet, Pair, Rows};
 
 /// A pair of events, the first before the second.
 #[derive(Clone, Copy)]
@@ -23,33 +26,6 @@ pub(crate) struct Triple {
 }
 
 impl Triple {
-    /// The pair that it forces and that is not there yet, if there is one.
-    fn forced(self, rows: &Rows) -> Option<Precedence>
-        requires source { self.source < rows_len rows.now }
-        requires read { self.read < rows_len rows.now }
-        requires other { self.other < rows_len rows.now }
-        ensures { MatchOption result
-            (HasForced (Holds rows.now) self.source self.read self.other)
-            (λ pair. Forces (Holds rows.now) self.source self.read self.other pair.first pair.second) }
-    {
-        if self.other == self.source || self.other == self.read {
-            return None;
-        }
-        if rows.holds(self.source, self.other) && !rows.holds(self.read, self.other) {
-            return Some(Precedence {
-                first: self.read,
-                second: self.other,
-            });
-        }
-        if rows.holds(self.other, self.read) && !rows.holds(self.other, self.source) {
-            return Some(Precedence {
-                first: self.other,
-                second: self.source,
-            });
-        }
-        None
-    }
-
     /// Whether the other event is neither the source nor the read, and neither after the read nor before the source.
     fn is_undecided(self, rows: &Rows) -> bool
         requires source { self.source < rows_len rows.now }
@@ -64,35 +40,63 @@ impl Triple {
     }
 }
 
-/// A pair of events that some triple of a source and its read forces and that is not there yet.
-fn forced_by(rows: &Rows, pair: &Pair) -> Option<Precedence>
-    requires source { pair.now.source < rows_len rows.now }
-    requires read { pair.now.read < rows_len rows.now }
+/// The least event of one set and another that is not in a third.
+fn first_lacking(set: EventSet, other: EventSet, there: EventSet) -> Option<usize>
     ensures { MatchOption result
-        ((v : ℕ) → IsOtherOf (rows_len rows.now) pair.now v → HasForced (Holds rows.now) pair.now.source pair.now.read v)
-        (λ forced. IsForcedByPair (rows_len rows.now) (Holds rows.now) pair.now forced.first forced.second) }
+        ((e : ℕ) → HasEvent set e → HasEvent other e → ¬ ¬ HasEvent there e)
+        (λ event. HasEvent set event × HasEvent other event × ¬ HasEvent there event) }
 {
-    for other in 0..rows.len() {
-        if pair.others.contains(other) {
-            let triple = Triple {
-                source: usize::from(pair.source),
-                read: usize::from(pair.read),
-                other,
-            };
-            if let Some(forced) = triple.forced(rows) {
-                return Some(forced);
-            }
-        }
+    match set.intersection(other).difference(there).split_first() {
+        Some((event, _)) => Some(event),
+        None => None,
+    }
+}
+
+/// The events that may not stand between a source and its read, but for these two.
+fn others_of(pair: &Pair) -> EventSet
+    requires source { pair.now.source < EVENT_LIMIT }
+    requires read { pair.now.read < EVENT_LIMIT }
+    ensures { (e : ℕ) →
+        HasEvent result e ↔ (HasEvent pair.now.others e × e ≢ pair.now.source × e ≢ pair.now.read) }
+{
+    let source = EventSet::new().with(usize::from(pair.source));
+    pair.others.difference(source.with(usize::from(pair.read)))
+}
+
+/// A pair of events that some triple of a source and its read forces and that is not there yet.
+fn forced_by(rows: &TwoWayRows, pair: &Pair) -> Option<Precedence>
+    requires source { pair.now.source < rows_len rows.now.rows }
+    requires read { pair.now.read < rows_len rows.now.rows }
+    ensures { MatchOption result
+        ((v : ℕ) → IsOtherOf (rows_len rows.now.rows) pair.now v → HasForced (Holds rows.now.rows) pair.now.source pair.now.read v)
+        (λ forced. IsForcedByPair (rows_len rows.now.rows) (Holds rows.now.rows) pair.now forced.first forced.second) }
+{
+    let source = usize::from(pair.source);
+    let read = usize::from(pair.read);
+    let others = others_of(pair);
+    let after_source = rows.rows.successors(source);
+    if let Some(other) = first_lacking(others, after_source, rows.rows.successors(read)) {
+        return Some(Precedence {
+            first: read,
+            second: other,
+        });
+    }
+    let before_read = rows.converse.successors(read);
+    if let Some(other) = first_lacking(others, before_read, rows.converse.successors(source)) {
+        return Some(Precedence {
+            first: other,
+            second: source,
+        });
     }
     None
 }
 
 /// A pair of events that some triple forces and that is not there yet.
-pub(crate) fn next_forced(rows: &Rows, between: &Between) -> Option<Precedence>
-    requires { rows_len rows.now ≡ between.now.len }
+pub(crate) fn next_forced(rows: &TwoWayRows, between: &Between) -> Option<Precedence>
+    requires { rows_len rows.now.rows ≡ between.now.len }
     ensures { MatchOption result
-        (HasAllForced (Holds rows.now) (Forbids between.now))
-        (λ forced. IsForcedNext (Holds rows.now) (Forbids between.now) forced.first forced.second) }
+        (HasAllForced (Holds rows.now.rows) (Forbids between.now))
+        (λ forced. IsForcedNext (Holds rows.now.rows) (Forbids between.now) forced.first forced.second) }
 {
     for pair in between.pairs() {
         if let Some(forced) = forced_by(rows, pair) {

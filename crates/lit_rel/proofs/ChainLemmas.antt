@@ -4,6 +4,7 @@ use Rattle.std.proofs.lemmas.Bool.{cases_eq}
 use Rattle.lit_paths.specs.declared.event.Event.{Event}
 use Rattle.lit_rel.specs.HappensBefore.{Chain, HappensBefore, StepBy}
 use Rattle.lit_rel.specs.ReadsFrom.{ReadsByteFrom}
+use Rattle.lit_rel.specs.Rows.{IsTransitive}
 
 -- there is a chain of at least one step
 abbrev pub HasChain : (ℕ → ℕ → Type 0) → ℕ → ℕ → Type 0
@@ -80,6 +81,14 @@ HasChain-from_closed step holds n known c e d = (c.sound e d, λ chain. holds_al
     holds_along e (m ∷ middles) d p =
         let rest = holds_along m middles d p.1 in
         c.through e m d (known m d rest) (c.steps e m p.0) rest
+
+-- chains of a transitive relation are what holds
+pub HasChain-from_transitive : (holds : ℕ → ℕ → Type 0) → IsTransitive holds → (e d : ℕ) → holds e d ↔ HasChain holds e d
+HasChain-from_transitive holds through e d = ((λ h. ([], h)), (λ chain. holds_along e chain.0 d chain.1))
+  where
+    holds_along : (e : ℕ) (middles : List ℕ) (d : ℕ) → Chain holds e middles d → holds e d
+    holds_along e [] d p = p
+    holds_along e (m ∷ middles) d p = through e m d p.0 (holds_along m middles d p.1)
 
 -- chains of equal steps
 pub Chain-same : (step other : ℕ → ℕ → Type 0) → ((e d : ℕ) → step e d → other e d) → (e : ℕ) (middles : List ℕ) (d : ℕ) → Chain step e middles d → Chain other e middles d

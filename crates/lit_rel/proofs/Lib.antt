@@ -1,5 +1,6 @@
 pub mod BrokenLemmas
 pub mod ChainLemmas
+pub mod CoverLemmas
 pub mod EachLemmas
 pub mod EdgeLemmas
 pub mod ForbiddenLemmas

@@ -58,7 +58,7 @@ impl Rows {
     }
 
     /// Lets event a lead to all events of a set, all numbers below `len()`.
-    fn put_all(&mut self, a: usize, set: EventSet)
+    pub fn put_all(&mut self, a: usize, set: EventSet)
         requires first { a < rows_len self.old }
         requires second { (d : ℕ) → HasEvent set d → d < rows_len self.old }
         ensures len { rows_len self.new ≡ rows_len self.old }

@@ -1,6 +1,6 @@
 //! Sets of events.
 
-ghost use Rattle.std.specs.Prelude.{◌≡◌, ◌⊎◌, ◌↔◌, ℕ, ◌<◌, IsTrue};
+ghost use Rattle.std.specs.Prelude.{◌≡◌, ◌⊎◌, ◌↔◌, ℕ, ◌<◌, ◌≤◌, IsTrue, MatchOption};
 ghost use Rattle.lit_paths.specs.declared.limits.TheConstants.{EVENT_LIMIT};
 
 /// A set of events, by their numbers: below `EVENT_LIMIT`.
@@ -11,7 +11,7 @@ pub struct EventSet {
 }
 
 impl EventSet {
-    ghost use Rattle.lit_rel.specs.EventSet.{HasEvent, no_events};
+    ghost use Rattle.lit_rel.specs.EventSet.{HasEvent, IsSplit, no_events};
 
     /// The set of no event.
     pub fn new() -> Self
@@ -19,6 +19,16 @@ impl EventSet {
         ensures empty { (e : ℕ) → ¬ HasEvent result e }
     {
         EventSet { bits: 0 }
+    }
+
+    /// The set of the events with numbers below this one.
+    pub fn below(len: usize) -> Self
+        requires { len ≤ EVENT_LIMIT }
+        ensures { (e : ℕ) → HasEvent result e ↔ (e < len) }
+    {
+        EventSet {
+            bits: (1 << len) - 1,
+        }
     }
 
     /// Whether an event is in it.
@@ -55,6 +65,31 @@ impl EventSet {
         EventSet {
             bits: self.bits & other.bits,
         }
+    }
+
+    /// The events of it that are not in the other set.
+    pub fn difference(self, other: Self) -> Self
+        ensures { (e : ℕ) → HasEvent result e ↔ (HasEvent self e × ¬ HasEvent other e) }
+    {
+        EventSet {
+            bits: self.bits ^ (self.bits & other.bits),
+        }
+    }
+
+    /// The least event of it, and the set of the others.
+    pub fn split_first(self) -> Option<(usize, Self)>
+        ensures { MatchOption result
+            ((e : ℕ) → ¬ HasEvent self e)
+            (λ split. IsSplit self split.0 split.1) }
+    {
+        if self.bits == 0 {
+            return None;
+        }
+        let event = self.bits.trailing_zeros();
+        let others = EventSet {
+            bits: self.bits & (self.bits - 1),
+        };
+        Some((event as usize, others))
     }
 
     /// Whether there is no event in it.

@@ -28,7 +28,7 @@ returns-then-len-clause-found t c _ =
     let n = constrained_len it in
     let order = c.args.order.now.items in
     IsLeastFrom-itself n (ComesBefore it) (MayNotStand it) order
-    (IsOrderOf-from_beginning n (ComesBefore it) (MayNotStand it) order (λ a d h. subst (λ (m : ℕ). d < m) it.same h.known) (omega arith) c.requires.begins)
+    (IsOrderOf-from_beginning n (ComesBefore it) (MayNotStand it) order (λ a d h. subst (λ (m : ℕ). d < m) it.same h.first_known) (omega arith) c.requires.begins)
 
 pub complete-requires : goal.complete-requires
 complete-requires t c =

@@ -12,7 +12,7 @@ returns-then-len-clause-found t c _ =
     let n = constrained_len c.args.constraints.now in
     let order = c.args.order.now.items in
     IsLeastFrom-itself n (ComesBefore c.args.constraints.now) (MayNotStand c.args.constraints.now) order
-    (IsOrderOf-from_beginning n (ComesBefore c.args.constraints.now) (MayNotStand c.args.constraints.now) order (λ a d h. subst (λ (m : ℕ). d < m) c.args.constraints.now.same h.known) (omega arith) c.requires.begins)
+    (IsOrderOf-from_beginning n (ComesBefore c.args.constraints.now) (MayNotStand c.args.constraints.now) order (λ a d h. subst (λ (m : ℕ). d < m) c.args.constraints.now.same h.first_known) (omega arith) c.requires.begins)
 
 pub extend-requires : goal.extend-requires
 extend-requires t c =

@@ -12,8 +12,8 @@ loop-pair-preserved c k p l at_k v other =
     elim (cases_eq k c.loop-pair.pair-index) [
       | inl same ↦
           let is : _ = get_or_from_slice_get c.pairs-pair-items.result.now c.loop-pair.pair-index p _ (ap (slice_get c.pairs-pair-items.result.now) (sym same) ∙ at_k) in
-          subst (λ (x : Pair). HasForced (Holds c.args.rows.now) x.source x.read v) is
-          (c.in_default.ensures v (subst (λ (x : Pair). IsOtherOf (rows_len c.args.rows.now) x v) (sym is) other))
+          subst (λ (x : Pair). HasForced (Holds c.args.rows.now.rows) x.source x.read v) is
+          (c.in_default.ensures v (subst (λ (x : Pair). IsOtherOf (rows_len c.args.rows.now.rows) x v) (sym is) other))
       | inr ne ↦ c.loop-pair.invariant k p (omega arith) at_k v other
     ]
 
@@ -43,7 +43,7 @@ pub returns : goal.returns
 returns c w r v f =
     let at_place = ap (λ xs. slice_get xs f.place) c.pairs-pair-items.ensures.value ∙ f.at_place in
     let l = slice_get_within c.pairs-pair-items.result.now f.place f.pair at_place in
-    let known : v < rows_len c.args.rows.now = subst (λ (x : ℕ). v < x) (sym c.requires) f.other_known in
-    subst (λ (x : ℕ). HasForced (Holds c.args.rows.now) x r v) f.is_pair.source
-    (subst (λ (x : ℕ). HasForced (Holds c.args.rows.now) f.pair.source x v) f.is_pair.read
+    let known : v < rows_len c.args.rows.now.rows = subst (λ (x : ℕ). v < x) (sym c.requires) f.other_known in
+    subst (λ (x : ℕ). HasForced (Holds c.args.rows.now.rows) x r v) f.is_pair.source
+    (subst (λ (x : ℕ). HasForced (Holds c.args.rows.now.rows) f.pair.source x v) f.is_pair.read
     (c.loop-pair.invariant f.place f.pair (omega arith) at_place v (record { known = known; marked = f.marked })))

@@ -7,4 +7,4 @@ use Rattle.lit_order.proofs.triples.next_forced.Given as goal
 
 abbrev pub invariant-loop-pair : goal.invariant-loop-pair
 invariant-loop-pair l =
-    (k : ℕ) (p : Pair) → k < l.pair-index → slice_get l.pair-items k ≡ Some p → (v : ℕ) → IsOtherOf (rows_len l.rows) p v → HasForced (Holds l.rows) p.source p.read v
+    (k : ℕ) (p : Pair) → k < l.pair-index → slice_get l.pair-items k ≡ Some p → (v : ℕ) → IsOtherOf (rows_len l.rows.rows) p v → HasForced (Holds l.rows.rows) p.source p.read v
