@@ -53,10 +53,10 @@ impl<'p> Part<'p> {
         requires { combination < length (combinations_of plan.now) }
         ensures { result ≡ record { test = plan.now; combination = combination; sources = [] } }
     {
-        let related = Related::open(plan, combination);
-        let refused = has_false_test(&related, None, 0);
+        let combination = plan.enter(combination);
+        let refused = has_false_test(&combination, None, 0);
         Part {
-            related,
+            related: Related::open(combination),
             earlier: ArrayVec::new(),
             refused,
         }
