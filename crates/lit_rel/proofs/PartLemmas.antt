@@ -5,13 +5,13 @@ use Rattle.std.proofs.lemmas.List.{get_or_past, length-map, length-take-le, leng
 use Rattle.std.proofs.lemmas.List.Elements.{All-nil, All-push, All-take}
 use Rattle.std.specs.Bool.{IsTrue}
 use Rattle.std.specs.Prelude.{All}
-use Rattle.std.proofs.lemmas.Option.{none-some, slice_get_within, slice_get-get_or}
+use Rattle.std.proofs.lemmas.Option.{none-some, same_Some, slice_get_within, slice_get-get_or}
 use Rattle.std.specs.List.{slice_get, take-map}
 use Rattle.lit_read.specs.Syntax.{Litmus}
 use Rattle.lit_paths.specs.declared.event.Event.{Event}
 use Rattle.lit_paths.specs.declared.limits.TheConstants.{BYTE_READ_LIMIT}
 use Rattle.lit_paths.specs.declared.sources.ByteRead.{ByteRead}
-use Rattle.lit_paths.specs.ByteReads.{byte_reads, pair_of}
+use Rattle.lit_paths.specs.ByteReads.{IsCandidate, byte_reads, pair_of}
 use Rattle.lit_paths.specs.Event.{event_at, no_event}
 use Rattle.lit_paths.specs.Plan.{AreEventsIn}
 use Rattle.lit_rel.specs.declared.bit_rows.Rows.{Rows}
@@ -19,7 +19,7 @@ use Rattle.lit_rel.specs.declared.given.SourcedByte.{SourcedByte}
 use Rattle.lit_rel.specs.declared.levels.Level.{Level}
 use Rattle.lit_rel.specs.Coherent.{IsCoherentRead}
 use Rattle.lit_rel.specs.HappensBefore.{HappensBefore, HappensBeforeBy}
-use Rattle.lit_rel.specs.Part.{IsNextSource, PartModel, part_events, with_sources}
+use Rattle.lit_rel.specs.Part.{AreFirstSources, IsNextSource, PartModel, part_events, with_sources}
 use Rattle.lit_rel.specs.Parts.Given.{AreFirstReads, IsKnown, Tears, read_of, sources_of}
 use Rattle.lit_rel.specs.Parts.Levels.{IsKept, IsLevel, IsOrder}
 use Rattle.lit_rel.specs.Parts.Pushed.{HasByteSo, IsChangedByte}
@@ -48,17 +48,32 @@ small_events block events sound n =
 -- a byte with its source is one of the first byte reads
 pub record IsNextByte (part : PartModel) (bytes : List SourcedByte) (byte : SourcedByte) : Type 0 where
   pub left : slice_get (byte_reads (part_events part)) (length bytes) ≡ Some (read_of byte)
-  pub known : IsKnown (length (part_events part)) byte
+  pub candidate : IsCandidate (part_events part) byte.read byte.byte byte.source
+
+pub next_known : (part : PartModel) (bytes : List SourcedByte) (byte : SourcedByte) → IsNextByte part bytes byte → IsKnown (length (part_events part)) byte
+next_known part bytes byte new = (read_known (part_events part) (length bytes) byte.read byte.byte new.left, new.candidate.known)
 
 pub IsNextByte-from : (part : PartModel) (bytes : List SourcedByte) (source : ℕ) → part.sources ≡ sources_of bytes → IsNextSource part source → (reads : List ByteRead) → map pair_of reads ≡ byte_reads (part_events part) → (n : ℕ) → n ≡ length bytes → (d : ByteRead) → IsNextByte part bytes (record { read = (get_or reads n d).read; byte = (get_or reads n d).byte; source = source })
 IsNextByte-from part bytes source same next reads are n is d =
     let events = part_events part in
     let count : length part.sources ≡ n = ap length same ∙ length-map bytes (λ (b : SourcedByte). b.source) ∙ sym is in
     let found = next_read (byte_reads events) reads are n (next.read, next.byte) d (ap (slice_get (byte_reads events)) (sym count) ∙ next.left) in
+    let same_read : (next.read, next.byte) ≡ pair_of (get_or reads n d) = same_Some (next.read, next.byte) (pair_of (get_or reads n d)) (sym (ap (slice_get (byte_reads events)) (sym count) ∙ next.left) ∙ found.1) in
     record {
       left = ap (slice_get (byte_reads events)) (sym is) ∙ found.1;
-      known = (read_known events n (get_or reads n d).read (get_or reads n d).byte found.1, next.candidate.known);
+      candidate = subst (λ (q : ℕ × ℕ). IsCandidate events q.0 q.1 source) same_read next.candidate;
     }
+
+-- so its source is a candidate too, and those before it
+AreFirstSources-push : (part : PartModel) (byte : SourcedByte) → slice_get (byte_reads (part_events part)) (length part.sources) ≡ Some (read_of byte) → IsCandidate (part_events part) byte.read byte.byte byte.source
+    → AreFirstSources part → AreFirstSources (with_sources part (part.sources ++ byte.source ∷ []))
+AreFirstSources-push part byte left candidate are i r b w at_read at_source =
+    elim (place-push part.sources byte.source i w at_source) [
+      | inl old ↦ are i r b w at_read old.1
+      | inr last ↦
+          let same : read_of byte ≡ (r, b) = same_Some (read_of byte) (r, b) (sym left ∙ ap (slice_get (byte_reads (part_events part))) (sym last.0) ∙ at_read) in
+          subst (λ (q : ℕ × ℕ). IsCandidate (part_events part) q.0 q.1 w) same (subst (IsCandidate (part_events part) byte.read byte.byte) last.1 candidate)
+    ]
 
 -- so there is room for it
 pub few_bytes : (part : PartModel) (start now : Rows) (bytes : List SourcedByte) (earlier : List Level) (level : Level) (byte : SourcedByte) → IsKept part start now bytes earlier level → IsNextByte part bytes byte → length bytes < BYTE_READ_LIMIT
@@ -78,7 +93,8 @@ IsKept-push part start now now' bytes bytes' earlier earlier' level next byte sa
     record {
       sound = k.sound;
       first_reads = AreFirstReads-push (part_events part) bytes k.first_reads bytes' byte pushed new.left;
-      known = subst (λ (xs : List SourcedByte). All (IsKnown (length (part_events part))) xs) (sym pushed) (All-push (IsKnown (length (part_events part))) bytes byte k.known new.known);
+      known = subst (λ (xs : List SourcedByte). All (IsKnown (length (part_events part))) xs) (sym pushed) (All-push (IsKnown (length (part_events part))) bytes byte k.known (next_known part bytes byte new));
+      candidates = subst (λ (xs : List ℕ). AreFirstSources (with_sources part xs)) (sym sources') (AreFirstSources-push part byte (ap (slice_get (byte_reads (part_events part))) count ∙ new.left) new.candidate k.candidates);
       one_each = ap length pushed_level ∙ length_push earlier level ∙ (let e : length earlier ≡ length bytes = k.one_each in omega arith) ∙ sym (length_push bytes byte) ∙ sym (ap length pushed);
       unsourced = k.unsourced;
       ordered = subst (λ (xs : List ℕ). IsOrder (part_events part) xs now') (sym sources') is_now;
@@ -110,6 +126,7 @@ IsKept-pop part start now now' bytes bytes' earlier earlier' level n d same k co
       sound = k.sound;
       first_reads = subst (AreFirstReads (part_events part)) (sym is_bytes) (AreFirstReads-take (part_events part) bytes k.first_reads n (omega arith));
       known = subst (λ (xs : List SourcedByte). All (IsKnown (length (part_events part))) xs) (sym is_bytes) (All-take (IsKnown (length (part_events part))) n bytes k.known);
+      candidates = subst (λ (xs : List ℕ). AreFirstSources (with_sources part xs)) sources' (λ i r b w at_read at_source. k.candidates i r b w at_read (take_from n part.sources i w at_source));
       one_each = ap length is_earlier ∙ length-take-le n earlier (omega arith) ∙ sym (length-take-le n bytes (omega arith)) ∙ sym (ap length is_bytes);
       unsourced = k.unsourced;
       ordered = subst (λ (xs : List ℕ). IsOrder (part_events part) xs now') sources' is_now;
@@ -140,6 +157,7 @@ IsKept-open part start bytes earlier broken none no_bytes no_levels sound is_sta
   sound = sound;
   first_reads = subst (AreFirstReads (part_events part)) (sym no_bytes) refl;
   known = subst (λ (xs : List SourcedByte). All (IsKnown (length (part_events part))) xs) (sym no_bytes) (All-nil (IsKnown (length (part_events part))));
+  candidates = λ i r b w at_read at_source. absurd (none-some w (sym (ap (λ (xs : List ℕ). slice_get xs i) none) ∙ at_source));
   one_each = ap length no_levels ∙ sym (ap length no_bytes);
   unsourced = is_start;
   ordered = subst (λ (xs : List ℕ). IsOrder (part_events part) xs start) (sym none) is_start;

@@ -9,7 +9,7 @@ ghost use Rattle.lit_rel.specs.Between.{Forbids};
 ghost use Rattle.lit_rel.specs.Coherent.{HasCoherentReads};
 ghost use Rattle.lit_rel.specs.Forbidden.{IsForbidden};
 ghost use Rattle.lit_rel.specs.HappensBefore.{HappensBefore};
-ghost use Rattle.lit_rel.specs.Part.{IsNextSource, part_events, with_sources};
+ghost use Rattle.lit_rel.specs.Part.{AreFirstSources, IsNextSource, part_events, with_sources};
 ghost use Rattle.lit_rel.specs.ReadsFrom.{ReadsFrom, value_of};
 ghost use Rattle.lit_rel.specs.Rows.{Holds, rows_len};
 ghost use Rattle.lit_rel.specs.SynchronizesWith.{Synchronizes};
@@ -137,10 +137,11 @@ impl<'p> Related<'p> {
         self.level.broken
     }
 
-    /// How many sources are given.
+    /// How many sources are given. Each is a candidate of its byte read.
     pub(crate) fn len(&self) -> usize
         ensures value { result ≡ length self.now.sources }
         ensures few { result ≤ length (byte_reads (part_events self.now)) }
+        ensures candidates { AreFirstSources self.now }
     {
         self.bytes.len()
     }

@@ -7,7 +7,7 @@ use Rattle.lit_rel.specs.declared.given.SourcedByte.{SourcedByte}
 use Rattle.lit_rel.specs.declared.levels.Level.{Level}
 use Rattle.lit_rel.specs.Broken.{HasBrokenRelations}
 use Rattle.lit_rel.specs.HappensBefore.{HappensBefore}
-use Rattle.lit_rel.specs.Part.{PartModel, part_events, with_sources}
+use Rattle.lit_rel.specs.Part.{AreFirstSources, PartModel, part_events, with_sources}
 use Rattle.lit_rel.specs.Parts.Given.{AreFirstReads, AreKnown}
 use Rattle.lit_rel.specs.Rows.{Holds, rows_len}
 
@@ -21,12 +21,13 @@ pub record IsLevel (part : PartModel) (level : Level) : Type 0 where
   pub broken : IsTrue level.broken ↔ HasBrokenRelations part
   pub same : level.adds ≡ false → (e d : ℕ) → HappensBefore (part_events part) (take (length part.sources - 1) part.sources) e d ↔ HappensBefore (part_events part) part.sources e d
 
--- what a part keeps: the first byte reads, each with a source, happens-before of none of them and of all, and what is
+-- what a part keeps: the first byte reads, each with a source that is a candidate, happens-before of none of them and of all, and what is
 -- known with all of them and with each lesser number of them
 pub record IsKept (part : PartModel) (start order : Rows) (bytes : List SourcedByte) (earlier : List Level) (last : Level) : Type 0 where
   pub sound : AreEventsIn part.test.bytes (part_events part)
   pub first_reads : AreFirstReads (part_events part) bytes
   pub known : AreKnown (part_events part) bytes
+  pub candidates : AreFirstSources part
   pub one_each : length earlier ≡ length bytes
   pub unsourced : IsOrder (part_events part) [] start
   pub ordered : IsOrder (part_events part) part.sources order

@@ -18,7 +18,7 @@ use Rattle.lit_rel.specs.Parts.Pushed.{HasByteSo, IsChangedByte}
 use Rattle.lit_rel.specs.Rows.{Holds, WithPair}
 use Rattle.lit_rel.specs.SynchronizesWith.{CanSynchronize}
 use Rattle.lit_rel.proofs.OrderLemmas.{IsOrder-alone, IsOrder-with_pair}
-use Rattle.lit_rel.proofs.PartLemmas.{few_bytes, IsKept-push, IsLevel-alone, IsLevel-with_pair, IsNextByte, IsNextByte-from, left_of_part, of_given, part_of}
+use Rattle.lit_rel.proofs.PartLemmas.{few_bytes, IsKept-push, IsLevel-alone, IsLevel-with_pair, IsNextByte, IsNextByte-from, left_of_part, next_known, of_given, part_of}
 use Rattle.lit_rel.proofs.related.Related.push.Goals as goal
 use Rattle.lit_rel.proofs.related.Related.push.Goals.{then-adds_pair, else-adds_pair}
 
@@ -34,14 +34,14 @@ adds_pair-requires c =
     let new = next_byte c.self.inside c.byte_reads.result.now c.len.result c.args.source c.args.self.now c.self.view_is c.requires c.byte_reads.ensures c.len.ensures.value in
     let no_read : ByteRead = record { read = 0; byte = 0 } in
     let byte : SourcedByte = record { read = (get_or c.byte_reads.result.now c.len.result no_read).read; byte = (get_or c.byte_reads.result.now c.len.result no_read).byte; source = c.args.source } in
-    subst (λ (es : List Event). IsKnown (length es) byte) (sym c.events.ensures.value) new.known
+    subst (λ (es : List Event). IsKnown (length es) byte) (sym c.events.ensures.value) (next_known _ _ byte new)
 
 pub is_broken_with-broken-requires : goal.is_broken_with-broken-requires
 is_broken_with-broken-requires c =
     let new = next_byte c.self.inside c.byte_reads.result.now c.len.result c.args.source c.args.self.now c.self.view_is c.requires c.byte_reads.ensures c.len.ensures.value in
     let no_read : ByteRead = record { read = 0; byte = 0 } in
     let byte : SourcedByte = record { read = (get_or c.byte_reads.result.now c.len.result no_read).read; byte = (get_or c.byte_reads.result.now c.len.result no_read).byte; source = c.args.source } in
-    subst (λ (es : List Event). IsKnown (length es) byte) (sym c.events.ensures.value) new.known
+    subst (λ (es : List Event). IsKnown (length es) byte) (sym c.events.ensures.value) (next_known _ _ byte new)
 
 pub push-requires : goal.push-requires
 push-requires c =
