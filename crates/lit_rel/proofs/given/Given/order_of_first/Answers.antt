@@ -1,6 +1,5 @@
-use Rattle.std.proofs.Common.{◌≡◌, ◌↔◌, ◌+◌, ◌<◌, ◌≤◌, ℕ, List, length, take, get_or, arith, refl, ap, sym, subst}
+use Rattle.std.proofs.Common.{◌↔◌, ◌+◌, ◌<◌, ◌≤◌, ℕ, List, length, take, get_or, arith, refl, sym, subst}
 use Rattle.std.proofs.lemmas.Bool.{false≢true}
-use Rattle.lit_rel.specs.declared.bit_rows.Rows.{Rows}
 use Rattle.lit_rel.specs.Parts.Given.{sources_of}
 use Rattle.lit_rel.specs.Parts.Levels.{IsOrder}
 use Rattle.lit_rel.specs.Rows.{Holds, WithPair}
