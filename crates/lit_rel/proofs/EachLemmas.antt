@@ -93,3 +93,11 @@ module _ {X : Type 0} (P : X → Type 0) (xs : List X) where
         (λ h. more.1 (inl (so_far.0 h))),
         (λ h. elim (more.0 h) [ inl before ↦ so_far.1 before | inr now ↦ absurd (not_here now) ]),
       )
+
+  -- what holds of the next holds of one before
+  pub SomeBelow-again : (i : ℕ) (d : X) (old : Type 0) → i < length xs → (old ↔ SomeBelow P xs i) → (P (get_or xs i d) → SomeBelow P xs i) → old ↔ SomeBelow P xs (i + 1)
+  SomeBelow-again i d old l so_far again =
+      let more = SomeBelow-more i d l in (
+        (λ h. more.1 (inl (so_far.0 h))),
+        (λ h. elim (more.0 h) [ inl before ↦ so_far.1 before | inr now ↦ so_far.1 (again now) ]),
+      )

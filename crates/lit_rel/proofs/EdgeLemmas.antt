@@ -12,6 +12,14 @@ pub HappensBeforeBy-transitive : (events : List Event) (given : ℕ → ℕ → 
 HappensBeforeBy-transitive events given x y z p q =
     record { middles = p.middles ++ y ∷ q.middles; chain = Chain-append (StepBy events given) x p.middles y q.middles z p.chain q.chain }
 
+-- a pair more, of relations that hold of the same
+pub WithPair-same : (before other : ℕ → ℕ → Type 0) (w r : ℕ) → ((e d : ℕ) → before e d ↔ other e d) → (e d : ℕ) → WithPair before w r e d ↔ WithPair other w r e d
+WithPair-same before other w r same e d = (to before other (λ x y. (same x y).0), to other before (λ x y. (same x y).1))
+  where
+    to : (some others : ℕ → ℕ → Type 0) → ((x y : ℕ) → some x y → others x y) → WithPair some w r e d → WithPair others w r e d
+    to some others into (inl old) = inl (into e d old)
+    to some others into (inr both) = inr (elim both.0 [ inl p ↦ inl (into e w p) | inr is ↦ inr is ], elim both.1 [ inl p ↦ inl (into r d p) | inr is ↦ inr is ])
+
 -- what is given, and what is given with byte b of read r from source w
 module _ (events : List Event) (given more : ℕ → ℕ → ℕ → Type 0) (r b w : ℕ) (adds : (r' b' w' : ℕ) → more r' b' w' ↔ (given r' b' w' ⊎ ((r' ≡ r) × (b' ≡ b) × (w' ≡ w)))) where
   step_more : (e d : ℕ) → StepBy events given e d → StepBy events more e d

@@ -1,21 +1,16 @@
 -- Forbidden triples, by the byte reads that have a source.
-use Rattle.std.proofs.Common.{◌≡◌, ◌↔◌, ℕ, ◌<◌, ◌≤◌, List, length, sym, subst}
+use Rattle.std.proofs.Common.{◌↔◌, ℕ, ◌+◌, ◌-◌, ◌<◌, ◌≤◌, List, length, get_or, sym, ◌∙◌, subst, arith}
+use Rattle.std.proofs.lemmas.Option.{slice_get-get_or}
 use Rattle.lit_paths.specs.declared.event.Event.{Event}
 use Rattle.lit_rel.specs.declared.given.SourcedByte.{SourcedByte}
 use Rattle.lit_rel.specs.Forbidden.{IsForbiddenBetween, IsForbiddenTriple}
+use Rattle.lit_rel.specs.Parts.Forbidding.{IsForbidding, RepeatsPair}
 use Rattle.lit_rel.specs.Parts.Given.{AreFirstReads, sources_of}
 use Rattle.lit_rel.specs.ReadsFrom.{ReadsByteFrom, ReadsFrom}
-use Rattle.lit_rel.proofs.EachLemmas.{SomeBelow, SomeBelow-all}
+use Rattle.lit_rel.proofs.EachLemmas.{SomeBelow, SomeBelow-again, SomeBelow-all}
 use Rattle.lit_rel.proofs.ReadingLemmas.{write_known}
 use Rattle.lit_rel.proofs.RelatingLemmas.{ReadsFrom-iff}
-use Rattle.lit_rel.proofs.SourceLemmas.{byte_at}
-
--- the byte has this source and this read, and v may not stand between them
-pub record IsForbidding (events : List Event) (before : ℕ → ℕ → Type 0) (w r v : ℕ) (p : SourcedByte) : Type 0 where
-  pub source : w ≡ p.source
-  pub read : r ≡ p.read
-  pub known : v < length events
-  pub between : IsForbiddenBetween events before p.source p.read v
+use Rattle.lit_rel.proofs.SourceLemmas.{byte_at, no_byte}
 
 pub IsForbiddenTriple-iff : (events : List Event) (bytes : List SourcedByte) (n : ℕ) → AreFirstReads events bytes → length bytes ≤ n → (before : ℕ → ℕ → Type 0) (w r v : ℕ) → SomeBelow (IsForbidding events before w r v) bytes n ↔ IsForbiddenTriple events (ReadsByteFrom events (sources_of bytes)) before w r v
 IsForbiddenTriple-iff events bytes n first all before w r v = (
@@ -35,3 +30,23 @@ IsForbiddenTriple-iff events bytes n first all before w r v = (
         between = subst (λ (x : ℕ). IsForbiddenBetween events before x p.read v) (sym found.3.source) (subst (λ (x : ℕ). IsForbiddenBetween events before w x v) (sym found.3.read) f.between);
       }),
 )
+
+-- a byte that repeats the pair of the one before forbids nothing more
+pub forbidden-again : (events : List Event) (before : ℕ → ℕ → Type 0) (w r v : ℕ) (bytes : List SourcedByte) (i : ℕ) (old : Type 0) → i < length bytes → (old ↔ SomeBelow (IsForbidding events before w r v) bytes i) → RepeatsPair bytes i → old ↔ SomeBelow (IsForbidding events before w r v) bytes (i + 1)
+forbidden-again events before w r v bytes i old within so_far again =
+    SomeBelow-again (IsForbidding events before w r v) bytes i no_byte old within so_far
+    (λ here.
+    let some : 0 < i = again.some in
+    let below : i - 1 < length bytes = omega arith in
+    record {
+      place = i - 1;
+      item = get_or bytes (i - 1) no_byte;
+      below = omega arith;
+      at_place = slice_get-get_or bytes (i - 1) no_byte below;
+      has = record {
+        source = here.source ∙ sym again.source;
+        read = here.read ∙ sym again.read;
+        known = here.known;
+        between = subst (λ (x : ℕ). IsForbiddenBetween events before x (get_or bytes (i - 1) no_byte).read v) (sym again.source) (subst (λ (x : ℕ). IsForbiddenBetween events before (get_or bytes i no_byte).source x v) (sym again.read) here.between);
+      };
+    })

@@ -21,7 +21,7 @@ use Rattle.lit_rel.specs.ReadsFrom.{ReadsByteFrom}
 use Rattle.lit_rel.specs.Rows.{Holds, WithPair, rows_len}
 use Rattle.lit_rel.specs.TearFree.{CanReadWhole}
 use Rattle.lit_rel.proofs.BrokenLemmas.{IsBrokenBy-anew, IsBrokenBy-grows, IsBrokenBy-more, IsCoherentRead-kept, IsCoherentRead-same}
-use Rattle.lit_rel.proofs.EdgeLemmas.{HappensBeforeBy-transitive}
+use Rattle.lit_rel.proofs.EdgeLemmas.{HappensBeforeBy-transitive, WithPair-same}
 use Rattle.lit_rel.proofs.PlaceLemmas.{place-left, place-middle, place-push}
 use Rattle.lit_rel.proofs.SourceLemmas.{byte_at, read_at}
 
@@ -199,15 +199,9 @@ module _ (events : List Event) (given more : ℕ → ℕ → ℕ → Type 0) (r 
     Behind e = Holds before r e ⊎ (e ≡ r)
 
     pub now_is_more : (e d : ℕ) → Holds now e d ↔ HappensBeforeBy events more e d
-    now_is_more e d = (λ h. (is_more e d).0 (to ((is_now e d).0 h)), λ h. (is_now e d).1 (from ((is_more e d).1 h)))
-      where
-        to : WithPair (Holds before) w r e d → WithPair (HappensBeforeBy events given) w r e d
-        to (inl old) = inl ((is_before e d).0 old)
-        to (inr both) = inr (elim both.0 [ inl p ↦ inl ((is_before e w).0 p) | inr same ↦ inr same ], elim both.1 [ inl p ↦ inl ((is_before r d).0 p) | inr same ↦ inr same ])
-
-        from : WithPair (HappensBeforeBy events given) w r e d → WithPair (Holds before) w r e d
-        from (inl old) = inl ((is_before e d).1 old)
-        from (inr both) = inr (elim both.0 [ inl p ↦ inl ((is_before e w).1 p) | inr same ↦ inr same ], elim both.1 [ inl p ↦ inl ((is_before r d).1 p) | inr same ↦ inr same ])
+    now_is_more e d =
+        let with = WithPair-same (Holds before) (HappensBeforeBy events given) w r is_before e d in
+        (λ h. (is_more e d).0 (with.0 ((is_now e d).0 h)), λ h. (is_now e d).1 (with.1 ((is_more e d).1 h)))
 
     kept_with : (r' b' w' : ℕ) → given r' b' w' → (CanChange Ahead Behind r' w' → ⊥) → IsCoherentRead events (HappensBeforeBy events given) r' b' w' → IsCoherentRead events (HappensBeforeBy events more) r' b' w'
     kept_with r' b' w' _ cannot c =

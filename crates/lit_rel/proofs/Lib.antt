@@ -6,6 +6,7 @@ pub mod EdgeLemmas
 pub mod ForbiddenLemmas
 pub mod GrowthLemmas
 pub mod LevelLemmas
+pub mod OrderLemmas
 pub mod PartLemmas
 pub mod PlaceLemmas
 pub mod ReadingLemmas

@@ -113,6 +113,18 @@ WithPair-transitive before a d through x y z (inr p) (inl q) = inr (p.0, from_d 
     from_d (inr same) = inl (subst (λ (e : ℕ). before e z) same q)
 WithPair-transitive before a d through x y z (inr p) (inr q) = inr (p.0, q.1)
 
+-- and it is the least that has them
+pub WithPair-least : (before other : ℕ → ℕ → Type 0) (a d : ℕ) → IsTransitive other → ((x y : ℕ) → before x y → other x y) → other a d → (x y : ℕ) → WithPair before a d x y → other x y
+WithPair-least before other a d through has pair x y (inl old) = has x y old
+WithPair-least before other a d through has pair x y (inr led) = to_y led.1
+  where
+    to_d : other x d
+    to_d = elim led.0 [ inl p ↦ through x a d (has x a p) pair | inr same ↦ subst (λ (e : ℕ). other e d) (sym same) pair ]
+
+    to_y : (before d y ⊎ (y ≡ d)) → other x y
+    to_y (inl q) = through x d y to_d (has d y q)
+    to_y (inr same) = subst (other x) (sym same) to_d
+
 pub IsTransitive-same : (before other : ℕ → ℕ → Type 0) → ((x y : ℕ) → other x y ↔ before x y) → IsTransitive before → IsTransitive other
 IsTransitive-same before other same through x y z p q = (same x z).1 (through x y z ((same x y).0 p) ((same y z).0 q))
 

@@ -82,7 +82,7 @@ read_known events i r b h =
     subst (λ (q : ℕ × ℕ). q.0 < length events) is (byte_reads_from-number 0 events (length events) (omega arith) i (r, b) within)
 
 -- a front of one more
-take_more : {X : Type 0} (xs : List X) (n : ℕ) (x : X) → slice_get xs n ≡ Some x → take (suc n) xs ≡ take n xs ++ x ∷ []
+pub take_more : {X : Type 0} (xs : List X) (n : ℕ) (x : X) → slice_get xs n ≡ Some x → take (suc n) xs ≡ take n xs ++ x ∷ []
 take_more [] n x h = absurd (none-some x h)
 take_more (a ∷ xs) zero x h = ap (λ y. y ∷ []) (same_Some a x h)
 take_more (a ∷ xs) (suc n) x h = ap (λ ys. a ∷ ys) (take_more xs n x h)

@@ -19,7 +19,7 @@ pub struct Rows {
 
 impl Rows {
     ghost use Rattle.lit_rel.specs.EventSet.{HasEvent};
-    ghost use Rattle.lit_rel.specs.Rows.{Holds, IsTransitive, WithPair, rows_len};
+    ghost use Rattle.lit_rel.specs.Rows.{Holds, IsLeastWith, IsTransitive, WithPair, rows_len};
 
     /// The empty relation on so many events, at most `EVENT_LIMIT`.
     pub fn new(len: usize) -> Self
@@ -127,6 +127,7 @@ impl Rows {
         ensures len { rows_len self.new ≡ rows_len self.old }
         ensures pairs { (x y : ℕ) → Holds self.new x y ↔ WithPair (Holds self.old) a d x y }
         ensures transitive { IsTransitive (Holds self.old) → IsTransitive (Holds self.new) }
+        ensures least { IsLeastWith (Holds self.old) a d (Holds self.new) }
     {
         let behind = self.successors(d).with(d);
         for first in 0..self.len {

@@ -1,9 +1,11 @@
 //! Which events may not stand between a source and its read in the order of memory (ECMA-262, 2024, 29.7.4).
 
-ghost use Rattle.std.specs.Prelude.{◌≡◌, ◌⊎◌, ◌↔◌, ℕ, ◌<◌, IsTrue, length};
+ghost use Rattle.std.specs.Prelude.{◌≡◌, ◌⊎◌, ◌↔◌, ℕ, ◌+◌, ◌<◌, ◌≤◌, IsTrue, length};
+ghost use Rattle.lit_paths.specs.declared.limits.TheConstants.{BYTE_READ_LIMIT};
 ghost use Rattle.lit_rel.specs.Between.{Forbids};
 ghost use Rattle.lit_rel.specs.EventSet.{HasEvent};
 ghost use Rattle.lit_rel.specs.Forbidden.{IsAfterSource, IsBeforeRead, IsBetweenSynchronized, IsForbiddenBetween, IsForbiddenTriple};
+ghost use Rattle.lit_rel.specs.Parts.Forbidding.{IsForbidding, RepeatsPair};
 ghost use Rattle.lit_rel.specs.Parts.Given.{IsKnown, sources_of};
 ghost use Rattle.lit_rel.specs.ReadsFrom.{ReadsByteFrom};
 ghost use Rattle.lit_rel.specs.Rows.{Holds};
@@ -88,13 +90,38 @@ impl Given<'_> {
             ↔ IsForbiddenTriple self.now.events.now (ReadsByteFrom self.now.events.now (sources_of self.now.bytes.now)) (Holds before.now) w r v }
     {
         let mut between = Between::new(self.events.len());
-        for byte in self.bytes {
-            let others = self.forbidden(*byte, before);
-            if !others.is_empty() {
-                between.forbid(byte.source, byte.read, others);
+        for place in 0..self.bytes.len() {
+            if !self.repeats_pair(place) {
+                self.forbid_others(&mut between, self.bytes[place], before);
             }
         }
         between
+    }
+
+    /// Whether the byte before has the same source and read. A read has its bytes one after the other.
+    fn repeats_pair(&self, place: usize) -> bool
+        requires { place < length self.now.bytes.now }
+        ensures { IsTrue result ↔ RepeatsPair self.now.bytes.now place }
+    {
+        place > 0
+            && self.bytes[place - 1].source == self.bytes[place].source
+            && self.bytes[place - 1].read == self.bytes[place].read
+    }
+
+    /// Forbids what may not stand between a byte's source and its read.
+    fn forbid_others(&self, between: &mut Between, byte: SourcedByte, before: &Rows)
+        requires known { IsKnown (length self.now.events.now) byte }
+        requires len { between.old.len ≡ length self.now.events.now }
+        requires room { length between.old.pairs < BYTE_READ_LIMIT }
+        ensures len { between.new.len ≡ between.old.len }
+        ensures count { length between.new.pairs ≤ length between.old.pairs + 1 }
+        ensures triples { (w r v : ℕ) → Forbids between.new w r v
+            ↔ (Forbids between.old w r v ⊎ IsForbidding self.now.events.now (Holds before.now) w r v byte) }
+    {
+        let others = self.forbidden(byte, before);
+        if !others.is_empty() {
+            between.forbid(byte.source, byte.read, others);
+        }
     }
 
     /// The events that may not stand between a byte's source and its read.

@@ -2,13 +2,13 @@
 
 ghost use Rattle.std.specs.Prelude.{◌≡◌, ◌↔◌, ℕ, ◌-◌, ◌<◌, ◌≤◌, IsTrue, [], ◌∷◌, ◌++◌, length, take};
 ghost use Rattle.lit_paths.specs.ByteReads.{byte_reads};
-ghost use Rattle.lit_paths.specs.Choice.{combinations_of};
+ghost use Rattle.lit_paths.specs.Choice.{AreSources, combinations_of};
 ghost use Rattle.lit_paths.specs.Plan.{AreEventsIn};
 ghost use Rattle.lit_rel.specs.Between.{Forbids};
 ghost use Rattle.lit_rel.specs.Coherent.{HasCoherentReads};
 ghost use Rattle.lit_rel.specs.Forbidden.{IsForbidden};
 ghost use Rattle.lit_rel.specs.HappensBefore.{HappensBefore};
-ghost use Rattle.lit_rel.specs.Part.{IsNextSource, part_events, with_sources};
+ghost use Rattle.lit_rel.specs.Part.{AreFirstSources, IsComplete, IsNextSource, part_events, with_sources};
 ghost use Rattle.lit_rel.specs.ReadsFrom.{ReadsFrom, value_of};
 ghost use Rattle.lit_rel.specs.Rows.{Holds, rows_len};
 ghost use Rattle.lit_rel.specs.SynchronizesWith.{Synchronizes};
@@ -54,10 +54,10 @@ impl<'p> Part<'p> {
         ensures value { result ≡ record { test = plan.now; combination = combination; sources = [] } }
         ensures sound { AreEventsIn result.test.bytes (part_events result) }
     {
-        let related = Related::open(plan, combination);
-        let refused = has_false_test(&related, None, 0);
+        let combination = plan.enter(combination);
+        let refused = has_false_test(&combination, None, 0);
         Part {
-            related,
+            related: Related::open(combination),
             earlier: ArrayVec::new(),
             refused,
         }
@@ -99,10 +99,13 @@ impl<'p> Part<'p> {
         self.related.broken() || self.refused
     }
 
-    /// How many sources are given.
+    /// How many sources are given. Each is a candidate of its byte read, so where each byte read has one they are sources
+    /// of them all.
     pub fn len(&self) -> usize
         ensures value { result ≡ length self.now.sources }
         ensures few { result ≤ length (byte_reads (part_events self.now)) }
+        ensures candidates { AreFirstSources self.now }
+        ensures all { IsComplete self.now → AreSources (part_events self.now) self.now.sources }
     {
         self.related.len()
     }

@@ -10,7 +10,7 @@ ghost use Rattle.lit_rel.specs.Parts.Refused.{HasFalse, IsRefusedAtLast};
 ghost use Rattle.lit_rel.specs.ReadsFrom.{value_of};
 
 use crate::related::Related;
-use lit_paths::{ByteRead, Tested};
+use lit_paths::{ByteRead, Combination, Tested};
 
 /// The number of the event that a test asks about, on a path whose first event has this number; `None` for a register
 /// that was not written.
@@ -39,14 +39,17 @@ fn has_false(tests: &[Tested], first: u8, asked: Option<usize>, value: u32) -> b
     false
 }
 
-/// Whether some test of a path of the part asks about the event, or about a register that was not written, and is
-/// false of the value.
-pub(crate) fn has_false_test(part: &Related<'_>, asked: Option<usize>, value: u32) -> bool
-    ensures value { IsTrue result ↔ HasFalseTestOn part.now.test part.now.combination asked value }
-    ensures walks { ¬ IsTrue result → (agent : ℕ) → agent < length part.now.test.agents
-        → IsWalkIn part.now.test part.now.combination agent (walk_in part.now.test part.now.combination agent) }
+/// Whether some test of a path of the combination asks about the event, or about a register that was not written, and
+/// is false of the value.
+pub(crate) fn has_false_test(
+    combination: &Combination<'_>,
+    asked: Option<usize>,
+    value: u32,
+) -> bool
+    ensures value { IsTrue result ↔ HasFalseTestOn combination.now.0 combination.now.1 asked value }
+    ensures walks { ¬ IsTrue result → (agent : ℕ) → agent < length combination.now.0.agents
+        → IsWalkIn combination.now.0 combination.now.1 agent (walk_in combination.now.0 combination.now.1 agent) }
 {
-    let combination = part.combination();
     for agent in 0..combination.test().agents() {
         let tests = combination.path(agent).tests();
         if has_false(tests, combination.first_event(agent), asked, value) {
@@ -72,7 +75,8 @@ fn is_read_refused(part: &Related<'_>, read: u8) -> bool
     ensures { IsTrue result
         ↔ HasFalseTestOn part.now.test part.now.combination (Some read) (value_of (part_events part.now) part.now.sources read) }
 {
-    has_false_test(part, Some(usize::from(read)), part.value(read))
+    let value = part.value(read);
+    has_false_test(part.combination(), Some(usize::from(read)), value)
 }
 
 /// Whether a test is false with one source more, the last one given: one was, or the read whose last byte it is makes

@@ -3,14 +3,13 @@
 ghost use Rattle.std.specs.Prelude.{◌≡◌, ◌↔◌, ℕ, ◌-◌, ◌<◌, ◌≤◌, IsTrue, [], ◌∷◌, ◌++◌, length, take};
 ghost use Rattle.lit_paths.specs.declared.limits.TheConstants.{BYTE_READ_LIMIT};
 ghost use Rattle.lit_paths.specs.ByteReads.{byte_reads};
-ghost use Rattle.lit_paths.specs.Choice.{combinations_of};
 ghost use Rattle.lit_paths.specs.Event.{event_at};
 ghost use Rattle.lit_paths.specs.Plan.{AreEventsIn};
 ghost use Rattle.lit_rel.specs.Between.{Forbids};
 ghost use Rattle.lit_rel.specs.Coherent.{HasCoherentReads};
 ghost use Rattle.lit_rel.specs.Forbidden.{IsForbidden};
 ghost use Rattle.lit_rel.specs.HappensBefore.{HappensBefore};
-ghost use Rattle.lit_rel.specs.Part.{IsNextSource, part_events, with_sources};
+ghost use Rattle.lit_rel.specs.Part.{AreFirstSources, IsNextSource, part_events, with_sources};
 ghost use Rattle.lit_rel.specs.ReadsFrom.{ReadsFrom, value_of};
 ghost use Rattle.lit_rel.specs.Rows.{Holds, rows_len};
 ghost use Rattle.lit_rel.specs.SynchronizesWith.{Synchronizes};
@@ -19,21 +18,21 @@ ghost use Rattle.lit_rel.specs.TearFree.{HasTearFreeReads};
 use crate::bit_rows::Rows;
 use crate::closing::unsourced_order;
 use crate::given::{Given, SourcedByte, SourcedBytes};
-use crate::levels::{Level, Levels, rows_at};
+use crate::levels::{Level, Levels};
 use crate::triples::Between;
-use lit_paths::{BYTE_READ_LIMIT, Combination, Plan};
+use lit_paths::Combination;
 use std::marker::Model;
 
-/// A combination of a test's paths, with sources for its first byte reads, its happens-before with each number of them,
-/// and whether its relations break it.
+/// A combination of a test's paths, with sources for its first byte reads, their happens-before, and whether its
+/// relations break it with each number of them.
 #[derive(Drop)]
 pub(crate) struct Related<'p> {
     combination: Combination<'p>,
     bytes: SourcedBytes,
     /// happens-before of no source.
     start: Rows,
-    /// happens-before with so many sources, where one of them added a pair.
-    kept: [Rows; BYTE_READ_LIMIT],
+    /// happens-before of the sources given.
+    order: Rows,
     earlier: Levels,
     level: Level,
 }
@@ -49,29 +48,30 @@ impl<'p> Model for Related<'p> {
 
     ghost view = { λ p. record { test = p.combination.0; combination = p.combination.1; sources = sources_of p.bytes.items } };
 
-    ghost invariant = { λ p. IsKept (record { test = p.combination.0; combination = p.combination.1; sources = sources_of p.bytes.items }) p.start p.kept p.bytes.items p.earlier.items p.level };
+    ghost invariant = { λ p. IsKept (record { test = p.combination.0; combination = p.combination.1; sources = sources_of p.bytes.items }) p.start p.order p.bytes.items p.earlier.items p.level };
 }
 
 impl<'p> Related<'p> {
     ghost use Rattle.lit_rel.specs.Broken.{HasBrokenRelations};
     ghost use Rattle.lit_rel.specs.Parts.Given.{sources_of};
 
-    /// A combination of a plan's test, by its number: below `combinations`. No byte read has a source yet.
-    pub(crate) fn open(plan: &'p Plan<'p>, combination: usize) -> Self
-        requires { combination < length (combinations_of plan.now) }
-        ensures value { result ≡ record { test = plan.now; combination = combination; sources = [] } }
+    /// A combination. No byte read has a source yet.
+    pub(crate) fn open(combination: Combination<'p>) -> Self
+        ensures value { result ≡ record { test = combination.entry.0; combination = combination.entry.1; sources = [] } }
         ensures sound { AreEventsIn result.test.bytes (part_events result) }
     {
-        let combination = plan.enter(combination);
         let start = unsourced_order(combination.events());
         let broken = start.has_cycle();
         Related {
             combination,
             bytes: SourcedBytes::new(),
             start,
-            kept: [start; BYTE_READ_LIMIT],
+            order: start,
             earlier: Levels::new(),
-            level: Level { rows: 0, broken },
+            level: Level {
+                adds: false,
+                broken,
+            },
         }
     }
 
@@ -98,20 +98,17 @@ impl<'p> Related<'p> {
             events: self.combination.events(),
             bytes: self.bytes.as_slice(),
         };
-        let before = rows_at(&self.start, &self.kept, self.level.rows);
-        let level = if given.adds_pair(byte, before) {
-            let mut now = *before;
-            now.close_with(usize::from(byte.source), usize::from(byte.read));
-            let broken = given.is_broken_with_pair(self.level.broken, byte, before, &now);
-            self.kept[self.bytes.len()] = now;
-            Level {
-                rows: self.bytes.len() as u8 + 1,
-                broken,
-            }
+        let level = if given.adds_pair(byte, &self.order) {
+            let mut order = self.order;
+            order.close_with(usize::from(byte.source), usize::from(byte.read));
+            let broken = given.is_broken_with_pair(self.level.broken, byte, &self.order, &order);
+            self.order = order;
+            Level { adds: true, broken }
         } else {
+            let broken = given.is_broken_with(self.level.broken, byte, &self.order);
             Level {
-                rows: self.level.rows,
-                broken: given.is_broken_with(self.level.broken, byte, before),
+                adds: false,
+                broken,
             }
         };
         self.earlier.push(self.level);
@@ -124,7 +121,11 @@ impl<'p> Related<'p> {
         requires { 0 < length self.old.sources }
         ensures { self.new ≡ with_sources self.old (take (length self.old.sources - 1) self.old.sources) }
     {
-        self.level = self.earlier[self.bytes.len() - 1];
+        let last = self.bytes.len() - 1;
+        if self.level.adds {
+            self.order = self.given().order_of_first(last, &self.start);
+        }
+        self.level = self.earlier[last];
         self.earlier.pop();
         self.bytes.pop();
     }
@@ -136,10 +137,11 @@ impl<'p> Related<'p> {
         self.level.broken
     }
 
-    /// How many sources are given.
+    /// How many sources are given. Each is a candidate of its byte read.
     pub(crate) fn len(&self) -> usize
         ensures value { result ≡ length self.now.sources }
         ensures few { result ≤ length (byte_reads (part_events self.now)) }
+        ensures candidates { AreFirstSources self.now }
     {
         self.bytes.len()
     }
@@ -168,7 +170,7 @@ impl<'p> Related<'p> {
         ensures len { rows_len result.now ≡ length (part_events self.now) }
         ensures pairs { (e d : ℕ) → Holds result.now e d ↔ HappensBefore (part_events self.now) self.now.sources e d }
     {
-        rows_at(&self.start, &self.kept, self.level.rows)
+        &self.order
     }
 
     /// reads-from (ECMA-262, 2024, 29.6.3), as pairs of a read and a source, of the sources given.

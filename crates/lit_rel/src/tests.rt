@@ -1,3 +1,4 @@
+mod between;
 mod broken;
 mod parts;
 mod sets;

@@ -5,6 +5,6 @@ use Rattle.lit_rel.proofs.refusing.has_false_test.Given as goal
 
 abbrev pub invariant-loop-agent : goal.invariant-loop-agent
 invariant-loop-agent l = record {
-  none : (i : ℕ) → i < l.agent → HasFalse (path_in l.part.test l.part.combination i).tests (first_event l.part.test l.part.combination i) l.asked l.value → ⊥;
-  walks : (i : ℕ) → i < l.agent → IsWalkIn l.part.test l.part.combination i (walk_in l.part.test l.part.combination i);
+  none : (i : ℕ) → i < l.agent → HasFalse (path_in l.combination.0 l.combination.1 i).tests (first_event l.combination.0 l.combination.1 i) l.asked l.value → ⊥;
+  walks : (i : ℕ) → i < l.agent → IsWalkIn l.combination.0 l.combination.1 i (walk_in l.combination.0 l.combination.1 i);
 }

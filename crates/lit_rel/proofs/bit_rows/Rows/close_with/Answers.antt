@@ -3,7 +3,7 @@ use Rattle.std.proofs.lemmas.Bool.{false≢true}
 use Rattle.lit_rel.specs.declared.bit_rows.Rows.{Rows}
 use Rattle.lit_rel.specs.EventSet.{HasEvent}
 use Rattle.lit_rel.specs.Rows.{Holds, WithPair, rows_len}
-use Rattle.lit_rel.proofs.RowLemmas.{behind_is, close_more, close_skip, closed_all, IsTransitive-same, WithPair-transitive}
+use Rattle.lit_rel.proofs.RowLemmas.{behind_is, close_more, close_skip, closed_all, IsTransitive-same, WithPair-least, WithPair-transitive}
 use Rattle.lit_rel.proofs.bit_rows.Rows.close_with.Goals as goal
 use Rattle.lit_rel.proofs.bit_rows.Rows.close_with.Goals.{then-leads, else-leads}
 
@@ -33,3 +33,9 @@ returns-clause-transitive c through =
     IsTransitive-same (WithPair (Holds init) c.args.a c.args.d) (Holds c.loop-first.self)
     (closed_all (Holds init) (Holds c.loop-first.self) c.args.a c.args.d c.loop-first.first (rows_len init) (λ x y h. h.first_known) c.requires.first c.loop-first-test.false c.loop-first.invariant.pairs)
     (WithPair-transitive (Holds init) c.args.a c.args.d through)
+
+pub returns-clause-least : goal.returns-clause-least
+returns-clause-least c other through has pair x y held =
+    let init = c.args.self.now in
+    let closed = closed_all (Holds init) (Holds c.loop-first.self) c.args.a c.args.d c.loop-first.first (rows_len init) (λ x y h. h.first_known) c.requires.first c.loop-first-test.false c.loop-first.invariant.pairs in
+    WithPair-least (Holds init) (Holds other) c.args.a c.args.d through has pair x y ((closed x y).0 held)

@@ -1,8 +1,15 @@
-use Rattle.std.proofs.Common.{ap}
+use Rattle.std.proofs.Common.{◌≡◌, ◌↔◌, ℕ, ◌<◌, None, [], length, ap, sym, subst}
+use Rattle.std.specs.Bool.{IsTrue}
+use Rattle.lit_paths.specs.Plan.{IsWalkIn, walk_in}
+use Rattle.lit_rel.specs.Broken.{HasFalseTestOn}
 use Rattle.lit_rel.specs.Part.{PartModel}
 use Rattle.lit_rel.proofs.RefusalLemmas.{AreRefusals-open}
 use Rattle.lit_rel.proofs.part.Part.open.Goals as goal
 
 pub invariant_of-result : goal.invariant_of-result
 invariant_of-result c =
-    AreRefusals-open c.open-related.result c.new.result.items c.has_false_test-refused.result (ap (λ (part : PartModel). part.sources) c.open-related.ensures.value) c.new.ensures c.open-related.ensures.sound c.has_false_test-refused.ensures.value c.has_false_test-refused.ensures.walks
+    let refused = c.has_false_test-refused in
+    let is : c.«open».result ≡ record { test = c.enter-combination.result.0; combination = c.enter-combination.result.1; sources = [] } = c.«open».ensures.value in
+    AreRefusals-open c.«open».result c.new.result.items refused.result (ap (λ (part : PartModel). part.sources) is) c.new.ensures c.«open».ensures.sound
+    (subst (λ (p : PartModel). IsTrue refused.result ↔ HasFalseTestOn p.test p.combination None 0) (sym is) refused.ensures.value)
+    (subst (λ (p : PartModel). (IsTrue refused.result → ⊥) → (agent : ℕ) → agent < length p.test.agents → IsWalkIn p.test p.combination agent (walk_in p.test p.combination agent)) (sym is) refused.ensures.walks)
