@@ -1,5 +1,5 @@
 -- Workers whose calls have ended, and the places that they give back.
-use Rattle.std.proofs.Common.{◌≡◌, ℕ, ◌<◌, List, [], ◌∷◌, ◌++◌, length, Result, refl, arith}
+use Rattle.std.proofs.Common.{◌≡◌, ℕ, ◌<◌, List, [], ◌∷◌, length, Result, refl, arith}
 use Rattle.std.specs.Prelude.{All, Any}
 use Rattle.lit_desk.specs.Desk.{DeskName, PlaceLists}
 use Rattle.lit_read.specs.Syntax.{Litmus}

@@ -1,13 +1,12 @@
-use Rattle.std.proofs.Common.{◌≡◌, ℕ, List, [], ◌∷◌, ◌++◌, length, sym, ap, subst, ◌∙◌, arith}
+use Rattle.std.proofs.Common.{◌≡◌, ℕ, List, [], ◌∷◌, ◌++◌, sym, ap, subst, ◌∙◌, arith}
 use Rattle.std.specs.Prelude.{All}
-use Rattle.std.proofs.Math.Seq.{drop-length}
-use Rattle.std.proofs.lemmas.List.Elements.{All-nil, All-push, All-weaker}
-use Rattle.lit_desk.specs.Desk.{PlaceLists, draws_of, with_ticket}
+use Rattle.std.proofs.lemmas.List.Elements.{All-push, All-weaker}
+use Rattle.lit_desk.specs.Desk.{draws_of}
 use Rattle.lit_search.specs.declared.class.Class.{Class}
-use Rattle.lit_search.specs.declared.class.Class.TheVariants.{Met, Unmet}
+use Rattle.lit_search.specs.declared.class.Class.TheVariants.{Met}
 use Rattle.lit_share.specs.Drawn.{since, drawn_since}
 use Rattle.lit_share.specs.Hunted.{IsHunted, HasTold}
-use Rattle.lit_share.proofs.Rising.{above, above_least, above_last, since_none, since_more, grown_more}
+use Rattle.lit_share.proofs.Rising.{above, above_least, above_last, since_more, grown_more}
 use Rattle.lit_share.proofs.Places.{told_then, hunted_on, ticket_told, late_told, in_both}
 use Rattle.lit_share.proofs.hunting.hunt.Goals as goal
 

@@ -1,4 +1,4 @@
-use Rattle.std.proofs.Common.{◌≡◌, ◌-◌, ◌++◌, length}
+use Rattle.std.proofs.Common.{◌-◌}
 use Rattle.std.specs.Prelude.{All}
 use Rattle.lit_desk.specs.Desk.{IsPlaceOf, draws_of}
 use Rattle.lit_search.specs.declared.class.Class.{Class}

@@ -1,4 +1,4 @@
-use Rattle.std.proofs.Common.{◌≡◌, ◌<◌, ℕ, Bool, length, sym, ap, subst, ◌∙◌, arith}
+use Rattle.std.proofs.Common.{◌≡◌, ◌<◌, ℕ, Bool, length, sym, ap, subst, ◌∙◌}
 use Rattle.lit_desk.specs.Desk.{IsDone, all_draws}
 use Rattle.lit_paths.specs.Choice.{choices_of}
 use Rattle.lit_search.specs.Report.{IsReport, in_range}

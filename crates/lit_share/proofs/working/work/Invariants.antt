@@ -1,4 +1,4 @@
-use Rattle.std.proofs.Common.{◌≡◌, ◌≤◌, ◌*◌, ◌-◌, ◌++◌, length}
+use Rattle.std.proofs.Common.{◌≤◌, ◌*◌, ◌-◌, length}
 use Rattle.lit_desk.specs.Desk.{IsPlaceOf, draws_of}
 use Rattle.lit_paths.specs.Choice.{choices_of}
 use Rattle.lit_search.specs.Collected.{HasTaken}
