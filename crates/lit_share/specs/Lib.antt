@@ -1,0 +1,5 @@
+pub mod Pieces
+pub mod Drawn
+pub mod Hunted
+pub mod Quick
+pub mod Workers

@@ -1,0 +1,31 @@
+//! Workers that search the choices of a plan in pieces, which they draw from a desk.
+//!
+//! `search` gives the report of all choices of a plan, and `quick` the least choice of each class of outcomes with its
+//! least memory-order. Both say the same for every number of workers, every cutting into pieces, every gate and every
+//! schedule of the threads. Callers with threads of their own call `work` and `hunt`, of which those two are made. The
+//! definitions stand in `specs/`: `Pieces`, `Drawn`, `Hunted` and `Quick`.
+#![tactic(auto)]
+
+mod answer;
+mod asking;
+mod fault;
+mod gate;
+mod hunting;
+mod laws;
+mod limits;
+mod pieces;
+mod searching;
+#[cfg(test)]
+mod tests;
+mod workers;
+mod working;
+
+pub use answer::Quick;
+pub use asking::quick;
+pub use fault::ShareFault;
+pub use gate::{Gate, OpenGate};
+pub use hunting::hunt;
+pub use laws::pieces_cover_once;
+pub use limits::CUT_LIMIT;
+pub use searching::search;
+pub use working::work;
