@@ -8,6 +8,7 @@ pub mod LeastOrders
 pub mod WantingLemmas
 pub mod PassingLemmas
 pub mod NextLemmas
+pub mod Giving
 pub mod Entries
 pub mod MergedEntries
 pub mod Reports

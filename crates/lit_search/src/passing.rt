@@ -161,3 +161,6 @@ impl Cursor<'_> {
         None
     }
 }
+
+#[cfg(test)]
+mod tests;

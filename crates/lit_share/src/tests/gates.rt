@@ -40,7 +40,7 @@ impl Gate for Holding {
     fn at(&self, pieces: &mut u64, _worker: usize, piece: u64) {
         *pieces = pieces.wrapping_add(1);
         self.entered
-            .fetch_or(1u64.wrapping_shl(piece as u32), Ordering::SeqCst);
+            .fetch_or(1u64.wrapping_shl((piece % 64) as u32), Ordering::SeqCst);
         if piece != self.held {
             return;
         }
