@@ -1,10 +1,11 @@
+ghost use Rattle.std.specs.Prelude.{◌<◌, length};
+ghost use Rattle.lit_paths.specs.Choice.{choices_of};
+
 use super::*;
 use lit_order::{ForcedFinder, PlainFinder};
 use lit_paths::plan;
 use lit_read::read;
 use std::test::Fail;
-
-ghost use Rattle.lit_paths.specs.Choice.{choices_of};
 
 /// The part of a choice, with all its sources.
 fn given<'p>(plan: &'p Plan<'p>, choice: u64) -> Part<'p>
