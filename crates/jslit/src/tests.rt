@@ -4,6 +4,7 @@ use crate::command::program;
 use crate::counted::Counted;
 use crate::engine::{Options, run};
 use idle_events::{WIDE, WIDER};
+use many_choices::COAST;
 use paths::PATH_REPORTS;
 use reports::REPORTS;
 use sizes::SIZE_REPORTS;
@@ -15,6 +16,7 @@ use std::thread::Threads;
 mod devices;
 mod idle_events;
 mod independent_reads;
+mod many_choices;
 mod paths;
 mod refusals;
 mod reports;
@@ -100,4 +102,9 @@ fn run_reports_among_many_events(rt: HostRuntime) -> Result<(), Fail> {
     writes(&rt, WIDE.0.as_bytes(), WIDE.1.as_bytes())?;
     prints(&rt, WIDE.0.as_bytes(), WIDE.1.as_bytes(), 0)?;
     prints(&rt, WIDER.as_bytes(), b"refused 14 too_many_events\n", 1)
+}
+
+#[test]
+fn run_reports_among_many_choices(rt: HostRuntime) -> Result<(), Fail> {
+    prints(&rt, COAST.0.as_bytes(), COAST.1.as_bytes(), 0)
 }

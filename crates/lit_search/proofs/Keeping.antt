@@ -55,9 +55,6 @@ kept_from r outcome not = by (kept_or_not outcome r.entries)
 
 -- ---- what choices show
 module _ (t : Litmus) (Wanted : List ℕ → Type 0) where
-  pub none_fewer : (from to n : ℕ) → to ≤ n → NoneShow t Wanted (in_range from n) → NoneShow t Wanted (in_range from to)
-  none_fewer from to n le none m inside = none m (within from n m (not_below from to m inside) (omega (arith, before_end from to m inside)))
-
   pub next_shown : (from to n : ℕ) (e : Entry) → from ≤ n → n < to → NoneShow t Wanted (in_range from n) → IsShown t Wanted n e → IsNext t Wanted from to e
   next_shown from to n e low high none is =
       let P : ℕ → Type 0 = λ k. IsShown t Wanted k e in

@@ -1,6 +1,5 @@
 -- The least memory-order, from the rows and triples of an execution.
-use Rattle.std.proofs.Common.{◌≡◌, ◌↔◌, ℕ, List, length, Option, Some, None, sym, subst}
-use Rattle.std.specs.Prelude.{IfSome, IfNone, MatchOption}
+use Rattle.std.proofs.Common.{◌≡◌, ◌↔◌, ℕ, List, length, sym, subst}
 use Rattle.lit_paths.specs.declared.event.Event.{Event}
 use Rattle.lit_rel.specs.HappensBefore.{HappensBefore}
 use Rattle.lit_rel.specs.Forbidden.{IsForbidden}
@@ -15,11 +14,6 @@ same_least n before after banned forbidden f g order o = record {
   is_order = same_order n before after banned forbidden (λ a d. (f a d).1) (λ w r v. (g w r v).1) order o.is_order;
   least = λ other is. o.least other (same_order n after before forbidden banned (λ a d. (f a d).0) (λ w r v. (g w r v).0) other is);
 }
-
--- what an option is, from what holds of its value and of none
-pub match_from : {X : Type 0} (r : Option X) (P N : Type 0) (Q F : X → Type 0) → IfSome r F → IfNone r N → (N → P) → ((x : X) → F x → Q x) → MatchOption r P Q
-match_from None P N Q F some none f g = f none
-match_from (Some x) P N Q F some none f g = g x some
 
 -- the least order of the rows and triples of an execution
 pub least_from : (events : List Event) (sources : List ℕ) (n : ℕ) (before : ℕ → ℕ → Type 0) (banned : ℕ → ℕ → ℕ → Type 0) → n ≡ length events → ((e d : ℕ) → before e d ↔ HappensBefore events sources e d) → ((w r v : ℕ) → banned w r v ↔ IsForbidden events sources w r v) → (order : List ℕ) → IsLeastOrderOf n before banned order → IsLeastMemoryOrder events sources order
