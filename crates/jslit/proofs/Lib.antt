@@ -1,4 +1,5 @@
 pub mod Written
+pub mod Putting
 pub mod SourceLines
 mod Statuses
 pub mod Registers

@@ -14,8 +14,8 @@ use Rattle.lit_paths.specs.declared.planning.PlanFault.TheVariants as plan_fault
 use Rattle.lit_paths.specs.Plan as plan
 use Rattle.lit_paths.specs.Choice.{choices_of, combinations_of}
 use Rattle.lit_paths.specs.declared.limits.TheConstants.{CHOICE_LIMIT, COMBINATION_LIMIT}
-use Rattle.jslit.specs.declared.engine.RunFault.{RunFault}
-use Rattle.jslit.specs.declared.engine.RunFault.TheVariants as faults
+use Rattle.jslit.specs.declared.fault.RunFault.{RunFault}
+use Rattle.jslit.specs.declared.fault.RunFault.TheVariants as faults
 use Rattle.jslit.specs.Answer.{IsFaultOn}
 use Rattle.jslit.specs.Devices.{IsTold, OfToldText}
 use Rattle.jslit.specs.Steps.Faults.{IsOfText}

@@ -1,8 +1,8 @@
 -- What the program's status says.
 use Rattle.std.proofs.Common.{◌≡◌, ℕ, List, Option, Some, None, refl, ◌∙◌}
 use Rattle.std.specs.Io.KnownBytes.{Appends, Keeps}
-use Rattle.jslit.specs.declared.engine.RunFault.{RunFault}
-use Rattle.jslit.specs.declared.engine.RunFault.TheVariants as faults
+use Rattle.jslit.specs.declared.fault.RunFault.{RunFault}
+use Rattle.jslit.specs.declared.fault.RunFault.TheVariants as faults
 use Rattle.jslit.specs.Answer.{status_of}
 
 -- no fault gives the status of a report

@@ -1,5 +1,5 @@
 -- What a run answers for the bytes of a text (this project's own).
-use Rattle.std.specs.Prelude.{◌≡◌, ◌⊎◌, ℕ, Option, List, length, map, Contains}
+use Rattle.std.specs.Prelude.{◌≡◌, ◌⊎◌, ℕ, Bool, true, false, Option, is_some, List, length, map, Contains}
 use Rattle.std.specs.Io.KnownBytes.{Appends}
 use Rattle.lit_read.specs.Syntax.{Litmus}
 use Rattle.lit_read.specs.Faults.{IsFirstFault}
@@ -7,32 +7,51 @@ use Rattle.lit_read.specs.Spelling.{Spells}
 use Rattle.lit_paths.specs.Choice.{choices_of}
 use Rattle.lit_paths.specs.declared.planning.PlanFault.{PlanFault}
 use Rattle.lit_paths.specs.Plan.{IsRefusal}
-use Rattle.lit_search.specs.Report.{Report, IsReport, in_range}
+use Rattle.lit_search.specs.Report.{Entry, Report, IsReport, in_range}
+use Rattle.lit_search.specs.declared.class.Class.TheVariants.{Met, Unmet}
 use Rattle.lit_paths.specs.Execution.{Execution, execution_outcome}
 use Rattle.lit_search.specs.ValidExecution.{IsValidExecution}
-use Rattle.jslit.specs.declared.engine.RunFault.{RunFault}
-use Rattle.jslit.specs.declared.engine.RunFault.TheVariants as faults
+use Rattle.jslit.specs.declared.fault.RunFault.{RunFault}
+use Rattle.jslit.specs.declared.fault.RunFault.TheVariants as faults
 use Rattle.jslit.specs.declared.verdict.Verdict.{Verdict}
 use Rattle.jslit.specs.Devices.{AppendsBeginning}
-use Rattle.jslit.specs.ReportText.{report_text}
-use Rattle.jslit.specs.Verdict.{IsVerdict}
+use Rattle.jslit.specs.QuickAnswer.{IsFirst}
+use Rattle.jslit.specs.ReportText.{report_text, quick_text}
+use Rattle.jslit.specs.Verdict.{IsVerdict, verdict_of}
 
 -- each valid execution of the test has its outcome in the report
 abbrev pub IsComplete : Litmus → Report → Type 0
 IsComplete t report = (x : Execution) → IsValidExecution t x → Contains (map (λ entry. entry.outcome) report.entries) (execution_outcome t x)
 
--- The text spells a test whose plan is not refused, and the answer is the text of the test's report on all its choices
--- and of the verdict that is true of it.
-pub record IsReportOn (text answer : List ℕ) : Type 0 where
-  pub test : Litmus
-  pub spelled : Spells text test
-  pub planned : (fault : PlanFault) → ¬ IsRefusal test fault
+-- The answer is the text of the test's report on all its choices and of the verdict that is true of it.
+pub record IsReportOf (test : Litmus) (answer : List ℕ) : Type 0 where
   pub report : Report
   pub reported : IsReport test (in_range 0 (length (choices_of test))) report
   pub complete : IsComplete test report
   pub verdict : Verdict
   pub judged : IsVerdict test report verdict
   pub is : answer ≡ report_text test report verdict
+
+-- The answer is the text of the first entries of both classes and of the verdict, which is that of the test's report.
+pub record IsQuickReportOf (test : Litmus) (answer : List ℕ) : Type 0 where
+  pub met : Option Entry
+  pub unmet : Option Entry
+  pub first_met : IsFirst test Met met
+  pub first_unmet : IsFirst test Unmet unmet
+  pub judged : (report : Report) → IsReport test (in_range 0 (length (choices_of test))) report → IsVerdict test report (verdict_of (is_some met) (is_some unmet))
+  pub is : answer ≡ quick_text test met unmet (verdict_of (is_some met) (is_some unmet))
+
+-- of both the one that is asked for
+abbrev pub IsAnswerOf : (quick : Bool) → (test : Litmus) → (answer : List ℕ) → Type 0
+IsAnswerOf true test answer = IsQuickReportOf test answer
+IsAnswerOf false test answer = IsReportOf test answer
+
+-- The text spells a test whose plan is not refused, and the answer is the test's.
+pub record IsAnswerOn (quick : Bool) (text answer : List ℕ) : Type 0 where
+  pub test : Litmus
+  pub spelled : Spells text test
+  pub planned : (fault : PlanFault) → ¬ IsRefusal test fault
+  pub of_test : IsAnswerOf quick test answer
 
 -- the text spells a test that is refused so
 pub record IsPlanRefused (text : List ℕ) (fault : PlanFault) : Type 0 where
@@ -48,16 +67,16 @@ IsFaultOn text faults.OutOfMemory = Unit {0}
 IsFaultOn text faults.InputFailed = Unit {0}
 IsFaultOn text faults.OutputFailed = Unit {0}
 
--- known bytes grew by a report on the text
-pub record HasReported (text : List ℕ) (old new : Option (List ℕ)) : Type 0 where
+-- known bytes grew by a report on the text, quick or whole
+pub record HasReported (quick : Bool) (text : List ℕ) (old new : Option (List ℕ)) : Type 0 where
   pub answer : List ℕ
-  pub on : IsReportOn text answer
+  pub on : IsAnswerOn quick text answer
   pub written : Appends old new answer
 
--- known bytes grew by a beginning of a report on the text
-pub record HasBegun (text : List ℕ) (old new : Option (List ℕ)) : Type 0 where
+-- known bytes grew by a beginning of a report on the text, quick or whole
+pub record HasBegun (quick : Bool) (text : List ℕ) (old new : Option (List ℕ)) : Type 0 where
   pub answer : List ℕ
-  pub on : IsReportOn text answer
+  pub on : IsAnswerOn quick text answer
   pub begun : AppendsBeginning old new answer
 
 -- the status that the program gives for a fault

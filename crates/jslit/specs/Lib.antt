@@ -3,5 +3,6 @@ pub mod Devices
 pub mod Verdict
 pub mod ChoiceEvents
 pub mod ReportText
+pub mod QuickAnswer
 pub mod Answer
 pub mod Steps

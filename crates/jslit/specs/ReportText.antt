@@ -71,3 +71,16 @@ report_text t report verdict =
     ++ flat_map (entry_text t) report.entries
     ++ line (codes "outcomes " ++ decimal (length report.entries))
     ++ line (codes "verdict " ++ verdict_text verdict)
+
+-- in a quick report what is said of a class of outcomes, by its word: its first outcome and example, or that there is none
+abbrev pub class_text : Litmus → List ℕ → Option Entry → List ℕ
+class_text t word None = line (word ++ codes " none")
+class_text t word (Some entry) = word ++ codes " " ++ entry_text t entry
+
+-- the quick report
+unfoldable pub quick_text : Litmus → (met unmet : Option Entry) → Verdict → List ℕ
+quick_text t met unmet verdict =
+    line (codes "test " ++ t.name)
+    ++ class_text t (codes "met") met
+    ++ class_text t (codes "unmet") unmet
+    ++ line (codes "verdict " ++ verdict_text verdict)

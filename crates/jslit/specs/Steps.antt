@@ -1,4 +1,7 @@
 -- Notions of the contracts of private functions. No public contract names them.
 pub mod Faults
 pub mod Reading
+pub mod FirstEntry
+pub mod Answering
 pub mod ReadLine
+pub mod Writing

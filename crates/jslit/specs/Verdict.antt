@@ -1,5 +1,5 @@
 -- The verdict on a test (this project's own).
-use Rattle.std.specs.Prelude.{◌≡◌, ◌<◌, true, false, All, length}
+use Rattle.std.specs.Prelude.{◌≡◌, ◌<◌, Bool, true, false, All, length}
 use Rattle.lit_read.specs.Syntax.{Litmus}
 use Rattle.lit_paths.specs.Outcome.{meets}
 use Rattle.lit_search.specs.Report.{Report}
@@ -20,3 +20,9 @@ abbrev pub IsVerdict : Litmus → Report → Verdict → Type 0
 IsVerdict t report Never = NoneMeets t report
 IsVerdict t report Always = AllMeet t report
 IsVerdict t report Sometimes = ¬ NoneMeets t report × ¬ AllMeet t report
+
+-- the verdict, from whether some outcome meets the condition and whether some does not
+abbrev pub verdict_of : (met unmet : Bool) → Verdict
+verdict_of false unmet = Never
+verdict_of true false = Always
+verdict_of true true = Sometimes

@@ -1,12 +1,13 @@
 //! The program: what it prints, and its status.
 
-ghost use Rattle.std.specs.Prelude.{◌≡◌, ◌⊎◌, ◌<◌, ◌^◌, ◌-◌};
+ghost use Rattle.std.specs.Prelude.{◌≡◌, ◌⊎◌, ◌<◌, ◌^◌, ◌-◌, false};
 ghost use Rattle.jslit.specs.Answer.{HasReported, IsRefused, IsStatus, status_of};
 ghost use Rattle.jslit.specs.Counted.{device_of, failures_of};
 ghost use Rattle.jslit.specs.Devices.{OfToldText};
 
 use crate::counted::Counted;
-use crate::engine::{Options, RunFault, run};
+use crate::engine::{Options, run};
+use crate::fault::RunFault;
 use std::alloc::Global;
 use std::io::{Read, Write};
 use std::thread::Threads;
@@ -15,11 +16,12 @@ use std::thread::Threads;
 const USUAL: Options = Options {
     workers: 1,
     cut: 4_096,
+    quick: false,
 };
 
 /// Prints the report on the litmus text of the input, or one line that says why there is none. Gives the status:
 /// 0 for a report, 1 for a text or test that is refused, 3 for want of memory, 4 for an input or output that failed.
-pub fn program<T: Threads, R: Read, W: Write, E: Write>(
+pub fn program<T: Threads + Sync, R: Read, W: Write, E: Write>(
     rt: &T,
     alloc: Global,
     _words: &[&str],
@@ -31,7 +33,7 @@ pub fn program<T: Threads, R: Read, W: Write, E: Write>(
     requires output { failures_of output.old < 2 ^ 64 - 1 }
     ensures status { IsStatus result }
     ensures reported { result ≡ 0 → OfToldText (R.remaining (device_of input.old)) (λ text.
-        HasReported text (W.contents (device_of output.old)) (W.contents (device_of output.new))) }
+        HasReported false text (W.contents (device_of output.old)) (W.contents (device_of output.new))) }
     ensures refused { result ≡ 1 → OfToldText (R.remaining (device_of input.old)) IsRefused }
     ensures memory { result ≡ 3 → output.new ≡ output.old }
     ensures input_failed { failures_of input.old < failures_of input.new → (result ≡ 4) × (output.new ≡ output.old) }
@@ -41,7 +43,7 @@ pub fn program<T: Threads, R: Read, W: Write, E: Write>(
         (failures_of input.old < failures_of input.new)
         ⊎ (failures_of output.old < failures_of output.new)
         ⊎ OfToldText (R.remaining (device_of input.old)) (λ text.
-        HasReported text (W.contents (device_of output.old)) (W.contents (device_of output.new))) }
+        HasReported false text (W.contents (device_of output.old)) (W.contents (device_of output.new))) }
 {
     match run(rt, alloc, input, output, USUAL) {
         Ok(()) => match output.flush() {

@@ -1,10 +1,12 @@
 //! What the definitions of the headline come to.
 
-ghost use Rattle.std.specs.Prelude.{◌≡◌, ℕ, List, length};
+ghost use Rattle.std.specs.Prelude.{◌≡◌, ℕ, Bool, List, length};
 ghost use Rattle.lit_read.specs.Syntax.{Litmus};
 ghost use Rattle.lit_paths.specs.Choice.{choices_of};
-ghost use Rattle.lit_search.specs.Report.{Report, IsReport, in_range};
-ghost use Rattle.jslit.specs.Answer.{IsComplete, IsReportOn};
+ghost use Rattle.lit_search.specs.Report.{Entry, Report, HasEntry, IsReport, in_range};
+ghost use Rattle.lit_search.specs.declared.class.Class.{Class};
+ghost use Rattle.jslit.specs.Answer.{IsAnswerOn, IsComplete};
+ghost use Rattle.jslit.specs.QuickAnswer.{IsFirstEntry};
 
 use lit_paths::{candidate_executions_have_choices, choices_are_listed};
 use lit_read::spells_one_test;
@@ -18,10 +20,16 @@ pub fn reports_are_complete()
     choices_are_listed();
 }
 
-/// A text has one report: the bytes of its answer are a function of the text.
+/// A text has one report and one quick report: the bytes of its answer are a function of the text.
 pub fn answers_are_unique()
-    ensures { (text answer other : List ℕ) → IsReportOn text answer → IsReportOn text other → answer ≡ other }
+    ensures { (quick : Bool) (text answer other : List ℕ) → IsAnswerOn quick text answer → IsAnswerOn quick text other → answer ≡ other }
 {
     spells_one_test();
     reports_are_unique();
 }
+
+/// What a quick report says of a class is what the whole report says of this outcome.
+pub fn quick_answers_are_reported()
+    ensures { (t : Litmus) (class : Class) (entry : Entry) (report : Report) → IsFirstEntry t class entry
+        → IsReport t (in_range 0 (length (choices_of t))) report → HasEntry report entry }
+{}

@@ -6,18 +6,22 @@
 //! `Steps` serve private contracts alone.
 #![tactic(auto)]
 
+mod answering;
 mod command;
 mod counted;
 mod engine;
+mod fault;
 mod laws;
+mod page;
 mod reading;
 mod reporting;
 mod verdict;
 
 pub use command::program;
 pub use counted::Counted;
-pub use engine::{Options, RunFault, run};
-pub use laws::{answers_are_unique, reports_are_complete};
+pub use engine::{Options, run};
+pub use fault::RunFault;
+pub use laws::{answers_are_unique, quick_answers_are_reported, reports_are_complete};
 
 #[cfg(test)]
 mod tests;

@@ -7,7 +7,7 @@ ghost use Rattle.jslit.specs.Devices.{IsTold, ConsumesBeginning};
 ghost use Rattle.jslit.specs.Steps.Reading.{HasRead, IsReadFailure};
 
 use crate::counted::Counted;
-use crate::engine::RunFault;
+use crate::fault::RunFault;
 use lit_read::TEXT_LIMIT;
 use std::alloc::Global;
 use std::io::Read;

@@ -25,11 +25,12 @@ mod sizes;
 const ONE_WORKER: Options = Options {
     workers: 1,
     cut: 4_096,
+    quick: false,
 };
 
 /// That `run` answers a text with these bytes: what it writes, or the line of its fault.
 fn writes(
-    rt: &(impl Threads + Abort + AllocGlobal),
+    rt: &(impl Threads + Sync + Abort + AllocGlobal),
     text: &[u8],
     expected: &[u8],
 ) -> Result<(), Fail> {
@@ -49,7 +50,7 @@ fn writes(
 
 /// That the program answers a text with these bytes and this status, and says nothing else.
 fn prints(
-    rt: &(impl Threads + Abort + AllocGlobal),
+    rt: &(impl Threads + Sync + Abort + AllocGlobal),
     text: &[u8],
     expected: &[u8],
     status: u8,

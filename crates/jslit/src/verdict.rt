@@ -3,11 +3,10 @@
 ghost use Rattle.std.specs.Prelude.{◌≡◌, ℕ, ◌<◌, length};
 ghost use Rattle.lit_paths.specs.Outcome.{names_of};
 ghost use Rattle.lit_search.specs.Report.{entry_at};
-ghost use Rattle.jslit.specs.Verdict.{IsVerdict};
+ghost use Rattle.jslit.specs.Verdict.{IsVerdict, verdict_of};
 
 use lit_paths::Plan;
 use lit_search::Found;
-use std::fmt;
 
 /// What is true of the outcomes of a test and its condition.
 #[derive(Clone, Copy, Debug, PartialEq, Eq)]
@@ -20,17 +19,17 @@ pub enum Verdict {
     Never,
 }
 
-impl fmt::Display for Verdict {
-    ghost use Rattle.std.specs.Prelude.{Some};
+impl Verdict {
     ghost use Rattle.jslit.specs.ReportText.{verdict_text};
 
-    ghost output = { λ verdict. Some (verdict_text verdict) };
-
-    fn fmt<W: fmt::Write>(&self, f: &mut fmt::Formatter<W>) -> fmt::Result {
+    /// Its word in a report.
+    pub fn as_str(self) -> &'static str
+        ensures { result.now ≡ verdict_text self }
+    {
         match self {
-            Verdict::Always => write!(f, "always"),
-            Verdict::Sometimes => write!(f, "sometimes"),
-            Verdict::Never => write!(f, "never"),
+            Verdict::Always => "always",
+            Verdict::Sometimes => "sometimes",
+            Verdict::Never => "never",
         }
     }
 }
@@ -49,6 +48,13 @@ pub fn verdict_on(plan: &Plan<'_>, found: &Found) -> Verdict
             unmet = true;
         }
     }
+    verdict_from(met, unmet)
+}
+
+/// The verdict on a test, from whether some outcome meets its condition and whether some does not.
+pub fn verdict_from(met: bool, unmet: bool) -> Verdict
+    ensures { result ≡ verdict_of met unmet }
+{
     if !met {
         return Verdict::Never;
     }

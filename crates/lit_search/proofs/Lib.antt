@@ -14,3 +14,4 @@ pub mod MergedEntries
 pub mod Reports
 pub mod KeptEntries
 pub mod Keeping
+pub mod OneOutcome

@@ -1,9 +1,11 @@
 //! Laws of reports.
 
-ghost use Rattle.std.specs.Prelude.{◌≡◌, ℕ, ◌<◌, Bool, length};
-ghost use Rattle.lit_read.specs.Syntax.{Litmus};
+ghost use Rattle.std.specs.Prelude.{◌≡◌, ℕ, ◌<◌, Bool, List, length};
+ghost use Rattle.lit_read.specs.Syntax.{Litmus, IsLitmus};
 ghost use Rattle.lit_paths.specs.Choice.{choices_of};
-ghost use Rattle.lit_search.specs.Report.{Report, IsReport};
+ghost use Rattle.lit_search.specs.Report.{Report, Gives, IsReport};
+
+use crate::completing::laws;
 
 /// A set of choices has one report.
 pub fn reports_are_unique()
@@ -15,3 +17,10 @@ pub fn reports_go_by_choices()
     ensures { (t : Litmus) (some others : ℕ → Bool) (report : Report)
         → ((n : ℕ) → n < length (choices_of t) → some n ≡ others n) → IsReport t some report → IsReport t others report }
 {}
+
+/// A choice of a test that a text can say has one outcome at most.
+pub fn choices_have_one_outcome()
+    ensures { (t : Litmus) (n : ℕ) (some other : List ℕ) → IsLitmus t → Gives t n some → Gives t n other → some ≡ other }
+{
+    laws();
+}

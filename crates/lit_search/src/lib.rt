@@ -25,6 +25,6 @@ pub use completing::{
     whole_parts_are_decided_by_orders,
 };
 pub use found::{Example, Found, Outcome, SearchFault};
-pub use laws::{reports_are_unique, reports_go_by_choices};
+pub use laws::{choices_have_one_outcome, reports_are_unique, reports_go_by_choices};
 pub use merging::merge;
 pub use searching::{first_in, search_range};

@@ -1,8 +1,8 @@
 -- What reading the input does, step by step.
 use Rattle.std.specs.Prelude.{◌≡◌, ℕ, ◌<◌, ◌++◌, Option, List, length}
 use Rattle.std.specs.Io.KnownBytes.{Consumes, IsAtEnd}
-use Rattle.jslit.specs.declared.engine.RunFault.{RunFault}
-use Rattle.jslit.specs.declared.engine.RunFault.TheVariants.{InputFailed, OutOfMemory}
+use Rattle.jslit.specs.declared.fault.RunFault.{RunFault}
+use Rattle.jslit.specs.declared.fault.RunFault.TheVariants.{InputFailed, OutOfMemory}
 
 -- so many known bytes went behind those read before, and none only at the end
 pub record HasRead (old new : Option (List ℕ)) (before after : List ℕ) (taken : ℕ) : Type 0 where

@@ -1,7 +1,7 @@
 use Rattle.std.proofs.Common.{◌≡◌, length}
 use Rattle.jslit.specs.Counted.{device_of, failures_of}
 use Rattle.jslit.proofs.Written.{Begun}
-use Rattle.jslit.proofs.engine.put.Given as goal
+use Rattle.jslit.proofs.page.write_all.Given as goal
 
 abbrev pub invariant-loop-rest : goal.invariant-loop-rest
 invariant-loop-rest g l = record {

@@ -1,6 +1,6 @@
 use Rattle.std.proofs.Common.{rules}
 use Rattle.jslit.proofs.Written.{Begun-more}
-use Rattle.jslit.proofs.engine.put.Goals as goal
+use Rattle.jslit.proofs.page.write_all.Goals as goal
 
 pub loop-rest-preserved : goal.loop-rest-preserved
 loop-rest-preserved g c = record {

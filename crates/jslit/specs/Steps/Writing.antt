@@ -1,0 +1,52 @@
+-- What writing a report has come to: what the writer holds, and what waits to be written.
+use Rattle.std.specs.Prelude.{◌≡◌, ℕ, ◌++◌, Bool, true, false, Option, List}
+use Rattle.std.specs.Io.KnownBytes.{Appends}
+use Rattle.jslit.specs.declared.counted.Counted.{Counted}
+use Rattle.jslit.specs.declared.page.Page.{Page}
+use Rattle.jslit.specs.Counted.{device_of, failures_of, one_more}
+use Rattle.jslit.specs.Devices.{AppendsBeginning}
+
+-- the bytes that the writer holds, where they are known, its count of failures, what waits, and whether a write has failed
+pub record Writing : Type 0 where
+  pub known : Option (List ℕ)
+  pub failures : ℕ
+  pub waiting : List ℕ
+  pub failed : Bool
+
+abbrev pub writing_of : {W : Type 0} → (W → Option (List ℕ)) → Counted W → Page → Writing
+writing_of contents output page = record { known = contents (device_of output); failures = failures_of output; waiting = page.waiting.items; failed = page.failed }
+
+-- a text was put, and no write failed: it stands behind what waited, of which a beginning was written
+pub record GoesOn (old new : Writing) (text : List ℕ) : Type 0 where
+  pub same : new.failures ≡ old.failures
+  pub front : List ℕ
+  pub parts : front ++ new.waiting ≡ old.waiting ++ text
+  pub appended : Appends old.known new.known front
+
+-- a text was put, and a write failed: a beginning of what waited and of the text was written
+pub record Fails (old new : Writing) (text : List ℕ) : Type 0 where
+  pub count : new.failures ≡ one_more old.failures
+  pub begun : AppendsBeginning old.known new.known (old.waiting ++ text)
+
+-- nothing was written
+pub record Stays (old new : Writing) : Type 0 where
+  pub failed : new.failed ≡ true
+  pub same : new.failures ≡ old.failures
+  pub known : new.known ≡ old.known
+
+-- from one moment to another a text was put; once a write has failed, nothing more is written
+pub record HasPut (old new : Writing) (text : List ℕ) : Type 0 where
+  pub going : old.failed ≡ false → new.failed ≡ false → GoesOn old new text
+  pub failing : old.failed ≡ false → new.failed ≡ true → Fails old new text
+  pub failed : old.failed ≡ true → Stays old new
+
+-- no write has failed, and the writer holds, behind what it held, what waited
+pub record IsFinished (old : Writing) (known : Option (List ℕ)) (failures : ℕ) : Type 0 where
+  pub going : old.failed ≡ false
+  pub same : failures ≡ old.failures
+  pub appended : Appends old.known known old.waiting
+
+-- a write has failed: before, or now behind a beginning of what waited
+pub record IsStopped (old : Writing) (known : Option (List ℕ)) (failures : ℕ) : Type 0 where
+  pub failing : old.failed ≡ false → (failures ≡ one_more old.failures) × AppendsBeginning old.known known old.waiting
+  pub failed : old.failed ≡ true → (failures ≡ old.failures) × (known ≡ old.known)
