@@ -59,9 +59,9 @@ HasPut-then a b c s t p q = by_middle b.failed refl
       going = λ before after. let f = (q.failed is).failed in absurd cc;
       failing = λ before after. failed-then a b c s t (p.failing before is) (q.failed is);
       failed = λ before.
-        let old = p.failed before in
-        let new = q.failed is in
-        record { failed = new.failed; same = new.same ∙ old.same; known = new.known ∙ old.known };
+          let old = p.failed before in
+          let new = q.failed is in
+          record { failed = new.failed; same = new.same ∙ old.same; known = new.known ∙ old.known };
     }
 
 -- the same, by any way of saying both texts
@@ -80,10 +80,10 @@ HasPut-nothing a = record {
 pub put_through : (a : Writing) (b : Writing) (text : List ℕ) → HasPut (record { known = a.known; failures = a.failures; waiting = text; failed = a.failed }) b [] → b.waiting ≡ [] → a.waiting ≡ [] → HasPut a b text
 put_through a b text p none empty = record {
   going = λ before after.
-    let q = p.going before after in
-    record { same = q.same; front = q.front; parts = q.parts ∙ append-nil text ∙ ap (λ (w : List ℕ). w ++ text) (sym empty); appended = q.appended };
+      let q = p.going before after in
+      record { same = q.same; front = q.front; parts = q.parts ∙ append-nil text ∙ ap (λ (w : List ℕ). w ++ text) (sym empty); appended = q.appended };
   failing = λ before after.
-    let q = p.failing before after in
-    record { count = q.count; begun = rw (empty, sym (append-nil text)) q.begun };
+      let q = p.failing before after in
+      record { count = q.count; begun = rw (empty, sym (append-nil text)) q.begun };
   failed = λ before. let q = p.failed before in record { failed = q.failed; same = q.same; known = q.known };
 }

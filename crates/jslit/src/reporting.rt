@@ -205,12 +205,7 @@ fn put_verdict<W: Write>(page: &mut Page, output: &mut Counted<W>, verdict: Verd
 }
 
 /// Puts an outcome and its example for each entry of a report.
-fn put_entries<W: Write>(
-    page: &mut Page,
-    output: &mut Counted<W>,
-    plan: &Plan<'_>,
-    found: &Found,
-)
+fn put_entries<W: Write>(page: &mut Page, output: &mut Counted<W>, plan: &Plan<'_>, found: &Found)
     requires report { IsReport plan.now (in_range 0 (length (choices_of plan.now))) found.now }
     ensures { HasPut (writing_of W.contents output.old page.old) (writing_of W.contents output.new page.new) (flat_map (entry_text plan.now) found.now.entries) }
 {

@@ -1,12 +1,12 @@
 -- A choice has one outcome at most.
 use Rattle.std.proofs.Common.{◌≡◌, ◌⊎◌, inl, inr, ℕ, zero, suc, ◌+◌, ◌<◌, ◌≤◌, Some, List, [], length, refl, sym, ap, subst, ◌∙◌, arith}
-use Rattle.std.specs.Prelude.{slice_get}
+use Rattle.std.proofs.lemmas.Bool.{cases_lt}
 use Rattle.std.specs.List.{flat_map}
 use Rattle.std.proofs.lemmas.List.{take_all}
 use Rattle.std.proofs.lemmas.Option.{slice_get_within}
 use Rattle.lit_read.specs.Syntax.{IsLitmus, Litmus}
 use Rattle.lit_paths.specs.Choice.{Choice, choices_of, choices_on, combinations_of}
-use Rattle.lit_paths.specs.Execution.{Execution, execution_choice}
+use Rattle.lit_paths.specs.Execution.{execution_choice}
 use Rattle.lit_paths.specs.Path.{Path}
 use Rattle.lit_paths.specs.Plan.{choices_before}
 use Rattle.lit_paths.proofs.NameSteps.{names_from-within}
@@ -20,14 +20,11 @@ use Rattle.lit_search.proofs.CompletionLemmas.{its_outcome}
 -- where a number stands among others that begin at 0
 stands : (f : ℕ → ℕ) (k n : ℕ) → f 0 ≤ n → n < f k → (c : ℕ) × (c < k) × (f c ≤ n) × (n < f (c + 1))
 stands f zero n low high = absurd (omega (arith, low, high))
-stands f (suc k) n low high = by (split (f k))
+stands f (suc k) n low high = by (cases_lt n (f k)) (stands f k n low)
   where
-    split : (m : ℕ) → (n < m) ⊎ (m ≤ n)
-    split m = omega arith
-
-    by : (n < f k) ⊎ (f k ≤ n) → (c : ℕ) × (c < suc k) × (f c ≤ n) × (n < f (c + 1))
-    by (inl less) = let s = stands f k n low less in (s.0, omega (arith, s.1), s.2, s.3)
-    by (inr most) = (k, omega arith, most, subst (λ (m : ℕ). n < f m) (let e : suc k ≡ k + 1 = omega arith in e) high)
+    by : (n < f k) ⊎ (f k ≤ n) → (n < f k → (c : ℕ) × (c < k) × (f c ≤ n) × (n < f (c + 1))) → (c : ℕ) × (c < suc k) × (f c ≤ n) × (n < f (c + 1))
+    by (inl less) earlier = let s = earlier less in (s.0, omega (arith, s.1), s.2, s.3)
+    by (inr most) earlier = (k, omega arith, most, subst (λ (m : ℕ). n < f m) (let e : suc k ≡ k + 1 = omega arith in e) high)
 
 all_before : (t : Litmus) → choices_before t (length (combinations_of t)) ≡ length (choices_of t)
 unfolding choices_of
