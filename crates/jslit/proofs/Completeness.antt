@@ -1,4 +1,4 @@
--- A report on all choices of a test leaves out no valid execution, and is what is answered for its text.
+-- A report on all choices of a test leaves out no valid execution.
 use Rattle.std.proofs.Common.{◌≡◌, ℕ, ◌<◌, List, length, map, Some, refl, ap, subst, ◌∙◌, arith}
 use Rattle.std.specs.Prelude.{slice_get, Contains, IsTrue}
 use Rattle.std.proofs.lemmas.Bool.Decides.{nat_tests}
@@ -8,13 +8,7 @@ use Rattle.lit_read.specs.Syntax.{Litmus}
 use Rattle.lit_paths.specs.Choice.{IsChoice, ListsChoices, choices_of}
 use Rattle.lit_search.specs.Report.{Entry, Report, IsReport, in_range}
 use Rattle.lit_paths.specs.Execution.{Execution, execution_choice, execution_outcome, IsCandidateExecution}
-use Rattle.lit_read.specs.Spelling.{Spells}
-use Rattle.lit_paths.specs.declared.planning.PlanFault.{PlanFault}
-use Rattle.lit_paths.specs.Plan.{IsRefusal}
-use Rattle.jslit.specs.declared.verdict.Verdict.{Verdict}
-use Rattle.jslit.specs.ReportText.{report_text}
-use Rattle.jslit.specs.Verdict.{IsVerdict}
-use Rattle.jslit.specs.Answer.{IsComplete, IsReportOn}
+use Rattle.jslit.specs.Answer.{IsComplete}
 
 -- what an entry has is among the outcomes
 listed : (entries : List Entry) (i : ℕ) (entry : Entry) (outcome : List ℕ) → slice_get entries i ≡ Some entry → entry.outcome ≡ outcome
@@ -36,24 +30,3 @@ complete t report chosen lists is x valid =
     let lt : number.0 < length (choices_of t) = slice_get_within (choices_of t) number.0 (execution_choice x) number.1 in
     let found = is.whole number.0 (execution_outcome t x) (below_total (length (choices_of t)) number.0 lt) (record { execution = x; valid = valid; chosen = number.1; result = refl }) in
     listed report.entries found.0 found.1 (execution_outcome t x) found.2 found.3
-
--- the report of a test's plan, with its text
-pub report_on : (text answer : List ℕ) (t plan : Litmus) (total : ℕ) (report : Report) (verdict : Verdict) → Spells text t → ((fault : PlanFault) → ¬ IsRefusal t fault)
-    → plan ≡ t → total ≡ length (choices_of plan) → IsReport plan (in_range 0 total) report → ((u : Litmus) (r : Report) → IsReport u (in_range 0 (length (choices_of u))) r → IsComplete u r)
-    → IsVerdict plan report verdict → answer ≡ report_text t report verdict → IsReportOn text answer
-report_on text answer t plan total report verdict spelled planned same all reported law judged is =
-    let P : ℕ → Type 0 = λ n. IsReport plan (in_range 0 n) report in
-    let Q : Litmus → Type 0 = λ u. IsReport u (in_range 0 (length (choices_of u))) report in
-    let V : Litmus → Type 0 = λ u. IsVerdict u report verdict in
-    let here : IsReport t (in_range 0 (length (choices_of t))) report = subst Q same (subst P all reported) in
-    record {
-      test = t;
-      spelled = spelled;
-      planned = planned;
-      report = report;
-      reported = here;
-      complete = law t report here;
-      verdict = verdict;
-      judged = subst V same judged;
-      is = is;
-    }

@@ -1,6 +1,7 @@
 -- What an entry of a report says of its outcome, its choice and its order.
 use Rattle.std.proofs.Common.{◌≡◌, ℕ, ◌+◌, ◌<◌, ◌≤◌, List, [], ◌∷◌, ◌++◌, length, take, get_or, Some, sym, ap, subst, ◌∙◌, append_assoc, arith}
-use Rattle.std.specs.Prelude.{All, slice_get}
+use Rattle.std.specs.Prelude.{All, IsTrue, slice_get}
+use Rattle.std.proofs.lemmas.Bool.Decides.{nat_tests}
 use Rattle.std.specs.List.{flat_map}
 use Rattle.std.proofs.lemmas.List.{length-map, append-nil, take_more, take_all}
 use Rattle.std.proofs.lemmas.Grind.{flat_map-append}
@@ -36,22 +37,10 @@ sources_known events sources sourced k d lt =
 pub choice_at-is : (t : Litmus) (n : ℕ) (choice : Choice) → slice_get (choices_of t) n ≡ Some choice → choice_at t n ≡ choice
 choice_at-is t n choice at = get_or_from_slice_get (choices_of t) n choice _ at
 
--- an entry is written piece by piece
-pub entry_joined : (o a r l f w n o1 o2 o3 o4 o5 o6 o7 : List ℕ) → o1 ≡ o ++ a → o2 ≡ o1 ++ r → o3 ≡ o2 ++ l → o4 ≡ o3 ++ f → o5 ≡ o4 ++ w → o6 ≡ o5 ++ n → o7 ≡ o6 ++ l → o7 ≡ o ++ ((((a ++ r) ++ l) ++ f) ++ ((w ++ n) ++ l))
-entry_joined o a r l f w n o1 o2 o3 o4 o5 o6 o7 e1 e2 e3 e4 e5 e6 e7 = rw (e7, e6, e5, e4, e3, e2, e1) (simp append_assoc)
-
 -- an entry of a report is one of its entries
 pub entry_in : (t : Litmus) (to : ℕ) (report : Report) (i : ℕ) → IsReport t (in_range 0 to) report → i < length report.entries → IsEntry t (in_range 0 to) (entry_at report i)
 entry_in t to report i is lt = is.each i (entry_at report i) (slice_get-get_or report.entries i _ lt)
 
--- the text of one more entry
-pub entries_more : (f : Entry → List ℕ) (xs : List Entry) (k : ℕ) (d : Entry) → k < length xs → flat_map f (take (k + 1) xs) ≡ flat_map f (take k xs) ++ f (get_or xs k d)
-entries_more f xs k d lt = ap (flat_map f) (take_more xs k d lt) ∙ flat_map-append f (take k xs) (get_or xs k d ∷ []) ∙ ap (λ (bs : List ℕ). flat_map f (take k xs) ++ bs) (append-nil (f (get_or xs k d)))
-
-pub report_more : (f : Entry → List ℕ) (xs : List Entry) (k : ℕ) (d entry : Entry) (head out new : List ℕ) → k < length xs → out ≡ head ++ flat_map f (take k xs) → new ≡ out ++ f entry → entry ≡ get_or xs k d → new ≡ head ++ flat_map f (take (k + 1) xs)
-report_more f xs k d entry head out new lt so_far more is =
-    more ∙ ap (λ (x : Entry). out ++ f x) is ∙ ap (λ (o : List ℕ). o ++ f (get_or xs k d)) so_far ∙ append_assoc head (flat_map f (take k xs)) (f (get_or xs k d)) ∙ ap (λ (bs : List ℕ). head ++ bs) (sym (entries_more f xs k d lt))
-
-pub report_end : (f : Entry → List ℕ) (xs : List Entry) (k : ℕ) (head out new a b : List ℕ) → length xs ≤ k → out ≡ head ++ flat_map f (take k xs) → new ≡ out ++ (a ++ b) → new ≡ ((head ++ flat_map f xs) ++ a) ++ b
-report_end f xs k head out new a b le so_far end =
-    end ∙ ap (λ (o : List ℕ). o ++ (a ++ b)) (so_far ∙ ap (λ (ys : List Entry). head ++ flat_map f ys) (take_all k xs le)) ∙ sym (append_assoc (head ++ flat_map f xs) a b)
+-- a number among all
+pub among_all : (total n : ℕ) → IsTrue (in_range 0 total n) → n < total
+among_all total n is = grind (arith, nat_tests)

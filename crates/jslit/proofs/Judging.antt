@@ -6,7 +6,7 @@ use Rattle.lit_read.specs.Syntax.{Litmus}
 use Rattle.lit_paths.specs.Outcome.{meets}
 use Rattle.lit_search.specs.Report.{Entry, Report, entry_at}
 use Rattle.jslit.specs.declared.verdict.Verdict.TheVariants.{Always, Sometimes, Never}
-use Rattle.jslit.specs.Verdict.{IsVerdict}
+use Rattle.jslit.specs.Verdict.{IsVerdict, verdict_of}
 
 -- whether the outcome at a place meets the condition
 abbrev pub met_at : Litmus → Report → ℕ → Bool
@@ -68,6 +68,11 @@ module _ (t : Litmus) (report : Report) where
       let s = h.some_met refl in
       let u = h.some_unmet refl in
       (λ none. false≢true (sym (none s.0 _ s.1) ∙ s.2), λ all. false≢true (sym u.2 ∙ all.all u.0 _ u.1))
+
+  pub judged_by : (met unmet : Bool) → IsJudgedSoFar t report (length report.entries) met unmet → IsVerdict t report (verdict_of met unmet)
+  judged_by false unmet h = judged_never unmet h
+  judged_by true false h = judged_always h
+  judged_by true true h = judged_sometimes h
 
   -- the same, of marks with the same values
   pub judged_with : (n : ℕ) (met met' unmet unmet' : Bool) → met' ≡ met → unmet' ≡ unmet → IsJudgedSoFar t report n met' unmet' → IsJudgedSoFar t report n met unmet

@@ -18,7 +18,6 @@ use Rattle.jslit.specs.declared.fault.RunFault.{RunFault}
 use Rattle.jslit.specs.declared.fault.RunFault.TheVariants as faults
 use Rattle.jslit.specs.Answer.{IsFaultOn}
 use Rattle.jslit.specs.Devices.{IsTold, OfToldText}
-use Rattle.jslit.specs.Steps.Faults.{IsOfText}
 use Rattle.jslit.specs.Steps.Reading.{IsReadFailure}
 
 -- want of memory is no fault of a text
@@ -36,9 +35,6 @@ module _ (text : List ℕ) (fault : ReadFault) (result : RunFault) (refused : ((
   pub read_refused : IsFaultOn text result
   read_refused = as_run (IsFaultOn text) tt (λ first. first)
 
-  pub read_of_text : IsOfText result
-  read_of_text = as_run IsOfText tt (λ first. tt)
-
 -- a plan's fault is want of memory or a refusal
 memory_or : (t : Litmus) (fault : PlanFault) → plan.IsPlanFault t fault → (fault ≡ plan_faults.OutOfMemory) ⊎ plan.IsRefusal t fault
 memory_or t plan_faults.TooManyEvents refused = inr refused
@@ -55,9 +51,6 @@ module _ (text : List ℕ) (t : Litmus) (fault : PlanFault) (result : RunFault) 
 
   pub plan_refused : IsFaultOn text result
   plan_refused = as_plan (IsFaultOn text) tt (λ refusal. record { test = t; spelled = spelled; refused = refusal })
-
-  pub plan_of_text : IsOfText result
-  plan_of_text = as_plan IsOfText tt (λ refusal. tt)
 
 -- a test within the limits is refused for none of them
 pub not_refused : (t : Litmus) → plan.HasFewEvents t → length (combinations_of t) ≤ COMBINATION_LIMIT → length (choices_of t) ≤ CHOICE_LIMIT → (fault : PlanFault) → ¬ plan.IsRefusal t fault

@@ -1,6 +1,8 @@
-use Rattle.std.proofs.Common.{◌≡◌, ◌++◌, take, string_bytes}
+use Rattle.std.proofs.Common.{drop}
 use Rattle.jslit.specs.ReportText.{names_text}
+use Rattle.jslit.specs.Steps.Writing.{writing_of}
+use Rattle.jslit.proofs.Putting.{PutsOf}
 use Rattle.jslit.proofs.reporting.put_events.Given as goal
 
 abbrev pub invariant-loop-number : goal.invariant-loop-number
-invariant-loop-number l = string_bytes l.out ≡ string_bytes l.fn.out ++ names_text l.test l.events (take l.number-index l.numbers)
+invariant-loop-number g l = PutsOf (writing_of g.W.Write.contents l.fn.output l.fn.page) (writing_of g.W.Write.contents l.output l.page) (names_text l.test l.events (drop l.number-index l.numbers)) (names_text l.test l.events l.numbers)

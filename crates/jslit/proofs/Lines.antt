@@ -1,0 +1,112 @@
+-- The texts of single lines, as they are put together.
+use Rattle.std.proofs.Common.{◌≡◌, ℕ, ◌+◌, ◌<◌, ◌≤◌, Option, Some, None, List, [], ◌∷◌, ◌++◌, length, drop, get_or, codes, refl, sym, ap, ◌∙◌, append_assoc}
+use Rattle.std.specs.List.{flat_map}
+use Rattle.std.proofs.lemmas.List.{drop_more, drop_all, get_or_default}
+use Rattle.std.specs.Fmt.{decimal}
+use Rattle.lit_read.specs.Syntax.{Litmus, agent_of}
+use Rattle.lit_paths.specs.declared.event.Event.{Event}
+use Rattle.lit_paths.specs.Event.{no_event}
+use Rattle.lit_paths.specs.Outcome.{names_of}
+use Rattle.lit_search.specs.Report.{Entry, Report, entry_at}
+use Rattle.jslit.specs.ChoiceEvents.{choice_at, choice_events}
+use Rattle.jslit.specs.ReportText.{class_text, entry_text, event_name, from_lines, line, names_text, owned_name, quick_text, register_text, registers_text, report_text, verdict_text}
+use Rattle.jslit.specs.declared.verdict.Verdict.{Verdict}
+use Rattle.jslit.specs.Steps.FirstEntry.{entry_of_option}
+
+-- the name of an agent's access
+pub access_name : (t : Litmus) (e : Event) (agent : ℕ) (name bytes : List ℕ) → e.owner ≡ Some agent → name ≡ (agent_of t agent).name → bytes ≡ name
+    → ((codes " " ++ bytes) ++ codes ".") ++ decimal e.place ≡ codes " " ++ event_name t e
+access_name t e agent name bytes owner is same =
+    ap (λ (w : List ℕ). ((codes " " ++ w) ++ codes ".") ++ decimal e.place) (same ∙ is)
+    ∙ joined (agent_of t agent).name (decimal e.place)
+    ∙ ap (λ (o : Option ℕ). codes " " ++ owned_name t o e.place) (sym owner)
+  where
+    joined : (n d : List ℕ) → ((codes " " ++ n) ++ codes ".") ++ d ≡ codes " " ++ (n ++ codes "." ++ d)
+    joined n d = simp append_assoc
+
+-- the name of an event that makes a byte
+pub init_name : (t : Litmus) (e : Event) → ((agent : ℕ) → e.owner ≡ Some agent → ⊥) → (codes " init[" ++ decimal e.place) ++ codes "]" ≡ codes " " ++ event_name t e
+init_name t e none = by e.owner none
+  where
+    by : (o : Option ℕ) → ((agent : ℕ) → o ≡ Some agent → ⊥) → (codes " init[" ++ decimal e.place) ++ codes "]" ≡ codes " " ++ owned_name t o e.place
+    by None h = refl
+    by (Some agent) h = absurd (h agent refl)
+
+-- a register with its value
+pub register_is : (t : Litmus) (agent register value : ℕ) (name bytes : List ℕ) → name ≡ (agent_of t agent).name → bytes ≡ name
+    → ((((codes " " ++ bytes) ++ codes ".r") ++ decimal register) ++ codes "=") ++ decimal value ≡ register_text t ((agent, register), value)
+register_is t agent register value name bytes is same =
+    ap (λ (w : List ℕ). ((((codes " " ++ w) ++ codes ".r") ++ decimal register) ++ codes "=") ++ decimal value) (same ∙ is) ∙ joined (agent_of t agent).name (decimal register) (decimal value)
+  where
+    joined : (n r v : List ℕ) → ((((codes " " ++ n) ++ codes ".r") ++ r) ++ codes "=") ++ v ≡ codes " " ++ n ++ codes ".r" ++ r ++ codes "=" ++ v
+    joined n r v = simp append_assoc
+
+-- the names of events, one after the other
+pub names_more : (t : Litmus) (events : List Event) (numbers : List ℕ) (i d : ℕ) (none : Event) → i < length numbers → get_or numbers i d < length events
+    → names_text t events (drop i numbers) ≡ (codes " " ++ event_name t (get_or events (get_or numbers i d) none)) ++ names_text t events (drop (i + 1) numbers)
+names_more t events numbers i d none lt known =
+    ap (names_text t events) (drop_more numbers i d lt)
+    ∙ ap (λ (e : Event). (codes " " ++ event_name t e) ++ names_text t events (drop (i + 1) numbers)) (get_or_default events (get_or numbers i d) no_event none known)
+
+pub names_end : (t : Litmus) (events : List Event) (numbers : List ℕ) (i : ℕ) → length numbers ≤ i → names_text t events (drop i numbers) ≡ []
+names_end t events numbers i le = ap (names_text t events) (drop_all i numbers le)
+
+-- entries, one after the other
+pub entries_more : (t : Litmus) (report : Report) (i : ℕ) (entry : Entry) → i < length report.entries → entry ≡ entry_at report i
+    → flat_map (entry_text t) (drop i report.entries) ≡ entry_text t entry ++ flat_map (entry_text t) (drop (i + 1) report.entries)
+entries_more t report i entry lt is =
+    ap (flat_map (entry_text t)) (drop_more report.entries i _ lt) ∙ ap (λ (e : Entry). entry_text t e ++ flat_map (entry_text t) (drop (i + 1) report.entries)) (sym is)
+
+pub entries_end : (t : Litmus) (report : Report) (i : ℕ) → length report.entries ≤ i → flat_map (entry_text t) (drop i report.entries) ≡ []
+entries_end t report i le = ap (flat_map (entry_text t)) (drop_all i report.entries le)
+
+-- an entry from its parts
+pub entry_is : (t test : Litmus) (names : List (ℕ × ℕ)) (events : List Event) (sources order : List ℕ) (entry : Entry)
+    → test ≡ t → names ≡ names_of t → events ≡ choice_events t (choice_at t entry.choice) → sources ≡ (choice_at t entry.choice).sources → order ≡ entry.order
+    → (((((codes "outcome" ++ registers_text test names entry.outcome) ++ codes "\n") ++ from_lines test events sources) ++ codes "  order") ++ names_text test events order) ++ codes "\n" ≡ entry_text t entry
+entry_is t test names events sources order entry same named evented sourced ordered =
+    ap (λ (u : Litmus). text u names events sources order) same
+    ∙ ap (λ (ns : List (ℕ × ℕ)). text t ns events sources order) named
+    ∙ ap (λ (es : List Event). text t (names_of t) es sources order) evented
+    ∙ ap (λ (ws : List ℕ). text t (names_of t) (choice_events t (choice_at t entry.choice)) ws order) sourced
+    ∙ ap (λ (ns : List ℕ). text t (names_of t) (choice_events t (choice_at t entry.choice)) (choice_at t entry.choice).sources ns) ordered
+    ∙ joined (codes "outcome") _ _ (codes "  order") _
+  where
+    text : Litmus → List (ℕ × ℕ) → List Event → List ℕ → List ℕ → List ℕ
+    text u ns es ws os = (((((codes "outcome" ++ registers_text u ns entry.outcome) ++ codes "\n") ++ from_lines u es ws) ++ codes "  order") ++ names_text u es os) ++ codes "\n"
+
+    joined : (a r f w n : List ℕ) → (((((a ++ r) ++ codes "\n") ++ f) ++ w) ++ n) ++ codes "\n" ≡ line (a ++ r) ++ f ++ line (w ++ n)
+    joined a r f w n = simp append_assoc
+
+-- what is said of a class
+pub class_none : (t : Litmus) (word : List ℕ) (first : Option Report) → ((report : Report) → first ≡ Some report → ⊥) → word ++ codes " none\n" ≡ class_text t word (entry_of_option first)
+class_none t word None h = sym (append_assoc word (codes " none") (10 ∷ []))
+class_none t word (Some report) h = absurd (h report refl)
+
+pub class_some : (t : Litmus) (word : List ℕ) (first : Option Report) (report : Report) (entry : Entry) → first ≡ Some report → entry ≡ entry_at report 0
+    → (word ++ codes " ") ++ entry_text t entry ≡ class_text t word (entry_of_option first)
+class_some t word first report entry is same =
+    ap (λ (e : Entry). (word ++ codes " ") ++ entry_text t e) same ∙ ap (λ (o : Option Report). class_text t word (entry_of_option o)) (sym is)
+
+-- a whole report
+pub whole_is : (t test : Litmus) (report : Report) (count : ℕ) (verdict : Verdict) → test ≡ t → count ≡ length report.entries
+    → ((((line (codes "test " ++ test.name) ++ flat_map (entry_text t) report.entries) ++ codes "outcomes ") ++ decimal count) ++ codes "\n") ++ line (codes "verdict " ++ verdict_text verdict) ≡ report_text t report verdict
+unfolding report_text
+whole_is t test report count verdict same is =
+    ap (λ (u : Litmus). ((((line (codes "test " ++ u.name) ++ flat_map (entry_text t) report.entries) ++ codes "outcomes ") ++ decimal count) ++ codes "\n") ++ line (codes "verdict " ++ verdict_text verdict)) same
+    ∙ ap (λ (n : ℕ). ((((line (codes "test " ++ t.name) ++ flat_map (entry_text t) report.entries) ++ codes "outcomes ") ++ decimal n) ++ codes "\n") ++ line (codes "verdict " ++ verdict_text verdict)) is
+    ∙ joined (line (codes "test " ++ t.name)) (flat_map (entry_text t) report.entries) (codes "outcomes ") (decimal (length report.entries)) (line (codes "verdict " ++ verdict_text verdict))
+  where
+    joined : (a b c d e : List ℕ) → ((((a ++ b) ++ c) ++ d) ++ codes "\n") ++ e ≡ a ++ b ++ line (c ++ d) ++ e
+    joined a b c d e = simp append_assoc
+
+-- a quick report
+pub quick_is : (t test : Litmus) (met unmet : Option Entry) (verdict : Verdict) → test ≡ t
+    → ((line (codes "test " ++ test.name) ++ class_text t (codes "met") met) ++ class_text t (codes "unmet") unmet) ++ line (codes "verdict " ++ verdict_text verdict) ≡ quick_text t met unmet verdict
+unfolding quick_text
+quick_is t test met unmet verdict same =
+    ap (λ (u : Litmus). ((line (codes "test " ++ u.name) ++ class_text t (codes "met") met) ++ class_text t (codes "unmet") unmet) ++ line (codes "verdict " ++ verdict_text verdict)) same
+    ∙ joined (line (codes "test " ++ t.name)) (class_text t (codes "met") met) (class_text t (codes "unmet") unmet) (line (codes "verdict " ++ verdict_text verdict))
+  where
+    joined : (a b c d : List ℕ) → ((a ++ b) ++ c) ++ d ≡ a ++ b ++ c ++ d
+    joined a b c d = simp append_assoc
