@@ -21,6 +21,7 @@ mod paths;
 mod refusals;
 mod reports;
 mod sizes;
+mod workers;
 
 const ONE_WORKER: Options = Options {
     workers: 1,
@@ -29,15 +30,16 @@ const ONE_WORKER: Options = Options {
 };
 
 /// That `run` answers a text with these bytes: what it writes, or the line of its fault.
-fn writes(
+fn writes_by(
     rt: &(impl Threads + Sync + Abort + AllocGlobal),
     text: &[u8],
     expected: &[u8],
+    options: Options,
 ) -> Result<(), Fail> {
     let alloc = rt.alloc();
     let mut input = Counted::new(text);
     let mut output = Counted::new(Vec::new(alloc));
-    let outcome = run(rt, alloc, &mut input, &mut output, ONE_WORKER);
+    let outcome = run(rt, alloc, &mut input, &mut output, options);
     let mut written = output.into_inner();
     if let Err(fault) = outcome {
         assert!(rt; written.is_empty());
@@ -46,6 +48,15 @@ fn writes(
     }
     assert_eq!(rt; written.as_slice(), expected);
     Ok(())
+}
+
+/// That one worker answers a text with these bytes.
+fn writes(
+    rt: &(impl Threads + Sync + Abort + AllocGlobal),
+    text: &[u8],
+    expected: &[u8],
+) -> Result<(), Fail> {
+    writes_by(rt, text, expected, ONE_WORKER)
 }
 
 /// That the program answers a text with these bytes and this status, and says nothing else.

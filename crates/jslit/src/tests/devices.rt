@@ -6,6 +6,7 @@ use crate::command::program;
 use crate::counted::Counted;
 use crate::engine::run;
 use crate::fault::RunFault;
+use std::alloc::{AllocError, Global};
 use std::io;
 use std::io::{Read, Write};
 use std::test::Fail;
@@ -49,6 +50,105 @@ impl Read for Broken {
     fn read(&mut self, _buf: &mut [u8]) -> io::Result<usize> {
         Err(io::Error::other("broken"))
     }
+}
+
+/// Takes at most so many bytes a call, keeps them, and takes no more than it has room for.
+#[derive(Drop)]
+struct Narrow {
+    taken: Vec<u8>,
+    width: usize,
+    room: usize,
+}
+
+impl Write for Narrow {
+    fn write(&mut self, buf: &[u8]) -> io::Result<usize> {
+        let taken = buf.len().min(self.width).min(self.room);
+        if self.taken.extend_from_slice(&buf[..taken]).is_err() {
+            return Ok(0);
+        }
+        self.room -= taken;
+        Ok(taken)
+    }
+
+    fn flush(&mut self) -> io::Result<()> {
+        Ok(())
+    }
+}
+
+#[test]
+fn output_ends_after_each_byte(rt: HostRuntime) -> Result<(), Fail> {
+    let alloc = rt.alloc();
+    let (text, report) = UNTOUCHED_BYTE;
+    for room in 0..report.len() {
+        let mut input = Counted::new(text.as_bytes());
+        let mut output = Counted::new(Narrow {
+            taken: Vec::new(alloc),
+            width: 1,
+            room,
+        });
+        let outcome = run(&rt, alloc, &mut input, &mut output, ONE_WORKER);
+        assert!(rt; outcome == Err(RunFault::OutputFailed));
+        assert_eq!(rt; output.failures(), 1);
+        let taken = output.into_inner().taken;
+        assert_eq!(rt; taken.as_slice(), &report.as_bytes()[..room]);
+    }
+    Ok(())
+}
+
+/// Four stores of a byte and three plain loads of it, each of which may read any of them or the first zero.
+const MANY_OUTCOMES: &str = "test many
+bytes 1
+agent A
+U8[0] = 1
+U8[0] = 2
+U8[0] = 3
+U8[0] = 4
+agent B
+r0 = U8[0]
+r1 = U8[0]
+r2 = U8[0]
+check B.r0 == 0
+";
+
+/// What is read, by its value.
+const STORES: [&str; 5] = ["init[0]", "A.0", "A.1", "A.2", "A.3"];
+
+/// The report on `MANY_OUTCOMES`.
+fn many_outcomes(alloc: Global) -> Result<String, AllocError> {
+    let mut report = String::new(alloc);
+    report.push_str("test many\n")?;
+    for first in 0..5 {
+        for second in 0..5 {
+            for third in 0..5 {
+                write!(report, "outcome B.r0={first} B.r1={second} B.r2={third}\n")?;
+                write!(report, "  from B.0 {}\n", STORES[first])?;
+                write!(report, "  from B.1 {}\n", STORES[second])?;
+                write!(report, "  from B.2 {}\n", STORES[third])?;
+                report.push_str("  order init[0] A.0 A.1 A.2 A.3 B.0 B.1 B.2\n")?;
+            }
+        }
+    }
+    report.push_str("outcomes 125\nverdict sometimes\n")?;
+    Ok(report)
+}
+
+#[test]
+fn report_longer_than_what_waits(rt: HostRuntime) -> Result<(), Fail> {
+    let alloc = rt.alloc();
+    let report = many_outcomes(alloc)?;
+    assert!(rt; report.len() > 8_192);
+    for width in [1, 1_000, 100_000] {
+        let mut input = Counted::new(MANY_OUTCOMES.as_bytes());
+        let mut output = Counted::new(Narrow {
+            taken: Vec::new(alloc),
+            width,
+            room: 100_000,
+        });
+        let outcome = run(&rt, alloc, &mut input, &mut output, ONE_WORKER);
+        assert!(rt; outcome.is_ok());
+        assert_eq!(rt; output.into_inner().taken.as_slice(), report.as_bytes());
+    }
+    Ok(())
 }
 
 #[test]
