@@ -6,6 +6,7 @@ use lit_paths::plan;
 use lit_read::read;
 use std::test::Fail;
 
+mod callers;
 mod gates;
 
 const STORE_BUFFERING: &[u8] = b"test sb

@@ -14,6 +14,8 @@ struct Holding {
     /// The pieces to wait for, as a set of bits.
     awaited: u64,
     entered: AtomicU64,
+    /// The workers that came with their own pass, as a set of bits.
+    workers: AtomicU64,
     /// The pieces did not come in time.
     gave_up: AtomicBool,
 }
@@ -24,21 +26,28 @@ impl Holding {
             held,
             awaited,
             entered: AtomicU64::new(0),
+            workers: AtomicU64::new(0),
             gave_up: AtomicBool::new(false),
         }
     }
 
-    /// Whether these pieces were entered, and the one held did not have to be let go.
+    /// Whether these pieces were entered, by two workers at least, and the one held did not have to be let go.
     fn let_all_in(&self, pieces: u64) -> bool {
-        self.entered.load(Ordering::SeqCst) == pieces && !self.gave_up.load(Ordering::SeqCst)
+        self.entered.load(Ordering::SeqCst) == pieces
+            && self.workers.load(Ordering::SeqCst).count_ones() > 1
+            && !self.gave_up.load(Ordering::SeqCst)
     }
 }
 
 impl Gate for Holding {
-    type Pass = u64;
+    /// The number of the worker.
+    type Pass = usize;
 
-    fn at(&self, pieces: &mut u64, _worker: usize, piece: u64) {
-        *pieces = pieces.wrapping_add(1);
+    fn at(&self, pass: &mut usize, worker: usize, piece: u64) {
+        if *pass == worker {
+            self.workers
+                .fetch_or(1u64.wrapping_shl((worker % 64) as u32), Ordering::SeqCst);
+        }
         self.entered
             .fetch_or(1u64.wrapping_shl((piece % 64) as u32), Ordering::SeqCst);
         if piece != self.held {
@@ -59,11 +68,11 @@ fn gate_holds_first_piece(rt: HostRuntime) -> Result<(), Fail> {
     let test = read(rt.alloc(), STORE_BUFFERING)?;
     let plan = plan(rt.alloc(), &test)?;
     let gate = Holding::new(0, 0b10);
-    let found = search(&rt, rt.alloc(), &plan, 2, &gate, vec![in rt.alloc(); 0, 0]?)?;
+    let found = search(&rt, rt.alloc(), &plan, 2, &gate, vec![in rt.alloc(); 0, 1]?)?;
     assert_eq!(rt; found.len(), 3);
     assert!(rt; gate.let_all_in(0b11));
     let gate = Holding::new(0, 0b10);
-    let quick = quick(&rt, rt.alloc(), &plan, 2, &gate, vec![in rt.alloc(); 0, 0]?)?;
+    let quick = quick(&rt, rt.alloc(), &plan, 2, &gate, vec![in rt.alloc(); 0, 1]?)?;
     assert!(rt; quick.met.is_none());
     assert!(rt; gate.let_all_in(0b11));
     Ok(())
@@ -75,7 +84,7 @@ fn gate_drains_desk(rt: HostRuntime) -> Result<(), Fail> {
     let plan = plan(rt.alloc(), &test)?;
     for held in [(0, 0b1110), (1, 0b1101), (2, 0b1011), (3, 0b0111)] {
         let gate = Holding::new(held.0, held.1);
-        let found = search(&rt, rt.alloc(), &plan, 1, &gate, vec![in rt.alloc(); 0, 0]?)?;
+        let found = search(&rt, rt.alloc(), &plan, 1, &gate, vec![in rt.alloc(); 0, 1]?)?;
         assert_eq!(rt; found.len(), 3);
         assert!(rt; gate.let_all_in(0b1111), "held {}", held.0);
     }
@@ -88,7 +97,7 @@ fn gate_drains_desk_of_quick(rt: HostRuntime) -> Result<(), Fail> {
     let plan = plan(rt.alloc(), &test)?;
     for held in [(0, 0b1110), (1, 0b1101), (2, 0b1011), (3, 0b0111)] {
         let gate = Holding::new(held.0, held.1);
-        let quick = quick(&rt, rt.alloc(), &plan, 1, &gate, vec![in rt.alloc(); 0, 0]?)?;
+        let quick = quick(&rt, rt.alloc(), &plan, 1, &gate, vec![in rt.alloc(); 0, 1]?)?;
         assert!(rt; quick.met.is_none());
         assert!(rt; quick.unmet.is_some());
         assert!(rt; gate.let_all_in(0b1111), "held {}", held.0);
@@ -107,7 +116,7 @@ fn gate_holds_one_of_three(rt: HostRuntime) -> Result<(), Fail> {
         &plan,
         1,
         &gate,
-        vec![in rt.alloc(); 0, 0, 0]?,
+        vec![in rt.alloc(); 0, 1, 2]?,
     )?;
     let (Some(met), Some(unmet)) = (quick.met, quick.unmet) else {
         panic!(rt; "each class has an outcome")
