@@ -137,10 +137,10 @@ fn known<'a>(choice: u64, outcome: &'a [u32], order: &'a [u8]) -> Valid<'a> {
     }
 }
 
-/// Choices that are not valid begin with the same source, often several: 0 and 1, 4 and 5 of load buffering, where A reads
-/// 0 and the path asks for 1, and 0 to 2 where A's own store hides what it reads. So some of the ranges begin and end
-/// inside what is left at once, [1, 2) of the last test inside one part. Where two stores give one value, the range tells
-/// which of them is the example.
+/// Some ranges begin and end inside a part that is broken. Of load buffering, A reads 0 where its path asks for 1 in
+/// choices 0 and 1, and in 4 and 5: [1, 5) begins in the one and ends in the other. Of the last test, A's own store hides
+/// what it reads in choices 0 to 2: [1, 2) lies inside. Where two stores give one value, the range tells which of them is
+/// the example.
 #[test]
 fn every_range_has_its_report(rt: HostRuntime) -> Result<(), Fail> {
     let load_buffering = [
