@@ -20,6 +20,18 @@ fn sets_have_what_is_put_in(rt: HostRuntime) {
 }
 
 #[test]
+fn sets_are_taken_apart(rt: HostRuntime) {
+    let first = EventSet::below(3);
+    assert!(rt; first == EventSet::new().with(0).with(1).with(2));
+    assert!(rt; EventSet::below(0).is_empty() && EventSet::below(28).contains(27));
+    let other = EventSet::new().with(1).with(27);
+    assert!(rt; first.difference(other) == EventSet::new().with(0).with(2));
+    assert!(rt; other.difference(first) == EventSet::new().with(27));
+    assert!(rt; other.split_first() == Some((1, EventSet::new().with(27))));
+    assert!(rt; EventSet::new().split_first().is_none());
+}
+
+#[test]
 fn rows_hold_of_what_is_put_in(rt: HostRuntime) {
     let mut rows = Rows::new(28);
     assert_eq!(rt; rows.len(), 28);

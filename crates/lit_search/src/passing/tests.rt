@@ -146,3 +146,52 @@ fn finders_agree_on_three_and_four_agents(rt: HostRuntime) -> Result<(), Fail> {
     );
     Ok(())
 }
+
+/// Whether a finder gives this order of a part.
+fn has_order<F: OrderFinder>(finder: &F, part: &Part<'_>, wanted: &[u8]) -> bool {
+    match finder.least_order(&part.happens_before(), &part.between()) {
+        Some(order) => order.as_slice() == wanted,
+        None => false,
+    }
+}
+
+/// With the sources of choices 3 and 8 both agents read what their paths ask for, with those of 2 and 6 A alone does. No
+/// access is atomic, so the events by number are an order of each choice.
+#[test]
+fn load_buffering_parts_and_orders(rt: HostRuntime) -> Result<(), Fail> {
+    let text = b"test lb
+bytes 2
+agent A
+r0 = U8[0]
+if r0 == 1 {
+U8[1] = 1
+}
+agent B
+r0 = U8[1]
+if r0 == 1 {
+U8[0] = 1
+}
+check A.r0 == 1 && B.r0 == 1
+";
+    let test = read(rt.alloc(), text)?;
+    let plan = plan(rt.alloc(), &test)?;
+    for choice in 0..plan.total() {
+        let mut part = given(&plan, choice);
+        let order: &[u8] = match choice {
+            0..=3 => &[0, 1, 2, 3, 4, 5],
+            4..=7 => &[0, 1, 2, 3, 4],
+            _ => &[0, 1, 2, 3],
+        };
+        assert_eq!(rt; part.broken(), choice != 3 && choice != 8, "at {choice}");
+        assert!(rt; has_order(&ForcedFinder, &part, order), "at {choice}");
+        assert!(rt; has_order(&PlainFinder, &part, order), "at {choice}");
+        assert!(rt; part.len() > 0);
+        part.pop();
+        assert_eq!(rt;
+            part.broken(),
+            ![2, 3, 6, 8].contains(&choice),
+            "at {choice}"
+        );
+    }
+    Ok(())
+}
