@@ -1,0 +1,36 @@
+-- What happens before an event with a settled past.
+use Rattle.std.proofs.Common.{ℕ, ◌<◌, List, [], ◌∷◌, ◌++◌, length, inl, inr}
+use Rattle.lit_paths.specs.declared.event.Event.{Event}
+use Rattle.lit_paths.specs.Numbers.{AreGiven}
+use Rattle.lit_rel.specs.HappensBefore.{Chain, HappensBefore, StepBy}
+use Rattle.lit_rel.specs.ReadsFrom.{ReadsByteFrom}
+use Rattle.lit_rel.specs.Settled.{HasSettledPast, IsSettled, SettledPastsStay}
+use Rattle.lit_rel.specs.SynchronizesWith.{Synchronizes}
+use Rattle.lit_rel.proofs.GrowthLemmas.{grow_with_bytes}
+use Rattle.lit_rel.proofs.PlaceLemmas.{place_from-left}
+
+module _ (events : List Event) (sources rest : List ℕ) (given : AreGiven events (sources ++ rest)) where
+  -- what synchronizes with a settled event did before
+  synchronizes_before : (w r : ℕ) → IsSettled events sources r → Synchronizes events (sources ++ rest) w r → Synchronizes events sources w r
+  synchronizes_before w r (inl cannot) s =
+      let read = s.reads.1 in
+      absurd (cannot (record { place = read.0; byte = s.reads.0; source = w; is_read = read.1; candidate = given.each read.0 r s.reads.0 w read.1 read.2; can = s.can }))
+  synchronizes_before w r (inr whole) s =
+      let read = s.reads.1 in
+      let within : read.0 < length sources = whole read.0 s.reads.0 read.1 in
+      record { reads = (s.reads.0, (read.0, read.1, place_from-left sources rest read.0 w within read.2)); can = s.can }
+
+  step_before : (e d : ℕ) → IsSettled events sources d → StepBy events (ReadsByteFrom events (sources ++ rest)) e d → StepBy events (ReadsByteFrom events sources) e d
+  step_before e d settled (inl ordered) = inl ordered
+  step_before e d settled (inr other) = elim other [ inl s ↦ inr (inl (synchronizes_before e d settled s)) | inr made ↦ inr (inr made) ]
+
+  module _ (e : ℕ) (past : HasSettledPast events sources e) where
+    -- a chain to the event, from its end
+    chain_before : (d : ℕ) (middles : List ℕ) → Chain (StepBy events (ReadsByteFrom events (sources ++ rest))) d middles e → HappensBefore events sources d e
+    chain_before d [] step = record { middles = []; chain = step_before d e past.itself step }
+    chain_before d (m ∷ middles) chain =
+        let later = chain_before m middles chain.1 in
+        record { middles = m ∷ later.middles; chain = (step_before d m (past.earlier m later) chain.0, later.chain) }
+
+pub settled_pasts_stay : SettledPastsStay
+settled_pasts_stay events sources rest e given past d = (λ h. chain_before events sources rest given e past d h.middles h.chain, (grow_with_bytes.lists events sources rest).happens_before d e)
