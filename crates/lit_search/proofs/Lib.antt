@@ -7,6 +7,7 @@ pub mod CompletionLemmas
 pub mod LeastOrders
 pub mod WantingLemmas
 pub mod PassingLemmas
+pub mod ExchangeLemmas
 pub mod NextLemmas
 pub mod Giving
 pub mod Entries

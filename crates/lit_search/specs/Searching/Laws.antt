@@ -9,6 +9,8 @@ use Rattle.lit_paths.specs.Plan.{IsOfCombination, IsWalkIn, choices_before, walk
 use Rattle.lit_paths.specs.Run.{IsRun, Run}
 use Rattle.lit_paths.specs.Told.{TellsRuns, read_places}
 use Rattle.lit_rel.specs.Growth.{GrowWithBytes, ValuesStay}
+use Rattle.lit_rel.specs.InitReads.{InitTakesPlace, ValuesKeepPlace}
+use Rattle.lit_rel.specs.Settled.{SettledPastsStay}
 
 -- a run has one value for each of its reads
 abbrev pub ChooseForEachRead : Type 0
@@ -23,3 +25,6 @@ pub record Laws : Type 0 where
   pub placed : (t : Litmus) (n c : ℕ) → c < length (combinations_of t) → choices_before t c ≤ n → n < choices_before t (c + 1) → IsOfCombination t n c
   pub grow : GrowWithBytes
   pub stay : ValuesStay
+  pub init : InitTakesPlace
+  pub values : ValuesKeepPlace
+  pub settled : SettledPastsStay

@@ -10,4 +10,7 @@ returns c = record {
   placed = c.choices_are_on_combinations.ensures;
   grow = c.relations_grow_with_bytes.ensures;
   stay = c.values_stay.ensures;
+  init = c.init_takes_place.ensures;
+  values = c.values_keep_place.ensures;
+  settled = c.settled_pasts_stay.ensures;
 }
