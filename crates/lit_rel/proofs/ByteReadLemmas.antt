@@ -6,6 +6,8 @@ use Rattle.std.specs.List.{range_with_len, slice_get}
 use Rattle.lit_paths.specs.declared.event.Event.{Event}
 use Rattle.lit_paths.specs.Event.{HasByte, does_read, event_at}
 use Rattle.lit_paths.specs.ByteReads.{byte_reads, byte_reads_from, bytes_read_by}
+use Rattle.lit_rel.specs.InitReads.{AreOfEvents}
+use Rattle.lit_rel.proofs.SourceLemmas.{read_known}
 
 -- a place of two lists joined is one of the first or of the second
 in_joined : {X : Type 0} (xs ys : List X) (k : ℕ) (x : X) → slice_get (xs ++ ys) k ≡ Some x → ((j : ℕ) × (slice_get xs j ≡ Some x)) ⊎ ((j : ℕ) × (slice_get ys j ≡ Some x))
@@ -101,3 +103,11 @@ once_from n (e ∷ es) =
 -- two places of one byte read are one
 pub read_once : (events : List Event) (j k : ℕ) (q : ℕ × ℕ) → slice_get (byte_reads events) j ≡ Some q → slice_get (byte_reads events) k ≡ Some q → j ≡ k
 read_once events j k q p at = once_from 0 events j k q p at
+
+pub are_of_events : (events : List Event) → AreOfEvents events
+are_of_events events = record {
+  known = λ k r b at. read_known events k r b at;
+  reads = λ k r b at. (read_byte events k r b at).reads;
+  in_range = λ k r b at. (read_byte events k r b at).in_range;
+  once = λ j k r b p q. read_once events j k (r, b) p q;
+}

@@ -5,7 +5,7 @@ use Rattle.lit_paths.specs.declared.event.Event.{Event}
 use Rattle.lit_paths.specs.declared.event.Order3.TheVariants.{Unordered}
 use Rattle.lit_paths.specs.ByteReads.{byte_reads}
 use Rattle.lit_paths.specs.Choice.{AreSources}
-use Rattle.lit_paths.specs.Event.{HasByte, does_write, event_at, init_event, payload_at}
+use Rattle.lit_paths.specs.Event.{HasByte, does_read, does_write, event_at, init_event, payload_at}
 use Rattle.lit_rel.specs.Coherent.{HasCoherentReads}
 use Rattle.lit_rel.specs.Forbidden.{IsForbidden}
 use Rattle.lit_rel.specs.HappensBefore.{HappensBefore}
@@ -46,3 +46,10 @@ InitTakesPlace = (events : List Event) (sources : List ℕ) (k r b i : ℕ) → 
 abbrev pub ValuesKeepPlace : Type 0
 ValuesKeepPlace = (events : List Event) (sources : List ℕ) (k r b s w q : ℕ) → slice_get (byte_reads events) k ≡ Some (r, b) → slice_get sources k ≡ Some s
     → (q ≢ r) ⊎ (payload_at (event_at events w) b ≡ payload_at (event_at events s) b) → value_of events (with_source sources k w) q ≡ value_of events sources q
+
+-- Each byte read is of an event that reads, and of a byte of its range. None stands twice in the list.
+pub record AreOfEvents (events : List Event) : Type 0 where
+  pub known : (k r b : ℕ) → slice_get (byte_reads events) k ≡ Some (r, b) → r < length events
+  pub reads : (k r b : ℕ) → slice_get (byte_reads events) k ≡ Some (r, b) → IsTrue (does_read (event_at events r).kind)
+  pub in_range : (k r b : ℕ) → slice_get (byte_reads events) k ≡ Some (r, b) → HasByte (event_at events r) b
+  pub once : (j k r b : ℕ) → slice_get (byte_reads events) j ≡ Some (r, b) → slice_get (byte_reads events) k ≡ Some (r, b) → j ≡ k
