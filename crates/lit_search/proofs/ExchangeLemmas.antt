@@ -83,11 +83,11 @@ pub all_named : (t : Litmus) → AreNamed t
 all_named t = named_from (length t.agents) 0 t.agents (omega arith)
 
 -- ---- choices
-same_list : (ds : List ℕ) → slice_cmp nat_cmp ds ds ≡ Equal
+pub same_list : (ds : List ℕ) → slice_cmp nat_cmp ds ds ≡ Equal
 same_list [] = refl
 same_list (d ∷ ds) = ap (λ (o : Ordering). ordering_then o (slice_cmp nat_cmp ds ds)) (sym (nat_cmp_is d d Equal refl)) ∙ same_list ds
 
-same_lists : (ds : List (List ℕ)) → slice_cmp (slice_cmp nat_cmp) ds ds ≡ Equal
+pub same_lists : (ds : List (List ℕ)) → slice_cmp (slice_cmp nat_cmp) ds ds ≡ Equal
 same_lists [] = refl
 same_lists (d ∷ ds) = ap (λ (o : Ordering). ordering_then o (slice_cmp (slice_cmp nat_cmp) ds ds)) (same_list d) ∙ same_lists ds
 
@@ -257,12 +257,20 @@ pub stand_in : (laws : Laws) (t : Litmus) (c : ℕ) (x : Execution) (k r b s : �
 stand_in laws t c x k r b s litmus on valid no_difference = (y laws t c x k r b s litmus on valid no_difference, stands_for laws t c x k r b s litmus on valid no_difference)
 
 -- ---- settled pasts
-pub past_is_final : (laws : Laws) (part : PartModel) (x : Execution) (e d : ℕ) → Completes part x → HasSettledPast (part_events part) part.sources e
-    → HappensBefore (execution_events part.test x) x.sources d e ↔ HappensBefore (part_events part) part.sources d e
-past_is_final laws part x e d is past =
+pub past_stays : (laws : Laws) (part : PartModel) (x : Execution) (e d : ℕ) → Completes part x → HasSettledPast (part_events part) part.sources e
+    → HappensBefore (part_events part) x.sources d e ↔ HappensBefore (part_events part) part.sources d e
+past_stays laws part x e d is past =
     let es = part_events part in
     let given : AreSources es (part.sources ++ is.rest) = carried part x is AreSources is.valid.candidate.sourced in
     let same = laws.settled es part.sources is.rest e (record { few = omega (arith, given.one_each); each = given.each }) past d in (
-      λ h. same.0 (carried part x is (λ fs ws. HappensBefore fs ws d e) h),
-      λ h. subst (λ (fs : List Event). HappensBefore fs x.sources d e) (sym (its_events part x is)) (subst (λ (ws : List ℕ). HappensBefore es ws d e) (sym is.begun) (same.1 h)),
+      λ h. same.0 (subst (λ (ws : List ℕ). HappensBefore es ws d e) is.begun h),
+      λ h. subst (λ (ws : List ℕ). HappensBefore es ws d e) (sym is.begun) (same.1 h),
+    )
+
+pub past_is_final : (laws : Laws) (part : PartModel) (x : Execution) (e d : ℕ) → Completes part x → HasSettledPast (part_events part) part.sources e
+    → HappensBefore (execution_events part.test x) x.sources d e ↔ HappensBefore (part_events part) part.sources d e
+past_is_final laws part x e d is past =
+    let same = past_stays laws part x e d is past in (
+      λ h. same.0 (subst (λ (es : List Event). HappensBefore es x.sources d e) (its_events part x is) h),
+      λ h. subst (λ (es : List Event). HappensBefore es x.sources d e) (sym (its_events part x is)) (same.1 h),
     )

@@ -1,5 +1,6 @@
 pub mod PlaceLemmas
 pub mod StandLemmas
+pub mod LastLemmas
 pub mod HeldLemmas
 pub mod Takings
 pub mod RunLemmas
@@ -8,6 +9,7 @@ pub mod LeastOrders
 pub mod WantingLemmas
 pub mod PassingLemmas
 pub mod ExchangeLemmas
+pub mod StoodForLemmas
 pub mod NextLemmas
 pub mod Giving
 pub mod Entries
@@ -15,3 +17,4 @@ pub mod MergedEntries
 pub mod Reports
 pub mod KeptEntries
 pub mod Keeping
+pub mod SeenLemmas

@@ -15,11 +15,13 @@ ghost use Rattle.lit_search.specs.StandsFor.{HasStandIn, IsOn, MakesNoDifference
 ghost use Rattle.lit_search.specs.ValidExecution.{IsValidExecution};
 
 use lit_paths::{
-    choices_are_on_combinations, choices_have_numbers, combinations_are_listed,
-    combinations_are_walked, paths_tell_their_runs, runs_choose_for_each_read,
+    candidate_executions_have_choices, choices_are_listed, choices_are_on_combinations,
+    choices_have_numbers, combinations_are_listed, combinations_are_walked, paths_tell_their_runs,
+    runs_choose_for_each_read,
 };
 use lit_rel::{
-    init_takes_place, relations_grow_with_bytes, settled_pasts_stay, values_keep_place, values_stay,
+    byte_reads_are_of_events, init_takes_place, relations_grow_with_bytes, settled_pasts_stay,
+    values_keep_place, values_stay,
 };
 
 /// The laws of the crates below.
@@ -30,10 +32,13 @@ pub(crate) fn laws()
     paths_tell_their_runs();
     runs_choose_for_each_read();
     combinations_are_listed();
+    choices_are_listed();
+    candidate_executions_have_choices();
     choices_have_numbers();
     choices_are_on_combinations();
     relations_grow_with_bytes();
     values_stay();
+    byte_reads_are_of_events();
     init_takes_place();
     values_keep_place();
     settled_pasts_stay();

@@ -16,6 +16,8 @@ mod laws;
 mod merging;
 mod passing;
 mod searching;
+mod standing_in;
+mod using;
 mod wanted;
 
 pub use class::Class;
