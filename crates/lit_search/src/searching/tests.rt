@@ -204,7 +204,7 @@ fn twins_merged(rt: HostRuntime) -> Result<(), Fail> {
     Ok(())
 }
 
-/// How many outcomes a test has, and its first and last choice of each class in one search.
+/// How many outcomes a test has.
 fn outcomes_of(rt: &HostRuntime, text: &str) -> Result<usize, Fail> {
     let test = read(rt.alloc(), text.as_bytes())?;
     let plan = plan(rt.alloc(), &test)?;
