@@ -1,6 +1,6 @@
 //! Going on to the next choice that shows an outcome that is wanted, and leaving what can show none.
 
-ghost use Rattle.std.specs.Prelude.{◌≡◌, ℕ, ◌+◌, ◌-◌, ◌<◌, ◌≤◌, IsTrue, IsFalse, IfNone, IfSome, MatchOption, length};
+ghost use Rattle.std.specs.Prelude.{◌≡◌, ℕ, ◌+◌, ◌-◌, ◌<◌, ◌≤◌, ◌↔◌, IsTrue, IsFalse, IfNone, IfSome, MatchOption, length};
 ghost use Rattle.lit_paths.specs.ByteReads.{byte_reads};
 ghost use Rattle.lit_paths.specs.Plan.{choices_before};
 ghost use Rattle.lit_paths.specs.Execution.{Execution};
@@ -63,14 +63,17 @@ impl Cursor<'_> {
     fn is_stood_for(&self, plan: &Plan<'_>, since: u64) -> bool
         requires test { self.now.test ≡ plan.now }
         requires whole { ¬ IsBroken (part_at self.now) }
-        ensures part { IsTrue result → IsStoodFor (part_at self.now) }
-        ensures some { IsTrue result → 0 < length self.now.places }
-        ensures since { IsTrue result → since ≤ low_at (first_places self.now (length self.now.places - 1)) }
+        ensures { IsTrue result
+            ↔ (IsStoodFor (part_at self.now) × (since ≤ low_at (first_places self.now (length self.now.places - 1)))) }
     {
         let part = self.part();
-        part.len() > 0
-            && since <= self.low_without_last()
-            && is_stood_for(plan, part, self.last_source())
+        if part.len() == 0 {
+            return false;
+        }
+        if self.low_without_last() < since {
+            return false;
+        }
+        is_stood_for(plan, part, self.last_source())
     }
 
     /// How many of its first sources begin choices that may all be passed over: from number `from` on, none of them

@@ -61,8 +61,8 @@ returns-then-is_stood_for-clause-passed g c =
     let s = c.args.self.now in
     let long = length-part s c.part-part.result.now c.part-part.ensures.value in
     let few : length s.places ≤ length (byte_reads (stand_events s)) = omega (arith, long, c.len-depth.ensures.few, c.len-depth.ensures.value, ap (λ (p : PartModel). length (byte_reads (part_events p))) c.part-part.ensures.value) in
-    pass_stood_for c.laws.ensures s c.part-part.ensures.entered c.part-part.ensures.placed few (c.is_stood_for.ensures.part c.if-is_stood_for.true) c.args.plan.now (g.W.Wanted.IsWanted c.args.wanted.now c.args.plan.now) c.args.since c.args.from c.len-depth.result c.requires.test
-    (c.len-depth.ensures.value ∙ long) (c.is_stood_for.ensures.since c.if-is_stood_for.true) c.requires.seen
+    pass_stood_for c.laws.ensures s c.part-part.ensures.entered c.part-part.ensures.placed few (c.is_stood_for.ensures.0 c.if-is_stood_for.true).0 c.args.plan.now (g.W.Wanted.IsWanted c.args.wanted.now c.args.plan.now) c.args.since c.args.from c.len-depth.result c.requires.test
+    (c.len-depth.ensures.value ∙ long) (c.is_stood_for.ensures.0 c.if-is_stood_for.true).1 c.requires.seen
 
 pub is_stood_for-requires-clause-whole : goal.is_stood_for-requires-clause-whole
 is_stood_for-requires-clause-whole g c = λ broken. false≢true (sym c.if-broken.false ∙ c.broken.ensures.1 (subst IsBroken (sym c.part-part.ensures.value) broken))
