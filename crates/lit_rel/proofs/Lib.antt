@@ -1,10 +1,12 @@
 pub mod BrokenLemmas
+pub mod ByteReadLemmas
 pub mod ChainLemmas
 pub mod CoverLemmas
 pub mod EachLemmas
 pub mod EdgeLemmas
 pub mod ForbiddenLemmas
 pub mod GrowthLemmas
+pub mod InitReadLemmas
 pub mod LevelLemmas
 pub mod OrderLemmas
 pub mod PartLemmas
@@ -15,6 +17,7 @@ pub mod RelatingLemmas
 pub mod RowLemmas
 pub mod SameRelations
 pub mod SetLemmas
+pub mod SettledLemmas
 pub mod SourceLemmas
 pub mod TripleLemmas
 pub mod ValueLemmas

@@ -9,6 +9,8 @@ pub mod Coherent
 pub mod TearFree
 pub mod Forbidden
 pub mod Growth
+pub mod InitReads
+pub mod Settled
 pub mod Part
 pub mod Broken
 pub mod WideEvents

@@ -110,7 +110,7 @@ impl Rows {
     }
 
     /// Whether an event is another one or leads to it, both numbers below `len()`.
-    fn leads(&self, a: usize, d: usize) -> bool
+    pub(crate) fn leads(&self, a: usize, d: usize) -> bool
         requires first { a < rows_len self.now }
         requires second { d < rows_len self.now }
         ensures { IsTrue result ↔ (Holds self.now a d ⊎ (a ≡ d)) }

@@ -13,12 +13,14 @@ mod fixed_steps;
 mod forbidding;
 mod given;
 mod growth;
+mod init_reads;
 mod levels;
 mod part;
 mod reading_checks;
 mod refusing;
 mod related;
 mod relating;
+mod settled;
 #[cfg(test)]
 mod tests;
 mod triples;
@@ -29,8 +31,11 @@ pub use bit_rows::Rows;
 pub use closing::close;
 pub use event_set::EventSet;
 pub use growth::{broken_parts_stay_broken, relations_grow_with_bytes, values_stay};
+pub use init_reads::{byte_reads_are_of_events, init_takes_place, values_keep_place};
 pub use part::Part;
+pub use settled::settled_pasts_stay;
 pub use triples::{Between, Pair};
+pub use values::payload_at;
 pub use wide_events::{
     mixed_sizes_never_synchronize, never_reads_itself, typed_load_mixes_with_init_only,
     viewed_load_mixes,

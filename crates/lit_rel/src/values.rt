@@ -9,7 +9,7 @@ use crate::given::Given;
 use lit_paths::{Event, event_at};
 
 /// The byte that an event stores at a byte of its range, from the block's start.
-fn payload_at(event: &Event, byte: u8) -> u8
+pub fn payload_at(event: &Event, byte: u8) -> u8
     ensures { result ≡ payload_at event.now byte }
 {
     let offset = usize::from(byte.saturating_sub(event.first));

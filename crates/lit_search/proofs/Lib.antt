@@ -1,5 +1,6 @@
 pub mod PlaceLemmas
 pub mod StandLemmas
+pub mod LastLemmas
 pub mod HeldLemmas
 pub mod Takings
 pub mod RunLemmas
@@ -7,6 +8,8 @@ pub mod CompletionLemmas
 pub mod LeastOrders
 pub mod WantingLemmas
 pub mod PassingLemmas
+pub mod ExchangeLemmas
+pub mod StoodForLemmas
 pub mod NextLemmas
 pub mod Giving
 pub mod Entries
@@ -15,3 +18,4 @@ pub mod Reports
 pub mod KeptEntries
 pub mod Keeping
 pub mod OneOutcome
+pub mod SeenLemmas

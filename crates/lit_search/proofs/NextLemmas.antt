@@ -95,3 +95,12 @@ known_at s p count asks is known = subst (λ (q : PartModel). AllKnownAfter q.te
 pub known_as : (t : Litmus) (c : ℕ) (s : Stand) (count : ℕ) (asks : ℕ × ℕ → Bool) → s.test ≡ t → s.combination ≡ c → AllKnownAfter t c count asks → AllKnownAfter s.test s.combination count asks
 known_as t c s count asks test combination known =
     subst (λ (u : Litmus). AllKnownAfter u s.combination count asks) (sym test) (subst (λ (k : ℕ). AllKnownAfter t k count asks) (sym combination) known)
+
+-- what was seen before a search began, and what is passed over now
+pub seen_on : (t : Litmus) (Wanted : List ℕ → Type 0) (since from low : ℕ) → NoneShow t Wanted (in_range since from) → NoneShow t Wanted (in_range from low) → NoneShow t Wanted (in_range since low)
+seen_on t Wanted since from low seen none n inside =
+    let decided : (n < from) ⊎ (from ≤ n) = cases_lt n from in
+    elim decided [
+      | inl less ↦ seen n (within since from n (not_below since low n inside) less)
+      | inr more ↦ none n (within from low n more (before_end since low n inside))
+    ]

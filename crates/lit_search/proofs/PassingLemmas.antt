@@ -51,7 +51,7 @@ no_rest ws vs rest is long = is ∙ ap (λ (rs : List ℕ). vs ++ rs) (none rest
 
 -- ---- the choices that begin with a stand's sources
 module _ (laws : Laws) (s : Stand) (entered : IsEntered (part_at s)) (placed : ArePlaces (stand_events s) 0 s.places) (few : length s.places ≤ length (byte_reads (stand_events s))) where
-  at_numbers : AreNumbered s.test s.combination (sources_at (stand_events s) 0 s.places) (low_at s) (ways_from (stand_events s) (length s.places))
+  pub at_numbers : AreNumbered s.test s.combination (sources_at (stand_events s) 0 s.places) (low_at s) (ways_from (stand_events s) (length s.places))
   at_numbers = numbered s.test s.combination (laws.numbered s.test s.combination entered.known) s.places placed few
 
   its_choice : (n : ℕ) → low_at s ≤ n → n < behind_at s → IsOfCombination s.test n s.combination

@@ -12,3 +12,4 @@ pub mod Standing
 pub mod Laws
 pub mod Wanting
 pub mod Passing
+pub mod StoodFor

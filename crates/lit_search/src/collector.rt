@@ -30,7 +30,7 @@ fn keep_on(
 {
     let known = known_after(plan, cursor.part(), kept);
     let mut next = from;
-    while let Some(shown) = cursor.next(plan, kept, known, next, to) {
+    while let Some(shown) = cursor.next(plan, kept, known, from, next, to) {
         next = shown.example.choice + 1;
         kept.keep(shown)?;
     }

@@ -1,6 +1,6 @@
 //! Going through the choices of a combination, source by source.
 
-ghost use Rattle.std.specs.Prelude.{◌≡◌, ◌↔◌, ◌+◌, ◌<◌, ◌≤◌, IsTrue, IsFalse, [], ◌∷◌, ◌++◌, length, take};
+ghost use Rattle.std.specs.Prelude.{◌≡◌, ◌↔◌, ◌+◌, ◌-◌, ◌<◌, ◌≤◌, Some, IsTrue, IsFalse, [], ◌∷◌, ◌++◌, length, slice_get, take};
 ghost use Rattle.lit_paths.specs.ByteReads.{byte_reads};
 ghost use Rattle.lit_paths.specs.Choice.{combinations_of};
 ghost use Rattle.lit_paths.specs.declared.limits.TheConstants.{EVENT_LIMIT};
@@ -92,6 +92,27 @@ impl<'p> Cursor<'p> {
             return self.low + 1;
         }
         self.low + combination.candidates(depth).len() as u64 * combination.ways_after(depth)
+    }
+
+    /// Its last source. There is one.
+    pub(crate) fn last_source(&self) -> u8
+        requires { 0 < length self.now.places }
+        ensures { slice_get (part_at self.now).sources (length self.now.places - 1) ≡ Some result }
+    {
+        let last = self.places.len() - 1;
+        let place = self.places[last];
+        self.part.combination().candidates(last)[usize::from(place)]
+    }
+
+    /// The number of the first choice that begins with its sources but the last. There is one.
+    pub(crate) fn low_without_last(&self) -> u64
+        requires { 0 < length self.now.places }
+        ensures { result ≡ low_at (with_places self.now (take (length self.now.places - 1) self.now.places)) }
+    {
+        choices_have_numbers();
+        let last = self.places.len() - 1;
+        let place = self.places[last];
+        self.low - u64::from(place) * self.part.combination().ways_after(last)
     }
 
     /// Whether the next byte read has a candidate with this place among its candidates. A byte read is left.

@@ -53,7 +53,7 @@ pub(crate) fn outcome_of(plan: &Plan<'_>, part: &Part<'_>) -> Outcome
 }
 
 /// Whether a register holds a read, by the read's number.
-fn holds_read(part: &Part<'_>, name: (u8, u8), read: u8) -> bool
+pub(crate) fn holds_read(part: &Part<'_>, name: (u8, u8), read: u8) -> bool
     requires agent { name.0 < length part.now.test.agents }
     requires reg { name.1 < REGISTERS }
     ensures { IsTrue result ↔ (read_of part.now.test part.now.combination name ≡ Some read) }

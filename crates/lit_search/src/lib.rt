@@ -16,13 +16,15 @@ mod laws;
 mod merging;
 mod passing;
 mod searching;
+mod standing_in;
+mod using;
 mod wanted;
 
 pub use class::Class;
 pub use collector::Collector;
 pub use completing::{
-    broken_parts_have_no_completion, orders_of_completions_keep_parts,
-    whole_parts_are_decided_by_orders,
+    broken_parts_have_no_completion, init_stands_for_sources, orders_of_completions_keep_parts,
+    settled_pasts_are_final, whole_parts_are_decided_by_orders,
 };
 pub use found::{Example, Found, Outcome, SearchFault};
 pub use laws::{choices_have_one_outcome, reports_are_unique, reports_go_by_choices};

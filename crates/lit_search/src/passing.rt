@@ -1,6 +1,6 @@
 //! Going on to the next choice that shows an outcome that is wanted, and leaving what can show none.
 
-ghost use Rattle.std.specs.Prelude.{◌≡◌, ℕ, ◌+◌, ◌<◌, ◌≤◌, IsTrue, IsFalse, IfNone, IfSome, MatchOption, length};
+ghost use Rattle.std.specs.Prelude.{◌≡◌, ℕ, ◌+◌, ◌-◌, ◌<◌, ◌≤◌, ◌↔◌, IsTrue, IsFalse, IfNone, IfSome, MatchOption, length};
 ghost use Rattle.lit_paths.specs.ByteReads.{byte_reads};
 ghost use Rattle.lit_paths.specs.Plan.{choices_before};
 ghost use Rattle.lit_paths.specs.Execution.{Execution};
@@ -10,15 +10,17 @@ ghost use Rattle.lit_search.specs.Completion.{Completes};
 ghost use Rattle.lit_search.specs.Report.{in_range};
 ghost use Rattle.lit_search.specs.Searching.Examined.{IsExample};
 ghost use Rattle.lit_search.specs.Searching.Held.{part_outcome};
-ghost use Rattle.lit_search.specs.Searching.Passing.{HasAll, IsOpen, MayPass, NoneValid};
+ghost use Rattle.lit_search.specs.Searching.Passing.{HasAll, IsOpen, MayPass, NoneValid, first_places};
 ghost use Rattle.lit_search.specs.Searching.Places.{behind_at, low_at, part_at, stand_events};
 ghost use Rattle.lit_search.specs.Searching.Shown.{IsNext, NoneShow, shown_entry};
+ghost use Rattle.lit_search.specs.Searching.StoodFor.{IsStoodFor};
 ghost use Rattle.lit_search.specs.Searching.Wanting.{AllKnownAfter};
 
 use crate::completing::laws;
 use crate::cursor::Cursor;
 use crate::found::{Example, Outcome};
 use crate::holding::outcome_of;
+use crate::standing_in::is_stood_for;
 use crate::wanted::Wanted;
 use lit_order::{ForcedFinder, OrderFinder, forced_precedence, orders_keep_what_is_forced};
 use lit_paths::Plan;
@@ -57,18 +59,38 @@ impl Cursor<'_> {
         !wanted.wants(plan, outcome_of(plan, part).as_slice())
     }
 
+    /// Whether the event that made a byte can stand for its last source, with choices from number `since` on.
+    fn is_stood_for(&self, plan: &Plan<'_>, since: u64) -> bool
+        requires test { self.now.test ≡ plan.now }
+        requires whole { ¬ IsBroken (part_at self.now) }
+        ensures { IsTrue result
+            ↔ (IsStoodFor (part_at self.now) × (since ≤ low_at (first_places self.now (length self.now.places - 1)))) }
+    {
+        let part = self.part();
+        if part.len() == 0 {
+            return false;
+        }
+        if self.low_without_last() < since {
+            return false;
+        }
+        is_stood_for(plan, part, self.last_source())
+    }
+
     /// How many of its first sources begin choices that may all be passed over: from number `from` on, none of them
-    /// shows an outcome that is wanted. Everything that the search asks about is known after `known` byte reads.
+    /// shows an outcome that is wanted. None from `since` up to its own does. Everything that the search asks about is
+    /// known after `known` byte reads.
     fn passed<W: Wanted>(
         &self,
         plan: &Plan<'_>,
         wanted: &W,
         known: usize,
+        since: u64,
         from: u64,
     ) -> Option<usize>
         requires test { self.now.test ≡ plan.now }
         requires few { known ≤ length (byte_reads (stand_events self.now)) }
         requires known { AllKnownAfter self.now.test self.now.combination known (W.Asks wanted.now plan.now) }
+        requires seen { NoneShow plan.now (W.IsWanted wanted.now plan.now) (in_range since (low_at self.now)) }
         ensures some { low_at self.now < behind_at self.now }
         ensures passed { MatchOption result
             (IsOpen (W.IsWanted wanted.now plan.now) from self.now)
@@ -85,6 +107,9 @@ impl Cursor<'_> {
         }
         if self.has_unwanted(plan, wanted, known) {
             return Some(known);
+        }
+        if self.is_stood_for(plan, since) {
+            return Some(depth);
         }
         if depth == part.reads() {
             return None;
@@ -118,20 +143,22 @@ impl Cursor<'_> {
         Some(Shown { outcome, example })
     }
 
-    /// The first choice with a number from `from` up to and without `to` that shows an outcome that is wanted. The
-    /// cursor stands at most at `from`, and then at that choice. Everything that the search asks about is known after
-    /// `known` byte reads.
+    /// The first choice with a number from `from` up to and without `to` that shows an outcome that is wanted. None from
+    /// `since` up to and without `from` does. The cursor stands at most at `from`, and then at that choice. Everything
+    /// that the search asks about is known after `known` byte reads.
     pub(crate) fn next<W: Wanted>(
         &mut self,
         plan: &Plan<'_>,
         wanted: &W,
         known: usize,
+        since: u64,
         from: u64,
         to: u64,
     ) -> Option<Shown>
         requires test { self.old.test ≡ plan.now }
         requires few { known ≤ length (byte_reads (stand_events self.old)) }
         requires known { AllKnownAfter self.old.test self.old.combination known (W.Asks wanted.now plan.now) }
+        requires seen { NoneShow plan.now (W.IsWanted wanted.now plan.now) (in_range since from) }
         requires low { low_at self.old ≤ from }
         requires high { to ≤ choices_before plan.now (self.old.combination + 1) }
         ensures test { self.new.test ≡ plan.now }
@@ -143,7 +170,7 @@ impl Cursor<'_> {
     {
         laws();
         while self.low() < to {
-            if let Some(depth) = self.passed(plan, wanted, known, from) {
+            if let Some(depth) = self.passed(plan, wanted, known, since, from) {
                 if !self.leave(depth) {
                     return None;
                 }

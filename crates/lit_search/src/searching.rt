@@ -44,7 +44,7 @@ pub fn first_in(plan: &Plan<'_>, class: Class, from: u64, to: u64) -> Option<u64
         let mut cursor = Cursor::open(&*plan, combination);
         let known = known_after(plan, cursor.part(), &class);
         let end = cursor.end().min(to);
-        if let Some(shown) = cursor.next(plan, &class, known, next, end) {
+        if let Some(shown) = cursor.next(plan, &class, known, next, next, end) {
             return Some(shown.example.choice);
         }
         next = end;

@@ -1,7 +1,9 @@
 -- Laws of the crates below that the proofs of this one cite together.
 use Rattle.std.specs.Prelude.{◌≡◌, ℕ, ◌+◌, ◌<◌, ◌≤◌, List, length}
 use Rattle.lit_read.specs.Syntax.{AreStatementsIn, IsLitmus, Litmus, Statements}
-use Rattle.lit_paths.specs.Choice.{ListsCombinations, combinations_of}
+use Rattle.lit_paths.specs.declared.event.Event.{Event}
+use Rattle.lit_paths.specs.Choice.{IsChoice, ListsChoices, ListsCombinations, combinations_of}
+use Rattle.lit_paths.specs.Execution.{Execution, IsCandidateExecution, execution_choice}
 use Rattle.lit_paths.specs.Numbers.{NumbersChoices}
 use Rattle.lit_paths.specs.Path.{IsWalk, Step, path_on}
 use Rattle.lit_paths.specs.PathModel.{path_model}
@@ -9,6 +11,8 @@ use Rattle.lit_paths.specs.Plan.{IsOfCombination, IsWalkIn, choices_before, walk
 use Rattle.lit_paths.specs.Run.{IsRun, Run}
 use Rattle.lit_paths.specs.Told.{TellsRuns, read_places}
 use Rattle.lit_rel.specs.Growth.{GrowWithBytes, ValuesStay}
+use Rattle.lit_rel.specs.InitReads.{AreOfEvents, InitTakesPlace, ValuesKeepPlace}
+use Rattle.lit_rel.specs.Settled.{SettledPastsStay}
 
 -- a run has one value for each of its reads
 abbrev pub ChooseForEachRead : Type 0
@@ -19,7 +23,13 @@ pub record Laws : Type 0 where
   pub tell : (bytes owner : ℕ) (body : Statements) (steps : List Step) → AreStatementsIn bytes body → IsWalk body steps → TellsRuns owner body (path_on owner steps) (path_model owner steps)
   pub choose : ChooseForEachRead
   pub listed : (t : Litmus) → ListsCombinations t
+  pub chosen : (t : Litmus) → ListsChoices t
+  pub choice : (t : Litmus) (x : Execution) → IsCandidateExecution t x → IsChoice t (execution_choice x)
   pub numbered : (t : Litmus) (c : ℕ) → c < length (combinations_of t) → NumbersChoices t c
   pub placed : (t : Litmus) (n c : ℕ) → c < length (combinations_of t) → choices_before t c ≤ n → n < choices_before t (c + 1) → IsOfCombination t n c
   pub grow : GrowWithBytes
   pub stay : ValuesStay
+  pub of_events : (events : List Event) → AreOfEvents events
+  pub init : InitTakesPlace
+  pub values : ValuesKeepPlace
+  pub settled : SettledPastsStay

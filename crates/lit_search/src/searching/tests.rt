@@ -296,3 +296,35 @@ fn twins_merged(rt: HostRuntime) -> Result<(), Fail> {
     assert_eq!(rt; found.example(1).choice, 1);
     Ok(())
 }
+
+/// How many outcomes a test has.
+fn outcomes_of(rt: &HostRuntime, text: &str) -> Result<usize, Fail> {
+    let test = read(rt.alloc(), text.as_bytes())?;
+    let plan = plan(rt.alloc(), &test)?;
+    let found = search_range(rt.alloc(), &plan, 0, plan.total())?;
+    Ok(found.len())
+}
+
+#[test]
+fn wide_plain_loads(rt: HostRuntime) -> Result<(), Fail> {
+    assert_eq!(rt;
+        outcomes_of(
+            &rt,
+            "test wide\nbytes 4\nagent A\nU32[0] = 1\nU32[0] = 2\nU32[0] = 3\nagent B\nr0 = U32[0]\nr0 = U32[0]\nr0 = U32[0]\nr0 = U32[0]\nr0 = U32[0]\nr0 = U32[0]\ncheck B.r0 == 0\n"
+        )?,
+        4
+    );
+    Ok(())
+}
+
+#[test]
+fn sequence_lock(rt: HostRuntime) -> Result<(), Fail> {
+    assert_eq!(rt;
+        outcomes_of(
+            &rt,
+            "test seqlock\nbytes 12\nagent A\nAtomics.store(U32, 0, 1)\nU32[1] = 7\nU32[2] = 9\nAtomics.store(U32, 0, 2)\nagent B\nr0 = Atomics.load(U32, 0)\nr1 = U32[1]\nr2 = U32[2]\nr3 = Atomics.load(U32, 0)\nagent C\nr0 = Atomics.load(U32, 0)\nr1 = U32[1]\nr2 = U32[2]\nr3 = Atomics.load(U32, 0)\ncheck B.r0 == 2 && B.r3 == 2 && !(B.r1 == 7 && B.r2 == 9)\n"
+        )?,
+        441
+    );
+    Ok(())
+}

@@ -3,8 +3,10 @@ use Rattle.lit_paths.specs.ByteReads.{byte_reads}
 use Rattle.lit_paths.specs.Plan.{choices_before}
 use Rattle.lit_rel.specs.Part.{PartModel, part_events}
 use Rattle.lit_search.specs.Searching.Shown.{shown_entry}
+use Rattle.lit_search.specs.Searching.Outcomes.{HasOutcome}
 use Rattle.lit_search.proofs.Keeping.{keeps_none, keeps_joined, keeps_next, keeps_passed}
-use Rattle.lit_search.proofs.NextLemmas.{known_as, known_at, same_reads}
+use Rattle.lit_search.proofs.NextLemmas.{known_as, known_at, none_at_first, same_reads}
+use Rattle.lit_search.proofs.SeenLemmas.{seen_next}
 use Rattle.lit_search.proofs.collector.keep_on.Goals as goal
 
 pub loop-next-init : goal.loop-next-init
@@ -12,6 +14,7 @@ loop-next-init c = record {
   after = omega arith;
   before = c.requires.order;
   stands = c.requires.stands;
+  seen = none_at_first c.args.plan.now (λ outcome. ¬ HasOutcome c.args.kept.now outcome) c.args.from c.args.from (omega arith);
   keeps = keeps_none c.args.plan.now c.args.from c.args.kept.now;
   test = c.requires.test;
   combination = refl;
@@ -44,6 +47,7 @@ loop-next-preserved c =
       after = omega (arith, c.loop-next.invariant.after, is.after);
       before = omega (arith, is.before);
       stands = omega (arith, c.in-Some.ensures.stands);
+      seen = seen_next c.args.plan.now c.args.from c.loop-next.next c.args.to c.loop-next.kept c.keep.new.self e c.loop-next.invariant.seen is c.in_ok-keep.ensures.ok;
       keeps = keeps_joined c.args.plan.now c.args.from c.loop-next.next _ c.args.kept.now c.loop-next.kept c.keep.new.self c.loop-next.invariant.after (omega (arith, is.after)) c.loop-next.invariant.keeps
           (keeps_next c.args.plan.now c.loop-next.next c.args.to c.loop-next.kept c.keep.new.self e is c.in_ok-keep.ensures.ok);
       test = c.in-Some.ensures.test;

@@ -1,5 +1,8 @@
 use Rattle.std.proofs.Common.{◌≡◌, ◌-◌, ◌≤◌}
+use Rattle.lit_search.specs.Report.{in_range}
+use Rattle.lit_search.specs.Searching.Outcomes.{HasOutcome}
 use Rattle.lit_search.specs.Searching.Places.{low_at}
+use Rattle.lit_search.specs.Searching.Shown.{NoneShow}
 use Rattle.lit_search.specs.Searching.Taking.{KeepsRange}
 use Rattle.lit_search.proofs.collector.keep_on.Given as goal
 
@@ -8,6 +11,7 @@ invariant-loop-next l = record {
   after : l.from ≤ l.next;
   before : l.next ≤ l.to;
   stands : low_at l.cursor ≤ l.next;
+  seen : NoneShow l.plan (λ outcome. ¬ HasOutcome l.kept outcome) (in_range l.from l.next);
   keeps : KeepsRange l.plan l.from l.next l.fn.kept l.kept;
   test : l.cursor.test ≡ l.plan;
   combination : l.cursor.combination ≡ l.fn.cursor.combination;

@@ -1,8 +1,10 @@
 use Rattle.std.proofs.Common.{◌≤◌, ◌+◌, ap, arith}
+use Rattle.std.specs.Prelude.{IsTrue}
 use Rattle.lit_paths.specs.Plan.{choices_before}
+use Rattle.lit_search.specs.Class.{is_of_class}
 use Rattle.lit_search.specs.Searching.Shown.{shown_entry}
 use Rattle.lit_search.specs.Searching.Places.{Stand}
-use Rattle.lit_search.proofs.NextLemmas.{known_at}
+use Rattle.lit_search.proofs.NextLemmas.{known_at, none_at_first}
 use Rattle.lit_search.proofs.Keeping.{none_behind, first_found}
 use Rattle.lit_search.proofs.searching.first_in.Goals as goal
 
@@ -22,3 +24,6 @@ loop-next-preserved c =
 
 pub next-requires-clause-known : goal.next-requires-clause-known
 next-requires-clause-known c = known_at c.open-cursor.result c.part.result.now c.known_after-known.result _ c.part.ensures.value c.known_after-known.ensures.known
+
+pub next-requires-clause-seen : goal.next-requires-clause-seen
+next-requires-clause-seen c = none_at_first c.args.plan.now (λ outcome. IsTrue (is_of_class c.args.plan.now c.args.class outcome)) c.loop-next.next c.loop-next.next (omega arith)

@@ -10,7 +10,7 @@ use Rattle.lit_search.specs.Searching.Places.{Stand, behind_at, low_at, part_at,
 use Rattle.lit_search.specs.Searching.Shown.{IsShown, NoneShow, shown_entry}
 use Rattle.lit_search.specs.Searching.Examined.{IsExample}
 use Rattle.lit_search.proofs.Keeping.{next_shown}
-use Rattle.lit_search.proofs.NextLemmas.{long_entered, low_entered, none_at_first, none_up_to, passed_on, same_reads, smaller_enter, smaller_leave}
+use Rattle.lit_search.proofs.NextLemmas.{long_entered, low_entered, none_at_first, none_up_to, passed_on, same_reads, seen_on, smaller_enter, smaller_leave}
 use Rattle.lit_search.proofs.PassingLemmas.{length-part, pass_invalid}
 use Rattle.lit_search.proofs.PlaceLemmas.{ways_end}
 use Rattle.lit_search.proofs.cursor.Cursor.next.Goals as goal
@@ -180,3 +180,6 @@ loop-self-preserved g c =
 
 pub returns-clause-shows : goal.returns-clause-shows
 returns-clause-shows g c = none_up_to c.args.plan.now (g.W.Wanted.IsWanted c.args.wanted.now c.args.plan.now) c.args.from c.args.to (low_at c.loop-self.self) (omega (arith, c.loop-self-test.false, c.low.ensures)) c.loop-self.invariant.none
+
+pub passed-requires-clause-seen : goal.passed-requires-clause-seen
+passed-requires-clause-seen g c = seen_on c.args.plan.now (g.W.Wanted.IsWanted c.args.wanted.now c.args.plan.now) c.args.since c.args.from (low_at c.loop-self.self) c.requires.seen c.loop-self.invariant.none

@@ -8,6 +8,7 @@ use Rattle.lit_search.specs.Completion.{Completes}
 use Rattle.lit_search.specs.Searching.Places.{stand_events}
 use Rattle.lit_search.proofs.CompletionLemmas.{not_broken}
 use Rattle.lit_search.proofs.PassingLemmas.{length-part, pass_all, pass_from, pass_less}
+use Rattle.lit_search.proofs.StoodForLemmas.{pass_stood_for}
 use Rattle.lit_search.proofs.cursor.Cursor.passed.Goals as goal
 
 pub returns-then-behind-from-clause-passed : goal.returns-then-behind-from-clause-passed
@@ -54,3 +55,14 @@ returns-clause-passed g c =
       wanted = λ all. c.has_unwanted.ensures.wanted c.if-has_unwanted.false (omega (arith, all, c.requires.few));
       behind = omega (arith, c.if-behind-from.false, c.behind.ensures.value);
     }
+
+pub returns-then-is_stood_for-clause-passed : goal.returns-then-is_stood_for-clause-passed
+returns-then-is_stood_for-clause-passed g c =
+    let s = c.args.self.now in
+    let long = length-part s c.part-part.result.now c.part-part.ensures.value in
+    let few : length s.places ≤ length (byte_reads (stand_events s)) = omega (arith, long, c.len-depth.ensures.few, c.len-depth.ensures.value, ap (λ (p : PartModel). length (byte_reads (part_events p))) c.part-part.ensures.value) in
+    pass_stood_for c.laws.ensures s c.part-part.ensures.entered c.part-part.ensures.placed few (c.is_stood_for.ensures.0 c.if-is_stood_for.true).0 c.args.plan.now (g.W.Wanted.IsWanted c.args.wanted.now c.args.plan.now) c.args.since c.args.from c.len-depth.result c.requires.test
+    (c.len-depth.ensures.value ∙ long) (c.is_stood_for.ensures.0 c.if-is_stood_for.true).1 c.requires.seen
+
+pub is_stood_for-requires-clause-whole : goal.is_stood_for-requires-clause-whole
+is_stood_for-requires-clause-whole g c = λ broken. false≢true (sym c.if-broken.false ∙ c.broken.ensures.1 (subst IsBroken (sym c.part-part.ensures.value) broken))

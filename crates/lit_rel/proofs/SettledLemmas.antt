@@ -1,0 +1,54 @@
+-- What happens before an event with a settled past.
+use Rattle.std.proofs.Common.{ℕ, ◌<◌, List, [], ◌∷◌, ◌++◌, length, Some, map, get_or, ap, ◌≡◌, ◌∙◌, inl, inr}
+use Rattle.std.proofs.lemmas.Bool.{cases_lt}
+use Rattle.std.specs.List.{slice_get}
+use Rattle.std.proofs.lemmas.Option.{get_or_from_slice_get, slice_get-get_or}
+use Rattle.lit_paths.specs.declared.event.Event.{Event}
+use Rattle.lit_paths.specs.declared.sources.ByteRead.{ByteRead}
+use Rattle.lit_paths.specs.ByteReads.{pair_of}
+use Rattle.lit_paths.specs.Numbers.{AreGiven}
+use Rattle.lit_rel.specs.HappensBefore.{Chain, HappensBefore, StepBy}
+use Rattle.lit_rel.specs.ReadsFrom.{ReadsByteFrom}
+use Rattle.lit_rel.specs.Settled.{HasSettledPast, IsSettled, SettledPastsStay}
+use Rattle.lit_rel.specs.SynchronizesWith.{Synchronizes}
+use Rattle.lit_rel.proofs.GrowthLemmas.{grow_with_bytes}
+use Rattle.lit_rel.proofs.PlaceLemmas.{place_from-left}
+use Rattle.lit_rel.proofs.SourceLemmas.{map_from, map_to}
+
+module _ (events : List Event) (sources rest : List ℕ) (given : AreGiven events (sources ++ rest)) where
+  -- what synchronizes with a settled event did before
+  synchronizes_before : (w r : ℕ) → IsSettled events sources r → Synchronizes events (sources ++ rest) w r → Synchronizes events sources w r
+  synchronizes_before w r settled s =
+      let read = s.reads.1 in
+      elim (cases_lt read.0 (length sources)) [
+        | inl within ↦ record { reads = (s.reads.0, (read.0, read.1, place_from-left sources rest read.0 w within read.2)); can = s.can }
+        | inr past ↦
+            (let is = given.each read.0 r s.reads.0 w read.1 read.2 in
+            absurd (settled (record { source = w; known = is.known; other = is.other; writes = is.writes; can = s.can }, record { place = read.0; byte = s.reads.0; is_read = read.1; left = past })))
+      ]
+
+  step_before : (e d : ℕ) → IsSettled events sources d → StepBy events (ReadsByteFrom events (sources ++ rest)) e d → StepBy events (ReadsByteFrom events sources) e d
+  step_before e d settled (inl ordered) = inl ordered
+  step_before e d settled (inr other) = elim other [ inl s ↦ inr (inl (synchronizes_before e d settled s)) | inr made ↦ inr (inr made) ]
+
+  module _ (e : ℕ) (past : HasSettledPast events sources e) where
+    -- a chain to the event, from its end
+    chain_before : (d : ℕ) (middles : List ℕ) → Chain (StepBy events (ReadsByteFrom events (sources ++ rest))) d middles e → HappensBefore events sources d e
+    chain_before d [] step = record { middles = []; chain = step_before d e past.itself step }
+    chain_before d (m ∷ middles) chain =
+        let later = chain_before m middles chain.1 in
+        record { middles = m ∷ later.middles; chain = (step_before d m (past.earlier m later) chain.0, later.chain) }
+
+pub settled_pasts_stay : SettledPastsStay
+settled_pasts_stay events sources rest e given past d = (λ h. chain_before events sources rest given e past d h.middles h.chain, (grow_with_bytes.lists events sources rest).happens_before d e)
+
+-- ---- byte reads as the code has them
+pub read_there : (reads : List ByteRead) (k r b : ℕ) (d : ByteRead) → slice_get (map pair_of reads) k ≡ Some (r, b) → (get_or reads k d).read ≡ r
+read_there reads k r b d at =
+    let found = map_from pair_of reads k (r, b) at in
+    ap (λ (x : ByteRead). x.read) (get_or_from_slice_get reads k found.0 d found.1) ∙ ap (λ (q : ℕ × ℕ). q.0) found.2
+
+pub there_read : (reads : List ByteRead) (k r : ℕ) (d : ByteRead) → k < length reads → (get_or reads k d).read ≡ r → (b : ℕ) × (slice_get (map pair_of reads) k ≡ Some (r, b))
+there_read reads k r d inside is =
+    let item = get_or reads k d in
+    (item.byte, map_to pair_of reads k item (slice_get-get_or reads k d inside) ∙ ap (λ (x : ℕ). Some (x, item.byte)) is)
