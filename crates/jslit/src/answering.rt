@@ -23,17 +23,21 @@ use std::alloc::{AllocError, Global};
 use std::io::Write;
 use std::thread::Threads;
 
-/// How many pieces the choices are cut into at the most.
-const MOST_PIECES: u64 = 1_024;
+/// How many pieces there are for each worker at the most.
+const PIECES_FOR_EACH: u64 = 64;
 
-/// How many choices a piece has: those asked for, or more where that would make too many pieces.
-fn cut_of(total: u64, cut: u64) -> u64
+/// How many choices a piece has: those asked for, or more where that would make too many pieces. One worker alone needs
+/// no cutting: a search is quickest in one piece.
+fn cut_of(total: u64, options: Options) -> u64
     requires few { total ≤ CHOICE_LIMIT }
-    requires cut { (0 < cut) × (cut ≤ CUT_LIMIT) }
     ensures some { 0 < result }
     ensures small { result ≤ CUT_LIMIT }
 {
-    cut.max(total.div_ceil(MOST_PIECES))
+    let pieces = match options.workers {
+        1 => 1,
+        workers => workers as u64 * PIECES_FOR_EACH,
+    };
+    options.cut.max(total.div_ceil(pieces))
 }
 
 /// A pass for each worker.
@@ -60,7 +64,7 @@ fn report<T: Threads + Sync, W: Write>(
     ensures unwritten { IsErrOf result RunFault.OutOfMemory → output.new ≡ output.old }
     ensures fault { IfErr result IsOfWriting }
 {
-    let cut = cut_of(plan.total(), options.cut);
+    let cut = cut_of(plan.total(), options);
     let passes = passes(alloc, options.workers)?;
     let found = search(rt, alloc, plan, cut, &OpenGate, passes)?;
     let verdict = verdict_on(plan, &found);
@@ -104,7 +108,7 @@ fn quick_report<T: Threads + Sync, W: Write>(
     ensures unwritten { IsErrOf result RunFault.OutOfMemory → output.new ≡ output.old }
     ensures fault { IfErr result IsOfWriting }
 {
-    let cut = cut_of(plan.total(), options.cut);
+    let cut = cut_of(plan.total(), options);
     let passes = passes(alloc, options.workers)?;
     let first = quick(rt, alloc, plan, cut, &OpenGate, passes)?;
     let met = first_found(alloc, plan, Class::Met, &first.met)?;
