@@ -14,8 +14,8 @@ struct Holding {
     /// The pieces to wait for, as a set of bits.
     awaited: u64,
     entered: AtomicU64,
-    /// The workers that came with their own pass, as a set of bits.
-    workers: AtomicU64,
+    /// A worker came with the pass of another.
+    exchanged: AtomicBool,
     /// The pieces did not come in time.
     gave_up: AtomicBool,
 }
@@ -26,15 +26,16 @@ impl Holding {
             held,
             awaited,
             entered: AtomicU64::new(0),
-            workers: AtomicU64::new(0),
+            exchanged: AtomicBool::new(false),
             gave_up: AtomicBool::new(false),
         }
     }
 
-    /// Whether these pieces were entered, by two workers at least, and the one held did not have to be let go.
+    /// Whether these pieces were entered, each worker came with its own pass, and the piece held did not have to be let
+    /// go.
     fn let_all_in(&self, pieces: u64) -> bool {
         self.entered.load(Ordering::SeqCst) == pieces
-            && self.workers.load(Ordering::SeqCst).count_ones() > 1
+            && !self.exchanged.load(Ordering::SeqCst)
             && !self.gave_up.load(Ordering::SeqCst)
     }
 }
@@ -44,9 +45,8 @@ impl Gate for Holding {
     type Pass = usize;
 
     fn at(&self, pass: &mut usize, worker: usize, piece: u64) {
-        if *pass == worker {
-            self.workers
-                .fetch_or(1u64.wrapping_shl((worker % 64) as u32), Ordering::SeqCst);
+        if *pass != worker {
+            self.exchanged.store(true, Ordering::SeqCst);
         }
         self.entered
             .fetch_or(1u64.wrapping_shl((piece % 64) as u32), Ordering::SeqCst);
