@@ -13,3 +13,4 @@ pub mod TestAnswers
 pub mod Told
 pub mod QuickAnswers
 pub mod OneAnswer
+pub mod NumberFlags

@@ -1,6 +1,8 @@
 -- What the program's status says.
-use Rattle.std.proofs.Common.{◌≡◌, ℕ, List, Option, Some, None, refl, ◌∙◌}
+use Rattle.std.proofs.Common.{◌≡◌, ℕ, List, [], Option, Some, None, refl, ◌∙◌}
+use Rattle.std.proofs.lemmas.List.{append-nil}
 use Rattle.std.specs.Io.KnownBytes.{Appends, Keeps}
+use Rattle.jslit.specs.Devices.{AppendsBeginning}
 use Rattle.jslit.specs.declared.fault.RunFault.{RunFault}
 use Rattle.jslit.specs.declared.fault.RunFault.TheVariants as faults
 use Rattle.jslit.specs.Answer.{status_of}
@@ -12,6 +14,14 @@ never_zero (faults.Plan f) is = absurd cc
 never_zero faults.OutOfMemory is = absurd cc
 never_zero faults.InputFailed is = absurd cc
 never_zero faults.OutputFailed is = absurd cc
+
+-- a refusal of the text is not a failed write
+pub refusal_of_text : (fault : RunFault) → status_of fault ≡ 1 → fault ≡ faults.OutputFailed → ⊥
+refusal_of_text (faults.Read f) is output = absurd cc
+refusal_of_text (faults.Plan f) is output = absurd cc
+refusal_of_text faults.OutOfMemory is output = absurd cc
+refusal_of_text faults.InputFailed is output = absurd cc
+refusal_of_text faults.OutputFailed is output = absurd cc
 
 -- the status 4 is that of a device that failed
 pub failed_device : (fault : RunFault) (A : Type 0) → status_of fault ≡ 4 → (fault ≡ faults.InputFailed → A) → (fault ≡ faults.OutputFailed → A) → A
@@ -27,3 +37,7 @@ Appends-kept None b c bytes grew kept = tt
 Appends-kept (Some xs) None c bytes grew kept = absurd grew
 Appends-kept (Some xs) (Some ys) None bytes grew kept = absurd kept
 Appends-kept (Some xs) (Some ys) (Some zs) bytes grew kept = kept ∙ grew
+
+-- all that was written is a beginning of it
+pub whole_is_beginning : (a b : Option (List ℕ)) (bytes : List ℕ) → Appends a b bytes → AppendsBeginning a b bytes
+whole_is_beginning a b bytes grew = record { front = bytes; rest = []; parts = append-nil bytes; appended = grew }

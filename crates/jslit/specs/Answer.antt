@@ -17,6 +17,7 @@ use Rattle.jslit.specs.declared.verdict.Verdict.{Verdict}
 use Rattle.jslit.specs.Devices.{AppendsBeginning}
 use Rattle.jslit.specs.QuickAnswer.{IsFirst}
 use Rattle.jslit.specs.ReportText.{report_text, quick_text}
+use Rattle.jslit.specs.RefusalText.{refusal_line}
 use Rattle.jslit.specs.Verdict.{IsVerdict, verdict_of}
 
 -- each valid execution of the test has its outcome in the report
@@ -87,12 +88,19 @@ status_of faults.OutOfMemory = 3
 status_of faults.InputFailed = 4
 status_of faults.OutputFailed = 4
 
--- the text has a fault, or the test that it spells is refused
-pub record IsRefused (text : List ℕ) : Type 0 where
+-- known bytes grew by the line that says why the text, or the test that it spells, is refused; where a write failed, by a
+-- beginning of that line
+pub record HasRefused (text : List ℕ) (old new : Option (List ℕ)) (failed : Type 0) : Type 0 where
   pub fault : RunFault
   pub of_text : status_of fault ≡ 1
   pub on : IsFaultOn text fault
+  pub written : ¬ failed → Appends old new (refusal_line fault)
+  pub begun : failed → AppendsBeginning old new (refusal_line fault)
+
+-- what checking a text can give as a status
+abbrev pub IsCheckStatus : ℕ → Type 0
+IsCheckStatus n = (n ≡ 0) ⊎ (n ≡ 1) ⊎ (n ≡ 3) ⊎ (n ≡ 4)
 
 -- what the program can give as its status
 abbrev pub IsStatus : ℕ → Type 0
-IsStatus n = (n ≡ 0) ⊎ (n ≡ 1) ⊎ (n ≡ 3) ⊎ (n ≡ 4)
+IsStatus n = IsCheckStatus n ⊎ (n ≡ 2)

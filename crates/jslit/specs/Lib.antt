@@ -3,6 +3,7 @@ pub mod Devices
 pub mod Verdict
 pub mod ChoiceEvents
 pub mod ReportText
+pub mod RefusalText
 pub mod QuickAnswer
 pub mod Answer
 pub mod Steps

@@ -5,3 +5,5 @@ pub mod FirstEntry
 pub mod Answering
 pub mod ReadLine
 pub mod Writing
+pub mod Command
+pub mod Saying

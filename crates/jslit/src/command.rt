@@ -1,30 +1,32 @@
 //! The program: what it prints, and its status.
 
-ghost use Rattle.std.specs.Prelude.{◌≡◌, ◌⊎◌, ◌<◌, ◌^◌, ◌-◌, false};
-ghost use Rattle.jslit.specs.Answer.{HasReported, IsRefused, IsStatus, status_of};
+ghost use Rattle.std.specs.Prelude.{◌≡◌, ◌≢◌, ◌⊎◌, ◌<◌, ◌^◌, ◌-◌, false};
+ghost use Rattle.jslit.specs.Answer.{HasReported, HasBegun, HasRefused, IsCheckStatus, IsStatus, status_of};
 ghost use Rattle.jslit.specs.Counted.{device_of, failures_of};
 ghost use Rattle.jslit.specs.Devices.{OfToldText};
+ghost use Rattle.jslit.specs.Steps.Saying.{HasSaid};
 
 use crate::counted::Counted;
 use crate::engine::{Options, run};
 use crate::fault::RunFault;
+use crate::refusing::{write_plan_fault, write_read_fault};
+use crate::words::line;
+use clap::Error;
+use clap::error::ErrorKind;
 use std::alloc::Global;
+use std::convert::AsStr;
 use std::io::{Read, Write};
+use std::rt::Files;
 use std::thread::Threads;
+use std::{fs, io};
 
-/// What the program does where its words say nothing else.
-const USUAL: Options = Options {
-    workers: 1,
-    cut: 4_096,
-    quick: false,
-};
-
-/// Prints the report on the litmus text of the input, or one line that says why there is none. Gives the status:
-/// 0 for a report, 1 for a text or test that is refused, 3 for want of memory, 4 for an input or output that failed.
-pub fn program<T: Threads + Sync, R: Read, W: Write, E: Write>(
+/// Does what the words ask for: checks the litmus text of the file that they name, or else of the input, or prints the
+/// help. Gives the status: 0 for a report or the help, 1 for a text or test that is refused, 2 for a fault of the words,
+/// 3 for want of memory, 4 for an input or output that failed.
+pub fn program<'a, T: Threads + Sync + Files, S: AsStr, R: Read, W: Write, E: Write>(
     rt: &T,
     alloc: Global,
-    _words: &[&str],
+    words: &'a [S],
     input: &mut Counted<R>,
     output: &mut Counted<W>,
     errors: &mut E,
@@ -32,20 +34,62 @@ pub fn program<T: Threads + Sync, R: Read, W: Write, E: Write>(
     requires input { failures_of input.old < 2 ^ 64 - 1 }
     requires output { failures_of output.old < 2 ^ 64 - 1 }
     ensures status { IsStatus result }
+    ensures words { result ≡ 2 → output.new ≡ output.old }
+    ensures memory { result ≡ 3 → output.new ≡ output.old }
+{
+    let line = match line(alloc, words) {
+        Ok(line) => line,
+        Err(error) => return explain(output, errors, &error),
+    };
+    let Some(path) = line.file else {
+        return check(rt, alloc, input, output, errors, line.options);
+    };
+    match fs::open(rt, path) {
+        Ok(file) => check(
+            rt,
+            alloc,
+            &mut Counted::new(file),
+            output,
+            errors,
+            line.options,
+        ),
+        Err(_) => say(output, errors, RunFault::InputFailed),
+    }
+}
+
+/// Prints the report on the litmus text of the input, or one line that says why there is none. Gives the status:
+/// 0 for a report, 1 for a text or test that is refused, 3 for want of memory, 4 for an input or output that failed.
+pub fn check<T: Threads + Sync, R: Read, W: Write, E: Write>(
+    rt: &T,
+    alloc: Global,
+    input: &mut Counted<R>,
+    output: &mut Counted<W>,
+    errors: &mut E,
+    options: Options,
+) -> u8
+    requires input { failures_of input.old < 2 ^ 64 - 1 }
+    requires output { failures_of output.old < 2 ^ 64 - 1 }
+    ensures status { IsCheckStatus result }
     ensures reported { result ≡ 0 → OfToldText (R.remaining (device_of input.old)) (λ text.
-        HasReported false text (W.contents (device_of output.old)) (W.contents (device_of output.new))) }
-    ensures refused { result ≡ 1 → OfToldText (R.remaining (device_of input.old)) IsRefused }
+        HasReported options.quick text (W.contents (device_of output.old)) (W.contents (device_of output.new))) }
+
+    // The output takes the line of the refusal, or a beginning of it where a write failed.
+    ensures refused { result ≡ 1 → OfToldText (R.remaining (device_of input.old)) (λ text.
+        HasRefused text (W.contents (device_of output.old)) (W.contents (device_of output.new)) (failures_of output.old < failures_of output.new)) }
     ensures memory { result ≡ 3 → output.new ≡ output.old }
     ensures input_failed { failures_of input.old < failures_of input.new → (result ≡ 4) × (output.new ≡ output.old) }
 
-    // An input or output failed, or flushing the whole report did.
+    // An input or output failed, or flushing the whole report did. The output takes a beginning of the report, or nothing.
     ensures failed { result ≡ 4 →
         (failures_of input.old < failures_of input.new)
         ⊎ (failures_of output.old < failures_of output.new)
         ⊎ OfToldText (R.remaining (device_of input.old)) (λ text.
-        HasReported false text (W.contents (device_of output.old)) (W.contents (device_of output.new))) }
+        HasReported options.quick text (W.contents (device_of output.old)) (W.contents (device_of output.new))) }
+    ensures begun { result ≡ 4 → (output.new ≡ output.old)
+        ⊎ OfToldText (R.remaining (device_of input.old)) (λ text.
+        HasBegun options.quick text (W.contents (device_of output.old)) (W.contents (device_of output.new))) }
 {
-    match run(rt, alloc, input, output, USUAL) {
+    match run(rt, alloc, input, output, options) {
         Ok(()) => match output.flush() {
             Ok(()) => 0,
             Err(_) => say(output, errors, RunFault::OutputFailed),
@@ -56,14 +100,19 @@ pub fn program<T: Threads + Sync, R: Read, W: Write, E: Write>(
 
 /// Prints the line of a fault, and gives the status. Where printing it fails, the status stays the same.
 fn say<W: Write, E: Write>(output: &mut Counted<W>, errors: &mut E, fault: RunFault) -> u8
+    requires { status_of fault ≡ 1 → failures_of output.old < 2 ^ 64 - 1 }
     ensures status { result ≡ status_of fault }
-    ensures memory { fault ≡ RunFault.OutOfMemory → output.new ≡ output.old }
-    ensures input { fault ≡ RunFault.InputFailed → output.new ≡ output.old }
-    ensures output { fault ≡ RunFault.OutputFailed → output.new ≡ output.old }
+    ensures refused { result ≡ 1 → HasSaid fault (W.contents (device_of output.old)) (W.contents (device_of output.new)) (failures_of output.old < failures_of output.new) }
+    ensures kept { result ≢ 1 → output.new ≡ output.old }
 {
     match fault {
-        RunFault::Read(_) | RunFault::Plan(_) => {
-            let _ = writeln!(output, "{fault}");
+        RunFault::Read(fault) => {
+            let _ = write_read_fault(output, fault);
+            let _ = output.flush();
+            1
+        }
+        RunFault::Plan(fault) => {
+            let _ = write_plan_fault(output, fault);
             let _ = output.flush();
             1
         }
@@ -76,4 +125,37 @@ fn say<W: Write, E: Write>(output: &mut Counted<W>, errors: &mut E, fault: RunFa
             4
         }
     }
+}
+
+/// Prints what `clap` answers to words that ask for no check: the help, or what is wrong with them. Gives the status.
+fn explain<W: Write, E: Write>(output: &mut Counted<W>, errors: &mut E, error: &Error) -> u8
+    ensures status { (result ≡ 0) ⊎ (result ≡ 2) ⊎ (result ≡ 3) }
+    ensures kept { result ≢ 0 → output.new ≡ output.old }
+{
+    if error.kind() == ErrorKind::OutOfMemory {
+        return say(output, errors, RunFault::OutOfMemory);
+    }
+    if error.use_stderr() {
+        let _ = write!(errors, "{error}");
+        return 2;
+    }
+    let _ = write!(output, "{error}");
+    let _ = output.flush();
+    0
+}
+
+/// Prints why the words of the command line could not be read, and gives the status: 3 for want of memory, and else 2,
+/// for words that are not text.
+pub fn no_words<E: Write>(errors: &mut E, error: &io::Error) -> u8
+    ensures { (result ≡ 2) ⊎ (result ≡ 3) }
+{
+    if error.kind() == io::ErrorKind::OutOfMemory {
+        let _ = writeln!(errors, "{}", RunFault::OutOfMemory);
+        return 3;
+    }
+    let _ = writeln!(
+        errors,
+        "error: a word of the command line is not text in UTF-8"
+    );
+    2
 }

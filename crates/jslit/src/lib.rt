@@ -7,6 +7,7 @@
 #![tactic(auto)]
 
 mod answering;
+mod asked;
 mod command;
 mod counted;
 mod engine;
@@ -14,14 +15,18 @@ mod fault;
 mod laws;
 mod page;
 mod reading;
+mod refusing;
 mod reporting;
 mod verdict;
+mod words;
 
-pub use command::program;
+pub use asked::Line;
+pub use command::{check, no_words, program};
 pub use counted::Counted;
 pub use engine::{Options, run};
 pub use fault::RunFault;
 pub use laws::{answers_are_unique, quick_answers_are_reported, reports_are_complete};
+pub use words::line;
 
 #[cfg(test)]
 mod tests;

@@ -10,6 +10,7 @@ use reports::REPORTS;
 use sizes::SIZE_REPORTS;
 use std::alloc::AllocGlobal;
 use std::process::Abort;
+use std::rt::Files;
 use std::test::Fail;
 use std::thread::Threads;
 
@@ -61,7 +62,7 @@ fn writes(
 
 /// That the program answers a text with these bytes and this status, and says nothing else.
 fn prints(
-    rt: &(impl Threads + Sync + Abort + AllocGlobal),
+    rt: &(impl Threads + Sync + Files + Abort + AllocGlobal),
     text: &[u8],
     expected: &[u8],
     status: u8,

@@ -1,19 +1,25 @@
-//! The program jslit: the library's `program` over the standard streams.
+//! The program jslit: the library's `program` over the standard streams and the words of the command line.
 #![tactic(auto)]
 
-use jslit::{Counted, program};
+use jslit::{Counted, no_words, program};
+use std::env;
 use std::process::ExitCode;
 
 fn main(rt: HostRuntime) -> ExitCode {
+    let mut errors = rt.stderr();
+    let words = match env::args(&rt) {
+        Ok(words) => words,
+        Err(error) => return ExitCode::from(no_words(&mut errors, &error)),
+    };
     let mut input = Counted::new(rt.stdin());
     let mut output = Counted::new(rt.stdout());
     let status = program(
         &rt,
         rt.alloc(),
-        &["jslit"],
+        words.as_slice(),
         &mut input,
         &mut output,
-        &mut rt.stderr(),
+        &mut errors,
     );
     ExitCode::from(status)
 }

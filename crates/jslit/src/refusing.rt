@@ -1,0 +1,83 @@
+//! The line that says why a text or its test is refused.
+
+ghost use Rattle.std.specs.Prelude.{◌≡◌, OnOk, OnErr};
+ghost use Rattle.std.specs.Io.KnownBytes.{Appends};
+ghost use Rattle.jslit.specs.Counted.{device_of, failures_of, one_more};
+ghost use Rattle.jslit.specs.Devices.{AppendsBeginning};
+ghost use Rattle.jslit.specs.RefusalText.{kind_text, limit_text, read_fault_line, plan_fault_line};
+
+use crate::counted::Counted;
+use crate::fault::RunFault;
+use crate::page::Page;
+use lit_paths::PlanFault;
+use lit_read::{ReadFault, ReadKind};
+use std::io::Write;
+
+/// The number and the name of what is wrong with a text.
+fn kind_name(kind: ReadKind) -> &'static str
+    ensures { result.now ≡ kind_text kind }
+{
+    match kind {
+        ReadKind::TooLong => "1 too_long",
+        ReadKind::NotAscii => "2 not_ascii",
+        ReadKind::Syntax => "3 syntax",
+        ReadKind::Misplaced => "4 misplaced",
+        ReadKind::BlockSize => "5 block_size",
+        ReadKind::TooManyAgents => "6 too_many_agents",
+        ReadKind::DuplicateAgent => "7 duplicate_agent",
+        ReadKind::LiteralRange => "8 literal_range",
+        ReadKind::OutOfBlock => "9 out_of_block",
+        ReadKind::UnknownName => "10 unknown_name",
+        ReadKind::TooDeep => "11 too_deep",
+        ReadKind::MissingPart => "12 missing_part",
+        ReadKind::OutOfMemory => "out_of_memory",
+    }
+}
+
+/// The number and the name of the limit that a test passes.
+fn limit_name(fault: PlanFault) -> &'static str
+    ensures { result.now ≡ limit_text fault }
+{
+    match fault {
+        PlanFault::TooManyEvents => "14 too_many_events",
+        PlanFault::TooManyPaths => "13 too_many_paths",
+        PlanFault::TooManyChoices => "15 too_many_choices",
+        PlanFault::OutOfMemory => "out_of_memory",
+    }
+}
+
+/// Writes the line on a text that spells no test. Takes no memory.
+pub(crate) fn write_read_fault<W: Write>(
+    output: &mut Counted<W>,
+    fault: ReadFault,
+) -> Result<(), RunFault>
+    ensures written { OnOk result (Appends (W.contents (device_of output.old)) (W.contents (device_of output.new)) (read_fault_line fault)) }
+    ensures not_failed { OnOk result (failures_of output.new ≡ failures_of output.old) }
+    ensures begun { OnErr result (AppendsBeginning (W.contents (device_of output.old)) (W.contents (device_of output.new)) (read_fault_line fault)) }
+    ensures failed { OnErr result (failures_of output.new ≡ one_more (failures_of output.old)) }
+{
+    let mut page = Page::new();
+    page.put(output, b"refused ");
+    page.put(output, kind_name(fault.kind).as_bytes());
+    page.put(output, b" line ");
+    page.put_number(output, fault.line as u64);
+    page.put(output, b"\n");
+    page.finish(output)
+}
+
+/// Writes the line on a test that passes a limit. Takes no memory.
+pub(crate) fn write_plan_fault<W: Write>(
+    output: &mut Counted<W>,
+    fault: PlanFault,
+) -> Result<(), RunFault>
+    ensures written { OnOk result (Appends (W.contents (device_of output.old)) (W.contents (device_of output.new)) (plan_fault_line fault)) }
+    ensures not_failed { OnOk result (failures_of output.new ≡ failures_of output.old) }
+    ensures begun { OnErr result (AppendsBeginning (W.contents (device_of output.old)) (W.contents (device_of output.new)) (plan_fault_line fault)) }
+    ensures failed { OnErr result (failures_of output.new ≡ one_more (failures_of output.old)) }
+{
+    let mut page = Page::new();
+    page.put(output, b"refused ");
+    page.put(output, limit_name(fault).as_bytes());
+    page.put(output, b"\n");
+    page.finish(output)
+}

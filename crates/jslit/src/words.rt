@@ -1,0 +1,116 @@
+//! The words of the command line.
+
+ghost use Rattle.std.specs.Prelude.{◌≡◌, ◌^◌, false, IfOk, codes};
+ghost use Rattle.clap.specs.Words.{IsPlainArg};
+ghost use Rattle.jslit.specs.Steps.Command.{IsCommand, ReadsNumber};
+
+use crate::asked::Line;
+use crate::engine::Options;
+use clap::{Arg, ArgAction, Command, Error, value_parser};
+use std::alloc::{AllocError, Global};
+use std::convert::AsStr;
+
+/// What is done where the words say nothing else.
+const USUAL: Options = Options {
+    workers: 1,
+    cut: 4_096,
+    quick: false,
+};
+
+/// What follows the list of flags in the help.
+const AFTER: &str = "\
+Exit status:
+  0  a report was printed
+  1  the text or its test is refused: the reason is printed on standard output
+  2  a fault of the command line
+  3  out of memory
+  4  the input or the output failed
+
+Example:
+  jslit --workers 4 litmus/mp.lit";
+
+/// The flag for the number of workers.
+fn workers_flag<'a>(alloc: Global) -> Arg<'a>
+    ensures reads { ReadsNumber result (codes "workers") 1 16 }
+    ensures plain { IsPlainArg result }
+    ensures local { result.global ≡ false }
+{
+    Arg::new(alloc, "workers")
+        .long("workers")
+        .value_name("N")
+        .action(ArgAction::Set)
+        .value_parser(value_parser!(usize).range(1..=16))
+        .help("How many workers search, 1 to 16 [default: 1]")
+}
+
+/// The flag for the cutting.
+fn cut_flag<'a>(alloc: Global) -> Arg<'a>
+    ensures reads { ReadsNumber result (codes "cut") 1 (2 ^ 48) }
+    ensures plain { IsPlainArg result }
+    ensures local { result.global ≡ false }
+{
+    Arg::new(alloc, "cut")
+        .long("cut")
+        .value_name("N")
+        .action(ArgAction::Set)
+        .value_parser(value_parser!(u64).range(1..=281_474_976_710_656))
+        .help(
+            "How many choices a piece of the work has at the least, 1 to 281474976710656 [default: 4096]",
+        )
+}
+
+/// The flag for the quick report.
+fn quick_flag<'a>(alloc: Global) -> Arg<'a>
+    ensures id { result.id.now ≡ codes "quick" }
+    ensures plain { IsPlainArg result }
+    ensures local { result.global ≡ false }
+{
+    Arg::new(alloc, "quick")
+        .long("quick")
+        .action(ArgAction::SetTrue)
+        .help("Report only the first choice that meets the condition, and the first that does not")
+}
+
+/// The file that holds the text.
+fn file_argument<'a>(alloc: Global) -> Arg<'a>
+    ensures id { result.id.now ≡ codes "file" }
+    ensures plain { IsPlainArg result }
+    ensures local { result.global ≡ false }
+{
+    Arg::new(alloc, "file")
+        .value_name("FILE")
+        .action(ArgAction::Set)
+        .help("The litmus text [default: standard input]")
+}
+
+/// The command `jslit`.
+fn command<'a>(alloc: Global) -> Result<Command<'a>, AllocError>
+    ensures { IfOk result IsCommand }
+{
+    let bare = Command::new(alloc, "jslit")
+        .about("Prints every outcome that the memory model of ECMAScript allows a litmus test")
+        .after_help(AFTER);
+    let with_workers = bare.arg(workers_flag(alloc))?;
+    let with_cut = with_workers.arg(cut_flag(alloc))?;
+    let with_quick = with_cut.arg(quick_flag(alloc))?;
+    let whole = with_quick.arg(file_argument(alloc))?;
+    Ok(whole)
+}
+
+/// What the words ask for: the program's name, its flags and at most one file. What is no number of workers or choices
+/// within the limits is refused, and so is what is no flag, as `clap` does it.
+pub fn line<'a, S: AsStr>(alloc: Global, words: &'a [S]) -> Result<Line<'a>, Error> {
+    let command = command(alloc)?;
+    let matches = command.try_get_matches_from(words)?;
+    let workers = matches.get_one("workers").unwrap_or(USUAL.workers);
+    let cut = matches.get_one("cut").unwrap_or(USUAL.cut);
+    let options = Options {
+        workers,
+        cut,
+        quick: matches.get_flag("quick"),
+    };
+    Ok(Line {
+        options,
+        file: matches.get_str("file"),
+    })
+}
