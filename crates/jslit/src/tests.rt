@@ -14,6 +14,7 @@ use std::rt::Files;
 use std::test::Fail;
 use std::thread::Threads;
 
+mod command_line;
 mod devices;
 mod idle_events;
 mod independent_reads;

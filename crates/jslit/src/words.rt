@@ -54,9 +54,7 @@ fn cut_flag<'a>(alloc: Global) -> Arg<'a>
         .value_name("N")
         .action(ArgAction::Set)
         .value_parser(value_parser!(u64).range(1..=281_474_976_710_656))
-        .help(
-            "How many choices a piece of the work has at the least, 1 to 281474976710656 [default: 4096]",
-        )
+        .help("The fewest choices in a piece of the work, 1 to 281474976710656 [default: 4096]")
 }
 
 /// The flag for the quick report.
@@ -68,7 +66,7 @@ fn quick_flag<'a>(alloc: Global) -> Arg<'a>
     Arg::new(alloc, "quick")
         .long("quick")
         .action(ArgAction::SetTrue)
-        .help("Report only the first choice that meets the condition, and the first that does not")
+        .help("Report only the first choice that meets the condition and the first that does not")
 }
 
 /// The file that holds the text.
@@ -89,7 +87,8 @@ fn command<'a>(alloc: Global) -> Result<Command<'a>, AllocError>
 {
     let bare = Command::new(alloc, "jslit")
         .about("Prints every outcome that the memory model of ECMAScript allows a litmus test")
-        .after_help(AFTER);
+        .after_help(AFTER)
+        .bin_name("jslit")?;
     let with_workers = bare.arg(workers_flag(alloc))?;
     let with_cut = with_workers.arg(cut_flag(alloc))?;
     let with_quick = with_cut.arg(quick_flag(alloc))?;

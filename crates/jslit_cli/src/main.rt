@@ -3,11 +3,18 @@
 
 use jslit::{Counted, no_words, program};
 use std::env;
+use std::io;
 use std::process::ExitCode;
+
+/// The words of the command line, the program's name first.
+fn words(rt: &HostRuntime) -> io::Result<Vec<String>> {
+    let words = env::args(rt)?.collect(rt.alloc())?;
+    Ok(words)
+}
 
 fn main(rt: HostRuntime) -> ExitCode {
     let mut errors = rt.stderr();
-    let words = match env::args(&rt) {
+    let words = match words(&rt) {
         Ok(words) => words,
         Err(error) => return ExitCode::from(no_words(&mut errors, &error)),
     };
@@ -16,7 +23,7 @@ fn main(rt: HostRuntime) -> ExitCode {
     let status = program(
         &rt,
         rt.alloc(),
-        words.as_slice(),
+        &words,
         &mut input,
         &mut output,
         &mut errors,

@@ -6,10 +6,13 @@ use crate::command::program;
 use crate::counted::Counted;
 use crate::engine::run;
 use crate::fault::RunFault;
-use std::alloc::{AllocError, Global};
+use std::alloc::{AllocError, AllocGlobal, Global};
 use std::io;
 use std::io::{Read, Write};
+use std::process::Abort;
+use std::rt::Files;
 use std::test::Fail;
+use std::thread::Threads;
 
 /// Gives one byte a call.
 #[derive(Drop)]
@@ -214,4 +217,58 @@ fn input_fails(rt: HostRuntime) -> Result<(), Fail> {
     assert_eq!(rt; errors.as_slice(), b"input_failed\n".as_slice());
     assert!(rt; output.into_inner().is_empty());
     Ok(())
+}
+
+/// Keeps what it takes, and counts how often it is flushed, which fails.
+#[derive(Drop)]
+struct Unflushed {
+    taken: Vec<u8>,
+    flushes: usize,
+}
+
+impl Write for Unflushed {
+    fn write(&mut self, buf: &[u8]) -> io::Result<usize> {
+        match self.taken.extend_from_slice(buf) {
+            Ok(()) => Ok(buf.len()),
+            Err(_) => Ok(0),
+        }
+    }
+
+    fn flush(&mut self) -> io::Result<()> {
+        self.flushes = self.flushes.saturating_add(1);
+        Err(io::Error::other("unflushed"))
+    }
+}
+
+/// What the program does with a text, where flushing the output fails: its status, what it printed, and how often it
+/// flushed the output.
+fn flushes_once(
+    rt: &(impl Threads + Sync + Files + Abort + AllocGlobal),
+    text: &str,
+    status: u8,
+    printed: &str,
+    said: &str,
+) -> Result<(), Fail> {
+    let alloc = rt.alloc();
+    let mut input = Counted::new(text.as_bytes());
+    let mut output = Counted::new(Unflushed {
+        taken: Vec::new(alloc),
+        flushes: 0,
+    });
+    let mut errors = Vec::new(alloc);
+    let given = program(rt, alloc, &["jslit"], &mut input, &mut output, &mut errors);
+    assert_eq!(rt; given, status);
+    assert_eq!(rt; errors.as_slice(), said.as_bytes());
+    assert_eq!(rt; output.failures(), 0);
+    let device = output.into_inner();
+    assert_eq!(rt; device.taken.as_slice(), printed.as_bytes());
+    assert_eq!(rt; device.flushes, 1);
+    Ok(())
+}
+
+#[test]
+fn flushing_fails(rt: HostRuntime) -> Result<(), Fail> {
+    let (text, report) = UNTOUCHED_BYTE;
+    flushes_once(&rt, text, 4, report, "output_failed\n")?;
+    flushes_once(&rt, "", 1, "refused 12 missing_part line 1\n", "")
 }

@@ -161,3 +161,29 @@ fn thirteen_branches(rt: HostRuntime) -> Result<(), Fail> {
     writes(&rt, &text, b"refused 13 too_many_paths\n")?;
     prints(&rt, &text, b"refused 13 too_many_paths\n", 1)
 }
+
+#[test]
+fn ninth_level(rt: HostRuntime) -> Result<(), Fail> {
+    let mut text = Vec::from_slice(rt.alloc(), b"test t\nbytes 1\nagent A\nr0 = U8[0]\n")?;
+    for _ in 0..9 {
+        text.extend_from_slice(b"if r0 == 0 {\n")?;
+    }
+    for _ in 0..9 {
+        text.extend_from_slice(b"}\n")?;
+    }
+    text.extend_from_slice(b"check A.r0 == 0\n")?;
+    prints(&rt, &text, b"refused 11 too_deep line 13\n", 1)
+}
+
+#[test]
+fn too_many_choices(rt: HostRuntime) -> Result<(), Fail> {
+    let mut text = Vec::from_slice(
+        rt.alloc(),
+        b"test t\nbytes 4\nagent A\nU32[0] = 1\nU32[0] = 2\n",
+    )?;
+    for _ in 0..10 {
+        text.extend_from_slice(b"r0 = U32[0]\n")?;
+    }
+    text.extend_from_slice(b"check A.r0 == 0\n")?;
+    prints(&rt, &text, b"refused 15 too_many_choices\n", 1)
+}

@@ -27,7 +27,7 @@ unmet outcome A.r0=0 B.r0=0
 verdict sometimes
 ";
 
-const INDEPENDENT_READS_QUICK: &str = "test iriw
+pub(super) const INDEPENDENT_READS_QUICK: &str = "test iriw
 met none
 unmet outcome C.r0=0 C.r1=0 D.r0=0 D.r1=0
   from C.0 init[0]

@@ -93,13 +93,13 @@ returns-in-Err-clause-begun g c is =
     failed_device c.in-Err.fault _ (sym c.say-in-Err.ensures.status ∙ is)
     (λ input. inl (same ∙ c.in-Err.ensures.unwritten (λ output. let bad : faults.InputFailed ≡ faults.OutputFailed = sym input ∙ output in absurd cc)))
     (λ output.
-        let begun = c.in-Err.ensures.begun (ap Err output) in
-        inr (record {
-          text = begun.text;
-          is_told = begun.is_told;
-          holds = record {
-            answer = begun.holds.answer;
-            on = begun.holds.on;
-            begun = rw same begun.holds.begun;
-          };
-        }))
+    let begun = c.in-Err.ensures.begun (ap Err output) in
+    inr (record {
+      text = begun.text;
+      is_told = begun.is_told;
+      holds = record {
+        answer = begun.holds.answer;
+        on = begun.holds.on;
+        begun = rw same begun.holds.begun;
+      };
+    }))

@@ -12,10 +12,10 @@ other_name id name other is differs = rw is differs
 
 pub returns : goal.returns
 returns c =
-    let no_arguments : args_of c.after_help-bare.result ≡ [] = ap (λ f. f.args.items) c.after_help-bare.ensures ∙ ap (λ f. f.args.items) c.about.ensures ∙ c.new.ensures.empty.0 in
-    let no_groups : groups_of c.after_help-bare.result ≡ [] = ap (λ f. f.groups.items) c.after_help-bare.ensures ∙ ap (λ f. f.groups.items) c.about.ensures ∙ c.new.ensures.empty.1 in
-    let no_globals = ap (λ f. f.has_globals) c.after_help-bare.ensures ∙ ap (λ f. f.has_globals) c.about.ensures ∙ c.new.ensures.local in
-    let bare : IsPlain c.after_help-bare.result = (subst (All IsPlainArg) (sym no_arguments) (All-nil IsPlainArg), no_groups) in
+    let no_arguments : args_of c.in_ok-bare.bare ≡ [] = ap (λ f. f.args.items) c.in_ok-bare.ensures.0 ∙ ap (λ f. f.args.items) c.after_help.ensures ∙ ap (λ f. f.args.items) c.about.ensures ∙ c.new.ensures.empty.0 in
+    let no_groups : groups_of c.in_ok-bare.bare ≡ [] = ap (λ f. f.groups.items) c.in_ok-bare.ensures.0 ∙ ap (λ f. f.groups.items) c.after_help.ensures ∙ ap (λ f. f.groups.items) c.about.ensures ∙ c.new.ensures.empty.1 in
+    let no_globals = ap (λ f. f.has_globals) c.in_ok-bare.ensures.0 ∙ ap (λ f. f.has_globals) c.after_help.ensures ∙ ap (λ f. f.has_globals) c.about.ensures ∙ c.new.ensures.local in
+    let bare : IsPlain c.in_ok-bare.bare = (subst (All IsPlainArg) (sym no_arguments) (All-nil IsPlainArg), no_groups) in
     let first = c.in_ok-with_workers.ensures in
     let second = c.in_ok-with_cut.ensures in
     let third = c.in_ok-with_quick.ensures in
