@@ -52,7 +52,7 @@ impl<T: Drop> From<AllocFailed<T>> for SearchFault {
     }
 }
 
-/// An outcome with its example. Where an entry lies it takes a few words, however long the order is.
+/// An outcome with its example, each in a room of its own, so that a map or list of entries holds four words for each.
 #[derive(Debug, Drop)]
 pub(crate) struct Entry {
     pub outcome: BoxedSlice<u32>,
