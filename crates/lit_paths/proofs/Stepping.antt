@@ -9,7 +9,7 @@ use Rattle.lit_paths.specs.Path.{Step, IfMet, walks_of, statement_walks}
 use Rattle.lit_paths.specs.PathModel.{PathModel}
 use Rattle.lit_paths.specs.Planning.PathSteps.{with_step, with_steps}
 use Rattle.lit_paths.specs.Planning.Walks.{IsSaid, AreSaid, longest, statement_longest, walk_at, statement_walk_at}
-use Rattle.lit_paths.proofs.Products.{slice_get_left, slice_get_right}
+use Rattle.lit_paths.proofs.Products.{next_places, slice_get_left, slice_get_right}
 use Rattle.lit_paths.proofs.Rising.{slice_get-map-found}
 use Rattle.lit_paths.proofs.Walks.{length-walks_of, length-walks-if, walks_of-some, statement_walks-some}
 use Rattle.lit_paths.proofs.Parts.{statements_left, statements_end}
@@ -99,25 +99,36 @@ pub record IsHere (xs : List Stmt) (i left later k : ℕ) (s : Statement) : Type
   pub count : length (walks_of (left_of xs i)) ≡ length (statement_walks s) * length (walks_of (left_of xs (i + 1)))
   pub long : longest (left_of xs i) ≡ statement_longest s + longest (left_of xs (i + 1))
 
-pub here-on_way : (owner : ℕ) (xs : List Stmt) (number : ℕ) (begun : PathModel) (i left later k : ℕ) (path : PathModel) (x : Stmt)
-    → i < length xs → x ≡ get_or xs i x → length (walks_of (statements_of xs)) ≤ k → later ≡ min (length (walks_of (left_of xs (i + 1)))) (k + 1)
-    → IsOnWay owner xs number begun i left path → IsHere xs i left later k (statement_of x)
-here-on_way owner xs number begun i left later k path x inside is few counted way =
+-- a statement has the walks that are counted, where all statements have few
+counted-here : (owner : ℕ) (xs : List Stmt) (number : ℕ) (begun : PathModel) (i left count k : ℕ) (path : PathModel) (x : Stmt)
+    → i < length xs → x ≡ get_or xs i x → length (walks_of (statements_of xs)) ≤ k → count ≡ min (length (statement_walks (statement_of x))) (k + 1)
+    → IsOnWay owner xs number begun i left path
+    → (count ≡ length (statement_walks (statement_of x))) × (count ≤ k) × (length (walks_of (left_of xs i)) ≡ count * length (walks_of (left_of xs (i + 1))))
+counted-here owner xs number begun i left count k path x inside is few counted way =
+    let s : Statement = statement_of x in
+    let rest : Statements = left_of xs (i + 1) in
+    let whole : length (walks_of (left_of xs i)) ≡ length (statement_walks s) * length (walks_of rest) = ap (λ ss. length (walks_of ss)) (statements_left xs i x inside is) ∙ length-walks_of s rest in
+    let upper : length (statement_walks s) * 1 ≤ length (statement_walks s) * length (walks_of rest) =
+    mul-le-mul (let le : length (statement_walks s) ≤ length (statement_walks s) = omega arith in le) (walks_of-some rest) in
+    let exact : count ≡ length (statement_walks s) = omega (arith, counted, upper, whole, few, way.few) in
+    (exact, omega (arith, exact, upper, whole, few, way.few), whole ∙ ap (λ n. n * length (walks_of rest)) (sym exact))
+
+pub here-on_way : (owner : ℕ) (xs : List Stmt) (number : ℕ) (begun : PathModel) (i left ways count k : ℕ) (path : PathModel) (x : Stmt)
+    → i < length xs → x ≡ get_or xs i x → length (walks_of (statements_of xs)) ≤ k → count ≡ min (length (statement_walks (statement_of x))) (k + 1)
+    → ways ≡ length (walks_of (left_of xs i)) → IsOnWay owner xs number begun i left path → IsHere xs i left (ways / count) k (statement_of x)
+here-on_way owner xs number begun i left ways count k path x inside is few counted whole way =
     let s : Statement = statement_of x in
     let rest : Statements = left_of xs (i + 1) in
     let split : left_of xs i ≡ Then s rest = statements_left xs i x inside is in
-    let count : length (walks_of (left_of xs i)) ≡ length (statement_walks s) * length (walks_of rest) = ap (λ ss. length (walks_of ss)) split ∙ length-walks_of s rest in
-    let first : 1 ≤ length (statement_walks s) = statement_walks-some s in
+    let known = counted-here owner xs number begun i left count k path x inside is few counted way in
     let later_some : 1 ≤ length (walks_of rest) = walks_of-some rest in
-    let lower : 1 * length (walks_of rest) ≤ length (statement_walks s) * length (walks_of rest) = mul-le-mul first (let le : length (walks_of rest) ≤ length (walks_of rest) = omega arith in le) in
-    let upper : length (statement_walks s) * 1 ≤ length (statement_walks s) * length (walks_of rest) = mul-le-mul (let le : length (statement_walks s) ≤ length (statement_walks s) = omega arith in le) later_some in
-    let later_is : later ≡ length (walks_of rest) = omega (arith, counted, lower, count, few, way.few) in
+    let later_is : ways / count ≡ length (walks_of rest) = next_places ways count (length (walks_of rest)) 0 (whole ∙ known.2) (omega (arith, whole, way.known)) in
     record {
       later_is = later_is;
       some = omega (arith, later_is, later_some);
       index = subst (λ (m : ℕ). left / m < length (statement_walks s)) (sym later_is) (first_index s rest left (subst (λ (ss : Statements). left < length (walks_of ss)) split way.known));
-      few = omega (arith, upper, count, few, way.few);
-      count = count;
+      few = omega (arith, known.0, known.1);
+      count = known.2 ∙ ap (λ n. n * length (walks_of rest)) known.0;
       long = ap longest split;
     }
 

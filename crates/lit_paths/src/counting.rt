@@ -23,7 +23,7 @@ pub(crate) fn walk_count(body: &[Stmt]) -> usize
 
 /// How many walks lead through a statement, as far.
 #[cycle(walk_counts)]
-fn statement_walk_count(statement: &Stmt) -> usize
+pub(crate) fn statement_walk_count(statement: &Stmt) -> usize
     ensures { result ≡ min (length (statement_walks (statement_of statement.now))) many_walks }
 {
     match statement {

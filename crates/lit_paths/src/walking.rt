@@ -9,7 +9,7 @@ ghost use Rattle.lit_paths.specs.Planning.PathSteps.{with_step, with_steps};
 ghost use Rattle.lit_paths.specs.Planning.Walks.{IsAccess, IsSaid, AreSaid, longest, statement_longest, walk_at, statement_walk_at};
 
 use crate::accesses::{Access, event_of};
-use crate::counting::walk_count;
+use crate::counting::{statement_walk_count, walk_count};
 use crate::event::Kind;
 use crate::path::Path;
 use lit_read::Stmt;
@@ -94,9 +94,10 @@ pub(crate) fn walk(
     ensures walked { IfOk result (λ _. path.new ≡ with_steps owner path.old (walk_at (statements_of body.now) number)) }
     ensures short { IfOk result (λ _. length path.new.events ≤ length path.old.events + longest (statements_of body.now)) }
 {
+    let mut later = walk_count(body);
     let mut left = number;
-    for (place, statement) in body.iter().enumerate() {
-        let later = walk_count(&body[place + 1..]);
+    for statement in body {
+        later /= statement_walk_count(statement);
         meet(path, owner, statement, left / later)?;
         left %= later;
     }

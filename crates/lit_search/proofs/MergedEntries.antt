@@ -1,5 +1,5 @@
 -- Two rising lists of entries, merged: rising, with each outcome of both and the lesser of its examples.
-use Rattle.std.proofs.Common.{◌≡◌, ◌⊎◌, inl, inr, Bool, true, false, cond, Option, Some, None, List, [], ◌∷◌, ◌++◌, map, refl, sym, ap, subst, ◌∙◌}
+use Rattle.std.proofs.Common.{◌≡◌, ◌⊎◌, inl, inr, Bool, true, false, cond, Option, Some, None, List, [], ◌∷◌, ◌++◌, length, map, refl, sym, ap, subst, ◌∙◌}
 use Rattle.std.specs.Prelude.{IsFalse}
 use Rattle.std.specs.Option.{option_map, option_to_list}
 use Rattle.std.specs.List.{AllByRecursion}
@@ -7,7 +7,7 @@ use Rattle.std.specs.List.Sorted.{IsStrictlySortedBy}
 use Rattle.std.specs.Ordering.{is_gt, match_ordering}
 use Rattle.std.specs.declared.cmp.Ordering.{Ordering}
 use Rattle.std.specs.declared.cmp.Ordering.TheVariants.{Less, Equal, Greater}
-use Rattle.std.proofs.lemmas.List.{append-nil}
+use Rattle.std.proofs.lemmas.List.{append-nil, nil_from_length}
 use Rattle.std.proofs.lemmas.Map.Lookups.{exact_bytes}
 use Rattle.lit_search.specs.Report.{Entry, Report, HasEntry, example_cmp, outcome_cmp}
 use Rattle.lit_search.specs.Merge.{HasInEither, IsMerge}
@@ -181,6 +181,13 @@ IsMerge-merged a b c up vp is = record {
 merged-none : (xs : List Entry) → merged xs [] ≡ xs
 merged-none [] = refl
 merged-none (x ∷ xs) = refl
+
+-- where one list is empty, the other is the merge
+pub merged-none_left : (xs ys : List Entry) → length xs ≡ 0 → ys ≡ merged xs ys
+merged-none_left xs ys none = subst (λ (zs : List Entry). ys ≡ merged zs ys) (sym (nil_from_length xs none)) refl
+
+pub merged-none_right : (xs ys : List Entry) → length ys ≡ 0 → xs ≡ merged xs ys
+merged-none_right xs ys none = subst (λ (zs : List Entry). xs ≡ merged xs zs) (sym (nil_from_length ys none)) (sym (merged-none xs))
 
 merged-less : (x : Entry) (xs ys : List Entry) → heads_cmp (x ∷ xs) ys ≡ Less → merged (x ∷ xs) ys ≡ x ∷ merged xs ys
 merged-less x xs [] h = ap (λ (zs : List Entry). x ∷ zs) (sym (merged-none xs))

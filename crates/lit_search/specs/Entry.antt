@@ -4,4 +4,4 @@ use Rattle.lit_search.specs.declared.found.Entry as found
 use Rattle.lit_search.specs.Report.{Entry}
 
 abbrev pub entry_of : found.Entry → Entry
-entry_of entry = record { outcome = boxed_slice_items entry.outcome; choice = entry.example.choice; order = entry.example.order.items }
+entry_of entry = record { outcome = boxed_slice_items entry.outcome; choice = entry.example.value.choice; order = entry.example.value.order.items }

@@ -6,7 +6,7 @@ use arrayvec::ArrayVec;
 use lit_order::Order;
 use lit_paths::NAME_LIMIT;
 use std::alloc::{AllocError, AllocFailed};
-use std::boxed::BoxedSlice;
+use std::boxed::{Box, BoxedSlice};
 use std::marker::Model;
 use thiserror::Error;
 
@@ -52,11 +52,11 @@ impl<T: Drop> From<AllocFailed<T>> for SearchFault {
     }
 }
 
-/// An outcome with its example.
+/// An outcome with its example, each in a room of its own, so that a map or list of entries holds four words for each.
 #[derive(Debug, Drop)]
 pub(crate) struct Entry {
     pub outcome: BoxedSlice<u32>,
-    pub example: Example,
+    pub example: Box<Example>,
 }
 
 /// The outcomes of a set of choices, rising, each with its example. A clause sees it as a `Report`.

@@ -10,7 +10,7 @@ use crate::passing::Shown;
 use crate::wanted::Wanted;
 use lit_paths::Plan;
 use std::alloc::{AllocError, Global};
-use std::boxed::BoxedSlice;
+use std::boxed::{Box, BoxedSlice};
 use std::collections::BTreeMap;
 use std::marker::Model;
 
@@ -18,7 +18,7 @@ use std::marker::Model;
 #[derive(Drop)]
 pub(crate) struct Kept {
     alloc: Global,
-    examples: BTreeMap<BoxedSlice<u32>, Example>,
+    examples: BTreeMap<BoxedSlice<u32>, Box<Example>>,
 }
 
 impl Model for Kept {
@@ -60,7 +60,8 @@ impl Kept {
         ensures err { OnErr result (self.new ≡ self.old) }
     {
         let outcome = BoxedSlice::from_slice(self.alloc, shown.outcome.as_slice())?;
-        self.examples.insert(outcome, shown.example)?;
+        let example = Box::new(self.alloc, shown.example)?;
+        self.examples.insert(outcome, example)?;
         Ok(())
     }
 

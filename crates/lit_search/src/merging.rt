@@ -56,7 +56,14 @@ pub fn merge(alloc: Global, a: Found, b: Found) -> Result<Found, SearchFault>
     ensures reported { IfOk result (λ found. (t : Litmus) (some others : ℕ → Bool) → IsReport t some a → IsReport t others b
         → IsReport t (in_either some others) found) }
 {
-    let mut entries = Vec::with_capacity(alloc, a.len().saturating_add(b.len()))?;
+    let (first, second) = (a.len(), b.len());
+    if first == 0 {
+        return Ok(b);
+    }
+    if second == 0 {
+        return Ok(a);
+    }
+    let mut entries = Vec::with_capacity(alloc, first.saturating_add(second))?;
     let mut left = VecDeque::from_vec(a.into_entries());
     let mut right = VecDeque::from_vec(b.into_entries());
     while let Some(entry) = take_least(&mut left, &mut right) {

@@ -1,15 +1,13 @@
-use Rattle.std.proofs.Common.{arith, ap, sym, ◌∙◌, ◌≡◌, ◌<◌, ◌≤◌, ◌+◌, ◌-◌, List, length, get_or, drop, take, min, not, subst, ℕ}
-use Rattle.std.proofs.lemmas.List.{take_all, length-drop}
+use Rattle.std.proofs.Common.{arith, ap, sym, ◌∙◌, ◌-◌, length, not, subst, ℕ}
 use Rattle.std.proofs.lemmas.Result.{IfOk-weaker}
-use Rattle.lit_read.specs.declared.syntax.Stmt.{Stmt}
 use Rattle.lit_read.specs.Litmus.{statement_of, statements_of}
 use Rattle.lit_paths.specs.Path.{walks_of}
 use Rattle.lit_paths.specs.PathModel.{PathModel}
 use Rattle.lit_paths.specs.declared.limits.TheConstants.{COMBINATION_LIMIT}
 use Rattle.lit_paths.specs.Planning.PathSteps.{with_test, with_steps}
-use Rattle.lit_paths.specs.Planning.Walks.{AreSaid, longest, many_walks, walk_at}
+use Rattle.lit_paths.specs.Planning.Walks.{AreSaid, longest, walk_at}
 use Rattle.lit_paths.proofs.Parts.{if_is}
-use Rattle.lit_paths.proofs.Stepping.{IsIf, if_known, said-then, said-else, walked-then, walked-else, IsOnWay, IsHere, here-on_way, on_way_more, AreSaid-left, size_of, size_of-item, size_of-parts}
+use Rattle.lit_paths.proofs.Stepping.{IsIf, if_known, said-then, said-else, walked-then, walked-else, here-on_way, on_way_more, AreSaid-left, size_of, size_of-item, size_of-parts}
 use Rattle.lit_paths.proofs.walking.+walks.Goals as goal
 
 pub meet-walk-requires : goal.meet-walk-requires
@@ -96,39 +94,32 @@ meet-returns-in_ok-add_test-in-If-2-clause-short t c =
     (λ done short. omega (arith, short, known.long, ap longest same, ap (λ (path : PathModel). length path.events) c.in_ok-add_test-in-If-2.ensures))
     c.walk-else-number-first_else.ensures.short
 
-here : (owner : ℕ) (xs : List Stmt) (number : ℕ) (begun : PathModel) (i left later : ℕ) (path : PathModel) (x : Stmt)
-    → i < length xs → x ≡ get_or xs i x → length (walks_of (statements_of xs)) ≤ COMBINATION_LIMIT
-    → later ≡ min (length (walks_of (statements_of (take (length xs - (i + 1)) (drop (i + 1) xs))))) many_walks
-    → IsOnWay owner xs number begun i left path → IsHere xs i left later COMBINATION_LIMIT (statement_of x)
-here owner xs number begun i left later path x inside is few counted way =
-    let all : take (length xs - (i + 1)) (drop (i + 1) xs) ≡ drop (i + 1) xs = take_all (length xs - (i + 1)) (drop (i + 1) xs) (omega (arith, length-drop (i + 1) xs)) in
-    here-on_way owner xs number begun i left later COMBINATION_LIMIT path x inside is few (counted ∙ ap (λ ys. min (length (walks_of (statements_of ys))) many_walks) all) way
-
 pub walk-nonzero_div-left : goal.walk-nonzero_div-left
 walk-nonzero_div-left t c =
-    (here c.args.owner c.args.body.now c.args.number _ c.loop-place.place c.loop-place.left c.walk_count-later.result _ c.index-body-place.result
-    c.loop-place-test.true c.index-body-place.is c.requires.few c.walk_count-later.ensures c.loop-place.invariant).some
+    (here-on_way c.args.owner c.args.body.now c.args.number c.args.path.now c.loop-statement.statement-index c.loop-statement.left c.loop-statement.later c.statement_walk_count-later.result COMBINATION_LIMIT c.loop-statement.path c.statement-item.result
+    c.loop-statement-test.true c.statement-item.is c.requires.few c.statement_walk_count-later.ensures c.loop-statement.invariant.1 c.loop-statement.invariant.0).some
 
 pub walk-meet-requires : goal.walk-meet-requires
 walk-meet-requires t c =
-    let at = here c.args.owner c.args.body.now c.args.number _ c.loop-place.place c.loop-place.left c.walk_count-later.result _ c.index-body-place.result
-    c.loop-place-test.true c.index-body-place.is c.requires.few c.walk_count-later.ensures c.loop-place.invariant in (
-      omega (arith, size_of-item c.args.body.now c.loop-place.place c.index-body-place.result c.loop-place-test.true c.index-body-place.is),
+    let at = here-on_way c.args.owner c.args.body.now c.args.number c.args.path.now c.loop-statement.statement-index c.loop-statement.left c.loop-statement.later c.statement_walk_count-later.result COMBINATION_LIMIT c.loop-statement.path c.statement-item.result
+    c.loop-statement-test.true c.statement-item.is c.requires.few c.statement_walk_count-later.ensures c.loop-statement.invariant.1 c.loop-statement.invariant.0 in (
+      omega (arith, size_of-item c.args.body.now c.loop-statement.statement-index c.statement-item.result c.loop-statement-test.true c.statement-item.is),
       (
-        AreSaid-left c.args.body.now c.loop-place.place c.index-body-place.result c.loop-place-test.true c.index-body-place.is c.requires.said,
-        (at.few, (at.index, omega (arith, at.long, c.loop-place.invariant.room, c.requires.room))),
+        AreSaid-left c.args.body.now c.loop-statement.statement-index c.statement-item.result c.loop-statement-test.true c.statement-item.is c.requires.said,
+        (at.few, (at.index, omega (arith, at.long, c.loop-statement.invariant.0.room, c.requires.room))),
       ),
     )
 
 pub walk-nonzero_rem-left : goal.walk-nonzero_rem-left
 walk-nonzero_rem-left t c =
-    (here c.args.owner c.args.body.now c.args.number _ c.loop-place.place c.loop-place.left c.walk_count-later.result _ c.index-body-place.result
-    c.loop-place-test.true c.index-body-place.is c.requires.few c.walk_count-later.ensures c.loop-place.invariant).some
+    (here-on_way c.args.owner c.args.body.now c.args.number c.args.path.now c.loop-statement.statement-index c.loop-statement.left c.loop-statement.later c.statement_walk_count-later.result COMBINATION_LIMIT c.loop-statement.path c.statement-item.result
+    c.loop-statement-test.true c.statement-item.is c.requires.few c.statement_walk_count-later.ensures c.loop-statement.invariant.1 c.loop-statement.invariant.0).some
 
-pub walk-loop-place-preserved : goal.walk-loop-place-preserved
-walk-loop-place-preserved t c =
-    on_way_more c.args.owner c.args.body.now c.args.number _ c.loop-place.place c.loop-place.left c.walk_count-later.result COMBINATION_LIMIT _ _ c.index-body-place.result
-    c.loop-place-test.true c.index-body-place.is
-    (here c.args.owner c.args.body.now c.args.number _ c.loop-place.place c.loop-place.left c.walk_count-later.result _ c.index-body-place.result
-    c.loop-place-test.true c.index-body-place.is c.requires.few c.walk_count-later.ensures c.loop-place.invariant)
-    c.in_ok-meet.ensures.walked c.in_ok-meet.ensures.short c.loop-place.invariant
+pub walk-loop-statement-preserved : goal.walk-loop-statement-preserved
+walk-loop-statement-preserved t c =
+    let at = here-on_way c.args.owner c.args.body.now c.args.number c.args.path.now c.loop-statement.statement-index c.loop-statement.left c.loop-statement.later c.statement_walk_count-later.result COMBINATION_LIMIT c.loop-statement.path c.statement-item.result
+    c.loop-statement-test.true c.statement-item.is c.requires.few c.statement_walk_count-later.ensures c.loop-statement.invariant.1 c.loop-statement.invariant.0 in (
+      on_way_more c.args.owner c.args.body.now c.args.number c.args.path.now c.loop-statement.statement-index c.loop-statement.left _ COMBINATION_LIMIT c.loop-statement.path _ c.statement-item.result
+          c.loop-statement-test.true c.statement-item.is at c.in_ok-meet.ensures.walked c.in_ok-meet.ensures.short c.loop-statement.invariant.0,
+      at.later_is,
+    )

@@ -1,9 +1,33 @@
 use Rattle.std.proofs.Common.{map, sym, subst, ◌∙◌}
 use Rattle.lit_search.specs.Entry.{entry_of}
 use Rattle.lit_search.proofs.Entries.{AreRising}
-use Rattle.lit_search.proofs.MergedEntries.{AreRising-merged, IsMerge-merged, all_taken}
+use Rattle.lit_search.proofs.MergedEntries.{AreRising-merged, IsMerge-merged, all_taken, merged-none_left, merged-none_right}
+use Rattle.lit_search.specs.Report.{Report}
 use Rattle.lit_search.proofs.Reports.{IsReport-merged}
 use Rattle.lit_search.proofs.merging.merge.Goals as goal
+
+abbrev IsRising : Report → Type 0
+IsRising report = AreRising report.entries
+
+pub returns-then-first-eq0-clause-merged : goal.returns-then-first-eq0-clause-merged
+returns-then-first-eq0-clause-merged c =
+    let whole = merged-none_left c.args.a.entries c.args.b.entries (sym c.len-first.ensures ∙ c.if-first-eq0.true) in
+    IsMerge-merged c.args.a c.args.b c.args.b (subst IsRising c.a.view_is c.a.invariant) (subst IsRising c.b.view_is c.b.invariant) whole
+
+pub returns-then-first-eq0-clause-reported : goal.returns-then-first-eq0-clause-reported
+returns-then-first-eq0-clause-reported c t some others h k =
+    let whole = merged-none_left c.args.a.entries c.args.b.entries (sym c.len-first.ensures ∙ c.if-first-eq0.true) in
+    IsReport-merged t some others c.args.a c.args.b c.args.b h k (IsMerge-merged c.args.a c.args.b c.args.b h.rising k.rising whole)
+
+pub returns-then-second-eq0-clause-merged : goal.returns-then-second-eq0-clause-merged
+returns-then-second-eq0-clause-merged c =
+    let whole = merged-none_right c.args.a.entries c.args.b.entries (sym c.len-second.ensures ∙ c.if-second-eq0.true) in
+    IsMerge-merged c.args.a c.args.b c.args.a (subst IsRising c.a.view_is c.a.invariant) (subst IsRising c.b.view_is c.b.invariant) whole
+
+pub returns-then-second-eq0-clause-reported : goal.returns-then-second-eq0-clause-reported
+returns-then-second-eq0-clause-reported c t some others h k =
+    let whole = merged-none_right c.args.a.entries c.args.b.entries (sym c.len-second.ensures ∙ c.if-second-eq0.true) in
+    IsReport-merged t some others c.args.a c.args.b c.args.a h k (IsMerge-merged c.args.a c.args.b c.args.a h.rising k.rising whole)
 
 pub from_rising-requires : goal.from_rising-requires
 from_rising-requires c =

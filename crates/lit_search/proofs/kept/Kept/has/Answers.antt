@@ -9,4 +9,4 @@ use Rattle.lit_search.proofs.kept.Kept.has.Goals as goal
 pub returns : goal.returns
 returns c =
     let Q : Bool → Type 0 = λ b. IsTrue b ↔ HasOutcome (report_of c.self.inside) c.args.outcome.now in
-    rw (← c.self.view_is) (subst Q (sym c.contains_key.ensures) (has_kept boxed_slice_items (λ x. x.choice) (λ x. x.order.items) c.args.outcome.now c.self.inside.examples.entries))
+    rw (← c.self.view_is) (subst Q (sym c.contains_key.ensures) (has_kept boxed_slice_items (λ x. x.value.choice) (λ x. x.value.order.items) c.args.outcome.now c.self.inside.examples.entries))

@@ -6,5 +6,5 @@ use Rattle.lit_search.proofs.kept.Kept.into_entries.Given as goal
 
 abbrev pub invariant-loop-outcome : goal.invariant-loop-outcome
 invariant-loop-outcome l =
-    map entry_of l.entries.items ++ map (kept boxed_slice_items (λ x. x.choice) (λ x. x.order.items)) l.outcome-iterator
-    ≡ map (kept boxed_slice_items (λ x. x.choice) (λ x. x.order.items)) l.initial.outcome-iterator
+    map entry_of l.entries.items ++ map (kept boxed_slice_items (λ x. x.value.choice) (λ x. x.value.order.items)) l.outcome-iterator
+    ≡ map (kept boxed_slice_items (λ x. x.value.choice) (λ x. x.value.order.items)) l.initial.outcome-iterator
