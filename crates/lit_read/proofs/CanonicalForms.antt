@@ -25,7 +25,7 @@ mutual
   else_is End = inl refl
   else_is (Then s ss) = (statement_forms s, statements_forms ss, refl, statement_is s, statements_are ss)
 
-agents_are : (agents : List Agent) → AreAgents (agents_forms agents) agents
+pub agents_are : (agents : List Agent) → AreAgents (agents_forms agents) agents
 agents_are [] = refl
 agents_are (a ∷ others) = (statements_forms a.body, agents_forms others, refl, statements_are a.body, agents_are others)
 
@@ -99,5 +99,5 @@ module _ (t : Litmus) (is : IsLitmus t) where
   written_back (All cs) on = all_back cs on.0 on.1
   written_back (Any cs) on = any_back cs on.0 on.1
 
-  pub canonical_are : AreFormsOf (canonical_forms t) t
+  abbrev pub canonical_are : AreFormsOf (canonical_forms t) t
   canonical_are = record { agents = agents_forms t.agents; check = written_of t.agents t.check; parts = refl; bodies = agents_are t.agents; asks = sym (written_back t.check is.check) }

@@ -26,8 +26,9 @@ pub mod CanonicalForms
 pub mod CleanLines
 pub mod CanonicalLines
 pub mod CanonicalConditions
-pub mod CanonicalAsks
-pub mod CanonicalSteps
+pub mod CheckAsks
+pub mod Parentheses
+pub mod TestSteps
 pub mod CanonicalRun
 pub mod ShownForms
 pub mod ShownConditions

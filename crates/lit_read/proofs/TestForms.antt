@@ -215,5 +215,5 @@ pub agents_plain : (fs : List Form) (agents : List Agent) → AreAgents fs agent
 agents_plain fs [] h = ap plain h
 agents_plain fs (a ∷ others) h = ap plain h.2 ∙ ap (λ (l : List Form). AgentLine a.name ∷ l) (statements_plain h.0 h.1 a.body h.3 ∙ ap (λ (l : List Form). statements_forms a.body ++ l) (agents_plain h.1 others h.4))
 
-pub same_but_elses : (fs gs : List Form) (t : Litmus) → (a : AreFormsOf fs t) → (b : AreFormsOf gs t) → (plain a.agents ≡ plain b.agents) × (written_value t.agents a.check ≡ written_value t.agents b.check)
-same_but_elses fs gs t a b = (agents_plain a.agents t.agents a.bodies ∙ sym (agents_plain b.agents t.agents b.bodies), sym a.asks ∙ b.asks)
+pub same_but_elses : (fs gs : List Form) (t : Litmus) → (a : AreFormsOf fs t) → (b : AreFormsOf gs t) → plain a.agents ≡ plain b.agents
+same_but_elses fs gs t a b = agents_plain a.agents t.agents a.bodies ∙ sym (agents_plain b.agents t.agents b.bodies)

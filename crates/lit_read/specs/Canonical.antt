@@ -1,6 +1,8 @@
 -- The forms of a test with nothing in them that could be left out (this project's own).
-use Rattle.std.specs.Prelude.{ℕ, Bool, true, false, if◌then◌else◌, List, [], ◌∷◌, ◌++◌, slice_index_or}
+use Rattle.std.specs.Prelude.{ℕ, Bool, true, false, not, if◌then◌else◌, List, [], ◌∷◌, ◌++◌, slice_index_or, filter}
+use Rattle.lit_read.specs.declared.symbols.Symbol.TheVariants.{OpenParen, CloseParen}
 use Rattle.lit_read.specs.Syntax.{Statement, Statements, Load, Store, Exchange, CompareExchange, If, End, Then, Condition, Conditions, Any, All, Not, Is, NoMore, Also, Agent, Litmus}
+use Rattle.lit_read.specs.Tokens.{Token, Sign}
 use Rattle.lit_read.specs.Written.{Comparison, Operand, Compared, Negated, Grouped, Conjunction, Lone, Both, Written, Single, Either}
 use Rattle.lit_read.specs.Forms.{Form, TestLine, BytesLine, AgentLine, StatementLine, IfLine, ElseLine, EndLine, CheckLine}
 
@@ -70,6 +72,15 @@ canonical_forms t = TestLine t.name ∷ BytesLine t.bytes ∷ (agents_forms t.ag
 abbrev pub starts_with_end : List Form → Bool
 starts_with_end (EndLine ∷ fs) = true
 starts_with_end _ = false
+
+abbrev pub is_parenthesis : Token → Bool
+is_parenthesis (Sign OpenParen) = true
+is_parenthesis (Sign CloseParen) = true
+is_parenthesis _ = false
+
+-- the tokens that are no parentheses
+abbrev pub without_parentheses : List Token → List Token
+without_parentheses tokens = filter (λ t. not (is_parenthesis t)) tokens
 
 -- the forms without the else lines that an end line follows directly
 abbrev pub without_empty_elses : List Form → List Form
