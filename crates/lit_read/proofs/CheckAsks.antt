@@ -5,7 +5,7 @@ use Rattle.std.specs.Str.{bytes_eq}
 use Rattle.std.proofs.lemmas.Bool.{le-leb}
 use Rattle.std.proofs.lemmas.Slice.Eq.{bytes_eq-Decides}
 use Rattle.lit_read.specs.declared.limits.TheConstants.{REGISTERS, COMPARED_LIMIT, DEPTH_LIMIT}
-use Rattle.lit_read.specs.Syntax.{End, writes, Condition, Conditions, Any, All, Not, Is, NoMore, Also, condition_count, Agent, Litmus, IsConditionOn, AreConditionsOn, tight_parentheses, loose_parentheses, condition_depth, any_depth, all_depth, IsLitmus}
+use Rattle.lit_read.specs.Syntax.{End, writes, Condition, Conditions, Any, All, Not, Is, NoMore, Also, Agent, Litmus, IsConditionOn, AreConditionsOn, tight_parentheses, loose_parentheses, condition_depth, any_depth, all_depth, IsLitmus}
 use Rattle.lit_read.specs.Tokens.{IsWord}
 use Rattle.lit_read.specs.Written.{Comparison, Operand, Compared, Negated, Grouped, Conjunction, Lone, Both, Written, Single, Either, operand_depths, conjunction_depths, written_depths}
 use Rattle.lit_read.specs.Forms.{CheckLine, IsForm}

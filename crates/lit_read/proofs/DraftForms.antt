@@ -6,11 +6,11 @@ use Rattle.std.specs.Str.{bytes_eq}
 use Rattle.std.proofs.lemmas.Bool.{eqb-true}
 use Rattle.lit_read.specs.Syntax.{Statements, Agent, Litmus, writes}
 use Rattle.lit_read.specs.Forms.{Form, Blank, TestLine, BytesLine, AgentLine, StatementLine, IfLine, ElseLine, EndLine, CheckLine}
-use Rattle.lit_read.specs.Structure.{AreStatements, AreAgents}
+use Rattle.lit_read.specs.Structure.{is_body_line, AreStatements, AreAgents}
 use Rattle.lit_read.specs.Faults.{is_block_line, is_agent_line, is_check_line, is_begun, ends_in_test, open_behind, open_ifs, is_in_then, is_empty, block_of, names_of, line_writes, lines_write, agent_writes, is_misplaced}
 use Rattle.lit_read.specs.Spelling.{AreFormsOf}
 use Rattle.lit_read.specs.Reading.State.{State, Empty, Named, Sized, Open, Whole, Level, with_agent, body_named, IsUnfinished}
-use Rattle.lit_read.proofs.SpellLemmas.{fold-append, any_joined, all_joined, is_body_line, are_body_lines, statements_body, statements_open, any_writes, statements_wrote}
+use Rattle.lit_read.proofs.SpellLemmas.{fold-append, any_joined, all_joined, are_body_lines, statements_body, statements_open, any_writes, statements_wrote}
 
 -- ---- the forms of a draft
 
@@ -64,7 +64,7 @@ agents_open front [] o h = ap (fold open_behind o) h
 agents_open front (a ∷ others) o h = ap (fold open_behind o) h.2 ∙ fold-append open_behind o h.0 h.1 ∙ ap (λ (p : List Bool). fold open_behind p h.1) (statements_open h.0 a.body o h.3) ∙ agents_open h.1 others o h.4
 
 -- lines of which none is of a kind
-abbrev IsOther : (Form → Bool) → Type 0
+abbrev pub IsOther : (Form → Bool) → Type 0
 IsOther p = (f : Form) → is_body_line f ≡ true → p f ≡ false
 
 any_body : (p : Form → Bool) (fs : List Form) → IsOther p → are_body_lines fs ≡ true → list_any p fs ≡ false
@@ -84,7 +84,7 @@ abbrev is_test_line : Form → Bool
 is_test_line (TestLine n) = true
 is_test_line _ = false
 
-other_check : IsOther is_check_line
+pub other_check : IsOther is_check_line
 other_check (StatementLine s) e = refl
 other_check (IfLine r q v) e = refl
 other_check ElseLine e = refl
@@ -193,7 +193,7 @@ no_own : (reg : ℕ) (fs : List Form) (agents : List Agent) → AreAgents fs age
 no_own reg fs [] h = ap (lines_write reg) h
 no_own reg fs (a ∷ others) h = ap (lines_write reg) h.2
 
-or_nothing : (x : Bool) → (x || false) ≡ x
+pub or_nothing : (x : Bool) → (x || false) ≡ x
 or_nothing true = refl
 or_nothing false = refl
 
@@ -321,7 +321,7 @@ placed_sized m b ElseLine = refl
 placed_sized m b EndLine = refl
 placed_sized m b (CheckLine w) = refl
 
-not_not : (x : Bool) → x ≡ not (not x)
+pub not_not : (x : Bool) → x ≡ not (not x)
 not_not true = refl
 not_not false = refl
 

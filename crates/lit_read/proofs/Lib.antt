@@ -22,6 +22,7 @@ pub mod CheckSteps
 pub mod ReadLemmas
 pub mod Progress
 pub mod TestForms
+pub mod OpenIfs
 pub mod CanonicalForms
 pub mod CleanLines
 pub mod CanonicalLines

@@ -5,7 +5,7 @@ use Rattle.lit_read.specs.declared.symbols.Symbol.{Symbol}
 use Rattle.lit_read.specs.declared.symbols.Symbol.TheVariants.{And, Or, CloseParen}
 use Rattle.lit_read.specs.declared.symbols.Symbol.TheVariants.{Not as Bang}
 use Rattle.lit_read.specs.Tokens.{Token, Sign}
-use Rattle.lit_read.specs.Syntax.{End, Agent, Condition, Conditions, Any, All, Not, Is, NoMore, Also, Litmus, IsConditionOn, AreConditionsOn, IsLitmus}
+use Rattle.lit_read.specs.Syntax.{End, Condition, Conditions, Any, All, Not, Is, NoMore, Also, Litmus, IsConditionOn, AreConditionsOn, IsLitmus}
 use Rattle.lit_read.specs.Forms.{Form}
 use Rattle.lit_read.specs.Written.{Comparison, comparison_tokens, Operand, Compared, Negated, Grouped, Conjunction, Lone, Both, Written, Single, Either, operand_tokens, conjunction_tokens, written_tokens}
 use Rattle.lit_read.specs.Spelling.{operand_value, conjunction_value, written_value, operand_values, conjunction_values, AreFormsOf}

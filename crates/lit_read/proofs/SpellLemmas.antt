@@ -3,8 +3,8 @@ use Rattle.std.proofs.Common.{◌≡◌, ℕ, Bool, true, false, eqb, ◌||◌, 
 use Rattle.std.specs.Prelude.{fold}
 use Rattle.std.specs.List.{list_any, list_all}
 use Rattle.lit_read.specs.Syntax.{Statement, Statements, Load, Store, Exchange, CompareExchange, If, End, Then, statement_writes, writes}
-use Rattle.lit_read.specs.Forms.{Form, StatementLine, IfLine, ElseLine, EndLine}
-use Rattle.lit_read.specs.Structure.{IsStatement, AreStatements, AreElse}
+use Rattle.lit_read.specs.Forms.{Form, EndLine}
+use Rattle.lit_read.specs.Structure.{is_body_line, IsStatement, AreStatements, AreElse}
 use Rattle.lit_read.specs.Faults.{open_behind, line_writes}
 use Rattle.lit_read.specs.Reading.State.{followed_by}
 
@@ -27,14 +27,6 @@ all_joined p (x ∷ xs) ys a b = by (p x) refl a (all_joined p xs ys)
     by false e h f = absurd cc
 
 -- ---- the forms of statements
-
--- a line that can stand among an agent's statements
-abbrev pub is_body_line : Form → Bool
-is_body_line (StatementLine s) = true
-is_body_line (IfLine reg equal value) = true
-is_body_line ElseLine = true
-is_body_line EndLine = true
-is_body_line _ = false
 
 abbrev pub are_body_lines : List Form → Bool
 are_body_lines fs = list_all is_body_line fs

@@ -8,7 +8,7 @@ use Rattle.std.proofs.lemmas.List.{length-append}
 use Rattle.lit_read.specs.declared.fault.ReadKind.{ReadKind}
 use Rattle.lit_read.specs.declared.fault.ReadKind.TheVariants.{BlockSize, TooManyAgents, DuplicateAgent, LiteralRange, OutOfBlock, UnknownName, TooDeep}
 use Rattle.lit_read.specs.declared.limits.TheConstants.{BLOCK_LIMIT, AGENT_LIMIT, REGISTERS, COMPARED_LIMIT, IF_LIMIT}
-use Rattle.lit_read.specs.Syntax.{Statement, Statements, End, Agent, Litmus, statement_nesting, IsStatementIn}
+use Rattle.lit_read.specs.Syntax.{Statement, Statements, End, Agent, statement_nesting, IsStatementIn}
 use Rattle.lit_read.specs.Tokens.{IsWord}
 use Rattle.lit_read.specs.Written.{Written}
 use Rattle.lit_read.specs.Forms.{Form, Blank, TestLine, BytesLine, AgentLine, StatementLine, IfLine, ElseLine, EndLine, CheckLine, IsAccess, IsForm}

@@ -4,11 +4,11 @@ use Rattle.std.specs.Prelude.{fold}
 use Rattle.lit_read.specs.Syntax.{Statement, Statements, Load, Store, Exchange, CompareExchange, If, End, Then, Agent, Condition, Litmus}
 use Rattle.lit_read.specs.Written.{Written}
 use Rattle.lit_read.specs.Forms.{Form, Blank, TestLine, BytesLine, AgentLine, StatementLine, IfLine, ElseLine, EndLine, CheckLine}
-use Rattle.lit_read.specs.Structure.{IsStatement, AreStatements, AreElse, AreAgents}
+use Rattle.lit_read.specs.Structure.{is_body_line, IsStatement, AreStatements, AreElse, AreAgents}
 use Rattle.lit_read.specs.Spelling.{written_value, AreFormsOf}
 use Rattle.lit_read.specs.Canonical.{statement_forms, statements_forms, else_forms, agents_forms, starts_with_end, without_empty_elses}
 use Rattle.lit_read.specs.Reading.State.{Level, followed_by, else_level, ended_if}
-use Rattle.lit_read.proofs.SpellLemmas.{fold-append, is_body_line, are_body_lines, statements_body}
+use Rattle.lit_read.proofs.SpellLemmas.{fold-append, are_body_lines, statements_body}
 
 -- ---- the statements that lines make
 

@@ -1,5 +1,5 @@
 -- The faults of a text (this project's own). The first faulty line decides, and of one line's faults the lowest number.
-use Rattle.std.specs.Prelude.{◌≡◌, ◌⊎◌, ℕ, ◌-◌, ◌<◌, ◌≤◌, ◌==◌, ◌&&◌, ◌||◌, nat_lt, nat_le, Bool, true, false, IsTrue, if◌then◌else◌, List, [], ◌∷◌, length, slice_index_or, take, not, fold}
+use Rattle.std.specs.Prelude.{◌≡◌, ◌⊎◌, ℕ, ◌-◌, ◌<◌, ◌≤◌, ◌==◌, ◌&&◌, ◌||◌, nat_lt, nat_le, Bool, true, false, IsTrue, if◌then◌else◌, List, [], ◌∷◌, ◌++◌, length, slice_index_or, take, not, fold}
 use Rattle.std.specs.List.{list_any, list_all}
 use Rattle.std.specs.Str.{bytes_eq}
 use Rattle.lit_read.specs.declared.fault.ReadKind.{ReadKind}
@@ -115,6 +115,11 @@ is_misplaced given (IfLine reg equal value) = not (is_begun given)
 is_misplaced given ElseLine = not (is_begun given) || not (is_in_then (open_ifs given))
 is_misplaced given EndLine = not (is_begun given) || is_empty (open_ifs given)
 is_misplaced given (CheckLine w) = not (is_begun given) || not (is_empty (open_ifs given))
+
+-- whether none of the forms is misplaced behind these and those of them that come before it
+abbrev pub none_misplaced : List Form → List Form → Bool
+none_misplaced given [] = true
+none_misplaced given (f ∷ fs) = not (is_misplaced given f) && none_misplaced (given ++ f ∷ []) fs
 
 -- the block has no byte, or too many
 abbrev pub is_wrong_block : Form → Bool

@@ -1,15 +1,16 @@
 //! What holds of texts and tests by the definitions alone, so that each answer of `read` comes exactly where it is due.
 
-ghost use Rattle.std.specs.Prelude.{◌≡◌, ◌≤◌, ◌⊎◌, ◌∷◌, ◌++◌, [], ℕ, List, length, true};
-ghost use Rattle.std.specs.List.{list_all};
+ghost use Rattle.std.specs.Prelude.{◌≡◌, ◌≤◌, ◌⊎◌, ◌∷◌, ◌++◌, [], ℕ, Bool, List, length, true};
+ghost use Rattle.std.specs.List.{list_all, AllByRecursion};
 ghost use Rattle.lit_read.specs.declared.fault.ReadKind.{ReadKind};
 ghost use Rattle.lit_read.specs.declared.limits.TheConstants.{TEXT_LIMIT};
 ghost use Rattle.lit_read.specs.Syntax.{Litmus, IsLitmus};
 ghost use Rattle.lit_read.specs.Lines.{lines_of, ended_lines, is_whole_line};
 ghost use Rattle.lit_read.specs.Tokens.{Token, CutsInto};
 ghost use Rattle.lit_read.specs.Written.{written_tokens};
-ghost use Rattle.lit_read.specs.Forms.{Form, HasForm, HaveForms, without_blanks};
-ghost use Rattle.lit_read.specs.Faults.{HasFault, IsFirstFault, is_allowed, is_shallow};
+ghost use Rattle.lit_read.specs.Forms.{Form, IsForm, HasForm, HaveForms, without_blanks};
+ghost use Rattle.lit_read.specs.Structure.{is_body_line, LeaveOpen};
+ghost use Rattle.lit_read.specs.Faults.{HasFault, IsFirstFault, is_allowed, is_begun, is_shallow, none_misplaced, open_ifs};
 ghost use Rattle.lit_read.specs.Spelling.{Spells, AreFormsOf};
 ghost use Rattle.lit_read.specs.Canonical.{canonical_forms, without_empty_elses, without_parentheses};
 ghost use Rattle.lit_read.specs.CanonicalText.{canonical};
@@ -47,6 +48,13 @@ pub fn forms_of_one_test()
 pub fn has_canonical_forms()
     ensures its { (t : Litmus) → IsLitmus t → AreFormsOf (canonical_forms t) t }
     ensures only { (t u : Litmus) → IsLitmus t → AreFormsOf (canonical_forms t) u → u ≡ t }
+{}
+
+/// Behind an agent's line and forms of statements, none of them misplaced, those `if`s are open that the forms leave open:
+/// so none is open exactly where the forms are those of whole statements. Forms that leave `if`s open are not misplaced.
+pub fn leaves_ifs_open()
+    ensures left { (given forms : List Form) → is_begun given ≡ true → open_ifs given ≡ [] → list_all is_body_line forms ≡ true → AllByRecursion IsForm forms → none_misplaced given forms ≡ true → LeaveOpen (open_ifs (given ++ forms)) forms }
+    ensures told { (given forms : List Form) → is_begun given ≡ true → open_ifs given ≡ [] → (opened : List Bool) → LeaveOpen opened forms → (none_misplaced given forms ≡ true) × (open_ifs (given ++ forms) ≡ opened) }
 {}
 
 /// Forms of one test differ by else lines with an empty part alone, and in their check lines by parentheses alone.

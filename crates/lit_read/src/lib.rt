@@ -31,8 +31,8 @@ pub use checking::writes;
 pub use fault::{ReadFault, ReadKind};
 pub use laws::{
     cuts_one_way, differ_by_nothing_else, each_text_is_told, forms_of_one_test,
-    has_canonical_forms, has_canonical_text, has_one_first_fault, has_one_form, lines_are_joined,
-    spells_its_test, spells_one_test, spells_or_is_faulty, spells_where_it_can,
+    has_canonical_forms, has_canonical_text, has_one_first_fault, has_one_form, leaves_ifs_open,
+    lines_are_joined, spells_its_test, spells_one_test, spells_or_is_faulty, spells_where_it_can,
     spells_within_limits,
 };
 pub use limits::{AGENT_LIMIT, BLOCK_LIMIT, REGISTERS, TEXT_LIMIT};
