@@ -8,9 +8,11 @@ use Rattle.lit_read.specs.Syntax.{Statement, Statements, Load, Store, Exchange, 
 use Rattle.lit_read.specs.Lines.{lines_of, lines_from, ended_lines}
 use Rattle.lit_read.specs.Tokens.{IsWord}
 use Rattle.lit_read.specs.Forms.{Form, Blank, TestLine, BytesLine, AgentLine, StatementLine, IfLine, ElseLine, EndLine, CheckLine, spelled, IsAccess, IsForm, HasForm, HaveForms, without_blanks}
-use Rattle.lit_read.specs.Faults.{is_allowed, is_shallow}
+use Rattle.lit_read.specs.Faults.{is_allowed}
+use Rattle.lit_read.specs.Written.{is_shallow}
 use Rattle.lit_read.specs.Spelling.{written_value, AreFormsOf, Spells}
-use Rattle.lit_read.specs.Canonical.{statement_forms, statements_forms, else_forms, agents_forms, written_of, canonical_forms}
+use Rattle.lit_read.specs.Canonical.{statement_forms, statements_forms, else_forms, agents_forms, canonical_forms}
+use Rattle.lit_read.specs.Parentheses.{written_of}
 use Rattle.lit_read.specs.CanonicalText.{form_text, canonical}
 use Rattle.lit_read.specs.Reading.State.{State, Empty, Whole, step}
 use Rattle.lit_read.specs.Reading.LineSteps.{IsLine, LineStep}
@@ -25,7 +27,7 @@ use Rattle.lit_read.proofs.CleanLines.{IsClean, is_printable, all_weaker}
 use Rattle.lit_read.proofs.CanonicalLines.{test_clean, agent_clean, bytes_clean, if_clean, else_clean, end_clean, statement_clean}
 use Rattle.lit_read.proofs.CanonicalConditions.{check_clean}
 use Rattle.lit_read.proofs.CanonicalForms.{written_back, canonical_are}
-use Rattle.lit_read.proofs.CheckAsks.{check_writable, check_form, shallow_written}
+use Rattle.lit_read.proofs.CheckAsks.{check_writable, check_form}
 use Rattle.lit_read.proofs.TestSteps.{Reaches, test_reached}
 
 -- ---- each line
@@ -187,7 +189,7 @@ spells : (text : List ℕ) (fs : List Form) (t : Litmus) → length text ≤ TEX
 spells text fs t short are reached = runs (suc (length (lines_of text))) text fs 0 Empty t (Some text) (progress_begins text short) (omega arith) are reached
 
 canonical_reached : (t : Litmus) → IsLitmus t → Reaches Empty (canonical_forms t) (Whole t)
-canonical_reached t is = test_reached t (canonical_forms t) is (canonical_are t is) (shallow_written t.agents t.check is.shallow)
+canonical_reached t is = test_reached t (canonical_forms t) is (canonical_are t is) is.shallow
 
 pub canonical_spells : (t : Litmus) → IsLitmus t → length (canonical t) ≤ TEXT_LIMIT → Spells (canonical t) t
 canonical_spells t is short =

@@ -1,21 +1,19 @@
 -- The check line of a test asks what it may.
-use Rattle.std.proofs.Common.{◌≡◌, ℕ, suc, ◌+◌, ◌<◌, ◌≤◌, Bool, true, false, cond, leb, List, [], ◌∷◌, length, get_or, refl, ap, sym, subst, ◌∙◌, arith, add-one}
+use Rattle.std.proofs.Common.{◌≡◌, ℕ, suc, ◌+◌, ◌<◌, Bool, true, false, cond, leb, List, [], ◌∷◌, length, get_or, refl, ap, sym, subst, ◌∙◌, arith, add-one}
 use Rattle.std.specs.List.{AllByRecursion}
 use Rattle.std.specs.Str.{bytes_eq}
 use Rattle.std.proofs.lemmas.Bool.{le-leb}
 use Rattle.std.proofs.lemmas.Slice.Eq.{bytes_eq-Decides}
-use Rattle.lit_read.specs.declared.limits.TheConstants.{REGISTERS, COMPARED_LIMIT, DEPTH_LIMIT}
-use Rattle.lit_read.specs.Syntax.{End, writes, Condition, Conditions, Any, All, Not, Is, NoMore, Also, Agent, Litmus, IsConditionOn, AreConditionsOn, tight_parentheses, loose_parentheses, condition_depth, any_depth, all_depth, IsLitmus}
+use Rattle.lit_read.specs.declared.limits.TheConstants.{REGISTERS, COMPARED_LIMIT}
+use Rattle.lit_read.specs.Syntax.{End, writes, Agent, Litmus, IsConditionOn, AreConditionsOn, IsLitmus}
 use Rattle.lit_read.specs.Tokens.{IsWord}
 use Rattle.lit_read.specs.Written.{Comparison, Operand, Compared, Negated, Grouped, Conjunction, Lone, Both, Written, Single, Either, operand_depths, conjunction_depths, written_depths}
 use Rattle.lit_read.specs.Forms.{CheckLine, IsForm}
-use Rattle.lit_read.specs.Faults.{has_small_numbers, is_shallow}
+use Rattle.lit_read.specs.Faults.{has_small_numbers}
 use Rattle.lit_read.specs.Spelling.{place_of, numbered, operand_value, conjunction_value, written_value, operand_values, conjunction_values}
-use Rattle.lit_read.specs.Canonical.{operand_of, conjunction_of, all_written, any_written, written_of}
 use Rattle.lit_read.specs.Reading.State.{body_named, is_known, are_known}
-use Rattle.lit_read.proofs.CanonicalConditions.{all_both, all_weaker, all_pass, IsWritable, AreWritable}
-
--- ---- what a check line of the test asks
+use Rattle.lit_read.proofs.ListLemmas.{all_both, all_weaker, all_pass}
+use Rattle.lit_read.proofs.CanonicalConditions.{IsWritable, AreWritable}
 
 -- the first agent of a name
 pub named_there : (name : List ℕ) (agents : List Agent) (d : Agent) → place_of name agents < length agents → ((get_or agents (place_of name agents) d).name ≡ name) × ((get_or agents (place_of name agents) d).body ≡ body_named name agents)
@@ -79,43 +77,3 @@ module _ (t : Litmus) (is : IsLitmus t) where
 
     pub check_known : are_known t.agents w ≡ true
     check_known = all_pass IsAsked (λ p. is_known t.agents p.0) (λ p f. f.known) (written_depths 0 w) asked
-
--- ---- how deep a condition goes, written with no more parentheses than are needed
-
-module _ (agents : List Agent) where
-  abbrev AreWithin : ℕ → List (Comparison × ℕ) → Type 0
-  AreWithin most ps = AllByRecursion (λ p. p.1 ≤ most) ps
-
-  mutual
-    operand_within : (c : Condition) (n most : ℕ) → n + (condition_depth c + tight_parentheses c) ≤ most → AreWithin most (operand_depths n (operand_of agents c))
-    operand_within (Is agent reg equal value) n most le = (omega arith, tt)
-    operand_within (Not c) n most le = operand_within c (n + 1) most (omega arith)
-    operand_within (All cs) n most le = all_within cs (n + 1) most (omega arith)
-    operand_within (Any cs) n most le = any_within cs (n + 1) most (omega arith)
-
-    conjunction_within : (c : Condition) (n most : ℕ) → n + (condition_depth c + loose_parentheses c) ≤ most → AreWithin most (conjunction_depths n (conjunction_of agents c))
-    conjunction_within (Is agent reg equal value) n most le = (omega arith, tt)
-    conjunction_within (Not c) n most le = operand_within c (n + 1) most (omega arith)
-    conjunction_within (All cs) n most le = all_within cs n most (omega arith)
-    conjunction_within (Any cs) n most le = any_within cs (n + 1) most (omega arith)
-
-    all_within : (cs : Conditions) (n most : ℕ) → n + all_depth cs ≤ most → AreWithin most (conjunction_depths n (all_written agents cs))
-    all_within NoMore n most le = (omega arith, tt)
-    all_within (Also c NoMore) n most le = operand_within c n most (omega arith)
-    all_within (Also c (Also d ds)) n most le =
-        all_both (λ p. p.1 ≤ most) (operand_depths n (operand_of agents c)) (conjunction_depths n (all_written agents (Also d ds))) (operand_within c n most (omega arith)) (all_within (Also d ds) n most (omega arith))
-
-    any_within : (cs : Conditions) (n most : ℕ) → n + any_depth cs ≤ most → AreWithin most (written_depths n (any_written agents cs))
-    any_within NoMore n most le = (omega arith, tt)
-    any_within (Also c NoMore) n most le = conjunction_within c n most (omega arith)
-    any_within (Also c (Also d ds)) n most le =
-        all_both (λ p. p.1 ≤ most) (conjunction_depths n (conjunction_of agents c)) (written_depths n (any_written agents (Also d ds))) (conjunction_within c n most (omega arith)) (any_within (Also d ds) n most (omega arith))
-
-  written_within : (c : Condition) (most : ℕ) → condition_depth c ≤ most → AreWithin most (written_depths 0 (written_of agents c))
-  written_within (Is agent reg equal value) most le = (omega arith, tt)
-  written_within (Not c) most le = operand_within c 1 most (omega arith)
-  written_within (All cs) most le = all_within cs 0 most (omega arith)
-  written_within (Any cs) most le = any_within cs 0 most (omega arith)
-
-  pub shallow_written : (c : Condition) → condition_depth c ≤ DEPTH_LIMIT → is_shallow (written_of agents c) ≡ true
-  shallow_written c le = all_pass (λ p. p.1 ≤ DEPTH_LIMIT) (λ p. leb p.1 DEPTH_LIMIT) (λ p f. le-leb _ _ f) (written_depths 0 (written_of agents c)) (written_within c DEPTH_LIMIT le)

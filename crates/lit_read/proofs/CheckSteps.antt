@@ -14,9 +14,9 @@ use Rattle.lit_read.specs.declared.fault.ReadKind.TheVariants.{TooLong, NotAscii
 use Rattle.lit_read.specs.declared.syntax.Stmt.{Stmt}
 use Rattle.lit_read.specs.declared.limits.TheConstants.{AGENT_LIMIT, COMPARED_LIMIT}
 use Rattle.lit_read.specs.Syntax.{Agent, Statements, End, Condition, IsLitmus}
-use Rattle.lit_read.specs.Written.{Comparison, Operand, Compared, Negated, Grouped, Conjunction, Lone, Both, Written, Single, Either, operand_depths, conjunction_depths, written_depths}
+use Rattle.lit_read.specs.Written.{Comparison, Operand, Compared, Negated, Grouped, Conjunction, Lone, Both, Written, Single, Either, operand_depths, conjunction_depths, written_depths, is_shallow}
 use Rattle.lit_read.specs.Forms.{CheckLine, IsForm}
-use Rattle.lit_read.specs.Faults.{has_small_numbers, is_shallow}
+use Rattle.lit_read.specs.Faults.{has_small_numbers}
 use Rattle.lit_read.specs.Spelling.{written_value}
 use Rattle.lit_read.specs.Reading.Marks.{Mark, Bang, Opens, Closes, Joins, Parts, Compares, operand_marks, conjunction_marks, written_marks, is_small}
 use Rattle.lit_read.specs.Reading.Built.{build, begun}

@@ -1,3 +1,4 @@
+pub mod ListLemmas
 pub mod TreeViews
 pub mod LineLemmas
 pub mod DraftLemmas
@@ -16,6 +17,7 @@ pub mod SpellLemmas
 pub mod DraftForms
 pub mod StepHolds
 pub mod StepFaults
+pub mod DepthLemmas
 pub mod PartLemmas
 pub mod StepLemmas
 pub mod CheckSteps

@@ -8,6 +8,7 @@ use Rattle.lit_read.specs.Forms.{Form, Blank, TestLine, BytesLine, AgentLine, St
 use Rattle.lit_read.specs.Structure.{is_body_line, IsStatement, AreStatements, AreElse, IsOpenPart, LeaveOpen}
 use Rattle.lit_read.specs.Faults.{is_agent_line, is_check_line, is_begun, open_behind, open_ifs, is_in_then, is_empty, is_misplaced, none_misplaced}
 use Rattle.lit_read.specs.Reading.State.{followed_by}
+use Rattle.lit_read.proofs.ListLemmas.{both}
 use Rattle.lit_read.proofs.SpellLemmas.{fold-append, any_joined, are_body_lines, statement_open, statements_open, statements_added}
 use Rattle.lit_read.proofs.DraftForms.{IsOther, other_check, not_not, or_nothing}
 use Rattle.lit_read.proofs.StepHolds.{access_line, if_lines}
@@ -25,10 +26,6 @@ fits o _ = false
 abbrev all_fit : List Bool → List Form → Bool
 all_fit o [] = true
 all_fit o (f ∷ fs) = fits o f && all_fit (open_behind o f) fs
-
-both : (x y : Bool) → (x && y) ≡ true → (x ≡ true) × (y ≡ true)
-both true y e = (refl, e)
-both false y e = absurd cc
 
 fits_body : (o : List Bool) (f : Form) → fits o f ≡ true → is_body_line f ≡ true
 fits_body o (StatementLine s) h = refl

@@ -9,7 +9,7 @@ use Rattle.lit_read.specs.Syntax.{End, Condition, Conditions, Any, All, Not, Is,
 use Rattle.lit_read.specs.Forms.{Form}
 use Rattle.lit_read.specs.Written.{Comparison, comparison_tokens, Operand, Compared, Negated, Grouped, Conjunction, Lone, Both, Written, Single, Either, operand_tokens, conjunction_tokens, written_tokens}
 use Rattle.lit_read.specs.Spelling.{operand_value, conjunction_value, written_value, operand_values, conjunction_values, AreFormsOf}
-use Rattle.lit_read.specs.Canonical.{named, is_parenthesis, without_parentheses}
+use Rattle.lit_read.specs.Parentheses.{named, is_parenthesis, without_parentheses}
 use Rattle.lit_read.proofs.CheckAsks.{named_there}
 
 joined_bare : (xs ys : List Token) → without_parentheses (xs ++ ys) ≡ without_parentheses xs ++ without_parentheses ys

@@ -6,10 +6,10 @@ use Rattle.lit_read.specs.declared.fault.ReadKind.{ReadKind}
 use Rattle.lit_read.specs.declared.fault.ReadKind.TheVariants.{BlockSize, TooManyAgents, DuplicateAgent, LiteralRange, OutOfBlock, UnknownName, TooDeep}
 use Rattle.lit_read.specs.declared.limits.TheConstants.{BLOCK_LIMIT, AGENT_LIMIT, COMPARED_LIMIT, IF_LIMIT}
 use Rattle.lit_read.specs.Syntax.{Statement, Statements, Load, Store, Exchange, CompareExchange, If, End, Then}
-use Rattle.lit_read.specs.Written.{Written}
+use Rattle.lit_read.specs.Written.{Written, is_shallow}
 use Rattle.lit_read.specs.Forms.{Form, Blank, TestLine, BytesLine, AgentLine, StatementLine, IfLine, ElseLine, EndLine, CheckLine, IsAccess, IsForm}
 use Rattle.lit_read.specs.Structure.{IsStatement, AreStatements, AreElse}
-use Rattle.lit_read.specs.Faults.{has_fitting_literals, stays_in_block, has_small_numbers, is_shallow}
+use Rattle.lit_read.specs.Faults.{has_fitting_literals, stays_in_block, has_small_numbers}
 use Rattle.lit_read.specs.Spelling.{written_value}
 use Rattle.lit_read.specs.Reading.State.{State, Empty, Named, Sized, Open, Whole, Level, followed_by, with_agent, else_from, ended_if, are_known, test_step, block_step, next_step, agent_step, statement_step, if_step, else_step, end_step, test_of, whole, check_step, step}
 use Rattle.lit_read.proofs.SpellLemmas.{statements_added}

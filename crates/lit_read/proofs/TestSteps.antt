@@ -6,10 +6,10 @@ use Rattle.std.proofs.lemmas.Bool.{leb-true, le-ltb, eqb-true}
 use Rattle.std.proofs.lemmas.List.{length-append, append-nil}
 use Rattle.lit_read.specs.declared.limits.TheConstants.{BLOCK_LIMIT, AGENT_LIMIT, COMPARED_LIMIT, IF_LIMIT}
 use Rattle.lit_read.specs.Syntax.{fits_window, Statement, Statements, Load, Store, Exchange, CompareExchange, If, End, Then, IsStatementIn, AreStatementsIn, statement_nesting, nesting, Condition, Agent, Litmus, IsLitmus}
-use Rattle.lit_read.specs.Written.{Written}
+use Rattle.lit_read.specs.Written.{Written, is_shallow}
 use Rattle.lit_read.specs.Forms.{Form, TestLine, BytesLine, AgentLine, StatementLine, IfLine, ElseLine, EndLine, CheckLine}
 use Rattle.lit_read.specs.Structure.{IsStatement, AreStatements, AreElse, AreAgents}
-use Rattle.lit_read.specs.Faults.{has_fitting_literals, stays_in_block, is_shallow}
+use Rattle.lit_read.specs.Faults.{has_fitting_literals, stays_in_block}
 use Rattle.lit_read.specs.Spelling.{written_value, AreFormsOf}
 use Rattle.lit_read.specs.Reading.State.{Level, State, Empty, Named, Sized, Open, Whole, followed_by, with_agent, else_level, are_known, test_step, block_step, next_step, agent_step, statement_step, if_step, else_step, end_step, check_step, step}
 use Rattle.lit_read.proofs.TestForms.{behind, behind_end, behind_one, new_level}

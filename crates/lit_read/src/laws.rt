@@ -7,12 +7,13 @@ ghost use Rattle.lit_read.specs.declared.limits.TheConstants.{TEXT_LIMIT};
 ghost use Rattle.lit_read.specs.Syntax.{Litmus, IsLitmus};
 ghost use Rattle.lit_read.specs.Lines.{lines_of, ended_lines, is_whole_line};
 ghost use Rattle.lit_read.specs.Tokens.{Token, CutsInto};
-ghost use Rattle.lit_read.specs.Written.{written_tokens};
+ghost use Rattle.lit_read.specs.Written.{written_tokens, is_shallow};
 ghost use Rattle.lit_read.specs.Forms.{Form, IsForm, HasForm, HaveForms, without_blanks};
 ghost use Rattle.lit_read.specs.Structure.{is_body_line, LeaveOpen};
-ghost use Rattle.lit_read.specs.Faults.{HasFault, IsFirstFault, is_allowed, is_begun, is_shallow, none_misplaced, open_ifs};
+ghost use Rattle.lit_read.specs.Faults.{HasFault, IsFirstFault, is_allowed, is_begun, none_misplaced, open_ifs};
 ghost use Rattle.lit_read.specs.Spelling.{Spells, AreFormsOf};
-ghost use Rattle.lit_read.specs.Canonical.{canonical_forms, without_empty_elses, without_parentheses};
+ghost use Rattle.lit_read.specs.Canonical.{canonical_forms, without_empty_elses};
+ghost use Rattle.lit_read.specs.Parentheses.{without_parentheses};
 ghost use Rattle.lit_read.specs.CanonicalText.{canonical};
 
 /// A text is its lines, none of which has a byte 10, each with a byte 10 behind it. Where the text does not end with a
