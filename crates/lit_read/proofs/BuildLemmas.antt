@@ -2,6 +2,7 @@
 use Rattle.std.proofs.Common.{◌≡◌, ℕ, zero, suc, ◌+◌, ◌<◌, ◌≤◌, Bool, true, false, cond, leb, ◌&&◌, List, [], ◌∷◌, ◌++◌, Result, Ok, Err, refl, ap, sym, ◌∙◌, arith, append_assoc, add-one, add-zero}
 use Rattle.std.specs.List.{list_all}
 use Rattle.std.proofs.lemmas.Bool.{leb-true, leb-false}
+use Rattle.std.proofs.lemmas.List.{append-nil}
 use Rattle.lit_read.specs.declared.fault.ReadKind.{ReadKind}
 use Rattle.lit_read.specs.declared.fault.ReadKind.TheVariants.{TooDeep}
 use Rattle.lit_read.specs.declared.limits.TheConstants.{DEPTH_LIMIT}
@@ -199,15 +200,11 @@ module _ (agents : List Agent) where
         ∙ written_builds w depth (pushed any (conjunction_value agents c)) outer rest low)
         ∙ sym (ap (λ b. cond b (build agents (inside (frame depth 0 (any_behind (pushed any (conjunction_value agents c)) w) (all_behind w)) outer) rest) deep) (all_joined shallow (conjunction_depths depth c) (written_depths depth w)))
 
-  no_nil : (ms : List Mark) → ms ++ [] ≡ ms
-  no_nil [] = refl
-  no_nil (m ∷ ms) = ap (λ (x : List Mark). m ∷ x) (no_nil ms)
-
   ended : (f : Frame) → build agents (inside f []) [] ≡ Ok (asked f)
   unfolding build
   ended f = refl
 
   pub built : (w : Written) → build agents begun (written_marks w) ≡ cond (is_shallow w) (Ok (written_value agents w)) (Err TooDeep)
   built w =
-      ap (build agents begun) (sym (no_nil (written_marks w))) ∙ written_builds w 0 NoMore [] [] (omega arith)
+      ap (build agents begun) (sym (append-nil (written_marks w))) ∙ written_builds w 0 NoMore [] [] (omega arith)
       ∙ ap (λ (r : Result Condition ReadKind). cond (is_shallow w) r deep) (ended (frame 0 0 (any_behind NoMore w) (all_behind w)) ∙ ap (λ (c : Condition). Ok c) (asks 0 w))

@@ -1,5 +1,5 @@
--- Facts of each member of a list.
-use Rattle.std.proofs.Common.{◌≡◌, Bool, true, false, ◌&&◌, List, [], ◌∷◌, ◌++◌, refl}
+-- Facts of each member of a list, and of two truth values.
+use Rattle.std.proofs.Common.{◌≡◌, Bool, true, false, ◌||◌, ◌&&◌, List, [], ◌∷◌, ◌++◌, refl}
 use Rattle.std.specs.List.{AllByRecursion, list_all}
 
 pub all_both : {A : Type 0} (P : A → Type 0) (xs ys : List A) → AllByRecursion P xs → AllByRecursion P ys → AllByRecursion P (xs ++ ys)
@@ -21,6 +21,10 @@ all_pass P q f (x ∷ xs) a = rw (f x a.0) (all_pass P q f xs a.1)
 pub both : (x y : Bool) → (x && y) ≡ true → (x ≡ true) × (y ≡ true)
 both true y e = (refl, e)
 both false y e = absurd cc
+
+pub neither : (x y : Bool) → (x || y) ≡ false → (x ≡ false) × (y ≡ false)
+neither true y e = absurd cc
+neither false y e = (refl, e)
 
 pub all_passed : {A : Type 0} (P : A → Type 0) (q : A → Bool) → ((x : A) → q x ≡ true → P x) → (xs : List A) → list_all q xs ≡ true → AllByRecursion P xs
 all_passed P q f [] e = tt

@@ -9,8 +9,8 @@ use Rattle.lit_read.specs.Structure.{is_body_line, IsStatement, AreStatements, A
 use Rattle.lit_read.specs.Faults.{is_agent_line, is_check_line, is_begun, open_behind, open_ifs, is_in_then, is_empty, is_misplaced, none_misplaced}
 use Rattle.lit_read.specs.Reading.State.{followed_by}
 use Rattle.lit_read.proofs.ListLemmas.{both}
-use Rattle.lit_read.proofs.SpellLemmas.{fold-append, any_joined, are_body_lines, statement_open, statements_open, statements_added}
-use Rattle.lit_read.proofs.DraftForms.{IsOther, other_check, not_not, or_nothing}
+use Rattle.lit_read.proofs.SpellLemmas.{fold-append, any_joined, are_body_lines, statement_open, statements_open, statements_added, or_right_false}
+use Rattle.lit_read.proofs.DraftForms.{IsOther, other_check, not_not}
 use Rattle.lit_read.proofs.StepHolds.{access_line, if_lines}
 use Rattle.lit_read.proofs.TestForms.{new_level}
 
@@ -71,7 +71,7 @@ other_agent (AgentLine n) e = absurd cc
 other_agent (CheckLine w) e = refl
 
 any_more : (p : Form → Bool) (given : List Form) (f : Form) → IsOther p → is_body_line f ≡ true → list_any p (given ++ f ∷ []) ≡ list_any p given
-any_more p given f other body = any_joined p given (f ∷ []) ∙ ap (λ (b : Bool). list_any p given || (b || false)) (other f body) ∙ or_nothing (list_any p given)
+any_more p given f other body = any_joined p given (f ∷ []) ∙ ap (λ (b : Bool). list_any p given || (b || false)) (other f body) ∙ or_right_false (list_any p given)
 
 begun_on : (given : List Form) (f : Form) → is_begun given ≡ true → is_body_line f ≡ true → is_begun (given ++ f ∷ []) ≡ true
 begun_on given f begun body = rw (any_more is_agent_line given f other_agent body, any_more is_check_line given f other_check body) begun

@@ -16,10 +16,7 @@ use Rattle.lit_read.specs.Faults.{has_fitting_literals, stays_in_block, has_smal
 use Rattle.lit_read.specs.Spelling.{written_value}
 use Rattle.lit_read.specs.Reading.State.{State, Empty, Named, Sized, Open, Whole, Level, followed_by, with_agent, are_known, else_level, else_from, ended_if, test_step, block_step, next_step, agent_step, statement_step, if_step, else_step, end_step, test_of, whole, check_step, step, IsPart, AreAgentsIn, IsState}
 use Rattle.lit_read.proofs.PartLemmas.{all_added, all_changed, distinct_changed, distinct_added, part_followed, statement_in, is_litmus}
-
-neither : (x y : Bool) → (x || y) ≡ false → (x ≡ false) × (y ≡ false)
-neither true y e = absurd cc
-neither false y e = (refl, e)
+use Rattle.lit_read.proofs.ListLemmas.{neither}
 
 abbrev good : State → Result State ReadKind
 good s = Ok s

@@ -207,10 +207,6 @@ mutual
       ∙ ap (λ (b : Bool). cond b (plain (h.0 ++ (h.1 ++ EndLine ∷ rest))) (ElseLine ∷ plain (h.0 ++ (h.1 ++ EndLine ∷ rest)))) (no_end_first h.0 (h.1 ++ EndLine ∷ rest) s h.3)
       ∙ ap (λ (l : List Form). ElseLine ∷ l) (statement_plain h.0 (h.1 ++ EndLine ∷ rest) s h.3 ∙ ap (λ (l : List Form). statement_forms s ++ l) (statements_plain h.1 (EndLine ∷ rest) ss h.4) ∙ sym (append_assoc (statement_forms s) (statements_forms ss) (EndLine ∷ plain rest)))
 
-no_nil : (l : List Form) → l ++ [] ≡ l
-no_nil [] = refl
-no_nil (x ∷ l) = ap (λ (m : List Form). x ∷ m) (no_nil l)
-
 pub agents_plain : (fs : List Form) (agents : List Agent) → AreAgents fs agents → plain fs ≡ agents_forms agents
 agents_plain fs [] h = ap plain h
 agents_plain fs (a ∷ others) h = ap plain h.2 ∙ ap (λ (l : List Form). AgentLine a.name ∷ l) (statements_plain h.0 h.1 a.body h.3 ∙ ap (λ (l : List Form). statements_forms a.body ++ l) (agents_plain h.1 others h.4))
