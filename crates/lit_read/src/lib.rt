@@ -2,8 +2,9 @@
 //!
 //! `read` ensures that an `Ok` test is the one that the text spells, and that an `Err` is its first fault or want of
 //! memory; `show` that an `Ok` is the canonical text, which spells the test. The definitions stand in specs/: `Lines`,
-//! `Tokens`, `Written` (conditions as they are written), `Forms`, `Structure`, `Faults`, `Spelling`, `Canonical` and
-//! `CanonicalText`, and in `Syntax` what a test is. What stands in the folder `Reading` serves private contracts alone.
+//! `Tokens`, `Written` (conditions as they are written), `Parentheses`, `Forms`, `Structure`, `Faults`, `Spelling`,
+//! `Canonical` and `CanonicalText`, and in `Trees` and `Syntax` what a test is. What stands in the folder `Reading` serves
+//! private contracts alone.
 #![tactic(auto)]
 
 mod access_forms;
