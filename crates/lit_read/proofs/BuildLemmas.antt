@@ -2,12 +2,12 @@
 use Rattle.std.proofs.Common.{◌≡◌, ℕ, zero, suc, ◌+◌, ◌<◌, ◌≤◌, Bool, true, false, cond, leb, ◌&&◌, List, [], ◌∷◌, ◌++◌, Result, Ok, Err, refl, ap, sym, ◌∙◌, arith, append_assoc, add-one, add-zero}
 use Rattle.std.specs.List.{list_all}
 use Rattle.std.proofs.lemmas.Bool.{leb-true, leb-false}
+use Rattle.std.proofs.lemmas.List.{append-nil}
 use Rattle.lit_read.specs.declared.fault.ReadKind.{ReadKind}
 use Rattle.lit_read.specs.declared.fault.ReadKind.TheVariants.{TooDeep}
 use Rattle.lit_read.specs.declared.limits.TheConstants.{DEPTH_LIMIT}
 use Rattle.lit_read.specs.Syntax.{Condition, Conditions, Not, NoMore, Also, Agent}
-use Rattle.lit_read.specs.Written.{Comparison, Operand, Compared, Negated, Grouped, Conjunction, Lone, Both, Written, Single, Either, operand_depths, conjunction_depths, written_depths}
-use Rattle.lit_read.specs.Faults.{is_shallow}
+use Rattle.lit_read.specs.Written.{Comparison, Operand, Compared, Negated, Grouped, Conjunction, Lone, Both, Written, Single, Either, operand_depths, conjunction_depths, written_depths, is_shallow}
 use Rattle.lit_read.specs.Spelling.{numbered, operand_value, conjunction_value, written_value, operand_values, conjunction_values}
 use Rattle.lit_read.specs.Reading.Marks.{Mark, Bang, Opens, Closes, Joins, Parts, Compares, operand_marks, conjunction_marks, written_marks}
 use Rattle.lit_read.specs.Reading.Built.{Frame, Frames, pushed, negated, all_of, any_of, with_operand, asked, empty_frame, begun, build_step, and_then, build}
@@ -200,15 +200,11 @@ module _ (agents : List Agent) where
         ∙ written_builds w depth (pushed any (conjunction_value agents c)) outer rest low)
         ∙ sym (ap (λ b. cond b (build agents (inside (frame depth 0 (any_behind (pushed any (conjunction_value agents c)) w) (all_behind w)) outer) rest) deep) (all_joined shallow (conjunction_depths depth c) (written_depths depth w)))
 
-  no_nil : (ms : List Mark) → ms ++ [] ≡ ms
-  no_nil [] = refl
-  no_nil (m ∷ ms) = ap (λ (x : List Mark). m ∷ x) (no_nil ms)
-
   ended : (f : Frame) → build agents (inside f []) [] ≡ Ok (asked f)
   unfolding build
   ended f = refl
 
   pub built : (w : Written) → build agents begun (written_marks w) ≡ cond (is_shallow w) (Ok (written_value agents w)) (Err TooDeep)
   built w =
-      ap (build agents begun) (sym (no_nil (written_marks w))) ∙ written_builds w 0 NoMore [] [] (omega arith)
+      ap (build agents begun) (sym (append-nil (written_marks w))) ∙ written_builds w 0 NoMore [] [] (omega arith)
       ∙ ap (λ (r : Result Condition ReadKind). cond (is_shallow w) r deep) (ended (frame 0 0 (any_behind NoMore w) (all_behind w)) ∙ ap (λ (c : Condition). Ok c) (asks 0 w))

@@ -1,7 +1,7 @@
 -- The check line of a test: clean, and asking what it may.
 use Rattle.std.proofs.Common.{◌≡◌, ℕ, ◌+◌, ◌<◌, ◌≤◌, Bool, true, false, eqb, List, [], ◌∷◌, ◌++◌, refl, ap, sym, subst, ◌∙◌, append_assoc, arith}
 use Rattle.std.specs.Prelude.{codes}
-use Rattle.std.specs.List.{AllByRecursion, list_all}
+use Rattle.std.specs.List.{AllByRecursion}
 use Rattle.std.specs.Char.{is_ascii_digit}
 use Rattle.std.specs.Fmt.{decimal}
 use Rattle.std.proofs.lemmas.Bool.Decides.{nat_tests}
@@ -12,25 +12,8 @@ use Rattle.lit_read.specs.Tokens.{Token, Sign, begins_with, begins_word, IsWord}
 use Rattle.lit_read.specs.Written.{Comparison, Operand, Compared, Negated, Grouped, Conjunction, Lone, Both, Written, Single, Either, comparison_tokens, operand_tokens, conjunction_tokens, written_tokens, operand_depths, conjunction_depths, written_depths}
 use Rattle.lit_read.specs.Forms.{CheckLine, spelled}
 use Rattle.lit_read.specs.CanonicalText.{joined, register_text, relation_text, comparison_text, operand_text, conjunction_text, written_text, form_text}
+use Rattle.lit_read.proofs.ListLemmas.{all_parts}
 use Rattle.lit_read.proofs.CleanLines.{IsClean, clean_nil, clean_blank, word_is, clean_word, clean_sign, clean_number, clean_register, onto, onto_is}
-
--- ---- facts of each member of a list
-
-pub all_both : {A : Type 0} (P : A → Type 0) (xs ys : List A) → AllByRecursion P xs → AllByRecursion P ys → AllByRecursion P (xs ++ ys)
-all_both P [] ys a b = b
-all_both P (x ∷ xs) ys a b = (a.0, all_both P xs ys a.1 b)
-
-all_parts : {A : Type 0} (P : A → Type 0) (xs ys : List A) → AllByRecursion P (xs ++ ys) → AllByRecursion P xs × AllByRecursion P ys
-all_parts P [] ys a = (tt, a)
-all_parts P (x ∷ xs) ys a = let parts = all_parts P xs ys a.1 in ((a.0, parts.0), parts.1)
-
-pub all_weaker : {A : Type 0} (P Q : A → Type 0) → ((x : A) → P x → Q x) → (xs : List A) → AllByRecursion P xs → AllByRecursion Q xs
-all_weaker P Q f [] a = tt
-all_weaker P Q f (x ∷ xs) a = (f x a.0, all_weaker P Q f xs a.1)
-
-pub all_pass : {A : Type 0} (P : A → Type 0) (q : A → Bool) → ((x : A) → P x → q x ≡ true) → (xs : List A) → AllByRecursion P xs → list_all q xs ≡ true
-all_pass P q f [] a = refl
-all_pass P q f (x ∷ xs) a = rw (f x a.0) (all_pass P q f xs a.1)
 
 -- ---- clean conditions
 

@@ -5,7 +5,8 @@ use Rattle.std.proofs.lemmas.Slice.Eq.{bytes_eq-Decides}
 use Rattle.lit_read.specs.Syntax.{Statement, Statements, Load, Store, Exchange, CompareExchange, If, End, Then, Condition, Conditions, Any, All, Not, Is, NoMore, Also, condition_count, Agent, Litmus, IsConditionOn, AreConditionsOn, IsLitmus}
 use Rattle.lit_read.specs.Structure.{IsStatement, AreStatements, AreElse, AreAgents}
 use Rattle.lit_read.specs.Spelling.{place_of, operand_value, conjunction_value, written_value, operand_values, conjunction_values, AreFormsOf}
-use Rattle.lit_read.specs.Canonical.{statement_forms, statements_forms, else_forms, agents_forms, named, operand_of, conjunction_of, all_written, any_written, written_of, canonical_forms}
+use Rattle.lit_read.specs.Canonical.{statement_forms, statements_forms, else_forms, agents_forms, canonical_forms}
+use Rattle.lit_read.specs.Parentheses.{named, operand_of, conjunction_of, all_written, any_written, written_of}
 
 -- ---- statements and agents
 
@@ -25,7 +26,7 @@ mutual
   else_is End = inl refl
   else_is (Then s ss) = (statement_forms s, statements_forms ss, refl, statement_is s, statements_are ss)
 
-agents_are : (agents : List Agent) → AreAgents (agents_forms agents) agents
+pub agents_are : (agents : List Agent) → AreAgents (agents_forms agents) agents
 agents_are [] = refl
 agents_are (a ∷ others) = (statements_forms a.body, agents_forms others, refl, statements_are a.body, agents_are others)
 
@@ -99,5 +100,5 @@ module _ (t : Litmus) (is : IsLitmus t) where
   written_back (All cs) on = all_back cs on.0 on.1
   written_back (Any cs) on = any_back cs on.0 on.1
 
-  pub canonical_are : AreFormsOf (canonical_forms t) t
+  abbrev pub canonical_are : AreFormsOf (canonical_forms t) t
   canonical_are = record { agents = agents_forms t.agents; check = written_of t.agents t.check; parts = refl; bodies = agents_are t.agents; asks = sym (written_back t.check is.check) }

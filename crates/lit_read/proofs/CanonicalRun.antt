@@ -1,5 +1,5 @@
--- The canonical text of a test, line by line.
-use Rattle.std.proofs.Common.{◌≡◌, ℕ, suc, ◌+◌, ◌<◌, ◌≤◌, Bool, true, not, eqb, List, [], ◌∷◌, ◌++◌, length, get_or, map, take, drop, Option, Some, None, Ok, refl, ap, sym, subst, ◌∙◌, append_assoc, arith}
+-- The canonical text of a test, line by line, and any text with the forms of a test.
+use Rattle.std.proofs.Common.{◌≡◌, ℕ, zero, suc, ◌+◌, ◌<◌, ◌≤◌, Bool, true, false, not, eqb, ◌&&◌, List, [], ◌∷◌, ◌++◌, length, get_or, map, take, drop, Option, Some, None, Ok, refl, ap, sym, subst, ◌∙◌, append_assoc, arith}
 use Rattle.std.specs.List.{list_all, prefix_len}
 use Rattle.std.proofs.lemmas.Bool.Decides.{nat_tests}
 use Rattle.std.proofs.lemmas.List.{take_at, drop_at, append-nil}
@@ -7,14 +7,16 @@ use Rattle.lit_read.specs.declared.limits.TheConstants.{TEXT_LIMIT, BLOCK_LIMIT,
 use Rattle.lit_read.specs.Syntax.{Statement, Statements, Load, Store, Exchange, CompareExchange, If, End, Then, IsStatementIn, AreStatementsIn, Agent, Litmus, IsLitmus}
 use Rattle.lit_read.specs.Lines.{lines_of, lines_from, ended_lines}
 use Rattle.lit_read.specs.Tokens.{IsWord}
-use Rattle.lit_read.specs.Forms.{Form, TestLine, BytesLine, AgentLine, StatementLine, IfLine, ElseLine, EndLine, CheckLine, spelled, IsAccess, IsForm, HasForm, HaveForms, without_blanks}
+use Rattle.lit_read.specs.Forms.{Form, Blank, TestLine, BytesLine, AgentLine, StatementLine, IfLine, ElseLine, EndLine, CheckLine, spelled, IsAccess, IsForm, HasForm, HaveForms, without_blanks}
 use Rattle.lit_read.specs.Faults.{is_allowed}
-use Rattle.lit_read.specs.Spelling.{AreFormsOf, Spells}
-use Rattle.lit_read.specs.Canonical.{statement_forms, statements_forms, else_forms, agents_forms, written_of, canonical_forms}
+use Rattle.lit_read.specs.Written.{is_shallow}
+use Rattle.lit_read.specs.Spelling.{written_value, AreFormsOf, Spells}
+use Rattle.lit_read.specs.Canonical.{statement_forms, statements_forms, else_forms, agents_forms, canonical_forms}
+use Rattle.lit_read.specs.Parentheses.{written_of}
 use Rattle.lit_read.specs.CanonicalText.{form_text, canonical}
-use Rattle.lit_read.specs.Reading.State.{State, Empty, Whole}
+use Rattle.lit_read.specs.Reading.State.{State, Empty, Whole, step}
 use Rattle.lit_read.specs.Reading.LineSteps.{IsLine, LineStep}
-use Rattle.lit_read.proofs.LineLemmas.{behind, lines_split, lines_joined}
+use Rattle.lit_read.proofs.LineLemmas.{behind, lines_split, lines_pass}
 use Rattle.lit_read.proofs.CutLemmas.{run_len}
 use Rattle.lit_read.proofs.DraftForms.{Holds}
 use Rattle.lit_read.proofs.StepHolds.{step_holds}
@@ -24,8 +26,9 @@ use Rattle.lit_read.proofs.Progress.{Progress, progress_begins, progress_goes_on
 use Rattle.lit_read.proofs.CleanLines.{IsClean, is_printable, all_weaker}
 use Rattle.lit_read.proofs.CanonicalLines.{test_clean, agent_clean, bytes_clean, if_clean, else_clean, end_clean, statement_clean}
 use Rattle.lit_read.proofs.CanonicalConditions.{check_clean}
-use Rattle.lit_read.proofs.CanonicalAsks.{check_writable, check_form}
-use Rattle.lit_read.proofs.CanonicalSteps.{Reaches, test_reached}
+use Rattle.lit_read.proofs.CanonicalForms.{written_back, canonical_are}
+use Rattle.lit_read.proofs.CheckAsks.{check_writable, check_form}
+use Rattle.lit_read.proofs.TestSteps.{Reaches, test_reached}
 
 -- ---- each line
 
@@ -92,13 +95,16 @@ module _ (t : Litmus) (is : IsLitmus t) where
   unfolding IsForm
   head_shown = (record { can_stand = tt; clean = test_clean t.name is.named }, record { can_stand = tt; clean = bytes_clean t.bytes (omega (arith, is.block)) })
 
+  asks : t.check ≡ written_value t.agents (written_of t.agents t.check)
+  asks = sym (written_back t is t.check is.check)
+
   test_shown : AreShown (canonical_forms t)
   test_shown = (
     head_shown.0,
     (
       head_shown.1,
       shown_then (agents_forms t.agents) (CheckLine (written_of t.agents t.check) ∷ []) (agents_shown t.bytes t.agents is.block is.names is.bodies)
-          (record { can_stand = check_form t is; clean = check_clean (written_of t.agents t.check) (check_writable t is) }, tt),
+          (record { can_stand = check_form t is (written_of t.agents t.check) asks; clean = check_clean (written_of t.agents t.check) (check_writable t is (written_of t.agents t.check) asks) }, tt),
     ),
   )
 
@@ -147,27 +153,67 @@ module _ (t : Litmus) (is : IsLitmus t) where
 
 -- ---- the reader
 
-no_line : (text : List ℕ) → lines_of text ≡ [] → ⊥
-no_line text e = let some = (lines_joined text).0 in omega (arith, ap length e)
+-- each line has its form, and bytes that may stand in a text
+abbrev AreLines : List (List ℕ) → List Form → Type 0
+AreLines [] fs = fs ≡ []
+AreLines (l ∷ ls) fs = (f : Form) × (gs : List Form) × (fs ≡ f ∷ gs) × IsLine l f × AreLines ls gs
 
-tail_is : (k l : List ℕ) (ks ls : List (List ℕ)) → k ∷ ks ≡ l ∷ ls → (k ≡ l) × (ks ≡ ls)
-tail_is k l ks ls e = (cc, cc)
+shown_lines : (fs : List Form) → AreShown fs → AreLines (map form_text fs) fs
+shown_lines [] shown = refl
+shown_lines (f ∷ fs) shown = (f, fs, refl, line_is f shown.0, shown_lines fs shown.1)
+
+allowed_lines : (ls : List (List ℕ)) (fs : List Form) → HaveForms ls fs → list_all (λ l. list_all is_allowed l) ls ≡ true → AreLines ls fs
+unfolding HaveForms
+allowed_lines [] [] have allowed = refl
+allowed_lines [] (f ∷ fs) have allowed = absurd have
+allowed_lines (l ∷ ls) [] have allowed = absurd have
+allowed_lines (l ∷ ls) (f ∷ fs) have allowed = by (list_all is_allowed l) refl allowed (allowed_lines ls fs have.1)
+  where
+    by : (x : Bool) → list_all is_allowed l ≡ x → (x && list_all (λ l. list_all is_allowed l) ls) ≡ true → (list_all (λ l. list_all is_allowed l) ls ≡ true → AreLines ls fs) → AreLines (l ∷ ls) (f ∷ fs)
+    by true e g rest = (f, fs, refl, record { allowed = e; has = have.0 }, rest g)
+    by false e g rest = absurd cc
 
 -- Where so many lines are read, and the others have these forms, which reach the test, the text spells it.
-runs : (text : List ℕ) (fs : List Form) (number : ℕ) (s : State) (t : Litmus) (rest : Option (List ℕ)) → Progress text number s rest → lines_from rest ≡ map form_text fs → AreShown fs → Reaches s fs (Whole t) → Spells text t
-runs text [] number s t None p e shown reached = progress_spells text number t (subst (λ (x : State). Progress text number x None) reached p)
-runs text [] number s t (Some left) p e shown reached = absurd (no_line left e)
-runs text (f ∷ fs) number s t None p e shown reached = absurd cc
-runs text (f ∷ fs) number s t (Some left) p e shown reached =
-    let n = prefix_len (λ b. not (eqb b 10)) left in
-    let after = behind (drop n left) in
-    let parts = tail_is (take n left) (form_text f) (lines_from after) (map form_text fs) (sym (lines_split left) ∙ e) in
-    let is : lines_of left ≡ form_text f ∷ lines_from after = lines_split left ∙ ap (λ (l : List ℕ). l ∷ lines_from after) parts.0 in
-    let stepped : LineStep s (form_text f) (Ok reached.0) = record { form = f; is = line_is f shown.0; steps = reached.1 } in
-    runs text fs (number + 1) reached.0 t after (progress_goes_on text left (form_text f) number s after p is reached.0 stepped) parts.1 shown.1 reached.2
+runs : (n : ℕ) (text : List ℕ) (fs : List Form) (number : ℕ) (s : State) (t : Litmus) (rest : Option (List ℕ)) → Progress text number s rest → length (lines_from rest) < n → AreLines (lines_from rest) fs → Reaches s fs (Whole t) → Spells text t
+runs zero text fs number s t rest p few are reached = absurd (omega arith)
+runs (suc n) text fs number s t None p few are reached = progress_spells text number t (subst (λ (x : State). Progress text number x None) (subst (λ (gs : List Form). Reaches s gs (Whole t)) are reached) p)
+runs (suc n) text fs number s t (Some left) p few are reached =
+    let len = prefix_len (λ b. not (eqb b 10)) left in
+    let after = behind (drop len left) in
+    let parts = subst (λ (ls : List (List ℕ)). AreLines ls fs) (lines_split left) are in
+    let goes = subst (λ (gs : List Form). Reaches s gs (Whole t)) parts.2 reached in
+    let stepped : LineStep s (take len left) (Ok goes.0) = record { form = parts.0; is = parts.3; steps = goes.1 } in
+    runs n text parts.1 (number + 1) goes.0 t after (progress_goes_on text left (take len left) number s after p (lines_split left) goes.0 stepped) (omega (arith, few, ap length (lines_split left))) parts.4 goes.2
+
+spells : (text : List ℕ) (fs : List Form) (t : Litmus) → length text ≤ TEXT_LIMIT → AreLines (lines_of text) fs → Reaches Empty fs (Whole t) → Spells text t
+spells text fs t short are reached = runs (suc (length (lines_of text))) text fs 0 Empty t (Some text) (progress_begins text short) (omega arith) are reached
+
+canonical_reached : (t : Litmus) → IsLitmus t → Reaches Empty (canonical_forms t) (Whole t)
+canonical_reached t is = test_reached t (canonical_forms t) is (canonical_are t is) is.shallow
 
 pub canonical_spells : (t : Litmus) → IsLitmus t → length (canonical t) ≤ TEXT_LIMIT → Spells (canonical t) t
-canonical_spells t is short = runs (canonical t) (canonical_forms t) 0 Empty t (Some (canonical t)) (progress_begins (canonical t) short) (canonical_lines t is) (test_shown t is) (test_reached t is)
+canonical_spells t is short =
+    spells (canonical t) (canonical_forms t) t short (subst (λ (ls : List (List ℕ)). AreLines ls (canonical_forms t)) (sym (canonical_lines t is)) (shown_lines (canonical_forms t) (test_shown t is))) (canonical_reached t is)
+
+-- ---- any text with the forms of a test
+
+blanks_reached : (fs : List Form) (s t : State) → Reaches s (without_blanks fs) t → Reaches s fs t
+unfolding step
+blanks_reached [] s t h = h
+blanks_reached (Blank ∷ fs) s t h = (s, refl, blanks_reached fs s t h)
+blanks_reached (TestLine n ∷ fs) s t h = (h.0, h.1, blanks_reached fs h.0 t h.2)
+blanks_reached (BytesLine b ∷ fs) s t h = (h.0, h.1, blanks_reached fs h.0 t h.2)
+blanks_reached (AgentLine n ∷ fs) s t h = (h.0, h.1, blanks_reached fs h.0 t h.2)
+blanks_reached (StatementLine r ∷ fs) s t h = (h.0, h.1, blanks_reached fs h.0 t h.2)
+blanks_reached (IfLine r q v ∷ fs) s t h = (h.0, h.1, blanks_reached fs h.0 t h.2)
+blanks_reached (ElseLine ∷ fs) s t h = (h.0, h.1, blanks_reached fs h.0 t h.2)
+blanks_reached (EndLine ∷ fs) s t h = (h.0, h.1, blanks_reached fs h.0 t h.2)
+blanks_reached (CheckLine w ∷ fs) s t h = (h.0, h.1, blanks_reached fs h.0 t h.2)
+
+pub forms_spell : (text : List ℕ) (forms : List Form) (t : Litmus) → IsLitmus t → length text ≤ TEXT_LIMIT → list_all is_allowed text ≡ true → HaveForms (lines_of text) forms → (are : AreFormsOf (without_blanks forms) t) → is_shallow are.check ≡ true
+    → Spells text t
+forms_spell text forms t is short allowed have are shallow =
+    spells text forms t short (allowed_lines (lines_of text) forms have (lines_pass is_allowed text allowed)) (blanks_reached forms Empty (Whole t) (test_reached t (without_blanks forms) is are shallow))
 
 -- ---- its forms are those of the test
 
@@ -179,7 +225,7 @@ held before (f ∷ fs) s t shown holds reached =
     subst (λ (gs : List Form). Holds (without_blanks gs) t) (append_assoc before (f ∷ []) fs) (held (before ++ f ∷ []) fs reached.0 t shown.1 next reached.2)
 
 pub its_forms : (t : Litmus) → IsLitmus t → AreFormsOf (without_blanks (canonical_forms t)) t
-its_forms t is = held [] (canonical_forms t) Empty (Whole t) (test_shown t is) refl (test_reached t is)
+its_forms t is = held [] (canonical_forms t) Empty (Whole t) (test_shown t is) refl (canonical_reached t is)
 
 pub only_its_forms : (t u : Litmus) (forms : List Form) → IsLitmus t → HaveForms (lines_of (canonical t)) forms → AreFormsOf (without_blanks forms) u → u ≡ t
 only_its_forms t u forms is have other =

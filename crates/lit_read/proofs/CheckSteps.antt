@@ -14,17 +14,16 @@ use Rattle.lit_read.specs.declared.fault.ReadKind.TheVariants.{TooLong, NotAscii
 use Rattle.lit_read.specs.declared.syntax.Stmt.{Stmt}
 use Rattle.lit_read.specs.declared.limits.TheConstants.{AGENT_LIMIT, COMPARED_LIMIT}
 use Rattle.lit_read.specs.Syntax.{Agent, Statements, End, Condition, IsLitmus}
-use Rattle.lit_read.specs.Written.{Comparison, Operand, Compared, Negated, Grouped, Conjunction, Lone, Both, Written, Single, Either, operand_depths, conjunction_depths, written_depths}
+use Rattle.lit_read.specs.Written.{Comparison, Operand, Compared, Negated, Grouped, Conjunction, Lone, Both, Written, Single, Either, operand_depths, conjunction_depths, written_depths, is_shallow}
 use Rattle.lit_read.specs.Forms.{CheckLine, IsForm}
-use Rattle.lit_read.specs.Faults.{has_small_numbers, is_shallow}
+use Rattle.lit_read.specs.Faults.{has_small_numbers}
 use Rattle.lit_read.specs.Spelling.{written_value}
 use Rattle.lit_read.specs.Reading.Marks.{Mark, Bang, Opens, Closes, Joins, Parts, Compares, operand_marks, conjunction_marks, written_marks, is_small}
 use Rattle.lit_read.specs.Reading.Built.{build, begun}
-use Rattle.lit_read.specs.Reading.State.{State, Open, Whole, Level, with_agent, is_known, is_known_mark, are_known, next_step, agent_step, test_of, check_step, IsPart, IsState}
+use Rattle.lit_read.specs.Reading.State.{State, Open, Whole, Level, with_agent, is_known, is_known_mark, are_known, next_step, agent_step, test_of, check_step, IsState}
 use Rattle.lit_read.specs.Reading.Views.{mark_view, mark_views, level_view, agents_view, Fails}
 use Rattle.lit_read.proofs.BuildLemmas.{all_joined, built}
-use Rattle.lit_read.proofs.PartLemmas.{is_litmus}
-use Rattle.lit_read.proofs.StepLemmas.{filled}
+use Rattle.lit_read.proofs.StepLemmas.{check_kept}
 
 -- ---- the levels that a vector holds
 
@@ -183,15 +182,8 @@ module _ (name : List ℕ) (bytes : ℕ) (agents : List Agent) (agent : List ℕ
   -- the test that comes of it is one
   pub made_litmus : (w : Written) (c : Condition) → IsState draft → IsForm (CheckLine w) → mark_views xs ≡ written_marks w → length items ≡ 0 → list_all (λ m. is_small (mark_view m)) xs ≡ true
       → list_all (λ m. is_known_mark every (mark_view m)) xs ≡ true → build every begun (mark_views xs) ≡ Ok c → IsLitmus (record { name = name; bytes = bytes; agents = every; check = c })
-  unfolding IsForm IsState
-  made_litmus w c state form is none small known h =
-      let found = told name bytes agents agent body w c (sym (ap (build every begun) is ∙ built every w) ∙ h) in
-      let part : IsPart bytes 0 body = subst (λ (l : List Level). IsPart bytes (length l) body) (none_open items none) state.3 in
-      rw (← found.1) (is_litmus name bytes every w state.0 (filled bytes agents agent body state.1 part) (some_agent agents) form (sym (known_is every xs w is) ∙ known) (sym (small_is xs w is) ∙ small) found.0)
-    where
-      some_agent : (as' : List Agent) → 1 ≤ length (with_agent as' agent body)
-      some_agent [] = omega arith
-      some_agent (a ∷ others) = omega arith
+  unfolding IsState
+  made_litmus w c state form is none small known h = check_kept draft (Whole (record { name = name; bytes = bytes; agents = every; check = c })) w state form (makes w c is none small known h)
 
 views_len : (entries : List (String Global × Vec Stmt)) → length (agents_view entries) ≡ length entries
 views_len [] = refl

@@ -13,6 +13,7 @@ use Rattle.lit_read.specs.declared.limits.TheConstants.{WORD_LIMIT, DIGIT_LIMIT}
 use Rattle.lit_read.specs.Tokens.{Token, Word, Number, Sign, is_blank, begins_word, is_in_word, begins_with, IsWord, IsNumber, digits_value, has_plain_lead, symbol_text, IsTokenText, CanEndBefore, CutsOff, is_comment, IsTail}
 use Rattle.lit_read.specs.Reading.FirstToken.{pair_of, single_of, or_else, symbol_front, word_front, number_front, token_front, after_blanks}
 use Rattle.lit_read.proofs.TokenLemmas.{run_passes}
+use Rattle.lit_read.proofs.ListLemmas.{both, neither}
 
 -- ---- runs of bytes
 
@@ -134,10 +135,6 @@ cut_end line tail = rw tail.parts (rw (blanks_skipped tail.blanks tail.comment t
 chosen : {A : Type 0} (t : Bool) (x y : Option A) (z : A) → cond t (Some z) y ≡ x → ((t ≡ true) × (Some z ≡ x)) ⊎ ((t ≡ false) × (y ≡ x))
 chosen true x y z e = inl (refl, e)
 chosen false x y z e = inr (refl, e)
-
-both : (x y : Bool) → (x && y) ≡ true → (x ≡ true) × (y ≡ true)
-both true y e = (refl, e)
-both false y e = absurd cc
 
 -- a symbol of two bytes, which nothing goes on with
 abbrev IsPair : ℕ → ℕ → Symbol → Type 0
@@ -295,10 +292,6 @@ word_stands b bs t rest first e =
     let short : length (take n (b ∷ bs)) ≤ WORD_LIMIT = rw (length-prefix_len is_in_word (b ∷ bs)) (ltb-false _ _ g.0) in
     let is : IsWord (take n (b ∷ bs)) = record { first = begins; others = run_passes is_in_word (b ∷ bs); short = short } in
     rw (← t_is, ← rest_is) (record { text = take n (b ∷ bs); parts = sym (take-append-drop n (b ∷ bs)); spelled = (is, refl); longest = run_stops is_in_word (b ∷ bs) })
-
-neither : (x y : Bool) → (x || y) ≡ false → (x ≡ false) × (y ≡ false)
-neither true y e = absurd cc
-neither false y e = (refl, e)
 
 not_not : (x : Bool) → not x ≡ false → x ≡ true
 not_not true e = refl

@@ -4,13 +4,15 @@ use Rattle.std.specs.Prelude.{fold}
 use Rattle.std.specs.List.{list_any}
 use Rattle.std.specs.Str.{bytes_eq}
 use Rattle.std.proofs.lemmas.Bool.{eqb-true}
+use Rattle.std.proofs.lemmas.List.{append-nil}
 use Rattle.lit_read.specs.Syntax.{Statements, Agent, Litmus, writes}
 use Rattle.lit_read.specs.Forms.{Form, Blank, TestLine, BytesLine, AgentLine, StatementLine, IfLine, ElseLine, EndLine, CheckLine}
-use Rattle.lit_read.specs.Structure.{AreStatements, AreAgents}
+use Rattle.lit_read.specs.Structure.{is_body_line, AreStatements, AreAgents}
 use Rattle.lit_read.specs.Faults.{is_block_line, is_agent_line, is_check_line, is_begun, ends_in_test, open_behind, open_ifs, is_in_then, is_empty, block_of, names_of, line_writes, lines_write, agent_writes, is_misplaced}
 use Rattle.lit_read.specs.Spelling.{AreFormsOf}
 use Rattle.lit_read.specs.Reading.State.{State, Empty, Named, Sized, Open, Whole, Level, with_agent, body_named, IsUnfinished}
-use Rattle.lit_read.proofs.SpellLemmas.{fold-append, any_joined, all_joined, is_body_line, are_body_lines, statements_body, statements_open, any_writes, statements_wrote}
+use Rattle.lit_read.proofs.SpellLemmas.{fold-append, any_joined, all_joined, are_body_lines, statements_body, statements_open, any_writes, statements_wrote, or_right_false}
+use Rattle.lit_read.proofs.ListLemmas.{neither}
 
 -- ---- the forms of a draft
 
@@ -64,7 +66,7 @@ agents_open front [] o h = ap (fold open_behind o) h
 agents_open front (a ∷ others) o h = ap (fold open_behind o) h.2 ∙ fold-append open_behind o h.0 h.1 ∙ ap (λ (p : List Bool). fold open_behind p h.1) (statements_open h.0 a.body o h.3) ∙ agents_open h.1 others o h.4
 
 -- lines of which none is of a kind
-abbrev IsOther : (Form → Bool) → Type 0
+abbrev pub IsOther : (Form → Bool) → Type 0
 IsOther p = (f : Form) → is_body_line f ≡ true → p f ≡ false
 
 any_body : (p : Form → Bool) (fs : List Form) → IsOther p → are_body_lines fs ≡ true → list_any p fs ≡ false
@@ -84,7 +86,7 @@ abbrev is_test_line : Form → Bool
 is_test_line (TestLine n) = true
 is_test_line _ = false
 
-other_check : IsOther is_check_line
+pub other_check : IsOther is_check_line
 other_check (StatementLine s) e = refl
 other_check (IfLine r q v) e = refl
 other_check ElseLine e = refl
@@ -117,14 +119,10 @@ lone_end ElseLine = refl
 lone_end EndLine = refl
 lone_end (CheckLine w) = refl
 
-or_false : (x y : Bool) → (x || y) ≡ false → (x ≡ false) × (y ≡ false)
-or_false true y e = absurd cc
-or_false false y e = (refl, e)
-
 no_end : (f : Form) (fs : List Form) → list_any is_test_line fs ≡ false → 1 ≤ length fs → ends_in_test (f ∷ fs) ≡ false
 no_end f [] none some = absurd (omega arith)
-no_end f (g ∷ []) none some = lone_end g ∙ (or_false (is_test_line g) false none).0
-no_end f (g ∷ h ∷ fs) none some = no_end g (h ∷ fs) (or_false (is_test_line g) (list_any is_test_line (h ∷ fs)) none).1 (omega arith)
+no_end f (g ∷ []) none some = lone_end g ∙ (neither (is_test_line g) false none).0
+no_end f (g ∷ h ∷ fs) none some = no_end g (h ∷ fs) (neither (is_test_line g) (list_any is_test_line (h ∷ fs)) none).1 (omega arith)
 
 abbrev pub names : List Agent → List (List ℕ)
 names agents = map (λ a. a.name) agents
@@ -146,10 +144,6 @@ agents_names front rest [] h = ap (λ (l : List Form). names_of (l ++ rest)) h
 agents_names front rest (a ∷ others) h =
     ap (λ (l : List Form). names_of (l ++ rest)) h.2 ∙ ap (λ (l : List Form). a.name ∷ names_of l) (append_assoc h.0 h.1 rest)
     ∙ ap (λ (l : List (List ℕ)). a.name ∷ l) (names_skip h.0 (h.1 ++ rest) (statements_body h.0 a.body h.3) ∙ agents_names h.1 rest others h.4)
-
-no_nil : {A : Type 0} (l : List A) → l ++ [] ≡ l
-no_nil [] = refl
-no_nil (x ∷ l) = ap (λ m. x ∷ m) (no_nil l)
 
 names_last : (agents : List Agent) (agent : List ℕ) (body : Statements) → names (with_agent agents agent body) ≡ names agents ++ agent ∷ []
 names_last [] agent body = refl
@@ -193,23 +187,19 @@ no_own : (reg : ℕ) (fs : List Form) (agents : List Agent) → AreAgents fs age
 no_own reg fs [] h = ap (lines_write reg) h
 no_own reg fs (a ∷ others) h = ap (lines_write reg) h.2
 
-or_nothing : (x : Bool) → (x || false) ≡ x
-or_nothing true = refl
-or_nothing false = refl
-
 pub agents_wrote : (name : List ℕ) (reg : ℕ) (fs : List Form) (agents : List Agent) → AreAgents fs agents → agent_writes name reg fs ≡ writes (body_named name agents) reg
 agents_wrote name reg fs [] h = ap (agent_writes name reg) h
 agents_wrote name reg fs (a ∷ others) h = ap (agent_writes name reg) h.2 ∙ by (bytes_eq name a.name) (agents_wrote name reg h.1 others h.4)
   where
     here : lines_write reg (h.0 ++ h.1) ≡ writes a.body reg
-    here = own_lines reg h.0 h.1 (statements_body h.0 a.body h.3) ∙ ap (λ (b : Bool). any_writes reg h.0 || b) (no_own reg h.1 others h.4) ∙ or_nothing (any_writes reg h.0) ∙ statements_wrote h.0 a.body reg h.3
+    here = own_lines reg h.0 h.1 (statements_body h.0 a.body h.3) ∙ ap (λ (b : Bool). any_writes reg h.0 || b) (no_own reg h.1 others h.4) ∙ or_right_false (any_writes reg h.0) ∙ statements_wrote h.0 a.body reg h.3
 
     by : (b : Bool) → agent_writes name reg h.1 ≡ writes (body_named name others) reg → cond b (lines_write reg (h.0 ++ h.1)) (agent_writes name reg (h.0 ++ h.1)) ≡ writes (cond b a.body (body_named name others)) reg
     by true g = here
     by false g = writes_skip name reg h.0 h.1 (statements_body h.0 a.body h.3) ∙ g
 
 pub agents_added : (front own : List Form) (agents : List Agent) (agent : List ℕ) (body : Statements) → AreAgents front agents → AreStatements own body → AreAgents (front ++ AgentLine agent ∷ own) (with_agent agents agent body)
-agents_added front own [] agent body a b = (own, [], ap (λ (l : List Form). l ++ AgentLine agent ∷ own) a ∙ ap (λ (l : List Form). AgentLine agent ∷ l) (sym (no_nil own)), b, refl)
+agents_added front own [] agent body a b = (own, [], ap (λ (l : List Form). l ++ AgentLine agent ∷ own) a ∙ ap (λ (l : List Form). AgentLine agent ∷ l) (sym (append-nil own)), b, refl)
 agents_added front own (c ∷ others) agent body a b =
     (a.0, a.1 ++ AgentLine agent ∷ own, ap (λ (l : List Form). l ++ AgentLine agent ∷ own) a.2 ∙ ap (λ (l : List Form). AgentLine c.name ∷ l) (append_assoc a.0 a.1 (AgentLine agent ∷ own)), a.3, agents_added a.1 own others agent body a.4 b)
 
@@ -240,7 +230,7 @@ opened_is : (name : List ℕ) (bytes : ℕ) (front own : List Form) (agents : Li
     → Opened (opening name bytes front agent own) bytes agents agent levels
 opened_is name bytes front own agents agent levels body a b = record {
   block = refl;
-  named = agents_names front (AgentLine agent ∷ own) agents a ∙ ap (λ (l : List (List ℕ)). names agents ++ agent ∷ l) (ap names_of (sym (no_nil own)) ∙ names_skip own [] (open_body own levels body b));
+  named = agents_names front (AgentLine agent ∷ own) agents a ∙ ap (λ (l : List (List ℕ)). names agents ++ agent ∷ l) (ap names_of (sym (append-nil own)) ∙ names_skip own [] (open_body own levels body b));
   sized = refl;
   begun = ap (λ (x : Bool). x && not (list_any is_check_line (front ++ AgentLine agent ∷ own))) (any_joined is_agent_line front (AgentLine agent ∷ own) ∙ or_true (list_any is_agent_line front)) ∙ ap not (no_check front own agents agent levels body a b);
   unchecked = no_check front own agents agent levels body a b;
@@ -321,7 +311,7 @@ placed_sized m b ElseLine = refl
 placed_sized m b EndLine = refl
 placed_sized m b (CheckLine w) = refl
 
-not_not : (x : Bool) → x ≡ not (not x)
+pub not_not : (x : Bool) → x ≡ not (not x)
 not_not true = refl
 not_not false = refl
 

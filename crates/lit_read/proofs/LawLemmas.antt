@@ -7,7 +7,7 @@ use Rattle.std.proofs.lemmas.List.{length-append, length-drop}
 use Rattle.lit_read.specs.declared.fault.ReadKind.{ReadKind}
 use Rattle.lit_read.specs.declared.fault.ReadKind.TheVariants.{TooLong, NotAscii, Syntax, Misplaced, BlockSize, TooManyAgents, DuplicateAgent, LiteralRange, OutOfBlock, UnknownName, TooDeep, MissingPart, OutOfMemory}
 use Rattle.lit_read.specs.declared.limits.TheConstants.{TEXT_LIMIT}
-use Rattle.lit_read.specs.Syntax.{Litmus}
+use Rattle.lit_read.specs.Syntax.{Litmus, IsLitmus}
 use Rattle.lit_read.specs.Lines.{lines_of}
 use Rattle.lit_read.specs.Tokens.{Token, CutsInto, is_comment}
 use Rattle.lit_read.specs.Forms.{Form, IsSpelling, without_blanks}
@@ -16,7 +16,7 @@ use Rattle.lit_read.specs.Spelling.{AreFormsOf, Spells}
 use Rattle.lit_read.specs.Reading.FirstToken.{token_front, after_blanks}
 use Rattle.lit_read.specs.Reading.FormOfTokens.{after_word, fixed_form}
 use Rattle.lit_read.specs.Reading.Marks.{Mark, mark_tokens, mark_of, follow, SpellsMarks, SpellsNoCondition}
-use Rattle.lit_read.specs.Reading.State.{State, Empty, Named, Sized, Open, Whole, step}
+use Rattle.lit_read.specs.Reading.State.{State, Empty, Named, Sized, Open, Whole, step, IsState}
 use Rattle.lit_read.specs.Reading.LineSteps.{IsLine, IsNoLine}
 use Rattle.lit_read.proofs.LineLemmas.{behind, lines_split}
 use Rattle.lit_read.proofs.Cuttings.{Cutting, cutting_begins, cutting_goes_on, cutting_ends, cutting_fails, cut_shorter}
@@ -135,17 +135,21 @@ line_told line = by (list_all is_allowed line) refl (tokens_told (suc (length li
 -- ---- each text is told
 
 abbrev Told : List ℕ → Type 0
-Told text = ((t : Litmus) × Spells text t) ⊎ ((kind : ReadKind) × (line : ℕ) × IsFirstFault text kind line)
+Told text = ((t : Litmus) × Spells text t × IsLitmus t) ⊎ ((kind : ReadKind) × (line : ℕ) × IsFirstFault text kind line)
 
 no_memory : (k : ReadKind) (given : List Form) (f : Form) → Outcome given f (Err k) → k ≢ OutOfMemory
 no_memory k given f out e = (faulty_kind k given f out.1).0.2 e
+
+litmus_in : (t : Litmus) → IsState (Whole t) → IsLitmus t
+unfolding IsState
+litmus_in t is = is
 
 ended_told : (text : List ℕ) (number : ℕ) (s : State) → Progress text number s None → Told text
 ended_told text number Empty p = inr (MissingPart, number, progress_ends text number Empty p tt)
 ended_told text number (Named m) p = inr (MissingPart, number, progress_ends text number (Named m) p tt)
 ended_told text number (Sized m b) p = inr (MissingPart, number, progress_ends text number (Sized m b) p tt)
 ended_told text number (Open m b agents agent levels body) p = inr (MissingPart, number, progress_ends text number (Open m b agents agent levels body) p tt)
-ended_told text number (Whole t) p = inl (t, progress_spells text number t p)
+ended_told text number (Whole t) p = inl (t, progress_spells text number t p, litmus_in t p.sound)
 
 failed : (text : List ℕ) (k : ReadKind) (n : ℕ) → k ≢ OutOfMemory → (k ≡ OutOfMemory) ⊎ IsFirstFault text k n → Told text
 failed text k n ne (inl e) = absurd (ne e)
@@ -185,9 +189,15 @@ rest_told (suc n) text number s (Some left) lt p =
     by (inl q) more = stepped q.0 q.1 (step s q.0) refl more
     by (inr q) more = failed text q.0 (number + 1) q.1 (progress_fails text left line number s after p (lines_split left) q.0 (inl q.2))
 
-pub text_told : (text : List ℕ) → Told text
-text_told text =
+told : (text : List ℕ) → Told text
+told text =
     elim (cases_lt TEXT_LIMIT (length text)) [
       | inl long ↦ inr (TooLong, 1, too_long text long)
       | inr short ↦ rest_told (suc (suc (suc (length text)))) text 0 Empty (Some text) (omega arith) (progress_begins text short)
     ]
+
+pub text_told : (text : List ℕ) → ((t : Litmus) × Spells text t) ⊎ ((kind : ReadKind) × (line : ℕ) × IsFirstFault text kind line)
+text_told text = elim (told text) [ inl p ↦ inl (p.0, p.1) | inr p ↦ inr p ]
+
+pub spelled_litmus : (text : List ℕ) (t : Litmus) → Spells text t → IsLitmus t
+spelled_litmus text t spells = elim (told text) [ inl p ↦ subst IsLitmus (one_test text p.0 t p.1 spells) p.2 | inr p ↦ absurd (spells.faultless p.0 p.1 p.2.there) ]

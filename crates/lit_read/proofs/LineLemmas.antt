@@ -1,8 +1,9 @@
 -- The first line of a text, and what is left.
-use Rattle.std.proofs.Common.{◌≡◌, ℕ, suc, ◌+◌, Bool, true, false, cond, not, eqb, List, [], ◌∷◌, Option, Some, None, take, drop, refl, ap, sym, ◌∙◌, arith, ◌-◌, ◌≤◌, length, ◌++◌, ◌⊎◌, inl, inr}
+use Rattle.std.proofs.Common.{◌≡◌, ℕ, suc, ◌+◌, Bool, true, false, cond, not, eqb, List, [], ◌∷◌, Option, Some, None, take, drop, ◌&&◌, refl, ap, sym, ◌∙◌, arith, ◌-◌, ◌≤◌, length, ◌++◌, ◌⊎◌, inl, inr}
 use Rattle.std.proofs.Math.Seq.{take-length}
 use Rattle.std.specs.List.{prefix_len, list_all}
 use Rattle.std.proofs.lemmas.Bool.{eqb-true}
+use Rattle.std.proofs.lemmas.List.{length-append}
 use Rattle.lit_read.specs.Lines.{ended_lines, is_whole_line, onto_first, lines_of, lines_from}
 
 -- what follows the byte at the front, if anything does
@@ -77,3 +78,35 @@ lines_joined (b ∷ c ∷ bs) = by (eqb b 10) refl (lines_of (c ∷ bs)) (lines_
     by : (t : Bool) → eqb b 10 ≡ t → (ls : List (List ℕ)) → AreJoined (c ∷ bs) ls → AreJoined (b ∷ c ∷ bs) (cond t ([] ∷ ls) (onto_first b ls))
     by true e ls h = (omega arith, h.1, behind_ten b ls (eqb-true b 10 e) h.2)
     by false e ls h = (onto_some b ls, onto_whole b ls e h.1, behind_byte ls h.0 h.2)
+
+-- behind a byte at the front of a text that is not empty
+lines_behind : (b : ℕ) (bs : List ℕ) → 1 ≤ length bs → lines_of (b ∷ bs) ≡ cond (eqb b 10) ([] ∷ lines_of bs) (onto_first b (lines_of bs))
+unfolding lines_of
+lines_behind b [] some = absurd (omega arith)
+lines_behind b (c ∷ bs) some = refl
+
+pub lines_ended : (text : List ℕ) → text ++ 10 ∷ [] ≡ ended_lines (lines_of (text ++ 10 ∷ []))
+unfolding lines_of
+lines_ended [] = refl
+lines_ended (b ∷ bs) = by (eqb b 10) refl (lines_ended bs) ∙ ap ended_lines (sym (lines_behind b (bs ++ 10 ∷ []) (omega (arith, length-append bs (10 ∷ [])))))
+  where
+    by : (t : Bool) → eqb b 10 ≡ t → bs ++ 10 ∷ [] ≡ ended_lines (lines_of (bs ++ 10 ∷ [])) → b ∷ bs ++ 10 ∷ [] ≡ ended_lines (cond t ([] ∷ lines_of (bs ++ 10 ∷ [])) (onto_first b (lines_of (bs ++ 10 ∷ []))))
+    by true e rest = ap (λ (n : ℕ). n ∷ bs ++ 10 ∷ []) (eqb-true b 10 e) ∙ ap (λ (l : List ℕ). 10 ∷ l) rest
+    by false e rest = ap (λ (l : List ℕ). b ∷ l) rest ∙ sym (onto_ended b (lines_of (bs ++ 10 ∷ [])) (lines_joined (bs ++ 10 ∷ [])).0)
+
+-- the bytes of the lines are bytes of the text
+pub lines_pass : (p : ℕ → Bool) (text : List ℕ) → list_all p text ≡ true → list_all (λ l. list_all p l) (lines_of text) ≡ true
+unfolding lines_of
+lines_pass p [] h = refl
+lines_pass p (b ∷ []) h = elim (eqb b 10) as (λ t. list_all (λ l. list_all p l) (cond t ([] ∷ []) ((b ∷ []) ∷ [])) ≡ true) [ true ↦ refl | false ↦ rw h refl ]
+lines_pass p (b ∷ c ∷ bs) h = by (p b) refl h (lines_pass p (c ∷ bs)) (eqb b 10)
+  where
+    onto : (ls : List (List ℕ)) → p b ≡ true → list_all (λ l. list_all p l) ls ≡ true → list_all (λ l. list_all p l) (onto_first b ls) ≡ true
+    onto [] e g = rw e refl
+    onto (l ∷ ls) e g = rw e g
+
+    by : (x : Bool) → p b ≡ x → (x && list_all p (c ∷ bs)) ≡ true → (list_all p (c ∷ bs) ≡ true → list_all (λ l. list_all p l) (lines_of (c ∷ bs)) ≡ true)
+        → (t : Bool) → list_all (λ l. list_all p l) (cond t ([] ∷ lines_of (c ∷ bs)) (onto_first b (lines_of (c ∷ bs)))) ≡ true
+    by true e g rest true = rest g
+    by true e g rest false = onto (lines_of (c ∷ bs)) e (rest g)
+    by false e g rest t = absurd cc

@@ -3,7 +3,7 @@ use Rattle.std.proofs.Common.{◌≡◌, ℕ, zero, suc, ◌+◌, ◌-◌, ◌<�
 use Rattle.std.specs.Option.{option_map}
 use Rattle.std.specs.List.{AllByRecursion, flat_map}
 use Rattle.std.proofs.Math.ListN.{drop_of_length-le}
-use Rattle.std.proofs.lemmas.List.{length-append, length-drop, drop_at, drop-drop}
+use Rattle.std.proofs.lemmas.List.{length-append, length-drop, drop_at, drop-drop, append-nil}
 use Rattle.lit_read.specs.declared.symbols.Symbol.{Symbol}
 use Rattle.lit_read.specs.declared.symbols.Symbol.TheVariants.{And, Or, Not, OpenParen, CloseParen}
 use Rattle.lit_read.specs.declared.limits.TheConstants.{REGISTERS}
@@ -170,16 +170,12 @@ marking_goes_on tokens rest after done behind n m b k e step so_far =
     let front = mark_is rest m after e in
     record {
       parts = so_far.parts ∙ ap (λ (l : List Token). flat_map mark_tokens done ++ l) front.0 ∙ sym (append_assoc (flat_map mark_tokens done) (mark_tokens m) after)
-          ∙ ap (λ (l : List Token). l ++ after) (sym (tokens-append done (m ∷ []) ∙ ap (λ (l : List Token). flat_map mark_tokens done ++ l) (no_nil (mark_tokens m))));
+          ∙ ap (λ (l : List Token). l ++ after) (sym (tokens-append done (m ∷ []) ∙ ap (λ (l : List Token). flat_map mark_tokens done ++ l) (append-nil (mark_tokens m))));
       good = both_all IsMark done (m ∷ []) so_far.good (front.1, tt);
       walked = walk-append false 0 done (m ∷ []) ∙ ap (λ o. o >>= λ p. walk p.0 p.1 (m ∷ [])) so_far.walked ∙ ap (λ o. o >>= λ p. walk p.0 p.1 []) step;
       only = λ ms good is. let old = so_far.only ms good is in by ms old.0 old.1 old.2 old.3;
     }
   where
-    no_nil : (ts : List Token) → ts ++ [] ≡ ts
-    no_nil [] = refl
-    no_nil (t ∷ ts) = ap (λ (x : List Token). t ∷ x) (no_nil ts)
-
     by : (ms more : List Mark) → ms ≡ done ++ more → rest ≡ flat_map mark_tokens more → AllByRecursion IsMark more → (later : List Mark) × (ms ≡ (done ++ m ∷ []) ++ later) × (after ≡ flat_map mark_tokens later) × AllByRecursion IsMark later
     by ms [] is left good = absurd (let found : mark_of [] ≡ Some (m, after) = ap mark_of (sym left) ∙ e in let none : mark_of [] ≡ no_mark = nothing_there in cc)
     by ms (j ∷ more) is left good =
@@ -225,22 +221,14 @@ done_all tokens rest done behind n e so_far w is low =
     by old.0 old.1 old.2 old.3
   where
     by : (more : List Mark) → written_marks w ≡ done ++ more → rest ≡ flat_map mark_tokens more → AllByRecursion IsMark more → (rest ≡ []) × (Some (behind, n) ≡ whole)
-    by [] whole_is left good = (left, sym so_far.walked ∙ ap (walk false 0) (sym (no_nil done)) ∙ ap (walk false 0) (sym whole_is) ∙ walks_whole w)
-      where
-        no_nil : (ms : List Mark) → ms ++ [] ≡ ms
-        no_nil [] = refl
-        no_nil (x ∷ ms) = ap (λ (l : List Mark). x ∷ l) (no_nil ms)
+    by [] whole_is left good = (left, sym so_far.walked ∙ ap (walk false 0) (sym (append-nil done)) ∙ ap (walk false 0) (sym whole_is) ∙ walks_whole w)
     by (j ∷ more) whole_is left good = let again : mark_of rest ≡ Some (j, flat_map mark_tokens more) = ap mark_of left ∙ mark_again j (flat_map mark_tokens more) good.0 in absurd cc
 
 pub marking_ends : (tokens rest : List Token) (done : List Mark) (behind : Bool) (n : ℕ) → rest ≡ [] → behind ≡ true → n ≡ 0 → Marking tokens rest done behind n → SpellsMarks tokens done
 marking_ends tokens rest done behind n is b_is n_is so_far =
     let walked : walk false 0 done ≡ whole = so_far.walked ∙ ap (λ (x : Bool). Some (x, n)) b_is ∙ ap (λ (x : ℕ). Some (true, x)) n_is in
     let told = condition_told done walked in
-    (told.0, told.1, so_far.parts ∙ ap (λ (l : List Token). flat_map mark_tokens done ++ l) is ∙ no_nil (flat_map mark_tokens done) ∙ ap (flat_map mark_tokens) told.1 ∙ sym (written_spelled told.0), low_written told.0 0 (subst (AllByRecursion IsMark) told.1 so_far.good))
-  where
-    no_nil : (ts : List Token) → ts ++ [] ≡ ts
-    no_nil [] = refl
-    no_nil (t ∷ ts) = ap (λ (x : List Token). t ∷ x) (no_nil ts)
+    (told.0, told.1, so_far.parts ∙ ap (λ (l : List Token). flat_map mark_tokens done ++ l) is ∙ append-nil (flat_map mark_tokens done) ∙ ap (flat_map mark_tokens) told.1 ∙ sym (written_spelled told.0), low_written told.0 0 (subst (AllByRecursion IsMark) told.1 so_far.good))
 
 abbrev behind_of : Option (Bool × ℕ) → Bool
 behind_of None = false

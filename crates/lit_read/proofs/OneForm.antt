@@ -2,6 +2,7 @@
 use Rattle.std.proofs.Common.{◌≡◌, ℕ, zero, suc, ◌+◌, ◌-◌, Bool, true, false, cond, List, [], ◌∷◌, ◌++◌, refl, ap, sym, ◌∙◌, arith, append_assoc}
 use Rattle.std.specs.Prelude.{codes}
 use Rattle.std.specs.Str.{bytes_eq}
+use Rattle.std.proofs.lemmas.List.{append-nil}
 use Rattle.lit_read.specs.declared.symbols.Symbol.{Symbol}
 use Rattle.lit_read.specs.declared.symbols.Symbol.TheVariants.{Same, Differs, And, Or, Gives, OpenBracket, CloseParen, Dot}
 use Rattle.lit_read.specs.Syntax.{Window, Uint8, Uint16, Uint32, DataView8, DataView16, DataView32, is_data_view, Statement, Load, Store, Exchange, CompareExchange, If}
@@ -289,12 +290,8 @@ mutual
       let q = written_once w v xs ys a b g h (tail_is _ _ _ _ r.1) in
       (ap (λ (x : Conjunction). Either x w) r.0 ∙ ap (λ (x : Written). Either d x) q.0, q.1)
 
-no_nil : (ts : List Token) → ts ++ [] ≡ ts
-no_nil [] = refl
-no_nil (t ∷ ts) = ap (λ (x : List Token). t ∷ x) (no_nil ts)
-
 pub one_condition : (w v : Written) → written_tokens w ≡ written_tokens v → w ≡ v
-one_condition w v e = (written_once w v [] [] refl refl refl refl (no_nil (written_tokens w) ∙ e ∙ sym (no_nil (written_tokens v)))).0
+one_condition w v e = (written_once w v [] [] refl refl refl refl (append-nil (written_tokens w) ∙ e ∙ sym (append-nil (written_tokens v)))).0
 
 -- ---- all forms
 

@@ -1,16 +1,18 @@
 -- What the parts of a draft can be, and the test that they make.
-use Rattle.std.proofs.Common.{◌≡◌, ◌≢◌, ℕ, zero, suc, ◌+◌, ◌-◌, ◌<◌, ◌≤◌, Bool, true, false, cond, leb, ◌||◌, ◌&&◌, List, [], ◌∷◌, ◌++◌, length, get_or, refl, ap, sym, ◌∙◌, arith, true≢false, add-one}
+use Rattle.std.proofs.Common.{◌≡◌, ◌≢◌, ℕ, zero, suc, ◌+◌, ◌-◌, ◌<◌, ◌≤◌, Bool, true, false, cond, leb, ◌||◌, List, [], ◌∷◌, ◌++◌, length, get_or, refl, ap, sym, ◌∙◌, arith, true≢false, add-one}
 use Rattle.std.specs.List.{AllByRecursion, list_any, list_all}
 use Rattle.std.specs.Str.{bytes_eq}
 use Rattle.std.proofs.lemmas.Bool.{leb-true}
 use Rattle.std.proofs.lemmas.Slice.Eq.{bytes_eq-Decides}
-use Rattle.lit_read.specs.declared.limits.TheConstants.{REGISTERS, COMPARED_LIMIT, IF_LIMIT, DEPTH_LIMIT}
-use Rattle.lit_read.specs.Syntax.{fits_window, Statement, Load, Store, Exchange, CompareExchange, If, Statements, End, Then, Agent, Litmus, writes, nesting, statement_nesting, IsStatementIn, AreStatementsIn, Condition, Any, All, Not, Is, condition_count, IsConditionOn, AreConditionsOn, tight_parentheses, loose_parentheses, condition_depth, any_depth, all_depth, IsLitmus}
+use Rattle.lit_read.specs.declared.limits.TheConstants.{REGISTERS, COMPARED_LIMIT, IF_LIMIT}
+use Rattle.lit_read.specs.Syntax.{fits_window, Statement, Load, Store, Exchange, CompareExchange, If, Statements, End, Then, Agent, Litmus, writes, nesting, statement_nesting, IsStatementIn, AreStatementsIn, IsConditionOn, AreConditionsOn, IsLitmus}
 use Rattle.lit_read.specs.Tokens.{IsWord}
-use Rattle.lit_read.specs.Written.{Comparison, Operand, Compared, Negated, Grouped, Conjunction, Lone, Both, Written, Single, Either, operand_depths, conjunction_depths, written_depths}
+use Rattle.lit_read.specs.Written.{Comparison, Operand, Compared, Negated, Grouped, Conjunction, Lone, Both, Written, Single, Either, operand_depths, conjunction_depths, written_depths, is_shallow}
 use Rattle.lit_read.specs.Forms.{IsAccess}
-use Rattle.lit_read.specs.Faults.{has_fitting_literals, stays_in_block, has_small_numbers, is_shallow}
+use Rattle.lit_read.specs.Faults.{has_fitting_literals, stays_in_block, has_small_numbers}
 use Rattle.lit_read.specs.Spelling.{place_of, numbered, operand_value, conjunction_value, written_value, operand_values, conjunction_values}
+use Rattle.lit_read.proofs.ListLemmas.{all_parts, both}
+use Rattle.lit_read.proofs.DepthLemmas.{operands_count, conjunctions_count, shallow_kept}
 use Rattle.lit_read.specs.Reading.State.{followed_by, body_named, is_known, are_known, AreDistinct, IsPart, AreAgentsIn}
 
 -- ---- lists
@@ -75,16 +77,12 @@ part_followed bytes outside body s part one few =
     let all : nesting (followed_by body s) ≤ IF_LIMIT - outside = nested_by body s (IF_LIMIT - outside) most own in
     (followed_in bytes body s part.0 one, omega (arith, few, all))
 
-both_fit : (x y : Bool) → (x && y) ≡ true → (x ≡ true) × (y ≡ true)
-both_fit true y e = (refl, e)
-both_fit false y e = absurd cc
-
 pub statement_in : (bytes : ℕ) (s : Statement) → IsAccess s → has_fitting_literals s ≡ true → stays_in_block bytes s ≡ true → IsStatementIn bytes s × (statement_nesting s ≡ 0)
 statement_in bytes (Load reg window index atomic) is fits within = ((is.0, within, is.1), refl)
 statement_in bytes (Store window index value atomic) is fits within = ((within, fits, is), refl)
 statement_in bytes (Exchange reg window index value) is fits within = ((is.0, within, fits, is.1), refl)
 statement_in bytes (CompareExchange reg window index expected value) is fits within =
-    let b = both_fit (fits_window window expected) (fits_window window value) fits in
+    let b = both (fits_window window expected) (fits_window window value) fits in
     ((is.0, within, b.0, b.1, is.1), refl)
 statement_in bytes (If reg equal value body other) is fits within = absurd is
 
@@ -101,33 +99,18 @@ named_at name (a ∷ others) reg d h = by (bytes_eq name a.name) h (named_at nam
     by true g rest = (omega arith, refl)
     by false g rest = let r = rest g in (omega (arith, r.0), rw add-one r.1)
 
-both : (x y : Bool) → (x && y) ≡ true → (x ≡ true) × (y ≡ true)
-both true y e = (refl, e)
-both false y e = absurd cc
-
 -- a comparison that is known and in range
 record IsGood (agents : List Agent) (p : Comparison × ℕ) : Type 0 where
   known : is_known agents p.0 ≡ true
   in_range : leb p.0.value COMPARED_LIMIT ≡ true
   register : p.0.reg < REGISTERS
-  shallow : leb p.1 DEPTH_LIMIT ≡ true
 
-all_good : (agents : List Agent) (ps : List (Comparison × ℕ)) → list_all (λ p. is_known agents p.0) ps ≡ true → list_all (λ p. leb p.0.value COMPARED_LIMIT) ps ≡ true → AllByRecursion (λ p. p.0.reg < REGISTERS) ps
-    → list_all (λ p. leb p.1 DEPTH_LIMIT) ps ≡ true → AllByRecursion (IsGood agents) ps
-all_good agents [] known in_range registers shallow = tt
-all_good agents (p ∷ ps) known in_range registers shallow =
+all_good : (agents : List Agent) (ps : List (Comparison × ℕ)) → list_all (λ p. is_known agents p.0) ps ≡ true → list_all (λ p. leb p.0.value COMPARED_LIMIT) ps ≡ true → AllByRecursion (λ p. p.0.reg < REGISTERS) ps → AllByRecursion (IsGood agents) ps
+all_good agents [] known in_range registers = tt
+all_good agents (p ∷ ps) known in_range registers =
     let k = both (is_known agents p.0) (list_all (λ p. is_known agents p.0) ps) known in
     let r = both (leb p.0.value COMPARED_LIMIT) (list_all (λ p. leb p.0.value COMPARED_LIMIT) ps) in_range in
-    let s = both (leb p.1 DEPTH_LIMIT) (list_all (λ p. leb p.1 DEPTH_LIMIT) ps) shallow in
-    (record { known = k.0; in_range = r.0; register = registers.0; shallow = s.0 }, all_good agents ps k.1 r.1 registers.1 s.1)
-
-front_all : {A : Type 0} (P : A → Type 0) (xs ys : List A) → AllByRecursion P (xs ++ ys) → AllByRecursion P xs
-front_all P [] ys a = tt
-front_all P (x ∷ xs) ys a = (a.0, front_all P xs ys a.1)
-
-back_all : {A : Type 0} (P : A → Type 0) (xs ys : List A) → AllByRecursion P (xs ++ ys) → AllByRecursion P ys
-back_all P [] ys a = a
-back_all P (x ∷ xs) ys a = back_all P xs ys a.1
+    (record { known = k.0; in_range = r.0; register = registers.0 }, all_good agents ps k.1 r.1 registers.1)
 
 module _ (t : Litmus) where
   abbrev Good : List (Comparison × ℕ) → Type 0
@@ -138,14 +121,6 @@ module _ (t : Litmus) where
       let found = named_at c.agent t.agents c.reg (record { name = []; body = End }) good.known in
       (found.0, good.register, ap (λ (b : Statements). writes b c.reg) found.1 ∙ good.known, leb-true _ _ good.in_range)
 
-  operands_count : (c : Conjunction) → 1 ≤ condition_count (operand_values t.agents c)
-  operands_count (Lone o) = omega arith
-  operands_count (Both o c) = omega arith
-
-  conjunctions_count : (w : Written) → 1 ≤ condition_count (conjunction_values t.agents w)
-  conjunctions_count (Single c) = omega arith
-  conjunctions_count (Either c w) = omega arith
-
   mutual
     operand_on : (o : Operand) (n : ℕ) → Good (operand_depths n o) → IsConditionOn t (operand_value t.agents o)
     operand_on (Compared c) n good = numbered_on c n good.0
@@ -155,67 +130,27 @@ module _ (t : Litmus) where
     conjunction_on : (c : Conjunction) (n : ℕ) → Good (conjunction_depths n c) → IsConditionOn t (conjunction_value t.agents c)
     conjunction_on (Lone o) n good = operand_on o n good
     conjunction_on (Both o c) n good =
-        (omega (arith, operands_count c), (operand_on o n (front_all (IsGood t.agents) (operand_depths n o) (conjunction_depths n c) good), operands_on c n (back_all (IsGood t.agents) (operand_depths n o) (conjunction_depths n c) good)))
+        (omega (arith, operands_count t.agents c), (operand_on o n ((all_parts (IsGood t.agents) (operand_depths n o) (conjunction_depths n c) good).0), operands_on c n ((all_parts (IsGood t.agents) (operand_depths n o) (conjunction_depths n c) good).1)))
 
     written_on : (w : Written) (n : ℕ) → Good (written_depths n w) → IsConditionOn t (written_value t.agents w)
     written_on (Single c) n good = conjunction_on c n good
     written_on (Either c w) n good =
-        (omega (arith, conjunctions_count w), (conjunction_on c n (front_all (IsGood t.agents) (conjunction_depths n c) (written_depths n w) good), conjunctions_on w n (back_all (IsGood t.agents) (conjunction_depths n c) (written_depths n w) good)))
+        (omega (arith, conjunctions_count t.agents w), (conjunction_on c n ((all_parts (IsGood t.agents) (conjunction_depths n c) (written_depths n w) good).0), conjunctions_on w n ((all_parts (IsGood t.agents) (conjunction_depths n c) (written_depths n w) good).1)))
 
     operands_on : (c : Conjunction) (n : ℕ) → Good (conjunction_depths n c) → AreConditionsOn t (operand_values t.agents c)
     operands_on (Lone o) n good = (operand_on o n good, tt)
-    operands_on (Both o c) n good = (operand_on o n (front_all (IsGood t.agents) (operand_depths n o) (conjunction_depths n c) good), operands_on c n (back_all (IsGood t.agents) (operand_depths n o) (conjunction_depths n c) good))
+    operands_on (Both o c) n good = (operand_on o n ((all_parts (IsGood t.agents) (operand_depths n o) (conjunction_depths n c) good).0), operands_on c n ((all_parts (IsGood t.agents) (operand_depths n o) (conjunction_depths n c) good).1))
 
     conjunctions_on : (w : Written) (n : ℕ) → Good (written_depths n w) → AreConditionsOn t (conjunction_values t.agents w)
     conjunctions_on (Single c) n good = (conjunction_on c n good, tt)
-    conjunctions_on (Either c w) n good = (conjunction_on c n (front_all (IsGood t.agents) (conjunction_depths n c) (written_depths n w) good), conjunctions_on w n (back_all (IsGood t.agents) (conjunction_depths n c) (written_depths n w) good))
-
-  -- ---- its depth: no parentheses are needed that are not written
-
-  tight_one : (c : Condition) → tight_parentheses c ≤ 1
-  tight_one (Any cs) = omega arith
-  tight_one (All cs) = omega arith
-  tight_one (Not c) = omega arith
-  tight_one (Is a r e v) = omega arith
-
-  loose_tight : (c : Condition) → loose_parentheses c ≤ tight_parentheses c
-  loose_tight (Any cs) = omega arith
-  loose_tight (All cs) = omega arith
-  loose_tight (Not c) = omega arith
-  loose_tight (Is a r e v) = omega arith
-
-  mutual
-    operand_low : (o : Operand) (n : ℕ) → Good (operand_depths n o) → condition_depth (operand_value t.agents o) + tight_parentheses (operand_value t.agents o) + n ≤ DEPTH_LIMIT
-    operand_low (Compared c) n good = let low : n ≤ DEPTH_LIMIT = leb-true _ _ good.0.shallow in omega arith
-    operand_low (Negated o) n good = let inner = operand_low o (n + 1) good in omega (arith, inner)
-    operand_low (Grouped w) n good = let inner = written_low w (n + 1) good in omega (arith, inner, tight_one (written_value t.agents w))
-
-    conjunction_low : (c : Conjunction) (n : ℕ) → Good (conjunction_depths n c) → condition_depth (conjunction_value t.agents c) + loose_parentheses (conjunction_value t.agents c) + n ≤ DEPTH_LIMIT
-    conjunction_low (Lone o) n good = omega (arith, operand_low o n good, loose_tight (operand_value t.agents o))
-    conjunction_low (Both o c) n good =
-        omega (arith, operand_low o n (front_all (IsGood t.agents) (operand_depths n o) (conjunction_depths n c) good), operands_low c n (back_all (IsGood t.agents) (operand_depths n o) (conjunction_depths n c) good))
-
-    written_low : (w : Written) (n : ℕ) → Good (written_depths n w) → condition_depth (written_value t.agents w) + n ≤ DEPTH_LIMIT
-    written_low (Single c) n good = omega (arith, conjunction_low c n good)
-    written_low (Either c w) n good =
-        omega (arith, conjunction_low c n (front_all (IsGood t.agents) (conjunction_depths n c) (written_depths n w) good), conjunctions_low w n (back_all (IsGood t.agents) (conjunction_depths n c) (written_depths n w) good))
-
-    operands_low : (c : Conjunction) (n : ℕ) → Good (conjunction_depths n c) → all_depth (operand_values t.agents c) + n ≤ DEPTH_LIMIT
-    operands_low (Lone o) n good = omega (arith, operand_low o n good)
-    operands_low (Both o c) n good =
-        omega (arith, operand_low o n (front_all (IsGood t.agents) (operand_depths n o) (conjunction_depths n c) good), operands_low c n (back_all (IsGood t.agents) (operand_depths n o) (conjunction_depths n c) good))
-
-    conjunctions_low : (w : Written) (n : ℕ) → Good (written_depths n w) → any_depth (conjunction_values t.agents w) + n ≤ DEPTH_LIMIT
-    conjunctions_low (Single c) n good = omega (arith, conjunction_low c n good)
-    conjunctions_low (Either c w) n good =
-        omega (arith, conjunction_low c n (front_all (IsGood t.agents) (conjunction_depths n c) (written_depths n w) good), conjunctions_low w n (back_all (IsGood t.agents) (conjunction_depths n c) (written_depths n w) good))
+    conjunctions_on (Either c w) n good = (conjunction_on c n ((all_parts (IsGood t.agents) (conjunction_depths n c) (written_depths n w) good).0), conjunctions_on w n ((all_parts (IsGood t.agents) (conjunction_depths n c) (written_depths n w) good).1))
 
 -- agents and a condition without a fault make a test
 pub is_litmus : (name : List ℕ) (bytes : ℕ) (agents : List Agent) (w : Written) → IsWord name → AreAgentsIn bytes agents → 1 ≤ length agents → AllByRecursion (λ p. p.0.reg < REGISTERS) (written_depths 0 w)
     → are_known agents w ≡ true → has_small_numbers w ≡ true → is_shallow w ≡ true → IsLitmus (record { name = name; bytes = bytes; agents = agents; check = written_value agents w })
 is_litmus name bytes agents w named are some_agent registers known in_range shallow =
     let t : Litmus = record { name = name; bytes = bytes; agents = agents; check = written_value agents w } in
-    let good = all_good agents (written_depths 0 w) known in_range registers shallow in
+    let good = all_good agents (written_depths 0 w) known in_range registers in
     record {
       named = named;
       some_byte = are.some_byte;
@@ -227,5 +162,5 @@ is_litmus name bytes agents w named are some_agent registers known in_range shal
       bodies = λ i within. (at_index (λ a. IsPart bytes 0 a.body) agents i (record { name = []; body = End }) within are.bodies).0;
       few_ifs = λ i within. omega (arith, (at_index (λ a. IsPart bytes 0 a.body) agents i (record { name = []; body = End }) within are.bodies).1);
       check = written_on t w 0 good;
-      shallow = omega (arith, written_low t w 0 good);
+      shallow = shallow_kept agents w shallow;
     }

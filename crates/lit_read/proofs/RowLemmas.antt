@@ -17,6 +17,7 @@ use Rattle.lit_read.specs.Reading.FirstToken.{or_else}
 use Rattle.lit_read.specs.Reading.FormOfTokens.{◌>>=◌, symbol_code, after_sign, word_of, number_of, after_word, register_number, register_of, window_named, view_of, relation_of, ended, Item, Symbols, Keyword, Name, Register, View, Amount, Relation, Told, along, lone_row}
 use Rattle.lit_read.specs.Reading.Views.{form_view}
 use Rattle.lit_read.proofs.CutLemmas.{pair_parts}
+use Rattle.lit_read.proofs.ListLemmas.{both}
 
 pub ended_view : (ts : List Token) (f : lines.Form) → option_map form_view (ended ts f) ≡ ended ts (form_view f)
 ended_view [] f = refl
@@ -94,10 +95,6 @@ after_word_is ts text rest e =
     let others : a.0.1 ≡ rest = p.1 in
     let first : ts ≡ Word a.0.0 ∷ a.0.1 = word_is ts a.0.0 a.0.1 a.1 in
     cc
-
-both : (x y : Bool) → (x && y) ≡ true → (x ≡ true) × (y ≡ true)
-both true y e = (refl, e)
-both false y e = absurd cc
 
 register_number_is : (w : List ℕ) (reg : ℕ) → register_number w ≡ Some reg → (w ≡ register_word reg) × (reg < REGISTERS)
 unfolding register_number

@@ -8,7 +8,8 @@ use Rattle.lit_read.specs.declared.syntax.Stmt as stmt
 use Rattle.lit_read.specs.Syntax.{Statement, End, Agent, Litmus}
 use Rattle.lit_read.specs.Litmus.{statement_of, statements_of}
 use Rattle.lit_read.specs.Forms.{Form, TestLine, BytesLine, AgentLine, IfLine, EndLine, CheckLine}
-use Rattle.lit_read.specs.Canonical.{statement_forms, statements_forms, else_forms, agents_forms, written_of}
+use Rattle.lit_read.specs.Canonical.{statement_forms, statements_forms, else_forms, agents_forms}
+use Rattle.lit_read.specs.Parentheses.{written_of}
 use Rattle.lit_read.specs.CanonicalText.{form_text, forms_text, canonical}
 use Rattle.lit_read.proofs.TreeViews.{if_views}
 

@@ -2,9 +2,10 @@
 use Rattle.std.proofs.Common.{◌≡◌, ℕ, Bool, true, false, eqb, ◌||◌, ◌&&◌, List, [], ◌∷◌, ◌++◌, inl, inr, refl, ap, sym, ◌∙◌, append_assoc}
 use Rattle.std.specs.Prelude.{fold}
 use Rattle.std.specs.List.{list_any, list_all}
+use Rattle.std.proofs.lemmas.List.{append-nil}
 use Rattle.lit_read.specs.Syntax.{Statement, Statements, Load, Store, Exchange, CompareExchange, If, End, Then, statement_writes, writes}
-use Rattle.lit_read.specs.Forms.{Form, StatementLine, IfLine, ElseLine, EndLine}
-use Rattle.lit_read.specs.Structure.{IsStatement, AreStatements, AreElse}
+use Rattle.lit_read.specs.Forms.{Form, EndLine}
+use Rattle.lit_read.specs.Structure.{is_body_line, IsStatement, AreStatements, AreElse}
 use Rattle.lit_read.specs.Faults.{open_behind, line_writes}
 use Rattle.lit_read.specs.Reading.State.{followed_by}
 
@@ -27,14 +28,6 @@ all_joined p (x ∷ xs) ys a b = by (p x) refl a (all_joined p xs ys)
     by false e h f = absurd cc
 
 -- ---- the forms of statements
-
--- a line that can stand among an agent's statements
-abbrev pub is_body_line : Form → Bool
-is_body_line (StatementLine s) = true
-is_body_line (IfLine reg equal value) = true
-is_body_line ElseLine = true
-is_body_line EndLine = true
-is_body_line _ = false
 
 abbrev pub are_body_lines : List Form → Bool
 are_body_lines fs = list_all is_body_line fs
@@ -81,7 +74,7 @@ mutual
 
 -- ---- which registers they write
 
-or_right_false : (x : Bool) → (x || false) ≡ x
+pub or_right_false : (x : Bool) → (x || false) ≡ x
 or_right_false true = refl
 or_right_false false = refl
 
@@ -116,9 +109,5 @@ mutual
 -- ---- one statement more
 
 pub statements_added : (fs gs : List Form) (ss : Statements) (s : Statement) → AreStatements fs ss → IsStatement gs s → AreStatements (fs ++ gs) (followed_by ss s)
-statements_added fs gs End s a b = (gs, [], ap (λ (l : List Form). l ++ gs) a ∙ sym (no_nil gs), b, refl)
-  where
-    no_nil : (l : List Form) → l ++ [] ≡ l
-    no_nil [] = refl
-    no_nil (x ∷ l) = ap (λ (m : List Form). x ∷ m) (no_nil l)
+statements_added fs gs End s a b = (gs, [], ap (λ (l : List Form). l ++ gs) a ∙ sym (append-nil gs), b, refl)
 statements_added fs gs (Then t ts) s a b = (a.0, a.1 ++ gs, ap (λ (l : List Form). l ++ gs) a.2 ∙ append_assoc a.0 a.1 gs, a.3, statements_added a.1 gs ts s a.4 b)

@@ -6,19 +6,17 @@ use Rattle.std.specs.Str.{bytes_eq}
 use Rattle.std.proofs.lemmas.Bool.{ltb-false, leb-false}
 use Rattle.std.proofs.lemmas.List.{length-append}
 use Rattle.lit_read.specs.declared.fault.ReadKind.{ReadKind}
-use Rattle.lit_read.specs.declared.fault.ReadKind.TheVariants.{BlockSize, TooManyAgents, DuplicateAgent, LiteralRange, OutOfBlock, TooDeep}
+use Rattle.lit_read.specs.declared.fault.ReadKind.TheVariants.{BlockSize, TooManyAgents, DuplicateAgent, LiteralRange, OutOfBlock, UnknownName, TooDeep}
 use Rattle.lit_read.specs.declared.limits.TheConstants.{BLOCK_LIMIT, AGENT_LIMIT, REGISTERS, COMPARED_LIMIT, IF_LIMIT}
-use Rattle.lit_read.specs.Syntax.{Statement, Statements, End, Agent, Litmus, statement_nesting, IsStatementIn}
+use Rattle.lit_read.specs.Syntax.{Statement, Statements, End, Agent, statement_nesting, IsStatementIn}
 use Rattle.lit_read.specs.Tokens.{IsWord}
-use Rattle.lit_read.specs.Written.{Written}
+use Rattle.lit_read.specs.Written.{Written, is_shallow}
 use Rattle.lit_read.specs.Forms.{Form, Blank, TestLine, BytesLine, AgentLine, StatementLine, IfLine, ElseLine, EndLine, CheckLine, IsAccess, IsForm}
-use Rattle.lit_read.specs.Faults.{has_fitting_literals, stays_in_block}
-use Rattle.lit_read.specs.Reading.State.{State, Empty, Named, Sized, Open, Whole, Level, followed_by, with_agent, else_level, else_from, ended_if, test_step, block_step, next_step, agent_step, statement_step, if_step, else_step, end_step, test_of, whole, check_step, step, IsPart, AreAgentsIn, IsState}
-use Rattle.lit_read.proofs.PartLemmas.{all_added, all_changed, distinct_changed, distinct_added, part_followed, statement_in}
-
-neither : (x y : Bool) → (x || y) ≡ false → (x ≡ false) × (y ≡ false)
-neither true y e = absurd cc
-neither false y e = (refl, e)
+use Rattle.lit_read.specs.Faults.{has_fitting_literals, stays_in_block, has_small_numbers}
+use Rattle.lit_read.specs.Spelling.{written_value}
+use Rattle.lit_read.specs.Reading.State.{State, Empty, Named, Sized, Open, Whole, Level, followed_by, with_agent, are_known, else_level, else_from, ended_if, test_step, block_step, next_step, agent_step, statement_step, if_step, else_step, end_step, test_of, whole, check_step, step, IsPart, AreAgentsIn, IsState}
+use Rattle.lit_read.proofs.PartLemmas.{all_added, all_changed, distinct_changed, distinct_added, part_followed, statement_in, is_litmus}
+use Rattle.lit_read.proofs.ListLemmas.{neither}
 
 abbrev good : State → Result State ReadKind
 good s = Ok s
@@ -169,19 +167,27 @@ test_kept (Sized n bytes) t name word e = absurd cc
 test_kept (Open n bytes agents agent levels body) t name word e = absurd cc
 test_kept (Whole l) t name word e = absurd cc
 
-whole_kept : (r : Result Litmus ReadKind) (t : State) → whole r ≡ Ok t → IsState t
-unfolding IsState
-whole_kept (Ok l) t e = subst IsState (good_is (Whole l) t e) tt
-whole_kept (Err k) t e = absurd cc
+pub check_kept : (s t : State) (w : Written) → IsState s → IsForm (CheckLine w) → check_step s w ≡ Ok t → IsState t
+unfolding check_step test_of IsState IsForm
+check_kept (Open name bytes agents agent [] body) t w is form e = by (has_small_numbers w) refl (are_known (with_agent agents agent body) w) refl (is_shallow w) refl e
+  where
+    some : (as' : List Agent) → 1 ≤ length (with_agent as' agent body)
+    some [] = omega arith
+    some (a ∷ others) = omega arith
 
-check_kept : (s t : State) (w : Written) → check_step s w ≡ Ok t → IsState t
-unfolding check_step
-check_kept (Open name bytes agents agent [] body) t w e = whole_kept (test_of name bytes (with_agent agents agent body) w) t e
-check_kept (Open name bytes agents agent (l ∷ levels) body) t w e = absurd cc
-check_kept Empty t w e = absurd cc
-check_kept (Named n) t w e = absurd cc
-check_kept (Sized n bytes) t w e = absurd cc
-check_kept (Whole l) t w e = absurd cc
+    by : (x : Bool) → has_small_numbers w ≡ x → (y : Bool) → are_known (with_agent agents agent body) w ≡ y → (z : Bool) → is_shallow w ≡ z
+        → whole (cond x (cond y (cond z (Ok (record { name = name; bytes = bytes; agents = with_agent agents agent body; check = written_value (with_agent agents agent body) w })) (Err TooDeep)) (Err UnknownName)) (Err LiteralRange)) ≡ Ok t → IsState t
+    by true small true known true low h =
+        subst IsState (good_is (Whole (record { name = name; bytes = bytes; agents = with_agent agents agent body; check = written_value (with_agent agents agent body) w })) t h)
+        (is_litmus name bytes (with_agent agents agent body) w is.0 (filled bytes agents agent body is.1 is.3) (some agents) form known small low)
+    by true small true known false low h = absurd cc
+    by true small false known z low h = absurd cc
+    by false small y known z low h = absurd cc
+check_kept (Open name bytes agents agent (l ∷ levels) body) t w is form e = absurd cc
+check_kept Empty t w is form e = absurd cc
+check_kept (Named n) t w is form e = absurd cc
+check_kept (Sized n bytes) t w is form e = absurd cc
+check_kept (Whole l) t w is form e = absurd cc
 
 -- the names that a form gives are words
 abbrev pub HasWords : Form → Type 0
@@ -199,4 +205,4 @@ step_kept s t (StatementLine r) is form words e = statement_kept s t r is form e
 step_kept s t (IfLine reg equal value) is form words e = if_kept s t reg equal value is form e
 step_kept s t ElseLine is form words e = else_kept s t is e
 step_kept s t EndLine is form words e = end_kept s t is e
-step_kept s t (CheckLine w) is form words e = check_kept s t w e
+step_kept s t (CheckLine w) is form words e = check_kept s t w is form e

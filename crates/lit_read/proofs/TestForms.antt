@@ -4,11 +4,11 @@ use Rattle.std.specs.Prelude.{fold}
 use Rattle.lit_read.specs.Syntax.{Statement, Statements, Load, Store, Exchange, CompareExchange, If, End, Then, Agent, Condition, Litmus}
 use Rattle.lit_read.specs.Written.{Written}
 use Rattle.lit_read.specs.Forms.{Form, Blank, TestLine, BytesLine, AgentLine, StatementLine, IfLine, ElseLine, EndLine, CheckLine}
-use Rattle.lit_read.specs.Structure.{IsStatement, AreStatements, AreElse, AreAgents}
+use Rattle.lit_read.specs.Structure.{is_body_line, IsStatement, AreStatements, AreElse, AreAgents}
 use Rattle.lit_read.specs.Spelling.{written_value, AreFormsOf}
 use Rattle.lit_read.specs.Canonical.{statement_forms, statements_forms, else_forms, agents_forms, starts_with_end, without_empty_elses}
 use Rattle.lit_read.specs.Reading.State.{Level, followed_by, else_level, ended_if}
-use Rattle.lit_read.proofs.SpellLemmas.{fold-append, is_body_line, are_body_lines, statements_body}
+use Rattle.lit_read.proofs.SpellLemmas.{fold-append, are_body_lines, statements_body}
 
 -- ---- the statements that lines make
 
@@ -207,13 +207,9 @@ mutual
       ∙ ap (λ (b : Bool). cond b (plain (h.0 ++ (h.1 ++ EndLine ∷ rest))) (ElseLine ∷ plain (h.0 ++ (h.1 ++ EndLine ∷ rest)))) (no_end_first h.0 (h.1 ++ EndLine ∷ rest) s h.3)
       ∙ ap (λ (l : List Form). ElseLine ∷ l) (statement_plain h.0 (h.1 ++ EndLine ∷ rest) s h.3 ∙ ap (λ (l : List Form). statement_forms s ++ l) (statements_plain h.1 (EndLine ∷ rest) ss h.4) ∙ sym (append_assoc (statement_forms s) (statements_forms ss) (EndLine ∷ plain rest)))
 
-no_nil : (l : List Form) → l ++ [] ≡ l
-no_nil [] = refl
-no_nil (x ∷ l) = ap (λ (m : List Form). x ∷ m) (no_nil l)
-
 pub agents_plain : (fs : List Form) (agents : List Agent) → AreAgents fs agents → plain fs ≡ agents_forms agents
 agents_plain fs [] h = ap plain h
 agents_plain fs (a ∷ others) h = ap plain h.2 ∙ ap (λ (l : List Form). AgentLine a.name ∷ l) (statements_plain h.0 h.1 a.body h.3 ∙ ap (λ (l : List Form). statements_forms a.body ++ l) (agents_plain h.1 others h.4))
 
-pub same_but_elses : (fs gs : List Form) (t : Litmus) → (a : AreFormsOf fs t) → (b : AreFormsOf gs t) → (plain a.agents ≡ plain b.agents) × (written_value t.agents a.check ≡ written_value t.agents b.check)
-same_but_elses fs gs t a b = (agents_plain a.agents t.agents a.bodies ∙ sym (agents_plain b.agents t.agents b.bodies), sym a.asks ∙ b.asks)
+pub same_but_elses : (fs gs : List Form) (t : Litmus) → (a : AreFormsOf fs t) → (b : AreFormsOf gs t) → plain a.agents ≡ plain b.agents
+same_but_elses fs gs t a b = agents_plain a.agents t.agents a.bodies ∙ sym (agents_plain b.agents t.agents b.bodies)

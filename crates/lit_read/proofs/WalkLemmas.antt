@@ -1,5 +1,6 @@
 -- Marks that can follow one another, and no others, are those of a condition.
 use Rattle.std.proofs.Common.{◌≡◌, ℕ, zero, suc, ◌<◌, Bool, true, false, List, [], ◌∷◌, ◌++◌, length, Option, Some, None, refl, ap, sym, ◌∙◌, arith, append_assoc}
+use Rattle.std.proofs.lemmas.List.{append-nil}
 use Rattle.lit_read.specs.Written.{Operand, Compared, Negated, Grouped, Conjunction, Lone, Both, Written, Single, Either}
 use Rattle.lit_read.specs.Reading.FormOfTokens.{◌>>=◌}
 use Rattle.lit_read.specs.Reading.Marks.{Mark, Bang, Opens, Closes, Joins, Parts, Compares, operand_marks, conjunction_marks, written_marks, follow}
@@ -36,12 +37,8 @@ mutual
   written_walks (Single c) n rest = conjunction_walks c n rest
   written_walks (Either c w) n rest = ap (walk false n) (append_assoc (conjunction_marks c) (Parts ∷ written_marks w) rest) ∙ conjunction_walks c n (Parts ∷ (written_marks w ++ rest)) ∙ written_walks w n rest
 
-no_nil : (ms : List Mark) → ms ++ [] ≡ ms
-no_nil [] = refl
-no_nil (m ∷ ms) = ap (λ (x : List Mark). m ∷ x) (no_nil ms)
-
 pub walks_whole : (w : Written) → walk false 0 (written_marks w) ≡ Some (true, 0)
-walks_whole w = ap (walk false 0) (sym (no_nil (written_marks w))) ∙ written_walks w 0 []
+walks_whole w = ap (walk false 0) (sym (append-nil (written_marks w))) ∙ written_walks w 0 []
 
 -- ---- marks that follow one another are those of a condition
 
@@ -207,4 +204,4 @@ ends (Compares c ∷ rest) a b e = absurd cc
 pub condition_told : (ms : List Mark) → walk false 0 ms ≡ whole → (w : Written) × (ms ≡ written_marks w)
 condition_told ms e =
     let a = (told (suc (length ms))).2 0 ms (omega arith) e in
-    (a.front.part, a.front.parts ∙ ap (λ (x : List Mark). written_marks a.front.part ++ x) (ends a.front.rest a.no_joins a.no_parts a.front.goes_on) ∙ no_nil (written_marks a.front.part))
+    (a.front.part, a.front.parts ∙ ap (λ (x : List Mark). written_marks a.front.part ++ x) (ends a.front.rest a.no_joins a.no_parts a.front.goes_on) ∙ append-nil (written_marks a.front.part))

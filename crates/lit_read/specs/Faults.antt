@@ -1,13 +1,13 @@
 -- The faults of a text (this project's own). The first faulty line decides, and of one line's faults the lowest number.
-use Rattle.std.specs.Prelude.{◌≡◌, ◌⊎◌, ℕ, ◌-◌, ◌<◌, ◌≤◌, ◌==◌, ◌&&◌, ◌||◌, nat_lt, nat_le, Bool, true, false, IsTrue, if◌then◌else◌, List, [], ◌∷◌, length, slice_index_or, take, not, fold}
+use Rattle.std.specs.Prelude.{◌≡◌, ◌⊎◌, ℕ, ◌-◌, ◌<◌, ◌≤◌, ◌==◌, ◌&&◌, ◌||◌, nat_lt, nat_le, Bool, true, false, IsTrue, if◌then◌else◌, List, [], ◌∷◌, ◌++◌, length, slice_index_or, take, not, fold}
 use Rattle.std.specs.List.{list_any, list_all}
 use Rattle.std.specs.Str.{bytes_eq}
 use Rattle.lit_read.specs.declared.fault.ReadKind.{ReadKind}
 use Rattle.lit_read.specs.declared.fault.ReadKind.TheVariants.{TooLong, NotAscii, Syntax, Misplaced, BlockSize, TooManyAgents, DuplicateAgent, LiteralRange, OutOfBlock, UnknownName, TooDeep, MissingPart, OutOfMemory}
-use Rattle.lit_read.specs.declared.limits.TheConstants.{TEXT_LIMIT, BLOCK_LIMIT, AGENT_LIMIT, COMPARED_LIMIT, IF_LIMIT, DEPTH_LIMIT}
+use Rattle.lit_read.specs.declared.limits.TheConstants.{TEXT_LIMIT, BLOCK_LIMIT, AGENT_LIMIT, COMPARED_LIMIT, IF_LIMIT}
 use Rattle.lit_read.specs.Syntax.{is_in_block, fits_window, Statement, Load, Store, Exchange, CompareExchange, If, statement_writes}
 use Rattle.lit_read.specs.Lines.{lines_of}
-use Rattle.lit_read.specs.Written.{Written, written_depths}
+use Rattle.lit_read.specs.Written.{Written, written_depths, is_shallow}
 use Rattle.lit_read.specs.Forms.{Form, Blank, TestLine, BytesLine, AgentLine, StatementLine, IfLine, ElseLine, EndLine, CheckLine, HasForm, HaveForms, without_blanks}
 
 -- the numbers of the faults
@@ -116,6 +116,11 @@ is_misplaced given ElseLine = not (is_begun given) || not (is_in_then (open_ifs 
 is_misplaced given EndLine = not (is_begun given) || is_empty (open_ifs given)
 is_misplaced given (CheckLine w) = not (is_begun given) || not (is_empty (open_ifs given))
 
+-- whether none of the forms is misplaced behind these and those of them that come before it
+abbrev pub none_misplaced : List Form → List Form → Bool
+none_misplaced given [] = true
+none_misplaced given (f ∷ fs) = not (is_misplaced given f) && none_misplaced (given ++ f ∷ []) fs
+
 -- the block has no byte, or too many
 abbrev pub is_wrong_block : Form → Bool
 is_wrong_block (BytesLine bytes) = bytes == 0 || nat_lt BLOCK_LIMIT bytes
@@ -161,10 +166,6 @@ leaves_block given _ = false
 abbrev pub has_unknown_name : List Form → Form → Bool
 has_unknown_name given (CheckLine w) = not (list_all (λ p. agent_writes p.0.agent p.0.reg given) (written_depths 0 w))
 has_unknown_name given _ = false
-
--- no comparison stands too deep
-abbrev pub is_shallow : Written → Bool
-is_shallow w = list_all (λ p. nat_le p.1 DEPTH_LIMIT) (written_depths 0 w)
 
 abbrev pub is_too_deep : List Form → Form → Bool
 is_too_deep given (IfLine reg equal value) = nat_le IF_LIMIT (length (open_ifs given))

@@ -1,55 +1,10 @@
--- What a litmus test says, as lists and trees.
--- The accesses are those of ECMA-262 (2024), clause 25; the text around them is this project's own.
-use Rattle.std.specs.Prelude.{◌≡◌, ◌≢◌, ℕ, ◌+◌, ◌/◌, ◌^◌, ◌<◌, ◌≤◌, ◌==◌, nat_lt, nat_le, max, Bool, true, false, IsTrue, ◌||◌, List, [], length, slice_index_or}
-use Rattle.lit_read.specs.declared.limits.TheConstants.{BLOCK_LIMIT, AGENT_LIMIT, REGISTERS, COMPARED_LIMIT, IF_LIMIT, DEPTH_LIMIT}
+-- What a text can say: the limits and rules of a test.
+use Rattle.std.specs.Prelude.{◌≡◌, ◌≢◌, ℕ, ◌+◌, ◌/◌, ◌^◌, ◌<◌, ◌≤◌, ◌==◌, nat_lt, nat_le, max, Bool, true, false, IsTrue, ◌||◌, [], length, slice_index_or}
+use Rattle.lit_read.specs.declared.limits.TheConstants.{BLOCK_LIMIT, AGENT_LIMIT, REGISTERS, COMPARED_LIMIT, IF_LIMIT}
 use Rattle.lit_read.specs.Tokens.{IsWord}
-
--- how an access sees the block: as an element of a typed array, or by a DataView call
-pub data Window : Type 0 where
-  Uint8 : Window
-  Uint16 : Window
-  Uint32 : Window
-  DataView8 : Window
-  DataView16 : Window
-  DataView32 : Window
-
--- A statement. Registers are numbered from 0. An index counts elements, or bytes in a DataView call.
-mutual
-  pub data Statement : Type 0 where
-    Load : (reg : ℕ) → (window : Window) → (index : ℕ) → (atomic : Bool) → Statement
-    Store : (window : Window) → (index value : ℕ) → (atomic : Bool) → Statement
-    Exchange : (reg : ℕ) → (window : Window) → (index value : ℕ) → Statement
-    CompareExchange : (reg : ℕ) → (window : Window) → (index expected value : ℕ) → Statement
-    If : (reg : ℕ) → (equal : Bool) → (value : ℕ) → (body other : Statements) → Statement
-
-  -- statements, one after the other
-  pub data Statements : Type 0 where
-    End : Statements
-    Then : Statement → Statements → Statements
-
--- A condition on the registers at the end. Agents are numbered from 0.
-mutual
-  pub data Condition : Type 0 where
-    Any : Conditions → Condition
-    All : Conditions → Condition
-    Not : Condition → Condition
-    Is : (agent reg : ℕ) → (equal : Bool) → (value : ℕ) → Condition
-
-  -- the members of an Any or an All
-  pub data Conditions : Type 0 where
-    NoMore : Conditions
-    Also : Condition → Conditions → Conditions
-
-pub record Agent : Type 0 where
-  pub name : List ℕ
-  pub body : Statements
-
--- a test
-pub record Litmus : Type 0 where
-  pub name : List ℕ
-  pub bytes : ℕ
-  pub agents : List Agent
-  pub check : Condition
+pub use Rattle.lit_read.specs.Trees.{Window, Uint8, Uint16, Uint32, DataView8, DataView16, DataView32, Statement, Load, Store, Exchange, CompareExchange, If, Statements, End, Then, Condition, Any, All, Not, Is, Conditions, NoMore, Also, Agent, Litmus}
+use Rattle.lit_read.specs.Written.{is_shallow}
+use Rattle.lit_read.specs.Parentheses.{written_of}
 
 -- the agent with a number; past the last one, an agent with no name and no statement
 abbrev pub agent_of : Litmus → ℕ → Agent
@@ -141,37 +96,9 @@ abbrev mutual
   AreConditionsOn t NoMore = Unit {0}
   AreConditionsOn t (Also c cs) = IsConditionOn t c × AreConditionsOn t cs
 
--- how many parentheses stand round a condition in an All or under a Not, and how many in an Any
-abbrev pub tight_parentheses : Condition → ℕ
-tight_parentheses (Any cs) = 1
-tight_parentheses (All cs) = 1
-tight_parentheses (Not c) = 0
-tight_parentheses (Is agent reg equal value) = 0
-
-abbrev pub loose_parentheses : Condition → ℕ
-loose_parentheses (Any cs) = 1
-loose_parentheses (All cs) = 0
-loose_parentheses (Not c) = 0
-loose_parentheses (Is agent reg equal value) = 0
-
--- the most `!` and parentheses round a comparison, written with no more parentheses than are needed
-abbrev mutual
-  pub condition_depth : Condition → ℕ
-  condition_depth (Any cs) = any_depth cs
-  condition_depth (All cs) = all_depth cs
-  condition_depth (Not c) = condition_depth c + tight_parentheses c + 1
-  condition_depth (Is agent reg equal value) = 0
-
-  pub any_depth : Conditions → ℕ
-  any_depth NoMore = 0
-  any_depth (Also c cs) = max (condition_depth c + loose_parentheses c) (any_depth cs)
-
-  pub all_depth : Conditions → ℕ
-  all_depth NoMore = 0
-  all_depth (Also c cs) = max (condition_depth c + tight_parentheses c) (all_depth cs)
-
--- What a text can say: the limits, names that are words, distinct names of agents, accesses in the block, literals in
--- range, a check on registers that are written.
+-- A test that a text can say: the limits, names that are words, distinct names of agents, accesses in the block, literals
+-- in range, a check on registers that are written, which is no deeper than it may be when written with no more
+-- parentheses than are needed.
 pub record IsLitmus (t : Litmus) : Type 0 where
   pub named : IsWord t.name
   pub some_byte : 1 ≤ t.bytes
@@ -183,4 +110,4 @@ pub record IsLitmus (t : Litmus) : Type 0 where
   pub bodies : (i : ℕ) → i < length t.agents → AreStatementsIn t.bytes (agent_of t i).body
   pub few_ifs : (i : ℕ) → i < length t.agents → nesting (agent_of t i).body ≤ IF_LIMIT
   pub check : IsConditionOn t t.check
-  pub shallow : condition_depth t.check ≤ DEPTH_LIMIT
+  pub shallow : IsTrue (is_shallow (written_of t.agents t.check))

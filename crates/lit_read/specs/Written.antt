@@ -1,5 +1,7 @@
 -- A condition as a check line has it, parentheses included (this project's own).
-use Rattle.std.specs.Prelude.{ℕ, ◌+◌, Bool, if◌then◌else◌, List, [], ◌∷◌, ◌++◌}
+use Rattle.std.specs.Prelude.{ℕ, ◌+◌, nat_le, Bool, if◌then◌else◌, List, [], ◌∷◌, ◌++◌}
+use Rattle.std.specs.List.{list_all}
+use Rattle.lit_read.specs.declared.limits.TheConstants.{DEPTH_LIMIT}
 use Rattle.lit_read.specs.declared.symbols.Symbol.TheVariants.{Same, Differs, And, Or, Not, OpenParen, CloseParen, Dot}
 use Rattle.lit_read.specs.Tokens.{Token, Word, Number, Sign}
 
@@ -63,3 +65,7 @@ abbrev mutual
   pub written_depths : ℕ → Written → List (Comparison × ℕ)
   written_depths n (Single c) = conjunction_depths n c
   written_depths n (Either c w) = conjunction_depths n c ++ written_depths n w
+
+-- no comparison stands too deep
+abbrev pub is_shallow : Written → Bool
+is_shallow w = list_all (λ p. nat_le p.1 DEPTH_LIMIT) (written_depths 0 w)

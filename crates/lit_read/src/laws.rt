@@ -1,22 +1,27 @@
 //! What holds of texts and tests by the definitions alone, so that each answer of `read` comes exactly where it is due.
 
-ghost use Rattle.std.specs.Prelude.{◌≡◌, ◌≤◌, ◌⊎◌, ◌∷◌, ◌++◌, [], ℕ, List, length, true};
-ghost use Rattle.std.specs.List.{list_all};
+ghost use Rattle.std.specs.Prelude.{◌≡◌, ◌≤◌, ◌⊎◌, ◌∷◌, ◌++◌, [], ℕ, Bool, List, length, true};
+ghost use Rattle.std.specs.List.{list_all, AllByRecursion};
 ghost use Rattle.lit_read.specs.declared.fault.ReadKind.{ReadKind};
 ghost use Rattle.lit_read.specs.declared.limits.TheConstants.{TEXT_LIMIT};
 ghost use Rattle.lit_read.specs.Syntax.{Litmus, IsLitmus};
 ghost use Rattle.lit_read.specs.Lines.{lines_of, ended_lines, is_whole_line};
 ghost use Rattle.lit_read.specs.Tokens.{Token, CutsInto};
-ghost use Rattle.lit_read.specs.Forms.{Form, HasForm, HaveForms, without_blanks};
-ghost use Rattle.lit_read.specs.Faults.{HasFault, IsFirstFault};
-ghost use Rattle.lit_read.specs.Spelling.{Spells, AreFormsOf, written_value};
+ghost use Rattle.lit_read.specs.Written.{written_tokens, is_shallow};
+ghost use Rattle.lit_read.specs.Forms.{Form, IsForm, HasForm, HaveForms, without_blanks};
+ghost use Rattle.lit_read.specs.Structure.{is_body_line, LeaveOpen};
+ghost use Rattle.lit_read.specs.Faults.{HasFault, IsFirstFault, is_allowed, is_begun, none_misplaced, open_ifs};
+ghost use Rattle.lit_read.specs.Spelling.{Spells, AreFormsOf};
 ghost use Rattle.lit_read.specs.Canonical.{canonical_forms, without_empty_elses};
+ghost use Rattle.lit_read.specs.Parentheses.{without_parentheses};
 ghost use Rattle.lit_read.specs.CanonicalText.{canonical};
 
-/// A text is its lines, none of which has a byte 10, each with a byte 10 behind it. The last byte may be left out.
+/// A text is its lines, none of which has a byte 10, each with a byte 10 behind it. Where the text does not end with a
+/// byte 10, the last one is left out.
 pub fn lines_are_joined()
     ensures some { (text : List ℕ) → 1 ≤ length (lines_of text) }
     ensures whole { (text : List ℕ) → list_all is_whole_line (lines_of text) ≡ true }
+    ensures ended { (text : List ℕ) → text ++ 10 ∷ [] ≡ ended_lines (lines_of (text ++ 10 ∷ [])) }
     ensures joined { (text : List ℕ) → (text ≡ ended_lines (lines_of text)) ⊎ (text ++ 10 ∷ [] ≡ ended_lines (lines_of text)) }
 {}
 
@@ -46,10 +51,28 @@ pub fn has_canonical_forms()
     ensures only { (t u : Litmus) → IsLitmus t → AreFormsOf (canonical_forms t) u → u ≡ t }
 {}
 
-/// Forms of one test differ by else lines with an empty part alone, and in their check lines by parentheses that change
-/// no value.
+/// Behind an agent's line and forms of statements, none of them misplaced, those `if`s are open that the forms leave open:
+/// so none is open exactly where the forms are those of whole statements. Forms that leave `if`s open are not misplaced.
+pub fn leaves_ifs_open()
+    ensures left { (given forms : List Form) → is_begun given ≡ true → open_ifs given ≡ [] → list_all is_body_line forms ≡ true → AllByRecursion IsForm forms → none_misplaced given forms ≡ true → LeaveOpen (open_ifs (given ++ forms)) forms }
+    ensures told { (given forms : List Form) → is_begun given ≡ true → open_ifs given ≡ [] → (opened : List Bool) → LeaveOpen opened forms → (none_misplaced given forms ≡ true) × (open_ifs (given ++ forms) ≡ opened) }
+{}
+
+/// Forms of one test differ by else lines with an empty part alone, and in their check lines by parentheses alone.
 pub fn differ_by_nothing_else()
-    ensures { (forms others : List Form) (t : Litmus) → (a : AreFormsOf forms t) → (b : AreFormsOf others t) → (without_empty_elses a.agents ≡ without_empty_elses b.agents) × (written_value t.agents a.check ≡ written_value t.agents b.check) }
+    ensures elses { (forms others : List Form) (t : Litmus) → (a : AreFormsOf forms t) → (b : AreFormsOf others t) → without_empty_elses a.agents ≡ without_empty_elses b.agents }
+    ensures parentheses { (forms others : List Form) (t : Litmus) → IsLitmus t → (a : AreFormsOf forms t) → (b : AreFormsOf others t) → without_parentheses (written_tokens a.check) ≡ without_parentheses (written_tokens b.check) }
+{}
+
+/// A text spells a test wherever it can: it is no longer than a text may be, its bytes may stand there, its forms, blank
+/// ones left out, are those of the test, and no comparison of its check line stands too deep.
+pub fn spells_where_it_can()
+    ensures { (text : List ℕ) (forms : List Form) (t : Litmus) → IsLitmus t → length text ≤ TEXT_LIMIT → list_all is_allowed text ≡ true → HaveForms (lines_of text) forms → (are : AreFormsOf (without_blanks forms) t) → is_shallow are.check ≡ true → Spells text t }
+{}
+
+/// What a text spells keeps the limits and rules of a test.
+pub fn spells_within_limits()
+    ensures { (text : List ℕ) (t : Litmus) → Spells text t → IsLitmus t }
 {}
 
 /// No text spells a test and has a fault.

@@ -1,7 +1,9 @@
 //! Reading a whole text.
 
-ghost use Rattle.std.specs.Prelude.{◌≡◌, ◌≢◌, Ok, IfOk, IfErr, IfSome, IfNone};
+ghost use Rattle.std.specs.Prelude.{◌≡◌, ◌≢◌, ◌<◌, length, Ok, IfOk, IfErr, IsErrAnd, IfSome, IfNone};
 ghost use Rattle.std.specs.List.{list_all};
+ghost use Rattle.lit_read.specs.declared.fault.ReadKind.TheVariants.{TooLong};
+ghost use Rattle.lit_read.specs.declared.limits.TheConstants.{TEXT_LIMIT};
 ghost use Rattle.lit_read.specs.Faults.{is_allowed, IsReadFault};
 ghost use Rattle.lit_read.specs.Forms.{Form};
 ghost use Rattle.lit_read.specs.Spelling.{Spells};
@@ -83,10 +85,12 @@ fn finished(draft: Draft) -> Option<Test>
     }
 }
 
-/// The test that a text spells, or the text's first fault.
+/// The test that a text spells, or the text's first fault. A text that is too long is answered so whatever memory there
+/// is.
 pub fn read(alloc: Global, text: &[u8]) -> Result<Test, ReadFault>
     ensures spells { IfOk result (λ t. Spells text.now t) }
     ensures fault { IfErr result (λ e. IsReadFault text.now e.kind e.line) }
+    ensures long { TEXT_LIMIT < length text.now → IsErrAnd result (λ e. (e.kind ≡ TooLong) × (e.line ≡ 1)) }
 {
     if text.len() > TEXT_LIMIT {
         return Err(fault_at(ReadKind::TooLong, 1));

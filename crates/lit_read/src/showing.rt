@@ -3,7 +3,8 @@
 ghost use Rattle.std.specs.Prelude.{◌≡◌, ◌++◌, ◌∷◌, [], IfOk, IfErr, OnOk, string_bytes};
 ghost use Rattle.lit_read.specs.declared.fault.ReadKind.TheVariants.{OutOfMemory};
 ghost use Rattle.lit_read.specs.Forms.{TestLine, BytesLine, AgentLine, CheckLine};
-ghost use Rattle.lit_read.specs.Canonical.{agents_forms, written_of};
+ghost use Rattle.lit_read.specs.Canonical.{agents_forms};
+ghost use Rattle.lit_read.specs.Parentheses.{written_of};
 ghost use Rattle.lit_read.specs.CanonicalText.{forms_text, canonical};
 
 use crate::fault::ReadFault;

@@ -3,7 +3,7 @@
 ghost use Rattle.std.specs.Prelude.{◌≡◌, ◌<◌, ◌≤◌, ◌++◌, [], nat_lt, if◌then◌else◌, OnOk, length, string_bytes};
 ghost use Rattle.lit_read.specs.Syntax.{IsConditionOn, AreConditionsOn};
 ghost use Rattle.lit_read.specs.Litmus.{condition_of};
-ghost use Rattle.lit_read.specs.Canonical.{named, operand_of, conjunction_of, all_written, any_written, written_of};
+ghost use Rattle.lit_read.specs.Parentheses.{named, operand_of, conjunction_of, all_written, any_written, written_of};
 ghost use Rattle.lit_read.specs.CanonicalText.{comparison_text, operand_text, conjunction_text, written_text};
 ghost use Rattle.lit_read.specs.Reading.Views.{conditions_view};
 

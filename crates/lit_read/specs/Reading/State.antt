@@ -5,11 +5,11 @@ use Rattle.std.specs.Str.{bytes_eq}
 use Rattle.lit_read.specs.declared.fault.ReadKind.{ReadKind}
 use Rattle.lit_read.specs.declared.fault.ReadKind.TheVariants.{Misplaced, BlockSize, TooManyAgents, DuplicateAgent, LiteralRange, OutOfBlock, UnknownName, TooDeep}
 use Rattle.lit_read.specs.declared.limits.TheConstants.{BLOCK_LIMIT, AGENT_LIMIT, COMPARED_LIMIT, REGISTERS, IF_LIMIT}
-use Rattle.lit_read.specs.Syntax.{Statement, Statements, If, End, Then, Agent, Litmus, AreStatementsIn, nesting, writes}
+use Rattle.lit_read.specs.Syntax.{Statement, Statements, If, End, Then, Agent, Litmus, IsLitmus, AreStatementsIn, nesting, writes}
 use Rattle.lit_read.specs.Tokens.{IsWord}
-use Rattle.lit_read.specs.Written.{Comparison, Written, written_depths}
+use Rattle.lit_read.specs.Written.{Comparison, Written, written_depths, is_shallow}
 use Rattle.lit_read.specs.Forms.{Form, Blank, TestLine, BytesLine, AgentLine, StatementLine, IfLine, ElseLine, EndLine, CheckLine}
-use Rattle.lit_read.specs.Faults.{has_fitting_literals, stays_in_block, has_small_numbers, is_shallow}
+use Rattle.lit_read.specs.Faults.{has_fitting_literals, stays_in_block, has_small_numbers}
 use Rattle.lit_read.specs.Spelling.{written_value}
 use Rattle.lit_read.specs.Reading.Marks.{Mark, Compares}
 
@@ -184,7 +184,7 @@ IsState (Named name) = IsWord name
 IsState (Sized name bytes) = IsWord name × (1 ≤ bytes) × (bytes ≤ BLOCK_LIMIT)
 IsState (Open name bytes agents agent levels body) = IsWord name × AreAgentsIn bytes (with_agent agents agent End) × AreLevels bytes levels × IsPart bytes (length levels) body
 IsState Empty = Unit {0}
-IsState (Whole t) = Unit {0}
+IsState (Whole t) = IsLitmus t
 
 -- no check line has ended it
 abbrev pub IsUnfinished : State → Type 0

@@ -1,4 +1,4 @@
-use Rattle.lit_read.proofs.LineLemmas.{lines_joined}
+use Rattle.lit_read.proofs.LineLemmas.{lines_joined, lines_ended}
 use Rattle.lit_read.proofs.laws.lines_are_joined.Goals as goal
 
 pub returns-clause-some : goal.returns-clause-some
@@ -9,3 +9,6 @@ returns-clause-whole c = λ text. (lines_joined text).1
 
 pub returns-clause-joined : goal.returns-clause-joined
 returns-clause-joined c = λ text. (lines_joined text).2
+
+pub returns-clause-ended : goal.returns-clause-ended
+returns-clause-ended c = lines_ended

@@ -3,7 +3,7 @@ use Rattle.std.proofs.lemmas.Result.{on_ok_weaker}
 use Rattle.lit_read.specs.declared.syntax.Cond.{Cond}
 use Rattle.lit_read.specs.Syntax.{Condition}
 use Rattle.lit_read.specs.Litmus.{condition_of}
-use Rattle.lit_read.specs.Canonical.{any_written, written_of}
+use Rattle.lit_read.specs.Parentheses.{any_written, written_of}
 use Rattle.lit_read.specs.CanonicalText.{written_text}
 use Rattle.lit_read.specs.Reading.Views.{conditions_view}
 use Rattle.lit_read.proofs.TreeViews.{any_views}

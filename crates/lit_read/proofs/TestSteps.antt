@@ -1,20 +1,20 @@
--- The reader goes through the canonical forms of a test without a fault.
-use Rattle.std.proofs.Common.{◌≡◌, ◌≢◌, ℕ, suc, ◌+◌, ◌<◌, ◌≤◌, Bool, true, false, leb, ltb, eqb, ◌&&◌, List, [], ◌∷◌, ◌++◌, length, get_or, Ok, refl, ap, sym, subst, ◌∙◌, append_assoc, arith}
+-- The reader goes through the forms of a test without a fault.
+use Rattle.std.proofs.Common.{◌≡◌, ◌≢◌, ℕ, suc, ◌+◌, ◌<◌, ◌≤◌, Bool, true, false, leb, ltb, eqb, ◌&&◌, List, [], ◌∷◌, ◌++◌, length, get_or, Ok, inl, inr, refl, ap, sym, subst, ◌∙◌, append_assoc, arith}
 use Rattle.std.specs.List.{list_any}
 use Rattle.std.specs.Str.{bytes_eq}
 use Rattle.std.proofs.lemmas.Bool.{leb-true, le-ltb, eqb-true}
 use Rattle.std.proofs.lemmas.List.{length-append, append-nil}
 use Rattle.lit_read.specs.declared.limits.TheConstants.{BLOCK_LIMIT, AGENT_LIMIT, COMPARED_LIMIT, IF_LIMIT}
 use Rattle.lit_read.specs.Syntax.{fits_window, Statement, Statements, Load, Store, Exchange, CompareExchange, If, End, Then, IsStatementIn, AreStatementsIn, statement_nesting, nesting, Condition, Agent, Litmus, IsLitmus}
-use Rattle.lit_read.specs.Written.{Written}
+use Rattle.lit_read.specs.Written.{Written, is_shallow}
 use Rattle.lit_read.specs.Forms.{Form, TestLine, BytesLine, AgentLine, StatementLine, IfLine, ElseLine, EndLine, CheckLine}
+use Rattle.lit_read.specs.Structure.{IsStatement, AreStatements, AreElse, AreAgents}
 use Rattle.lit_read.specs.Faults.{has_fitting_literals, stays_in_block}
-use Rattle.lit_read.specs.Spelling.{written_value}
-use Rattle.lit_read.specs.Canonical.{statement_forms, statements_forms, else_forms, agents_forms, written_of, canonical_forms}
+use Rattle.lit_read.specs.Spelling.{written_value, AreFormsOf}
 use Rattle.lit_read.specs.Reading.State.{Level, State, Empty, Named, Sized, Open, Whole, followed_by, with_agent, else_level, are_known, test_step, block_step, next_step, agent_step, statement_step, if_step, else_step, end_step, check_step, step}
 use Rattle.lit_read.proofs.TestForms.{behind, behind_end, behind_one, new_level}
-use Rattle.lit_read.proofs.CanonicalForms.{differ, written_back}
-use Rattle.lit_read.proofs.CanonicalAsks.{check_small, check_known, check_shallow}
+use Rattle.lit_read.proofs.CanonicalForms.{differ}
+use Rattle.lit_read.proofs.CheckAsks.{check_small, check_known}
 use Rattle.lit_read.proofs.CheckSteps.{fine}
 
 -- these forms, one after the other, make this draft of that one
@@ -64,39 +64,44 @@ module _ (name : List ℕ) (bytes : ℕ) (agents : List Agent) (agent : List ℕ
 
   -- ---- statements
 
+  abbrev Goes : List Level → Statements → List Form → List Level → Statements → Type 0
+  Goes levels body fs more after = Reaches (at levels body) fs (at more after)
+
   mutual
-    statement_reached : (s : Statement) (levels : List Level) (body : Statements) → IsStatementIn bytes s → statement_nesting s + length levels ≤ IF_LIMIT → Reaches (at levels body) (statement_forms s) (at levels (followed_by body s))
-    statement_reached (Load r w i a) levels body is deep = (at levels (followed_by body (Load r w i a)), access_step (Load r w i a) levels body refl is.1, refl)
-    statement_reached (Store w i v a) levels body is deep = (at levels (followed_by body (Store w i v a)), access_step (Store w i v a) levels body is.1 is.0, refl)
-    statement_reached (Exchange r w i v) levels body is deep = (at levels (followed_by body (Exchange r w i v)), access_step (Exchange r w i v) levels body is.2 is.1, refl)
-    statement_reached (CompareExchange r w i e v) levels body is deep =
-        (at levels (followed_by body (CompareExchange r w i e v)), access_step (CompareExchange r w i e v) levels body (both_fit (fits_window w e) (fits_window w v) is.2 is.3) is.1, refl)
-    statement_reached (If r e v part other) levels body is deep =
-        let inside = new_level r e v body ∷ levels in (
+    statement_reached : (fs : List Form) (s : Statement) (levels : List Level) (body : Statements) → IsStatement fs s → IsStatementIn bytes s → statement_nesting s + length levels ≤ IF_LIMIT → Goes levels body fs levels (followed_by body s)
+    statement_reached fs (Load r w i a) levels body h is deep = rw h (at levels (followed_by body (Load r w i a)), access_step (Load r w i a) levels body refl is.1, refl)
+    statement_reached fs (Store w i v a) levels body h is deep = rw h (at levels (followed_by body (Store w i v a)), access_step (Store w i v a) levels body is.1 is.0, refl)
+    statement_reached fs (Exchange r w i v) levels body h is deep = rw h (at levels (followed_by body (Exchange r w i v)), access_step (Exchange r w i v) levels body is.2 is.1, refl)
+    statement_reached fs (CompareExchange r w i e v) levels body h is deep =
+        rw h (at levels (followed_by body (CompareExchange r w i e v)), access_step (CompareExchange r w i e v) levels body (both_fit (fits_window w e) (fits_window w v) is.2 is.3) is.1, refl)
+    statement_reached fs (If r e v part other) levels body h is deep =
+        let inside = new_level r e v body ∷ levels in
+        rw h.2 (
           at inside End,
           begin_if r e v levels body is.1 (omega arith),
-          reaches_then (statements_forms part) (else_forms other ++ EndLine ∷ []) (at inside End) (at inside part) (at levels (followed_by body (If r e v part other)))
-              (statements_reached part inside End is.2 (omega arith)) (else_reached r e v body part other levels is.3 (omega arith)),
+          reaches_then h.0 (h.1 ++ EndLine ∷ []) (at inside End) (at inside part) (at levels (followed_by body (If r e v part other)))
+              (statements_reached h.0 part inside End h.3 is.2 (omega arith)) (else_reached h.1 r e v body part other levels h.4 is.3 (omega arith)),
         )
 
-    pub statements_reached : (ss : Statements) (levels : List Level) (body : Statements) → AreStatementsIn bytes ss → nesting ss + length levels ≤ IF_LIMIT → Reaches (at levels body) (statements_forms ss) (at levels (behind body ss))
-    statements_reached End levels body are deep = ap (at levels) (sym (behind_end body))
-    statements_reached (Then s ss) levels body are deep =
-        reaches_then (statement_forms s) (statements_forms ss) (at levels body) (at levels (followed_by body s)) (at levels (behind body (Then s ss))) (statement_reached s levels body are.0 (omega arith))
-        (subst (λ (x : Statements). Reaches (at levels (followed_by body s)) (statements_forms ss) (at levels x)) (behind_one body s ss) (statements_reached ss levels (followed_by body s) are.1 (omega arith)))
+    pub statements_reached : (fs : List Form) (ss : Statements) (levels : List Level) (body : Statements) → AreStatements fs ss → AreStatementsIn bytes ss → nesting ss + length levels ≤ IF_LIMIT → Goes levels body fs levels (behind body ss)
+    statements_reached fs End levels body h are deep = rw h (ap (at levels) (sym (behind_end body)))
+    statements_reached fs (Then s ss) levels body h are deep =
+        rw h.2
+        (reaches_then h.0 h.1 (at levels body) (at levels (followed_by body s)) (at levels (behind body (Then s ss))) (statement_reached h.0 s levels body h.3 are.0 (omega arith))
+        (subst (λ (x : Statements). Goes levels (followed_by body s) h.1 levels x) (behind_one body s ss) (statements_reached h.1 ss levels (followed_by body s) h.4 are.1 (omega arith))))
 
-    else_reached : (r : ℕ) (e : Bool) (v : ℕ) (body part other : Statements) (levels : List Level) → AreStatementsIn bytes other → nesting other + (length levels + 1) ≤ IF_LIMIT
-        → Reaches (at (new_level r e v body ∷ levels) part) (else_forms other ++ EndLine ∷ []) (at levels (followed_by body (If r e v part other)))
-    else_reached r e v body part End levels are deep = (at levels (followed_by body (If r e v part End)), end_then r e v body part levels, refl)
-    else_reached r e v body part (Then s ss) levels are deep =
+    else_reached : (fs : List Form) (r : ℕ) (e : Bool) (v : ℕ) (body part other : Statements) (levels : List Level) → AreElse fs other → AreStatementsIn bytes other → nesting other + (length levels + 1) ≤ IF_LIMIT
+        → Goes (new_level r e v body ∷ levels) part (fs ++ EndLine ∷ []) levels (followed_by body (If r e v part other))
+    else_reached fs r e v body part End levels (inl h) are deep = rw h (at levels (followed_by body (If r e v part End)), end_then r e v body part levels, refl)
+    else_reached fs r e v body part End levels (inr h) are deep =
         let inside = else_level (new_level r e v body) part ∷ levels in
-        let end : Reaches (at inside (Then s ss)) (EndLine ∷ []) (at levels (followed_by body (If r e v part (Then s ss)))) = (at levels (followed_by body (If r e v part (Then s ss))), end_else r e v body part (Then s ss) levels, refl) in
-        let both : Reaches (at inside End) (statement_forms s ++ statements_forms ss) (at inside (Then s ss)) =
-        reaches_then (statement_forms s) (statements_forms ss) (at inside End) (at inside (Then s End)) (at inside (Then s ss)) (statement_reached s inside End are.0 (omega arith)) (statements_reached ss inside (Then s End) are.1 (omega arith)) in (
-          at inside End,
-          begin_else r e v body part levels,
-          reaches_then (statement_forms s ++ statements_forms ss) (EndLine ∷ []) (at inside End) (at inside (Then s ss)) (at levels (followed_by body (If r e v part (Then s ss)))) both end,
-        )
+        rw h (at inside End, begin_else r e v body part levels, (at levels (followed_by body (If r e v part End)), end_else r e v body part End levels, refl))
+    else_reached fs r e v body part (Then s ss) levels h are deep =
+        let inside = else_level (new_level r e v body) part ∷ levels in
+        let end : Goes inside (Then s ss) (EndLine ∷ []) levels (followed_by body (If r e v part (Then s ss))) = (at levels (followed_by body (If r e v part (Then s ss))), end_else r e v body part (Then s ss) levels, refl) in
+        let both : Goes inside End (h.0 ++ h.1) inside (Then s ss) =
+        reaches_then h.0 h.1 (at inside End) (at inside (Then s End)) (at inside (Then s ss)) (statement_reached h.0 s inside End h.3 are.0 (omega arith)) (statements_reached h.1 ss inside (Then s End) h.4 are.1 (omega arith)) in
+        rw h.2 (at inside End, begin_else r e v body part levels, reaches_then (h.0 ++ h.1) (EndLine ∷ []) (at inside End) (at inside (Then s ss)) (at levels (followed_by body (If r e v part (Then s ss)))) both end)
 
 -- ---- agents
 
@@ -140,23 +145,23 @@ module _ (name : List ℕ) (bytes : ℕ) where
     together : with_agent earlier agent body ≡ agents
     reached : Reaches s forms (bare earlier agent body)
 
-  agents_reached : (others agents : List Agent) (agent : List ℕ) (body : Statements) → AreBodies bytes others → length agents + length others < AGENT_LIMIT → IsApart (with_agent agents agent body ++ others)
-      → Reached (bare agents agent body) (agents_forms others) (with_agent agents agent body ++ others)
-  agents_reached [] agents agent body are few apart = record { earlier = agents; agent = agent; body = body; together = sym (append-nil (with_agent agents agent body)); reached = refl }
-  agents_reached (a ∷ others) agents agent body are few apart =
+  agents_reached : (fs : List Form) (others agents : List Agent) (agent : List ℕ) (body : Statements) → AreAgents fs others → AreBodies bytes others → length agents + length others < AGENT_LIMIT → IsApart (with_agent agents agent body ++ others)
+      → Reached (bare agents agent body) fs (with_agent agents agent body ++ others)
+  agents_reached fs [] agents agent body h are few apart = record { earlier = agents; agent = agent; body = body; together = sym (append-nil (with_agent agents agent body)); reached = rw h refl }
+  agents_reached fs (a ∷ others) agents agent body h are few apart =
       let all = with_agent agents agent body in
       let same : all ++ a ∷ others ≡ with_agent all a.name a.body ++ others = sym (append_assoc all (a ∷ []) others) in
-      let rest = agents_reached others all a.name a.body are.2 (omega (arith, length-append agents (record { name = agent; body = body } ∷ []))) (subst IsApart same apart) in
-      subst (Reached (bare agents agent body) (agents_forms (a ∷ others))) (sym same)
+      let rest = agents_reached h.1 others all a.name a.body h.4 are.2 (omega (arith, length-append agents (record { name = agent; body = body } ∷ []))) (subst IsApart same apart) in
+      subst (Reached (bare agents agent body) fs) (sym same)
       (record {
         earlier = rest.earlier;
         agent = rest.agent;
         body = rest.body;
         together = rest.together;
-        reached = (
+        reached = rw h.2 (
           bare all a.name End,
           next_agent agents agent body a.name (omega arith) (name_new all a others apart),
-          reaches_then (statements_forms a.body) (agents_forms others) (bare all a.name End) (bare all a.name a.body) (bare rest.earlier rest.agent rest.body) (statements_reached name bytes all a.name a.body [] End are.0 (omega (arith, are.1))) rest.reached,
+          reaches_then h.0 h.1 (bare all a.name End) (bare all a.name a.body) (bare rest.earlier rest.agent rest.body) (statements_reached name bytes all a.name h.0 a.body [] End h.3 are.0 (omega (arith, are.1))) rest.reached,
         );
       })
 
@@ -179,33 +184,32 @@ bodies_are : (bytes : ℕ) (agents : List Agent) → ((i : ℕ) → i < length a
 bodies_are bytes [] h k = tt
 bodies_are bytes (a ∷ others) h k = (h 0 (omega arith), k 0 (omega arith), bodies_are bytes others (λ i lt. h (suc i) (omega arith)) (λ i lt. k (suc i) (omega arith)))
 
-module _ (t : Litmus) (is : IsLitmus t) where
-  abbrev asked : Written
-  asked = written_of t.agents t.check
-
+module _ (t : Litmus) (is : IsLitmus t) (asked : Written) (asks : t.check ≡ written_value t.agents asked) (shallow : is_shallow asked ≡ true) where
   abbrev with_check : List Agent → Condition → State
   with_check agents check = Whole (record { name = t.name; bytes = t.bytes; agents = agents; check = check })
 
   check_reached : (earlier : List Agent) (agent : List ℕ) (body : Statements) → with_agent earlier agent body ≡ t.agents → step (Open t.name t.bytes earlier agent [] body) (CheckLine asked) ≡ Ok (Whole t)
   check_reached earlier agent body all =
       checked (Open t.name t.bytes earlier agent [] body) asked
-      ∙ fine t.name t.bytes earlier agent body asked (check_small t is) (subst (λ (agents : List Agent). are_known agents asked ≡ true) (sym all) (check_known t is)) (check_shallow t is)
-      ∙ ap (λ (agents : List Agent). Ok (with_check agents (written_value agents asked))) all ∙ ap (λ (check : Condition). Ok (with_check t.agents check)) (written_back t is t.check is.check)
+      ∙ fine t.name t.bytes earlier agent body asked (check_small t is asked asks) (subst (λ (agents : List Agent). are_known agents asked ≡ true) (sym all) (check_known t is asked asks)) shallow
+      ∙ ap (λ (agents : List Agent). Ok (with_check agents (written_value agents asked))) all ∙ ap (λ (check : Condition). Ok (with_check t.agents check)) (sym asks)
 
-  agents_whole : (a : Agent) (others : List Agent) → t.agents ≡ a ∷ others → Reaches (Sized t.name t.bytes) (agents_forms (a ∷ others) ++ CheckLine asked ∷ []) (Whole t)
-  agents_whole a others e =
+  agents_whole : (fs : List Form) (a : Agent) (others : List Agent) → t.agents ≡ a ∷ others → AreAgents fs (a ∷ others) → Reaches (Sized t.name t.bytes) (fs ++ CheckLine asked ∷ []) (Whole t)
+  agents_whole fs a others e h =
       let are = subst (AreBodies t.bytes) e (bodies_are t.bytes t.agents is.bodies is.few_ifs) in
       let open_first = Open t.name t.bytes [] a.name [] in
-      let rest = agents_reached t.name t.bytes others [] a.name a.body are.2 (omega (arith, is.few_agents, ap length e)) (subst IsApart e is.distinct) in
+      let rest = agents_reached t.name t.bytes h.1 others [] a.name a.body h.4 are.2 (omega (arith, is.few_agents, ap length e)) (subst IsApart e is.distinct) in
       let last = Open t.name t.bytes rest.earlier rest.agent [] rest.body in
-      let first = statements_reached t.name t.bytes [] a.name a.body [] End are.0 (omega (arith, are.1)) in
-      let both : Reaches (open_first End) (statements_forms a.body ++ agents_forms others) last = reaches_then (statements_forms a.body) (agents_forms others) (open_first End) (open_first a.body) last first rest.reached in
+      let first = statements_reached t.name t.bytes [] a.name h.0 a.body [] End h.3 are.0 (omega (arith, are.1)) in
+      let both : Reaches (open_first End) (h.0 ++ h.1) last = reaches_then h.0 h.1 (open_first End) (open_first a.body) last first rest.reached in
       let check : Reaches last (CheckLine asked ∷ []) (Whole t) = (Whole t, check_reached rest.earlier rest.agent rest.body (subst (λ (agents : List Agent). with_agent rest.earlier rest.agent rest.body ≡ agents) (sym e) rest.together), refl) in
-      (open_first End, (begins t.name t.bytes a.name is.some_byte is.block).2, reaches_then (statements_forms a.body ++ agents_forms others) (CheckLine asked ∷ []) (open_first End) last (Whole t) both check)
+      rw h.2 (open_first End, (begins t.name t.bytes a.name is.some_byte is.block).2, reaches_then (h.0 ++ h.1) (CheckLine asked ∷ []) (open_first End) last (Whole t) both check)
 
-  all_agents : (agents : List Agent) → t.agents ≡ agents → Reaches (Sized t.name t.bytes) (agents_forms agents ++ CheckLine asked ∷ []) (Whole t)
-  all_agents [] e = absurd (omega (arith, is.some_agent, ap length e))
-  all_agents (a ∷ others) e = agents_whole a others e
+  all_agents : (fs : List Form) (agents : List Agent) → t.agents ≡ agents → AreAgents fs agents → Reaches (Sized t.name t.bytes) (fs ++ CheckLine asked ∷ []) (Whole t)
+  all_agents fs [] e h = absurd (omega (arith, is.some_agent, ap length e))
+  all_agents fs (a ∷ others) e h = agents_whole fs a others e h
 
-  pub test_reached : Reaches Empty (canonical_forms t) (Whole t)
-  test_reached = let first = begins t.name t.bytes [] is.some_byte is.block in (Named t.name, first.0, (Sized t.name t.bytes, first.1, all_agents t.agents refl))
+pub test_reached : (t : Litmus) (fs : List Form) → IsLitmus t → (are : AreFormsOf fs t) → is_shallow are.check ≡ true → Reaches Empty fs (Whole t)
+test_reached t fs is are shallow =
+    let first = begins t.name t.bytes [] is.some_byte is.block in
+    rw are.parts (Named t.name, first.0, (Sized t.name t.bytes, first.1, all_agents t is are.check are.asks shallow are.agents t.agents refl are.bodies))
