@@ -8,3 +8,4 @@ pub mod Class
 pub mod Searching
 pub mod Entry
 pub mod Found
+pub mod Interleaving

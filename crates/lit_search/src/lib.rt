@@ -5,16 +5,20 @@
 //! and `lit_order`.
 #![tactic(auto)]
 
+mod block;
 mod class;
 mod collector;
 mod completing;
 mod cursor;
+mod deciding;
 mod found;
 mod holding;
+mod interleaving;
 mod kept;
 mod laws;
 mod merging;
 mod passing;
+mod runner;
 mod searching;
 mod standing_in;
 mod using;
@@ -27,6 +31,7 @@ pub use completing::{
     settled_pasts_are_final, whole_parts_are_decided_by_orders,
 };
 pub use found::{Example, Found, Outcome, SearchFault};
+pub use interleaving::interleave;
 pub use laws::{choices_have_one_outcome, reports_are_unique, reports_go_by_choices};
 pub use merging::merge;
 pub use searching::{first_in, search_range};
