@@ -22,3 +22,4 @@ pub mod SeenLemmas
 pub mod NextAccess
 pub mod AccessLemmas
 pub mod MomentLemmas
+pub mod SequentialLemmas

@@ -9,3 +9,4 @@ pub mod Searching
 pub mod Entry
 pub mod Found
 pub mod Interleaving
+pub mod Sequential
