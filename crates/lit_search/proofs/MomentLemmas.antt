@@ -5,36 +5,9 @@ use Rattle.std.proofs.lemmas.List.{drop_all, length-map, take_all}
 use Rattle.lit_read.specs.declared.limits.TheConstants.{REGISTERS}
 use Rattle.lit_read.specs.Syntax.{Agent, Litmus, IsLitmus, Statement, Statements, Load, Store, Exchange, CompareExchange, If, End, Then, IsStatementIn, AreStatementsIn}
 use Rattle.lit_paths.specs.Run.{compares}
-use Rattle.lit_search.specs.Interleaving.{Contents, Moment, Progress, accessed, after, after_each, after_end, after_statement, after_turn, beginning, access_or, found_by, from_access, from_access_in, left_behind, progress_of}
-use Rattle.lit_search.specs.Searching.Runners.{is_access}
+use Rattle.lit_search.specs.Interleaving.{Contents, Moment, Progress, accessed, after, after_each, after_end, after_statement, after_turn, beginning, found_by, from_access, left_behind, progress_of}
 use Rattle.lit_search.proofs.AccessLemmas.{access_keeps}
 use Rattle.lit_search.proofs.NextAccess.{said_from}
-
--- ---- the next access is one
-abbrev BeginsWithAccess : Statements → Type 0
-BeginsWithAccess End = Unit {0}
-BeginsWithAccess (Then s ss) = is_access s ≡ true
-
-mutual
-  begins_in : (registers : List ℕ) (s : Statement) → BeginsWithAccess (from_access_in registers s)
-  begins_in registers (Load reg window index atomic) = refl
-  begins_in registers (Store window index value atomic) = refl
-  begins_in registers (Exchange reg window index value) = refl
-  begins_in registers (CompareExchange reg window index expected value) = refl
-  begins_in registers (If reg equal value body other) = by (compares equal (slice_index registers reg) value) (begins_from registers body) (begins_from registers other)
-    where
-      by : (b : Bool) → BeginsWithAccess (from_access registers body) → BeginsWithAccess (from_access registers other)
-          → BeginsWithAccess (if b then from_access registers body else from_access registers other)
-      by true p q = p
-      by false p q = q
-
-  pub begins_from : (registers : List ℕ) (ss : Statements) → BeginsWithAccess (from_access registers ss)
-  begins_from registers End = tt
-  begins_from registers (Then s ss) = by (from_access_in registers s) (begins_in registers s) (begins_from registers ss)
-    where
-      by : (a : Statements) → BeginsWithAccess a → BeginsWithAccess (from_access registers ss) → BeginsWithAccess (access_or a ss (from_access registers ss))
-      by End p q = q
-      by (Then x more) p q = p
 
 -- ---- what statements keep
 mutual

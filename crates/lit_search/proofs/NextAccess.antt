@@ -26,14 +26,6 @@ pub said-joined : (bytes : ℕ) (a b : Statements) → AreStatementsIn bytes a �
 said-joined bytes End b p q = q
 said-joined bytes (Then s ss) b p q = (p.0, said-joined bytes ss b p.1 q)
 
-pub said-first : (bytes : ℕ) (a b : Statements) → AreStatementsIn bytes (joined a b) → AreStatementsIn bytes a
-said-first bytes End b p = tt
-said-first bytes (Then s ss) b p = (p.0, said-first bytes ss b p.1)
-
-pub said-second : (bytes : ℕ) (a b : Statements) → AreStatementsIn bytes (joined a b) → AreStatementsIn bytes b
-said-second bytes End b p = p
-said-second bytes (Then s ss) b p = said-second bytes ss b p.1
-
 -- ---- the next access of joined statements
 regrouped : (a ss k x y z : Statements) → y ≡ access_or x k z → access_or a (joined ss k) y ≡ access_or (access_or a ss x) k z
 regrouped End ss k x y z is = is

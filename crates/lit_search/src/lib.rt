@@ -1,8 +1,8 @@
 //! The outcomes of a litmus test: which choices of it belong to valid executions, and what is read in them.
 //!
 //! `search_range` gives the report of a range of a plan's choices: the outcomes of the valid executions, each with its
-//! least example. The definitions stand in `specs/`: `ValidExecution` and `Report`, over those of `lit_paths`, `lit_rel`
-//! and `lit_order`.
+//! least example. `interleave` gives the outcome of a schedule, step by step. The definitions stand in `specs/`:
+//! `ValidExecution`, `Report` and `Interleaving`, over those of `lit_paths`, `lit_rel` and `lit_order`.
 #![tactic(auto)]
 
 mod block;
