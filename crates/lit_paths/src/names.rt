@@ -1,6 +1,6 @@
 //! The registers of an outcome, and the value of a condition on them.
 
-ghost use Rattle.std.specs.Prelude.{◌≡◌, ◌+◌, ◌≤◌, ◌++◌, [], length};
+ghost use Rattle.std.specs.Prelude.{◌≡◌, ◌+◌, ◌<◌, ◌≤◌, ◌++◌, All, [], length};
 ghost use Rattle.std.specs.List.{zip};
 ghost use Rattle.arrayvec.specs.ArrayVec.{array_vec_len};
 ghost use Rattle.lit_read.specs.Litmus.{statements_of, condition_of};
@@ -29,8 +29,9 @@ fn push_names(names: &mut Names, agent: u8, body: &[Stmt])
 }
 
 /// Each register that is written anywhere in its agent's text: agents in order, registers rising.
-pub(crate) fn written_names(test: &Test) -> Names
-    ensures { result.items ≡ names_of test.now }
+pub fn written_names(test: &Test) -> Names
+    ensures value { result.items ≡ names_of test.now }
+    ensures known { All (λ name. (name.0 < length test.now.agents) × (name.1 < REGISTERS)) result.items }
 {
     let mut names = Names::new();
     for agent in 0..test.agents() {

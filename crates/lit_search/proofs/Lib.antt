@@ -19,3 +19,7 @@ pub mod KeptEntries
 pub mod Keeping
 pub mod OneOutcome
 pub mod SeenLemmas
+pub mod NextAccess
+pub mod AccessLemmas
+pub mod MomentLemmas
+pub mod SequentialLemmas

@@ -8,3 +8,5 @@ pub mod Class
 pub mod Searching
 pub mod Entry
 pub mod Found
+pub mod Interleaving
+pub mod Sequential

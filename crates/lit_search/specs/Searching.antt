@@ -13,3 +13,4 @@ pub mod Laws
 pub mod Wanting
 pub mod Passing
 pub mod StoodFor
+pub mod Runners

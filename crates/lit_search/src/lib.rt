@@ -1,21 +1,26 @@
 //! The outcomes of a litmus test: which choices of it belong to valid executions, and what is read in them.
 //!
 //! `search_range` gives the report of a range of a plan's choices: the outcomes of the valid executions, each with its
-//! least example. The definitions stand in `specs/`: `ValidExecution` and `Report`, over those of `lit_paths`, `lit_rel`
-//! and `lit_order`.
+//! least example. `interleave` gives the outcome of a schedule, step by step. The definitions stand in `specs/`:
+//! `ValidExecution`, `Report` and `Interleaving`, over those of `lit_paths`, `lit_rel` and `lit_order`.
 #![tactic(auto)]
 
+mod block;
 mod class;
 mod collector;
 mod completing;
 mod cursor;
+mod deciding;
 mod found;
 mod holding;
+mod interleaving;
 mod kept;
 mod laws;
 mod merging;
 mod passing;
+mod runner;
 mod searching;
+mod sequential;
 mod standing_in;
 mod using;
 mod wanted;
@@ -27,6 +32,8 @@ pub use completing::{
     settled_pasts_are_final, whole_parts_are_decided_by_orders,
 };
 pub use found::{Example, Found, Outcome, SearchFault};
+pub use interleaving::interleave;
 pub use laws::{choices_have_one_outcome, reports_are_unique, reports_go_by_choices};
 pub use merging::merge;
 pub use searching::{first_in, search_range};
+pub use sequential::sequential_executions_are_valid;

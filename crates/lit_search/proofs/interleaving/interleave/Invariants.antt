@@ -1,0 +1,12 @@
+use Rattle.std.proofs.Common.{◌≡◌, take}
+use Rattle.std.specs.List.{range_with_len}
+use Rattle.lit_search.specs.Interleaving.{Moment, after_each, after_end, after_turn, beginning}
+use Rattle.lit_search.proofs.interleaving.interleave.Given as goal
+
+abbrev pub invariant-turns : goal.invariant-turns
+invariant-turns l = let m : Moment = record { block = l.block.items; agents = l.runners.items } in m ≡ after_each after_turn (beginning l.test) (take l.agent-index l.schedule)
+
+abbrev pub invariant-ends : goal.invariant-ends
+invariant-ends l =
+    let m : Moment = record { block = l.block.items; agents = l.runners.items } in
+    m ≡ after_each after_end (after_each after_turn (beginning l.test) l.schedule) (range_with_len 0 l.agent)
