@@ -15,6 +15,7 @@ use std::test::Fail;
 use std::thread::Threads;
 
 mod command_line;
+mod cut_texts;
 mod devices;
 mod idle_events;
 mod independent_reads;

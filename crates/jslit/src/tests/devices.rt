@@ -1,7 +1,7 @@
 //! Readers and writers that are slow or fail.
 
 use super::ONE_WORKER;
-use super::reports::UNTOUCHED_BYTE;
+use super::reports::{OWN_STORE, UNTOUCHED_BYTE};
 use crate::command::program;
 use crate::counted::Counted;
 use crate::engine::run;
@@ -271,4 +271,105 @@ fn flushing_fails(rt: HostRuntime) -> Result<(), Fail> {
     let (text, report) = UNTOUCHED_BYTE;
     flushes_once(&rt, text, 4, report, "output_failed\n")?;
     flushes_once(&rt, "", 1, "refused 12 missing_part line 1\n", "")
+}
+
+/// Gives or takes one byte a call, and fails at a call, or never where that is 0.
+#[derive(Drop)]
+struct Failing<'t> {
+    rest: &'t [u8],
+    taken: Vec<u8>,
+    call: usize,
+    fails_at: usize,
+}
+
+impl Failing<'_> {
+    /// Whether the call that begins now is the one that fails.
+    fn fails(&mut self) -> bool {
+        self.call = self.call.saturating_add(1);
+        self.call == self.fails_at
+    }
+}
+
+impl Read for Failing<'_> {
+    fn read(&mut self, buf: &mut [u8]) -> io::Result<usize> {
+        if self.fails() {
+            return Err(io::Error::other("broken"));
+        }
+        let wanted = buf.len().min(1);
+        self.rest.read(&mut buf[..wanted])
+    }
+}
+
+impl Write for Failing<'_> {
+    fn write(&mut self, buf: &[u8]) -> io::Result<usize> {
+        if self.fails() {
+            return Err(io::Error::other("broken"));
+        }
+        let taken = buf.len().min(1);
+        match self.taken.extend_from_slice(&buf[..taken]) {
+            Ok(()) => Ok(taken),
+            Err(_) => Ok(0),
+        }
+    }
+
+    fn flush(&mut self) -> io::Result<()> {
+        Ok(())
+    }
+}
+
+/// A device that has these bytes to give, and fails at this call.
+fn fails_at_call(alloc: Global, rest: &[u8], fails_at: usize) -> Failing<'_> {
+    Failing {
+        rest,
+        taken: Vec::new(alloc),
+        call: 0,
+        fails_at,
+    }
+}
+
+#[test]
+fn input_fails_at_each_call(rt: HostRuntime) -> Result<(), Fail> {
+    let alloc = rt.alloc();
+    let (text, report) = OWN_STORE;
+    for call in 0..64 {
+        let mut input = Counted::new(fails_at_call(alloc, text.as_bytes(), call));
+        let mut output = Counted::new(Vec::new(alloc));
+        let outcome = run(&rt, alloc, &mut input, &mut output, ONE_WORKER);
+        let written = output.into_inner();
+        if call == 0 {
+            assert!(rt; outcome.is_ok());
+            assert_eq!(rt; input.failures(), 0);
+            assert_eq!(rt; written.as_slice(), report.as_bytes());
+        } else {
+            assert!(rt; outcome == Err(RunFault::InputFailed));
+            assert_eq!(rt; input.failures(), 1);
+            assert!(rt; written.is_empty());
+        }
+    }
+    Ok(())
+}
+
+#[test]
+fn output_fails_at_each_call(rt: HostRuntime) -> Result<(), Fail> {
+    let alloc = rt.alloc();
+    let (text, report) = OWN_STORE;
+    assert_eq!(rt; report.len(), 89);
+    for call in 1..91 {
+        let mut input = Counted::new(text.as_bytes());
+        let mut output = Counted::new(fails_at_call(alloc, &[], call));
+        let outcome = run(&rt, alloc, &mut input, &mut output, ONE_WORKER);
+        let taken = call.min(90) - 1;
+        if call == 90 {
+            assert!(rt; outcome.is_ok());
+            assert_eq!(rt; output.failures(), 0);
+        } else {
+            assert!(rt; outcome == Err(RunFault::OutputFailed));
+            assert_eq!(rt; output.failures(), 1);
+        }
+        assert_eq!(rt;
+            output.into_inner().taken.as_slice(),
+            &report.as_bytes()[..taken]
+        );
+    }
+    Ok(())
 }

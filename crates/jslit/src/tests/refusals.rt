@@ -163,19 +163,6 @@ fn thirteen_branches(rt: HostRuntime) -> Result<(), Fail> {
 }
 
 #[test]
-fn ninth_level(rt: HostRuntime) -> Result<(), Fail> {
-    let mut text = Vec::from_slice(rt.alloc(), b"test t\nbytes 1\nagent A\nr0 = U8[0]\n")?;
-    for _ in 0..9 {
-        text.extend_from_slice(b"if r0 == 0 {\n")?;
-    }
-    for _ in 0..9 {
-        text.extend_from_slice(b"}\n")?;
-    }
-    text.extend_from_slice(b"check A.r0 == 0\n")?;
-    prints(&rt, &text, b"refused 11 too_deep line 13\n", 1)
-}
-
-#[test]
 fn too_many_choices(rt: HostRuntime) -> Result<(), Fail> {
     let mut text = Vec::from_slice(
         rt.alloc(),
