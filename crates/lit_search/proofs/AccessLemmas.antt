@@ -17,7 +17,7 @@ in_block bytes DataView8 index h = grind (arith, nat_tests)
 in_block bytes DataView16 index h = grind (arith, nat_tests)
 in_block bytes DataView32 index h = grind (arith, nat_tests)
 
-few_bytes : (window : Window) → window_size window ≤ 4
+pub few_bytes : (window : Window) → window_size window ≤ 4
 few_bytes Uint8 = omega arith
 few_bytes Uint16 = omega arith
 few_bytes Uint32 = omega arith

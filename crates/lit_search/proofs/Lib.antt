@@ -23,3 +23,14 @@ pub mod NextAccess
 pub mod AccessLemmas
 pub mod MomentLemmas
 pub mod SequentialLemmas
+pub mod CourseLemmas
+pub mod ActLemmas
+pub mod MakerLemmas
+pub mod FutureLemmas
+pub mod OwnAccesses
+pub mod TimeLemmas
+pub mod WriterLemmas
+pub mod BlockLemmas
+pub mod NumberedActs
+pub mod RunsInTurn
+pub mod ScheduleLemmas

@@ -49,7 +49,7 @@ put_one P (q ∷ ps) zero p d all it (suc k) = all (suc k)
 put_one P (q ∷ ps) (suc i) p d all it zero = all zero
 put_one P (q ∷ ps) (suc i) p d all it (suc k) = put_one P ps i p d (λ j. all (suc j)) it k
 
-length_put : (ps : List Progress) (i : ℕ) (p : Progress) → length (slice_set ps i p) ≡ length ps
+pub length_put : (ps : List Progress) (i : ℕ) (p : Progress) → length (slice_set ps i p) ≡ length ps
 length_put [] i p = refl
 length_put (q ∷ ps) zero p = refl
 length_put (q ∷ ps) (suc i) p = ap suc (length_put ps i p)
@@ -85,7 +85,7 @@ said_first bytes [] a p none all i = subst (AreStatementsIn bytes) (sym none) tt
 said_first bytes (b ∷ agents) a p none all zero = all zero (omega arith)
 said_first bytes (b ∷ agents) a p none all (suc i) = said_first bytes agents a p none (λ k lt. all (suc k) (omega (arith, lt))) i
 
-long_zeros : (n x : ℕ) → length (replicate n x) ≡ n
+pub long_zeros : (n x : ℕ) → length (replicate n x) ≡ n
 long_zeros zero x = refl
 long_zeros (suc n) x = ap suc (long_zeros n x)
 

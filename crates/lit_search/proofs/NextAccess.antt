@@ -179,7 +179,7 @@ after-joined (Then s ss) b c = after-joined ss b (after_statement s c)
 
 -- an `if` changes nothing before the next access
 mutual
-  after_in : (s : Statement) (c : Contents) → after (from_access_in c.registers s) c ≡ after_statement s c
+  pub after_in : (s : Statement) (c : Contents) → after (from_access_in c.registers s) c ≡ after_statement s c
   after_in (Load reg window index atomic) c = refl
   after_in (Store window index value atomic) c = refl
   after_in (Exchange reg window index value) c = refl

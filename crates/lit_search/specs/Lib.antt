@@ -10,3 +10,4 @@ pub mod Entry
 pub mod Found
 pub mod Interleaving
 pub mod Sequential
+pub mod InTurn

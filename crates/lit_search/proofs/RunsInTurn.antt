@@ -1,0 +1,253 @@
+-- The execution of an interleaving: the runs of its agents, and the last writers before each read.
+use Rattle.std.proofs.Common.{◌≡◌, ◌⊎◌, inl, inr, ℕ, ◌+◌, ◌<◌, ◌≤◌, Bool, true, false, Option, Some, None, List, [], ◌∷◌, ◌++◌, length, map, take, flat_map, get_or, refl, sym, ap, ap₂, subst, ◌∙◌, arith, append_assoc, length-append}
+use Rattle.std.specs.Prelude.{◌&&◌, if◌then◌else◌, replicate, slice_get}
+use Rattle.std.specs.List.{range_with_len}
+use Rattle.std.proofs.lemmas.Bool.{cases_lt}
+use Rattle.std.proofs.lemmas.List.{get_or-map, length-map, same_lists, take-append-le, take-map, take_all}
+use Rattle.std.proofs.lemmas.List.Elements.{filter-append}
+use Rattle.std.proofs.lemmas.List.FromFn.{get_or-map-range_with_len, length-map-range_with_len}
+use Rattle.std.proofs.lemmas.Option.{get_or_from_slice_get, slice_get_within}
+use Rattle.lit_read.specs.Syntax.{End, IsLitmus, Litmus, agent_of}
+use Rattle.lit_paths.specs.declared.event.Event.{Event}
+use Rattle.lit_paths.specs.Choice.{events_of}
+use Rattle.lit_paths.specs.Event.{does_read, event_at}
+use Rattle.lit_paths.specs.Execution.{Execution, IsCandidateExecution, execution_outcome}
+use Rattle.lit_paths.specs.Outcome.{outcome_of}
+use Rattle.lit_paths.specs.Path.{IsWalk, Path, decisions_on, events_on}
+use Rattle.lit_paths.specs.Plan.{accesses_on}
+use Rattle.lit_paths.specs.Run.{AgreesWith, IsRun, Run, run_path}
+use Rattle.lit_paths.proofs.Products.{slice_get_right}
+use Rattle.lit_paths.proofs.Rising.{slice_get-map-found, slice_get-map-known}
+use Rattle.lit_rel.specs.InitReads.{AreOfEvents}
+use Rattle.lit_rel.specs.ReadsFrom.{value_of}
+use Rattle.lit_search.specs.InTurn.{makers_of}
+use Rattle.lit_search.specs.Interleaving.{Progress, beginning, ending, interleaved, progress_of}
+use Rattle.lit_search.specs.Sequential.{IsSequential}
+use Rattle.lit_search.specs.ValidExecution.{HasValidChosenReads, read_numbers_from}
+use Rattle.lit_search.proofs.ActLemmas.{after_event, found_at, found_in_turn, is_owned_by, same_agent}
+use Rattle.lit_search.proofs.BlockLemmas.{block_after, value_found}
+use Rattle.lit_search.proofs.FutureLemmas.{Future, ending_agents, no_progress, own_events, past_all}
+use Rattle.lit_search.proofs.MomentLemmas.{at_first}
+use Rattle.lit_search.proofs.NumberedActs.{IsOwn, kept_at, number_in_lists, own_at, owner_is, start_in, timeline}
+use Rattle.lit_search.proofs.OwnAccesses.{AreAccessesOf, accesses_of}
+use Rattle.lit_search.proofs.RunLemmas.{maps, no_run}
+use Rattle.lit_search.proofs.Takings.{read_numbers-accesses, taken_each, taken_together}
+use Rattle.lit_search.proofs.TimeLemmas.{IsTimeline, order_in_turn, owners_in_turn}
+use Rattle.lit_search.proofs.WriterLemmas.{are_sources, sequential, sources_in_turn}
+
+block_more : (block : List ℕ) (es : List Event) (e : Event) → block_after block (es ++ e ∷ []) ≡ after_event e (block_after block es)
+block_more block [] e = refl
+block_more block (x ∷ es) e = block_more (after_event x block) es e
+
+module _ (t : Litmus) (schedule : List ℕ) (litmus : IsLitmus t) (future : Future (beginning t) (ending t schedule) (λ agent. 0) (makers_of t schedule)) where
+  abbrev pub acts : List Event
+  acts = future.acts
+
+  abbrev count : ℕ
+  count = length t.agents
+
+  abbrev pub run_of : ℕ → Run
+  run_of i = record {
+    values = (future.course i).values;
+    decisions = decisions_on (future.course i).steps;
+    events = own_events i acts;
+    registers = (progress_of (ending t schedule) i).registers;
+  }
+
+  abbrev pub runs : List Run
+  runs = map run_of (range_with_len 0 count)
+
+  abbrev pub lists : List (List Event)
+  lists = map (λ run. run.events) runs
+
+  run_at : (i : ℕ) → i < count → get_or runs i no_run ≡ run_of i
+  run_at i lt = get_or-map-range_with_len run_of 0 count i i no_run lt (let e : 0 + i ≡ i = omega arith in e)
+
+  all_runs : length runs ≡ count
+  all_runs = length-map-range_with_len run_of 0 count
+
+  all_lists : length lists ≡ count
+  all_lists = length-map runs (λ run. run.events) ∙ all_runs
+
+  -- ---- the runs
+  begun : (i : ℕ) → i < count → progress_of (beginning t) i ≡ at_first (agent_of t i)
+  begun i lt = get_or-map at_first t.agents i (record { name = []; body = End }) no_progress lt
+
+  walked : (i : ℕ) → i < count → IsWalk (agent_of t i).body (future.course i).steps
+  walked i lt = subst (λ (p : Progress). IsWalk p.left (future.course i).steps) (begun i lt) (future.course i).walked
+
+  is_run : (i : ℕ) → i < count → IsRun i (agent_of t i).body (run_of i)
+  is_run i lt =
+      let c = future.course i in
+      let same : events_on i 0 c.steps ≡ own_events i acts = sym c.own in
+      record {
+        path = record {
+          steps = c.steps;
+          walked = walked i lt;
+          taken = ap (λ (es : List Event). record { decisions = decisions_on c.steps; events = es }) same;
+        };
+        agrees = subst (λ (p : Progress). AgreesWith c.steps p.registers c.values (progress_of (ending t schedule) i).registers) (begun i lt) c.agrees;
+      }
+
+  -- ---- the acts as a timeline
+  own : (i : ℕ) → i < length lists → get_or lists i [] ≡ own_events i acts
+  own i lt =
+      let inside : i < count = omega (arith, lt, all_lists) in
+      get_or-map (λ (run : Run). run.events) runs i no_run [] (omega (arith, inside, all_runs)) ∙ ap (λ (run : Run). run.events) (run_at i inside)
+
+  made : (i : ℕ) → i < length lists → AreAccessesOf t.bytes i 0 (own_events i acts)
+  made i lt =
+      let inside : i < count = omega (arith, lt, all_lists) in
+      subst (AreAccessesOf t.bytes i 0) (sym (future.course i).own) (accesses_of t.bytes i (agent_of t i).body (future.course i).steps (litmus.bodies i inside) (walked i inside))
+
+  no_more : (i : ℕ) → count ≤ i → own_events i acts ≡ []
+  no_more i past =
+      let c = future.course i in
+      let ended : progress_of (beginning t) i ≡ no_progress = past_all (beginning t).agents i (omega (arith, past, length-map t.agents at_first)) in
+      let none : c.steps ≡ [] = subst (λ (p : Progress). IsWalk p.left c.steps) ended c.walked in
+      c.own ∙ ap (events_on i 0) none
+
+  owned : (k : ℕ) (e : Event) → slice_get acts k ≡ Some e → (i : ℕ) × (i < length lists) × (e.owner ≡ Some i)
+  owned k e at = by (cases_lt i count)
+    where
+      maker : (i : ℕ) × (slice_get (makers_of t schedule) k ≡ Some i) × (Some i ≡ e.owner)
+      maker = slice_get-map-known (λ (agent : ℕ). Some agent) (makers_of t schedule) k e.owner (ap (λ (os : List (Option ℕ)). slice_get os k) (sym future.made_by) ∙ slice_get-map-found (λ (x : Event). x.owner) acts k e at)
+
+      i : ℕ
+      i = maker.0
+
+      is : e.owner ≡ Some i
+      is = sym maker.2
+
+      by : (i < count) ⊎ (count ≤ i) → (i : ℕ) × (i < length lists) × (e.owner ≡ Some i)
+      by (inl lt) = (i, omega (arith, lt, all_lists), is)
+      by (inr past) =
+          let there = kept_at (λ (x : Event). is_owned_by i x.owner) acts k e at (ap (is_owned_by i) is ∙ same_agent i) in
+          let inside = slice_get_within (own_events i acts) (length (own_events i (take k acts))) e there in
+          absurd (omega (arith, inside, ap (λ (es : List Event). length es) (no_more i past)))
+
+  abbrev pub events : List Event
+  events = events_of t.bytes lists
+
+  abbrev pub number : Event → ℕ
+  number = number_in_lists t.bytes lists
+
+  pub in_time : IsTimeline t.bytes events acts number
+  in_time = timeline t.bytes acts lists own made owned
+
+  abbrev pub sources : List ℕ
+  sources = sources_in_turn t.bytes events acts number in_time
+
+  abbrev pub order : List ℕ
+  order = order_in_turn t.bytes acts number
+
+  abbrev pub execution : Execution
+  execution = record { runs = runs; sources = sources }
+
+  -- ---- what the reads of a run take
+  abbrev value : ℕ → ℕ
+  value = value_of events sources
+
+  taken_in_turn : (i : ℕ) → i < count → (before rest : List Event) → acts ≡ before ++ rest
+      → found_in_turn i (block_after (replicate t.bytes 0) before) rest ≡ map value (read_numbers_from ((t.bytes + start_in lists i) + length (own_events i before)) (own_events i rest))
+  taken_in_turn i lt before [] is = refl
+  taken_in_turn i lt before (e ∷ es) is =
+      by (is_owned_by i e.owner) refl (taken_in_turn i lt (before ++ e ∷ []) es (is ∙ sym (append_assoc before (e ∷ []) es)))
+    where
+      k : ℕ
+      k = length before
+
+      at : slice_get acts k ≡ Some e
+      at = ap (λ (xs : List Event). slice_get xs k) is ∙ slice_get_right before (e ∷ es) k 0 (let e : k ≡ length before + 0 = omega arith in e)
+
+      front : take k acts ≡ before
+      front = ap (take k) is ∙ take-append-le k before (e ∷ es) (omega arith) ∙ take_all k before (omega arith)
+
+      block : List ℕ
+      block = block_after (replicate t.bytes 0) before
+
+      n : ℕ
+      n = (t.bytes + start_in lists i) + length (own_events i before)
+
+      later : ℕ → List ℕ
+      later m = map value (read_numbers_from m (own_events i es))
+
+      rest_found : List ℕ
+      rest_found = found_in_turn i (after_event e block) es
+
+      passed : (o : Bool) → is_owned_by i e.owner ≡ o → length (own_events i (before ++ e ∷ [])) ≡ length (own_events i before) + (if o then 1 else 0)
+      passed o h =
+          ap (λ (xs : List Event). length xs) (filter-append (λ (x : Event). is_owned_by i x.owner) before (e ∷ []))
+          ∙ length-append (own_events i before) (own_events i (e ∷ []))
+          ∙ ap (λ (m : ℕ). length (own_events i before) + m) (ap (λ (b : Bool). length (if b then e ∷ [] else [])) h ∙ each o)
+        where
+          each : (b : Bool) → length {A = Event} (if b then e ∷ [] else []) ≡ (if b then 1 else 0)
+          each true = refl
+          each false = refl
+
+      by : (o : Bool) → is_owned_by i e.owner ≡ o
+          → found_in_turn i (block_after (replicate t.bytes 0) (before ++ e ∷ [])) es ≡ map value (read_numbers_from ((t.bytes + start_in lists i) + length (own_events i (before ++ e ∷ []))) (own_events i es))
+          → (if o && does_read e.kind then found_at e block ∷ rest_found else rest_found) ≡ map value (read_numbers_from n (if o then e ∷ own_events i es else own_events i es))
+      by false h again =
+          let same : (t.bytes + start_in lists i) + length (own_events i (before ++ e ∷ [])) ≡ n = omega (arith, passed false h) in
+          ap (λ (b : List ℕ). found_in_turn i b es) (sym (block_more (replicate t.bytes 0) before e)) ∙ again ∙ ap later same
+      by true h again =
+          let same : (t.bytes + start_in lists i) + length (own_events i (before ++ e ∷ [])) ≡ n + 1 = omega (arith, passed true h) in
+          on (does_read e.kind) refl (ap (λ (b : List ℕ). found_in_turn i b es) (sym (block_more (replicate t.bytes 0) before e)) ∙ again ∙ ap later same)
+        where
+          mine : IsOwn t.bytes acts lists own made owned k e i
+          mine = own_at t.bytes acts lists own made owned k e i (omega (arith, lt, all_lists)) at (owner_is i e.owner h)
+
+          on : (r : Bool) → does_read e.kind ≡ r → rest_found ≡ later (n + 1) → (if r then found_at e block ∷ rest_found else rest_found) ≡ map value (if r then n ∷ read_numbers_from (n + 1) (own_events i es) else read_numbers_from (n + 1) (own_events i es))
+          on false reads rest = rest
+          on true reads rest =
+              let here : found_at e block ≡ value n =
+              ap (λ (xs : List Event). found_at e (block_after (replicate t.bytes 0) xs)) (sym front)
+              ∙ sym (value_found t.bytes events acts number in_time k e at reads)
+              ∙ ap value (mine.numbered ∙ ap (λ (xs : List Event). (t.bytes + start_in lists i) + length (own_events i xs)) front) in
+              ap₂ (λ (v : ℕ) (vs : List ℕ). v ∷ vs) here rest
+
+  starts : (i : ℕ) → start_in lists i ≡ length (accesses_on (take i (map run_path runs)))
+  starts i =
+      ap (λ (ess : List (List Event)). length (flat_map (λ (es : List Event). es) ess))
+      (take-map (λ (run : Run). run.events) i runs ∙ sym (maps run_path (λ (path : Path). path.events) (take i runs)) ∙ ap (map (λ (path : Path). path.events)) (sym (take-map run_path i runs)))
+
+  which : (i : ℕ) (run : Run) → slice_get runs i ≡ Some run → (i < count) × (run_of i ≡ run)
+  which i run at =
+      let lt : i < count = omega (arith, slice_get_within runs i run at, all_runs) in
+      (lt, sym (run_at i lt) ∙ get_or_from_slice_get runs i run no_run at)
+
+  pub chosen_reads : HasValidChosenReads t execution
+  chosen_reads =
+      taken_together value t.bytes runs (taken_each value t.bytes runs (λ i run at.
+      let w = which i run at in
+      subst (λ (r : Run). r.values ≡ map value (read_numbers_from (t.bytes + length (accesses_on (take i (map run_path runs)))) r.events)) w.1
+      (sym (future.course i).found ∙ taken_in_turn i w.0 [] acts refl
+      ∙ ap (λ (m : ℕ). map value (read_numbers_from m (own_events i acts))) (let e : (t.bytes + start_in lists i) + 0 ≡ t.bytes + length (accesses_on (take i (map run_path runs))) = omega (arith, starts i) in e))))
+      ∙ sym (ap (map value) (read_numbers-accesses t.bytes (flat_map (λ (es : List Event). es) lists)))
+
+  -- ---- the execution
+  pub candidate : AreOfEvents events → IsCandidateExecution t execution
+  candidate of = record {
+    one_each = all_runs;
+    each = λ i run at. let w = which i run at in subst (IsRun i (agent_of t i).body) w.1 (is_run i w.0);
+    sourced = are_sources t.bytes events acts number in_time of;
+  }
+
+  pub one_order : AreOfEvents events → IsSequential events sources order
+  one_order of = sequential t.bytes events acts number in_time of
+
+  pub its_outcome : execution_outcome t execution ≡ interleaved t schedule
+  its_outcome =
+      let agents = (ending t schedule).agents in
+      let long : length agents ≡ count = ending_agents t schedule in
+      ap (outcome_of t)
+      (same_lists (map (λ (run : Run). run.registers) runs) (map (λ (p : Progress). p.registers) agents)
+      (length-map runs (λ (run : Run). run.registers) ∙ all_runs ∙ sym long ∙ sym (length-map agents (λ (p : Progress). p.registers))) (λ k d inside.
+      let lt : k < count = omega (arith, inside, all_runs, length-map runs (λ (run : Run). run.registers)) in
+      get_or-map (λ (run : Run). run.registers) runs k no_run d (omega (arith, lt, all_runs))
+      ∙ ap (λ (run : Run). run.registers) (run_at k lt)
+      ∙ sym (get_or-map (λ (p : Progress). p.registers) agents k no_progress d (omega (arith, lt, long)))))
+
+  pub in_turn : map (λ e. (event_at events e).owner) order ≡ replicate t.bytes None ++ map (λ agent. Some agent) (makers_of t schedule)
+  in_turn = owners_in_turn t.bytes events acts number in_time ∙ ap (λ (os : List (Option ℕ)). replicate t.bytes None ++ os) future.made_by
