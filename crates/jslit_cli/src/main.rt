@@ -2,9 +2,8 @@
 #![tactic(auto)]
 
 use jslit::{Counted, no_words, program};
-use std::env;
-use std::io;
 use std::process::ExitCode;
+use std::{env, io};
 
 /// The words of the command line, the program's name first.
 fn words(rt: &HostRuntime) -> io::Result<Vec<String>> {
