@@ -1,10 +1,8 @@
 -- What an entry of a report says of its outcome, its choice and its order.
-use Rattle.std.proofs.Common.{◌≡◌, ℕ, ◌+◌, ◌<◌, ◌≤◌, List, [], ◌∷◌, ◌++◌, length, take, get_or, Some, sym, ap, subst, ◌∙◌, append_assoc, arith}
+use Rattle.std.proofs.Common.{◌≡◌, ℕ, ◌<◌, List, length, get_or, Some, sym, ap, subst, ◌∙◌, arith}
 use Rattle.std.specs.Prelude.{All, IsTrue, slice_get}
 use Rattle.std.proofs.lemmas.Bool.Decides.{nat_tests}
-use Rattle.std.specs.List.{flat_map}
-use Rattle.std.proofs.lemmas.List.{length-map, append-nil, take_more, take_all}
-use Rattle.std.proofs.lemmas.Grind.{flat_map-append}
+use Rattle.std.proofs.lemmas.List.{length-map}
 use Rattle.std.proofs.lemmas.Option.{slice_get-get_or, get_or_from_slice_get}
 use Rattle.lit_read.specs.Syntax.{Litmus}
 use Rattle.lit_paths.specs.declared.event.Event.{Event}
@@ -13,7 +11,7 @@ use Rattle.lit_paths.specs.Choice.{Choice, AreSources, choices_of}
 use Rattle.jslit.specs.ChoiceEvents.{choice_at}
 use Rattle.lit_paths.specs.Outcome.{names_of}
 use Rattle.lit_paths.specs.Execution.{Execution, execution_events, execution_choice, IsCandidateExecution}
-use Rattle.lit_search.specs.Report.{Entry, Report, entry_at, Gives, HasLeastOrder, IsEntry, IsReport, in_range}
+use Rattle.lit_search.specs.Report.{Report, entry_at, Gives, HasLeastOrder, IsEntry, IsReport, in_range}
 
 -- an outcome has a value for each register
 pub length-outcome : (t : Litmus) (n : ℕ) (outcome : List ℕ) → Gives t n outcome → length outcome ≡ length (names_of t)

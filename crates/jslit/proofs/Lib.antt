@@ -14,3 +14,5 @@ pub mod Told
 pub mod QuickAnswers
 pub mod OneAnswer
 pub mod NumberFlags
+pub mod Schedules
+pub mod Finishing

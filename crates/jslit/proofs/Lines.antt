@@ -6,11 +6,12 @@ use Rattle.std.specs.Fmt.{decimal}
 use Rattle.lit_read.specs.Syntax.{Litmus, agent_of}
 use Rattle.lit_paths.specs.declared.event.Event.{Event}
 use Rattle.lit_paths.specs.Event.{no_event}
-use Rattle.lit_paths.specs.Outcome.{names_of}
+use Rattle.lit_paths.specs.Outcome.{meets, names_of}
 use Rattle.lit_search.specs.Report.{Entry, Report, entry_at}
 use Rattle.jslit.specs.ChoiceEvents.{choice_at, choice_events}
 use Rattle.jslit.specs.ReportText.{class_text, entry_text, event_name, from_lines, line, names_text, owned_name, quick_text, register_text, registers_text, report_text, verdict_text}
 use Rattle.jslit.specs.declared.verdict.Verdict.{Verdict}
+use Rattle.jslit.specs.InterleavingAnswer.{interleaving_text, yes_or_no}
 use Rattle.jslit.specs.Steps.FirstEntry.{entry_of_option}
 
 -- the name of an agent's access
@@ -110,3 +111,13 @@ quick_is t test met unmet verdict same =
   where
     joined : (a b c d : List ℕ) → ((a ++ b) ++ c) ++ d ≡ a ++ b ++ c ++ d
     joined a b c d = simp append_assoc
+
+-- the answer for a schedule
+pub interleaving_is : (t : Litmus) (outcome : List ℕ) (names : List (ℕ × ℕ)) (word : List ℕ) → names ≡ names_of t → word ≡ yes_or_no (meets t outcome)
+    → ((((line (codes "test " ++ t.name) ++ codes "interleaving") ++ registers_text t names outcome) ++ codes "\nmeets ") ++ word) ++ codes "\n" ≡ interleaving_text t outcome
+unfolding interleaving_text
+interleaving_is t outcome names word named is =
+    rw (named, is) (joined (line (codes "test " ++ t.name)) (codes "interleaving") (registers_text t (names_of t) outcome) (codes "\n") (codes "meets ") (yes_or_no (meets t outcome)))
+  where
+    joined : (a b c d e f : List ℕ) → ((((a ++ b) ++ c) ++ (d ++ e)) ++ f) ++ d ≡ a ++ ((b ++ c) ++ d) ++ ((e ++ f) ++ d)
+    joined a b c d e f = simp append_assoc

@@ -1,21 +1,20 @@
 -- What a command's arguments for numbers give.
-use Rattle.std.proofs.Common.{◌≡◌, ◌⊎◌, ◌∙◌, ◌++◌, ◌||◌, ◌<◌, ◌≤◌, ◌+◌, ℕ, Bool, true, false, List, [], ◌∷◌, length, Option, Some, None, refl, sym, ap, subst, inl, inr, arith, codes}
-use Rattle.std.specs.Prelude.{option_map, slice_get, unwrap_or, Ok, Err, Result}
+use Rattle.std.proofs.Common.{◌≡◌, ◌∙◌, ◌++◌, ◌||◌, ◌<◌, ◌≤◌, ◌+◌, ℕ, Bool, true, false, List, [], ◌∷◌, length, Option, Some, None, refl, sym, ap, subst, inl, inr, arith, codes}
+use Rattle.std.specs.Prelude.{option_map, slice_get, unwrap_or, Ok, Result}
 use Rattle.std.specs.Borrow.{Bor}
 use Rattle.std.specs.List.{All, slice_index_or}
 use Rattle.std.specs.Str.{bytes_eq}
 use Rattle.std.specs.Str.Parse.{ParsesUnsigned, digits_value, without_leading_plus}
 use Rattle.std.proofs.lemmas.Bool.{cases_lt}
 use Rattle.std.proofs.lemmas.List.{get_or_append_left, get_or-append-add}
-use Rattle.std.proofs.lemmas.List.Elements.{All-get_or}
+use Rattle.std.proofs.lemmas.List.Elements.{All-get_or, All-nil, All-push}
 use Rattle.std.proofs.lemmas.Slice.Eq.{bytes_eq-Decides}
-use Rattle.clap.specs.Words.{AddsArg, IsParsedFrom, IsPlain, IsUnsignedIn, ReadsOne, args_of, found_of, groups_of, matched_of, one_text, parser_of, read_as, reading_of}
-use Rattle.clap.specs.Built.{IsAuto}
+use Rattle.clap.specs.Words.{AddsArg, IsParsedFrom, IsUnsignedIn, ReadsOne, args_of, found_of, groups_of, matched_of, one_text, parser_of, read_as, reading_of}
+use Rattle.clap.specs.Built.{NamesNoGroup}
 use Rattle.clap.specs.Facts.{Entry, EntryPasses, HasReading, PassesArg, parser_of_value}
 use Rattle.clap.specs.declared.builder.arg.Arg.{Arg}
 use Rattle.clap.specs.declared.builder.command.Command.{Command}
 use Rattle.clap.specs.declared.builder.command.Command.TheViews.{out-Command}
-use Rattle.clap.specs.declared.builder.value_parser.ValueParser.{ValueParser}
 use Rattle.clap.specs.declared.builder.value_parser.ValueParser.TheVariants as parsers
 use Rattle.clap.specs.declared.builder.value_parser.Reading.{Reading}
 use Rattle.clap.specs.declared.builder.value_parser.Reading.TheVariants as readings
@@ -115,6 +114,14 @@ pub added_local : (old new : Command) (a : Arg) → AddsArg old a new → (out-C
 added_local old new a added before local =
     added.globals ∙ (ap (λ (b : Bool). b || a.global) before ∙ ap (λ (b : Bool). false || b) local)
 
+-- and so none of its arguments names a group
+pub none_ungrouped : (command : Command) → args_of command ≡ [] → NamesNoGroup command
+none_ungrouped command empty = subst (All (λ (a : Arg). a.groups.items ≡ [])) (sym empty) (All-nil (λ (a : Arg). a.groups.items ≡ []))
+
+pub added_ungrouped : (old new : Command) (a : Arg) → AddsArg old a new → NamesNoGroup old → a.groups.items ≡ [] → NamesNoGroup new
+added_ungrouped old new a added before ungrouped =
+    rw added.args (All-push (λ (x : Arg). x.groups.items ≡ []) (args_of old) added.arg before (added.rules.groups ∙ ungrouped))
+
 -- each argument of this name takes a number from the one to the other
 abbrev HasLimits : Command → List ℕ → ℕ → ℕ → Type 0
 HasLimits built name low high = (j : ℕ) (x : Arg) → j < length (args_of built) → slice_index_or (args_of built) j x ≡ x → bytes_eq x.id.now name ≡ true
@@ -183,10 +190,10 @@ entry_within built name low high limits no_groups named e key passes = (
 
 -- what is read of such an argument is a number within its limits
 pub given_within : (command : Command) (m : ArgMatches) (p : IsParsedFrom command m) (name : List ℕ) (low high : ℕ) → TakesNumber command name low high
-    → IsPlain command → (out-Command command).has_globals ≡ false
+    → groups_of command ≡ [] → NamesNoGroup command → (out-Command command).has_globals ≡ false
     → (name ≡ [] → ⊥) → (name ≡ codes "help" → ⊥) → (name ≡ codes "version" → ⊥)
     → (text : List ℕ) → one_text (found_of m) name ≡ Some text → IsUnsignedIn low high text
-given_within command m p name low high t plain globals named no_help no_version text is =
+given_within command m p name low high t no_groups ungrouped globals named no_help no_version text is =
     at_match (matched_of (found_of m) name) refl
   where
     at_entry : (x : MatchedArg) → matched_of (found_of m) name ≡ Some x
@@ -194,7 +201,7 @@ given_within command m p name low high t plain globals named no_help no_version 
     at_entry x found got =
         let limits = built_limits command m p name low high t no_help no_version in
         let key : got.0.0.now ≡ name = (bytes_eq-Decides got.0.0.now name).0 got.2 in
-        let within = entry_within p.built name low high limits (p.from.plain plain).1 named got.0 key got.3 in
+        let within = entry_within p.built name low high limits ((p.from.same_groups ungrouped).1 ∙ no_groups) named got.0 key got.3 in
         let given : option_map (λ s. read_as x.reading s.now) (slice_get x.vals.items 0) ≡ Some text = rw found at is in
         first_within p.built name low high limits x.reading x.vals.items (rw got.1 at within.0) (rw got.1 at within.1) text given
 

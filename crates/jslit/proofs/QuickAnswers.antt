@@ -1,6 +1,6 @@
 -- The first entry of a class, and what it says of the report and of the verdict.
-use Rattle.std.proofs.Common.{◌≡◌, ◌⊎◌, inl, inr, ℕ, ◌+◌, ◌<◌, ◌≤◌, Bool, true, false, Option, Some, None, List, length, get_or, refl, sym, ap, subst, ◌∙◌, arith}
-use Rattle.std.specs.Prelude.{IsTrue, is_some, not, slice_get}
+use Rattle.std.proofs.Common.{◌≡◌, ◌⊎◌, inl, inr, ℕ, ◌<◌, ◌≤◌, Bool, true, false, Option, Some, None, List, length, get_or, refl, sym, ap, subst, ◌∙◌, arith}
+use Rattle.std.specs.Prelude.{IsTrue, is_some, not}
 use Rattle.std.proofs.lemmas.Bool.{cases_lt, false≢true}
 use Rattle.std.proofs.lemmas.Option.{slice_get-get_or, slice_get_within, get_or_from_slice_get}
 use Rattle.lit_read.specs.Syntax.{Litmus}
@@ -8,7 +8,7 @@ use Rattle.lit_paths.specs.Choice.{choices_of}
 use Rattle.lit_paths.specs.Outcome.{meets}
 use Rattle.lit_search.specs.declared.class.Class.{Class}
 use Rattle.lit_search.specs.declared.class.Class.TheVariants.{Met, Unmet}
-use Rattle.lit_search.specs.Class.{GivesClass, is_of_class}
+use Rattle.lit_search.specs.Class.{is_of_class}
 use Rattle.lit_search.specs.Report.{Entry, Report, Gives, HasEntry, HasLeastOrder, IsEntry, IsReport, in_range}
 use Rattle.lit_search.proofs.Reports.{one_order}
 use Rattle.jslit.specs.QuickAnswer.{IsFirst, IsFirstEntry}

@@ -78,13 +78,14 @@ pub of_any_text : (remaining : Option (List ℕ)) (Holds : List ℕ → Type 0) 
 of_any_text None Holds holds = record { text = []; is_told = tt; holds = holds [] }
 of_any_text (Some bytes) Holds holds = record { text = take (TEXT_LIMIT + 1) bytes; is_told = refl; holds = holds (take (TEXT_LIMIT + 1) bytes) }
 
--- a failure of reading is a fault on any text, and no failure to write
-pub read_failed : (before after : ℕ) (fault : RunFault) → IsReadFailure before after fault → (text : List ℕ) → IsFaultOn text fault
-read_failed before after (faults.Read f) failed text = absurd failed
-read_failed before after (faults.Plan f) failed text = absurd failed
-read_failed before after faults.OutOfMemory failed text = tt
-read_failed before after faults.InputFailed failed text = tt
-read_failed before after faults.OutputFailed failed text = absurd failed
+-- a failure of reading is that of the input, or want of memory
+pub read_failed : (P : RunFault → Type 0) → P faults.OutOfMemory → P faults.InputFailed → (before after : ℕ) (fault : RunFault) → IsReadFailure before after fault → P fault
+read_failed P memory input before after (faults.Read f) failed = absurd failed
+read_failed P memory input before after (faults.Plan f) failed = absurd failed
+read_failed P memory input before after faults.UnknownAgent failed = absurd failed
+read_failed P memory input before after faults.OutOfMemory failed = memory
+read_failed P memory input before after faults.InputFailed failed = input
+read_failed P memory input before after faults.OutputFailed failed = absurd failed
 
 -- what is not said of a failure to write is said of another fault
 pub not_output : {X : Type 0} (r : Result X RunFault) (fault : RunFault) (P : RunFault → Type 0) → IsErrAnd r (λ e. e ≡ fault) → P fault → ¬ P faults.OutputFailed → ¬ IsErrOf r faults.OutputFailed

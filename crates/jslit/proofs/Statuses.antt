@@ -11,6 +11,7 @@ use Rattle.jslit.specs.Answer.{status_of}
 pub never_zero : (fault : RunFault) → status_of fault ≡ 0 → ⊥
 never_zero (faults.Read f) is = absurd cc
 never_zero (faults.Plan f) is = absurd cc
+never_zero faults.UnknownAgent is = absurd cc
 never_zero faults.OutOfMemory is = absurd cc
 never_zero faults.InputFailed is = absurd cc
 never_zero faults.OutputFailed is = absurd cc
@@ -19,6 +20,7 @@ never_zero faults.OutputFailed is = absurd cc
 pub refusal_of_text : (fault : RunFault) → status_of fault ≡ 1 → fault ≡ faults.OutputFailed → ⊥
 refusal_of_text (faults.Read f) is output = absurd cc
 refusal_of_text (faults.Plan f) is output = absurd cc
+refusal_of_text faults.UnknownAgent is output = absurd cc
 refusal_of_text faults.OutOfMemory is output = absurd cc
 refusal_of_text faults.InputFailed is output = absurd cc
 refusal_of_text faults.OutputFailed is output = absurd cc
@@ -27,6 +29,7 @@ refusal_of_text faults.OutputFailed is output = absurd cc
 pub failed_device : (fault : RunFault) (A : Type 0) → status_of fault ≡ 4 → (fault ≡ faults.InputFailed → A) → (fault ≡ faults.OutputFailed → A) → A
 failed_device (faults.Read f) A is input output = absurd cc
 failed_device (faults.Plan f) A is input output = absurd cc
+failed_device faults.UnknownAgent A is input output = absurd cc
 failed_device faults.OutOfMemory A is input output = absurd cc
 failed_device faults.InputFailed A is input output = input refl
 failed_device faults.OutputFailed A is input output = output refl

@@ -1,6 +1,6 @@
 -- What a search found, as the answer for a test and for a text.
-use Rattle.std.proofs.Common.{◌≡◌, ℕ, ◌+◌, ◌<◌, ◌≤◌, Bool, Option, Some, None, List, length, Ok, Err, OnOk, OnErr, IsErrOf, refl, sym, ap, subst, ◌∙◌, arith}
-use Rattle.std.specs.Prelude.{IsTrue, is_some, slice_get}
+use Rattle.std.proofs.Common.{◌≡◌, ℕ, ◌+◌, ◌<◌, Bool, Option, Some, None, List, length, Ok, Err, OnOk, OnErr, IsErrOf, refl, sym, ap, subst, ◌∙◌, arith}
+use Rattle.std.specs.Prelude.{IsTrue, is_some}
 use Rattle.std.proofs.lemmas.Bool.Decides.{nat_tests}
 use Rattle.std.proofs.lemmas.Option.{slice_get-get_or, slice_get_within}
 use Rattle.std.specs.declared.result.Result.{Result}
@@ -13,7 +13,7 @@ use Rattle.lit_paths.specs.Plan.{IsRefusal}
 use Rattle.lit_search.specs.declared.class.Class.{Class}
 use Rattle.lit_search.specs.declared.class.Class.TheVariants.{Met, Unmet}
 use Rattle.lit_search.specs.Class.{IsFirstOf}
-use Rattle.lit_search.specs.Report.{Entry, Report, Gives, HasLeastOrder, IsReport, entry_at, in_range}
+use Rattle.lit_search.specs.Report.{Report, Gives, IsReport, entry_at, in_range}
 use Rattle.jslit.specs.declared.fault.RunFault.{RunFault}
 use Rattle.jslit.specs.declared.fault.RunFault.TheVariants.{OutputFailed}
 use Rattle.jslit.specs.declared.verdict.Verdict.{Verdict}

@@ -64,38 +64,52 @@ pub record IsPlanRefused (text : List ℕ) (fault : PlanFault) : Type 0 where
 abbrev pub IsFaultOn : List ℕ → RunFault → Type 0
 IsFaultOn text (faults.Read fault) = IsFirstFault text fault.kind fault.line
 IsFaultOn text (faults.Plan fault) = IsPlanRefused text fault
+IsFaultOn text faults.UnknownAgent = ⊥
 IsFaultOn text faults.OutOfMemory = Unit {0}
 IsFaultOn text faults.InputFailed = Unit {0}
 IsFaultOn text faults.OutputFailed = Unit {0}
 
--- known bytes grew by a report on the text, quick or whole
-pub record HasReported (quick : Bool) (text : List ℕ) (old new : Option (List ℕ)) : Type 0 where
+-- known bytes grew by an answer of this kind
+pub record HasGrown (IsAnswer : List ℕ → Type 0) (old new : Option (List ℕ)) : Type 0 where
   pub answer : List ℕ
-  pub on : IsAnswerOn quick text answer
+  pub on : IsAnswer answer
   pub written : Appends old new answer
 
--- known bytes grew by a beginning of a report on the text, quick or whole
-pub record HasBegun (quick : Bool) (text : List ℕ) (old new : Option (List ℕ)) : Type 0 where
+-- known bytes grew by a beginning of an answer of this kind
+pub record HasGrownSome (IsAnswer : List ℕ → Type 0) (old new : Option (List ℕ)) : Type 0 where
   pub answer : List ℕ
-  pub on : IsAnswerOn quick text answer
+  pub on : IsAnswer answer
   pub begun : AppendsBeginning old new answer
+
+-- known bytes grew by a report on the text, quick or whole
+abbrev pub HasReported : (quick : Bool) → (text : List ℕ) → (old new : Option (List ℕ)) → Type 0
+HasReported quick text old new = HasGrown (IsAnswerOn quick text) old new
+
+-- known bytes grew by a beginning of a report on the text, quick or whole
+abbrev pub HasBegun : (quick : Bool) → (text : List ℕ) → (old new : Option (List ℕ)) → Type 0
+HasBegun quick text old new = HasGrownSome (IsAnswerOn quick text) old new
 
 -- the status that the program gives for a fault
 abbrev pub status_of : RunFault → ℕ
 status_of (faults.Read fault) = 1
 status_of (faults.Plan fault) = 1
+status_of faults.UnknownAgent = 1
 status_of faults.OutOfMemory = 3
 status_of faults.InputFailed = 4
 status_of faults.OutputFailed = 4
 
--- known bytes grew by the line that says why the text, or the test that it spells, is refused; where a write failed, by a
--- beginning of that line
-pub record HasRefused (text : List ℕ) (old new : Option (List ℕ)) (failed : Type 0) : Type 0 where
+-- known bytes grew by the line of a refusal of this kind; where a write failed, by a beginning of that line
+pub record HasGrownRefusal (IsFault : RunFault → Type 0) (old new : Option (List ℕ)) (failed : Type 0) : Type 0 where
   pub fault : RunFault
-  pub of_text : status_of fault ≡ 1
-  pub on : IsFaultOn text fault
+  pub refusal : status_of fault ≡ 1
+  pub on : IsFault fault
   pub written : ¬ failed → Appends old new (refusal_line fault)
   pub begun : failed → AppendsBeginning old new (refusal_line fault)
+
+-- known bytes grew by the line that says why the text, or the test that it spells, is refused; where a write failed, by a
+-- beginning of that line
+abbrev pub HasRefused : (text : List ℕ) → (old new : Option (List ℕ)) → Type 0 → Type 0
+HasRefused text old new failed = HasGrownRefusal (IsFaultOn text) old new failed
 
 -- what checking a text can give as a status
 abbrev pub IsCheckStatus : ℕ → Type 0

@@ -6,4 +6,6 @@ pub mod ReportText
 pub mod RefusalText
 pub mod QuickAnswer
 pub mod Answer
+pub mod Schedule
+pub mod InterleavingAnswer
 pub mod Steps

@@ -43,6 +43,7 @@ plan_fault_line fault = line (codes "refused " ++ limit_text fault)
 abbrev pub refusal_line : RunFault → List ℕ
 refusal_line (faults.Read fault) = read_fault_line fault
 refusal_line (faults.Plan fault) = plan_fault_line fault
+refusal_line faults.UnknownAgent = line (codes "refused 20 unknown_agent")
 refusal_line faults.OutOfMemory = []
 refusal_line faults.InputFailed = []
 refusal_line faults.OutputFailed = []

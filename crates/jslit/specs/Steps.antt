@@ -7,3 +7,4 @@ pub mod ReadLine
 pub mod Writing
 pub mod Command
 pub mod Saying
+pub mod Scheduling

@@ -1,15 +1,19 @@
 //! The program: what it prints, and its status.
 
-ghost use Rattle.std.specs.Prelude.{◌≡◌, ◌≢◌, ◌⊎◌, ◌<◌, ◌^◌, ◌-◌, false};
+ghost use Rattle.std.specs.Prelude.{◌≡◌, ◌≢◌, ◌⊎◌, ◌<◌, ◌^◌, ◌-◌, false, IfErr, OnOk};
+ghost use Rattle.std.specs.Io.KnownBytes.{Keeps};
 ghost use Rattle.jslit.specs.Answer.{HasReported, HasBegun, HasRefused, IsCheckStatus, IsStatus, status_of};
 ghost use Rattle.jslit.specs.Counted.{device_of, failures_of};
 ghost use Rattle.jslit.specs.Devices.{OfToldText};
-ghost use Rattle.jslit.specs.Steps.Saying.{HasSaid};
+ghost use Rattle.jslit.specs.InterleavingAnswer.{HasInterleaved, HasInterleavedSome, HasRefusedSchedule};
+ghost use Rattle.jslit.specs.Steps.Saying.{HasSaid, IsSaid};
 
+use crate::asked::Line;
 use crate::counted::Counted;
 use crate::engine::{Options, run};
 use crate::fault::RunFault;
-use crate::refusing::{write_plan_fault, write_read_fault};
+use crate::interleaving::run_schedule;
+use crate::refusing::{write_plan_fault, write_read_fault, write_unknown_agent};
 use crate::words::line;
 use clap::Error;
 use clap::error::ErrorKind;
@@ -20,9 +24,9 @@ use std::rt::Files;
 use std::thread::Threads;
 use std::{fs, io};
 
-/// Does what the words ask for: checks the litmus text of the file that they name, or else of the input, or prints the
-/// help. Gives the status: 0 for a report or the help, 1 for a text or test that is refused, 2 for a fault of the words,
-/// 3 for want of memory, 4 for an input or output that failed.
+/// Does what the words ask for: checks the litmus text of the file that they name, or else of the input, carries it out
+/// in the turns that they name, or prints the help. Gives the status: 0 for what was asked for, 1 for a text, test or
+/// schedule that is refused, 2 for a fault of the words, 3 for want of memory, 4 for an input or output that failed.
 pub fn program<'a, T: Threads + Sync + Files, S: AsStr, R: Read, W: Write, E: Write>(
     rt: &T,
     alloc: Global,
@@ -42,18 +46,34 @@ pub fn program<'a, T: Threads + Sync + Files, S: AsStr, R: Read, W: Write, E: Wr
         Err(error) => return explain(output, errors, &error),
     };
     let Some(path) = line.file else {
-        return check(rt, alloc, input, output, errors, line.options);
+        return serve(rt, alloc, input, output, errors, &line);
     };
     match fs::open(rt, path) {
-        Ok(file) => check(
-            rt,
-            alloc,
-            &mut Counted::new(file),
-            output,
-            errors,
-            line.options,
-        ),
+        Ok(file) => {
+            let mut opened = Counted::new(file);
+            serve(rt, alloc, &mut opened, output, errors, &line)
+        }
         Err(_) => say(output, errors, RunFault::InputFailed),
+    }
+}
+
+/// Prints what a line asks for of the litmus text of the input. Gives the status.
+fn serve<T: Threads + Sync, R: Read, W: Write, E: Write>(
+    rt: &T,
+    alloc: Global,
+    input: &mut Counted<R>,
+    output: &mut Counted<W>,
+    errors: &mut E,
+    line: &Line<'_>,
+) -> u8
+    requires input { failures_of input.old < 2 ^ 64 - 1 }
+    requires output { failures_of output.old < 2 ^ 64 - 1 }
+    ensures status { IsCheckStatus result }
+    ensures memory { result ≡ 3 → output.new ≡ output.old }
+{
+    match line.schedule {
+        Some(schedule) => check_schedule(alloc, input, output, errors, schedule.as_bytes()),
+        None => check(rt, alloc, input, output, errors, line.options),
     }
 }
 
@@ -89,7 +109,57 @@ pub fn check<T: Threads + Sync, R: Read, W: Write, E: Write>(
         ⊎ OfToldText (R.remaining (device_of input.old)) (λ text.
         HasBegun options.quick text (W.contents (device_of output.old)) (W.contents (device_of output.new))) }
 {
-    match run(rt, alloc, input, output, options) {
+    let ran = run(rt, alloc, input, output, options);
+    finish(output, errors, ran)
+}
+
+/// Prints what a schedule comes to on the litmus text of the input, or one line that says why there is nothing to print.
+/// Gives the status: 0 for the schedule's outcome, 1 for a text or schedule that is refused, 3 for want of memory, 4 for
+/// an input or output that failed.
+pub fn check_schedule<R: Read, W: Write, E: Write>(
+    alloc: Global,
+    input: &mut Counted<R>,
+    output: &mut Counted<W>,
+    errors: &mut E,
+    schedule: &[u8],
+) -> u8
+    requires input { failures_of input.old < 2 ^ 64 - 1 }
+    requires output { failures_of output.old < 2 ^ 64 - 1 }
+    ensures status { IsCheckStatus result }
+    ensures answered { result ≡ 0 → OfToldText (R.remaining (device_of input.old)) (λ text.
+        HasInterleaved schedule.now text (W.contents (device_of output.old)) (W.contents (device_of output.new))) }
+
+    // The output takes the line of the refusal, or a beginning of it where a write failed.
+    ensures refused { result ≡ 1 → OfToldText (R.remaining (device_of input.old)) (λ text.
+        HasRefusedSchedule schedule.now text (W.contents (device_of output.old)) (W.contents (device_of output.new)) (failures_of output.old < failures_of output.new)) }
+    ensures memory { result ≡ 3 → output.new ≡ output.old }
+    ensures input_failed { failures_of input.old < failures_of input.new → (result ≡ 4) × (output.new ≡ output.old) }
+
+    // An input or output failed, or flushing the whole answer did. The output takes a beginning of the answer, or nothing.
+    ensures failed { result ≡ 4 →
+        (failures_of input.old < failures_of input.new)
+        ⊎ (failures_of output.old < failures_of output.new)
+        ⊎ OfToldText (R.remaining (device_of input.old)) (λ text.
+        HasInterleaved schedule.now text (W.contents (device_of output.old)) (W.contents (device_of output.new))) }
+    ensures begun { result ≡ 4 → (output.new ≡ output.old)
+        ⊎ OfToldText (R.remaining (device_of input.old)) (λ text.
+        HasInterleavedSome schedule.now text (W.contents (device_of output.old)) (W.contents (device_of output.new))) }
+{
+    let ran = run_schedule(alloc, input, output, schedule);
+    finish(output, errors, ran)
+}
+
+/// Flushes what a run wrote, or prints why it wrote nothing. Gives the status.
+fn finish<W: Write, E: Write>(
+    output: &mut Counted<W>,
+    errors: &mut E,
+    ran: Result<(), RunFault>,
+) -> u8
+    requires { IfErr ran (λ fault. status_of fault ≡ 1 → failures_of output.old < 2 ^ 64 - 1) }
+    ensures flushed { OnOk ran (((result ≡ 0) ⊎ (result ≡ 4)) × Keeps (W.contents (device_of output.old)) (W.contents (device_of output.new))) }
+    ensures said { IfErr ran (IsSaid W.contents result output.old output.new) }
+{
+    match ran {
         Ok(()) => match output.flush() {
             Ok(()) => 0,
             Err(_) => say(output, errors, RunFault::OutputFailed),
@@ -113,6 +183,11 @@ fn say<W: Write, E: Write>(output: &mut Counted<W>, errors: &mut E, fault: RunFa
         }
         RunFault::Plan(fault) => {
             let _ = write_plan_fault(output, fault);
+            let _ = output.flush();
+            1
+        }
+        RunFault::UnknownAgent => {
+            let _ = write_unknown_agent(output);
             let _ = output.flush();
             1
         }

@@ -6,7 +6,7 @@ use lit_paths::PlanFault;
 use lit_read::{ReadFault, ReadKind};
 use lit_search::SearchFault;
 use lit_share::ShareFault;
-use std::alloc::AllocError;
+use std::alloc::{AllocError, AllocFailed};
 use thiserror::Error;
 
 /// Why there is no report.
@@ -18,6 +18,9 @@ pub enum RunFault {
     /// The test has too many events, paths or choices.
     #[error("refused {0}")]
     Plan(PlanFault),
+    /// A member of the schedule is the name of no agent of the test.
+    #[error("refused 20 unknown_agent")]
+    UnknownAgent,
     /// A growth was refused, in any layer.
     #[error("out_of_memory")]
     OutOfMemory,
@@ -75,6 +78,17 @@ impl From<ShareFault> for RunFault {
     ghost from_gives = { λ _ fault. fault ≡ OutOfMemory };
 
     fn from(_fault: ShareFault) -> RunFault {
+        RunFault::OutOfMemory
+    }
+}
+
+impl<T: Drop> From<AllocFailed<T>> for RunFault {
+    ghost use Rattle.std.specs.Prelude.{◌≡◌};
+    ghost use Rattle.jslit.specs.declared.fault.RunFault.TheVariants.{OutOfMemory};
+
+    ghost from_gives = { λ _ fault. fault ≡ OutOfMemory };
+
+    fn from(_refused: AllocFailed<T>) -> RunFault {
         RunFault::OutOfMemory
     }
 }

@@ -1,9 +1,10 @@
 //! jslit: the outcomes that the memory model of ECMAScript allows a litmus test, and whether its condition holds.
 //!
 //! `run` reads a litmus text from a reader and writes its report to a writer: its contract is the theorem of this
-//! repository, from the bytes in to the bytes out. `program` is the program around it. The definitions stand in specs/:
-//! `Answer` (what a run answers for a text), `ReportText`, `ChoiceEvents`, `Verdict`, `Devices` and `Counted`; those in
-//! `Steps` serve private contracts alone.
+//! repository, from the bytes in to the bytes out. `run_schedule` carries a test out step by step, in turns that the caller
+//! names. `program` is the program around both. The definitions stand in specs/: `Answer` (what a run answers for a text),
+//! `InterleavingAnswer`, `Schedule`, `ReportText`, `ChoiceEvents`, `Verdict`, `Devices` and `Counted`; those in `Steps` serve
+//! private contracts alone.
 #![tactic(auto)]
 
 mod answering;
@@ -12,19 +13,22 @@ mod command;
 mod counted;
 mod engine;
 mod fault;
+mod interleaving;
 mod laws;
 mod page;
 mod reading;
 mod refusing;
 mod reporting;
+mod schedule;
 mod verdict;
 mod words;
 
 pub use asked::Line;
-pub use command::{check, no_words, program};
+pub use command::{check, check_schedule, no_words, program};
 pub use counted::Counted;
 pub use engine::{Options, run};
 pub use fault::RunFault;
+pub use interleaving::run_schedule;
 pub use laws::{answers_are_unique, quick_answers_are_reported, reports_are_complete};
 pub use words::line;
 

@@ -4,7 +4,7 @@ ghost use Rattle.std.specs.Prelude.{◌≡◌, OnOk, OnErr};
 ghost use Rattle.std.specs.Io.KnownBytes.{Appends};
 ghost use Rattle.jslit.specs.Counted.{device_of, failures_of, one_more};
 ghost use Rattle.jslit.specs.Devices.{AppendsBeginning};
-ghost use Rattle.jslit.specs.RefusalText.{kind_text, limit_text, read_fault_line, plan_fault_line};
+ghost use Rattle.jslit.specs.RefusalText.{kind_text, limit_text, read_fault_line, plan_fault_line, refusal_line};
 
 use crate::counted::Counted;
 use crate::fault::RunFault;
@@ -44,6 +44,18 @@ fn limit_name(fault: PlanFault) -> &'static str
         PlanFault::TooManyChoices => "15 too_many_choices",
         PlanFault::OutOfMemory => "out_of_memory",
     }
+}
+
+/// Writes the line on a schedule of which a member is no agent's name. Takes no memory.
+pub(crate) fn write_unknown_agent<W: Write>(output: &mut Counted<W>) -> Result<(), RunFault>
+    ensures written { OnOk result (Appends (W.contents (device_of output.old)) (W.contents (device_of output.new)) (refusal_line RunFault.UnknownAgent)) }
+    ensures not_failed { OnOk result (failures_of output.new ≡ failures_of output.old) }
+    ensures begun { OnErr result (AppendsBeginning (W.contents (device_of output.old)) (W.contents (device_of output.new)) (refusal_line RunFault.UnknownAgent)) }
+    ensures failed { OnErr result (failures_of output.new ≡ one_more (failures_of output.old)) }
+{
+    let mut page = Page::new();
+    page.put(output, b"refused 20 unknown_agent\n");
+    page.finish(output)
 }
 
 /// Writes the line on a text that spells no test. Takes no memory.

@@ -142,7 +142,7 @@ fn put_register<W: Write>(
 }
 
 /// Puts the registers of an outcome with their values.
-fn put_registers<W: Write>(
+pub(crate) fn put_registers<W: Write>(
     page: &mut Page,
     output: &mut Counted<W>,
     test: &Test,
@@ -187,7 +187,7 @@ fn put_entry<W: Write>(
 }
 
 /// Puts the first line of a report.
-fn put_head<W: Write>(page: &mut Page, output: &mut Counted<W>, test: &Test)
+pub(crate) fn put_head<W: Write>(page: &mut Page, output: &mut Counted<W>, test: &Test)
     ensures { HasPut (writing_of W.contents output.old page.old) (writing_of W.contents output.new page.new) (line (codes "test " ++ test.now.name)) }
 {
     page.put(output, b"test ");

@@ -1,7 +1,6 @@
 //! The words of the command line.
 
-ghost use Rattle.std.specs.Prelude.{◌≡◌, ◌^◌, false, IfOk, codes};
-ghost use Rattle.clap.specs.Words.{IsPlainArg};
+ghost use Rattle.std.specs.Prelude.{◌≡◌, ◌^◌, [], false, IfOk, codes};
 ghost use Rattle.jslit.specs.Steps.Command.{IsCommand, ReadsNumber};
 
 use crate::asked::Line;
@@ -20,8 +19,8 @@ const USUAL: Options = Options {
 /// What follows the list of flags in the help.
 const AFTER: &str = "\
 Exit status:
-  0  a report was printed
-  1  the text or its test is refused: the reason is printed on standard output
+  0  a report, or the outcome of a schedule, was printed
+  1  the text, its test or the schedule is refused: the reason is printed on standard output
   2  a fault of the command line
   3  out of memory
   4  the input or the output failed
@@ -32,7 +31,7 @@ Example:
 /// The flag for the number of workers.
 fn workers_flag<'a>(alloc: Global) -> Arg<'a>
     ensures reads { ReadsNumber result (codes "workers") 1 16 }
-    ensures plain { IsPlainArg result }
+    ensures ungrouped { result.groups.items ≡ [] }
     ensures local { result.global ≡ false }
 {
     Arg::new(alloc, "workers")
@@ -46,7 +45,7 @@ fn workers_flag<'a>(alloc: Global) -> Arg<'a>
 /// The flag for the cutting.
 fn cut_flag<'a>(alloc: Global) -> Arg<'a>
     ensures reads { ReadsNumber result (codes "cut") 1 (2 ^ 48) }
-    ensures plain { IsPlainArg result }
+    ensures ungrouped { result.groups.items ≡ [] }
     ensures local { result.global ≡ false }
 {
     Arg::new(alloc, "cut")
@@ -60,7 +59,7 @@ fn cut_flag<'a>(alloc: Global) -> Arg<'a>
 /// The flag for the quick report.
 fn quick_flag<'a>(alloc: Global) -> Arg<'a>
     ensures id { result.id.now ≡ codes "quick" }
-    ensures plain { IsPlainArg result }
+    ensures ungrouped { result.groups.items ≡ [] }
     ensures local { result.global ≡ false }
 {
     Arg::new(alloc, "quick")
@@ -69,10 +68,29 @@ fn quick_flag<'a>(alloc: Global) -> Arg<'a>
         .help("Report only the first choice that meets the condition and the first that does not")
 }
 
+/// The flag for a schedule, which stands with no flag for a report.
+fn schedule_flag<'a>(alloc: Global) -> Result<Arg<'a>, AllocError>
+    ensures id { IfOk result (λ flag. flag.id.now ≡ codes "schedule") }
+    ensures ungrouped { IfOk result (λ flag. flag.groups.items ≡ []) }
+    ensures local { IfOk result (λ flag. flag.global ≡ false) }
+{
+    let flag = Arg::new(alloc, "schedule")
+        .long("schedule")
+        .value_name("TEXT")
+        .action(ArgAction::Set)
+        .help(
+            "Carry the test out in turns, by the names of agents, such as A,B,A, and print its outcome",
+        );
+    let no_workers = flag.conflicts_with("workers")?;
+    let no_cut = no_workers.conflicts_with("cut")?;
+    let alone = no_cut.conflicts_with("quick")?;
+    Ok(alone)
+}
+
 /// The file that holds the text.
 fn file_argument<'a>(alloc: Global) -> Arg<'a>
     ensures id { result.id.now ≡ codes "file" }
-    ensures plain { IsPlainArg result }
+    ensures ungrouped { result.groups.items ≡ [] }
     ensures local { result.global ≡ false }
 {
     Arg::new(alloc, "file")
@@ -92,7 +110,8 @@ fn command<'a>(alloc: Global) -> Result<Command<'a>, AllocError>
     let with_workers = bare.arg(workers_flag(alloc))?;
     let with_cut = with_workers.arg(cut_flag(alloc))?;
     let with_quick = with_cut.arg(quick_flag(alloc))?;
-    let whole = with_quick.arg(file_argument(alloc))?;
+    let with_schedule = with_quick.arg(schedule_flag(alloc)?)?;
+    let whole = with_schedule.arg(file_argument(alloc))?;
     Ok(whole)
 }
 
@@ -110,6 +129,7 @@ pub fn line<'a, S: AsStr>(alloc: Global, words: &'a [S]) -> Result<Line<'a>, Err
     };
     Ok(Line {
         options,
+        schedule: matches.get_str("schedule"),
         file: matches.get_str("file"),
     })
 }

@@ -32,7 +32,7 @@ pub use limits::{
     ACCESS_LIMIT, BYTE_READ_LIMIT, CHOICE_LIMIT, COMBINATION_LIMIT, EVENT_LIMIT, NAME_LIMIT,
 };
 pub use making::plan;
-pub use names::{Names, written_names};
+pub use names::{Names, meets, written_names};
 pub use path::{Path, Tested};
 pub use planning::{Plan, PlanFault};
 pub use sources::{ByteRead, ByteReads, Candidates};

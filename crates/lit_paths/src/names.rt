@@ -6,7 +6,7 @@ ghost use Rattle.arrayvec.specs.ArrayVec.{array_vec_len};
 ghost use Rattle.lit_read.specs.Litmus.{statements_of, condition_of};
 ghost use Rattle.lit_read.specs.declared.limits.TheConstants.{REGISTERS};
 ghost use Rattle.lit_paths.specs.declared.limits.TheConstants.{NAME_LIMIT};
-ghost use Rattle.lit_paths.specs.Outcome.{names_in, names_of, asks as asks_of, value_in as value_among, holds as holds_of};
+ghost use Rattle.lit_paths.specs.Outcome.{names_in, names_of, asks as asks_of, value_in as value_among, holds as holds_of, meets as is_met};
 
 use crate::limits::NAME_LIMIT;
 use arrayvec::ArrayVec;
@@ -83,6 +83,14 @@ pub(crate) fn holds(names: &[(u8, u8)], outcome: &[u32], condition: &Cond) -> bo
             value,
         } => (value_in(names, outcome, *agent, *reg) == *value) == *equal,
     }
+}
+
+/// Whether an outcome, with as many values as `written_names` has members, meets the test's condition.
+pub fn meets(test: &Test, outcome: &[u32]) -> bool
+    requires { length outcome.now ≡ length (names_of test.now) }
+    ensures { result ≡ is_met test.now outcome.now }
+{
+    holds(written_names(test).as_slice(), outcome, test.check())
 }
 
 /// Whether a condition looks at a register of an agent.

@@ -1,5 +1,5 @@
 -- What writing an answer for a test comes to.
-use Rattle.std.specs.Prelude.{◌≡◌, Bool, Option, IfSome, List, ℕ}
+use Rattle.std.specs.Prelude.{Bool, Option, IfSome, List, ℕ}
 use Rattle.std.specs.Io.KnownBytes.{Appends}
 use Rattle.lit_read.specs.Syntax.{Litmus}
 use Rattle.lit_search.specs.declared.class.Class.{Class}
@@ -27,6 +27,7 @@ pub record HasWrittenSome (quick : Bool) (test : Litmus) (old new : Option (List
 abbrev pub IsOfWriting : RunFault → Type 0
 IsOfWriting (faults.Read fault) = ⊥
 IsOfWriting (faults.Plan fault) = ⊥
+IsOfWriting faults.UnknownAgent = ⊥
 IsOfWriting faults.OutOfMemory = Unit {0}
 IsOfWriting faults.InputFailed = ⊥
 IsOfWriting faults.OutputFailed = Unit {0}
@@ -35,6 +36,7 @@ IsOfWriting faults.OutputFailed = Unit {0}
 abbrev pub IsOfTextOrWriting : RunFault → Type 0
 IsOfTextOrWriting (faults.Read fault) = Unit {0}
 IsOfTextOrWriting (faults.Plan fault) = Unit {0}
+IsOfTextOrWriting faults.UnknownAgent = Unit {0}
 IsOfTextOrWriting faults.OutOfMemory = Unit {0}
 IsOfTextOrWriting faults.InputFailed = ⊥
 IsOfTextOrWriting faults.OutputFailed = Unit {0}

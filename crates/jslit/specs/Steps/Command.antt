@@ -1,8 +1,9 @@
 -- What the command line's arguments take.
-use Rattle.std.specs.Prelude.{◌≡◌, ◌<◌, ◌^◌, ℕ, List, Some, true, false, length, codes}
+use Rattle.std.specs.Prelude.{◌≡◌, ◌<◌, ◌^◌, ℕ, List, [], Some, true, false, length, codes}
 use Rattle.std.specs.List.{slice_index_or}
 use Rattle.std.specs.Str.{bytes_eq}
-use Rattle.clap.specs.Words.{IsPlain, args_of}
+use Rattle.clap.specs.Words.{args_of, groups_of}
+use Rattle.clap.specs.Built.{NamesNoGroup}
 use Rattle.clap.specs.declared.builder.arg.Arg.{Arg}
 use Rattle.clap.specs.declared.builder.command.Command.{Command}
 use Rattle.clap.specs.declared.builder.command.Command.TheViews.{out-Command}
@@ -21,9 +22,10 @@ pub record TakesNumber (command : Command) (name : List ℕ) (low high : ℕ) : 
   pub alone : (other : ℕ) (none : Arg) → other < length (args_of command)
       → bytes_eq (slice_index_or (args_of command) other none).id.now name ≡ true → other ≡ place
 
--- the command takes a number of workers and a number of choices, within their limits, and its arguments exclude nothing
+-- the command takes a number of workers and a number of choices, within their limits, and has no groups of arguments
 pub record IsCommand (command : Command) : Type 0 where
-  pub plain : IsPlain command
+  pub no_groups : groups_of command ≡ []
+  pub ungrouped : NamesNoGroup command
   pub local : (out-Command command).has_globals ≡ false
   pub workers : TakesNumber command (codes "workers") 1 16
   pub cut : TakesNumber command (codes "cut") 1 (2 ^ 48)

@@ -1,7 +1,10 @@
 -- What printing the line of a fault comes to.
-use Rattle.std.specs.Prelude.{Option, List, ℕ}
+use Rattle.std.specs.Prelude.{◌≡◌, ◌≢◌, ◌<◌, Option, List, ℕ}
 use Rattle.std.specs.Io.KnownBytes.{Appends}
+use Rattle.jslit.specs.declared.counted.Counted.{Counted}
 use Rattle.jslit.specs.declared.fault.RunFault.{RunFault}
+use Rattle.jslit.specs.Answer.{status_of}
+use Rattle.jslit.specs.Counted.{device_of, failures_of}
 use Rattle.jslit.specs.Devices.{AppendsBeginning}
 use Rattle.jslit.specs.RefusalText.{refusal_line}
 
@@ -9,3 +12,9 @@ use Rattle.jslit.specs.RefusalText.{refusal_line}
 pub record HasSaid (fault : RunFault) (old new : Option (List ℕ)) (failed : Type 0) : Type 0 where
   pub written : ¬ failed → Appends old new (refusal_line fault)
   pub begun : failed → AppendsBeginning old new (refusal_line fault)
+
+-- The status is that of the fault. The output took the line of a refusal, and else nothing.
+pub record IsSaid {W : Type 0} (contents : W → Option (List ℕ)) (status : ℕ) (old new : Counted W) (fault : RunFault) : Type 0 where
+  pub status_is : status ≡ status_of fault
+  pub refused : status ≡ 1 → HasSaid fault (contents (device_of old)) (contents (device_of new)) (failures_of old < failures_of new)
+  pub kept : status ≢ 1 → new ≡ old

@@ -1,4 +1,4 @@
-use Rattle.std.proofs.Common.{◌≡◌, List, ℕ, sym, subst}
+use Rattle.std.proofs.Common.{List, ℕ, sym, subst}
 use Rattle.jslit.specs.Answer.{HasBegun, IsFaultOn}
 use Rattle.jslit.specs.Counted.{device_of, failures_of}
 use Rattle.jslit.specs.Steps.Reading.{IsReadFailure}
@@ -8,7 +8,7 @@ use Rattle.jslit.proofs.engine.run.Goals as goal
 pub returns-in_err-text-clause-refused : goal.returns-in_err-text-clause-refused
 returns-in_err-text-clause-refused g c =
     if_err c.from_residual.result _ _ c.from_residual.ensures.1 (λ e is.
-    of_any_text _ (λ text. IsFaultOn text e) (λ text. subst (IsFaultOn text) (sym is) (read_failed _ _ c.in_err-text.field-0.0 c.in_err-text.ensures.failed text)))
+    of_any_text _ (λ text. IsFaultOn text e) (λ text. subst (IsFaultOn text) (sym is) (read_failed (IsFaultOn text) tt tt _ _ c.in_err-text.field-0.0 c.in_err-text.ensures.failed)))
 
 pub returns-in_err-text-clause-begun : goal.returns-in_err-text-clause-begun
 returns-in_err-text-clause-begun g c failed =

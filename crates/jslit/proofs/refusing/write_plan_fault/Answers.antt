@@ -1,4 +1,4 @@
-use Rattle.std.proofs.Common.{◌++◌, append_assoc}
+use Rattle.std.proofs.Common.{append_assoc}
 use Rattle.jslit.specs.RefusalText.{plan_fault_line}
 use Rattle.jslit.specs.Steps.Writing.{HasPut, writing_of}
 use Rattle.jslit.proofs.Putting.{HasPut-then, HasPut-is, finished, stopped}

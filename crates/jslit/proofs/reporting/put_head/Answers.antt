@@ -1,4 +1,4 @@
-use Rattle.std.proofs.Common.{◌≡◌, ◌++◌, ◌∙◌, ℕ, List, [], ◌∷◌, refl, sym, ap, append_assoc, arith}
+use Rattle.std.proofs.Common.{append_assoc}
 use Rattle.jslit.proofs.Putting.{HasPut-then, HasPut-is}
 use Rattle.jslit.proofs.reporting.put_head.Goals as goal
 

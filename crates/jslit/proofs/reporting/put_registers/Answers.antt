@@ -1,4 +1,4 @@
-use Rattle.std.proofs.Common.{◌≡◌, ◌++◌, ◌∙◌, ℕ, List, [], ◌∷◌, refl, sym, ap, append_assoc, arith}
+use Rattle.std.proofs.Common.{arith}
 use Rattle.jslit.proofs.Registers.{registers_more, registers_end}
 use Rattle.jslit.proofs.Putting.{puts_more, puts_end}
 use Rattle.jslit.proofs.reporting.put_registers.Goals as goal

@@ -1,4 +1,4 @@
-use Rattle.std.proofs.Common.{◌≡◌, false, List, [], None, length, drop, get_or, refl, sym, ap}
+use Rattle.std.proofs.Common.{◌≡◌, false, List, [], None, length, drop, get_or, sym, ap}
 use Rattle.std.proofs.lemmas.List.{drop_all}
 use Rattle.lit_paths.specs.declared.event.Event.{Event}
 use Rattle.lit_paths.specs.declared.event.Kind.TheVariants.{Read}

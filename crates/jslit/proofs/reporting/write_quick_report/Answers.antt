@@ -1,4 +1,4 @@
-use Rattle.jslit.specs.ReportText.{report_text, quick_text}
+use Rattle.jslit.specs.ReportText.{quick_text}
 use Rattle.jslit.specs.Steps.FirstEntry.{entry_of_option}
 use Rattle.jslit.specs.Steps.Writing.{HasPut, writing_of}
 use Rattle.jslit.proofs.Lines.{quick_is}

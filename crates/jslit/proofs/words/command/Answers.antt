@@ -1,10 +1,7 @@
-use Rattle.std.proofs.Common.{◌≡◌, ◌∙◌, ◌^◌, ℕ, List, [], false, refl, sym, ap, subst, codes}
-use Rattle.std.specs.List.{All}
+use Rattle.std.proofs.Common.{◌≡◌, ◌∙◌, ◌^◌, ℕ, List, [], false, refl, ap, codes}
 use Rattle.std.specs.Str.{bytes_eq}
-use Rattle.std.proofs.lemmas.List.Elements.{All-nil}
-use Rattle.clap.specs.Words.{IsPlain, IsPlainArg, args_of, groups_of}
-use Rattle.clap.proofs.CallerLemmas.{added_plain}
-use Rattle.jslit.proofs.NumberFlags.{added_local, added_none, added_number, added_other, none_at_first}
+use Rattle.clap.specs.Words.{args_of, groups_of}
+use Rattle.jslit.proofs.NumberFlags.{added_local, added_none, added_number, added_other, added_ungrouped, none_at_first, none_ungrouped}
 use Rattle.jslit.proofs.words.command.Goals as goal
 
 other_name : (id name other : List ℕ) → id ≡ name → bytes_eq name other ≡ false → bytes_eq id other ≡ false
@@ -15,22 +12,29 @@ returns c =
     let no_arguments : args_of c.in_ok-bare.bare ≡ [] = ap (λ f. f.args.items) c.in_ok-bare.ensures.0 ∙ ap (λ f. f.args.items) c.after_help.ensures ∙ ap (λ f. f.args.items) c.about.ensures ∙ c.new.ensures.empty.0 in
     let no_groups : groups_of c.in_ok-bare.bare ≡ [] = ap (λ f. f.groups.items) c.in_ok-bare.ensures.0 ∙ ap (λ f. f.groups.items) c.after_help.ensures ∙ ap (λ f. f.groups.items) c.about.ensures ∙ c.new.ensures.empty.1 in
     let no_globals = ap (λ f. f.has_globals) c.in_ok-bare.ensures.0 ∙ ap (λ f. f.has_globals) c.after_help.ensures ∙ ap (λ f. f.has_globals) c.about.ensures ∙ c.new.ensures.local in
-    let bare : IsPlain c.in_ok-bare.bare = (subst (All IsPlainArg) (sym no_arguments) (All-nil IsPlainArg), no_groups) in
     let first = c.in_ok-with_workers.ensures in
     let second = c.in_ok-with_cut.ensures in
     let third = c.in_ok-with_quick.ensures in
-    let fourth = c.in_ok-whole.ensures in
+    let fourth = c.in_ok-with_schedule.ensures in
+    let fifth = c.in_ok-whole.ensures in
     record {
-      plain = added_plain _ _ _ fourth (added_plain _ _ _ third (added_plain _ _ _ second (added_plain _ _ _ first bare c.workers_flag.ensures.plain) c.cut_flag.ensures.plain) c.quick_flag.ensures.plain) c.file_argument.ensures.plain;
-      local = added_local _ _ _ fourth (added_local _ _ _ third (added_local _ _ _ second (added_local _ _ _ first no_globals c.workers_flag.ensures.local) c.cut_flag.ensures.local) c.quick_flag.ensures.local) c.file_argument.ensures.local;
+      no_groups = fifth.groups ∙ fourth.groups ∙ third.groups ∙ second.groups ∙ first.groups ∙ no_groups;
+      ungrouped =
+          added_ungrouped _ _ _ fifth (added_ungrouped _ _ _ fourth (added_ungrouped _ _ _ third (added_ungrouped _ _ _ second (added_ungrouped _ _ _ first (none_ungrouped _ no_arguments)
+          c.workers_flag.ensures.ungrouped) c.cut_flag.ensures.ungrouped) c.quick_flag.ensures.ungrouped) c.in_ok-schedule_flag.ensures.ungrouped) c.file_argument.ensures.ungrouped;
+      local =
+          added_local _ _ _ fifth (added_local _ _ _ fourth (added_local _ _ _ third (added_local _ _ _ second (added_local _ _ _ first no_globals c.workers_flag.ensures.local)
+          c.cut_flag.ensures.local) c.quick_flag.ensures.local) c.in_ok-schedule_flag.ensures.local) c.file_argument.ensures.local;
       workers =
-          added_other _ _ _ (codes "workers") 1 16 fourth (other_name _ (codes "file") (codes "workers") c.file_argument.ensures.id refl)
+          added_other _ _ _ (codes "workers") 1 16 fifth (other_name _ (codes "file") (codes "workers") c.file_argument.ensures.id refl)
+          (added_other _ _ _ (codes "workers") 1 16 fourth (other_name _ (codes "schedule") (codes "workers") c.in_ok-schedule_flag.ensures.id refl)
           (added_other _ _ _ (codes "workers") 1 16 third (other_name _ (codes "quick") (codes "workers") c.quick_flag.ensures.id refl)
           (added_other _ _ _ (codes "workers") 1 16 second (other_name _ (codes "cut") (codes "workers") c.cut_flag.ensures.reads.id refl)
-          (added_number _ _ _ (codes "workers") 1 16 first c.workers_flag.ensures.reads (none_at_first _ (codes "workers") no_arguments))));
+          (added_number _ _ _ (codes "workers") 1 16 first c.workers_flag.ensures.reads (none_at_first _ (codes "workers") no_arguments)))));
       cut =
-          added_other _ _ _ (codes "cut") 1 (2 ^ 48) fourth (other_name _ (codes "file") (codes "cut") c.file_argument.ensures.id refl)
+          added_other _ _ _ (codes "cut") 1 (2 ^ 48) fifth (other_name _ (codes "file") (codes "cut") c.file_argument.ensures.id refl)
+          (added_other _ _ _ (codes "cut") 1 (2 ^ 48) fourth (other_name _ (codes "schedule") (codes "cut") c.in_ok-schedule_flag.ensures.id refl)
           (added_other _ _ _ (codes "cut") 1 (2 ^ 48) third (other_name _ (codes "quick") (codes "cut") c.quick_flag.ensures.id refl)
           (added_number _ _ _ (codes "cut") 1 (2 ^ 48) second c.cut_flag.ensures.reads
-          (added_none _ _ _ (codes "cut") first (other_name _ (codes "workers") (codes "cut") c.workers_flag.ensures.reads.id refl) (none_at_first _ (codes "cut") no_arguments))));
+          (added_none _ _ _ (codes "cut") first (other_name _ (codes "workers") (codes "cut") c.workers_flag.ensures.reads.id refl) (none_at_first _ (codes "cut") no_arguments)))));
     }

@@ -9,14 +9,14 @@ pub invariant_of-options : goal.invariant_of-options
 invariant_of-options g c =
     let command = c.in_ok-command.ensures in
     let matches = c.in_ok-matches.matches in
-    let worker_texts = given_within c.in_ok-command.command matches c.in_ok-matches.ensures.parsed (codes "workers") 1 16 command.workers command.plain command.local
+    let worker_texts = given_within c.in_ok-command.command matches c.in_ok-matches.ensures.parsed (codes "workers") 1 16 command.workers command.no_groups command.ungrouped command.local
     (λ e. let bad : 119 ≡ 0 = ap (λ (l : List ℕ). slice_index l 0) e in absurd (omega arith))
     (λ e. let bad : 119 ≡ 104 = ap (λ (l : List ℕ). slice_index l 0) e in absurd (omega arith))
     (λ e. let bad : 119 ≡ 118 = ap (λ (l : List ℕ). slice_index l 0) e in absurd (omega arith)) in
     let workers : (1 ≤ unwrap_or c.get_one.result 1) × (unwrap_or c.get_one.result 1 ≤ 16) =
     number_within _ (λ bs r. ParsesUnsigned 64 10 bs r × ExplainsUnsignedError 10 bs r × HasUnsignedDigitsIfOk bs r) 64 1 16 1 (one_text (found_of matches) (codes "workers")) c.get_one.result
     c.get_one.ensures.none c.get_one.ensures.value (λ u x read. read.0) worker_texts (omega arith) (omega arith) in
-    let cut_texts = given_within c.in_ok-command.command matches c.in_ok-matches.ensures.parsed (codes "cut") 1 (2 ^ 48) command.cut command.plain command.local
+    let cut_texts = given_within c.in_ok-command.command matches c.in_ok-matches.ensures.parsed (codes "cut") 1 (2 ^ 48) command.cut command.no_groups command.ungrouped command.local
     (λ e. let bad : 99 ≡ 0 = ap (λ (l : List ℕ). slice_index l 0) e in absurd (omega arith))
     (λ e. let bad : 99 ≡ 104 = ap (λ (l : List ℕ). slice_index l 0) e in absurd (omega arith))
     (λ e. let bad : 99 ≡ 118 = ap (λ (l : List ℕ). slice_index l 0) e in absurd (omega arith)) in

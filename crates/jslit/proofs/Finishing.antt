@@ -1,0 +1,87 @@
+-- What a run comes to that is finished: flushed, or its fault printed.
+use Rattle.std.proofs.Common.{◌≡◌, ◌≢◌, ◌⊎◌, ◌<◌, ◌∙◌, inl, inr, ℕ, List, Option, Ok, Err, OnOk, IfErr, IsErrOf, arith, sym, ap, subst}
+use Rattle.std.specs.declared.result.Result.{Result}
+use Rattle.std.specs.Io.KnownBytes.{Keeps}
+use Rattle.jslit.specs.Answer.{HasGrown, HasGrownSome, HasGrownRefusal}
+use Rattle.jslit.specs.Counted.{device_of, failures_of}
+use Rattle.jslit.specs.Devices.{OfToldText}
+use Rattle.jslit.specs.Steps.Saying.{HasSaid, IsSaid}
+use Rattle.jslit.specs.declared.counted.Counted.{Counted}
+use Rattle.jslit.specs.declared.fault.RunFault.{RunFault}
+use Rattle.jslit.specs.declared.fault.RunFault.TheVariants as faults
+use Rattle.jslit.proofs.Statuses.{Appends-kept, failed_device, never_zero, refusal_of_text, whole_is_beginning}
+
+-- A run of this kind of answers and faults took the output from old to mid, and finishing it from there to new.
+module _ {W : Type 0} (contents : W → Option (List ℕ)) (remaining : Option (List ℕ)) (Is : List ℕ → List ℕ → Type 0) (IsFault : List ℕ → RunFault → Type 0) (old mid new : Counted W) (status : ℕ) where
+  abbrev Flushed : Type 0
+  Flushed = ((status ≡ 0) ⊎ (status ≡ 4)) × Keeps (contents (device_of mid)) (contents (device_of new))
+
+  abbrev Answers : Type 0
+  Answers = OfToldText remaining (λ text. HasGrown (Is text) (contents (device_of old)) (contents (device_of mid)))
+
+  -- a flushed answer is still there
+  kept_answer : Answers → Flushed → OfToldText remaining (λ text. HasGrown (Is text) (contents (device_of old)) (contents (device_of new)))
+  kept_answer told flushed = record {
+    text = told.text;
+    is_told = told.is_told;
+    holds = record {
+      answer = told.holds.answer;
+      on = told.holds.on;
+      written = Appends-kept (contents (device_of old)) _ _ told.holds.answer told.holds.written flushed.1;
+    };
+  }
+
+  pub finished_answer : {X : Type 0} (ran : Result X RunFault) → OnOk ran Answers → OnOk ran Flushed → IfErr ran (IsSaid contents status mid new)
+      → status ≡ 0 → OfToldText remaining (λ text. HasGrown (Is text) (contents (device_of old)) (contents (device_of new)))
+  finished_answer (Ok u) told flushed said is = kept_answer told flushed
+  finished_answer (Err fault) told flushed said is = absurd (never_zero fault (sym said.status_is ∙ is))
+
+  pub finished_refusal : {X : Type 0} (ran : Result X RunFault) → OnOk ran Flushed → IfErr ran (λ fault. OfToldText remaining (λ text. IsFault text fault))
+      → IfErr ran (λ fault. fault ≢ faults.OutputFailed → mid ≡ old) → IfErr ran (IsSaid contents status mid new) → status ≡ 1
+      → OfToldText remaining (λ text. HasGrownRefusal (IsFault text) (contents (device_of old)) (contents (device_of new)) (failures_of old < failures_of new))
+  finished_refusal (Ok u) flushed refused unwritten said is = elim flushed.0 [
+    | inl zero ↦ absurd (omega (arith, zero, is))
+    | inr four ↦ absurd (omega (arith, four, is))
+  ]
+  finished_refusal (Err fault) flushed refused unwritten said is =
+      let refusal = sym said.status_is ∙ is in
+      let same = unwritten (refusal_of_text fault refusal) in
+      let line : HasSaid fault (contents (device_of old)) (contents (device_of new)) (failures_of old < failures_of new) =
+      subst (λ (o : Counted W). HasSaid fault (contents (device_of o)) (contents (device_of new)) (failures_of o < failures_of new)) same (said.refused is) in
+      record {
+        text = refused.text;
+        is_told = refused.is_told;
+        holds = record { fault = fault; refusal = refusal; on = refused.holds; written = line.written; begun = line.begun };
+      }
+
+  pub finished_failure : {X : Type 0} (Input : Type 0) (ran : Result X RunFault) → OnOk ran Answers → OnOk ran Flushed → IfErr ran (IsSaid contents status mid new)
+      → (IsErrOf ran faults.InputFailed → Input) → (IsErrOf ran faults.OutputFailed → failures_of old < failures_of mid) → status ≡ 4
+      → Input ⊎ (failures_of old < failures_of new) ⊎ OfToldText remaining (λ text. HasGrown (Is text) (contents (device_of old)) (contents (device_of new)))
+  finished_failure Input (Ok u) told flushed said input output is = inr (inr (kept_answer told flushed))
+  finished_failure Input (Err fault) told flushed said input output is =
+      let same = said.kept (λ one. absurd (omega (arith, is, one))) in
+      failed_device fault _ (sym said.status_is ∙ is) (λ of_input. inl (input (ap Err of_input)))
+      (λ of_output. inr (inl (subst (λ (o : Counted W). failures_of old < failures_of o) (sym same) (output (ap Err of_output)))))
+
+  pub finished_beginning : {X : Type 0} (ran : Result X RunFault) → OnOk ran Answers → OnOk ran Flushed → IfErr ran (IsSaid contents status mid new)
+      → IfErr ran (λ fault. fault ≢ faults.OutputFailed → mid ≡ old)
+      → (IsErrOf ran faults.OutputFailed → OfToldText remaining (λ text. HasGrownSome (Is text) (contents (device_of old)) (contents (device_of mid)))) → status ≡ 4
+      → (new ≡ old) ⊎ OfToldText remaining (λ text. HasGrownSome (Is text) (contents (device_of old)) (contents (device_of new)))
+  finished_beginning (Ok u) told flushed said unwritten begun is =
+      let kept = kept_answer told flushed in
+      inr (record {
+        text = kept.text;
+        is_told = kept.is_told;
+        holds = record { answer = kept.holds.answer; on = kept.holds.on; begun = whole_is_beginning _ _ kept.holds.answer kept.holds.written };
+      })
+  finished_beginning (Err fault) told flushed said unwritten begun is =
+      let same = said.kept (λ one. absurd (omega (arith, is, one))) in
+      failed_device fault _ (sym said.status_is ∙ is)
+      (λ of_input. inl (same ∙ unwritten (λ output. let bad : faults.InputFailed ≡ faults.OutputFailed = sym of_input ∙ output in absurd cc)))
+      (λ of_output.
+      let some = begun (ap Err of_output) in
+      inr (record {
+        text = some.text;
+        is_told = some.is_told;
+        holds = record { answer = some.holds.answer; on = some.holds.on; begun = rw same some.holds.begun };
+      }))

@@ -1,0 +1,59 @@
+-- What a run of a schedule answers for the bytes of a text (this project's own).
+use Rattle.std.specs.Prelude.{◌≡◌, ℕ, ◌++◌, Bool, true, false, Option, List, codes}
+use Rattle.lit_read.specs.Syntax.{Litmus}
+use Rattle.lit_read.specs.Faults.{IsFirstFault}
+use Rattle.lit_read.specs.Spelling.{Spells}
+use Rattle.lit_paths.specs.Outcome.{meets, names_of}
+use Rattle.lit_search.specs.Interleaving.{interleaved}
+use Rattle.jslit.specs.declared.fault.RunFault.{RunFault}
+use Rattle.jslit.specs.declared.fault.RunFault.TheVariants as faults
+use Rattle.jslit.specs.Answer.{HasGrown, HasGrownSome, HasGrownRefusal}
+use Rattle.jslit.specs.ReportText.{line, registers_text}
+use Rattle.jslit.specs.Schedule.{NamesAgents, NamesNoAgents}
+
+abbrev pub yes_or_no : Bool → List ℕ
+yes_or_no true = codes "yes"
+yes_or_no false = codes "no"
+
+-- the outcome of a schedule, and whether it meets the condition
+unfoldable pub interleaving_text : Litmus → List ℕ → List ℕ
+interleaving_text t outcome =
+    line (codes "test " ++ t.name)
+    ++ line (codes "interleaving" ++ registers_text t (names_of t) outcome)
+    ++ line (codes "meets " ++ yes_or_no (meets t outcome))
+
+-- The text spells a test, the schedule names agents of it, and the answer is the text of the outcome that they have in
+-- these turns.
+pub record IsInterleavingOn (schedule text answer : List ℕ) : Type 0 where
+  pub test : Litmus
+  pub spelled : Spells text test
+  pub agents : List ℕ
+  pub named : NamesAgents test schedule agents
+  pub is : answer ≡ interleaving_text test (interleaved test agents)
+
+-- the text spells a test, and the schedule names no agents of it
+pub record IsScheduleRefused (schedule text : List ℕ) : Type 0 where
+  pub test : Litmus
+  pub spelled : Spells text test
+  pub unknown : NamesNoAgents test schedule
+
+-- what a fault says of the schedule and the text
+abbrev pub IsScheduleFaultOn : (schedule text : List ℕ) → RunFault → Type 0
+IsScheduleFaultOn schedule text (faults.Read fault) = IsFirstFault text fault.kind fault.line
+IsScheduleFaultOn schedule text (faults.Plan fault) = ⊥
+IsScheduleFaultOn schedule text faults.UnknownAgent = IsScheduleRefused schedule text
+IsScheduleFaultOn schedule text faults.OutOfMemory = Unit {0}
+IsScheduleFaultOn schedule text faults.InputFailed = Unit {0}
+IsScheduleFaultOn schedule text faults.OutputFailed = Unit {0}
+
+-- known bytes grew by the answer for the schedule and the text
+abbrev pub HasInterleaved : (schedule text : List ℕ) → (old new : Option (List ℕ)) → Type 0
+HasInterleaved schedule text old new = HasGrown (IsInterleavingOn schedule text) old new
+
+-- known bytes grew by a beginning of it
+abbrev pub HasInterleavedSome : (schedule text : List ℕ) → (old new : Option (List ℕ)) → Type 0
+HasInterleavedSome schedule text old new = HasGrownSome (IsInterleavingOn schedule text) old new
+
+-- known bytes grew by the line that says why the schedule or the text is refused; where a write failed, by a beginning of it
+abbrev pub HasRefusedSchedule : (schedule text : List ℕ) → (old new : Option (List ℕ)) → Type 0 → Type 0
+HasRefusedSchedule schedule text old new failed = HasGrownRefusal (IsScheduleFaultOn schedule text) old new failed

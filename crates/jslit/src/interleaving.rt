@@ -1,0 +1,119 @@
+//! From the bytes of a litmus text and of a schedule to the bytes of what the schedule comes to.
+
+ghost use Rattle.std.specs.Prelude.{◌≡◌, ◌≢◌, ◌+◌, ◌≤◌, ◌<◌, ◌^◌, ◌-◌, ◌↔◌, IfErr, OnOk, OnErr, IsErrOf, length};
+ghost use Rattle.std.specs.Io.KnownBytes.{Appends};
+ghost use Rattle.lit_read.specs.declared.limits.TheConstants.{TEXT_LIMIT};
+ghost use Rattle.lit_paths.specs.Outcome.{names_of};
+ghost use Rattle.jslit.specs.Counted.{device_of, failures_of, one_more};
+ghost use Rattle.jslit.specs.Devices.{AppendsBeginning, ConsumesBeginning, ConsumesTold, OfToldText};
+ghost use Rattle.jslit.specs.InterleavingAnswer.{HasInterleaved, HasInterleavedSome, IsScheduleFaultOn, interleaving_text, yes_or_no};
+ghost use Rattle.jslit.specs.Steps.Answering.{IsOfTextOrWriting};
+
+use crate::counted::Counted;
+use crate::fault::RunFault;
+use crate::page::Page;
+use crate::reading::read_text;
+use crate::reporting::{put_head, put_registers};
+use crate::schedule::agents_of;
+use lit_paths::{meets, written_names};
+use lit_read::{Test, read};
+use lit_search::interleave;
+use std::alloc::Global;
+use std::io::{Read, Write};
+
+/// The word for whether a condition is met.
+fn word_for(met: bool) -> &'static [u8]
+    ensures { result.now ≡ yes_or_no met }
+{
+    if met { b"yes" } else { b"no" }
+}
+
+/// Writes the outcome of a schedule, and whether it meets the condition. Takes no memory.
+fn write_interleaving<W: Write>(
+    output: &mut Counted<W>,
+    test: &Test,
+    outcome: &[u32],
+) -> Result<(), RunFault>
+    requires one_each { length outcome.now ≡ length (names_of test.now) }
+    ensures written { OnOk result (Appends (W.contents (device_of output.old)) (W.contents (device_of output.new)) (interleaving_text test.now outcome.now)) }
+    ensures not_failed { OnOk result (failures_of output.new ≡ failures_of output.old) }
+    ensures begun { OnErr result (AppendsBeginning (W.contents (device_of output.old)) (W.contents (device_of output.new)) (interleaving_text test.now outcome.now)) }
+    ensures failed { OnErr result (failures_of output.new ≡ one_more (failures_of output.old)) }
+    ensures fault { IfErr result (λ fault. fault ≡ RunFault.OutputFailed) }
+{
+    let mut page = Page::new();
+    put_head(&mut page, output, test);
+    page.put(output, b"interleaving");
+    let names = written_names(test);
+    put_registers(&mut page, output, test, names.as_slice(), outcome);
+    page.put(output, b"\nmeets ");
+    page.put(output, word_for(meets(test, outcome)));
+    page.put(output, b"\n");
+    page.finish(output)
+}
+
+/// Writes what is answered for a text and a schedule. Where there is nothing to answer, nothing is written.
+fn answer_schedule<W: Write>(
+    alloc: Global,
+    text: &[u8],
+    output: &mut Counted<W>,
+    schedule: &[u8],
+) -> Result<(), RunFault>
+    ensures answered { OnOk result (HasInterleaved schedule.now text.now (W.contents (device_of output.old)) (W.contents (device_of output.new))) }
+    ensures not_failed { OnOk result (failures_of output.new ≡ failures_of output.old) }
+    ensures begun { IsErrOf result RunFault.OutputFailed → HasInterleavedSome schedule.now text.now (W.contents (device_of output.old)) (W.contents (device_of output.new)) }
+    ensures failed { IsErrOf result RunFault.OutputFailed → failures_of output.new ≡ one_more (failures_of output.old) }
+    ensures unwritten { IfErr result (λ fault. fault ≢ RunFault.OutputFailed → output.new ≡ output.old) }
+    ensures refused { IfErr result (IsScheduleFaultOn schedule.now text.now) }
+    ensures of_text { IfErr result IsOfTextOrWriting }
+{
+    let test = read(alloc, text)?;
+    let agents = agents_of(alloc, &test, schedule)?;
+    let outcome = interleave(alloc, &test, &agents)?;
+    write_interleaving(output, &test, &outcome)
+}
+
+/// Reads a litmus text as `run` does, and writes what a schedule comes to: the outcome where the agents carry out their
+/// statements in these turns, each access at once, and whether it meets the condition. The schedule is the names of
+/// agents, joined by commas, with no blanks; the empty text is the schedule without turns. After the last turn each
+/// agent carries out what it has left, in order. Neither count of failures stands at `u64::MAX` before.
+///
+/// Answers `RunFault::Read` with the first fault of a text that spells no test, and else `RunFault::UnknownAgent` where a
+/// member of the schedule is no agent's name. `RunFault::InputFailed` and `RunFault::OutputFailed` come where a read or a
+/// write failed, and then alone; `RunFault::OutOfMemory` where a growth was refused; `RunFault::Plan` never. Nothing is
+/// written but after `RunFault::OutputFailed`, which leaves a beginning of the answer.
+pub fn run_schedule<R: Read, W: Write>(
+    alloc: Global,
+    input: &mut Counted<R>,
+    output: &mut Counted<W>,
+    schedule: &[u8],
+) -> Result<(), RunFault>
+    requires input { failures_of input.old < 2 ^ 64 - 1 }
+    requires output { failures_of output.old < 2 ^ 64 - 1 }
+
+    // The writer holds what it held, and then the outcome of the schedule on the test that the text spells.
+    ensures answered { OnOk result (OfToldText (R.remaining (device_of input.old)) (λ text.
+        HasInterleaved schedule.now text (W.contents (device_of output.old)) (W.contents (device_of output.new)))) }
+
+    // A text is refused for its first fault, and a schedule where it names no agents of the test.
+    ensures refused { IfErr result (λ fault. OfToldText (R.remaining (device_of input.old)) (λ text. IsScheduleFaultOn schedule.now text fault)) }
+
+    // A device is said to have failed exactly where it did, in this call.
+    ensures input_failed { IsErrOf result RunFault.InputFailed ↔ (failures_of input.old < failures_of input.new) }
+    ensures output_failed { IsErrOf result RunFault.OutputFailed ↔ (failures_of output.old < failures_of output.new) }
+    ensures input_count { failures_of input.old ≤ failures_of input.new }
+    ensures output_count { failures_of output.old ≤ failures_of output.new }
+
+    // Where a write failed, a beginning of the answer was written, and else a refusal writes nothing.
+    ensures begun { IsErrOf result RunFault.OutputFailed → OfToldText (R.remaining (device_of input.old)) (λ text.
+        HasInterleavedSome schedule.now text (W.contents (device_of output.old)) (W.contents (device_of output.new))) }
+    ensures unwritten { IfErr result (λ fault. fault ≢ RunFault.OutputFailed → output.new ≡ output.old) }
+
+    // No byte behind the text is read, and where the text was read whole, each byte of it is.
+    ensures consumed { ConsumesBeginning (R.remaining (device_of input.old)) (R.remaining (device_of input.new)) (TEXT_LIMIT + 1) }
+    ensures whole { ¬ IsErrOf result RunFault.InputFailed → ¬ IsErrOf result RunFault.OutOfMemory →
+        ConsumesTold (R.remaining (device_of input.old)) (R.remaining (device_of input.new)) }
+{
+    let text = read_text(alloc, input)?;
+    answer_schedule(alloc, &text, output, schedule)
+}
