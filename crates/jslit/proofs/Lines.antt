@@ -9,9 +9,8 @@ use Rattle.lit_paths.specs.Event.{no_event}
 use Rattle.lit_paths.specs.Outcome.{meets, names_of}
 use Rattle.lit_search.specs.Report.{Entry, Report, entry_at}
 use Rattle.jslit.specs.ChoiceEvents.{choice_at, choice_events}
-use Rattle.jslit.specs.ReportText.{class_text, entry_text, event_name, from_lines, line, names_text, owned_name, quick_text, register_text, registers_text, report_text, verdict_text}
+use Rattle.jslit.specs.ReportText.{class_text, entry_text, event_name, from_lines, interleaving_text, line, names_text, owned_name, quick_text, register_text, registers_text, report_text, verdict_text, yes_or_no}
 use Rattle.jslit.specs.declared.verdict.Verdict.{Verdict}
-use Rattle.jslit.specs.InterleavingAnswer.{interleaving_text, yes_or_no}
 use Rattle.jslit.specs.Steps.FirstEntry.{entry_of_option}
 
 -- the name of an agent's access

@@ -1,26 +1,15 @@
 -- What a run of a schedule answers for the bytes of a text (this project's own).
-use Rattle.std.specs.Prelude.{◌≡◌, ℕ, ◌++◌, Bool, true, false, Option, List, codes}
+use Rattle.std.specs.Prelude.{◌≡◌, ℕ, Option, Some, List, slice_get}
 use Rattle.lit_read.specs.Syntax.{Litmus}
 use Rattle.lit_read.specs.Faults.{IsFirstFault}
 use Rattle.lit_read.specs.Spelling.{Spells}
-use Rattle.lit_paths.specs.Outcome.{meets, names_of}
 use Rattle.lit_search.specs.Interleaving.{interleaved}
+use Rattle.lit_search.specs.Report.{Entry, Report}
 use Rattle.jslit.specs.declared.fault.RunFault.{RunFault}
 use Rattle.jslit.specs.declared.fault.RunFault.TheVariants as faults
 use Rattle.jslit.specs.Answer.{HasGrown, HasGrownSome, HasGrownRefusal}
-use Rattle.jslit.specs.ReportText.{line, registers_text}
+use Rattle.jslit.specs.ReportText.{interleaving_text}
 use Rattle.jslit.specs.Schedule.{NamesAgents, NamesNoAgents}
-
-abbrev pub yes_or_no : Bool → List ℕ
-yes_or_no true = codes "yes"
-yes_or_no false = codes "no"
-
--- the outcome of a schedule, and whether it meets the condition
-unfoldable pub interleaving_text : Litmus → List ℕ → List ℕ
-interleaving_text t outcome =
-    line (codes "test " ++ t.name)
-    ++ line (codes "interleaving" ++ registers_text t (names_of t) outcome)
-    ++ line (codes "meets " ++ yes_or_no (meets t outcome))
 
 -- The text spells a test, the schedule names agents of it, and the answer is the text of the outcome that they have in
 -- these turns.
@@ -30,6 +19,10 @@ pub record IsInterleavingOn (schedule text answer : List ℕ) : Type 0 where
   pub agents : List ℕ
   pub named : NamesAgents test schedule agents
   pub is : answer ≡ interleaving_text test (interleaved test agents)
+
+-- the answer is that of an outcome in the report
+abbrev pub IsOfEntry : Litmus → Report → List ℕ → Type 0
+IsOfEntry t report answer = (i : ℕ) × (entry : Entry) × (slice_get report.entries i ≡ Some entry) × (answer ≡ interleaving_text t entry.outcome)
 
 -- the text spells a test, and the schedule names no agents of it
 pub record IsScheduleRefused (schedule text : List ℕ) : Type 0 where

@@ -1,5 +1,5 @@
--- The text of a report, as bytes (this project's own).
-use Rattle.std.specs.Prelude.{ℕ, ◌==◌, Option, None, Some, List, [], ◌∷◌, ◌++◌, length, map, filter, codes}
+-- The text of a report, and of what a schedule comes to, as bytes (this project's own).
+use Rattle.std.specs.Prelude.{ℕ, ◌==◌, Bool, true, false, Option, None, Some, List, [], ◌∷◌, ◌++◌, length, map, filter, codes}
 use Rattle.std.specs.List.{flat_map, zip}
 use Rattle.std.specs.Fmt.{decimal}
 use Rattle.lit_read.specs.Syntax.{Litmus, agent_of}
@@ -8,7 +8,7 @@ use Rattle.lit_paths.specs.Event.{event_at}
 use Rattle.lit_paths.specs.ByteReads.{byte_reads}
 use Rattle.lit_search.specs.ValidExecution.{read_numbers}
 use Rattle.jslit.specs.ChoiceEvents.{choice_at, choice_events}
-use Rattle.lit_paths.specs.Outcome.{names_of}
+use Rattle.lit_paths.specs.Outcome.{meets, names_of}
 use Rattle.lit_search.specs.Report.{Entry, Report}
 use Rattle.jslit.specs.declared.verdict.Verdict.{Verdict}
 use Rattle.jslit.specs.declared.verdict.Verdict.TheVariants.{Always, Sometimes, Never}
@@ -84,3 +84,14 @@ quick_text t met unmet verdict =
     ++ class_text t (codes "met") met
     ++ class_text t (codes "unmet") unmet
     ++ line (codes "verdict " ++ verdict_text verdict)
+
+abbrev pub yes_or_no : Bool → List ℕ
+yes_or_no true = codes "yes"
+yes_or_no false = codes "no"
+
+-- the outcome of a schedule, and whether it meets the condition
+unfoldable pub interleaving_text : Litmus → List ℕ → List ℕ
+interleaving_text t outcome =
+    line (codes "test " ++ t.name)
+    ++ line (codes "interleaving" ++ registers_text t (names_of t) outcome)
+    ++ line (codes "meets " ++ yes_or_no (meets t outcome))

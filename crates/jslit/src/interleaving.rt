@@ -6,7 +6,8 @@ ghost use Rattle.lit_read.specs.declared.limits.TheConstants.{TEXT_LIMIT};
 ghost use Rattle.lit_paths.specs.Outcome.{names_of};
 ghost use Rattle.jslit.specs.Counted.{device_of, failures_of, one_more};
 ghost use Rattle.jslit.specs.Devices.{AppendsBeginning, ConsumesBeginning, ConsumesTold, OfToldText};
-ghost use Rattle.jslit.specs.InterleavingAnswer.{HasInterleaved, HasInterleavedSome, IsScheduleFaultOn, interleaving_text, yes_or_no};
+ghost use Rattle.jslit.specs.InterleavingAnswer.{HasInterleaved, HasInterleavedSome, IsScheduleFaultOn};
+ghost use Rattle.jslit.specs.ReportText.{interleaving_text, yes_or_no};
 ghost use Rattle.jslit.specs.Steps.Answering.{IsOfTextOrWriting};
 
 use crate::counted::Counted;

@@ -1,16 +1,17 @@
 //! What the definitions of the headline come to.
 
-ghost use Rattle.std.specs.Prelude.{◌≡◌, ℕ, Bool, List, length};
+ghost use Rattle.std.specs.Prelude.{◌≡◌, ◌≤◌, ℕ, Bool, false, List, length};
 ghost use Rattle.lit_read.specs.Syntax.{Litmus};
 ghost use Rattle.lit_paths.specs.Choice.{choices_of};
 ghost use Rattle.lit_search.specs.Report.{Entry, Report, HasEntry, IsReport, in_range};
 ghost use Rattle.lit_search.specs.declared.class.Class.{Class};
 ghost use Rattle.jslit.specs.Answer.{IsAnswerOn, IsComplete};
+ghost use Rattle.jslit.specs.InterleavingAnswer.{IsInterleavingOn, IsOfEntry};
 ghost use Rattle.jslit.specs.QuickAnswer.{IsFirstEntry};
 
 use lit_paths::{candidate_executions_have_choices, choices_are_listed};
-use lit_read::spells_one_test;
-use lit_search::reports_are_unique;
+use lit_read::{spells_one_test, spells_within_limits};
+use lit_search::{interleavings_are_reported, reports_are_unique, reports_have_an_entry};
 
 /// The report on all choices of a test has the outcome of each of its valid executions.
 pub fn reports_are_complete()
@@ -33,3 +34,14 @@ pub fn quick_answers_are_reported()
     ensures { (t : Litmus) (class : Class) (entry : Entry) (report : Report) → IsFirstEntry t class entry
         → IsReport t (in_range 0 (length (choices_of t))) report → HasEntry report entry }
 {}
+
+/// What a schedule comes to on a text is that of an outcome in the text's report, and no report is empty.
+pub fn schedules_are_reported()
+    ensures reported { (schedule text answer whole : List ℕ) → IsInterleavingOn schedule text answer → (on : IsAnswerOn false text whole) → IsOfEntry on.test on.of_test.report answer }
+    ensures some { (text whole : List ℕ) → (on : IsAnswerOn false text whole) → 1 ≤ length on.of_test.report.entries }
+{
+    spells_one_test();
+    spells_within_limits();
+    interleavings_are_reported();
+    reports_have_an_entry();
+}

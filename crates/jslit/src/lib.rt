@@ -29,7 +29,9 @@ pub use counted::Counted;
 pub use engine::{Options, run};
 pub use fault::RunFault;
 pub use interleaving::run_schedule;
-pub use laws::{answers_are_unique, quick_answers_are_reported, reports_are_complete};
+pub use laws::{
+    answers_are_unique, quick_answers_are_reported, reports_are_complete, schedules_are_reported,
+};
 pub use words::line;
 
 #[cfg(test)]

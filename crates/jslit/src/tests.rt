@@ -23,6 +23,7 @@ mod many_choices;
 mod paths;
 mod refusals;
 mod reports;
+mod schedules;
 mod sizes;
 mod workers;
 

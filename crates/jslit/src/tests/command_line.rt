@@ -21,7 +21,7 @@ Arguments:
   [FILE]  The litmus text [default: standard input]
 
 Options:
-      --workers <N>  How many workers search, 1 to 16 [default: 1]
+      --workers <N>      How many workers search, 1 to 16 [default: 1]
       --cut <N>      The fewest choices in a piece of the work, 1 to 281474976710656 [default: 4096]
       --quick        Report only the first choice that meets the condition and the first that does not
   -h, --help         Print help
