@@ -22,13 +22,14 @@ Arguments:
 
 Options:
       --workers <N>      How many workers search, 1 to 16 [default: 1]
-      --cut <N>      The fewest choices in a piece of the work, 1 to 281474976710656 [default: 4096]
-      --quick        Report only the first choice that meets the condition and the first that does not
-  -h, --help         Print help
+      --cut <N>          The fewest choices in a piece of the work, 1 to 281474976710656 [default: 4096]
+      --quick            Report only the first choice that meets the condition and the first that does not
+      --schedule <TEXT>  Carry the test out in turns, by the names of agents, such as A,B,A, and print its outcome
+  -h, --help             Print help
 
 Exit status:
-  0  a report was printed
-  1  the text or its test is refused: the reason is printed on standard output
+  0  a report, or the outcome of a schedule, was printed
+  1  the text, its test or the schedule is refused: the reason is printed on standard output
   2  a fault of the command line
   3  out of memory
   4  the input or the output failed
