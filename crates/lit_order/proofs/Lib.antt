@@ -1,4 +1,4 @@
-pub mod PlaceLemmas
+pub mod CountLemmas
 pub mod OrderLemmas
 pub mod SameOrders
 pub mod StandingLemmas

@@ -8,7 +8,7 @@ use Rattle.lit_order.specs.Finding.Deciding.{AreDecided}
 use Rattle.lit_order.specs.MemoryOrder.{IsOrderOf}
 use Rattle.lit_order.proofs.ForcedLemmas.{AreTriplesBelow}
 use Rattle.lit_order.proofs.OrderLemmas.{IsBeginning-nil, IsBeginning-push, IsOrderOf-from_beginning}
-use Rattle.lit_order.proofs.PlaceLemmas.{any_from_place, place_from_any, length_from_all}
+use Rattle.lit_order.proofs.CountLemmas.{any_from_place, place_from_any, length_from_all}
 
 -- an event stands in a list or does not
 pub stands_or_not : (order : List ℕ) (e : ℕ) → Stands order e ⊎ ¬ Stands order e

@@ -6,7 +6,7 @@ use Rattle.std.specs.List.{slice_get}
 use Rattle.lit_order.specs.Finding.Beginning.{Stands, HasNoOrder}
 use Rattle.lit_order.specs.Finding.Narrowed.{IsNarrowed}
 use Rattle.lit_order.specs.MemoryOrder.{StandsBefore, HasOrder, IsOrderOf}
-use Rattle.lit_order.proofs.PlaceLemmas.{place-left, place_from-left, place-middle}
+use Rattle.lit_rel.proofs.PlaceLemmas.{place-left, place_from-left, place-middle}
 
 -- a relation with no more pairs has all orders
 pub IsOrderOf-fewer : (n : ℕ) (before other : ℕ → ℕ → Type 0) (forbidden : ℕ → ℕ → ℕ → Type 0) → ((a d : ℕ) → other a d → before a d) → (order : List ℕ) → IsOrderOf n before forbidden order → IsOrderOf n other forbidden order

@@ -11,7 +11,8 @@ use Rattle.std.specs.declared.cmp.Ordering.{Ordering}
 use Rattle.std.specs.declared.cmp.Ordering.TheVariants.{Less, Equal, Greater}
 use Rattle.lit_order.specs.Finding.Beginning.{Stands, IsBeginning, CanStandNext, HasNoOrder, IsLeastFrom}
 use Rattle.lit_order.specs.MemoryOrder.{StandsBefore, IsOrderOf, IsLeastOrderOf}
-use Rattle.lit_order.proofs.PlaceLemmas.{place-left, place_from-left, place-middle, place-push, length_from_all, all_from_length}
+use Rattle.lit_rel.proofs.PlaceLemmas.{place-left, place_from-left, place-middle, place-push}
+use Rattle.lit_order.proofs.CountLemmas.{length_from_all, all_from_length}
 
 pub StandsBefore-left : (xs ys : List ℕ) (a d : ℕ) → StandsBefore xs a d → StandsBefore (xs ++ ys) a d
 StandsBefore-left xs ys a d h =

@@ -4,7 +4,7 @@ use Rattle.std.proofs.lemmas.Bool.{cases_order}
 use Rattle.std.proofs.lemmas.Option.{same_Some}
 use Rattle.std.specs.List.{slice_get}
 use Rattle.lit_order.specs.MemoryOrder.{StandsBefore, IsListOfAll}
-use Rattle.lit_order.proofs.PlaceLemmas.{IsOnce}
+use Rattle.lit_order.proofs.CountLemmas.{IsOnce}
 
 module _ (order : List ℕ) (once : IsOnce order) where
   pub StandsBefore-through : (a m d : ℕ) → StandsBefore order a m → StandsBefore order m d → StandsBefore order a d

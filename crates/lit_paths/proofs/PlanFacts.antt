@@ -59,6 +59,12 @@ of_numbered t n c known low high =
     let within : place < length (sources_of (events_in t c)) = omega (arith, low, high, before_more t c known) in
     of_combination t c n (get_or (sources_of (events_in t c)) place []) known low high (slice_get-get_or (sources_of (events_in t c)) place [] within)
 
+-- the choice with a number is one of a combination's
+pub record IsFound (t : Litmus) (n c : ℕ) : Type 0 where
+  pub known : c < length (combinations_of t)
+  pub low : choices_before t c ≤ n
+  pub high : n < choices_before t (c + 1)
+
 -- ---- the plan of a test
 module _ (p : Inside) (is : IsPlanned p) where
   abbrev t : Litmus
@@ -101,7 +107,7 @@ module _ (p : Inside) (is : IsPlanned p) where
   planned-end c known = omega (arith, some_choice t.bytes (events_in t c) (planned-events c known), before_more t c known)
 
   -- the combination that a binary search finds
-  pub found-known : (n c : ℕ) → n < length (choices_of t) → c ≤ length totals → ((k : ℕ) → k < c → slice_index totals k ≤ n) → c < length (combinations_of t)
+  found-known : (n c : ℕ) → n < length (choices_of t) → c ≤ length totals → ((k : ℕ) → k < c → slice_index totals k ≤ n) → c < length (combinations_of t)
   found-known n c known bound earlier =
       let last : ℕ = length (combinations_of t) - 1 in
       let at : get_or totals last 0 ≡ choices_before t (last + 1) = planned-at last 0 (omega (arith, planned-some)) in
@@ -110,13 +116,27 @@ module _ (p : Inside) (is : IsPlanned p) where
       let decided : (last < c) ⊎ (c ≤ last) = cases_lt last c in
       elim decided [ inl past ↦ absurd (step past) | inr below ↦ omega (arith, below, planned-some) ]
 
-  pub found-low : (n c : ℕ) → c ≤ length (combinations_of t) → ((k : ℕ) → k < c → slice_index totals k ≤ n) → choices_before t c ≤ n
+  found-low : (n c : ℕ) → c ≤ length (combinations_of t) → ((k : ℕ) → k < c → slice_index totals k ≤ n) → choices_before t c ≤ n
   found-low n zero bound earlier = omega arith
   found-low n (suc k) bound earlier =
       omega (arith, earlier k (omega arith), planned-at k 0 (omega (arith, bound)), ap (choices_before t) (add-one k))
 
-  pub found-high : (n c : ℕ) → c < length (combinations_of t) → ((k : ℕ) → c ≤ k → k < length totals → n < slice_index totals k) → n < choices_before t (c + 1)
+  found-high : (n c : ℕ) → c < length (combinations_of t) → ((k : ℕ) → c ≤ k → k < length totals → n < slice_index totals k) → n < choices_before t (c + 1)
   found-high n c known later = omega (arith, later c (omega arith) (omega (arith, known, planned-length)), planned-at c 0 known)
+
+  pub found : (n c : ℕ) (ends : List ℕ) (test : Litmus) → ends ≡ totals → t ≡ test → n < length (choices_of test) → c ≤ length ends
+      → ((k : ℕ) → k < c → slice_index ends k ≤ n) → ((k : ℕ) → c ≤ k → k < length ends → n < slice_index ends k) → IsFound test n c
+  found n c ends test same shown inside bound earlier later =
+      subst (λ (u : Litmus). n < length (choices_of u) → IsFound u n c) shown
+      (subst
+      (λ (ns : List ℕ). c ≤ length ns → ((k : ℕ) → k < c → slice_index ns k ≤ n) → ((k : ℕ) → c ≤ k → k < length ns → n < slice_index ns k) → n < length (choices_of t) → IsFound t n c)
+      (sym same) from_totals bound earlier later)
+      inside
+    where
+      from_totals : c ≤ length totals → ((k : ℕ) → k < c → slice_index totals k ≤ n) → ((k : ℕ) → c ≤ k → k < length totals → n < slice_index totals k) → n < length (choices_of t) → IsFound t n c
+      from_totals bound earlier later inside =
+          let known : c < length (combinations_of t) = found-known n c inside bound earlier in
+          record { known = known; low = found-low n c (omega (arith, known)) earlier; high = found-high n c known later }
 
 -- ---- the walk of an agent in a combination
 pub walk_in-known : (t : Litmus) (c agent : ℕ) → IsLitmus t → c < length (combinations_of t) → agent < length t.agents → IsWalkIn t c agent (walk_in t c agent)

@@ -145,7 +145,7 @@ impl<'p> Combination<'p> {
     }
 
     /// The number of the first event of an agent, by the agent's number: below the number of agents. Where the agent
-    /// has no event, it is the number behind those of the agents before.
+    /// has no event, it is the number after those of the agents before.
     pub fn first_event(&self, agent: usize) -> u8
         requires { agent < length self.now.0.agents }
         ensures { result ≡ first_event self.now.0 self.now.1 agent }
@@ -187,7 +187,7 @@ impl<'p> Combination<'p> {
         self.first
     }
 
-    /// The number behind that of its last choice.
+    /// The number after that of its last choice.
     pub fn end(&self) -> u64
         ensures value { result ≡ choices_before self.now.0 (self.now.1 + 1) }
         ensures few { result ≤ CHOICE_LIMIT }

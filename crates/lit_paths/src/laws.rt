@@ -29,7 +29,7 @@ pub fn choices_have_numbers()
     ensures { (t : Litmus) (c : ℕ) → c < length (combinations_of t) → NumbersChoices t c }
 {}
 
-/// The numbers of a combination's choices are those behind the choices of the combinations before it: such a choice has
+/// The numbers of a combination's choices are those after the choices of the combinations before it: such a choice has
 /// the combination's decisions, and its executions run on the combination's paths.
 pub fn choices_are_on_combinations()
     ensures { (t : Litmus) (n c : ℕ) → c < length (combinations_of t) → choices_before t c ≤ n → n < choices_before t (c + 1) → IsOfCombination t n c }

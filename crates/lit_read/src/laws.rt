@@ -16,7 +16,7 @@ ghost use Rattle.lit_read.specs.Canonical.{canonical_forms, without_empty_elses}
 ghost use Rattle.lit_read.specs.Parentheses.{without_parentheses};
 ghost use Rattle.lit_read.specs.CanonicalText.{canonical};
 
-/// A text is its lines, none of which has a byte 10, each with a byte 10 behind it. Where the text does not end with a
+/// A text is its lines, none of which has a byte 10, each with a byte 10 after it. Where the text does not end with a
 /// byte 10, the last one is left out.
 pub fn lines_are_joined()
     ensures some { (text : List ℕ) → 1 ≤ length (lines_of text) }
@@ -51,7 +51,7 @@ pub fn has_canonical_forms()
     ensures only { (t u : Litmus) → IsLitmus t → AreFormsOf (canonical_forms t) u → u ≡ t }
 {}
 
-/// Behind an agent's line and forms of statements, none of them misplaced, those `if`s are open that the forms leave open:
+/// After an agent's line and forms of statements, none of them misplaced, those `if`s are open that the forms leave open:
 /// so none is open exactly where the forms are those of whole statements. Forms that leave `if`s open are not misplaced.
 pub fn leaves_ifs_open()
     ensures left { (given forms : List Form) → is_begun given ≡ true → open_ifs given ≡ [] → list_all is_body_line forms ≡ true → AllByRecursion IsForm forms → none_misplaced given forms ≡ true → LeaveOpen (open_ifs (given ++ forms)) forms }

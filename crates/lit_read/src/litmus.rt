@@ -8,7 +8,8 @@ use crate::syntax::{Cond, Stmt};
 use indexmap::IndexMap;
 use std::marker::Model;
 
-/// A litmus test: only what a text can say. A clause sees it as a `Litmus`.
+/// A litmus test: only what a text can say, but that this text may be longer than `TEXT_LIMIT`. A clause sees it as a
+/// `Litmus`.
 #[derive(Drop)]
 pub struct Test {
     pub(crate) name: String,

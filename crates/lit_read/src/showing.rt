@@ -48,7 +48,7 @@ fn put_check(out: &mut String, test: &Test) -> Result<(), AllocError>
 }
 
 /// The canonical text of a test: no indentation, no comment, no blank line, no else line with an empty part, and only
-/// the parentheses that are needed. Each line ends with a byte 10. It is refused by want of memory alone, with line 0.
+/// the parentheses that are needed. Each line ends with a byte 10. An `Err` is out of memory, with line 0.
 pub fn show(alloc: Global, test: &Test) -> Result<Vec<u8>, ReadFault>
     ensures ok { IfOk result (λ text. text.items ≡ canonical test.now) }
     ensures fault { IfErr result (λ e. (e.kind ≡ OutOfMemory) × (e.line ≡ 0)) }

@@ -8,7 +8,7 @@ use Rattle.lit_rel.specs.ReadsFrom.{ReadsByteFrom, ReadsFromBy}
 use Rattle.lit_rel.specs.SynchronizesWith.{CanSynchronize}
 use Rattle.lit_rel.specs.HappensBefore.{HappensBeforeBy}
 
--- source w synchronizes with its read r, and v has the range of r
+-- w can synchronize with r, as it does where r reads from it, and v has the range of r
 pub record IsBetweenSynchronized (events : List Event) (w r v : ℕ) : Type 0 where
   pub synchronized : CanSynchronize (event_at events w) (event_at events r)
   pub same_range : HasSameRange (event_at events v) (event_at events r)

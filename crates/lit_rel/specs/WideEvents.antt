@@ -38,8 +38,8 @@ typed_load = two_stores ++ record { kind = Read; order = Unordered; no_tear = tr
 abbrev pub viewed_load : List Event
 viewed_load = two_stores ++ record { kind = Read; order = Unordered; no_tear = false; first = 0; size = 2; payload = 0 ∷ 0 ∷ 0 ∷ 0 ∷ []; owner = Some 2; place = 0 } ∷ []
 
--- A load through a typed array gives no mix of the two stores. It may give a mix of one of them and the event that made
--- a byte, which is one byte wide.
+-- For a load through a typed array, tear free reads allow no mix of the two stores. They allow a mix of one of them and
+-- the event that made a byte, which is one byte wide.
 pub record TypedLoadMixesWithInitOnly : Type 0 where
   pub first_mix : value_of typed_load (3 ∷ 2 ∷ []) 4 ≡ 258
   pub first_mix_refused : ¬ HasTearFreeReads typed_load (3 ∷ 2 ∷ [])
@@ -48,7 +48,7 @@ pub record TypedLoadMixesWithInitOnly : Type 0 where
   pub init_mix : value_of typed_load (0 ∷ 2 ∷ []) 4 ≡ 256
   pub init_mix_allowed : HasTearFreeReads typed_load (0 ∷ 2 ∷ [])
 
--- a load through a DataView gives a mix of the two stores
+-- for a load through a DataView, tear free reads allow a mix of the two stores
 pub record ViewedLoadMixes : Type 0 where
   pub mix : value_of viewed_load (3 ∷ 2 ∷ []) 4 ≡ 258
   pub mix_allowed : HasTearFreeReads viewed_load (3 ∷ 2 ∷ [])

@@ -10,8 +10,11 @@ ghost use Rattle.lit_rel.specs.Part.{IsComplete, with_sources};
 
 use crate::bit_rows::Rows;
 use crate::part::Part;
-use lit_paths::Plan;
+use crate::triples::Between;
+use lit_paths::{Plan, plan};
+use lit_read::read;
 use std::process::Abort;
+use std::test::Fail;
 
 /// The part with all sources of a choice, which is one of a combination's.
 fn part_of<'p>(plan: &'p Plan<'p>, combination: usize, choice: u64) -> Part<'p>
@@ -41,11 +44,43 @@ fn give(rt: &impl Abort, part: &mut Part<'_>, source: u8)
     part.push(source);
 }
 
+/// Whether the first combination of a test, with these sources for its first byte reads, is broken, and the triples that
+/// it forbids.
+fn of_sources(
+    rt: &(impl Abort + AllocGlobal),
+    text: &[u8],
+    sources: &[u8],
+) -> Result<(bool, Between), Fail> {
+    let test = read(rt.alloc(), text)?;
+    let plan = plan(rt.alloc(), &test)?;
+    assert!(rt; plan.combinations() > 0);
+    let mut part = Part::open(&plan, 0);
+    for source in sources {
+        give(rt, &mut part, *source);
+    }
+    Ok((part.broken(), part.between()))
+}
+
 /// The rows hold of these pairs and of no other.
 fn assert_pairs(rt: &impl Abort, rows: &Rows, wanted: &[(usize, usize)]) {
     for a in 0..rows.len() {
         for d in 0..rows.len() {
             assert_eq!(rt; rows.holds(a, d), wanted.contains(&(a, d)), "at {a} {d}");
+        }
+    }
+}
+
+/// These triples are forbidden and no other.
+fn assert_triples(rt: &impl Abort, between: &Between, wanted: &[(usize, usize, usize)]) {
+    for w in 0..between.len() {
+        for r in 0..between.len() {
+            for v in 0..between.len() {
+                assert_eq!(rt;
+                    between.forbids(w, r, v),
+                    wanted.contains(&(w, r, v)),
+                    "at {w} {r} {v}"
+                );
+            }
         }
     }
 }

@@ -8,12 +8,13 @@ pub fn mixed_sizes_never_synchronize()
     ensures { MixedSizesNeverSynchronize }
 {}
 
-/// A load of two bytes through a typed array never mixes two stores of its range, though it may mix one with init.
+/// Tear free reads allow no load of two bytes through a typed array to mix two stores of its range, but they allow it to
+/// mix one of them with init.
 pub fn typed_load_mixes_with_init_only()
     ensures { TypedLoadMixesWithInitOnly }
 {}
 
-/// A load of two bytes through a DataView may mix two stores of its range.
+/// Tear free reads allow a load of two bytes through a DataView to mix two stores of its range.
 pub fn viewed_load_mixes()
     ensures { ViewedLoadMixes }
 {}

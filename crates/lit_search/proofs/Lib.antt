@@ -5,7 +5,6 @@ pub mod HeldLemmas
 pub mod Takings
 pub mod RunLemmas
 pub mod CompletionLemmas
-pub mod LeastOrders
 pub mod WantingLemmas
 pub mod PassingLemmas
 pub mod ExchangeLemmas

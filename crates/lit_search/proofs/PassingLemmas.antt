@@ -30,7 +30,7 @@ use Rattle.lit_search.specs.Searching.Passing.{HasAll, MayPass, NoneFrom, NoneVa
 use Rattle.lit_search.specs.Searching.Places.{ArePlaces, Stand, behind_at, candidates_at, low_at, part_at, sources_at, stand_events, with_places}
 use Rattle.lit_search.specs.Searching.Wanting.{AllKnownAfter, GoesBy}
 use Rattle.lit_search.proofs.CompletionLemmas.{example, example_completes, example_paths, its_events, its_outcome, order_kept}
-use Rattle.lit_search.proofs.LeastOrders.{order_back}
+use Rattle.lit_order.proofs.SameOrders.{order_back}
 use Rattle.lit_search.proofs.PlaceLemmas.{length-sources, numbered, passed_within, placed_take, ways_end, within}
 use Rattle.lit_search.proofs.RunLemmas.{maps}
 
@@ -156,7 +156,7 @@ pub no_round : (laws : Laws) (part : PartModel) (n : ℕ) (before : ℕ → ℕ 
 no_round laws part n before banned len pairs triples keep cycle x is =
     let ordered = is.valid.ordered in
     let kept = order_kept part x is laws.grow ordered.0 ordered.1 in
-    let here = order_back (part_events part) part.sources n before banned len pairs triples ordered.0 kept in
+    let here = order_back n (length (part_events part)) before (HappensBefore (part_events part) part.sources) banned (IsForbidden (part_events part) part.sources) len pairs triples ordered.0 kept in
     let stands = keep ordered.0 here cycle.0 cycle.0 cycle.1 in
     absurd (omega (arith, stands.earlier, here.complete.once stands.first stands.second cycle.0 stands.first_is stands.second_is))
 
@@ -166,7 +166,7 @@ pub no_order : (laws : Laws) (part : PartModel) (n : ℕ) (before : ℕ → ℕ 
     → ((order : List ℕ) → ¬ IsOrderOf n before banned order) → (x : Execution) → ¬ Completes part x
 no_order laws part n before banned len pairs triples none x is =
     let ordered = is.valid.ordered in
-    none ordered.0 (order_back (part_events part) part.sources n before banned len pairs triples ordered.0 (order_kept part x is laws.grow ordered.0 ordered.1))
+    none ordered.0 (order_back n (length (part_events part)) before (HappensBefore (part_events part) part.sources) banned (IsForbidden (part_events part) part.sources) len pairs triples ordered.0 (order_kept part x is laws.grow ordered.0 ordered.1))
 
 -- ---- what a choice shows
 module _ (laws : Laws) (s : Stand) (entered : IsEntered (part_at s)) (placed : ArePlaces (stand_events s) 0 s.places) (all : HasAll s) (named : AreNamed s.test)

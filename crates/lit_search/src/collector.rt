@@ -86,7 +86,7 @@ impl Collector {
         }
     }
 
-    /// The number behind the last choice taken, or 0.
+    /// The number after the last choice taken, or 0.
     pub fn end(&self) -> u64
         ensures { result ≡ self.now.end }
     {

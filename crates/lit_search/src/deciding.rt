@@ -1,4 +1,4 @@
-//! The next access of an agent, behind the `if`s that its registers decide.
+//! The next access of an agent, after the `if`s that its registers decide.
 
 ghost use Rattle.std.specs.Prelude.{◌≡◌, ℕ, true, IfOk, MatchOption, length};
 ghost use Rattle.lit_read.specs.declared.limits.TheConstants.{REGISTERS};

@@ -31,7 +31,7 @@ pub fn search_range(
 }
 
 /// Of the choices with numbers from `from` up to and without `to`, the first that a valid execution with an outcome in
-/// the class has; `None` where there is none. `from` is at most `to`, and `to` at most `plan.total()`. No choice behind
+/// the class has; `None` where there is none. `from` is at most `to`, and `to` at most `plan.total()`. No choice after
 /// the one given is looked at.
 pub fn first_in(plan: &Plan<'_>, class: Class, from: u64, to: u64) -> Option<u64>
     requires order { from ≤ to }

@@ -1,8 +1,4 @@
-use super::give;
-use crate::part::Part;
-use lit_paths::plan;
-use lit_read::read;
-use std::process::Abort;
+use super::{assert_triples, of_sources};
 use std::test::Fail;
 
 const AFTER_THE_SOURCE: &[u8] = b"test after
@@ -31,36 +27,14 @@ r0 = Atomics.exchange(U16, 0, 3)
 check B.r0 == 1
 ";
 
-/// The part forbids these triples and no other.
-fn assert_triples(rt: &impl Abort, part: &Part<'_>, wanted: &[(usize, usize, usize)]) {
-    let between = part.between();
-    for w in 0..between.len() {
-        for r in 0..between.len() {
-            for v in 0..between.len() {
-                assert_eq!(rt;
-                    between.forbids(w, r, v),
-                    wanted.contains(&(w, r, v)),
-                    "at {w} {r} {v}"
-                );
-            }
-        }
-    }
-}
-
 /// The init events are 0, 1 and 2. A stores byte 0 (3) and byte 1 (4), B stores byte 0 (5) and byte 2 (6), C loads
 /// byte 1 (7) from 4, byte 2 (8) from 6 and then, plainly, byte 0 (9) from 3. So both stores of byte 0 happen before
 /// the plain load, and B's, with the range of its source, may not stand between. Each atomic load has the one atomic
 /// store of its byte as its source.
 #[test]
 fn a_store_before_the_read_is_forbidden_after_its_source(rt: HostRuntime) -> Result<(), Fail> {
-    let test = read(rt.alloc(), AFTER_THE_SOURCE)?;
-    let plan = plan(rt.alloc(), &test)?;
-    assert!(rt; plan.combinations() > 0);
-    let mut part = Part::open(&plan, 0);
-    give(&rt, &mut part, 4);
-    give(&rt, &mut part, 6);
-    give(&rt, &mut part, 3);
-    assert_triples(&rt, &part, &[(3, 9, 5)]);
+    let (_, between) = of_sources(&rt, AFTER_THE_SOURCE, &[4, 6, 3])?;
+    assert_triples(&rt, &between, &[(3, 9, 5)]);
     Ok(())
 }
 
@@ -69,13 +43,7 @@ fn a_store_before_the_read_is_forbidden_after_its_source(rt: HostRuntime) -> Res
 /// others are of 7.
 #[test]
 fn no_write_of_the_range_stands_between_what_synchronizes(rt: HostRuntime) -> Result<(), Fail> {
-    let test = read(rt.alloc(), SYNCHRONIZED)?;
-    let plan = plan(rt.alloc(), &test)?;
-    assert!(rt; plan.combinations() > 0);
-    let mut part = Part::open(&plan, 0);
-    give(&rt, &mut part, 6);
-    give(&rt, &mut part, 0);
-    give(&rt, &mut part, 6);
-    assert_triples(&rt, &part, &[(0, 7, 4), (0, 7, 6), (6, 7, 4)]);
+    let (_, between) = of_sources(&rt, SYNCHRONIZED, &[6, 0, 6])?;
+    assert_triples(&rt, &between, &[(0, 7, 4), (0, 7, 6), (6, 7, 4)]);
     Ok(())
 }

@@ -1,4 +1,4 @@
-use super::give;
+use super::{give, of_sources};
 use crate::part::Part;
 use lit_paths::plan;
 use lit_read::read;
@@ -99,33 +99,6 @@ fn a_test_or_a_cycle_breaks(rt: HostRuntime) -> Result<(), Fail> {
     Ok(())
 }
 
-#[test]
-fn plain_accesses_close_no_cycle(rt: HostRuntime) -> Result<(), Fail> {
-    let test = read(rt.alloc(), PLAIN_LOADS)?;
-    let plan = plan(rt.alloc(), &test)?;
-    assert!(rt; plan.combinations() > 0);
-    let mut part = Part::open(&plan, 0);
-    give(&rt, &mut part, 5);
-    give(&rt, &mut part, 3);
-    assert!(rt; !part.broken());
-    Ok(())
-}
-
-#[test]
-fn two_stores_tear(rt: HostRuntime) -> Result<(), Fail> {
-    let test = read(rt.alloc(), TYPED)?;
-    let plan = plan(rt.alloc(), &test)?;
-    assert!(rt; plan.combinations() > 0);
-    let mut part = Part::open(&plan, 0);
-    give(&rt, &mut part, 2);
-    give(&rt, &mut part, 3);
-    assert!(rt; part.broken());
-    part.pop();
-    give(&rt, &mut part, 1);
-    assert!(rt; !part.broken());
-    Ok(())
-}
-
 /// Combination 0 is the then-part, which asks that a register that holds 0 be 1.
 #[test]
 fn an_unwritten_register_breaks_at_once(rt: HostRuntime) -> Result<(), Fail> {
@@ -137,36 +110,31 @@ fn an_unwritten_register_breaks_at_once(rt: HostRuntime) -> Result<(), Fail> {
     Ok(())
 }
 
-/// The load of two bytes is 2, the store 4. Its first byte alone is 0, which is not 256.
-#[test]
-fn a_read_is_tested_when_it_is_whole(rt: HostRuntime) -> Result<(), Fail> {
-    let test = read(rt.alloc(), WIDE)?;
-    let plan = plan(rt.alloc(), &test)?;
-    assert!(rt; plan.combinations() > 0);
-    let mut part = Part::open(&plan, 0);
-    give(&rt, &mut part, 0);
-    assert!(rt; !part.broken());
-    give(&rt, &mut part, 1);
-    assert!(rt; part.broken());
-    part.pop();
-    give(&rt, &mut part, 4);
-    assert!(rt; !part.broken());
-    Ok(())
-}
+/// Texts with sources for the first byte reads of their first combination, and whether these break it.
+const BREAKS: [(&[u8], &[u8], bool); 9] = [
+    // Plain accesses close no cycle.
+    (PLAIN_LOADS, &[5, 3], false),
+    // Two stores tear, a store and init do not.
+    (TYPED, &[2, 3], true),
+    (TYPED, &[2, 1], false),
+    // The load of two bytes is 2, the store 4. Its first byte alone is 0, which is not 256; but a read is tested when it
+    // is whole.
+    (WIDE, &[0], false),
+    (WIDE, &[0, 1], true),
+    (WIDE, &[0, 4], false),
+    // A loads byte 0 (3) from C's last store (8) and then stores byte 1 (4). B loads byte 1 (5) from it and stores byte 2
+    // (6). Where C loads byte 2 (7) from that, its store comes after the load that read it: the load stands before the
+    // edge from 6 to 7.
+    (BEHIND, &[8], false),
+    (BEHIND, &[8, 4], false),
+    (BEHIND, &[8, 4, 6], true),
+];
 
-/// A loads byte 0 (3) from C's last store (8) and then stores byte 1 (4). B loads byte 1 (5) from it and stores byte 2
-/// (6). Where C loads byte 2 (7) from that, its store comes after the load that read it: the load stands before the
-/// edge from 6 to 7.
 #[test]
-fn an_edge_breaks_a_read_before_it(rt: HostRuntime) -> Result<(), Fail> {
-    let test = read(rt.alloc(), BEHIND)?;
-    let plan = plan(rt.alloc(), &test)?;
-    assert!(rt; plan.combinations() > 0);
-    let mut part = Part::open(&plan, 0);
-    give(&rt, &mut part, 8);
-    give(&rt, &mut part, 4);
-    assert!(rt; !part.broken());
-    give(&rt, &mut part, 6);
-    assert!(rt; part.broken());
+fn sources_break_a_part_or_do_not(rt: HostRuntime) -> Result<(), Fail> {
+    for (text, sources, breaks) in BREAKS {
+        let (broken, _) = of_sources(&rt, text, sources)?;
+        assert_eq!(rt; broken, breaks, "of {} sources", sources.len());
+    }
     Ok(())
 }

@@ -1,4 +1,4 @@
-use super::{assert_pairs, part_of};
+use super::{assert_pairs, assert_triples, part_of};
 use crate::part::Part;
 use lit_paths::{Plan, plan};
 use lit_read::read;
@@ -76,14 +76,7 @@ fn store_buffering_forbids_these_triples(rt: HostRuntime) -> Result<(), Fail> {
     let combination = plan.combination(0);
     let between = part_of(&plan, combination, 0).between();
     assert_eq!(rt; between.len(), 6);
-    for w in 0..between.len() {
-        for r in 0..between.len() {
-            for v in 0..between.len() {
-                let wanted = (w, r, v) == (1, 3, 4) || (w, r, v) == (0, 5, 2);
-                assert_eq!(rt; between.forbids(w, r, v), wanted, "at {w} {r} {v}");
-            }
-        }
-    }
+    assert_triples(&rt, &between, &[(1, 3, 4), (0, 5, 2)]);
     Ok(())
 }
 
@@ -138,14 +131,7 @@ fn mixed_sizes_never_synchronize_nor_forbid(rt: HostRuntime) -> Result<(), Fail>
         let combination = plan.combination(choice);
         let part = part_of(&plan, combination, choice);
         assert_pairs(&rt, &part.synchronizes(), &[]);
-        let between = part.between();
-        for w in 0..between.len() {
-            for r in 0..between.len() {
-                for v in 0..between.len() {
-                    assert!(rt; !between.forbids(w, r, v), "at {choice} {w} {r} {v}");
-                }
-            }
-        }
+        assert_triples(&rt, &part.between(), &[]);
     }
     Ok(())
 }

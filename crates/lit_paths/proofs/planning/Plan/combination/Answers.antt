@@ -1,10 +1,6 @@
-use Rattle.std.proofs.Common.{arith, ap, sym, subst, length, ℕ, List, ◌+◌}
-use Rattle.std.specs.Prelude.{slice_index}
+use Rattle.std.proofs.Common.{sym, subst, ℕ, List}
 use Rattle.std.specs.List.Sorted.{IsNonDecreasingBy}
-use Rattle.lit_read.specs.Syntax.{Litmus}
-use Rattle.lit_paths.specs.Choice.{choices_of}
-use Rattle.lit_paths.specs.Plan.{IsOfCombination, choices_before}
-use Rattle.lit_paths.proofs.PlanFacts.{planned-rise, found-known, found-low, found-high, of_numbered}
+use Rattle.lit_paths.proofs.PlanFacts.{found, of_numbered, planned-rise}
 use Rattle.lit_paths.proofs.planning.Plan.combination.Goals as goal
 
 pub combination_of-requires : goal.combination_of-requires
@@ -12,19 +8,11 @@ combination_of-requires c = subst (λ (ns : List ℕ). IsNonDecreasingBy (λ (x 
 
 pub returns-clause-value : goal.returns-clause-value
 returns-clause-value c =
-    let known = (found-known _ c.self.invariant c.args.n c.combination_of.result (omega (arith, c.requires, ap (λ t. length (choices_of t)) c.self.view_is)) (omega (arith, c.combination_of.ensures.bound, ap length c.as_slice.ensures.value)) (λ k h. omega (arith, c.combination_of.ensures.before k h, ap (λ ns. slice_index ns k) c.as_slice.ensures.value))) in
-    let low = (found-low _ c.self.invariant c.args.n c.combination_of.result (omega (arith, known)) (λ k h. omega (arith, c.combination_of.ensures.before k h, ap (λ ns. slice_index ns k) c.as_slice.ensures.value))) in
-    let high = (found-high _ c.self.invariant c.args.n c.combination_of.result known (λ k h l. omega (arith, c.combination_of.ensures.behind k h (omega (arith, l, ap length c.as_slice.ensures.value)), ap (λ ns. slice_index ns k) c.as_slice.ensures.value))) in
-    subst (λ (t : Litmus). IsOfCombination t c.args.n c.combination_of.result) c.self.view_is (of_numbered _ c.args.n c.combination_of.result known low high)
+    let is = found _ c.self.invariant c.args.n c.combination_of.result _ _ c.as_slice.ensures.value c.self.view_is c.requires c.combination_of.ensures.bound c.combination_of.ensures.before c.combination_of.ensures.behind in
+    of_numbered _ c.args.n c.combination_of.result is.known is.low is.high
 
 pub returns-clause-low : goal.returns-clause-low
-returns-clause-low c =
-    let known = (found-known _ c.self.invariant c.args.n c.combination_of.result (omega (arith, c.requires, ap (λ t. length (choices_of t)) c.self.view_is)) (omega (arith, c.combination_of.ensures.bound, ap length c.as_slice.ensures.value)) (λ k h. omega (arith, c.combination_of.ensures.before k h, ap (λ ns. slice_index ns k) c.as_slice.ensures.value))) in
-    let low = (found-low _ c.self.invariant c.args.n c.combination_of.result (omega (arith, known)) (λ k h. omega (arith, c.combination_of.ensures.before k h, ap (λ ns. slice_index ns k) c.as_slice.ensures.value))) in
-    omega (arith, low, ap (λ t. choices_before t c.combination_of.result) c.self.view_is)
+returns-clause-low c = (found _ c.self.invariant c.args.n c.combination_of.result _ _ c.as_slice.ensures.value c.self.view_is c.requires c.combination_of.ensures.bound c.combination_of.ensures.before c.combination_of.ensures.behind).low
 
 pub returns-clause-high : goal.returns-clause-high
-returns-clause-high c =
-    let known = (found-known _ c.self.invariant c.args.n c.combination_of.result (omega (arith, c.requires, ap (λ t. length (choices_of t)) c.self.view_is)) (omega (arith, c.combination_of.ensures.bound, ap length c.as_slice.ensures.value)) (λ k h. omega (arith, c.combination_of.ensures.before k h, ap (λ ns. slice_index ns k) c.as_slice.ensures.value))) in
-    let high = (found-high _ c.self.invariant c.args.n c.combination_of.result known (λ k h l. omega (arith, c.combination_of.ensures.behind k h (omega (arith, l, ap length c.as_slice.ensures.value)), ap (λ ns. slice_index ns k) c.as_slice.ensures.value))) in
-    omega (arith, high, ap (λ t. choices_before t (c.combination_of.result + 1)) c.self.view_is)
+returns-clause-high c = (found _ c.self.invariant c.args.n c.combination_of.result _ _ c.as_slice.ensures.value c.self.view_is c.requires c.combination_of.ensures.bound c.combination_of.ensures.before c.combination_of.ensures.behind).high

@@ -1,13 +1,15 @@
-use Rattle.std.proofs.Common.{subst}
+use Rattle.std.proofs.Common.{length, subst}
 use Rattle.lit_read.specs.Syntax.{Litmus}
 use Rattle.lit_paths.specs.Execution.{Execution}
+use Rattle.lit_rel.specs.Forbidden.{IsForbidden}
+use Rattle.lit_rel.specs.HappensBefore.{HappensBefore}
 use Rattle.lit_rel.specs.Part.{PartModel, part_events}
 use Rattle.lit_order.specs.MemoryOrder.{IsLeastMemoryOrder}
+use Rattle.lit_order.proofs.SameOrders.{IsLeastOrderOf-same}
 use Rattle.lit_search.specs.Completion.{Completes}
 use Rattle.lit_search.specs.Searching.Examined.{IsExample}
 use Rattle.lit_search.specs.Searching.Held.{part_outcome}
 use Rattle.lit_search.specs.Searching.Places.{low_at, part_at}
-use Rattle.lit_search.proofs.LeastOrders.{least_from}
 use Rattle.lit_search.proofs.PassingLemmas.{AreNamed, is_example, no_order, none_shown}
 use Rattle.lit_search.proofs.cursor.Cursor.shown.Goals as goal
 
@@ -25,7 +27,7 @@ returns-clause-shows c =
     let part = c.part-part.result.now in
     let order = c.in-Some.order.items in
     let least = subst (λ (p : PartModel). IsLeastMemoryOrder (part_events p) p.sources order) c.part-part.ensures.value
-    (least_from (part_events part) part.sources _ _ _ c.happens_before-before.ensures.len c.happens_before-before.ensures.pairs c.between.ensures.triples order c.in-Some.ensures.found) in
+    (IsLeastOrderOf-same _ (length (part_events part)) _ (HappensBefore (part_events part) part.sources) _ (IsForbidden (part_events part) part.sources) c.happens_before-before.ensures.len c.happens_before-before.ensures.pairs c.between.ensures.triples order c.in-Some.ensures.found) in
     let named : AreNamed s.test = subst (λ (p : PartModel). AreNamed p.test) c.part-part.ensures.value c.outcome_of-outcome.ensures.named in
     subst (λ (t : Litmus). IsExample t (low_at s) (part_outcome (part_at s)) order) c.requires.test
     (is_example c.laws.ensures s c.part-part.ensures.entered c.part-part.ensures.placed c.requires.all named c.requires.whole order least)

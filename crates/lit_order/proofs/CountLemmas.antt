@@ -1,38 +1,14 @@
--- Places in lists of numbers: after an append, and how many numbers below n a list has.
-use Rattle.std.proofs.Common.{◌≡◌, ◌⊎◌, ℕ, ◌<◌, ◌≤◌, suc, zero, Some, List, [], ◌∷◌, ◌++◌, length, get_or, refl, sym, ap, ◌∙◌, subst, arith, inl, inr, true, eqb, eqb-true}
+-- How many numbers below n a list has.
+use Rattle.std.proofs.Common.{◌≡◌, ℕ, ◌<◌, ◌≤◌, suc, zero, Some, List, ◌∷◌, length, get_or, refl, sym, ap, ◌∙◌, subst, arith, inl, inr, true, eqb, eqb-true}
 use Rattle.std.proofs.lemmas.Bool.{cases_Bool, false≢true}
 use Rattle.std.proofs.lemmas.Bool.Decides.{Decides-eqb}
 use Rattle.std.proofs.lemmas.Cmp.{nat_eq_equiv}
-use Rattle.std.proofs.lemmas.Option.{none-some, same_Some, slice_get_within, slice_get-get_or, get_or_from_slice_get}
+use Rattle.std.proofs.lemmas.Option.{same_Some, slice_get_within, slice_get-get_or, get_or_from_slice_get}
 use Rattle.std.proofs.lemmas.Map.Made.{IsDistinct-from_AllPairs}
 use Rattle.std.proofs.lemmas.Map.Steps.{length-le_from_distinct_below, le-length_from_below}
 use Rattle.std.proofs.lemmas.Map.Views.{list_any-from_Contains, Contains-from_any}
 use Rattle.std.specs.List.{slice_get, list_any, Contains}
 use Rattle.lit_order.specs.Finding.Beginning.{Stands}
-
-pub place-left : {X : Type 0} (xs ys : List X) (k : ℕ) (e : X) → slice_get xs k ≡ Some e → slice_get (xs ++ ys) k ≡ Some e
-place-left [] ys k e h = absurd (none-some e h)
-place-left (x ∷ xs) ys zero e h = h
-place-left (x ∷ xs) ys (suc k) e h = place-left xs ys k e h
-
-pub place_from-left : {X : Type 0} (xs ys : List X) (k : ℕ) (e : X) → k < length xs → slice_get (xs ++ ys) k ≡ Some e → slice_get xs k ≡ Some e
-place_from-left [] ys k e l h = absurd (omega arith)
-place_from-left (x ∷ xs) ys zero e l h = h
-place_from-left (x ∷ xs) ys (suc k) e l h = place_from-left xs ys k e (omega arith) h
-
-pub place-middle : {X : Type 0} (xs ys : List X) (e : X) → slice_get (xs ++ e ∷ ys) (length xs) ≡ Some e
-place-middle [] ys e = refl
-place-middle (x ∷ xs) ys e = place-middle xs ys e
-
-pub place-push : {X : Type 0} (xs : List X) (e : X) (k : ℕ) (d : X) → slice_get (xs ++ e ∷ []) k ≡ Some d → ((k < length xs) × (slice_get xs k ≡ Some d)) ⊎ ((k ≡ length xs) × (e ≡ d))
-place-push [] e zero d h = inr (refl, same_Some e d h)
-place-push [] e (suc k) d h = absurd (none-some d h)
-place-push (x ∷ xs) e zero d h = inl (omega arith, h)
-place-push (x ∷ xs) e (suc k) d h =
-    elim (place-push xs e k d h) [
-      | inl old ↦ inl (omega arith, old.1)
-      | inr last ↦ inr (ap suc last.0, last.1)
-    ]
 
 -- the words of std's lemmas on how many numbers a list has
 pub any_from_place : (xs : List ℕ) (k e : ℕ) → slice_get xs k ≡ Some e → list_any (eqb e) xs ≡ true
