@@ -8,14 +8,14 @@ use Rattle.lit_read.specs.Written.{Written}
 use Rattle.lit_read.specs.Forms.{Form, Blank, TestLine, BytesLine, AgentLine, StatementLine, IfLine, ElseLine, EndLine, CheckLine, read_tokens, store_tokens, element_tokens, spelled, IsForm, IsSpelling}
 use Rattle.lit_read.specs.Faults.{is_check_line}
 use Rattle.lit_read.specs.Reading.FirstToken.{or_else}
-use Rattle.lit_read.specs.Reading.FormOfTokens.{after_sign, word_of, number_of, after_word, register_of, register_number, view_of, window_named, relation_of, ended, Item, Told, lone_row, front, ToldParts, in_parts}
+use Rattle.lit_read.specs.Reading.FormOfTokens.{after_sign, word_of, number_of, after_word, register_of, register_number, view_of, window_named, relation_of, ended, Item, front, ToldParts, in_parts}
 use Rattle.lit_read.specs.Reading.FormOfTokens.{test_row, test_made, bytes_row, bytes_made, agent_row, agent_made, if_row, if_made, else_row, else_made, end_row, end_made}
 use Rattle.lit_read.specs.Reading.FormOfTokens.{plain_load_parts, plain_load_made, plain_store_parts, plain_store_made, atomic_load_parts, atomic_load_made, atomic_store_parts, atomic_store_made}
 use Rattle.lit_read.specs.Reading.FormOfTokens.{exchange_parts, exchange_made, compare_exchange_parts, compare_exchange_made}
 use Rattle.lit_read.specs.Reading.FormOfTokens.{byte_load_parts, byte_load_made, byte_store_parts, byte_store_made, wide_load_parts, wide_load_made, wide_store_parts, wide_store_made}
 use Rattle.lit_read.specs.Reading.FormOfTokens.{test_line, agent_line, bytes_line, if_line, else_line, end_line, plain_load, plain_store, atomic_load, atomic_store, exchange, compare_exchange}
 use Rattle.lit_read.specs.Reading.FormOfTokens.{byte_load, byte_store, wide_load, wide_store, frame_form, array_form, view_form, fixed_form}
-use Rattle.lit_read.proofs.RowLemmas.{row, Fits, lone_row_is, parts_row, PartsFit, in_parts_is, register_number_again}
+use Rattle.lit_read.proofs.RowLemmas.{parts_row, PartsFit, in_parts_is, register_number_again}
 
 -- ---- a form that is computed is spelled
 
@@ -34,11 +34,6 @@ stored_typed Uint32 index value typed = refl
 stored_typed DataView8 index value typed = absurd cc
 stored_typed DataView16 index value typed = absurd cc
 stored_typed DataView32 index value typed = absurd cc
-
-by_row : (items : List Item) (ts : List Token) (made : Told items → Form) (f : Form) → ((told : Told items) → Fits items told → IsSpelling (row items told []) (made told)) → lone_row items ts made ≡ Some f → IsSpelling ts f
-by_row items ts made f spells e =
-    let a = lone_row_is items ts made f e in
-    subst (IsSpelling ts) a.is (subst (λ (x : List Token). IsSpelling x (made a.told)) (sym a.parts) (spells a.told a.fits))
 
 by_parts : (parts : List (List Item)) (ts : List Token) (made : ToldParts parts → Form) (f : Form) → ((told : ToldParts parts) → PartsFit parts told → IsSpelling (parts_row parts told) (made told)) → in_parts parts ts made ≡ Some f → IsSpelling ts f
 by_parts parts ts made f spells e =
@@ -60,10 +55,10 @@ one_of ts f o p left right h = elim (either o p f h) [ inl a ↦ left a | inr b 
 frame_is : (ts : List Token) (f : Form) → frame_form ts ≡ Some f → IsSpelling ts f
 unfolding frame_form test_line bytes_line agent_line if_line else_line end_line spelled IsForm
 frame_is ts f e =
-    one_of ts f _ _ (blank_is ts f) (one_of ts f _ _ (by_row test_row ts test_made f (λ told fits. (refl, tt)))
-    (one_of ts f _ _ (by_row bytes_row ts bytes_made f (λ told fits. (refl, tt))) (one_of ts f _ _ (by_row agent_row ts agent_made f (λ told fits. (refl, tt)))
-    (one_of ts f _ _ (by_row if_row ts if_made f (λ told fits. (refl, fits.0))) (one_of ts f _ _ (by_row else_row ts else_made f (λ told fits. (refl, tt)))
-    (by_row end_row ts end_made f (λ told fits. (refl, tt)))))))) e
+    one_of ts f _ _ (blank_is ts f) (one_of ts f _ _ (by_parts (test_row ∷ []) ts test_made f (λ told fits. (refl, tt)))
+    (one_of ts f _ _ (by_parts (bytes_row ∷ []) ts bytes_made f (λ told fits. (refl, tt))) (one_of ts f _ _ (by_parts (agent_row ∷ []) ts agent_made f (λ told fits. (refl, tt)))
+    (one_of ts f _ _ (by_parts (if_row ∷ []) ts if_made f (λ told fits. (refl, fits.0.0))) (one_of ts f _ _ (by_parts (else_row ∷ []) ts else_made f (λ told fits. (refl, tt)))
+    (by_parts (end_row ∷ []) ts end_made f (λ told fits. (refl, tt)))))))) e
 
 array_is : (ts : List Token) (f : Form) → array_form ts ≡ Some f → IsSpelling ts f
 unfolding array_form plain_load plain_store atomic_load atomic_store exchange compare_exchange spelled IsForm

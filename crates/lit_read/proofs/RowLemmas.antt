@@ -14,7 +14,7 @@ use Rattle.lit_read.specs.Tokens.{Token, Word, Number, Sign}
 use Rattle.lit_read.specs.Written.{register_word}
 use Rattle.lit_read.specs.Forms.{Form, window_word}
 use Rattle.lit_read.specs.Reading.FirstToken.{or_else}
-use Rattle.lit_read.specs.Reading.FormOfTokens.{◌>>=◌, symbol_code, after_sign, word_of, number_of, after_word, register_number, register_of, window_named, view_of, relation_of, ended, Item, Symbols, Keyword, Name, Register, View, Amount, Relation, Told, along, lone_row, front, ToldParts, in_parts}
+use Rattle.lit_read.specs.Reading.FormOfTokens.{◌>>=◌, symbol_code, after_sign, word_of, number_of, after_word, register_number, register_of, window_named, view_of, relation_of, ended, Item, Symbols, Keyword, Name, Register, View, Amount, Relation, Told, along, front, ToldParts, in_parts}
 use Rattle.lit_read.specs.Reading.Views.{form_view}
 use Rattle.lit_read.proofs.CutLemmas.{pair_parts}
 use Rattle.lit_read.proofs.ListLemmas.{both}
@@ -245,18 +245,6 @@ along_is (Relation ∷ is) ts made y e =
 ended_is : {A : Type 0} (ts : List Token) (x y : A) → ended ts x ≡ Some y → (ts ≡ []) × (x ≡ y)
 ended_is [] x y e = (refl, cc)
 ended_is (t ∷ ts) x y e = absurd cc
-
-pub record LoneRow (items : List Item) (ts : List Token) (made : Told items → Form) (f : Form) : Type 0 where
-  pub told : Told items
-  pub parts : ts ≡ row items told []
-  pub fits : Fits items told
-  pub is : made told ≡ f
-
-pub lone_row_is : (items : List Item) (ts : List Token) (made : Told items → Form) (f : Form) → lone_row items ts made ≡ Some f → LoneRow items ts made f
-lone_row_is items ts made f e =
-    let a = along_is items ts (λ told rest. ended rest (made told)) f e in
-    let b = ended_is a.rest (made a.told) f a.is in
-    record { told = a.told; parts = a.parts ∙ ap (λ (x : List Token). row items a.told x) b.0; fits = a.fits; is = b.1 }
 
 -- ---- rows one behind the other
 

@@ -130,10 +130,6 @@ along (Relation ∷ is) ts made = do
   relation ← relation_of ts
   along is relation.1 (λ told rest. made (relation.0, told) rest)
 
--- the form of the tokens that are such a row and no more
-abbrev pub lone_row : (items : List Item) → List Token → (Told items → Form) → Option Form
-lone_row items ts made = along items ts (λ told rest. ended rest (made told))
-
 -- what the row at the front tells, and the tokens behind it
 unfoldable pub front : (items : List Item) → List Token → Option (Told items × List Token)
 front items ts = along items ts (λ told rest. Some (told, rest))
@@ -189,37 +185,37 @@ little_endian = Symbols Comma ∷ Keyword (codes "true") ∷ Symbols CloseParen 
 abbrev pub test_row : List Item
 test_row = Keyword (codes "test") ∷ Name ∷ []
 
-abbrev pub test_made : Told test_row → Form
-test_made told = TestLine told.0
+abbrev pub test_made : ToldParts (test_row ∷ []) → Form
+test_made told = TestLine told.0.0
 
 abbrev pub bytes_row : List Item
 bytes_row = Keyword (codes "bytes") ∷ Amount ∷ []
 
-abbrev pub bytes_made : Told bytes_row → Form
-bytes_made told = BytesLine told.0
+abbrev pub bytes_made : ToldParts (bytes_row ∷ []) → Form
+bytes_made told = BytesLine told.0.0
 
 abbrev pub agent_row : List Item
 agent_row = Keyword (codes "agent") ∷ Name ∷ []
 
-abbrev pub agent_made : Told agent_row → Form
-agent_made told = AgentLine told.0
+abbrev pub agent_made : ToldParts (agent_row ∷ []) → Form
+agent_made told = AgentLine told.0.0
 
 abbrev pub if_row : List Item
 if_row = Keyword (codes "if") ∷ Register ∷ Relation ∷ Amount ∷ Symbols OpenBrace ∷ []
 
-abbrev pub if_made : Told if_row → Form
-if_made told = IfLine told.0 told.1.0 told.1.1.0
+abbrev pub if_made : ToldParts (if_row ∷ []) → Form
+if_made told = IfLine told.0.0 told.0.1.0 told.0.1.1.0
 
 abbrev pub else_row : List Item
 else_row = Symbols CloseBrace ∷ Keyword (codes "else") ∷ Symbols OpenBrace ∷ []
 
-abbrev pub else_made : Told else_row → Form
+abbrev pub else_made : ToldParts (else_row ∷ []) → Form
 else_made told = ElseLine
 
 abbrev pub end_row : List Item
 end_row = Symbols CloseBrace ∷ []
 
-abbrev pub end_made : Told end_row → Form
+abbrev pub end_made : ToldParts (end_row ∷ []) → Form
 end_made told = EndLine
 
 abbrev pub plain_load_parts : List (List Item)
@@ -286,22 +282,22 @@ wide_store_made name window told = StatementLine (Store window told.0.0 told.1.0
 -- ---- the forms
 
 unfoldable pub test_line : List Token → Option Form
-test_line ts = lone_row test_row ts test_made
+test_line ts = in_parts (test_row ∷ []) ts test_made
 
 unfoldable pub bytes_line : List Token → Option Form
-bytes_line ts = lone_row bytes_row ts bytes_made
+bytes_line ts = in_parts (bytes_row ∷ []) ts bytes_made
 
 unfoldable pub agent_line : List Token → Option Form
-agent_line ts = lone_row agent_row ts agent_made
+agent_line ts = in_parts (agent_row ∷ []) ts agent_made
 
 unfoldable pub if_line : List Token → Option Form
-if_line ts = lone_row if_row ts if_made
+if_line ts = in_parts (if_row ∷ []) ts if_made
 
 unfoldable pub else_line : List Token → Option Form
-else_line ts = lone_row else_row ts else_made
+else_line ts = in_parts (else_row ∷ []) ts else_made
 
 unfoldable pub end_line : List Token → Option Form
-end_line ts = lone_row end_row ts end_made
+end_line ts = in_parts (end_row ∷ []) ts end_made
 
 unfoldable pub plain_load : List Token → Option Form
 plain_load ts = in_parts plain_load_parts ts plain_load_made
