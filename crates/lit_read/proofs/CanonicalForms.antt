@@ -39,9 +39,6 @@ differ a b ne = by (bytes_eq a b) refl
     by true e = absurd (ne ((bytes_eq-Decides a b).0 e))
     by false e = refl
 
-nobody : Agent
-nobody = record { name = []; body = End }
-
 placed : (agents : List Agent) (i : ℕ) → i < length agents → ((j k : ℕ) → j < k → k < length agents → (get_or agents j (record { name = []; body = End })).name ≢ (get_or agents k (record { name = []; body = End })).name)
     → place_of (get_or agents i (record { name = []; body = End })).name agents ≡ i
 placed [] i lt apart = absurd (omega arith)

@@ -37,9 +37,6 @@ none_open (x ∷ xs) e = absurd (omega (arith, e))
 -- ---- a test of each comparison, and of each mark
 
 module _ (q : Mark → Bool) (p : Comparison → Bool) (bang : q Bang ≡ true) (opens : q Opens ≡ true) (closes : q Closes ≡ true) (joins : q Joins ≡ true) (parts : q Parts ≡ true) (compares : (c : Comparison) → q (Compares c) ≡ p c) where
-  abbrev both_of : Bool → Bool → Bool
-  both_of x y = x && y
-
   true_first : (x y : Bool) → x ≡ true → (x && y) ≡ y
   true_first true y e = refl
   true_first false y e = absurd cc
@@ -206,17 +203,6 @@ next_ok name bytes entries agent items body next more none few new is =
     above : (b : Bool) → leb AGENT_LIMIT (length (agents_view entries) + 1) ≡ b → b ≡ false
     above true e = let le : AGENT_LIMIT ≤ length (agents_view entries) + 1 = leb-true _ _ e in absurd (omega (arith, views_len entries))
     above false e = refl
-
-pub next_open : (name : List ℕ) (bytes : ℕ) (agents : List Agent) (agent : List ℕ) (items : List raw.Level) (body : Statements) (next : List ℕ) → length items ≢ 0 → agent_step (Open name bytes agents agent (views items) body) next ≡ Err Misplaced
-unfolding agent_step
-next_open name bytes agents agent items body next some = by (reverse items) refl
-  where
-    nothing : (l : List raw.Level) → reverse l ≡ [] → length l ≡ 0
-    nothing l e = sym (length-reverse l) ∙ ap length e
-
-    by : (l : List raw.Level) → reverse items ≡ l → agent_step (Open name bytes agents agent (map level_view l) body) next ≡ Err Misplaced
-    by [] e = absurd (some (nothing items e))
-    by (x ∷ l) e = refl
 
 -- ---- whether an `if` is open
 

@@ -1,26 +1,17 @@
 -- What a frame's parts stand for.
-use Rattle.std.proofs.Common.{◌≡◌, ◌≢◌, ℕ, suc, ◌+◌, ◌<◌, ◌≤◌, Bool, true, false, List, [], ◌∷◌, ◌++◌, length, get_or, Result, Ok, refl, ap, sym, subst, ◌∙◌, arith, add-one, zero, drop, true≢false}
-use Rattle.std.specs.Global.{Vec, Box}
-use Rattle.std.specs.List.{list_all}
-use Rattle.std.proofs.lemmas.List.Folds.{list_all_at}
+use Rattle.std.proofs.Common.{◌≡◌, ◌≢◌, ℕ, suc, ◌+◌, ◌<◌, ◌≤◌, List, [], ◌∷◌, ◌++◌, length, get_or, Result, Ok, refl, ap, sym, subst, ◌∙◌, arith, add-one, zero, drop}
+use Rattle.std.specs.Global.{Vec}
 use Rattle.std.proofs.Math.ListN.{drop_of_length-le}
 use Rattle.lit_read.specs.declared.fault.ReadKind.{ReadKind}
 use Rattle.lit_read.specs.declared.fault.ReadKind.TheVariants.{TooLong, NotAscii, Syntax, Misplaced, BlockSize, TooManyAgents, DuplicateAgent, LiteralRange, OutOfBlock, UnknownName, TooDeep, MissingPart, OutOfMemory}
 use Rattle.lit_read.specs.declared.marks.Mark as marks
 use Rattle.lit_read.specs.declared.syntax.Cond.{Cond}
 use Rattle.lit_read.specs.declared.syntax.Cond as code
-use Rattle.lit_read.specs.Syntax.{Agent, Condition, Conditions, Any, All, Not, Also}
+use Rattle.lit_read.specs.Syntax.{Agent, Condition, Conditions, Any, All, Also}
 use Rattle.lit_read.specs.Litmus.{condition_of}
 use Rattle.lit_read.specs.Reading.Built.{Frames, pushed, all_of, any_of, asked, build_step, build, and_then}
 use Rattle.lit_read.specs.Reading.Views.{conditions_view, mark_view, mark_views, Fails}
 use Rattle.lit_read.proofs.TreeViews.{all_views, any_views}
-
-pub all_at : {A : Type 0} (p : A → Bool) (xs : List A) (i : ℕ) (d : A) → i < length xs → list_all p xs ≡ true → p (get_or xs i d) ≡ true
-all_at p xs i d lt all = by (p (get_or xs i d)) refl
-  where
-    by : (b : Bool) → p (get_or xs i d) ≡ b → b ≡ true
-    by true e = refl
-    by false e = absurd (true≢false (sym all ∙ list_all_at p xs i d lt e))
 
 pub views_pushed : (cs : List Cond) (c : Cond) → conditions_view (cs ++ c ∷ []) ≡ pushed (conditions_view cs) (condition_of c)
 views_pushed [] c = refl
@@ -41,15 +32,6 @@ all_several v h = all_views v ∙ sym (several_all v.items h)
 
 pub any_several : (v : Vec Cond) → length v.items ≢ 1 → condition_of (code.Any v) ≡ any_of (conditions_view v.items)
 any_several v h = any_views v ∙ sym (several_any v.items h)
-
-lone_only : (xs rest : List Cond) (x : Cond) → xs ≡ rest ++ x ∷ [] → length xs ≡ 1 → rest ≡ []
-lone_only xs [] x e len = refl
-lone_only xs (y ∷ []) x e len = absurd (omega (arith, ap length e))
-lone_only xs (y ∷ z ∷ rest) x e len = absurd (omega (arith, ap length e))
-
--- the last of one is the only one
-pub lone_is : (xs rest : List Cond) (x : Cond) → xs ≡ rest ++ x ∷ [] → length xs ≡ 1 → xs ≡ x ∷ []
-lone_is xs rest x e len = e ∙ ap (λ (l : List Cond). l ++ x ∷ []) (lone_only xs rest x e len)
 
 -- ---- going along the marks
 
@@ -88,6 +70,3 @@ module _ (agents : List Agent) (s : Frames) (xs : List marks.Mark) (i : ℕ) (d 
 pub build_ends : (agents : List Agent) (s : Frames) (xs : List marks.Mark) (i : ℕ) (r : Result Condition ReadKind) → length xs ≤ i → build agents s (mark_views (drop i xs)) ≡ r → r ≡ Ok (asked s.inner)
 unfolding build
 build_ends agents s xs i r le so_far = sym so_far ∙ ap (λ (l : List marks.Mark). build agents s (mark_views l)) (drop_of_length-le xs le)
-
-pub not_views : (b : Box Cond) → condition_of (code.Not b) ≡ Not (condition_of b.value)
-not_views b = refl

@@ -6,15 +6,13 @@ use Rattle.lit_read.specs.Written.{Written, written_tokens}
 use Rattle.lit_read.specs.Forms.{CheckLine, spelled, IsForm, IsSpelling}
 use Rattle.lit_read.specs.Reading.FormOfTokens.{after_word, word_of, fixed_form}
 use Rattle.lit_read.specs.Reading.Marks.{Mark, written_marks, SpellsMarks, SpellsNoCondition, SpellsForm, SpellsNoCheck, SpellsNothing}
+use Rattle.lit_read.proofs.ListLemmas.{tail_is}
 use Rattle.lit_read.proofs.RowLemmas.{after_word_is}
 use Rattle.lit_read.proofs.FormLemmas.{fixed_form_absent}
 
 again : (rest : List Token) → after_word (Word (codes "check") ∷ rest) (codes "check") ≡ Some rest
 unfolding after_word word_of
 again rest = refl
-
-tail_is : (t u : Token) (xs ys : List Token) → t ∷ xs ≡ u ∷ ys → xs ≡ ys
-tail_is t u xs ys e = cc
 
 pub no_check : (ts : List Token) → after_word ts (codes "check") ≡ None → SpellsNoCheck ts
 unfolding spelled

@@ -29,3 +29,6 @@ neither false y e = (refl, e)
 pub all_passed : {A : Type 0} (P : A → Type 0) (q : A → Bool) → ((x : A) → q x ≡ true → P x) → (xs : List A) → list_all q xs ≡ true → AllByRecursion P xs
 all_passed P q f [] e = tt
 all_passed P q f (x ∷ xs) e = let b = both (q x) (list_all q xs) e in (f x b.0, all_passed P q f xs b.1)
+
+pub tail_is : {A : Type 0} (x y : A) (xs ys : List A) → x ∷ xs ≡ y ∷ ys → xs ≡ ys
+tail_is x y xs ys e = cc

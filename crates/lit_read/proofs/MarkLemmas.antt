@@ -9,13 +9,13 @@ use Rattle.lit_read.specs.declared.symbols.Symbol.TheVariants.{And, Or, Not, Ope
 use Rattle.lit_read.specs.declared.limits.TheConstants.{REGISTERS}
 use Rattle.lit_read.specs.declared.tokens.Token as code
 use Rattle.lit_read.specs.Reading.Views.{token_views}
-use Rattle.lit_read.specs.Tokens.{Token, Sign}
+use Rattle.lit_read.specs.Tokens.{Token, Number, Sign}
 use Rattle.lit_read.specs.Written.{Comparison, Operand, Compared, Negated, Grouped, Conjunction, Lone, Both, Written, Single, Either, comparison_tokens, operand_tokens, conjunction_tokens, written_tokens, operand_depths, conjunction_depths, written_depths}
 use Rattle.lit_read.specs.Reading.FirstToken.{or_else}
-use Rattle.lit_read.specs.Reading.FormOfTokens.{◌>>=◌, after_sign, word_of, comparison_of, comparison_row, comparison_made}
+use Rattle.lit_read.specs.Reading.FormOfTokens.{◌>>=◌, after_sign, word_of, number_of, register_of, comparison_of, comparison_row, comparison_made}
 use Rattle.lit_read.specs.Reading.Marks.{Mark, Bang, Opens, Closes, Joins, Parts, Compares, mark_tokens, IsMark, operand_marks, conjunction_marks, written_marks, mark_of, follow, SpellsMarks}
 use Rattle.lit_read.proofs.CutLemmas.{pair_parts}
-use Rattle.lit_read.proofs.RowLemmas.{sign_is, row, along_is, along_again}
+use Rattle.lit_read.proofs.RowLemmas.{sign_is, row, along_is, register_number_again, relation_again}
 use Rattle.lit_read.proofs.WalkLemmas.{walk, walk-append, walks_whole, whole, condition_told}
 
 -- ---- one mark
@@ -28,8 +28,8 @@ comparison_is ts c rest e =
     subst (λ (x : Comparison). (ts ≡ comparison_tokens x ++ rest) × (x.reg < REGISTERS)) p.0 (a.parts ∙ ap (λ (x : List Token). row comparison_row a.told x) p.1, a.fits.0)
 
 comparison_again : (c : Comparison) (rest : List Token) → c.reg < REGISTERS → comparison_of (comparison_tokens c ++ rest) ≡ Some (c, rest)
-unfolding comparison_of
-comparison_again c rest h = along_again comparison_row (c.agent, (c.reg, (c.equal, (c.value, tt)))) rest (λ told behind. Some (comparison_made told, behind)) (h, tt)
+unfolding comparison_of after_sign word_of number_of register_of
+comparison_again c rest h = rw (register_number_again c.reg h, relation_again c.equal (Number c.value ∷ rest))
 
 pub mark_again : (m : Mark) (rest : List Token) → IsMark m → mark_of (mark_tokens m ++ rest) ≡ Some (m, rest)
 unfolding mark_of after_sign

@@ -57,35 +57,20 @@ read_at : (xs : List (List ℕ)) (y : List ℕ) (ys : List (List ℕ)) → get_o
 read_at [] y ys = refl
 read_at (x ∷ xs) y ys = read_at xs y ys
 
-number_small : (k : ReadKind) → number_of k < 17
-number_small TooLong = omega arith
-number_small NotAscii = omega arith
-number_small Syntax = omega arith
-number_small Misplaced = omega arith
-number_small BlockSize = omega arith
-number_small TooManyAgents = omega arith
-number_small DuplicateAgent = omega arith
-number_small LiteralRange = omega arith
-number_small OutOfBlock = omega arith
-number_small UnknownName = omega arith
-number_small TooDeep = omega arith
-number_small MissingPart = omega arith
-number_small OutOfMemory = omega arith
-
-number_some : (k : ReadKind) → 1 ≤ number_of k
-number_some TooLong = omega arith
-number_some NotAscii = omega arith
-number_some Syntax = omega arith
-number_some Misplaced = omega arith
-number_some BlockSize = omega arith
-number_some TooManyAgents = omega arith
-number_some DuplicateAgent = omega arith
-number_some LiteralRange = omega arith
-number_some OutOfBlock = omega arith
-number_some UnknownName = omega arith
-number_some TooDeep = omega arith
-number_some MissingPart = omega arith
-number_some OutOfMemory = omega arith
+number_within : (k : ReadKind) → (1 ≤ number_of k) × (number_of k < 17)
+number_within TooLong = (omega arith, omega arith)
+number_within NotAscii = (omega arith, omega arith)
+number_within Syntax = (omega arith, omega arith)
+number_within Misplaced = (omega arith, omega arith)
+number_within BlockSize = (omega arith, omega arith)
+number_within TooManyAgents = (omega arith, omega arith)
+number_within DuplicateAgent = (omega arith, omega arith)
+number_within LiteralRange = (omega arith, omega arith)
+number_within OutOfBlock = (omega arith, omega arith)
+number_within UnknownName = (omega arith, omega arith)
+number_within TooDeep = (omega arith, omega arith)
+number_within MissingPart = (omega arith, omega arith)
+number_within OutOfMemory = (omega arith, omega arith)
 
 -- a fault that a form has
 pub faulty_kind : (k : ReadKind) (given : List Form) (f : Form) → is_faulty k given f ≡ true → IsOfLine k × (number_of k ≤ 12)
@@ -235,7 +220,7 @@ module _ (text left line : List ℕ) (number : ℕ) (s : State) (after : Option 
   no_fault_here : (t : State) → LineStep s line (Ok t) → (k : ReadKind) → LineFault text k (number + 1) → ⊥
   no_fault_here t st k f =
       let clear : Clear 17 (without_blanks p.before) st.form = subst (Outcome (without_blanks p.before) st.form) st.steps (outcome s (without_blanks p.before) st.form p.holds) in
-      true≢false (sym (line_fault_is k p.before line st.form st.is (fault_here k f)) ∙ below 17 (without_blanks p.before) st.form clear k (number_small k))
+      true≢false (sym (line_fault_is k p.before line st.form st.is (fault_here k f)) ∙ below 17 (without_blanks p.before) st.form clear k (number_within k).1)
 
   pub progress_goes_on : (t : State) → LineStep s line (Ok t) → Progress text (number + 1) t after
   progress_goes_on t st = record {
@@ -269,22 +254,7 @@ number_fits text left line number s after p is = omega (arith, lines_many text l
 
 no_memory_fault : (text : List ℕ) (k : ReadKind) (n : ℕ) → IsFirstFault text k n → k ≢ OutOfMemory
 unfolding HasFault
-no_memory_fault text k n first e = by k e first.there
-  where
-    by : (k : ReadKind) → k ≡ OutOfMemory → HasFault text k n → ⊥
-    by OutOfMemory e h = h
-    by TooLong e h = absurd cc
-    by NotAscii e h = absurd cc
-    by Syntax e h = absurd cc
-    by Misplaced e h = absurd cc
-    by BlockSize e h = absurd cc
-    by TooManyAgents e h = absurd cc
-    by DuplicateAgent e h = absurd cc
-    by LiteralRange e h = absurd cc
-    by OutOfBlock e h = absurd cc
-    by UnknownName e h = absurd cc
-    by TooDeep e h = absurd cc
-    by MissingPart e h = absurd cc
+no_memory_fault text k n first e = subst (λ (x : ReadKind). HasFault text x n) e first.there
 
 pub refused : (text : List ℕ) (k kind : ReadKind) (n line : ℕ) → kind ≡ k → (k ≡ OutOfMemory → line ≡ 0) → (k ≢ OutOfMemory → line ≡ n) → (k ≡ OutOfMemory) ⊎ IsFirstFault text k n → IsReadFault text kind line
 refused text k kind n line kind_is memory place (inl e) = inl (kind_is ∙ e, memory e)
@@ -336,4 +306,4 @@ unfolding HasFault
 too_long_there text long = (long, refl)
 
 pub too_long : (text : List ℕ) → TEXT_LIMIT < length text → IsFirstFault text TooLong 1
-too_long text long = record { there = too_long_there text long; no_earlier = λ k n h. fault_line text k n h; no_lower = λ k h. number_some k }
+too_long text long = record { there = too_long_there text long; no_earlier = λ k n h. fault_line text k n h; no_lower = λ k h. (number_within k).0 }

@@ -1,5 +1,5 @@
 -- A text line by line: what is read is spelled, and what is refused is its first fault.
-use Rattle.std.proofs.Common.{◌≡◌, ◌≢◌, ℕ, ◌-◌, ◌<◌, true, false, IsTrue, List, [], ◌∷◌, ◌++◌, length, get_or, inl, inr, refl, sym, ap, subst, ◌∙◌, true≢false}
+use Rattle.std.proofs.Common.{◌≡◌, ◌≢◌, ℕ, ◌-◌, ◌<◌, true, false, IsTrue, List, [], ◌∷◌, ◌++◌, length, get_or, refl, sym, ap, subst, ◌∙◌, true≢false}
 use Rattle.std.specs.Prelude.{codes}
 use Rattle.std.specs.List.{list_any}
 use Rattle.lit_read.specs.declared.fault.ReadKind.{ReadKind}
@@ -9,9 +9,7 @@ use Rattle.lit_read.specs.Forms.{Form, Blank, TestLine, BytesLine, AgentLine, St
 use Rattle.lit_read.specs.Faults.{is_check_line, is_faulty, HasLineFault, AreFormsBefore, HasFault}
 use Rattle.lit_read.specs.Lines.{lines_of}
 use Rattle.lit_read.specs.declared.limits.TheConstants.{TEXT_LIMIT}
-use Rattle.lit_read.specs.Reading.State.{State, step}
-use Rattle.lit_read.specs.Reading.LineSteps.{IsLine, LineFails}
-use Rattle.lit_read.specs.Reading.Views.{Fails}
+use Rattle.lit_read.specs.Reading.LineSteps.{IsLine}
 use Rattle.lit_read.proofs.Cuttings.{cut_once}
 use Rattle.lit_read.proofs.StepHolds.{added}
 use Rattle.lit_read.proofs.OneForm.{spelled_once}
@@ -46,22 +44,6 @@ has_words line (IfLine r q v) h = tt
 has_words line ElseLine h = tt
 has_words line EndLine h = tt
 has_words line (CheckLine w) h = tt
-
--- a form that cannot follow, unless memory ran out
-pub step_fails : (s : State) (line : List ℕ) (f : Form) (k : ReadKind) → IsLine line f → Fails k (step s f) → LineFails s line k
-step_fails s line f TooLong is e = inr (record { form = f; is = is; steps = e })
-step_fails s line f NotAscii is e = inr (record { form = f; is = is; steps = e })
-step_fails s line f Syntax is e = inr (record { form = f; is = is; steps = e })
-step_fails s line f Misplaced is e = inr (record { form = f; is = is; steps = e })
-step_fails s line f BlockSize is e = inr (record { form = f; is = is; steps = e })
-step_fails s line f TooManyAgents is e = inr (record { form = f; is = is; steps = e })
-step_fails s line f DuplicateAgent is e = inr (record { form = f; is = is; steps = e })
-step_fails s line f LiteralRange is e = inr (record { form = f; is = is; steps = e })
-step_fails s line f OutOfBlock is e = inr (record { form = f; is = is; steps = e })
-step_fails s line f UnknownName is e = inr (record { form = f; is = is; steps = e })
-step_fails s line f TooDeep is e = inr (record { form = f; is = is; steps = e })
-step_fails s line f MissingPart is e = inr (record { form = f; is = is; steps = e })
-step_fails s line f OutOfMemory is e = inl (inl refl)
 
 -- ---- forms of lines
 

@@ -9,12 +9,12 @@ use Rattle.lit_read.specs.declared.forms.Form as lines
 use Rattle.lit_read.specs.declared.symbols.Symbol.{Symbol}
 use Rattle.lit_read.specs.declared.symbols.Symbol.TheVariants.{Same, Differs, And, Or, Gives, Not, OpenBracket, CloseBracket, OpenParen, CloseParen, OpenBrace, CloseBrace, Comma, Dot}
 use Rattle.lit_read.specs.declared.limits.TheConstants.{REGISTERS}
-use Rattle.lit_read.specs.Syntax.{Window, Uint8, Uint16, Uint32, DataView8, DataView16, DataView32, is_data_view}
+use Rattle.lit_read.specs.Syntax.{Window, Uint8, Uint16, Uint32, is_data_view}
 use Rattle.lit_read.specs.Tokens.{Token, Word, Number, Sign}
 use Rattle.lit_read.specs.Written.{register_word}
 use Rattle.lit_read.specs.Forms.{Form, window_word}
 use Rattle.lit_read.specs.Reading.FirstToken.{or_else}
-use Rattle.lit_read.specs.Reading.FormOfTokens.{◌>>=◌, symbol_code, after_sign, word_of, number_of, after_word, register_number, register_of, window_named, view_of, relation_of, ended, Item, Symbols, Keyword, Name, Register, View, Amount, Relation, Told, along, lone_row}
+use Rattle.lit_read.specs.Reading.FormOfTokens.{◌>>=◌, symbol_code, after_sign, word_of, number_of, after_word, register_number, register_of, window_named, view_of, relation_of, ended, Item, Symbols, Keyword, Name, Register, View, Amount, Relation, Told, along, front, ToldParts, in_parts}
 use Rattle.lit_read.specs.Reading.Views.{form_view}
 use Rattle.lit_read.proofs.CutLemmas.{pair_parts}
 use Rattle.lit_read.proofs.ListLemmas.{both}
@@ -161,7 +161,7 @@ relation_is ts equal rest e = by (after_sign ts Same) refl (after_sign ts Differ
 
 -- ---- a form that is spelled is computed
 
-register_number_again : (reg : ℕ) → reg < REGISTERS → register_number (register_word reg) ≡ Some reg
+pub register_number_again : (reg : ℕ) → reg < REGISTERS → register_number (register_word reg) ≡ Some reg
 unfolding register_number
 register_number_again zero h = refl
 register_number_again (suc zero) h = refl
@@ -173,20 +173,7 @@ register_number_again (suc (suc (suc (suc (suc (suc zero)))))) h = refl
 register_number_again (suc (suc (suc (suc (suc (suc (suc zero))))))) h = refl
 register_number_again (suc (suc (suc (suc (suc (suc (suc (suc n)))))))) h = absurd (omega arith)
 
-register_again : (reg : ℕ) (rest : List Token) → reg < REGISTERS → register_of (Word (register_word reg) ∷ rest) ≡ Some (reg, rest)
-unfolding register_of word_of
-register_again reg rest h = rw (register_number_again reg h) refl
-
-view_again : (w : Window) (rest : List Token) → is_data_view w ≡ false → view_of (Word (window_word w) ∷ rest) ≡ Some (w, rest)
-unfolding view_of word_of window_named
-view_again Uint8 rest typed = refl
-view_again Uint16 rest typed = refl
-view_again Uint32 rest typed = refl
-view_again DataView8 rest typed = absurd cc
-view_again DataView16 rest typed = absurd cc
-view_again DataView32 rest typed = absurd cc
-
-relation_again : (equal : Bool) (rest : List Token) → relation_of (Sign (cond equal Same Differs) ∷ rest) ≡ Some (equal, rest)
+pub relation_again : (equal : Bool) (rest : List Token) → relation_of (Sign (cond equal Same Differs) ∷ rest) ≡ Some (equal, rest)
 unfolding relation_of after_sign
 relation_again true rest = refl
 relation_again false rest = refl
@@ -255,53 +242,37 @@ along_is (Relation ∷ is) ts made y e =
     let b = along_is is a.0.1 (λ told rest. made (a.0.0, told) rest) y a.2 in
     record { told = (a.0.0, b.told); rest = b.rest; parts = relation_is ts a.0.0 a.0.1 a.1 ∙ ap (λ (x : List Token). Sign (cond a.0.0 Same Differs) ∷ x) b.parts; fits = b.fits; is = b.is }
 
-sign_again : (s : Symbol) (rest : List Token) → after_sign (Sign s ∷ rest) s ≡ Some rest
-unfolding after_sign
-sign_again Same rest = refl
-sign_again Differs rest = refl
-sign_again And rest = refl
-sign_again Or rest = refl
-sign_again Gives rest = refl
-sign_again Not rest = refl
-sign_again OpenBracket rest = refl
-sign_again CloseBracket rest = refl
-sign_again OpenParen rest = refl
-sign_again CloseParen rest = refl
-sign_again OpenBrace rest = refl
-sign_again CloseBrace rest = refl
-sign_again Comma rest = refl
-sign_again Dot rest = refl
-
-keyword_again : (w : List ℕ) (rest : List Token) → after_word (Word w ∷ rest) w ≡ Some rest
-unfolding after_word word_of
-keyword_again w rest = rw ((bytes_eq-Decides w w).1 refl) refl
-
-pub along_again : {A : Type 0} (items : List Item) (told : Told items) (rest : List Token) (made : Told items → List Token → Option A) → Fits items told → along items (row items told rest) made ≡ made told rest
-unfolding word_of number_of
-along_again [] told rest made fits = refl
-along_again (Symbols s ∷ is) told rest made fits = rw (sign_again s (row is told rest)) (along_again is told rest made fits)
-along_again (Keyword w ∷ is) told rest made fits = rw (keyword_again w (row is told rest)) (along_again is told rest made fits)
-along_again (Name ∷ is) told rest made fits = along_again is told.1 rest (λ others behind. made (told.0, others) behind) fits
-along_again (Register ∷ is) told rest made fits = rw (register_again told.0 (row is told.1 rest) fits.0) (along_again is told.1 rest (λ others behind. made (told.0, others) behind) fits.1)
-along_again (View ∷ is) told rest made fits = rw (view_again told.0 (row is told.1 rest) fits.0) (along_again is told.1 rest (λ others behind. made (told.0, others) behind) fits.1)
-along_again (Amount ∷ is) told rest made fits = along_again is told.1 rest (λ others behind. made (told.0, others) behind) fits
-along_again (Relation ∷ is) told rest made fits = rw (relation_again told.0 (row is told.1 rest)) (along_again is told.1 rest (λ others behind. made (told.0, others) behind) fits)
-
 ended_is : {A : Type 0} (ts : List Token) (x y : A) → ended ts x ≡ Some y → (ts ≡ []) × (x ≡ y)
 ended_is [] x y e = (refl, cc)
 ended_is (t ∷ ts) x y e = absurd cc
 
-pub record LoneRow (items : List Item) (ts : List Token) (made : Told items → Form) (f : Form) : Type 0 where
-  pub told : Told items
-  pub parts : ts ≡ row items told []
-  pub fits : Fits items told
+-- ---- rows one behind the other
+
+abbrev pub parts_row : (parts : List (List Item)) → ToldParts parts → List Token
+parts_row [] told = []
+parts_row (items ∷ parts) told = row items told.0 (parts_row parts told.1)
+
+abbrev pub PartsFit : (parts : List (List Item)) → ToldParts parts → Type 0
+PartsFit [] told = Unit {0}
+PartsFit (items ∷ parts) told = Fits items told.0 × PartsFit parts told.1
+
+pub record InParts (parts : List (List Item)) (ts : List Token) (made : ToldParts parts → Form) (f : Form) : Type 0 where
+  pub told : ToldParts parts
+  pub spells : ts ≡ parts_row parts told
+  pub fits : PartsFit parts told
   pub is : made told ≡ f
 
-pub lone_row_is : (items : List Item) (ts : List Token) (made : Told items → Form) (f : Form) → lone_row items ts made ≡ Some f → LoneRow items ts made f
-lone_row_is items ts made f e =
-    let a = along_is items ts (λ told rest. ended rest (made told)) f e in
-    let b = ended_is a.rest (made a.told) f a.is in
-    record { told = a.told; parts = a.parts ∙ ap (λ (x : List Token). row items a.told x) b.0; fits = a.fits; is = b.1 }
-
-pub lone_row_again : (items : List Item) (told : Told items) (made : Told items → Form) → Fits items told → lone_row items (row items told []) made ≡ Some (made told)
-lone_row_again items told made fits = along_again items told [] (λ told rest. ended rest (made told)) fits
+pub in_parts_is : (parts : List (List Item)) (ts : List Token) (made : ToldParts parts → Form) (f : Form) → in_parts parts ts made ≡ Some f → InParts parts ts made f
+unfolding front
+in_parts_is [] ts made f e = let b = ended_is ts (made tt) f e in record { told = tt; spells = b.0; fits = tt; is = b.1 }
+in_parts_is (items ∷ parts) ts made f e =
+    let a = bind_some (front items ts) (λ part. in_parts parts part.1 (λ told. made (part.0, told))) f e in
+    let b = along_is items ts (λ told rest. Some (told, rest)) a.0 a.1 in
+    let c = in_parts_is parts a.0.1 (λ told. made (a.0.0, told)) f a.2 in
+    let p = pair_parts b.told a.0.0 b.rest a.0.1 b.is in
+    record {
+      told = (a.0.0, c.told);
+      spells = b.parts ∙ ap (λ (x : Told items). row items x b.rest) p.0 ∙ ap (λ (x : List Token). row items a.0.0 x) (p.1 ∙ c.spells);
+      fits = (subst (Fits items) p.0 b.fits, c.fits);
+      is = c.is;
+    }

@@ -32,10 +32,6 @@ statement_put xs i x old new whole lt is put so_far =
     ap (λ (bs : List ℕ). bs ++ rest) put ∙ append_assoc old (forms_text (statement_forms (statement_of x))) rest
     ∙ ap (λ (s : Stmt). old ++ (forms_text (statement_forms (statement_of s)) ++ rest)) is ∙ ap (λ (bs : List ℕ). old ++ bs) (sym (first_left xs i x lt)) ∙ so_far
 
--- all of them are
-pub statements_put : (xs : List Stmt) (i : ℕ) (out whole : List ℕ) → length xs ≤ i → out ++ forms_text (statements_forms (statements_of (drop i xs))) ≡ whole → out ≡ whole
-statements_put xs i out whole past so_far = sym (ap (λ (l : List Stmt). out ++ forms_text (statements_forms (statements_of l))) (drop_all i xs past) ∙ append-nil out) ∙ so_far
-
 pub else_shown : (xs : List Stmt) → eqb (length xs) 0 ≡ false → forms_text (else_forms (statements_of xs)) ≡ codes "} else {\n" ++ forms_text (statements_forms (statements_of xs))
 else_shown [] some = absurd cc
 else_shown (x ∷ xs) some = refl

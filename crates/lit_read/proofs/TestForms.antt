@@ -8,6 +8,7 @@ use Rattle.lit_read.specs.Structure.{is_body_line, IsStatement, AreStatements, A
 use Rattle.lit_read.specs.Spelling.{written_value, AreFormsOf}
 use Rattle.lit_read.specs.Canonical.{statement_forms, statements_forms, else_forms, agents_forms, starts_with_end, without_empty_elses}
 use Rattle.lit_read.specs.Reading.State.{Level, followed_by, else_level, ended_if}
+use Rattle.lit_read.proofs.ListLemmas.{tail_is}
 use Rattle.lit_read.proofs.SpellLemmas.{fold-append, are_body_lines, statements_body}
 
 -- ---- the statements that lines make
@@ -141,9 +142,6 @@ check_is : (w v : Written) (fs : List Form) (agents : List Agent) → AreAgents 
 check_is w v fs [] h = ap (λ (l : List Form). check_back w (l ++ CheckLine v ∷ [])) h
 check_is w v fs (a ∷ others) h =
     ap (λ (l : List Form). check_back w (l ++ CheckLine v ∷ [])) h.2 ∙ ap (check_back w) (append_assoc h.0 h.1 (CheckLine v ∷ [])) ∙ check_skip w h.0 (h.1 ++ CheckLine v ∷ []) (statements_body h.0 a.body h.3) ∙ check_is w v h.1 others h.4
-
-tail_is : (x y : Form) (xs ys : List Form) → x ∷ xs ≡ y ∷ ys → xs ≡ ys
-tail_is x y xs ys e = cc
 
 test_name : (a b : List ℕ) (xs ys : List Form) → TestLine a ∷ xs ≡ TestLine b ∷ ys → a ≡ b
 test_name a b xs ys e = cc

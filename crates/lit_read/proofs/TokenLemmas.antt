@@ -1,15 +1,13 @@
 -- Runs of bytes and the numbers that digits stand for.
-use Rattle.std.proofs.Common.{◌≡◌, ℕ, suc, ◌+◌, ◌*◌, ◌-◌, ◌^◌, ◌<◌, ◌≤◌, Bool, true, false, cond, List, [], ◌∷◌, length, take, get_or, refl, sym, ◌∙◌, arith, inl, inr, true≢false, add-one}
+use Rattle.std.proofs.Common.{◌≡◌, ℕ, suc, ◌+◌, ◌<◌, Bool, true, false, cond, List, [], ◌∷◌, take, get_or, refl, arith, inl, inr}
 use Rattle.std.specs.List.{list_all, prefix_len}
 use Rattle.std.specs.Str.{IsUtf8}
-use Rattle.std.specs.Char.{is_ascii_digit}
 use Rattle.std.proofs.lemmas.Str.{IsUtf8-from_ascii}
 use Rattle.std.proofs.lemmas.Bool.{cases_lt}
 use Rattle.std.proofs.lemmas.Bool.Decides.{nat_tests}
 use Rattle.std.proofs.lemmas.List.{get_or_past, get_or-take}
 use Rattle.std.proofs.lemmas.List.Sums.{prefix_len_passes}
-use Rattle.std.proofs.lemmas.List.Folds.{length-prefix_len, list_all_at}
-use Rattle.std.proofs.Math.Nat.{pow-suc, pow-le-pow_right}
+use Rattle.std.proofs.lemmas.List.Folds.{length-prefix_len}
 use Rattle.lit_read.specs.Tokens.{is_in_word}
 
 word_byte_small : (b : ℕ) → is_in_word b ≡ true → b < 128
@@ -20,21 +18,6 @@ word_utf8 bytes = IsUtf8-from_ascii (take (prefix_len is_in_word bytes) bytes) (
   | inl lt ↦ rw (get_or-take (prefix_len is_in_word bytes) bytes i 0 lt) (word_byte_small (get_or bytes i 0) (prefix_len_passes is_in_word bytes i 0 lt))
   | inr le ↦ rw (get_or_past (take (prefix_len is_in_word bytes) bytes) i 0 (omega (arith, length-prefix_len is_in_word bytes))) (omega arith)
 ])
-
-digit_between : (digits : List ℕ) (i d : ℕ) → list_all is_ascii_digit digits ≡ true → i < length digits → (48 ≤ get_or digits i d) × (get_or digits i d ≤ 57)
-digit_between digits i d all lt = by (is_ascii_digit (get_or digits i d)) refl
-  where
-    by : (b : Bool) → is_ascii_digit (get_or digits i d) ≡ b → (48 ≤ get_or digits i d) × (get_or digits i d ≤ 57)
-    by true h = (grind (arith, nat_tests), grind (arith, nat_tests))
-    by false h = absurd (true≢false (sym all ∙ list_all_at is_ascii_digit digits i d lt h))
-
-pub ten_more : (n i d : ℕ) → n < 10 ^ i → d ≤ 57 → n * 10 + (d - 48) < 10 ^ (i + 1)
-ten_more n i d h small = let e : 10 ^ (i + 1) ≡ 10 ^ i * 10 = rw add-one (pow-suc 10 i) in omega (arith, e)
-
-pub ten_room : (n i d : ℕ) → n < 10 ^ i → i < 10 → d ≤ 57 → n * 10 + (d - 48) < 2 ^ 64
-ten_room n i d h lt small =
-    let most : 10 ^ i ≤ 10 ^ 9 = pow-le-pow_right {n = 10} (omega arith) {i = i} {j = 9} (omega arith) in
-    omega arith
 
 pub run_passes : (p : ℕ → Bool) (bytes : List ℕ) → list_all p (take (prefix_len p bytes) bytes) ≡ true
 run_passes p [] = refl

@@ -5,9 +5,11 @@ ghost use Rattle.lit_read.specs.Litmus.{window_of};
 ghost use Rattle.lit_read.specs.Reading.FormOfTokens.{plain_load, plain_store, atomic_load, atomic_store, exchange, compare_exchange, byte_load, byte_store, wide_load, wide_store, array_form, view_form};
 ghost use Rattle.lit_read.specs.Reading.Views.{token_views, form_view};
 
-use crate::cursor::{after_sign, after_word, ended, number_of, register_of, view_of};
+use crate::access_parts::{
+    argument, atomic_call, closed, element, given_to, little_endian, stored, view_call,
+};
+use crate::cursor::ended;
 use crate::forms::{Access, Form};
-use crate::symbols::Symbol;
 use crate::syntax::View;
 use crate::tokens::Token;
 
@@ -16,12 +18,8 @@ use crate::tokens::Token;
 fn plain_load<'a>(tokens: &[Token<'a>]) -> Option<Form<'a>>
     ensures { option_map form_view result ≡ plain_load (token_views tokens.now) }
 {
-    let (reg, rest) = register_of(tokens)?;
-    let rest = after_sign(rest, Symbol::Gives)?;
-    let (view, rest) = view_of(rest)?;
-    let rest = after_sign(rest, Symbol::OpenBracket)?;
-    let (index, rest) = number_of(rest)?;
-    let rest = after_sign(rest, Symbol::CloseBracket)?;
+    let (reg, rest) = given_to(tokens)?;
+    let (view, index, rest) = element(rest)?;
     let access = Access::Load {
         reg,
         view,
@@ -36,12 +34,8 @@ fn plain_load<'a>(tokens: &[Token<'a>]) -> Option<Form<'a>>
 fn plain_store<'a>(tokens: &[Token<'a>]) -> Option<Form<'a>>
     ensures { option_map form_view result ≡ plain_store (token_views tokens.now) }
 {
-    let (view, rest) = view_of(tokens)?;
-    let rest = after_sign(rest, Symbol::OpenBracket)?;
-    let (index, rest) = number_of(rest)?;
-    let rest = after_sign(rest, Symbol::CloseBracket)?;
-    let rest = after_sign(rest, Symbol::Gives)?;
-    let (value, rest) = number_of(rest)?;
+    let (view, index, rest) = element(tokens)?;
+    let (value, rest) = stored(rest)?;
     let access = Access::Store {
         view,
         index,
@@ -56,16 +50,9 @@ fn plain_store<'a>(tokens: &[Token<'a>]) -> Option<Form<'a>>
 fn atomic_load<'a>(tokens: &[Token<'a>]) -> Option<Form<'a>>
     ensures { option_map form_view result ≡ atomic_load (token_views tokens.now) }
 {
-    let (reg, rest) = register_of(tokens)?;
-    let rest = after_sign(rest, Symbol::Gives)?;
-    let rest = after_word(rest, "Atomics")?;
-    let rest = after_sign(rest, Symbol::Dot)?;
-    let rest = after_word(rest, "load")?;
-    let rest = after_sign(rest, Symbol::OpenParen)?;
-    let (view, rest) = view_of(rest)?;
-    let rest = after_sign(rest, Symbol::Comma)?;
-    let (index, rest) = number_of(rest)?;
-    let rest = after_sign(rest, Symbol::CloseParen)?;
+    let (reg, rest) = given_to(tokens)?;
+    let (view, index, rest) = atomic_call(rest, "load")?;
+    let rest = closed(rest)?;
     let access = Access::Load {
         reg,
         view,
@@ -80,16 +67,9 @@ fn atomic_load<'a>(tokens: &[Token<'a>]) -> Option<Form<'a>>
 fn atomic_store<'a>(tokens: &[Token<'a>]) -> Option<Form<'a>>
     ensures { option_map form_view result ≡ atomic_store (token_views tokens.now) }
 {
-    let rest = after_word(tokens, "Atomics")?;
-    let rest = after_sign(rest, Symbol::Dot)?;
-    let rest = after_word(rest, "store")?;
-    let rest = after_sign(rest, Symbol::OpenParen)?;
-    let (view, rest) = view_of(rest)?;
-    let rest = after_sign(rest, Symbol::Comma)?;
-    let (index, rest) = number_of(rest)?;
-    let rest = after_sign(rest, Symbol::Comma)?;
-    let (value, rest) = number_of(rest)?;
-    let rest = after_sign(rest, Symbol::CloseParen)?;
+    let (view, index, rest) = atomic_call(tokens, "store")?;
+    let (value, rest) = argument(rest)?;
+    let rest = closed(rest)?;
     let access = Access::Store {
         view,
         index,
@@ -104,18 +84,10 @@ fn atomic_store<'a>(tokens: &[Token<'a>]) -> Option<Form<'a>>
 fn exchange<'a>(tokens: &[Token<'a>]) -> Option<Form<'a>>
     ensures { option_map form_view result ≡ exchange (token_views tokens.now) }
 {
-    let (reg, rest) = register_of(tokens)?;
-    let rest = after_sign(rest, Symbol::Gives)?;
-    let rest = after_word(rest, "Atomics")?;
-    let rest = after_sign(rest, Symbol::Dot)?;
-    let rest = after_word(rest, "exchange")?;
-    let rest = after_sign(rest, Symbol::OpenParen)?;
-    let (view, rest) = view_of(rest)?;
-    let rest = after_sign(rest, Symbol::Comma)?;
-    let (index, rest) = number_of(rest)?;
-    let rest = after_sign(rest, Symbol::Comma)?;
-    let (value, rest) = number_of(rest)?;
-    let rest = after_sign(rest, Symbol::CloseParen)?;
+    let (reg, rest) = given_to(tokens)?;
+    let (view, index, rest) = atomic_call(rest, "exchange")?;
+    let (value, rest) = argument(rest)?;
+    let rest = closed(rest)?;
     let access = Access::Exchange {
         reg,
         view,
@@ -130,20 +102,11 @@ fn exchange<'a>(tokens: &[Token<'a>]) -> Option<Form<'a>>
 fn compare_exchange<'a>(tokens: &[Token<'a>]) -> Option<Form<'a>>
     ensures { option_map form_view result ≡ compare_exchange (token_views tokens.now) }
 {
-    let (reg, rest) = register_of(tokens)?;
-    let rest = after_sign(rest, Symbol::Gives)?;
-    let rest = after_word(rest, "Atomics")?;
-    let rest = after_sign(rest, Symbol::Dot)?;
-    let rest = after_word(rest, "compareExchange")?;
-    let rest = after_sign(rest, Symbol::OpenParen)?;
-    let (view, rest) = view_of(rest)?;
-    let rest = after_sign(rest, Symbol::Comma)?;
-    let (index, rest) = number_of(rest)?;
-    let rest = after_sign(rest, Symbol::Comma)?;
-    let (expected, rest) = number_of(rest)?;
-    let rest = after_sign(rest, Symbol::Comma)?;
-    let (value, rest) = number_of(rest)?;
-    let rest = after_sign(rest, Symbol::CloseParen)?;
+    let (reg, rest) = given_to(tokens)?;
+    let (view, index, rest) = atomic_call(rest, "compareExchange")?;
+    let (expected, rest) = argument(rest)?;
+    let (value, rest) = argument(rest)?;
+    let rest = closed(rest)?;
     let access = Access::CompareExchange {
         reg,
         view,
@@ -159,14 +122,9 @@ fn compare_exchange<'a>(tokens: &[Token<'a>]) -> Option<Form<'a>>
 fn byte_load<'a>(tokens: &[Token<'a>]) -> Option<Form<'a>>
     ensures { option_map form_view result ≡ byte_load (token_views tokens.now) }
 {
-    let (reg, rest) = register_of(tokens)?;
-    let rest = after_sign(rest, Symbol::Gives)?;
-    let rest = after_word(rest, "DV")?;
-    let rest = after_sign(rest, Symbol::Dot)?;
-    let rest = after_word(rest, "getUint8")?;
-    let rest = after_sign(rest, Symbol::OpenParen)?;
-    let (index, rest) = number_of(rest)?;
-    let rest = after_sign(rest, Symbol::CloseParen)?;
+    let (reg, rest) = given_to(tokens)?;
+    let (index, rest) = view_call(rest, "getUint8")?;
+    let rest = closed(rest)?;
     let access = Access::Load {
         reg,
         view: View::D8,
@@ -181,14 +139,9 @@ fn byte_load<'a>(tokens: &[Token<'a>]) -> Option<Form<'a>>
 fn byte_store<'a>(tokens: &[Token<'a>]) -> Option<Form<'a>>
     ensures { option_map form_view result ≡ byte_store (token_views tokens.now) }
 {
-    let rest = after_word(tokens, "DV")?;
-    let rest = after_sign(rest, Symbol::Dot)?;
-    let rest = after_word(rest, "setUint8")?;
-    let rest = after_sign(rest, Symbol::OpenParen)?;
-    let (index, rest) = number_of(rest)?;
-    let rest = after_sign(rest, Symbol::Comma)?;
-    let (value, rest) = number_of(rest)?;
-    let rest = after_sign(rest, Symbol::CloseParen)?;
+    let (index, rest) = view_call(tokens, "setUint8")?;
+    let (value, rest) = argument(rest)?;
+    let rest = closed(rest)?;
     let access = Access::Store {
         view: View::D8,
         index,
@@ -203,16 +156,9 @@ fn byte_store<'a>(tokens: &[Token<'a>]) -> Option<Form<'a>>
 fn wide_load<'a>(tokens: &[Token<'a>], name: &str, view: View) -> Option<Form<'a>>
     ensures { option_map form_view result ≡ wide_load name.now (window_of view) (token_views tokens.now) }
 {
-    let (reg, rest) = register_of(tokens)?;
-    let rest = after_sign(rest, Symbol::Gives)?;
-    let rest = after_word(rest, "DV")?;
-    let rest = after_sign(rest, Symbol::Dot)?;
-    let rest = after_word(rest, name)?;
-    let rest = after_sign(rest, Symbol::OpenParen)?;
-    let (index, rest) = number_of(rest)?;
-    let order = after_sign(rest, Symbol::Comma)?;
-    let closed = after_word(order, "true")?;
-    let rest = after_sign(closed, Symbol::CloseParen)?;
+    let (reg, rest) = given_to(tokens)?;
+    let (index, rest) = view_call(rest, name)?;
+    let rest = little_endian(rest)?;
     let access = Access::Load {
         reg,
         view,
@@ -227,16 +173,9 @@ fn wide_load<'a>(tokens: &[Token<'a>], name: &str, view: View) -> Option<Form<'a
 fn wide_store<'a>(tokens: &[Token<'a>], name: &str, view: View) -> Option<Form<'a>>
     ensures { option_map form_view result ≡ wide_store name.now (window_of view) (token_views tokens.now) }
 {
-    let rest = after_word(tokens, "DV")?;
-    let rest = after_sign(rest, Symbol::Dot)?;
-    let rest = after_word(rest, name)?;
-    let rest = after_sign(rest, Symbol::OpenParen)?;
-    let (index, rest) = number_of(rest)?;
-    let rest = after_sign(rest, Symbol::Comma)?;
-    let (value, rest) = number_of(rest)?;
-    let rest = after_sign(rest, Symbol::Comma)?;
-    let rest = after_word(rest, "true")?;
-    let rest = after_sign(rest, Symbol::CloseParen)?;
+    let (index, rest) = view_call(tokens, name)?;
+    let (value, rest) = argument(rest)?;
+    let rest = little_endian(rest)?;
     let access = Access::Store {
         view,
         index,

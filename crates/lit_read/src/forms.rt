@@ -64,7 +64,7 @@ pub enum Line<'a> {
 }
 
 /// `test NAME`
-#[tactic(auto, unfolding(crate::specs::Reading::FormOfTokens::test_line))]
+#[tactic(auto, unfolding(crate::specs::Reading::FormOfTokens::test_line, crate::specs::Reading::FormOfTokens::front))]
 fn test_line<'a>(tokens: &[Token<'a>]) -> Option<Form<'a>>
     ensures { option_map form_view result ≡ test_line (token_views tokens.now) }
 {
@@ -74,7 +74,7 @@ fn test_line<'a>(tokens: &[Token<'a>]) -> Option<Form<'a>>
 }
 
 /// `agent NAME`
-#[tactic(auto, unfolding(crate::specs::Reading::FormOfTokens::agent_line))]
+#[tactic(auto, unfolding(crate::specs::Reading::FormOfTokens::agent_line, crate::specs::Reading::FormOfTokens::front))]
 fn agent_line<'a>(tokens: &[Token<'a>]) -> Option<Form<'a>>
     ensures { option_map form_view result ≡ agent_line (token_views tokens.now) }
 {
@@ -84,7 +84,7 @@ fn agent_line<'a>(tokens: &[Token<'a>]) -> Option<Form<'a>>
 }
 
 /// `bytes NUM`
-#[tactic(auto, unfolding(crate::specs::Reading::FormOfTokens::bytes_line))]
+#[tactic(auto, unfolding(crate::specs::Reading::FormOfTokens::bytes_line, crate::specs::Reading::FormOfTokens::front))]
 fn bytes_line<'a>(tokens: &[Token<'a>]) -> Option<Form<'a>>
     ensures { option_map form_view result ≡ bytes_line (token_views tokens.now) }
 {
@@ -94,7 +94,7 @@ fn bytes_line<'a>(tokens: &[Token<'a>]) -> Option<Form<'a>>
 }
 
 /// `if REG == NUM {` or `if REG != NUM {`
-#[tactic(auto, unfolding(crate::specs::Reading::FormOfTokens::if_line))]
+#[tactic(auto, unfolding(crate::specs::Reading::FormOfTokens::if_line, crate::specs::Reading::FormOfTokens::front))]
 fn if_line<'a>(tokens: &[Token<'a>]) -> Option<Form<'a>>
     ensures { option_map form_view result ≡ if_line (token_views tokens.now) }
 {
@@ -108,7 +108,7 @@ fn if_line<'a>(tokens: &[Token<'a>]) -> Option<Form<'a>>
 }
 
 /// `} else {`
-#[tactic(auto, unfolding(crate::specs::Reading::FormOfTokens::else_line))]
+#[tactic(auto, unfolding(crate::specs::Reading::FormOfTokens::else_line, crate::specs::Reading::FormOfTokens::front))]
 fn else_line<'a>(tokens: &[Token<'a>]) -> Option<Form<'a>>
     ensures { option_map form_view result ≡ else_line (token_views tokens.now) }
 {
@@ -119,7 +119,7 @@ fn else_line<'a>(tokens: &[Token<'a>]) -> Option<Form<'a>>
 }
 
 /// `}`
-#[tactic(auto, unfolding(crate::specs::Reading::FormOfTokens::end_line))]
+#[tactic(auto, unfolding(crate::specs::Reading::FormOfTokens::end_line, crate::specs::Reading::FormOfTokens::front))]
 fn end_line<'a>(tokens: &[Token<'a>]) -> Option<Form<'a>>
     ensures { option_map form_view result ≡ end_line (token_views tokens.now) }
 {

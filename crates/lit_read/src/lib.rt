@@ -8,6 +8,7 @@
 #![tactic(auto)]
 
 mod access_forms;
+mod access_parts;
 mod accesses;
 mod building;
 mod checking;

@@ -130,185 +130,204 @@ along (Relation ∷ is) ts made = do
   relation ← relation_of ts
   along is relation.1 (λ told rest. made (relation.0, told) rest)
 
--- the form of the tokens that are such a row and no more
-abbrev pub lone_row : (items : List Item) → List Token → (Told items → Form) → Option Form
-lone_row items ts made = along items ts (λ told rest. ended rest (made told))
+-- what the row at the front tells, and the tokens behind it
+unfoldable pub front : (items : List Item) → List Token → Option (Told items × List Token)
+front items ts = along items ts (λ told rest. Some (told, rest))
+
+-- what rows tell that stand one behind the other
+abbrev pub ToldParts : List (List Item) → Type 0
+ToldParts [] = Unit {0}
+ToldParts (items ∷ parts) = Told items × ToldParts parts
+
+-- the form of the tokens that are these rows, one behind the other, and no more
+abbrev pub in_parts : (parts : List (List Item)) → List Token → (ToldParts parts → Form) → Option Form
+in_parts [] ts made = ended ts (made tt)
+in_parts (items ∷ parts) ts made = do
+  part ← front items ts
+  in_parts parts part.1 (λ told. made (part.0, told))
+
+-- ---- the parts of accesses
+
+-- REG =
+abbrev pub given_to : List Item
+given_to = Register ∷ Symbols Gives ∷ []
 
 -- VIEW[NUM]
-abbrev pub element : List Item → List Item
-element behind = View ∷ Symbols OpenBracket ∷ Amount ∷ Symbols CloseBracket ∷ behind
+abbrev pub element : List Item
+element = View ∷ Symbols OpenBracket ∷ Amount ∷ Symbols CloseBracket ∷ []
+
+-- = NUM
+abbrev pub stored : List Item
+stored = Symbols Gives ∷ Amount ∷ []
 
 -- Atomics.NAME(VIEW, NUM
-abbrev pub atomic : List ℕ → List Item → List Item
-atomic name behind = Keyword (codes "Atomics") ∷ Symbols Dot ∷ Keyword name ∷ Symbols OpenParen ∷ View ∷ Symbols Comma ∷ Amount ∷ behind
+abbrev pub atomic_call : List ℕ → List Item
+atomic_call name = Keyword (codes "Atomics") ∷ Symbols Dot ∷ Keyword name ∷ Symbols OpenParen ∷ View ∷ Symbols Comma ∷ Amount ∷ []
 
 -- DV.NAME(NUM
-abbrev pub data_view : List ℕ → List Item → List Item
-data_view name behind = Keyword (codes "DV") ∷ Symbols Dot ∷ Keyword name ∷ Symbols OpenParen ∷ Amount ∷ behind
+abbrev pub view_call : List ℕ → List Item
+view_call name = Keyword (codes "DV") ∷ Symbols Dot ∷ Keyword name ∷ Symbols OpenParen ∷ Amount ∷ []
 
 -- , NUM
-abbrev pub argument : List Item → List Item
-argument behind = Symbols Comma ∷ Amount ∷ behind
+abbrev pub argument : List Item
+argument = Symbols Comma ∷ Amount ∷ []
 
+-- )
 abbrev pub closed : List Item
 closed = Symbols CloseParen ∷ []
 
 -- , true)
 abbrev pub little_endian : List Item
-little_endian = Symbols Comma ∷ Keyword (codes "true") ∷ closed
+little_endian = Symbols Comma ∷ Keyword (codes "true") ∷ Symbols CloseParen ∷ []
 
--- REG =
-abbrev pub given_to : List Item → List Item
-given_to behind = Register ∷ Symbols Gives ∷ behind
-
--- ---- the rows of the forms, and what they make
+-- ---- the rows and parts of the forms, and what they make
 
 abbrev pub test_row : List Item
 test_row = Keyword (codes "test") ∷ Name ∷ []
 
-abbrev pub test_made : Told test_row → Form
-test_made told = TestLine told.0
+abbrev pub test_made : ToldParts (test_row ∷ []) → Form
+test_made told = TestLine told.0.0
 
 abbrev pub bytes_row : List Item
 bytes_row = Keyword (codes "bytes") ∷ Amount ∷ []
 
-abbrev pub bytes_made : Told bytes_row → Form
-bytes_made told = BytesLine told.0
+abbrev pub bytes_made : ToldParts (bytes_row ∷ []) → Form
+bytes_made told = BytesLine told.0.0
 
 abbrev pub agent_row : List Item
 agent_row = Keyword (codes "agent") ∷ Name ∷ []
 
-abbrev pub agent_made : Told agent_row → Form
-agent_made told = AgentLine told.0
+abbrev pub agent_made : ToldParts (agent_row ∷ []) → Form
+agent_made told = AgentLine told.0.0
 
 abbrev pub if_row : List Item
 if_row = Keyword (codes "if") ∷ Register ∷ Relation ∷ Amount ∷ Symbols OpenBrace ∷ []
 
-abbrev pub if_made : Told if_row → Form
-if_made told = IfLine told.0 told.1.0 told.1.1.0
+abbrev pub if_made : ToldParts (if_row ∷ []) → Form
+if_made told = IfLine told.0.0 told.0.1.0 told.0.1.1.0
 
 abbrev pub else_row : List Item
 else_row = Symbols CloseBrace ∷ Keyword (codes "else") ∷ Symbols OpenBrace ∷ []
 
-abbrev pub else_made : Told else_row → Form
+abbrev pub else_made : ToldParts (else_row ∷ []) → Form
 else_made told = ElseLine
 
 abbrev pub end_row : List Item
 end_row = Symbols CloseBrace ∷ []
 
-abbrev pub end_made : Told end_row → Form
+abbrev pub end_made : ToldParts (end_row ∷ []) → Form
 end_made told = EndLine
 
-abbrev pub plain_load_row : List Item
-plain_load_row = given_to (element [])
+abbrev pub plain_load_parts : List (List Item)
+plain_load_parts = given_to ∷ element ∷ []
 
-abbrev pub plain_load_made : Told plain_load_row → Form
-plain_load_made told = StatementLine (Load told.0 told.1.0 told.1.1.0 false)
+abbrev pub plain_load_made : ToldParts plain_load_parts → Form
+plain_load_made told = StatementLine (Load told.0.0 told.1.0.0 told.1.0.1.0 false)
 
-abbrev pub plain_store_row : List Item
-plain_store_row = element (Symbols Gives ∷ Amount ∷ [])
+abbrev pub plain_store_parts : List (List Item)
+plain_store_parts = element ∷ stored ∷ []
 
-abbrev pub plain_store_made : Told plain_store_row → Form
-plain_store_made told = StatementLine (Store told.0 told.1.0 told.1.1.0 false)
+abbrev pub plain_store_made : ToldParts plain_store_parts → Form
+plain_store_made told = StatementLine (Store told.0.0 told.0.1.0 told.1.0.0 false)
 
-abbrev pub atomic_load_row : List Item
-atomic_load_row = given_to (atomic (codes "load") closed)
+abbrev pub atomic_load_parts : List (List Item)
+atomic_load_parts = given_to ∷ atomic_call (codes "load") ∷ closed ∷ []
 
-abbrev pub atomic_load_made : Told atomic_load_row → Form
-atomic_load_made told = StatementLine (Load told.0 told.1.0 told.1.1.0 true)
+abbrev pub atomic_load_made : ToldParts atomic_load_parts → Form
+atomic_load_made told = StatementLine (Load told.0.0 told.1.0.0 told.1.0.1.0 true)
 
-abbrev pub atomic_store_row : List Item
-atomic_store_row = atomic (codes "store") (argument closed)
+abbrev pub atomic_store_parts : List (List Item)
+atomic_store_parts = atomic_call (codes "store") ∷ argument ∷ closed ∷ []
 
-abbrev pub atomic_store_made : Told atomic_store_row → Form
-atomic_store_made told = StatementLine (Store told.0 told.1.0 told.1.1.0 true)
+abbrev pub atomic_store_made : ToldParts atomic_store_parts → Form
+atomic_store_made told = StatementLine (Store told.0.0 told.0.1.0 told.1.0.0 true)
 
-abbrev pub exchange_row : List Item
-exchange_row = given_to (atomic (codes "exchange") (argument closed))
+abbrev pub exchange_parts : List (List Item)
+exchange_parts = given_to ∷ atomic_call (codes "exchange") ∷ argument ∷ closed ∷ []
 
-abbrev pub exchange_made : Told exchange_row → Form
-exchange_made told = StatementLine (Exchange told.0 told.1.0 told.1.1.0 told.1.1.1.0)
+abbrev pub exchange_made : ToldParts exchange_parts → Form
+exchange_made told = StatementLine (Exchange told.0.0 told.1.0.0 told.1.0.1.0 told.1.1.0.0)
 
-abbrev pub compare_exchange_row : List Item
-compare_exchange_row = given_to (atomic (codes "compareExchange") (argument (argument closed)))
+abbrev pub compare_exchange_parts : List (List Item)
+compare_exchange_parts = given_to ∷ atomic_call (codes "compareExchange") ∷ argument ∷ argument ∷ closed ∷ []
 
-abbrev pub compare_exchange_made : Told compare_exchange_row → Form
-compare_exchange_made told = StatementLine (CompareExchange told.0 told.1.0 told.1.1.0 told.1.1.1.0 told.1.1.1.1.0)
+abbrev pub compare_exchange_made : ToldParts compare_exchange_parts → Form
+compare_exchange_made told = StatementLine (CompareExchange told.0.0 told.1.0.0 told.1.0.1.0 told.1.1.0.0 told.1.1.1.0.0)
 
-abbrev pub byte_load_row : List Item
-byte_load_row = given_to (data_view (codes "getUint8") closed)
+abbrev pub byte_load_parts : List (List Item)
+byte_load_parts = given_to ∷ view_call (codes "getUint8") ∷ closed ∷ []
 
-abbrev pub byte_load_made : Told byte_load_row → Form
-byte_load_made told = StatementLine (Load told.0 DataView8 told.1.0 false)
+abbrev pub byte_load_made : ToldParts byte_load_parts → Form
+byte_load_made told = StatementLine (Load told.0.0 DataView8 told.1.0.0 false)
 
-abbrev pub byte_store_row : List Item
-byte_store_row = data_view (codes "setUint8") (argument closed)
+abbrev pub byte_store_parts : List (List Item)
+byte_store_parts = view_call (codes "setUint8") ∷ argument ∷ closed ∷ []
 
-abbrev pub byte_store_made : Told byte_store_row → Form
-byte_store_made told = StatementLine (Store DataView8 told.0 told.1.0 false)
+abbrev pub byte_store_made : ToldParts byte_store_parts → Form
+byte_store_made told = StatementLine (Store DataView8 told.0.0 told.1.0.0 false)
 
 -- a DataView call over several bytes, by its name
-abbrev pub wide_load_row : List ℕ → List Item
-wide_load_row name = given_to (data_view name little_endian)
+abbrev pub wide_load_parts : List ℕ → List (List Item)
+wide_load_parts name = given_to ∷ view_call name ∷ little_endian ∷ []
 
-abbrev pub wide_load_made : (name : List ℕ) → Window → Told (wide_load_row name) → Form
-wide_load_made name window told = StatementLine (Load told.0 window told.1.0 false)
+abbrev pub wide_load_made : (name : List ℕ) → Window → ToldParts (wide_load_parts name) → Form
+wide_load_made name window told = StatementLine (Load told.0.0 window told.1.0.0 false)
 
-abbrev pub wide_store_row : List ℕ → List Item
-wide_store_row name = data_view name (argument little_endian)
+abbrev pub wide_store_parts : List ℕ → List (List Item)
+wide_store_parts name = view_call name ∷ argument ∷ little_endian ∷ []
 
-abbrev pub wide_store_made : (name : List ℕ) → Window → Told (wide_store_row name) → Form
-wide_store_made name window told = StatementLine (Store window told.0 told.1.0 false)
+abbrev pub wide_store_made : (name : List ℕ) → Window → ToldParts (wide_store_parts name) → Form
+wide_store_made name window told = StatementLine (Store window told.0.0 told.1.0.0 false)
 
 -- ---- the forms
 
 unfoldable pub test_line : List Token → Option Form
-test_line ts = lone_row test_row ts test_made
+test_line ts = in_parts (test_row ∷ []) ts test_made
 
 unfoldable pub bytes_line : List Token → Option Form
-bytes_line ts = lone_row bytes_row ts bytes_made
+bytes_line ts = in_parts (bytes_row ∷ []) ts bytes_made
 
 unfoldable pub agent_line : List Token → Option Form
-agent_line ts = lone_row agent_row ts agent_made
+agent_line ts = in_parts (agent_row ∷ []) ts agent_made
 
 unfoldable pub if_line : List Token → Option Form
-if_line ts = lone_row if_row ts if_made
+if_line ts = in_parts (if_row ∷ []) ts if_made
 
 unfoldable pub else_line : List Token → Option Form
-else_line ts = lone_row else_row ts else_made
+else_line ts = in_parts (else_row ∷ []) ts else_made
 
 unfoldable pub end_line : List Token → Option Form
-end_line ts = lone_row end_row ts end_made
+end_line ts = in_parts (end_row ∷ []) ts end_made
 
 unfoldable pub plain_load : List Token → Option Form
-plain_load ts = lone_row plain_load_row ts plain_load_made
+plain_load ts = in_parts plain_load_parts ts plain_load_made
 
 unfoldable pub plain_store : List Token → Option Form
-plain_store ts = lone_row plain_store_row ts plain_store_made
+plain_store ts = in_parts plain_store_parts ts plain_store_made
 
 unfoldable pub atomic_load : List Token → Option Form
-atomic_load ts = lone_row atomic_load_row ts atomic_load_made
+atomic_load ts = in_parts atomic_load_parts ts atomic_load_made
 
 unfoldable pub atomic_store : List Token → Option Form
-atomic_store ts = lone_row atomic_store_row ts atomic_store_made
+atomic_store ts = in_parts atomic_store_parts ts atomic_store_made
 
 unfoldable pub exchange : List Token → Option Form
-exchange ts = lone_row exchange_row ts exchange_made
+exchange ts = in_parts exchange_parts ts exchange_made
 
 unfoldable pub compare_exchange : List Token → Option Form
-compare_exchange ts = lone_row compare_exchange_row ts compare_exchange_made
+compare_exchange ts = in_parts compare_exchange_parts ts compare_exchange_made
 
 unfoldable pub byte_load : List Token → Option Form
-byte_load ts = lone_row byte_load_row ts byte_load_made
+byte_load ts = in_parts byte_load_parts ts byte_load_made
 
 unfoldable pub byte_store : List Token → Option Form
-byte_store ts = lone_row byte_store_row ts byte_store_made
+byte_store ts = in_parts byte_store_parts ts byte_store_made
 
 unfoldable pub wide_load : List ℕ → Window → List Token → Option Form
-wide_load name window ts = lone_row (wide_load_row name) ts (wide_load_made name window)
+wide_load name window ts = in_parts (wide_load_parts name) ts (wide_load_made name window)
 
 unfoldable pub wide_store : List ℕ → Window → List Token → Option Form
-wide_store name window ts = lone_row (wide_store_row name) ts (wide_store_made name window)
+wide_store name window ts = in_parts (wide_store_parts name) ts (wide_store_made name window)
 
 abbrev pub comparison_row : List Item
 comparison_row = Name ∷ Symbols Dot ∷ Register ∷ Relation ∷ Amount ∷ []

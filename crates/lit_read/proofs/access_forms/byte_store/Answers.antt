@@ -1,8 +1,0 @@
-use Rattle.lit_read.specs.Reading.FormOfTokens.{byte_store}
-use Rattle.lit_read.specs.Reading.Views.{token_views}
-use Rattle.lit_read.proofs.RowLemmas.{ended_view}
-use Rattle.lit_read.proofs.access_forms.byte_store.Goals as goal
-
-pub returns : goal.returns
-unfolding byte_store
-returns c = rw (c.ended.ensures, ← c.in_ok-rest.ensures, ← c.in_ok-rest-2.ensures, ← c.in_ok-rest-3.ensures, ← c.in_ok-rest-4.ensures, ← c.in_ok-index.ensures, ← c.in_ok-rest-5.ensures, ← c.in_ok-value.ensures, ← c.in_ok-rest-6.ensures) (ended_view (token_views c.in_ok-rest-6.rest.now) _)
