@@ -5,6 +5,7 @@ use std::test::Fail;
 
 mod canonical;
 mod language;
+mod long_canonical;
 
 const SB: &str =
     "test sb\nbytes 2\nagent A\nAtomics.store(U8, 0, 1)\nr0 = Atomics.load(U8, 1)\nagent B\nAtomics.store(U8, 1, 1)\nr0 = Atomics.load(U8, 0)\ncheck A.r0 == 0 && B.r0 == 0\n";
