@@ -20,10 +20,12 @@ mod devices;
 mod idle_events;
 mod independent_reads;
 mod many_choices;
+mod many_paths;
 mod paths;
 mod refusals;
 mod reports;
 mod sizes;
+mod uneven_devices;
 mod workers;
 
 const ONE_WORKER: Options = Options {
