@@ -20,11 +20,13 @@ mod devices;
 mod idle_events;
 mod independent_reads;
 mod many_choices;
+mod many_paths;
 mod paths;
 mod refusals;
 mod reports;
 mod schedules;
 mod sizes;
+mod uneven_devices;
 mod workers;
 
 const ONE_WORKER: Options = Options {

@@ -1,5 +1,7 @@
 //! Texts cut short, with a byte replaced, and at a limit.
 
+ghost use Rattle.std.specs.Prelude.{◌≤◌, length};
+
 use super::paths::PATH_REPORTS;
 use super::prints;
 use super::reports::{OWN_STORE, REPORTS};
@@ -32,12 +34,35 @@ fn beginnings(rt: HostRuntime) -> Result<(), Fail> {
     Ok(())
 }
 
+/// How many lines end in a text.
+fn ends(text: &[u8]) -> usize
+    ensures { result ≤ length text.now }
+{
+    text.iter().filter(|byte| **byte == b'\n').count()
+}
+
 /// That a text is a test, or has a fault at one of its lines or at the line behind its last one.
 fn is_answered(rt: &(impl Abort + AllocGlobal), text: &[u8]) {
     if let Err(fault) = read(rt.alloc(), text) {
-        let ends = text.iter().filter(|byte| **byte == b'\n').count();
         assert!(rt; fault.kind != ReadKind::OutOfMemory);
-        assert!(rt; 1 <= fault.line && fault.line <= ends + 1);
+        assert!(rt; 1 <= fault.line && fault.line <= ends(text) + 1);
+    }
+}
+
+/// That the beginning of a test's text is a test, or has a fault at its last line.
+fn is_answered_at_its_end(rt: &(impl Abort + AllocGlobal), text: &[u8]) {
+    if let Err(fault) = read(rt.alloc(), text) {
+        let before = text.split_last().map_or(0, |(_, rest)| ends(rest));
+        assert!(rt; fault.kind != ReadKind::OutOfMemory);
+        assert_eq!(rt; fault.line, before.saturating_add(1));
+    }
+}
+
+/// That a text is refused for a byte that none may have, at this line.
+fn is_not_ascii(rt: &(impl Abort + AllocGlobal), text: &[u8], line: usize) {
+    match read(rt.alloc(), text) {
+        Ok(_) => panic!(rt; "the text was taken"),
+        Err(fault) => assert!(rt; fault.kind == ReadKind::NotAscii && fault.line == line),
     }
 }
 
@@ -49,11 +74,14 @@ fn is_answered_in_parts(
 ) -> Result<(), Fail> {
     let mut other = Vec::from_slice(alloc, text)?;
     for place in 0..text.len() {
-        is_answered(rt, &text[..place]);
-        for byte in [0, 200, b'{'] {
+        let beginning = &text[..place];
+        is_answered_at_its_end(rt, beginning);
+        for byte in [0, 200] {
             other[place] = byte;
-            is_answered(rt, &other);
+            is_not_ascii(rt, &other, ends(beginning) + 1);
         }
+        other[place] = b'{';
+        is_answered(rt, &other);
         other[place] = text[place];
     }
     Ok(())
