@@ -7,6 +7,26 @@ use lit_paths::plan;
 use lit_read::read;
 use std::test::Fail;
 
+/// Tests of two agents, without and with branches, and of three and four.
+const TEXTS: [&str; 16] = [
+    "test sb\nbytes 2\nagent A\nAtomics.store(U8, 0, 1)\nr0 = Atomics.load(U8, 1)\nagent B\nAtomics.store(U8, 1, 1)\nr0 = Atomics.load(U8, 0)\ncheck A.r0 == 0\n",
+    "test sbplain\nbytes 2\nagent A\nU8[0] = 1\nr0 = U8[1]\nagent B\nU8[1] = 1\nr0 = U8[0]\ncheck A.r0 == 0\n",
+    "test sbmixed\nbytes 4\nagent A\nAtomics.store(U16, 0, 1)\nr0 = Atomics.load(U8, 2)\nagent B\nAtomics.store(U16, 1, 1)\nr0 = Atomics.load(U8, 0)\ncheck A.r0 == 0\n",
+    "test mp\nbytes 2\nagent A\nU8[0] = 1\nAtomics.store(U8, 1, 1)\nagent B\nr0 = Atomics.load(U8, 1)\nr1 = U8[0]\ncheck B.r0 == 1\n",
+    "test mpplain\nbytes 2\nagent A\nU8[0] = 1\nU8[1] = 1\nagent B\nr0 = U8[1]\nr1 = U8[0]\ncheck B.r0 == 1\n",
+    "test corr\nbytes 1\nagent A\nU8[0] = 1\nagent B\nr0 = U8[0]\nr1 = U8[0]\ncheck B.r0 == 1\n",
+    "test corr\nbytes 1\nagent A\nAtomics.store(U8, 0, 1)\nagent B\nr0 = Atomics.load(U8, 0)\nr1 = Atomics.load(U8, 0)\ncheck B.r0 == 1\n",
+    "test own\nbytes 1\nagent A\nU8[0] = 1\nr0 = U8[0]\ncheck A.r0 == 1\n",
+    "test lb\nbytes 2\nagent A\nr0 = U8[0]\nif r0 == 1 {\nU8[1] = 1\n}\nagent B\nr0 = U8[1]\nif r0 == 1 {\nU8[0] = 1\n}\ncheck A.r0 == 1\n",
+    "test lb\nbytes 2\nagent A\nr0 = Atomics.load(U8, 0)\nif r0 == 1 {\nAtomics.store(U8, 1, 1)\n}\nagent B\nr0 = Atomics.load(U8, 1)\nif r0 == 1 {\nAtomics.store(U8, 0, 1)\n}\ncheck A.r0 == 1\n",
+    "test cas\nbytes 1\nagent A\nr0 = Atomics.compareExchange(U8, 0, 0, 1)\nagent B\nr0 = Atomics.compareExchange(U8, 0, 0, 1)\ncheck A.r0 == 0\n",
+    "test casfail\nbytes 2\nagent A\nr0 = Atomics.compareExchange(U8, 0, 7, 9)\nr1 = U8[1]\nagent B\nU8[1] = 1\nAtomics.store(U8, 0, 5)\ncheck A.r0 == 5\n",
+    "test tear\nbytes 2\nagent A\nU16[0] = 257\nagent B\nU16[0] = 514\nagent C\nr0 = U16[0]\ncheck C.r0 == 258\n",
+    "test teardv\nbytes 2\nagent A\nU16[0] = 257\nagent B\nU16[0] = 514\nagent C\nr0 = DV.getUint16(0, true)\ncheck C.r0 == 258\n",
+    "test iriw\nbytes 2\nagent A\nAtomics.store(U8, 0, 1)\nagent B\nAtomics.store(U8, 1, 1)\nagent C\nr0 = Atomics.load(U8, 0)\nr1 = Atomics.load(U8, 1)\nagent D\nr0 = Atomics.load(U8, 1)\nr1 = Atomics.load(U8, 0)\ncheck C.r0 == 1\n",
+    "test iriwplain\nbytes 2\nagent A\nAtomics.store(U8, 0, 1)\nagent B\nAtomics.store(U8, 1, 1)\nagent C\nr0 = U8[0]\nr1 = U8[1]\nagent D\nr0 = U8[1]\nr1 = U8[0]\ncheck C.r0 == 1\n",
+];
+
 /// The part of a choice, with all its sources.
 fn given<'p>(plan: &'p Plan<'p>, choice: u64) -> Part<'p>
     requires { choice < length (choices_of plan.now) }
@@ -37,113 +57,10 @@ fn finders_agree(rt: &HostRuntime, text: &str) -> Result<bool, Fail> {
 }
 
 #[test]
-fn finders_agree_on_two_agents(rt: HostRuntime) -> Result<(), Fail> {
-    assert!(rt;
-        finders_agree(
-            &rt,
-            "test sb\nbytes 2\nagent A\nAtomics.store(U8, 0, 1)\nr0 = Atomics.load(U8, 1)\nagent B\nAtomics.store(U8, 1, 1)\nr0 = Atomics.load(U8, 0)\ncheck A.r0 == 0\n"
-        )?
-    );
-    assert!(rt;
-        finders_agree(
-            &rt,
-            "test sbplain\nbytes 2\nagent A\nU8[0] = 1\nr0 = U8[1]\nagent B\nU8[1] = 1\nr0 = U8[0]\ncheck A.r0 == 0\n"
-        )?
-    );
-    assert!(rt;
-        finders_agree(
-            &rt,
-            "test sbmixed\nbytes 4\nagent A\nAtomics.store(U16, 0, 1)\nr0 = Atomics.load(U8, 2)\nagent B\nAtomics.store(U16, 1, 1)\nr0 = Atomics.load(U8, 0)\ncheck A.r0 == 0\n"
-        )?
-    );
-    assert!(rt;
-        finders_agree(
-            &rt,
-            "test mp\nbytes 2\nagent A\nU8[0] = 1\nAtomics.store(U8, 1, 1)\nagent B\nr0 = Atomics.load(U8, 1)\nr1 = U8[0]\ncheck B.r0 == 1\n"
-        )?
-    );
-    assert!(rt;
-        finders_agree(
-            &rt,
-            "test mpplain\nbytes 2\nagent A\nU8[0] = 1\nU8[1] = 1\nagent B\nr0 = U8[1]\nr1 = U8[0]\ncheck B.r0 == 1\n"
-        )?
-    );
-    assert!(rt;
-        finders_agree(
-            &rt,
-            "test corr\nbytes 1\nagent A\nU8[0] = 1\nagent B\nr0 = U8[0]\nr1 = U8[0]\ncheck B.r0 == 1\n"
-        )?
-    );
-    assert!(rt;
-        finders_agree(
-            &rt,
-            "test corr\nbytes 1\nagent A\nAtomics.store(U8, 0, 1)\nagent B\nr0 = Atomics.load(U8, 0)\nr1 = Atomics.load(U8, 0)\ncheck B.r0 == 1\n"
-        )?
-    );
-    assert!(rt;
-        finders_agree(
-            &rt,
-            "test own\nbytes 1\nagent A\nU8[0] = 1\nr0 = U8[0]\ncheck A.r0 == 1\n"
-        )?
-    );
-    Ok(())
-}
-
-#[test]
-fn finders_agree_on_branches(rt: HostRuntime) -> Result<(), Fail> {
-    assert!(rt;
-        finders_agree(
-            &rt,
-            "test lb\nbytes 2\nagent A\nr0 = U8[0]\nif r0 == 1 {\nU8[1] = 1\n}\nagent B\nr0 = U8[1]\nif r0 == 1 {\nU8[0] = 1\n}\ncheck A.r0 == 1\n"
-        )?
-    );
-    assert!(rt;
-        finders_agree(
-            &rt,
-            "test lb\nbytes 2\nagent A\nr0 = Atomics.load(U8, 0)\nif r0 == 1 {\nAtomics.store(U8, 1, 1)\n}\nagent B\nr0 = Atomics.load(U8, 1)\nif r0 == 1 {\nAtomics.store(U8, 0, 1)\n}\ncheck A.r0 == 1\n"
-        )?
-    );
-    assert!(rt;
-        finders_agree(
-            &rt,
-            "test cas\nbytes 1\nagent A\nr0 = Atomics.compareExchange(U8, 0, 0, 1)\nagent B\nr0 = Atomics.compareExchange(U8, 0, 0, 1)\ncheck A.r0 == 0\n"
-        )?
-    );
-    assert!(rt;
-        finders_agree(
-            &rt,
-            "test casfail\nbytes 2\nagent A\nr0 = Atomics.compareExchange(U8, 0, 7, 9)\nr1 = U8[1]\nagent B\nU8[1] = 1\nAtomics.store(U8, 0, 5)\ncheck A.r0 == 5\n"
-        )?
-    );
-    Ok(())
-}
-
-#[test]
-fn finders_agree_on_three_and_four_agents(rt: HostRuntime) -> Result<(), Fail> {
-    assert!(rt;
-        finders_agree(
-            &rt,
-            "test tear\nbytes 2\nagent A\nU16[0] = 257\nagent B\nU16[0] = 514\nagent C\nr0 = U16[0]\ncheck C.r0 == 258\n"
-        )?
-    );
-    assert!(rt;
-        finders_agree(
-            &rt,
-            "test teardv\nbytes 2\nagent A\nU16[0] = 257\nagent B\nU16[0] = 514\nagent C\nr0 = DV.getUint16(0, true)\ncheck C.r0 == 258\n"
-        )?
-    );
-    assert!(rt;
-        finders_agree(
-            &rt,
-            "test iriw\nbytes 2\nagent A\nAtomics.store(U8, 0, 1)\nagent B\nAtomics.store(U8, 1, 1)\nagent C\nr0 = Atomics.load(U8, 0)\nr1 = Atomics.load(U8, 1)\nagent D\nr0 = Atomics.load(U8, 1)\nr1 = Atomics.load(U8, 0)\ncheck C.r0 == 1\n"
-        )?
-    );
-    assert!(rt;
-        finders_agree(
-            &rt,
-            "test iriwplain\nbytes 2\nagent A\nAtomics.store(U8, 0, 1)\nagent B\nAtomics.store(U8, 1, 1)\nagent C\nr0 = U8[0]\nr1 = U8[1]\nagent D\nr0 = U8[1]\nr1 = U8[0]\ncheck C.r0 == 1\n"
-        )?
-    );
+fn finders_agree_on_each_choice(rt: HostRuntime) -> Result<(), Fail> {
+    for text in TEXTS {
+        assert!(rt; finders_agree(&rt, text)?, "of {text}");
+    }
     Ok(())
 }
 
