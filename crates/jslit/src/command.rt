@@ -26,7 +26,7 @@ use std::{fs, io};
 
 /// Does what the words ask for: checks the litmus text of the file that they name, or else of the input, carries it out
 /// in the turns that they name, or prints the help. Gives the status: 0 for what was asked for, 1 for a text, test or
-/// schedule that is refused, 2 for a fault of the words, 3 for want of memory, 4 for an input or output that failed.
+/// schedule that is refused, 2 for a fault of the words, 3 where memory ran out, 4 for an input or output that failed.
 pub fn program<'a, T: Threads + Sync + Files, S: AsStr, R: Read, W: Write, E: Write>(
     rt: &T,
     alloc: Global,
@@ -78,7 +78,7 @@ fn serve<T: Threads + Sync, R: Read, W: Write, E: Write>(
 }
 
 /// Prints the report on the litmus text of the input, or one line that says why there is none. Gives the status:
-/// 0 for a report, 1 for a text or test that is refused, 3 for want of memory, 4 for an input or output that failed.
+/// 0 for a report, 1 for a text or test that is refused, 3 where memory ran out, 4 for an input or output that failed.
 pub fn check<T: Threads + Sync, R: Read, W: Write, E: Write>(
     rt: &T,
     alloc: Global,
@@ -114,7 +114,7 @@ pub fn check<T: Threads + Sync, R: Read, W: Write, E: Write>(
 }
 
 /// Prints what a schedule comes to on the litmus text of the input, or one line that says why there is nothing to print.
-/// Gives the status: 0 for the schedule's outcome, 1 for a text or schedule that is refused, 3 for want of memory, 4 for
+/// Gives the status: 0 for the schedule's outcome, 1 for a text or schedule that is refused, 3 where memory ran out, 4 for
 /// an input or output that failed.
 pub fn check_schedule<R: Read, W: Write, E: Write>(
     alloc: Global,
@@ -219,7 +219,7 @@ fn explain<W: Write, E: Write>(output: &mut Counted<W>, errors: &mut E, error: &
     0
 }
 
-/// Prints why the words of the command line could not be read, and gives the status: 3 for want of memory, and else 2,
+/// Prints why the words of the command line could not be read, and gives the status: 3 where memory ran out, and else 2,
 /// for words that are not text.
 pub fn no_words<E: Write>(errors: &mut E, error: &io::Error) -> u8
     ensures { (result ≡ 2) ⊎ (result ≡ 3) }

@@ -32,7 +32,7 @@ pub enum RunFault {
     OutputFailed,
 }
 
-/// Want of memory is that of the run.
+/// That memory ran out is a fault of the run.
 impl From<ReadFault> for RunFault {
     ghost use Rattle.jslit.specs.Steps.Faults.{IsOfReader};
 
@@ -46,7 +46,7 @@ impl From<ReadFault> for RunFault {
     }
 }
 
-/// Want of memory is that of the run.
+/// That memory ran out is a fault of the run.
 impl From<PlanFault> for RunFault {
     ghost use Rattle.jslit.specs.Steps.Faults.{IsOfPlan};
 
