@@ -33,6 +33,3 @@ pub use laws::{
     answers_are_unique, quick_answers_are_reported, reports_are_complete, schedules_are_reported,
 };
 pub use words::line;
-
-#[cfg(test)]
-mod tests;

@@ -13,8 +13,6 @@ mod fault;
 mod limits;
 mod place;
 mod rule;
-#[cfg(test)]
-mod tests;
 mod words;
 
 pub use account::{Account, Numbers};

@@ -12,8 +12,6 @@ mod forcing;
 mod laws;
 mod lining;
 mod plain;
-#[cfg(test)]
-mod tests;
 mod triples;
 mod two_way;
 

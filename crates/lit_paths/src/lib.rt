@@ -17,8 +17,6 @@ mod names;
 mod path;
 mod planning;
 mod sources;
-#[cfg(test)]
-mod tests;
 mod walking;
 
 pub use combination::Combination;

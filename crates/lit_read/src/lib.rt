@@ -42,6 +42,3 @@ pub use litmus::Test;
 pub use reading::read;
 pub use showing::show;
 pub use syntax::{Cond, Stmt, View};
-
-#[cfg(test)]
-mod tests;

@@ -21,8 +21,6 @@ mod refusing;
 mod related;
 mod relating;
 mod settled;
-#[cfg(test)]
-mod tests;
 mod triples;
 mod values;
 mod wide_events;

@@ -10,7 +10,6 @@ pub mod PassingLemmas
 pub mod ExchangeLemmas
 pub mod StoodForLemmas
 pub mod NextLemmas
-pub mod Giving
 pub mod Entries
 pub mod MergedEntries
 pub mod Reports

@@ -52,6 +52,3 @@ pub fn interleave(alloc: Global, test: &Test, schedule: &[u8]) -> Result<Vec<u32
     }
     outcome_of(alloc, test, &runners)
 }
-
-#[cfg(test)]
-mod tests;

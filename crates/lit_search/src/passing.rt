@@ -188,6 +188,3 @@ impl Cursor<'_> {
         None
     }
 }
-
-#[cfg(test)]
-mod tests;

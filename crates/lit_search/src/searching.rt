@@ -51,6 +51,3 @@ pub fn first_in(plan: &Plan<'_>, class: Class, from: u64, to: u64) -> Option<u64
     }
     None
 }
-
-#[cfg(test)]
-mod tests;

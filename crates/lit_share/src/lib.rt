@@ -15,8 +15,6 @@ mod laws;
 mod limits;
 mod pieces;
 mod searching;
-#[cfg(test)]
-mod tests;
 mod workers;
 mod working;
 

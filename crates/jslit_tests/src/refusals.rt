@@ -1,0 +1,176 @@
+//! Texts that are refused, each with its printed line.
+
+use super::calls::{prints, writes};
+use super::reports::Reported;
+use std::test::Fail;
+
+/// In the order of the faults' numbers.
+const REFUSALS: [Reported; 20] = [
+    // comparison without value
+    (
+        "test sb
+bytes 2
+agent A
+Atomics.store(U8, 0, 1)
+r0 = Atomics.load(U8, 1)
+agent B
+Atomics.store(U8, 1, 1)
+r0 = Atomics.load(U8, 0)
+check A.r0 == 0 && B.r0 ==\x20
+",
+        "refused 3 syntax line 9\n",
+    ),
+    // second test line
+    ("test t\ntest u\nbytes 4\n", "refused 4 misplaced line 2\n"),
+    // block line without test
+    ("bytes 4\n", "refused 4 misplaced line 1\n"),
+    // second block line
+    ("test t\nbytes 4\nbytes 4\n", "refused 4 misplaced line 3\n"),
+    // agent without block
+    ("test t\nagent A\n", "refused 4 misplaced line 2\n"),
+    // statement without agent
+    (
+        "test t\nbytes 4\nr0 = U8[0]\n",
+        "refused 4 misplaced line 3\n",
+    ),
+    // check without agent
+    (
+        "test t\nbytes 4\ncheck A.r0 == 0\n",
+        "refused 4 misplaced line 3\n",
+    ),
+    // statement after check
+    (
+        "test t\nbytes 4\nagent A\nr0 = U8[0]\ncheck A.r0 == 0\nU8[0] = 1\n",
+        "refused 4 misplaced line 6\n",
+    ),
+    // second check
+    (
+        "test t\nbytes 4\nagent A\nr0 = U8[0]\ncheck A.r0 == 0\ncheck A.r0 == 0\n",
+        "refused 4 misplaced line 6\n",
+    ),
+    // agent after check
+    (
+        "test t\nbytes 4\nagent A\nr0 = U8[0]\ncheck A.r0 == 0\nagent B\n",
+        "refused 4 misplaced line 6\n",
+    ),
+    // block of seventeen bytes
+    (
+        "test t\nbytes 17\nagent A\nr0 = U8[0]\ncheck A.r0 == 0\n",
+        "refused 5 block_size line 2\n",
+    ),
+    // fifth agent
+    (
+        "test t\nbytes 4\nagent A\nagent B\nagent C\nagent D\nagent E\ncheck A.r0 == 0\n",
+        "refused 6 too_many_agents line 7\n",
+    ),
+    // agent twice
+    (
+        "test t\nbytes 4\nagent A\nagent A\ncheck A.r0 == 0\n",
+        "refused 7 duplicate_agent line 4\n",
+    ),
+    // byte of 256
+    (
+        "test t\nbytes 4\nagent A\nU8[0] = 256\ncheck A.r0 == 0\n",
+        "refused 8 literal_range line 4\n",
+    ),
+    // large byte past the block
+    (
+        "test t\nbytes 4\nagent A\nU8[9] = 300\ncheck A.r0 == 0\n",
+        "refused 8 literal_range line 4\n",
+    ),
+    // compared number of 33 bits
+    (
+        "test t\nbytes 4\nagent A\nr0 = U8[0]\ncheck A.r0 == 4294967296\n",
+        "refused 8 literal_range line 5\n",
+    ),
+    // access past the block
+    (
+        "test t\nbytes 4\nagent A\nU8[4] = 0\ncheck A.r0 == 0\n",
+        "refused 9 out_of_block line 4\n",
+    ),
+    // register never written
+    (
+        "test t\nbytes 4\nagent A\nr1 = U8[0]\ncheck A.r0 == 0\n",
+        "refused 10 unknown_name line 5\n",
+    ),
+    // no check
+    (
+        "test sb
+bytes 2
+agent A
+Atomics.store(U8, 0, 1)
+r0 = Atomics.load(U8, 1)
+agent B
+Atomics.store(U8, 1, 1)
+r0 = Atomics.load(U8, 0)
+",
+        "refused 12 missing_part line 8\n",
+    ),
+    // empty text
+    ("", "refused 12 missing_part line 1\n"),
+];
+
+#[test]
+fn run_refuses(rt: HostRuntime) -> Result<(), Fail> {
+    for (text, line) in REFUSALS {
+        writes(&rt, text.as_bytes(), line.as_bytes())?;
+    }
+    Ok(())
+}
+
+#[test]
+fn program_refuses(rt: HostRuntime) -> Result<(), Fail> {
+    for (text, line) in REFUSALS {
+        prints(&rt, text.as_bytes(), line.as_bytes(), 1)?;
+    }
+    Ok(())
+}
+
+#[test]
+fn one_byte_too_many(rt: HostRuntime) -> Result<(), Fail> {
+    let text = Vec::from_elem(rt.alloc(), b' ', 65_537)?;
+    writes(&rt, &text, b"refused 1 too_long line 1\n")?;
+    prints(&rt, &text, b"refused 1 too_long line 1\n", 1)
+}
+
+#[test]
+fn byte_above_ascii(rt: HostRuntime) -> Result<(), Fail> {
+    let text = b"test t\nbytes 4\nagent A\nr0 = U8[0] //\xe9\ncheck A.r0 == 0\n";
+    writes(&rt, text, b"refused 2 not_ascii line 4\n")?;
+    prints(&rt, text, b"refused 2 not_ascii line 4\n", 1)
+}
+
+#[test]
+fn thirteen_accesses(rt: HostRuntime) -> Result<(), Fail> {
+    let mut text = Vec::from_slice(rt.alloc(), b"test t\nbytes 1\nagent A\n")?;
+    for _ in 0..13 {
+        text.extend_from_slice(b"r0 = U8[0]\n")?;
+    }
+    text.extend_from_slice(b"check A.r0 == 0\n")?;
+    writes(&rt, &text, b"refused 14 too_many_events\n")?;
+    prints(&rt, &text, b"refused 14 too_many_events\n", 1)
+}
+
+#[test]
+fn thirteen_branches(rt: HostRuntime) -> Result<(), Fail> {
+    let mut text = Vec::from_slice(rt.alloc(), b"test t\nbytes 1\nagent A\nr0 = U8[0]\n")?;
+    for _ in 0..13 {
+        text.extend_from_slice(b"if r0 == 0 {\n}\n")?;
+    }
+    text.extend_from_slice(b"check A.r0 == 0\n")?;
+    writes(&rt, &text, b"refused 13 too_many_paths\n")?;
+    prints(&rt, &text, b"refused 13 too_many_paths\n", 1)
+}
+
+#[test]
+fn too_many_choices(rt: HostRuntime) -> Result<(), Fail> {
+    let mut text = Vec::from_slice(
+        rt.alloc(),
+        b"test t\nbytes 4\nagent A\nU32[0] = 1\nU32[0] = 2\n",
+    )?;
+    for _ in 0..10 {
+        text.extend_from_slice(b"r0 = U32[0]\n")?;
+    }
+    text.extend_from_slice(b"check A.r0 == 0\n")?;
+    prints(&rt, &text, b"refused 15 too_many_choices\n", 1)
+}

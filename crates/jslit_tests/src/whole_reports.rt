@@ -1,0 +1,53 @@
+//! Whole reports, by `run` and by the program.
+
+use super::calls::{prints, writes};
+use super::idle_events::{WIDE, WIDER};
+use super::many_choices::COAST;
+use super::paths::PATH_REPORTS;
+use super::reports::REPORTS;
+use super::sizes::SIZE_REPORTS;
+use std::test::Fail;
+
+#[test]
+fn run_reports(rt: HostRuntime) -> Result<(), Fail> {
+    for (text, report) in REPORTS {
+        writes(&rt, text.as_bytes(), report.as_bytes())?;
+    }
+    Ok(())
+}
+
+#[test]
+fn run_reports_on_paths(rt: HostRuntime) -> Result<(), Fail> {
+    for (text, report) in PATH_REPORTS {
+        writes(&rt, text.as_bytes(), report.as_bytes())?;
+    }
+    Ok(())
+}
+
+#[test]
+fn run_reports_on_sizes(rt: HostRuntime) -> Result<(), Fail> {
+    for (text, report) in SIZE_REPORTS {
+        writes(&rt, text.as_bytes(), report.as_bytes())?;
+    }
+    Ok(())
+}
+
+#[test]
+fn program_reports(rt: HostRuntime) -> Result<(), Fail> {
+    for (text, report) in REPORTS {
+        prints(&rt, text.as_bytes(), report.as_bytes(), 0)?;
+    }
+    Ok(())
+}
+
+#[test]
+fn run_reports_among_many_events(rt: HostRuntime) -> Result<(), Fail> {
+    writes(&rt, WIDE.0.as_bytes(), WIDE.1.as_bytes())?;
+    prints(&rt, WIDE.0.as_bytes(), WIDE.1.as_bytes(), 0)?;
+    prints(&rt, WIDER.as_bytes(), b"refused 14 too_many_events\n", 1)
+}
+
+#[test]
+fn run_reports_among_many_choices(rt: HostRuntime) -> Result<(), Fail> {
+    prints(&rt, COAST.0.as_bytes(), COAST.1.as_bytes(), 0)
+}

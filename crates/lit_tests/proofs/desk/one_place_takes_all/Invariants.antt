@@ -1,0 +1,7 @@
+use Rattle.std.proofs.Common.{◌≡◌, length}
+use Rattle.std.specs.Prelude.{All}
+use Rattle.lit_desk.specs.Desk.{IsPlaceOf}
+use Rattle.lit_tests.proofs.desk.one_place_takes_all.Given as goal
+
+abbrev pub invariant-loop-i : goal.invariant-loop-i
+invariant-loop-i g l = record { places : length l.places.items ≡ 16; own : All (IsPlaceOf l.desk) l.places.items }

@@ -1,0 +1,88 @@
+//! Sets of events, of pairs and of triples.
+
+use super::assert_pairs;
+use lit_rel::{
+    Between, EventSet, Rows, mixed_sizes_never_synchronize, never_reads_itself,
+    relations_grow_with_bytes, typed_load_mixes_with_init_only, values_stay, viewed_load_mixes,
+};
+
+#[test]
+fn sets_have_what_is_put_in(rt: HostRuntime) {
+    let first = EventSet::new().with(0).with(27);
+    let other = EventSet::new().with(27);
+    assert!(rt; first.contains(0) && first.contains(27) && !first.contains(26));
+    assert!(rt; EventSet::new().is_empty() && !other.is_empty());
+    assert!(rt; other.is_within(first) && !first.is_within(other));
+    assert!(rt; other.union(EventSet::new().with(0)) == first);
+    assert!(rt; first.intersection(other) == other);
+}
+
+#[test]
+fn sets_are_taken_apart(rt: HostRuntime) {
+    let first = EventSet::below(3);
+    assert!(rt; first == EventSet::new().with(0).with(1).with(2));
+    assert!(rt; EventSet::below(0).is_empty() && EventSet::below(28).contains(27));
+    let other = EventSet::new().with(1).with(27);
+    assert!(rt; first.difference(other) == EventSet::new().with(0).with(2));
+    assert!(rt; other.difference(first) == EventSet::new().with(27));
+    assert!(rt; other.split_first() == Some((1, EventSet::new().with(27))));
+    assert!(rt; EventSet::new().split_first().is_none());
+}
+
+#[test]
+fn rows_hold_of_what_is_put_in(rt: HostRuntime) {
+    let mut rows = Rows::new(28);
+    assert_eq!(rt; rows.len(), 28);
+    rows.put(3, 27);
+    rows.put(0, 27);
+    assert_pairs(&rt, &rows, &[(0, 27), (3, 27)]);
+    assert!(rt; rows.predecessors(27) == EventSet::new().with(0).with(3));
+    assert!(rt; rows.is_irreflexive());
+    rows.put(5, 5);
+    assert!(rt; !rows.is_irreflexive());
+}
+
+/// 0 leads to 1, and 2 to 3. With 1 before 2, both 0 and 1 lead to 2 and 3.
+#[test]
+fn one_more_pair_is_closed(rt: HostRuntime) {
+    let mut rows = Rows::new(5);
+    rows.put(0, 1);
+    rows.put(2, 3);
+    rows.close_with(1, 2);
+    assert_pairs(
+        &rt,
+        &rows,
+        &[(0, 1), (0, 2), (0, 3), (1, 2), (1, 3), (2, 3)],
+    );
+    assert!(rt; rows.successors(1) == EventSet::new().with(2).with(3));
+    assert!(rt; rows.predecessors(2) == EventSet::new().with(0).with(1));
+    rows.close_with(3, 0);
+    assert!(rt; rows.holds(2, 2) && !rows.holds(4, 4));
+}
+
+#[test]
+fn pairs_forbid_their_triples(rt: HostRuntime) {
+    let mut between = Between::new(4);
+    between.forbid(0, 1, EventSet::new().with(2));
+    assert_eq!(rt; between.len(), 4);
+    assert!(rt; between.forbids(0, 1, 2) && !between.forbids(0, 1, 3));
+    assert!(rt; !between.forbids(1, 0, 2));
+    between.forbid(0, 1, EventSet::new().with(3));
+    between.forbid(3, 1, EventSet::new().with(0));
+    let pairs = between.pairs();
+    assert_eq!(rt; pairs.len(), 2);
+    assert!(rt; pairs[0].source == 0 && pairs[0].read == 1);
+    assert!(rt; pairs[0].others == EventSet::new().with(2).with(3));
+    assert!(rt; pairs[1].source == 3 && pairs[1].read == 1);
+}
+
+#[test]
+fn laws_are_named(rt: HostRuntime) {
+    mixed_sizes_never_synchronize();
+    typed_load_mixes_with_init_only();
+    viewed_load_mixes();
+    never_reads_itself();
+    relations_grow_with_bytes();
+    values_stay();
+    assert!(rt; true);
+}

@@ -1,0 +1,134 @@
+//! Gates that hold a worker until others have come: workers run at once, and draw from one desk.
+
+use crate::texts::{LOAD_BUFFERING, STORE_BUFFERING};
+use lit_paths::plan;
+use lit_read::read;
+use lit_share::{Gate, quick, search};
+use std::sync::atomic::{AtomicBool, AtomicU64, Ordering};
+use std::test::Fail;
+use std::thread;
+
+/// Turns that a worker waits at the most.
+const TURNS: u64 = 10_000_000;
+
+/// Holds one piece until others were entered.
+#[derive(Drop)]
+struct Holding {
+    held: u64,
+    /// The pieces to wait for, as a set of bits.
+    awaited: u64,
+    entered: AtomicU64,
+    /// A worker came with the pass of another.
+    exchanged: AtomicBool,
+    /// The pieces did not come in time.
+    gave_up: AtomicBool,
+}
+
+impl Holding {
+    fn new(held: u64, awaited: u64) -> Holding {
+        Holding {
+            held,
+            awaited,
+            entered: AtomicU64::new(0),
+            exchanged: AtomicBool::new(false),
+            gave_up: AtomicBool::new(false),
+        }
+    }
+
+    /// Whether these pieces were entered, each worker came with its own pass, and the piece held did not have to be let
+    /// go.
+    fn let_all_in(&self, pieces: u64) -> bool {
+        self.entered.load(Ordering::SeqCst) == pieces
+            && !self.exchanged.load(Ordering::SeqCst)
+            && !self.gave_up.load(Ordering::SeqCst)
+    }
+}
+
+impl Gate for Holding {
+    /// The number of the worker.
+    type Pass = usize;
+
+    fn at(&self, pass: &mut usize, worker: usize, piece: u64) {
+        if *pass != worker {
+            self.exchanged.store(true, Ordering::SeqCst);
+        }
+        self.entered
+            .fetch_or(1u64.wrapping_shl((piece % 64) as u32), Ordering::SeqCst);
+        if piece != self.held {
+            return;
+        }
+        for _ in 0..TURNS {
+            if self.entered.load(Ordering::SeqCst) & self.awaited == self.awaited {
+                return;
+            }
+            thread::yield_now();
+        }
+        self.gave_up.store(true, Ordering::SeqCst);
+    }
+}
+
+#[test]
+fn gate_holds_first_piece(rt: HostRuntime) -> Result<(), Fail> {
+    let test = read(rt.alloc(), STORE_BUFFERING.as_bytes())?;
+    let plan = plan(rt.alloc(), &test)?;
+    let gate = Holding::new(0, 0b10);
+    let found = search(&rt, rt.alloc(), &plan, 2, &gate, vec![in rt.alloc(); 0, 1]?)?;
+    assert_eq!(rt; found.len(), 3);
+    assert!(rt; gate.let_all_in(0b11));
+    let gate = Holding::new(0, 0b10);
+    let quick = quick(&rt, rt.alloc(), &plan, 2, &gate, vec![in rt.alloc(); 0, 1]?)?;
+    assert!(rt; quick.met.is_none());
+    assert!(rt; gate.let_all_in(0b11));
+    Ok(())
+}
+
+#[test]
+fn gate_drains_desk(rt: HostRuntime) -> Result<(), Fail> {
+    let test = read(rt.alloc(), STORE_BUFFERING.as_bytes())?;
+    let plan = plan(rt.alloc(), &test)?;
+    for held in [(0, 0b1110), (1, 0b1101), (2, 0b1011), (3, 0b0111)] {
+        let gate = Holding::new(held.0, held.1);
+        let found = search(&rt, rt.alloc(), &plan, 1, &gate, vec![in rt.alloc(); 0, 1]?)?;
+        assert_eq!(rt; found.len(), 3);
+        assert!(rt; gate.let_all_in(0b1111), "held {}", held.0);
+    }
+    Ok(())
+}
+
+#[test]
+fn gate_drains_desk_of_quick(rt: HostRuntime) -> Result<(), Fail> {
+    let test = read(rt.alloc(), STORE_BUFFERING.as_bytes())?;
+    let plan = plan(rt.alloc(), &test)?;
+    for held in [(0, 0b1110), (1, 0b1101), (2, 0b1011), (3, 0b0111)] {
+        let gate = Holding::new(held.0, held.1);
+        let quick = quick(&rt, rt.alloc(), &plan, 1, &gate, vec![in rt.alloc(); 0, 1]?)?;
+        assert!(rt; quick.met.is_none());
+        assert!(rt; quick.unmet.is_some());
+        assert!(rt; gate.let_all_in(0b1111), "held {}", held.0);
+    }
+    Ok(())
+}
+
+#[test]
+fn gate_holds_one_of_three(rt: HostRuntime) -> Result<(), Fail> {
+    let test = read(rt.alloc(), LOAD_BUFFERING.as_bytes())?;
+    let plan = plan(rt.alloc(), &test)?;
+    let gate = Holding::new(0, 0b10);
+    let quick = quick(
+        &rt,
+        rt.alloc(),
+        &plan,
+        1,
+        &gate,
+        vec![in rt.alloc(); 0, 1, 2]?,
+    )?;
+    let (Some(met), Some(unmet)) = (quick.met, quick.unmet) else {
+        panic!(rt; "each class has an outcome")
+    };
+    assert_eq!(rt; met.choice, 3);
+    assert_eq!(rt; met.order.as_slice(), [0, 1, 2, 3, 4, 5].as_slice());
+    assert_eq!(rt; unmet.choice, 8);
+    assert_eq!(rt; unmet.order.as_slice(), [0, 1, 2, 3].as_slice());
+    assert!(rt; gate.let_all_in(0b1_1111_1111));
+    Ok(())
+}
