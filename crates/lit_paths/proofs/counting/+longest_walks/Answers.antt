@@ -1,7 +1,7 @@
 use Rattle.std.proofs.Common.{arith, ap, ◌∙◌}
 use Rattle.lit_read.specs.Litmus.{statement_of, statements_of}
+use Rattle.lit_read.proofs.TreeViews.{if_views}
 use Rattle.lit_paths.specs.Planning.Walks.{many_accesses, longest, statement_longest}
-use Rattle.lit_paths.proofs.Parts.{if_is}
 use Rattle.lit_paths.proofs.Counts.{measured_more, measured_end}
 use Rattle.lit_paths.proofs.counting.+longest_walks.Goals as goal
 
@@ -20,7 +20,7 @@ longest_walk-returns t c = measured_end many_accesses c.args.body.now c.loop-sta
 
 pub longest_statement_walk-returns-in-If : goal.longest_statement_walk-returns-in-If
 longest_statement_walk-returns-in-If t c =
-    let same = ap statement_of c.in-If.is ∙ if_is c.in-If.reg c.in-If.equal c.in-If.value c.in-If.body c.in-If.other in
+    let same = ap statement_of c.in-If.is ∙ if_views c.in-If.reg c.in-If.equal c.in-If.value c.in-If.body c.in-If.other in
     omega (
       arith,
       ap statement_longest same,

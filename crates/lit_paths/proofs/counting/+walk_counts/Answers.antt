@@ -1,8 +1,8 @@
 use Rattle.std.proofs.Common.{arith, ap, ◌∙◌, length, mul-le-mul, ◌≤◌}
 use Rattle.lit_read.specs.Litmus.{statement_of, statements_of}
+use Rattle.lit_read.proofs.TreeViews.{if_views}
 use Rattle.lit_paths.specs.Path.{statement_walks, walks_of}
 use Rattle.lit_paths.specs.Planning.Walks.{many_walks}
-use Rattle.lit_paths.proofs.Parts.{if_is}
 use Rattle.lit_paths.proofs.Walks.{length-walks-if}
 use Rattle.lit_paths.proofs.Counts.{counted_none, counted_more, counted_end}
 use Rattle.lit_paths.proofs.counting.+walk_counts.Goals as goal
@@ -26,7 +26,7 @@ walk_count-returns t c = counted_end many_walks c.args.body.now c.loop-statement
 
 pub statement_walk_count-returns-in-If : goal.statement_walk_count-returns-in-If
 statement_walk_count-returns-in-If t c =
-    let same = ap statement_of c.in-If.is ∙ if_is c.in-If.reg c.in-If.equal c.in-If.value c.in-If.body c.in-If.other in
+    let same = ap statement_of c.in-If.is ∙ if_views c.in-If.reg c.in-If.equal c.in-If.value c.in-If.body c.in-If.other in
     let both = ap (λ s. length (statement_walks s)) same ∙ length-walks-if c.in-If.reg c.in-If.equal c.in-If.value (statements_of c.in-If.body.items) (statements_of c.in-If.other.items) in
     omega (
       arith,

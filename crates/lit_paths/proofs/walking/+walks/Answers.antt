@@ -1,19 +1,19 @@
 use Rattle.std.proofs.Common.{arith, ap, sym, ◌∙◌, ◌-◌, length, not, subst, ℕ}
 use Rattle.std.proofs.lemmas.Result.{IfOk-weaker}
 use Rattle.lit_read.specs.Litmus.{statement_of, statements_of}
+use Rattle.lit_read.proofs.TreeViews.{if_views}
 use Rattle.lit_paths.specs.Path.{walks_of}
 use Rattle.lit_paths.specs.PathModel.{PathModel}
 use Rattle.lit_paths.specs.declared.limits.TheConstants.{COMBINATION_LIMIT}
 use Rattle.lit_paths.specs.Planning.PathSteps.{with_test, with_steps}
 use Rattle.lit_paths.specs.Planning.Walks.{AreSaid, longest, walk_at}
-use Rattle.lit_paths.proofs.Parts.{if_is}
 use Rattle.lit_paths.proofs.Stepping.{IsIf, if_known, said-then, said-else, walked-then, walked-else, here-on_way, on_way_more, AreSaid-left, size_of, size_of-item, size_of-parts}
 use Rattle.lit_paths.proofs.walking.+walks.Goals as goal
 
 pub meet-walk-requires : goal.meet-walk-requires
 meet-walk-requires t c =
     let known : IsIf (statement_of c.args.statement.now) c.in-If.reg c.in-If.equal c.in-If.value (statements_of c.in-If.body.items) (statements_of c.in-If.other.items) =
-    if_known _ _ _ _ _ _ (ap statement_of c.in-If.is ∙ if_is c.in-If.reg c.in-If.equal c.in-If.value c.in-If.body c.in-If.other) in
+    if_known _ _ _ _ _ _ (ap statement_of c.in-If.is ∙ if_views c.in-If.reg c.in-If.equal c.in-If.value c.in-If.body c.in-If.other) in
     let same = ap statements_of c.deref-then-number-first_else.ensures.value in
     let counted = ap statements_of c.deref.ensures.value in (
       omega (arith, size_of-parts _ _ _ _ _ _ known, ap size_of same),
@@ -32,7 +32,7 @@ meet-walk-requires t c =
 pub meet-walk-requires-else-number-first_else : goal.meet-walk-requires-else-number-first_else
 meet-walk-requires-else-number-first_else t c =
     let known : IsIf (statement_of c.args.statement.now) c.in-If.reg c.in-If.equal c.in-If.value (statements_of c.in-If.body.items) (statements_of c.in-If.other.items) =
-    if_known _ _ _ _ _ _ (ap statement_of c.in-If.is ∙ if_is c.in-If.reg c.in-If.equal c.in-If.value c.in-If.body c.in-If.other) in
+    if_known _ _ _ _ _ _ (ap statement_of c.in-If.is ∙ if_views c.in-If.reg c.in-If.equal c.in-If.value c.in-If.body c.in-If.other) in
     let same = ap statements_of c.deref-else-number-first_else.ensures.value in
     let counted = ap statements_of c.deref.ensures.value in (
       omega (arith, size_of-parts _ _ _ _ _ _ known, ap size_of same),
@@ -51,7 +51,7 @@ meet-walk-requires-else-number-first_else t c =
 pub meet-returns-in_ok-add_test-in-If-clause-walked : goal.meet-returns-in_ok-add_test-in-If-clause-walked
 meet-returns-in_ok-add_test-in-If-clause-walked t c =
     let known : IsIf (statement_of c.args.statement.now) c.in-If.reg c.in-If.equal c.in-If.value (statements_of c.in-If.body.items) (statements_of c.in-If.other.items) =
-    if_known _ _ _ _ _ _ (ap statement_of c.in-If.is ∙ if_is c.in-If.reg c.in-If.equal c.in-If.value c.in-If.body c.in-If.other) in
+    if_known _ _ _ _ _ _ (ap statement_of c.in-If.is ∙ if_views c.in-If.reg c.in-If.equal c.in-If.value c.in-If.body c.in-If.other) in
     let same = ap statements_of c.deref-then-number-first_else.ensures.value in
     let counted = ap statements_of c.deref.ensures.value in
     IfOk-weaker c.walk.result _ _
@@ -64,7 +64,7 @@ meet-returns-in_ok-add_test-in-If-clause-walked t c =
 pub meet-returns-in_ok-add_test-in-If-clause-short : goal.meet-returns-in_ok-add_test-in-If-clause-short
 meet-returns-in_ok-add_test-in-If-clause-short t c =
     let known : IsIf (statement_of c.args.statement.now) c.in-If.reg c.in-If.equal c.in-If.value (statements_of c.in-If.body.items) (statements_of c.in-If.other.items) =
-    if_known _ _ _ _ _ _ (ap statement_of c.in-If.is ∙ if_is c.in-If.reg c.in-If.equal c.in-If.value c.in-If.body c.in-If.other) in
+    if_known _ _ _ _ _ _ (ap statement_of c.in-If.is ∙ if_views c.in-If.reg c.in-If.equal c.in-If.value c.in-If.body c.in-If.other) in
     let same = ap statements_of c.deref-then-number-first_else.ensures.value in
     IfOk-weaker c.walk.result _ _
     (λ done short. omega (arith, short, known.long, ap longest same, ap (λ (path : PathModel). length path.events) c.in_ok-add_test-in-If.ensures))
@@ -73,7 +73,7 @@ meet-returns-in_ok-add_test-in-If-clause-short t c =
 pub meet-returns-in_ok-add_test-in-If-2-clause-walked : goal.meet-returns-in_ok-add_test-in-If-2-clause-walked
 meet-returns-in_ok-add_test-in-If-2-clause-walked t c =
     let known : IsIf (statement_of c.args.statement.now) c.in-If.reg c.in-If.equal c.in-If.value (statements_of c.in-If.body.items) (statements_of c.in-If.other.items) =
-    if_known _ _ _ _ _ _ (ap statement_of c.in-If.is ∙ if_is c.in-If.reg c.in-If.equal c.in-If.value c.in-If.body c.in-If.other) in
+    if_known _ _ _ _ _ _ (ap statement_of c.in-If.is ∙ if_views c.in-If.reg c.in-If.equal c.in-If.value c.in-If.body c.in-If.other) in
     let same = ap statements_of c.deref-else-number-first_else.ensures.value in
     let counted = ap statements_of c.deref.ensures.value in
     let left : ℕ = c.args.number - c.walk_count-first_else.result in
@@ -88,7 +88,7 @@ meet-returns-in_ok-add_test-in-If-2-clause-walked t c =
 pub meet-returns-in_ok-add_test-in-If-2-clause-short : goal.meet-returns-in_ok-add_test-in-If-2-clause-short
 meet-returns-in_ok-add_test-in-If-2-clause-short t c =
     let known : IsIf (statement_of c.args.statement.now) c.in-If.reg c.in-If.equal c.in-If.value (statements_of c.in-If.body.items) (statements_of c.in-If.other.items) =
-    if_known _ _ _ _ _ _ (ap statement_of c.in-If.is ∙ if_is c.in-If.reg c.in-If.equal c.in-If.value c.in-If.body c.in-If.other) in
+    if_known _ _ _ _ _ _ (ap statement_of c.in-If.is ∙ if_views c.in-If.reg c.in-If.equal c.in-If.value c.in-If.body c.in-If.other) in
     let same = ap statements_of c.deref-else-number-first_else.ensures.value in
     IfOk-weaker c.walk-else-number-first_else.result _ _
     (λ done short. omega (arith, short, known.long, ap longest same, ap (λ (path : PathModel). length path.events) c.in_ok-add_test-in-If-2.ensures))

@@ -3,8 +3,8 @@ use Rattle.std.specs.Prelude.{not, if◌then◌else◌, slice_index}
 use mathlib.Core.Bool.{beq}
 use Rattle.lit_read.specs.Litmus.{statement_of, statements_of}
 use Rattle.lit_read.specs.Syntax.{Statements}
+use Rattle.lit_read.proofs.TreeViews.{if_views}
 use Rattle.lit_paths.specs.Run.{compares}
-use Rattle.lit_paths.proofs.Parts.{if_is}
 use Rattle.lit_search.proofs.deciding.chosen_part.Goals as goal
 
 as_asked : (equal : Bool) (a b : ℕ) (chosen : Bool) → beq (a == b) equal ≡ chosen → compares equal a b ≡ chosen
@@ -26,7 +26,7 @@ returns-then-registers-from c = record {
   value = c.in-If.value;
   body = statements_of c.in-If.body.items;
   other = statements_of c.in-If.other.items;
-  is = ap statement_of c.in-If.is ∙ if_is c.in-If.reg c.in-If.equal c.in-If.value c.in-If.body c.in-If.other;
+  is = ap statement_of c.in-If.is ∙ if_views c.in-If.reg c.in-If.equal c.in-If.value c.in-If.body c.in-If.other;
   chosen = ap statements_of c.deref.ensures.value
       ∙ part (compares c.in-If.equal (slice_index c.args.registers.now c.in-If.reg) c.in-If.value) true (statements_of c.in-If.body.items) (statements_of c.in-If.other.items)
       (ap (λ (reg : ℕ). compares c.in-If.equal (slice_index c.args.registers.now reg) c.in-If.value) (sym c.from.ensures)
@@ -40,7 +40,7 @@ returns-else-registers-from c = record {
   value = c.in-If.value;
   body = statements_of c.in-If.body.items;
   other = statements_of c.in-If.other.items;
-  is = ap statement_of c.in-If.is ∙ if_is c.in-If.reg c.in-If.equal c.in-If.value c.in-If.body c.in-If.other;
+  is = ap statement_of c.in-If.is ∙ if_views c.in-If.reg c.in-If.equal c.in-If.value c.in-If.body c.in-If.other;
   chosen = ap statements_of c.deref-else-registers-from.ensures.value
       ∙ part (compares c.in-If.equal (slice_index c.args.registers.now c.in-If.reg) c.in-If.value) false (statements_of c.in-If.body.items) (statements_of c.in-If.other.items)
       (ap (λ (reg : ℕ). compares c.in-If.equal (slice_index c.args.registers.now reg) c.in-If.value) (sym c.from.ensures)
