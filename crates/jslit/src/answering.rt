@@ -23,8 +23,8 @@ use std::alloc::{AllocError, Global};
 use std::io::Write;
 use std::thread::Threads;
 
-/// How many pieces there are for each worker at the most.
-const PIECES_FOR_EACH: u64 = 64;
+/// How many pieces several workers draw at the most.
+const SHARED_PIECES: u64 = 1_024;
 
 /// How many choices a piece has: those asked for, or more where that would make too many pieces. One worker alone needs
 /// no cutting: a search is quickest in one piece.
@@ -33,9 +33,10 @@ fn cut_of(total: u64, options: Options) -> u64
     ensures some { 0 < result }
     ensures small { result ≤ CUT_LIMIT }
 {
-    let pieces = match options.workers {
-        1 => 1,
-        workers => workers as u64 * PIECES_FOR_EACH,
+    let pieces = if options.workers == 1 {
+        1
+    } else {
+        SHARED_PIECES
     };
     options.cut.max(total.div_ceil(pieces))
 }

@@ -19,8 +19,8 @@ use std::thread::Threads;
 pub struct Options {
     /// How many workers search: 1 to 16.
     pub workers: usize,
-    /// How many choices a piece of the work has at the least: 1 to 2^48. There are at most 64 pieces for each worker, and
-    /// one for a worker alone.
+    /// How many choices a piece of the work has at the least: 1 to 2^48. There are at most 1,024 pieces, and one for a
+    /// worker alone.
     pub cut: u64,
     /// Whether the report is the quick one: of each class of outcomes the first choice alone.
     pub quick: bool,

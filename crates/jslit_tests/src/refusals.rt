@@ -2,7 +2,11 @@
 
 use super::calls::{prints, writes};
 use super::reports::Reported;
+use std::alloc::AllocGlobal;
+use std::process::Abort;
+use std::rt::Files;
 use std::test::Fail;
+use std::thread::Threads;
 
 /// In the order of the faults' numbers.
 const REFUSALS: [Reported; 20] = [
@@ -140,37 +144,32 @@ fn byte_above_ascii(rt: HostRuntime) -> Result<(), Fail> {
     prints(&rt, text, b"refused 2 not_ascii line 4\n", 1)
 }
 
-#[test]
-fn thirteen_accesses(rt: HostRuntime) -> Result<(), Fail> {
-    let mut text = Vec::from_slice(rt.alloc(), b"test t\nbytes 1\nagent A\n")?;
-    for _ in 0..13 {
-        text.extend_from_slice(b"r0 = U8[0]\n")?;
+/// That a text, which has a line again and again, is refused with this line.
+fn is_refused(
+    rt: &(impl Threads + Sync + Files + Abort + AllocGlobal),
+    beginning: &str,
+    line: &str,
+    count: usize,
+    printed: &str,
+) -> Result<(), Fail> {
+    let mut text = Vec::from_slice(rt.alloc(), beginning.as_bytes())?;
+    for _ in 0..count {
+        text.extend_from_slice(line.as_bytes())?;
     }
     text.extend_from_slice(b"check A.r0 == 0\n")?;
-    writes(&rt, &text, b"refused 14 too_many_events\n")?;
-    prints(&rt, &text, b"refused 14 too_many_events\n", 1)
+    writes(rt, &text, printed.as_bytes())?;
+    prints(rt, &text, printed.as_bytes(), 1)
 }
 
 #[test]
-fn thirteen_branches(rt: HostRuntime) -> Result<(), Fail> {
-    let mut text = Vec::from_slice(rt.alloc(), b"test t\nbytes 1\nagent A\nr0 = U8[0]\n")?;
-    for _ in 0..13 {
-        text.extend_from_slice(b"if r0 == 0 {\n}\n")?;
-    }
-    text.extend_from_slice(b"check A.r0 == 0\n")?;
-    writes(&rt, &text, b"refused 13 too_many_paths\n")?;
-    prints(&rt, &text, b"refused 13 too_many_paths\n", 1)
-}
-
-#[test]
-fn too_many_choices(rt: HostRuntime) -> Result<(), Fail> {
-    let mut text = Vec::from_slice(
-        rt.alloc(),
-        b"test t\nbytes 4\nagent A\nU32[0] = 1\nU32[0] = 2\n",
-    )?;
-    for _ in 0..10 {
-        text.extend_from_slice(b"r0 = U32[0]\n")?;
-    }
-    text.extend_from_slice(b"check A.r0 == 0\n")?;
-    prints(&rt, &text, b"refused 15 too_many_choices\n", 1)
+fn too_much(rt: HostRuntime) -> Result<(), Fail> {
+    let beginning = "test t\nbytes 1\nagent A\n";
+    let printed = "refused 14 too_many_events\n";
+    is_refused(&rt, beginning, "r0 = U8[0]\n", 13, printed)?;
+    let beginning = "test t\nbytes 1\nagent A\nr0 = U8[0]\n";
+    let printed = "refused 13 too_many_paths\n";
+    is_refused(&rt, beginning, "if r0 == 0 {\n}\n", 13, printed)?;
+    let beginning = "test t\nbytes 4\nagent A\nU32[0] = 1\nU32[0] = 2\n";
+    let printed = "refused 15 too_many_choices\n";
+    is_refused(&rt, beginning, "r0 = U32[0]\n", 10, printed)
 }

@@ -1,73 +1,70 @@
 //! The candidates of each byte read, and the numbers of the choices that they lead to.
 
 use crate::texts::{BOTH_EXCHANGE_FOR_ONE, LOAD_BUFFERING, TYPED_READ};
-use lit_paths::{Combination, plan};
+use lit_paths::plan;
 use lit_read::read;
+use std::alloc::AllocGlobal;
 use std::process::Abort;
 use std::test::Fail;
 
-/// That a byte read has these candidates, each of which leads to so many choices.
-fn assert_read(
-    rt: &impl Abort,
-    combination: &Combination<'_>,
-    place: usize,
-    candidates: &[u8],
-    ways: u64,
-) {
-    assert!(rt; place < combination.byte_reads().len());
-    assert!(rt; combination.candidates(place) == candidates);
-    assert_eq!(rt; combination.ways_after(place), ways);
-}
+/// The byte read of a combination at a place: its candidates, and how many choices each of them leads to.
+type Row = (usize, usize, &'static [u8], u64);
 
-#[test]
-fn load_buffering_reads(rt: HostRuntime) -> Result<(), Fail> {
-    let test = read(rt.alloc(), LOAD_BUFFERING.as_bytes())?;
+/// That a test has so many combinations, and these byte reads.
+fn assert_reads(
+    rt: &(impl Abort + AllocGlobal),
+    text: &str,
+    combinations: usize,
+    rows: &[Row],
+) -> Result<(), Fail> {
+    let test = read(rt.alloc(), text.as_bytes())?;
     let plan = plan(rt.alloc(), &test)?;
-    assert_eq!(rt; plan.combinations(), 4);
-    let stored = plan.enter(0);
-    assert_read(&rt, &stored, 0, &[0, 5], 2);
-    assert_read(&rt, &stored, 1, &[1, 3], 1);
-    let first = plan.enter(1);
-    assert_read(&rt, &first, 0, &[0], 2);
-    assert_read(&rt, &first, 1, &[1, 3], 1);
-    let second = plan.enter(2);
-    assert_read(&rt, &second, 0, &[0, 4], 1);
-    assert_read(&rt, &second, 1, &[1], 1);
-    let skipped = plan.enter(3);
-    assert_read(&rt, &skipped, 0, &[0], 1);
-    assert_read(&rt, &skipped, 1, &[1], 1);
+    assert_eq!(rt; plan.combinations(), combinations);
+    for (number, place, candidates, ways) in rows {
+        assert!(rt; *number < combinations);
+        let combination = plan.enter(*number);
+        assert!(rt; *place < combination.byte_reads().len());
+        assert!(rt; combination.candidates(*place) == *candidates);
+        assert_eq!(rt; combination.ways_after(*place), *ways);
+    }
     Ok(())
 }
 
+const LOAD_BUFFERING_READS: [Row; 8] = [
+    (0, 0, &[0, 5], 2),
+    (0, 1, &[1, 3], 1),
+    (1, 0, &[0], 2),
+    (1, 1, &[1, 3], 1),
+    (2, 0, &[0, 4], 1),
+    (2, 1, &[1], 1),
+    (3, 0, &[0], 1),
+    (3, 1, &[1], 1),
+];
+
+const EXCHANGES_READS: [Row; 8] = [
+    (0, 0, &[0, 2], 2),
+    (0, 1, &[0, 1], 1),
+    (1, 0, &[0], 2),
+    (1, 1, &[0, 1], 1),
+    (2, 0, &[0, 2], 1),
+    (2, 1, &[0], 1),
+    (3, 0, &[0], 1),
+    (3, 1, &[0], 1),
+];
+
 #[test]
-fn exchanges_reads(rt: HostRuntime) -> Result<(), Fail> {
-    let test = read(rt.alloc(), BOTH_EXCHANGE_FOR_ONE.as_bytes())?;
-    let plan = plan(rt.alloc(), &test)?;
-    assert_eq!(rt; plan.combinations(), 4);
-    let both = plan.enter(0);
-    assert_read(&rt, &both, 0, &[0, 2], 2);
-    assert_read(&rt, &both, 1, &[0, 1], 1);
-    let first = plan.enter(1);
-    assert_read(&rt, &first, 0, &[0], 2);
-    assert_read(&rt, &first, 1, &[0, 1], 1);
-    let second = plan.enter(2);
-    assert_read(&rt, &second, 0, &[0, 2], 1);
-    assert_read(&rt, &second, 1, &[0], 1);
-    let neither = plan.enter(3);
-    assert_read(&rt, &neither, 0, &[0], 1);
-    assert_read(&rt, &neither, 1, &[0], 1);
-    Ok(())
+fn candidates_with_their_choices(rt: HostRuntime) -> Result<(), Fail> {
+    assert_reads(&rt, LOAD_BUFFERING, 4, &LOAD_BUFFERING_READS)?;
+    assert_reads(&rt, BOTH_EXCHANGE_FOR_ONE, 4, &EXCHANGES_READS)?;
+    let typed: [Row; 2] = [(0, 0, &[0, 2, 3], 3), (0, 1, &[1, 2, 3], 1)];
+    assert_reads(&rt, TYPED_READ, 1, &typed)
 }
 
 #[test]
 fn choices_that_begin_with_a_source(rt: HostRuntime) -> Result<(), Fail> {
     let test = read(rt.alloc(), TYPED_READ.as_bytes())?;
     let plan = plan(rt.alloc(), &test)?;
-    assert!(rt; plan.combinations() == 1 && plan.total() == 9);
-    let combination = plan.enter(0);
-    assert_read(&rt, &combination, 0, &[0, 2, 3], 3);
-    assert_read(&rt, &combination, 1, &[1, 2, 3], 1);
-    assert_eq!(rt; combination.first(), 0);
+    assert_eq!(rt; plan.total(), 9);
     for n in 0..9 {
         let sources = plan.sources(n);
         assert_eq!(rt; sources.as_slice().first() == Some(&2), 3 <= n && n < 6);
