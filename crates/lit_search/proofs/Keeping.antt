@@ -18,7 +18,8 @@ use Rattle.lit_search.specs.Searching.Shown.{IsNext, IsShown, NoneShow}
 use Rattle.lit_search.specs.Searching.Taking.{KeepsRange}
 use Rattle.lit_search.proofs.Entries.{cmp, differs}
 use Rattle.lit_search.proofs.MergedEntries.{IsMerge-merged}
-use Rattle.lit_search.proofs.Reports.{IsReport-merged, IsReport-one, IsReport-passed, IsReport-same, before_end, either_cases, in_other, in_some, not_below, same_test, within}
+use Rattle.lit_search.proofs.NumberSets.{before_end, either_cases, in_other, in_some, not_below, same_test, within}
+use Rattle.lit_search.proofs.Reports.{IsReport-merged, IsReport-one, IsReport-passed, IsReport-same}
 
 -- ---- an outcome is kept, or it is not
 kept_or_not : (outcome : List ℕ) (xs : List Entry) → HasOutcome (record { entries = xs }) outcome ⊎ ¬ HasOutcome (record { entries = xs }) outcome

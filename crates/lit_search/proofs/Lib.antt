@@ -10,6 +10,7 @@ pub mod PassingLemmas
 pub mod ExchangeLemmas
 pub mod StoodForLemmas
 pub mod NextLemmas
+pub mod NumberSets
 pub mod Entries
 pub mod MergedEntries
 pub mod Reports

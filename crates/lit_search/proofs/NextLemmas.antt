@@ -15,7 +15,7 @@ use Rattle.lit_rel.specs.Part.{PartModel}
 use Rattle.lit_search.specs.Searching.Shown.{NoneShow}
 use Rattle.lit_search.specs.Searching.Wanting.{AllKnownAfter}
 use Rattle.lit_search.proofs.PlaceLemmas.{passed_more, product_le}
-use Rattle.lit_search.proofs.Reports.{before_end, not_below, within}
+use Rattle.lit_search.proofs.NumberSets.{before_end, not_below, within}
 
 -- what was passed over, and what is passed over now
 pub passed_on : (t : Litmus) (Wanted : List ℕ → Type 0) (from low : ℕ) (s : Stand) (depth : ℕ) → NoneShow t Wanted (in_range from low) → low_at (first_places s depth) ≤ low

@@ -1,6 +1,6 @@
 -- Reports of sets of choices: of one choice, of more choices that show nothing new, and of two sets.
-use Rattle.std.proofs.Common.{◌≡◌, ◌⊎◌, inl, inr, ℕ, ◌+◌, ◌<◌, ◌≤◌, Bool, true, false, ◌&&◌, ◌||◌, ◌==◌, List, [], ◌∷◌, length, Some, refl, sym, ap, subst, ◌∙◌, arith}
-use Rattle.std.specs.Prelude.{IsTrue, IsFalse, nat_le, nat_lt, slice_get}
+use Rattle.std.proofs.Common.{◌≡◌, ◌⊎◌, inl, inr, ℕ, ◌+◌, ◌<◌, ◌≤◌, Bool, true, false, ◌==◌, List, [], ◌∷◌, length, Some, refl, sym, ap, subst, ◌∙◌, arith}
+use Rattle.std.specs.Prelude.{IsTrue, IsFalse, nat_lt, slice_get}
 use Rattle.std.specs.List.Sorted.{IsStrictlySortedBy}
 use Rattle.std.specs.Ordering.{is_gt}
 use Rattle.std.specs.declared.cmp.Ordering.{Ordering}
@@ -17,60 +17,8 @@ use Rattle.lit_search.specs.Report.{Entry, Report, Gives, HasLeastOrder, IsEntry
 use Rattle.lit_search.specs.Merge.{HasInEither, IsMerge}
 use Rattle.lit_search.specs.Searching.Examined.{IsExample}
 use Rattle.lit_search.specs.Searching.Outcomes.{HasOutcome}
+use Rattle.lit_search.proofs.NumberSets.{before_end, either_cases, in_other, in_some, not_below, within}
 use Rattle.lit_search.proofs.Entries.{AreRising, Stands, cmp, reversed, same_rising, stands_cases, stands_in_none}
-
--- ---- sets of numbers
-both : (a b : Bool) → IsTrue a → IsTrue b → IsTrue (a && b)
-both true true p q = refl
-both true false p q = q
-both false b p q = p
-
-first_of : (a b : Bool) → IsTrue (a && b) → IsTrue a
-first_of true b p = refl
-first_of false b p = p
-
-second_of : (a b : Bool) → IsTrue (a && b) → IsTrue b
-second_of true b p = p
-second_of false b p = absurd (let e = p in cc)
-
-pub in_some : (a b : Bool) → IsTrue a → IsTrue (a || b)
-in_some true b p = refl
-in_some false b p = absurd (let e = p in cc)
-
-pub in_other : (a b : Bool) → IsTrue b → IsTrue (a || b)
-in_other true b p = refl
-in_other false b p = p
-
-pub either_cases : (a b : Bool) → IsTrue (a || b) → IsTrue a ⊎ IsTrue b
-either_cases true b p = inl refl
-either_cases false b p = inr p
-
-test_le : (m n : ℕ) → m ≤ n → IsTrue (nat_le m n)
-test_le m n h = grind (arith, nat_tests)
-
-test_lt : (m n : ℕ) → m < n → IsTrue (nat_lt m n)
-test_lt m n h = grind (arith, nat_tests)
-
-le_test : (m n : ℕ) → IsTrue (nat_le m n) → m ≤ n
-le_test m n h = grind (arith, nat_tests)
-
-pub lt_test : (m n : ℕ) → IsTrue (nat_lt m n) → m < n
-lt_test m n h = grind (arith, nat_tests)
-
-pub within : (from to n : ℕ) → from ≤ n → n < to → IsTrue (in_range from to n)
-within from to n low high = both (nat_le from n) (nat_lt n to) (test_le from n low) (test_lt n to high)
-
-pub not_below : (from to n : ℕ) → IsTrue (in_range from to n) → from ≤ n
-not_below from to n h = le_test from n (first_of (nat_le from n) (nat_lt n to) h)
-
-pub before_end : (from to n : ℕ) → IsTrue (in_range from to n) → n < to
-before_end from to n h = lt_test n to (second_of (nat_le from n) (nat_lt n to) h)
-
--- two tests that imply each other
-pub same_test : (a b : Bool) → (IsTrue a → IsTrue b) → (IsTrue b → IsTrue a) → a ≡ b
-same_test true b f g = sym (f refl)
-same_test false true f g = absurd (let e = g refl in cc)
-same_test false false f g = refl
 
 -- ---- what a choice gives
 listed : (t : Litmus) (n : ℕ) (outcome : List ℕ) → Gives t n outcome → n < length (choices_of t)

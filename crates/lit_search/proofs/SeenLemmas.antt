@@ -11,7 +11,7 @@ use Rattle.lit_search.specs.Report.{Entry, Gives, Report, example_cmp, in_range,
 use Rattle.lit_search.specs.Searching.Merged.{lesser, merged, merged_from}
 use Rattle.lit_search.specs.Searching.Outcomes.{HasOutcome}
 use Rattle.lit_search.specs.Searching.Shown.{IsNext, NoneShow, ShowsNone}
-use Rattle.lit_search.proofs.Reports.{before_end, not_below, within}
+use Rattle.lit_search.proofs.NumberSets.{before_end, not_below, within}
 
 -- one of these entries has the outcome
 abbrev Has : List Entry → List ℕ → Type 0

@@ -41,7 +41,7 @@ use Rattle.lit_search.specs.Searching.StoodFor.{IsStoodFor}
 use Rattle.lit_search.proofs.ExchangeLemmas.{past_stays, same_list, same_lists, stand_in}
 use Rattle.lit_search.proofs.PassingLemmas.{at_numbers, completed, whole_stand}
 use Rattle.lit_search.proofs.PlaceLemmas.{length-sources, placed_take}
-use Rattle.lit_search.proofs.Reports.{within}
+use Rattle.lit_search.proofs.NumberSets.{within}
 use Rattle.lit_search.proofs.RunLemmas.{maps}
 
 -- ---- the order of choices

@@ -1,59 +1,18 @@
 -- The pieces of a cutting, and the numbers in several of them.
-use Rattle.std.proofs.Common.{◌≡◌, ℕ, ◌+◌, ◌*◌, ◌/◌, ◌<◌, ◌≤◌, Bool, true, false, ◌||◌, ◌&&◌, List, [], ◌∷◌, ◌++◌, min, refl, sym, ap, subst, ◌∙◌, arith}
-use Rattle.std.specs.Prelude.{IsTrue, nat_le, nat_lt, Contains}
+use Rattle.std.proofs.Common.{◌≡◌, ℕ, ◌+◌, ◌*◌, ◌/◌, ◌<◌, ◌≤◌, Bool, true, false, ◌||◌, List, [], ◌∷◌, ◌++◌, min, refl, sym, ap, subst, ◌∙◌, arith}
+use Rattle.std.specs.Prelude.{IsTrue, Contains}
 use Rattle.std.specs.List.{list_any}
-use Rattle.std.proofs.lemmas.Bool.Decides.{nat_tests}
 use Rattle.std.proofs.lemmas.Grind.{div_ceil_times}
 use Rattle.std.proofs.lemmas.List.Folds.{list_any-append, list_any_at}
 use Rattle.std.proofs.Math.Nat.{div-mul-le_self, div-lt_iff_lt-mul, mul-le-mul_right}
 use mathlib.Core.Path.{fun_ext}
 use Rattle.lit_search.specs.Report.{in_range, in_either}
+use Rattle.lit_search.proofs.NumberSets.{before_end, same_test, within}
 use Rattle.lit_share.specs.Pieces.{pieces_of, piece_start, piece_end, in_piece, in_pieces}
-
--- ---- tests
-both : (a b : Bool) → IsTrue a → IsTrue b → IsTrue (a && b)
-both true true p q = refl
-both true false p q = q
-both false b p q = p
-
-second_of : (a b : Bool) → IsTrue (a && b) → IsTrue b
-second_of true b p = p
-second_of false b p = absurd (let e = p in cc)
-
-first_of : (a b : Bool) → IsTrue (a && b) → IsTrue a
-first_of true b p = refl
-first_of false b p = p
-
-test_le : (m n : ℕ) → m ≤ n → IsTrue (nat_le m n)
-test_le m n h = grind (arith, nat_tests)
-
-test_lt : (m n : ℕ) → m < n → IsTrue (nat_lt m n)
-test_lt m n h = grind (arith, nat_tests)
-
-le_test : (m n : ℕ) → IsTrue (nat_le m n) → m ≤ n
-le_test m n h = grind (arith, nat_tests)
-
-lt_test : (m n : ℕ) → IsTrue (nat_lt m n) → m < n
-lt_test m n h = grind (arith, nat_tests)
-
-same_test : (a b : Bool) → (IsTrue a → IsTrue b) → (IsTrue b → IsTrue a) → a ≡ b
-same_test true b f g = sym (f refl)
-same_test false true f g = absurd (let e = g refl in cc)
-same_test false false f g = refl
 
 or_none : (a : Bool) → (a || false) ≡ a
 or_none true = refl
 or_none false = refl
-
--- ---- ranges
-pub within : (from to n : ℕ) → from ≤ n → n < to → IsTrue (in_range from to n)
-within from to n low high = both (nat_le from n) (nat_lt n to) (test_le from n low) (test_lt n to high)
-
-pub not_below : (from to n : ℕ) → IsTrue (in_range from to n) → from ≤ n
-not_below from to n h = le_test from n (first_of (nat_le from n) (nat_lt n to) h)
-
-pub before_end : (from to n : ℕ) → IsTrue (in_range from to n) → n < to
-before_end from to n h = lt_test n to (second_of (nat_le from n) (nat_lt n to) h)
 
 -- ---- pieces
 -- the piece of a number

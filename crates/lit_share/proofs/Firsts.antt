@@ -12,11 +12,12 @@ use Rattle.lit_paths.specs.Execution.{execution_choice}
 use Rattle.lit_search.specs.declared.class.Class.{Class}
 use Rattle.lit_search.specs.Class.{GivesClass, HasNoneOf, IsFirstOf}
 use Rattle.lit_search.specs.Report.{Entry, Report, Gives, HasLeastOrder, IsReport, entry_at, in_range}
+use Rattle.lit_search.proofs.NumberSets.{before_end, not_below, within}
 use Rattle.lit_share.specs.Pieces.{pieces_of, in_piece, piece_start, piece_end}
 use Rattle.lit_share.specs.Hunted.{desk_class, IsHunted}
 use Rattle.lit_share.specs.Workers.{IsHuntedOut}
 use Rattle.lit_share.proofs.Ending.{any_of_all}
-use Rattle.lit_share.proofs.Cutting.{within, not_below, before_end, piece_at}
+use Rattle.lit_share.proofs.Cutting.{piece_at}
 
 -- ---- lists that stand one after another
 module _ {X : Type 0} (f : X → List ℕ) where
