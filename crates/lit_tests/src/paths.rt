@@ -6,24 +6,9 @@ use lit_read::read;
 use std::test::Fail;
 
 mod asked;
-mod branches;
+mod choices;
 mod numbers;
 mod refusals;
-
-#[test]
-fn store_buffering_choices(rt: HostRuntime) -> Result<(), Fail> {
-    let test = read(rt.alloc(), STORE_BUFFERING.as_bytes())?;
-    let plan = plan(rt.alloc(), &test)?;
-    assert_eq!(rt; plan.total(), 4);
-    assert_eq!(rt; plan.combinations(), 1);
-    for (n, expected) in [[1, 0], [1, 2], [4, 0], [4, 2]].iter().enumerate() {
-        assert!(rt; n < 4);
-        let sources = plan.sources(n as u64);
-        assert_eq!(rt; sources.as_slice(), expected.as_slice());
-        assert_eq!(rt; plan.combination(n as u64), 0);
-    }
-    Ok(())
-}
 
 #[test]
 fn store_buffering_events(rt: HostRuntime) -> Result<(), Fail> {
@@ -61,19 +46,6 @@ fn store_buffering_combination(rt: HostRuntime) -> Result<(), Fail> {
 }
 
 #[test]
-fn store_buffering_path(rt: HostRuntime) -> Result<(), Fail> {
-    let test = read(rt.alloc(), STORE_BUFFERING.as_bytes())?;
-    let plan = plan(rt.alloc(), &test)?;
-    assert_eq!(rt; plan.combinations(), 1);
-    assert!(rt; plan.test().agents() == 2);
-    let path = plan.path(0, 1);
-    assert_eq!(rt; path.events().len(), 2);
-    assert!(rt; path.tests().is_empty());
-    assert!(rt; path.last(0) == Some(1) && path.last(1).is_none());
-    Ok(())
-}
-
-#[test]
 fn store_buffering_candidates(rt: HostRuntime) -> Result<(), Fail> {
     let test = read(rt.alloc(), STORE_BUFFERING.as_bytes())?;
     let plan = plan(rt.alloc(), &test)?;
@@ -94,34 +66,6 @@ fn store_buffering_condition(rt: HostRuntime) -> Result<(), Fail> {
     assert!(rt; names[0] == (0, 0) && names[1] == (1, 0));
     assert!(rt; plan.meets(&[0, 0]));
     assert!(rt; !plan.meets(&[0, 1]));
-    Ok(())
-}
-
-#[test]
-fn choices_are_counted(rt: HostRuntime) -> Result<(), Fail> {
-    let text = b"test many
-bytes 1
-agent A
-U8[0] = 1
-U8[0] = 2
-U8[0] = 3
-U8[0] = 4
-agent B
-r0 = U8[0]
-r1 = U8[0]
-r2 = U8[0]
-r3 = U8[0]
-r4 = U8[0]
-r5 = U8[0]
-r6 = U8[0]
-r7 = U8[0]
-check B.r0 == 4
-";
-    let test = read(rt.alloc(), text)?;
-    let plan = plan(rt.alloc(), &test)?;
-    assert_eq!(rt; plan.total(), 390_625);
-    let last = plan.sources(390_624);
-    assert_eq!(rt; last.as_slice(), [4; 8].as_slice());
     Ok(())
 }
 

@@ -7,7 +7,7 @@ use crate::texts::{
 use lit_paths::plan;
 use lit_read::read;
 use lit_search::{Class, Collector, Found, first_in, merge, search_range};
-use std::alloc::{AllocError, Global};
+use std::alloc::{AllocError, AllocGlobal, Global};
 use std::process::Abort;
 use std::test::Fail;
 
@@ -143,44 +143,52 @@ fn every_range_has_its_report(rt: HostRuntime) -> Result<(), Fail> {
     assert_ranges(&rt, rt.alloc(), OWN_STORES, 9, &own_stores)
 }
 
-#[test]
-fn load_buffering_first_choices(rt: HostRuntime) -> Result<(), Fail> {
-    let test = read(rt.alloc(), LOAD_BUFFERING.as_bytes())?;
+/// A class, the first number of a range and the one after its last, and the first choice of the class there.
+type First = (Class, u64, u64, Option<u64>);
+
+/// That these first choices are found.
+fn assert_firsts(
+    rt: &(impl Abort + AllocGlobal),
+    text: &str,
+    total: u64,
+    rows: &[First],
+) -> Result<(), Fail> {
+    let test = read(rt.alloc(), text.as_bytes())?;
     let plan = plan(rt.alloc(), &test)?;
-    assert_eq!(rt; plan.total(), 9);
-    assert_eq!(rt; first_in(&plan, Class::Met, 0, 9), Some(3));
-    assert_eq!(rt; first_in(&plan, Class::Unmet, 0, 9), Some(8));
-    assert_eq!(rt; first_in(&plan, Class::Met, 0, 3), None);
-    assert_eq!(rt; first_in(&plan, Class::Met, 2, 5), Some(3));
-    assert_eq!(rt; first_in(&plan, Class::Unmet, 2, 5), None);
-    assert_eq!(rt; first_in(&plan, Class::Met, 5, 9), None);
-    assert_eq!(rt; first_in(&plan, Class::Unmet, 5, 9), Some(8));
+    assert_eq!(rt; plan.total(), total);
+    for (class, from, to, wanted) in rows {
+        assert!(rt; *from <= *to && *to <= total);
+        assert!(rt; first_in(&plan, *class, *from, *to) == *wanted);
+    }
     Ok(())
 }
 
-#[test]
-fn first_choices_in_short_ranges(rt: HostRuntime) -> Result<(), Fail> {
-    let test = read(rt.alloc(), LOAD_BUFFERING.as_bytes())?;
-    let plan = plan(rt.alloc(), &test)?;
-    assert_eq!(rt; plan.total(), 9);
-    assert_eq!(rt; first_in(&plan, Class::Met, 3, 3), None);
-    assert_eq!(rt; first_in(&plan, Class::Unmet, 9, 9), None);
-    assert_eq!(rt; first_in(&plan, Class::Met, 3, 4), Some(3));
-    assert_eq!(rt; first_in(&plan, Class::Unmet, 3, 4), None);
-    assert_eq!(rt; first_in(&plan, Class::Unmet, 8, 9), Some(8));
-    Ok(())
-}
+const LOAD_BUFFERING_FIRSTS: [First; 12] = [
+    (Class::Met, 0, 9, Some(3)),
+    (Class::Unmet, 0, 9, Some(8)),
+    (Class::Met, 0, 3, None),
+    (Class::Met, 2, 5, Some(3)),
+    (Class::Unmet, 2, 5, None),
+    (Class::Met, 5, 9, None),
+    (Class::Unmet, 5, 9, Some(8)),
+    (Class::Met, 3, 3, None),
+    (Class::Unmet, 9, 9, None),
+    (Class::Met, 3, 4, Some(3)),
+    (Class::Unmet, 3, 4, None),
+    (Class::Unmet, 8, 9, Some(8)),
+];
+
+const LOAD_BUFFERING_ATOMIC_FIRSTS: [First; 4] = [
+    (Class::Met, 0, 9, None),
+    (Class::Unmet, 0, 9, Some(8)),
+    (Class::Met, 2, 5, None),
+    (Class::Unmet, 5, 8, None),
+];
 
 #[test]
-fn load_buffering_with_atomics_first_choices(rt: HostRuntime) -> Result<(), Fail> {
-    let test = read(rt.alloc(), LOAD_BUFFERING_ATOMIC.as_bytes())?;
-    let plan = plan(rt.alloc(), &test)?;
-    assert_eq!(rt; plan.total(), 9);
-    assert_eq!(rt; first_in(&plan, Class::Met, 0, 9), None);
-    assert_eq!(rt; first_in(&plan, Class::Unmet, 0, 9), Some(8));
-    assert_eq!(rt; first_in(&plan, Class::Met, 2, 5), None);
-    assert_eq!(rt; first_in(&plan, Class::Unmet, 5, 8), None);
-    Ok(())
+fn first_choices(rt: HostRuntime) -> Result<(), Fail> {
+    assert_firsts(&rt, LOAD_BUFFERING, 9, &LOAD_BUFFERING_FIRSTS)?;
+    assert_firsts(&rt, LOAD_BUFFERING_ATOMIC, 9, &LOAD_BUFFERING_ATOMIC_FIRSTS)
 }
 
 #[test]

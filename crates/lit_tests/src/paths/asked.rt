@@ -1,19 +1,20 @@
 //! What paths ask, and which reads their registers hold.
 
-use crate::texts::BOTH_EXCHANGE_FOR_ONE;
+use crate::texts::{BOTH_EXCHANGE_FOR_ONE, LOAD_BUFFERING, STORE_BUFFERING};
 use lit_paths::{Tested, plan};
 use lit_read::read;
 use std::alloc::AllocGlobal;
 use std::process::Abort;
 use std::test::Fail;
 
-/// That a test has so many combinations, that the path of an agent in one of them, by the numbers of both, asks this and
-/// no more, and that each of these registers holds the read at this place at its end.
+/// That a test has so many combinations, that the path of an agent in one of them, by the numbers of both, has so many
+/// events and asks this and no more, and that each of these registers holds the read at this place at its end.
 fn assert_asks(
     rt: &(impl Abort + AllocGlobal),
     text: &str,
     combinations: usize,
     (combination, agent): (usize, usize),
+    events: usize,
     asked: &[Tested],
     held: &[(u8, Option<u8>)],
 ) -> Result<(), Fail> {
@@ -22,6 +23,7 @@ fn assert_asks(
     assert_eq!(rt; plan.combinations(), combinations);
     assert!(rt; combination < combinations && agent < plan.test().agents());
     let path = plan.path(combination, agent);
+    assert_eq!(rt; path.events().len(), events);
     assert!(rt; path.tests() == asked);
     for (register, place) in held {
         assert!(rt; *register < 8 && path.last(*register) == *place);
@@ -39,6 +41,21 @@ fn of_place(place: u8, equal: bool, value: u32) -> Tested {
 }
 
 #[test]
+fn no_branch(rt: HostRuntime) -> Result<(), Fail> {
+    let held = [(0, Some(1)), (1, None)];
+    assert_asks(&rt, STORE_BUFFERING, 1, (0, 1), 2, &[], &held)
+}
+
+#[test]
+fn one_branch(rt: HostRuntime) -> Result<(), Fail> {
+    let held = [(0, Some(0)), (1, None)];
+    let stores = [of_place(0, true, 1)];
+    assert_asks(&rt, LOAD_BUFFERING, 4, (1, 0), 2, &stores, &held)?;
+    let leaves = [of_place(0, false, 1)];
+    assert_asks(&rt, LOAD_BUFFERING, 4, (1, 1), 1, &leaves, &held)
+}
+
+#[test]
 fn two_ifs_of_one_register(rt: HostRuntime) -> Result<(), Fail> {
     let text = "test two
 bytes 1
@@ -51,9 +68,9 @@ if r0 == 2 {
 check A.r0 == 0
 ";
     let both = [of_place(0, true, 1), of_place(0, true, 2)];
-    assert_asks(&rt, text, 4, (0, 0), &both, &[(0, Some(0)), (1, None)])?;
+    assert_asks(&rt, text, 4, (0, 0), 1, &both, &[(0, Some(0)), (1, None)])?;
     let second = [of_place(0, false, 1), of_place(0, true, 2)];
-    assert_asks(&rt, text, 4, (2, 0), &second, &[])
+    assert_asks(&rt, text, 4, (2, 0), 1, &second, &[])
 }
 
 #[test]
@@ -66,8 +83,8 @@ r0 = Atomics.compareExchange(U8, 0, 0, 1)
 check A.r0 == 0
 ";
     let held = [(0, Some(1)), (1, Some(0))];
-    assert_asks(&rt, text, 2, (0, 0), &[of_place(1, true, 0)], &held)?;
-    assert_asks(&rt, text, 2, (1, 0), &[of_place(1, false, 0)], &held)
+    assert_asks(&rt, text, 2, (0, 0), 2, &[of_place(1, true, 0)], &held)?;
+    assert_asks(&rt, text, 2, (1, 0), 2, &[of_place(1, false, 0)], &held)
 }
 
 #[test]
@@ -83,7 +100,7 @@ if r0 == 1 {
 check A.r0 == 0
 ";
     let twice = [of_place(0, true, 1), of_place(0, true, 1)];
-    assert_asks(&rt, text, 4, (0, 0), &twice, &[])
+    assert_asks(&rt, text, 4, (0, 0), 1, &twice, &[])
 }
 
 #[test]
@@ -106,16 +123,16 @@ check A.r0 == 0
         value: 2,
     };
     let then_part = [of_place(0, true, 1), of_nothing];
-    assert_asks(&rt, text, 4, (0, 0), &then_part, &[(1, None)])?;
+    assert_asks(&rt, text, 4, (0, 0), 1, &then_part, &[(1, None)])?;
     let else_part = [of_place(0, false, 1), of_place(1, true, 2)];
-    assert_asks(&rt, text, 4, (3, 0), &else_part, &[(1, Some(1))])
+    assert_asks(&rt, text, 4, (3, 0), 2, &else_part, &[(1, Some(1))])
 }
 
 #[test]
 fn two_exchanges(rt: HostRuntime) -> Result<(), Fail> {
     let (text, held) = (BOTH_EXCHANGE_FOR_ONE, [(0, Some(0))]);
-    assert_asks(&rt, text, 4, (1, 0), &[of_place(0, true, 0)], &held)?;
-    assert_asks(&rt, text, 4, (1, 1), &[of_place(0, false, 0)], &held)
+    assert_asks(&rt, text, 4, (1, 0), 1, &[of_place(0, true, 0)], &held)?;
+    assert_asks(&rt, text, 4, (1, 1), 1, &[of_place(0, false, 0)], &held)
 }
 
 #[test]

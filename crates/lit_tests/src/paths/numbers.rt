@@ -1,4 +1,4 @@
-//! The candidates of each byte read, and the numbers of the choices that they lead to.
+//! The candidates of each byte read, and the numbers of the choices that they and a combination lead to.
 
 use crate::texts::{BOTH_EXCHANGE_FOR_ONE, LOAD_BUFFERING, TYPED_READ};
 use lit_paths::plan;
@@ -61,13 +61,15 @@ fn candidates_with_their_choices(rt: HostRuntime) -> Result<(), Fail> {
 }
 
 #[test]
-fn choices_that_begin_with_a_source(rt: HostRuntime) -> Result<(), Fail> {
-    let test = read(rt.alloc(), TYPED_READ.as_bytes())?;
+fn load_buffering_combinations(rt: HostRuntime) -> Result<(), Fail> {
+    let test = read(rt.alloc(), LOAD_BUFFERING.as_bytes())?;
     let plan = plan(rt.alloc(), &test)?;
-    assert_eq!(rt; plan.total(), 9);
-    for n in 0..9 {
-        let sources = plan.sources(n);
-        assert_eq!(rt; sources.as_slice().first() == Some(&2), 3 <= n && n < 6);
+    assert_eq!(rt; plan.combinations(), 4);
+    for (c, ends) in [(0, 4), (4, 6), (6, 8), (8, 9)].iter().enumerate() {
+        assert!(rt; c < 4);
+        let combination = plan.enter(c);
+        assert_eq!(rt; combination.first(), ends.0);
+        assert_eq!(rt; combination.end(), ends.1);
     }
     Ok(())
 }

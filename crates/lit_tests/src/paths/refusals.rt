@@ -2,7 +2,8 @@
 
 use lit_paths::{PlanFault, plan};
 use lit_read::read;
-use std::alloc::{AllocError, Global};
+use std::alloc::{AllocError, AllocGlobal, Global};
+use std::process::Abort;
 use std::test::Fail;
 
 /// A text with a beginning, a line repeated so often, and an end.
@@ -22,86 +23,74 @@ fn repeated(
     Ok(text)
 }
 
+/// That a text's test has so many combinations and choices, or is refused so.
+fn assert_planned(
+    rt: &(impl Abort + AllocGlobal),
+    text: &[u8],
+    wanted: Result<(usize, u64), PlanFault>,
+) -> Result<(), Fail> {
+    let test = read(rt.alloc(), text)?;
+    match (plan(rt.alloc(), &test), wanted) {
+        (Ok(plan), Ok((combinations, total))) => {
+            assert_eq!(rt; plan.combinations(), combinations);
+            assert_eq!(rt; plan.total(), total);
+        }
+        (Err(fault), Err(wanted)) => assert!(rt; fault == wanted),
+        _ => panic!(rt; "a plan or a fault"),
+    }
+    Ok(())
+}
+
 #[test]
 fn many_choices(rt: HostRuntime) -> Result<(), Fail> {
+    let alloc = rt.alloc();
     let head = b"test many\nbytes 4\nagent A\nU32[0] = 1\nU32[0] = 2\nU32[0] = 3\nagent B\n";
-    let line = b"r0 = U32[0]\n";
-    let check = b"check B.r0 == 0\n";
-    let most = read(
-        rt.alloc(),
-        repeated(rt.alloc(), head, 6, line, check)?.as_slice(),
-    )?;
-    let planned = plan(rt.alloc(), &most)?;
-    assert_eq!(rt; planned.total(), 281_474_976_710_656);
+    let (line, check) = (b"r0 = U32[0]\n", b"check B.r0 == 0\n");
+    let most = repeated(alloc, head, 6, line, check)?;
+    assert_planned(&rt, &most, Ok((1, 281_474_976_710_656)))?;
     for count in [7, 9] {
-        let test = read(
-            rt.alloc(),
-            repeated(rt.alloc(), head, count, line, check)?.as_slice(),
-        )?;
-        let refused = plan(rt.alloc(), &test);
-        assert!(rt; matches!(refused, Err(PlanFault::TooManyChoices)));
+        let more = repeated(alloc, head, count, line, check)?;
+        assert_planned(&rt, &more, Err(PlanFault::TooManyChoices))?;
     }
     Ok(())
 }
 
 #[test]
 fn many_paths(rt: HostRuntime) -> Result<(), Fail> {
+    let alloc = rt.alloc();
     let head = b"test ifs\nbytes 1\nagent A\nr0 = U8[0]\n";
-    let line = b"if r0 == 0 {\n}\n";
-    let check = b"check A.r0 == 0\n";
-    let most = read(
-        rt.alloc(),
-        repeated(rt.alloc(), head, 12, line, check)?.as_slice(),
-    )?;
-    let planned = plan(rt.alloc(), &most)?;
-    assert_eq!(rt; planned.combinations(), 4_096);
-    assert_eq!(rt; planned.total(), 4_096);
+    let (line, check) = (b"if r0 == 0 {\n}\n", b"check A.r0 == 0\n");
+    let most = repeated(alloc, head, 12, line, check)?;
+    assert_planned(&rt, &most, Ok((4_096, 4_096)))?;
     for count in [13, 64] {
-        let test = read(
-            rt.alloc(),
-            repeated(rt.alloc(), head, count, line, check)?.as_slice(),
-        )?;
-        let refused = plan(rt.alloc(), &test);
-        assert!(rt; matches!(refused, Err(PlanFault::TooManyPaths)));
+        let more = repeated(alloc, head, count, line, check)?;
+        assert_planned(&rt, &more, Err(PlanFault::TooManyPaths))?;
     }
-    Ok(())
-}
-
-#[test]
-fn first_refusal_decides(rt: HostRuntime) -> Result<(), Fail> {
-    let start = b"test both\nbytes 4\nagent A\nr0 = U8[0]\n";
-    let ifs = repeated(rt.alloc(), start, 13, b"if r0 == 0 {\n}\n", b"")?;
-    let ifs = ifs.as_slice();
-    let line = b"r1 = U32[0]\n";
-    let check = b"check A.r0 == 0\n";
-    let events = read(
-        rt.alloc(),
-        repeated(rt.alloc(), ifs, 12, line, check)?.as_slice(),
-    )?;
-    let refused = plan(rt.alloc(), &events);
-    assert!(rt; matches!(refused, Err(PlanFault::TooManyEvents)));
-    let ifs = repeated(rt.alloc(), ifs, 3, b"U32[0] = 1\n", b"")?;
-    let paths = read(
-        rt.alloc(),
-        repeated(rt.alloc(), ifs.as_slice(), 7, line, check)?.as_slice(),
-    )?;
-    let refused = plan(rt.alloc(), &paths);
-    assert!(rt; matches!(refused, Err(PlanFault::TooManyPaths)));
     Ok(())
 }
 
 #[test]
 fn many_events(rt: HostRuntime) -> Result<(), Fail> {
     let head = b"test long\nbytes 1\nagent A\n";
-    let line = b"r0 = U8[0]\n";
-    let check = b"check A.r0 == 0\n";
+    let (line, check) = (b"r0 = U8[0]\n", b"check A.r0 == 0\n");
     for count in [13, 4_000] {
-        let test = read(
-            rt.alloc(),
-            repeated(rt.alloc(), head, count, line, check)?.as_slice(),
-        )?;
-        let refused = plan(rt.alloc(), &test);
-        assert!(rt; matches!(refused, Err(PlanFault::TooManyEvents)));
+        let more = repeated(rt.alloc(), head, count, line, check)?;
+        assert_planned(&rt, &more, Err(PlanFault::TooManyEvents))?;
     }
     Ok(())
+}
+
+/// Thirteen branches are too many paths. With twelve more loads there are too many events; with three stores and seven
+/// loads there would be too many choices.
+#[test]
+fn first_refusal_decides(rt: HostRuntime) -> Result<(), Fail> {
+    let alloc = rt.alloc();
+    let start = b"test both\nbytes 4\nagent A\nr0 = U8[0]\n";
+    let (line, check) = (b"r1 = U32[0]\n", b"check A.r0 == 0\n");
+    let ifs = repeated(alloc, start, 13, b"if r0 == 0 {\n}\n", b"")?;
+    let events = repeated(alloc, &ifs, 12, line, check)?;
+    assert_planned(&rt, &events, Err(PlanFault::TooManyEvents))?;
+    let stores = repeated(alloc, &ifs, 3, b"U32[0] = 1\n", b"")?;
+    let choices = repeated(alloc, &stores, 7, line, check)?;
+    assert_planned(&rt, &choices, Err(PlanFault::TooManyPaths))
 }
