@@ -2,6 +2,7 @@
 
 ghost use Rattle.std.specs.Prelude.{◌≡◌, ◌≢◌, ◌+◌, ◌≤◌, ◌<◌, ◌^◌, ◌-◌, ◌↔◌, IfErr, OnOk, IsErrOf};
 ghost use Rattle.lit_read.specs.declared.limits.TheConstants.{TEXT_LIMIT};
+ghost use Rattle.lit_share.specs.declared.limits.TheConstants.{CUT_LIMIT, WORKER_LIMIT};
 ghost use Rattle.jslit.specs.Answer.{IsFaultOn, HasReported, HasBegun};
 ghost use Rattle.jslit.specs.Counted.{device_of, failures_of};
 ghost use Rattle.jslit.specs.Devices.{OfToldText, ConsumesBeginning, ConsumesTold};
@@ -17,17 +18,17 @@ use std::thread::Threads;
 /// How the work is done, and which report is asked for. Neither the number of workers nor the cutting changes the answer.
 #[derive(Clone, Copy, Debug, PartialEq, Eq)]
 pub struct Options {
-    /// How many workers search: 1 to 16.
+    /// How many workers search: 1 to `WORKER_LIMIT` of `lit_share`, 16.
     pub workers: usize,
-    /// How many choices a piece of the work has at the least: 1 to 2^48. There are at most 1,024 pieces, and one for a
+    /// How many choices a piece of the work has at the least: 1 to `CUT_LIMIT` of `lit_share`, 2^48. There are at most 1,024 pieces, and one for a
     /// worker alone.
     pub cut: u64,
     /// Whether the report is the quick one: of each class of outcomes the first choice alone.
     pub quick: bool,
     ghost some_workers: { 0 < workers },
-    ghost few_workers: { workers ≤ 16 },
+    ghost few_workers: { workers ≤ WORKER_LIMIT },
     ghost some_cut: { 0 < cut },
-    ghost small_cut: { cut ≤ 2 ^ 48 },
+    ghost small_cut: { cut ≤ CUT_LIMIT },
 }
 
 /// Reads a litmus text, to the end of the input or to one byte more than a text may have, and writes the report on its

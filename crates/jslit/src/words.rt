@@ -1,11 +1,13 @@
 //! The words of the command line.
 
-ghost use Rattle.std.specs.Prelude.{◌≡◌, ◌^◌, [], false, IfOk, codes};
+ghost use Rattle.std.specs.Prelude.{◌≡◌, [], false, IfOk, codes};
 ghost use Rattle.jslit.specs.Steps.Command.{IsCommand, ReadsNumber};
+ghost use Rattle.lit_share.specs.declared.limits.TheConstants.{CUT_LIMIT as CUTS, WORKER_LIMIT as WORKERS};
 
 use crate::asked::Line;
 use crate::engine::Options;
 use clap::{Arg, ArgAction, Command, Error, value_parser};
+use lit_share::{CUT_LIMIT, WORKER_LIMIT};
 use std::alloc::{AllocError, Global};
 use std::convert::AsStr;
 
@@ -30,7 +32,7 @@ Example:
 
 /// The flag for the number of workers.
 fn workers_flag<'a>(alloc: Global) -> Arg<'a>
-    ensures reads { ReadsNumber result (codes "workers") 1 16 }
+    ensures reads { ReadsNumber result (codes "workers") 1 WORKERS }
     ensures ungrouped { result.groups.items ≡ [] }
     ensures local { result.global ≡ false }
 {
@@ -38,13 +40,13 @@ fn workers_flag<'a>(alloc: Global) -> Arg<'a>
         .long("workers")
         .value_name("N")
         .action(ArgAction::Set)
-        .value_parser(value_parser!(usize).range(1..=16))
+        .value_parser(value_parser!(usize).range(1..=WORKER_LIMIT as i64))
         .help("How many workers search, 1 to 16 [default: 1]")
 }
 
 /// The flag for the cutting.
 fn cut_flag<'a>(alloc: Global) -> Arg<'a>
-    ensures reads { ReadsNumber result (codes "cut") 1 (2 ^ 48) }
+    ensures reads { ReadsNumber result (codes "cut") 1 CUTS }
     ensures ungrouped { result.groups.items ≡ [] }
     ensures local { result.global ≡ false }
 {
@@ -52,7 +54,7 @@ fn cut_flag<'a>(alloc: Global) -> Arg<'a>
         .long("cut")
         .value_name("N")
         .action(ArgAction::Set)
-        .value_parser(value_parser!(u64).range(1..=281_474_976_710_656))
+        .value_parser(value_parser!(u64).range(1..=CUT_LIMIT as i64))
         .help("The fewest choices in a piece of the work, 1 to 281474976710656 [default: 4096]")
 }
 

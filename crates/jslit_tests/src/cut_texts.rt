@@ -140,7 +140,6 @@ fn at_a_limit(rt: HostRuntime) -> Result<(), Fail> {
     let alloc = rt.alloc();
     let long = "abcdefghijklmnopqrstuvwxyzabcdef";
     for (name, bytes, line) in [
-        ("t", "16", ""),
         (long, "1", ""),
         ("t", "4", "U16[0] = 65535"),
         ("t", "4", "U32[0] = 4294967295"),
@@ -152,12 +151,6 @@ fn at_a_limit(rt: HostRuntime) -> Result<(), Fail> {
         &rt,
         &text_of(alloc, longer, "1", "")?,
         b"refused 3 syntax line 1\n",
-        1,
-    )?;
-    prints(
-        &rt,
-        &text_of(alloc, "t", "17", "")?,
-        b"refused 5 block_size line 2\n",
         1,
     )?;
     prints(

@@ -1,10 +1,9 @@
 //! Independent reads of independent writes: the litmus texts with the longest reports.
 
 use super::reports::Reported;
-use lit_tests::texts;
 
 pub(super) const INDEPENDENT_READS: Reported = (
-    texts::INDEPENDENT_READS,
+    lit_texts::INDEPENDENT_READS,
     "test iriw
 outcome C.r0=0 C.r1=0 D.r0=0 D.r1=0
   from C.0 init[0]
@@ -102,7 +101,7 @@ verdict never
 );
 
 pub(super) const INDEPENDENT_READS_PLAIN: Reported = (
-    texts::INDEPENDENT_READS_PLAIN,
+    lit_texts::INDEPENDENT_READS_PLAIN,
     "test iriw
 outcome C.r0=0 C.r1=0 D.r0=0 D.r1=0
   from C.0 init[0]

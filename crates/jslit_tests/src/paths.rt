@@ -1,10 +1,9 @@
 //! Litmus texts with branches and exchanges, with the whole report on each, byte for byte.
 
 use super::reports::Reported;
-use lit_tests::texts;
 
 pub(super) const LOAD_BUFFERING: Reported = (
-    texts::LOAD_BUFFERING,
+    lit_texts::LOAD_BUFFERING,
     "test lb
 outcome A.r0=0 B.r0=0
   from A.0 init[0]
@@ -20,7 +19,7 @@ verdict sometimes
 );
 
 pub(super) const LOAD_BUFFERING_ATOMIC: Reported = (
-    texts::LOAD_BUFFERING_ATOMIC,
+    lit_texts::LOAD_BUFFERING_ATOMIC,
     "test lb
 outcome A.r0=0 B.r0=0
   from A.0 init[0]
@@ -32,7 +31,7 @@ verdict never
 );
 
 pub(super) const BOTH_EXCHANGE_FOR_ONE: Reported = (
-    texts::BOTH_EXCHANGE_FOR_ONE,
+    lit_texts::BOTH_EXCHANGE_FOR_ONE,
     "test cas
 outcome A.r0=0 B.r0=1
   from A.0 init[0]
@@ -48,7 +47,7 @@ verdict never
 );
 
 pub(super) const FAILED_EXCHANGE: Reported = (
-    texts::FAILED_EXCHANGE,
+    lit_texts::FAILED_EXCHANGE,
     "test casfail
 outcome A.r0=0 A.r1=0
   from A.0 init[0]
@@ -68,7 +67,7 @@ verdict never
 );
 
 pub(super) const SWAPS: Reported = (
-    texts::SWAPS,
+    lit_texts::SWAPS,
     "test swap
 outcome A.r0=0 B.r0=1
   from A.0 init[0]

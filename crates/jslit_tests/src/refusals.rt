@@ -2,6 +2,8 @@
 
 use super::calls::{prints, writes};
 use super::reports::Reported;
+use lit_paths::{ACCESS_LIMIT, COMBINATION_LIMIT};
+use lit_read::{AGENT_LIMIT, BLOCK_LIMIT, TEXT_LIMIT};
 use std::alloc::AllocGlobal;
 use std::process::Abort;
 use std::rt::Files;
@@ -9,7 +11,7 @@ use std::test::Fail;
 use std::thread::Threads;
 
 /// In the order of the faults' numbers.
-const REFUSALS: [Reported; 20] = [
+const REFUSALS: [Reported; 19] = [
     // comparison without value
     (
         "test sb
@@ -57,15 +59,10 @@ check A.r0 == 0 && B.r0 ==\x20
         "test t\nbytes 4\nagent A\nr0 = U8[0]\ncheck A.r0 == 0\nagent B\n",
         "refused 4 misplaced line 6\n",
     ),
-    // block of seventeen bytes
+    // block of no byte
     (
-        "test t\nbytes 17\nagent A\nr0 = U8[0]\ncheck A.r0 == 0\n",
+        "test t\nbytes 0\nagent A\nr0 = U8[0]\ncheck A.r0 == 0\n",
         "refused 5 block_size line 2\n",
-    ),
-    // fifth agent
-    (
-        "test t\nbytes 4\nagent A\nagent B\nagent C\nagent D\nagent E\ncheck A.r0 == 0\n",
-        "refused 6 too_many_agents line 7\n",
     ),
     // agent twice
     (
@@ -132,7 +129,7 @@ fn program_refuses(rt: HostRuntime) -> Result<(), Fail> {
 
 #[test]
 fn one_byte_too_many(rt: HostRuntime) -> Result<(), Fail> {
-    let text = Vec::from_elem(rt.alloc(), b' ', 65_537)?;
+    let text = Vec::from_elem(rt.alloc(), b' ', TEXT_LIMIT + 1)?;
     writes(&rt, &text, b"refused 1 too_long line 1\n")?;
     prints(&rt, &text, b"refused 1 too_long line 1\n", 1)
 }
@@ -142,6 +139,38 @@ fn byte_above_ascii(rt: HostRuntime) -> Result<(), Fail> {
     let text = b"test t\nbytes 4\nagent A\nr0 = U8[0] //\xe9\ncheck A.r0 == 0\n";
     writes(&rt, text, b"refused 2 not_ascii line 4\n")?;
     prints(&rt, text, b"refused 2 not_ascii line 4\n", 1)
+}
+
+#[test]
+fn one_agent_too_many(rt: HostRuntime) -> Result<(), Fail> {
+    let alloc = rt.alloc();
+    let mut text = Vec::from_slice(alloc, b"test t\nbytes 4\n")?;
+    for agent in 0..AGENT_LIMIT + 1 {
+        text.extend_from_slice(format!(in alloc; "agent A{agent}\n")?.as_bytes())?;
+    }
+    let line = AGENT_LIMIT + 3;
+    let printed = format!(in alloc; "refused 6 too_many_agents line {line}\n")?;
+    writes(&rt, &text, printed.as_bytes())?;
+    prints(&rt, &text, printed.as_bytes(), 1)
+}
+
+#[test]
+fn larger_block(rt: HostRuntime) -> Result<(), Fail> {
+    let bytes = BLOCK_LIMIT + 1;
+    let text = format!(in rt.alloc();
+        "test t\nbytes {bytes}\nagent A\nr0 = U8[0]\ncheck A.r0 == 0\n"
+    )?;
+    prints(&rt, text.as_bytes(), b"refused 5 block_size line 2\n", 1)
+}
+
+/// An element past the largest block that a text can name.
+#[test]
+fn past_the_largest_block(rt: HostRuntime) -> Result<(), Fail> {
+    let element = BLOCK_LIMIT / 4;
+    let text = format!(in rt.alloc();
+        "test t\nbytes {BLOCK_LIMIT}\nagent A\nU32[{element}] = 1\nr0 = U8[0]\ncheck A.r0 == 0\n"
+    )?;
+    prints(&rt, text.as_bytes(), b"refused 9 out_of_block line 4\n", 1)
 }
 
 /// That a text, which has a line again and again, is refused with this line.
@@ -165,10 +194,11 @@ fn is_refused(
 fn too_much(rt: HostRuntime) -> Result<(), Fail> {
     let beginning = "test t\nbytes 1\nagent A\n";
     let printed = "refused 14 too_many_events\n";
-    is_refused(&rt, beginning, "r0 = U8[0]\n", 13, printed)?;
+    is_refused(&rt, beginning, "r0 = U8[0]\n", ACCESS_LIMIT + 1, printed)?;
     let beginning = "test t\nbytes 1\nagent A\nr0 = U8[0]\n";
     let printed = "refused 13 too_many_paths\n";
-    is_refused(&rt, beginning, "if r0 == 0 {\n}\n", 13, printed)?;
+    let branches = COMBINATION_LIMIT.trailing_zeros() as usize + 1;
+    is_refused(&rt, beginning, "if r0 == 0 {\n}\n", branches, printed)?;
     let beginning = "test t\nbytes 4\nagent A\nU32[0] = 1\nU32[0] = 2\n";
     let printed = "refused 15 too_many_choices\n";
     is_refused(&rt, beginning, "r0 = U32[0]\n", 10, printed)

@@ -1,13 +1,12 @@
 //! Litmus texts with the whole report on each, byte for byte.
 
 use super::independent_reads::{INDEPENDENT_READS, INDEPENDENT_READS_PLAIN};
-use lit_tests::texts;
 
 /// A text and its report.
 pub(super) type Reported = (&'static str, &'static str);
 
 pub(super) const STORE_BUFFERING: Reported = (
-    texts::STORE_BUFFERING,
+    lit_texts::STORE_BUFFERING,
     "test sb
 outcome A.r0=0 B.r0=1
   from A.1 init[1]
@@ -27,7 +26,7 @@ verdict never
 );
 
 pub(super) const STORE_BUFFERING_PLAIN: Reported = (
-    texts::STORE_BUFFERING_PLAIN,
+    lit_texts::STORE_BUFFERING_PLAIN,
     "test sbplain
 outcome A.r0=0 B.r0=0
   from A.1 init[1]
@@ -51,7 +50,7 @@ verdict sometimes
 );
 
 pub(super) const MESSAGE_PASSING: Reported = (
-    texts::MESSAGE_PASSING,
+    lit_texts::MESSAGE_PASSING,
     "test mp
 outcome B.r0=0 B.r1=0
   from B.0 init[1]
@@ -71,7 +70,7 @@ verdict never
 );
 
 pub(super) const MESSAGE_PASSING_PLAIN: Reported = (
-    texts::MESSAGE_PASSING_PLAIN,
+    lit_texts::MESSAGE_PASSING_PLAIN,
     "test mpplain
 outcome B.r0=0 B.r1=0
   from B.0 init[1]
@@ -95,7 +94,7 @@ verdict sometimes
 );
 
 pub(super) const READ_READ_COHERENCE_PLAIN: Reported = (
-    texts::READ_READ_COHERENCE_PLAIN,
+    lit_texts::READ_READ_COHERENCE_PLAIN,
     "test corr
 outcome B.r0=0 B.r1=0
   from B.0 init[0]
@@ -119,7 +118,7 @@ verdict sometimes
 );
 
 pub(super) const READ_READ_COHERENCE_ATOMIC: Reported = (
-    texts::READ_READ_COHERENCE_ATOMIC,
+    lit_texts::READ_READ_COHERENCE_ATOMIC,
     "test corr
 outcome B.r0=0 B.r1=0
   from B.0 init[0]
@@ -139,7 +138,7 @@ verdict never
 );
 
 pub(super) const OWN_STORE: Reported = (
-    texts::OWN_STORE,
+    lit_texts::OWN_STORE,
     "test own
 outcome A.r0=1
   from A.1 A.0
@@ -150,7 +149,7 @@ verdict always
 );
 
 pub(super) const UNTOUCHED_BYTE: Reported = (
-    texts::UNTOUCHED_BYTE,
+    lit_texts::UNTOUCHED_BYTE,
     "test still
 outcome A.r0=0
   from A.0 init[0]
@@ -161,7 +160,7 @@ verdict always
 );
 
 pub(super) const EQUAL_STORES: Reported = (
-    texts::EQUAL_STORES,
+    lit_texts::EQUAL_STORES,
     "test twin
 outcome C.r0=0
   from C.0 init[0]

@@ -2,7 +2,7 @@
 
 use super::calls::answers;
 use jslit::{Counted, check_schedule, run_schedule};
-use lit_tests::texts::{EXCHANGES, LOAD_BUFFERING, STORE_BUFFERING, VIEWED_READ};
+use lit_texts::{EXCHANGES, LOAD_BUFFERING, STORE_BUFFERING, VIEWED_READ};
 use std::alloc::AllocGlobal;
 use std::process::Abort;
 use std::rt::Files;
@@ -109,7 +109,7 @@ fn schedules(rt: HostRuntime) -> Result<(), Fail> {
     }
     comes_to(
         &rt,
-        "test sb\nbytes 17\n",
+        "test sb\nbytes 0\n",
         "Z",
         "refused 5 block_size line 2\n",
     )

@@ -1,10 +1,9 @@
 //! Litmus texts with accesses of two and four bytes, with the whole report on each, byte for byte.
 
 use super::reports::Reported;
-use lit_tests::texts;
 
 const MIXED_SIZES: Reported = (
-    texts::STORE_BUFFERING_MIXED,
+    lit_texts::STORE_BUFFERING_MIXED,
     "test sbmixed
 outcome A.r0=0 B.r0=0
   from A.1 init[2]
@@ -28,7 +27,7 @@ verdict sometimes
 );
 
 const TORN_READ: Reported = (
-    texts::TYPED_READ,
+    lit_texts::TYPED_READ,
     "test tear
 outcome C.r0=0
   from C.0 init[0] init[1]
@@ -57,7 +56,7 @@ verdict never
 );
 
 const VIEWED_READ: Reported = (
-    texts::VIEWED_READ,
+    lit_texts::VIEWED_READ,
     "test teardv
 outcome C.r0=0
   from C.0 init[0] init[1]

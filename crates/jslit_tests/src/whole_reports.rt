@@ -1,7 +1,7 @@
 //! Whole reports, by `run` and by the program.
 
 use super::calls::{prints, writes};
-use super::idle_events::{WIDE, WIDER};
+use super::idle_events::{EDGE, LONG, WIDE, WIDER};
 use super::many_choices::COAST;
 use super::paths::PATH_REPORTS;
 use super::reports::REPORTS;
@@ -42,9 +42,11 @@ fn program_reports(rt: HostRuntime) -> Result<(), Fail> {
 
 #[test]
 fn run_reports_among_many_events(rt: HostRuntime) -> Result<(), Fail> {
-    writes(&rt, WIDE.0.as_bytes(), WIDE.1.as_bytes())?;
-    prints(&rt, WIDE.0.as_bytes(), WIDE.1.as_bytes(), 0)?;
-    prints(&rt, WIDER.as_bytes(), b"refused 14 too_many_events\n", 1)
+    for (text, report) in [WIDE, WIDER, EDGE, LONG] {
+        writes(&rt, text.as_bytes(), report.as_bytes())?;
+        prints(&rt, text.as_bytes(), report.as_bytes(), 0)?;
+    }
+    Ok(())
 }
 
 #[test]

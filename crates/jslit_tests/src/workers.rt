@@ -1,7 +1,7 @@
 //! Workers, cuttings and the quick report.
 
 use super::calls::writes_by;
-use super::idle_events::WIDE;
+use super::idle_events::{EDGE, LONG, WIDE, WIDER};
 use super::independent_reads::{INDEPENDENT_READS, INDEPENDENT_READS_PLAIN};
 use super::many_choices::COAST;
 use super::paths::{LOAD_BUFFERING, PATH_REPORTS};
@@ -10,6 +10,7 @@ use super::sizes::SIZE_REPORTS;
 use jslit::Options;
 use lit_paths::{Plan, plan};
 use lit_read::read;
+use lit_share::{CUT_LIMIT, WORKER_LIMIT};
 use std::alloc::AllocGlobal;
 use std::process::Abort;
 use std::test::Fail;
@@ -41,8 +42,8 @@ verdict never
 /// So many workers and this cut, within the limits.
 fn options(workers: usize, cut: u64, quick: bool) -> Options {
     Options {
-        workers: workers.clamp(1, 16),
-        cut: cut.clamp(1, 1 << 48),
+        workers: workers.clamp(1, WORKER_LIMIT),
+        cut: cut.clamp(1, CUT_LIMIT),
         quick,
     }
 }
@@ -56,8 +57,8 @@ fn writes_by_all(
     let (text, report) = reported;
     let test = read(rt.alloc(), text.as_bytes())?;
     let total = plan(rt.alloc(), &test)?.total();
-    for workers in [1, 2, 3, 16] {
-        for cut in [1, 7, total, total + 1, 1 << 48] {
+    for workers in [1, 2, 3, WORKER_LIMIT] {
+        for cut in [1, 7, total, total + 1, CUT_LIMIT] {
             writes_by(
                 rt,
                 text.as_bytes(),
@@ -80,7 +81,9 @@ fn same_report_by_any_workers(rt: HostRuntime) -> Result<(), Fail> {
     for reported in SIZE_REPORTS {
         writes_by_all(&rt, reported, false)?;
     }
-    writes_by_all(&rt, WIDE, false)?;
+    for reported in [WIDE, WIDER, EDGE, LONG] {
+        writes_by_all(&rt, reported, false)?;
+    }
     writes_by_all(&rt, INDEPENDENT_READS, false)?;
     writes_by_all(&rt, INDEPENDENT_READS_PLAIN, false)
 }

@@ -181,6 +181,7 @@ are_events t c litmus short known =
     let split : events_in t c ≡ all = events_split t c known in
     subst (λ (es : List Event). AreEventsIn t.bytes es) (sym split) (record {
       few = omega (arith, long, few, litmus.block);
+      few_accesses = omega (arith, long, few);
       few_reads = omega (arith, reads, few);
       made = omega (arith, long);
       making = λ b inside. get_or-left made (accesses_in t c) b no_event (omega (arith, inside, length-init_events t.bytes)) ∙ made-at 0 t.bytes b no_event inside ∙ ap init_event (zero_add b);

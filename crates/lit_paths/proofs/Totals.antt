@@ -1,18 +1,19 @@
 -- How many choices the combinations have, one after the other, and which choice has a number.
-use Rattle.std.proofs.Common.{◌≡◌, ℕ, zero, suc, true, false, ◌+◌, ◌-◌, ◌<◌, ◌≤◌, List, [], ◌∷◌, ◌++◌, length, map, flat_map, take, get_or, slice_get, Some, arith, refl, sym, ap, ◌∙◌, subst, add-one, length-append}
-use Rattle.std.proofs.lemmas.List.{length-map, take_all}
+use Rattle.std.proofs.Common.{◌≡◌, ℕ, Bool, zero, suc, true, false, drop, ◌+◌, ◌-◌, ◌<◌, ◌≤◌, List, [], ◌∷◌, ◌++◌, length, map, flat_map, take, get_or, slice_get, Some, arith, refl, sym, ap, ◌∙◌, subst, add-one, length-append}
+use Rattle.std.proofs.lemmas.List.{length-drop, length-map, take_all}
 use Rattle.std.proofs.lemmas.Option.{slice_get-get_or, slice_get_within}
 use Rattle.lit_read.specs.Syntax.{Litmus}
 use Rattle.lit_paths.specs.declared.event.Event.{Event}
-use Rattle.lit_paths.specs.Event.{event_at, init_event, does_read, does_write}
+use Rattle.lit_paths.specs.Event.{event_at, init_event, no_event, does_read, does_write}
+use Rattle.lit_paths.specs.declared.limits.TheConstants.{CANDIDATE_LIMIT}
 use Rattle.lit_paths.specs.Path.{Path}
 use Rattle.lit_paths.specs.ByteReads.{byte_reads, pair_of}
-use Rattle.lit_paths.specs.Choice.{Choice, AreSources, candidates_of, sources_of, combinations_of, choices_on, choices_of, product}
+use Rattle.lit_paths.specs.Choice.{Choice, AreSources, candidates_of, is_candidate, sources_of, combinations_of, choices_on, choices_of, product}
 use Rattle.lit_paths.specs.Plan.{combination_at, events_in, choices_before, AreEventsIn, IsOfCombination, HasSources}
 use Rattle.lit_paths.proofs.Products.{slice_get_left, slice_get_right, product-some, AreSome-map}
 use Rattle.lit_paths.proofs.Rising.{slice_get-map-found}
 use Rattle.lit_paths.proofs.ByteReads.{byte_reads-known}
-use Rattle.lit_paths.proofs.Candidates.{candidates_of-found}
+use Rattle.lit_paths.proofs.Candidates.{candidates_from, candidates_from-candidate, candidates_from-other, candidates_of-found, is_candidate-parts, length-candidates_from}
 use Rattle.lit_paths.proofs.ChoiceLists.{events_on, choice_on, AreSources-sources_of}
 use Rattle.lit_paths.specs.declared.sources.ByteRead.{ByteRead}
 use Rattle.lit_paths.specs.Execution.{execution_choice}
@@ -100,6 +101,50 @@ pub ways-some : (bytes : ℕ) (events : List Event) (reads : List ByteRead) (i :
     → slice_get reads i ≡ Some read → 1 ≤ length (candidates_for events read)
 ways-some bytes events reads i read are same at =
     some_candidate bytes events i read.read read.byte are (ap (λ ps. slice_get ps i) (sym same) ∙ slice_get-map-found pair_of reads i read at)
+
+-- ---- each byte read has few candidates: the event that makes the byte, and accesses
+-- of the events from number n on, behind the one that makes the byte
+few-behind : (bytes : ℕ) (events : List Event) (r b k n : ℕ) → AreEventsIn bytes events → n + k ≡ bytes → b < n → length (candidates_from (r, b) n (drop n events)) ≤ length events - bytes
+few-behind bytes events r b zero n are here low = omega (arith, here, length-candidates_from (r, b) n (drop n events), length-drop n events)
+few-behind bytes events r b (suc k) n are here low =
+    let inside : n < length events = omega (arith, here, are.made) in
+    let made : event_at events n ≡ init_event n = are.making n (omega (arith, here)) in
+    let by : (v : Bool) → is_candidate r b (n, event_at events n) ≡ v → length (candidates_from (r, b) n (drop n events)) ≤ length events - bytes
+    = λ v. elim v as (λ v. is_candidate r b (n, event_at events n) ≡ v → length (candidates_from (r, b) n (drop n events)) ≤ length events - bytes) [
+      | true ↦ λ test. absurd (omega (arith, low, (is_candidate-parts r b n (event_at events n) test).1, ap (λ (e : Event). e.first) made))
+      | false ↦ λ test. omega (
+        arith,
+        ap (λ ws. length ws) (candidates_from-other (r, b) events n no_event inside test),
+        few-behind bytes events r b k (n + 1) are (omega (arith, here)) (omega (arith, low)),
+      )
+    ] in
+    by (is_candidate r b (n, event_at events n)) refl
+
+few-from : (bytes : ℕ) (events : List Event) (r b k n : ℕ) → AreEventsIn bytes events → n + k ≡ bytes → length (candidates_from (r, b) n (drop n events)) ≤ (length events - bytes) + 1
+few-from bytes events r b zero n are here = omega (arith, here, length-candidates_from (r, b) n (drop n events), length-drop n events)
+few-from bytes events r b (suc k) n are here =
+    let inside : n < length events = omega (arith, here, are.made) in
+    let made : event_at events n ≡ init_event n = are.making n (omega (arith, here)) in
+    let by : (v : Bool) → is_candidate r b (n, event_at events n) ≡ v → length (candidates_from (r, b) n (drop n events)) ≤ (length events - bytes) + 1
+    = λ v. elim v as (λ v. is_candidate r b (n, event_at events n) ≡ v → length (candidates_from (r, b) n (drop n events)) ≤ (length events - bytes) + 1) [
+      | true ↦ λ test.
+          let parts = is_candidate-parts r b n (event_at events n) test in
+          let low : b < n + 1 = omega (arith, parts.2, ap (λ (e : Event). e.first) made, ap (λ (e : Event). e.size) made) in
+          omega (
+            arith,
+            ap (λ ws. length ws) (candidates_from-candidate (r, b) events n no_event inside test),
+            few-behind bytes events r b k (n + 1) are (omega (arith, here)) low,
+          )
+      | false ↦ λ test. omega (
+        arith,
+        ap (λ ws. length ws) (candidates_from-other (r, b) events n no_event inside test),
+        few-from bytes events r b k (n + 1) are (omega (arith, here)),
+      )
+    ] in
+    by (is_candidate r b (n, event_at events n)) refl
+
+pub few_candidates : (bytes : ℕ) (events : List Event) (read : ByteRead) → AreEventsIn bytes events → length (candidates_for events read) ≤ CANDIDATE_LIMIT
+few_candidates bytes events read are = omega (arith, few-from bytes events read.read read.byte bytes 0 are (omega arith), are.few_accesses)
 
 -- ---- the choice with a number, by its combination
 choice_is : (a b : Choice) → Some a ≡ Some b → a ≡ b

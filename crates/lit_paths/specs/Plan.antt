@@ -90,6 +90,7 @@ pub record IsOfCombination (t : Litmus) (n c : ℕ) : Type 0 where
 pub record AreEventsIn (bytes : ℕ) (events : List Event) : Type 0 where
   pub few : length events ≤ EVENT_LIMIT
   pub few_reads : length (byte_reads events) ≤ BYTE_READ_LIMIT
+  pub few_accesses : length events ≤ bytes + ACCESS_LIMIT
   pub made : bytes ≤ length events
   pub making : (b : ℕ) → b < bytes → event_at events b ≡ init_event b
   pub sized : (n : ℕ) → n < length events → ((event_at events n).size ≡ 1) ⊎ (((event_at events n).size ≡ 2) ⊎ ((event_at events n).size ≡ 4))

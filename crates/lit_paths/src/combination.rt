@@ -1,21 +1,22 @@
 //! A combination of paths, entered: what the choices on it share.
 
-ghost use Rattle.std.specs.Prelude.{◌≡◌, ◌+◌, ◌/◌, ◌%◌, ◌<◌, ◌≤◌, length, map, Some, slice_get};
-ghost use Rattle.lit_paths.specs.declared.limits.TheConstants.{BYTE_READ_LIMIT as READS, CHOICE_LIMIT, EVENT_LIMIT};
+ghost use Rattle.std.specs.Prelude.{◌≡◌, ℕ, ◌+◌, ◌/◌, ◌%◌, ◌<◌, ◌≤◌, length, map, Some, slice_get};
+ghost use Rattle.lit_paths.specs.declared.limits.TheConstants.{BYTE_READ_LIMIT as READS, CANDIDATE_LIMIT as CANDIDATES, CHOICE_LIMIT, EVENT_LIMIT};
 ghost use Rattle.lit_paths.specs.ByteReads.{byte_reads, byte_read_at, pair_of};
 ghost use Rattle.lit_paths.specs.Choice.{product, AreSources, candidates_of as candidates_among, combinations_of};
 ghost use Rattle.lit_paths.specs.Numbers.{ways_from};
+ghost use Rattle.lit_paths.specs.declared.sources.ByteRead.{ByteRead as Read};
 ghost use Rattle.lit_paths.specs.Plan.{events_in, choices_before, first_event, path_in, walk_in, AreEventsIn, HasSources, IsOfCombination, IsWalkIn, ListsCandidates};
-ghost use Rattle.lit_paths.specs.Planning.CandidateLists.{candidate_lists, ways_after};
+ghost use Rattle.lit_paths.specs.Planning.CandidateLists.{candidate_lists, candidates_for, ways_after};
 ghost use Rattle.lit_paths.specs.Planning.Combining.{IsJoined};
 ghost use Rattle.lit_paths.specs.Planning.Walks.{IsInLimits};
 
 use crate::agent_paths::AgentPaths;
 use crate::event::{Event, Sources};
 use crate::joined::Joined;
-use crate::limits::BYTE_READ_LIMIT;
+use crate::limits::{BYTE_READ_LIMIT, CANDIDATE_LIMIT};
 use crate::path::Path;
-use crate::sources::{ByteRead, ByteReads, Candidates, byte_reads_of, candidates_of};
+use crate::sources::{ByteRead, ByteReads, byte_reads_of, candidates_of};
 use arrayvec::ArrayVec;
 use lit_read::Test;
 use std::marker::Model;
@@ -23,7 +24,7 @@ use std::marker::Model;
 /// The candidates of each byte read, and how many ways the later ones leave.
 #[derive(Drop)]
 struct Ways {
-    candidates: ArrayVec<Candidates, BYTE_READ_LIMIT>,
+    candidates: ArrayVec<ArrayVec<u8, CANDIDATE_LIMIT>, BYTE_READ_LIMIT>,
     later: ArrayVec<u64, BYTE_READ_LIMIT>,
 }
 
@@ -31,21 +32,24 @@ struct Ways {
 fn ways_of(events: &[Event], reads: &[ByteRead], total: u64) -> Ways
     requires few { length events.now ≤ EVENT_LIMIT }
     requires room { length reads.now ≤ READS }
+    requires fit { (i : ℕ) (read : Read) → slice_get reads.now i ≡ Some read → length (candidates_for events.now read) ≤ CANDIDATES }
     requires whole { total ≡ length (product (candidate_lists events.now reads.now)) }
     requires some { 1 ≤ total }
     ensures candidates { map (λ list. list.items) result.candidates.items ≡ candidate_lists events.now reads.now }
     ensures later { result.later.items ≡ ways_after (candidate_lists events.now reads.now) }
 {
-    let mut candidates = ArrayVec::new();
-    let mut later = ArrayVec::new();
+    let mut ways = Ways {
+        candidates: ArrayVec::new(),
+        later: ArrayVec::new(),
+    };
     let mut left = total;
     for read in reads {
         let list = candidates_of(events, *read);
         left /= list.len() as u64;
-        candidates.push(list);
-        later.push(left);
+        ways.candidates.push(list);
+        ways.later.push(left);
     }
-    Ways { candidates, later }
+    ways
 }
 
 /// The candidate of a byte that a choice takes: `place / later` counts round and round through them.

@@ -53,7 +53,7 @@ impl Path {
         }
     }
 
-    /// The events on the path, by their places: at most 12.
+    /// The events on the path, by their places: at most `ACCESS_LIMIT`.
     pub fn events(&self) -> &[Event]
         ensures { result.now ≡ self.now.events }
     {

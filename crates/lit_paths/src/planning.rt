@@ -25,13 +25,13 @@ use thiserror::Error;
 /// Why a test has no plan, in the order in which this is decided.
 #[derive(Clone, Copy, Debug, PartialEq, Eq, Error)]
 pub enum PlanFault {
-    /// Some combination of paths has more than `ACCESS_LIMIT` access events: 12.
+    /// Some combination of paths has more than `ACCESS_LIMIT` access events.
     #[error("14 too_many_events")]
     TooManyEvents,
     /// There are more than `COMBINATION_LIMIT` combinations of paths: 4,096.
     #[error("13 too_many_paths")]
     TooManyPaths,
-    /// There are more than `CHOICE_LIMIT` choices: 2^48.
+    /// There are more than `CHOICE_LIMIT` choices.
     #[error("15 too_many_choices")]
     TooManyChoices,
     /// A growth was refused.

@@ -64,12 +64,16 @@ fn is_candidate(number: usize, event: &Event, read: ByteRead) -> bool
     event.kind.does_write() && event.has_byte(read.byte) && number != usize::from(read.read)
 }
 
-/// The candidates of a byte of a read.
-pub(crate) fn candidates_of(events: &[Event], read: ByteRead) -> Candidates
-    requires { length events.now ≤ EVENT_LIMIT }
+/// The candidates of a byte of a read, at most so many.
+pub(crate) fn candidates_of<const MOST: usize>(
+    events: &[Event],
+    read: ByteRead,
+) -> ArrayVec<u8, MOST>
+    requires few { length events.now ≤ EVENT_LIMIT }
+    requires fits { length (candidates_for events.now read) ≤ MOST }
     ensures { result.items ≡ candidates_for events.now read }
 {
-    let mut candidates = Candidates::new();
+    let mut candidates = ArrayVec::new();
     for (number, event) in events.iter().enumerate() {
         if is_candidate(number, event, read) {
             candidates.push(number as u8);

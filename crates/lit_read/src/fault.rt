@@ -21,10 +21,10 @@ pub enum ReadKind {
     /// The form cannot stand here.
     #[error("4 misplaced")]
     Misplaced,
-    /// The block has no byte, or more than 16.
+    /// The block has no byte, or more than `BLOCK_LIMIT`.
     #[error("5 block_size")]
     BlockSize,
-    /// This is a fifth agent.
+    /// There are `AGENT_LIMIT` agents before this one.
     #[error("6 too_many_agents")]
     TooManyAgents,
     /// An earlier agent has this name.

@@ -10,10 +10,10 @@ pub const WORD_LIMIT: usize = 32;
 pub const DIGIT_LIMIT: usize = 10;
 
 /// Bytes of the block.
-pub const BLOCK_LIMIT: usize = 16;
+pub const BLOCK_LIMIT: usize = 32;
 
 /// Agents of a test.
-pub const AGENT_LIMIT: usize = 4;
+pub const AGENT_LIMIT: usize = 8;
 
 /// Registers of an agent: `r0` up to `r7`.
 pub const REGISTERS: usize = 8;

@@ -46,7 +46,7 @@ impl Test {
         self.name.as_str()
     }
 
-    /// How many bytes the block has: 1 to 16.
+    /// How many bytes the block has: 1 to `BLOCK_LIMIT`.
     pub fn bytes(&self) -> u8
         ensures value { result ≡ self.now.bytes }
         ensures litmus { IsLitmus self.now }
@@ -54,7 +54,7 @@ impl Test {
         self.bytes
     }
 
-    /// How many agents there are: 1 to 4.
+    /// How many agents there are: 1 to `AGENT_LIMIT`.
     pub fn agents(&self) -> usize
         ensures value { result ≡ length self.now.agents }
         ensures litmus { IsLitmus self.now }

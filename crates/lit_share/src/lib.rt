@@ -24,6 +24,6 @@ pub use fault::ShareFault;
 pub use gate::{Gate, OpenGate};
 pub use hunting::hunt;
 pub use laws::pieces_cover_once;
-pub use limits::CUT_LIMIT;
+pub use limits::{CUT_LIMIT, WORKER_LIMIT};
 pub use searching::search;
 pub use working::work;

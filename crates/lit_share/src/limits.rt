@@ -1,4 +1,10 @@
-//! How the choices may be cut.
+//! How the choices may be cut, and how many may search them.
 
-/// Choices of one piece: 2^48.
-pub const CUT_LIMIT: u64 = 1 << 48;
+use lit_desk::MOST_SEATS;
+use lit_paths::CHOICE_LIMIT;
+
+/// Choices of one piece: as many as a test may have.
+pub const CUT_LIMIT: u64 = CHOICE_LIMIT;
+
+/// Workers of a search: as many as a desk has places.
+pub const WORKER_LIMIT: usize = MOST_SEATS;

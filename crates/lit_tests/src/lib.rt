@@ -1,19 +1,9 @@
-//! The tests of the libraries, a module for each, through their public calls; and the litmus texts that these tests and
-//! those of `jslit` work with.
+//! The tests of `lit_desk`, `lit_read` and `lit_paths`, a module for each, through their public calls.
 #![tactic(auto)]
 
 #[cfg(test)]
 mod desk;
 #[cfg(test)]
-mod order;
-#[cfg(test)]
 mod paths;
 #[cfg(test)]
 mod read;
-#[cfg(test)]
-mod rel;
-#[cfg(test)]
-mod search;
-#[cfg(test)]
-mod share;
-pub mod texts;

@@ -1,8 +1,8 @@
 //! `lit_paths`: the paths, events, byte reads and choices of a test.
 
-use crate::texts::STORE_BUFFERING;
 use lit_paths::{ByteRead, Kind, Order3, PlanFault, plan};
 use lit_read::read;
+use lit_texts::STORE_BUFFERING;
 use std::test::Fail;
 
 mod asked;

@@ -1,7 +1,7 @@
 //! `lit_read`: texts that are tests, and texts that are refused.
 
-use crate::texts::STORE_BUFFERING;
-use lit_read::{Cond, ReadFault, ReadKind, Stmt, View, read};
+use lit_read::{AGENT_LIMIT, BLOCK_LIMIT, Cond, ReadFault, ReadKind, Stmt, TEXT_LIMIT, View, read};
+use lit_texts::STORE_BUFFERING;
 use std::alloc::{AllocGlobal, Global};
 use std::process::Abort;
 use std::test::Fail;
@@ -207,13 +207,6 @@ fn small_faults(rt: HostRuntime) -> Result<(), Fail> {
     );
     refused(
         &rt,
-        b"test t\nbytes 17\nagent A\nr0 = U8[0]\ncheck A.r0 == 0\n",
-        ReadKind::BlockSize,
-        2,
-    );
-    refused(&rt, b"test t\nbytes 0\n", ReadKind::BlockSize, 2);
-    refused(
-        &rt,
         b"test t\nbytes 4\nagent A\nr0 = U8[0]\ncheck A.r0 == 4294967296 && B.r0 == 0",
         ReadKind::LiteralRange,
         5,
@@ -232,7 +225,7 @@ fn misplaced_forms(rt: HostRuntime) {
     let kind = ReadKind::Misplaced;
     refused(&rt, b"bytes 4\n", kind, 1);
     refused(&rt, b"test t\ntest u\n", kind, 2);
-    refused(&rt, b"test t\nbytes 4\nbytes 17\n", kind, 3);
+    refused(&rt, b"test t\nbytes 4\nbytes 0\n", kind, 3);
     refused(&rt, b"test t\nagent A\n", kind, 2);
     refused(&rt, b"agent A\n", kind, 1);
     refused(&rt, b"test t\nbytes 4\nr0 = U8[9]\n", kind, 3);
@@ -273,56 +266,83 @@ fn misplaced_forms(rt: HostRuntime) {
     );
 }
 
+/// A text with a block of so many bytes, of which the last is loaded.
+fn with_block(alloc: Global, bytes: usize) -> Result<Vec<u8>, Fail> {
+    let last = bytes.saturating_sub(1);
+    let text = format!(in alloc;
+        "test t\nbytes {bytes}\nagent A\nr0 = U8[{last}]\ncheck A.r0 == 0\n"
+    )?;
+    Ok(Vec::from_slice(alloc, text.as_bytes())?)
+}
+
 #[test]
-fn fifth_agent(rt: HostRuntime) {
-    let four = "test t\nbytes 1\nagent A\nagent B\nagent C\nagent D\nr0 = U8[0]\ncheck D.r0 == 0\n";
-    let test = read(rt.alloc(), four.as_bytes()).expect(&rt, "a test");
-    assert_eq!(rt; test.agents(), 4);
-    refused(
-        &rt,
-        b"test t\nbytes 1\nagent A\nagent B\nagent C\nagent D\nagent E\n",
-        ReadKind::TooManyAgents,
-        7,
-    );
-    refused(
-        &rt,
-        b"test t\nbytes 1\nagent A\nagent B\nagent C\nagent D\nagent A\n",
-        ReadKind::TooManyAgents,
-        7,
-    );
-    refused(
-        &rt,
-        b"test t\nbytes 1\nagent A\nagent B\nagent A\n",
-        ReadKind::DuplicateAgent,
-        5,
-    );
+fn sizes_of_blocks(rt: HostRuntime) -> Result<(), Fail> {
+    for bytes in [1, BLOCK_LIMIT - 1, BLOCK_LIMIT] {
+        let test = read(rt.alloc(), &with_block(rt.alloc(), bytes)?)?;
+        assert_eq!(rt; usize::from(test.bytes()), bytes);
+    }
+    for bytes in [0, BLOCK_LIMIT + 1] {
+        refused(&rt, &with_block(rt.alloc(), bytes)?, ReadKind::BlockSize, 2);
+    }
+    Ok(())
+}
+
+/// The beginning of a text with the agents `A0`, `A1` and so on, so many.
+fn with_agents(alloc: Global, agents: usize) -> Result<Vec<u8>, Fail> {
+    let mut text = Vec::from_slice(alloc, b"test t\nbytes 1\n")?;
+    for agent in 0..agents {
+        text.extend_from_slice(format!(in alloc; "agent A{agent}\n")?.as_bytes())?;
+    }
+    Ok(text)
+}
+
+#[test]
+fn numbers_of_agents(rt: HostRuntime) -> Result<(), Fail> {
+    let alloc = rt.alloc();
+    for agents in [1, AGENT_LIMIT - 1, AGENT_LIMIT] {
+        let mut text = with_agents(alloc, agents)?;
+        let last = agents.saturating_sub(1);
+        text.extend_from_slice(format!(in alloc;
+            "r0 = U8[0]\ncheck A{last}.r0 == 0\n"
+        )?.as_bytes())?;
+        assert_eq!(rt; read(alloc, &text)?.agents(), agents);
+    }
+    let more = with_agents(alloc, AGENT_LIMIT + 1)?;
+    refused(&rt, &more, ReadKind::TooManyAgents, AGENT_LIMIT + 3);
+    let mut again = with_agents(alloc, AGENT_LIMIT)?;
+    again.extend_from_slice(b"agent A0\n")?;
+    refused(&rt, &again, ReadKind::TooManyAgents, AGENT_LIMIT + 3);
+    let mut twice = with_agents(alloc, AGENT_LIMIT - 1)?;
+    twice.extend_from_slice(b"agent A0\n")?;
+    refused(&rt, &twice, ReadKind::DuplicateAgent, AGENT_LIMIT + 2);
+    Ok(())
 }
 
 #[test]
 fn long_texts(rt: HostRuntime) -> Result<(), Fail> {
     refused(
         &rt,
-        &repeated(rt.alloc(), b"", b' ', 65_537, b"")?,
+        &repeated(rt.alloc(), b"", b' ', TEXT_LIMIT + 1, b"")?,
         ReadKind::TooLong,
         1,
     );
     refused(
         &rt,
-        &repeated(rt.alloc(), b"", 200, 65_537, b"")?,
+        &repeated(rt.alloc(), b"", 200, TEXT_LIMIT + 1, b"")?,
         ReadKind::TooLong,
         1,
     );
     refused(
         &rt,
-        &repeated(rt.alloc(), b"", b' ', 65_536, b"")?,
+        &repeated(rt.alloc(), b"", b' ', TEXT_LIMIT, b"")?,
         ReadKind::MissingPart,
         1,
     );
     refused(
         &rt,
-        &repeated(rt.alloc(), b"", b'\n', 65_536, b"")?,
+        &repeated(rt.alloc(), b"", b'\n', TEXT_LIMIT, b"")?,
         ReadKind::MissingPart,
-        65_536,
+        TEXT_LIMIT,
     );
     refused(
         &rt,

@@ -1,8 +1,8 @@
 //! What paths ask, and which reads their registers hold.
 
-use crate::texts::{BOTH_EXCHANGE_FOR_ONE, LOAD_BUFFERING, STORE_BUFFERING};
 use lit_paths::{Tested, plan};
 use lit_read::read;
+use lit_texts::{BOTH_EXCHANGE_FOR_ONE, LOAD_BUFFERING, STORE_BUFFERING};
 use std::alloc::AllocGlobal;
 use std::process::Abort;
 use std::test::Fail;

@@ -1,8 +1,8 @@
 //! The choices of a test, by their numbers.
 
-use crate::texts::{BOTH_EXCHANGE_FOR_ONE, LOAD_BUFFERING, STORE_BUFFERING, TYPED_READ};
 use lit_paths::plan;
 use lit_read::read;
+use lit_texts::{BOTH_EXCHANGE_FOR_ONE, LOAD_BUFFERING, STORE_BUFFERING, TYPED_READ};
 use std::alloc::AllocGlobal;
 use std::process::Abort;
 use std::test::Fail;

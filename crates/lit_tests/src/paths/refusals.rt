@@ -1,6 +1,6 @@
 //! Tests that have too much.
 
-use lit_paths::{PlanFault, plan};
+use lit_paths::{ACCESS_LIMIT, CHOICE_LIMIT, COMBINATION_LIMIT, PlanFault, plan};
 use lit_read::read;
 use std::alloc::{AllocError, AllocGlobal, Global};
 use std::process::Abort;
@@ -41,14 +41,18 @@ fn assert_planned(
     Ok(())
 }
 
+/// Each read of the four bytes has four candidates a byte, so 2^8 sources.
 #[test]
 fn many_choices(rt: HostRuntime) -> Result<(), Fail> {
     let alloc = rt.alloc();
     let head = b"test many\nbytes 4\nagent A\nU32[0] = 1\nU32[0] = 2\nU32[0] = 3\nagent B\n";
     let (line, check) = (b"r0 = U32[0]\n", b"check B.r0 == 0\n");
-    let most = repeated(alloc, head, 6, line, check)?;
-    assert_planned(&rt, &most, Ok((1, 281_474_976_710_656)))?;
-    for count in [7, 9] {
+    let reads = CHOICE_LIMIT.trailing_zeros() as usize / 8;
+    let fewer = repeated(alloc, head, reads - 1, line, check)?;
+    assert_planned(&rt, &fewer, Ok((1, CHOICE_LIMIT / 256)))?;
+    let most = repeated(alloc, head, reads, line, check)?;
+    assert_planned(&rt, &most, Ok((1, CHOICE_LIMIT)))?;
+    for count in [reads + 1, reads + 3] {
         let more = repeated(alloc, head, count, line, check)?;
         assert_planned(&rt, &more, Err(PlanFault::TooManyChoices))?;
     }
@@ -60,9 +64,14 @@ fn many_paths(rt: HostRuntime) -> Result<(), Fail> {
     let alloc = rt.alloc();
     let head = b"test ifs\nbytes 1\nagent A\nr0 = U8[0]\n";
     let (line, check) = (b"if r0 == 0 {\n}\n", b"check A.r0 == 0\n");
-    let most = repeated(alloc, head, 12, line, check)?;
-    assert_planned(&rt, &most, Ok((4_096, 4_096)))?;
-    for count in [13, 64] {
+    let branches = COMBINATION_LIMIT.trailing_zeros() as usize;
+    let most = repeated(alloc, head, branches, line, check)?;
+    assert_planned(
+        &rt,
+        &most,
+        Ok((COMBINATION_LIMIT, COMBINATION_LIMIT as u64)),
+    )?;
+    for count in [branches + 1, 64] {
         let more = repeated(alloc, head, count, line, check)?;
         assert_planned(&rt, &more, Err(PlanFault::TooManyPaths))?;
     }
@@ -71,24 +80,30 @@ fn many_paths(rt: HostRuntime) -> Result<(), Fail> {
 
 #[test]
 fn many_events(rt: HostRuntime) -> Result<(), Fail> {
+    let alloc = rt.alloc();
     let head = b"test long\nbytes 1\nagent A\n";
     let (line, check) = (b"r0 = U8[0]\n", b"check A.r0 == 0\n");
-    for count in [13, 4_000] {
-        let more = repeated(rt.alloc(), head, count, line, check)?;
+    for count in [ACCESS_LIMIT - 1, ACCESS_LIMIT] {
+        let few = repeated(alloc, head, count, line, check)?;
+        assert_planned(&rt, &few, Ok((1, 1)))?;
+    }
+    for count in [ACCESS_LIMIT + 1, 4_000] {
+        let more = repeated(alloc, head, count, line, check)?;
         assert_planned(&rt, &more, Err(PlanFault::TooManyEvents))?;
     }
     Ok(())
 }
 
-/// Thirteen branches are too many paths. With twelve more loads there are too many events; with three stores and seven
-/// loads there would be too many choices.
+/// With one branch too many there are too many paths; with as many loads as there may be accesses behind the first one,
+/// too many events; with three stores and seven loads of all bytes there would be too many choices.
 #[test]
 fn first_refusal_decides(rt: HostRuntime) -> Result<(), Fail> {
     let alloc = rt.alloc();
     let start = b"test both\nbytes 4\nagent A\nr0 = U8[0]\n";
     let (line, check) = (b"r1 = U32[0]\n", b"check A.r0 == 0\n");
-    let ifs = repeated(alloc, start, 13, b"if r0 == 0 {\n}\n", b"")?;
-    let events = repeated(alloc, &ifs, 12, line, check)?;
+    let branches = COMBINATION_LIMIT.trailing_zeros() as usize + 1;
+    let ifs = repeated(alloc, start, branches, b"if r0 == 0 {\n}\n", b"")?;
+    let events = repeated(alloc, &ifs, ACCESS_LIMIT, line, check)?;
     assert_planned(&rt, &events, Err(PlanFault::TooManyEvents))?;
     let stores = repeated(alloc, &ifs, 3, b"U32[0] = 1\n", b"")?;
     let choices = repeated(alloc, &stores, 7, line, check)?;

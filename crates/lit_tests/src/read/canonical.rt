@@ -1,12 +1,12 @@
 //! The canonical text, and that reading it gives the test again.
 
-use crate::texts::{
+use lit_read::{Test, read, show};
+use lit_texts::{
     AMONG_IDLE_EVENTS, BOTH_EXCHANGE_FOR_ONE, EQUAL_STORES, EXCHANGES, FAILED_EXCHANGE,
     INDEPENDENT_READS, LOAD_BUFFERING, MESSAGE_PASSING, MESSAGE_PASSING_PLAIN, OWN_STORE,
     READ_READ_COHERENCE_PLAIN, STORE_BUFFERING, STORE_BUFFERING_MIXED, STORE_BUFFERING_PLAIN,
     SWAPS, TYPED_READ, UNTOUCHED_BYTE, VIEWED_READ,
 };
-use lit_read::{Test, read, show};
 use std::alloc::{AllocError, Global};
 use std::process::Abort;
 use std::test::Fail;

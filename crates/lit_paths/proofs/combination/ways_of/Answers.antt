@@ -9,8 +9,8 @@ loop-read-init c =
     let P : List (List ℕ) → List ℕ → Type 0 = λ ws ls. AreFormed c.args.events.now c.args.reads.now 0 ws ls c.args.total in
     let none : List (List ℕ) = [] in
     let nothing : List ℕ = [] in
-    subst (λ (ws : List (List ℕ)). P ws c.new-later.result.items) (sym (ap (map (λ list. list.items)) c.new-candidates.ensures))
-    (subst (λ (ls : List ℕ). P none ls) (sym c.new-later.ensures) (formed_none c.args.events.now c.args.reads.now c.args.total c.requires.whole c.requires.some))
+    subst (λ (ws : List (List ℕ)). P ws c.new-2.result.items) (sym (ap (map (λ list. list.items)) c.new.ensures))
+    (subst (λ (ls : List ℕ). P none ls) (sym c.new-2.ensures) (formed_none c.args.events.now c.args.reads.now c.args.total c.requires.whole c.requires.some))
 
 pub nonzero_div-left : goal.nonzero_div-left
 nonzero_div-left c =
@@ -18,7 +18,7 @@ nonzero_div-left c =
     (c.len.ensures.value ∙ ap (λ ws. length ws) c.candidates_of-list.ensures) c.loop-read.invariant
 
 pub push-requires : goal.push-requires
-push-requires c = (omega arith, omega (arith, length-map c.loop-read.candidates.items (λ list. list.items), ap length c.loop-read.invariant.formed, length-map (take c.loop-read.read-index c.args.reads.now) (candidates_for c.args.events.now), c.requires.room, c.loop-read-test.true, length-take-le c.loop-read.read-index c.args.reads.now (omega (arith, c.loop-read-test.true))))
+push-requires c = (omega arith, omega (arith, length-map c.loop-read.ways.candidates.items (λ list. list.items), ap length c.loop-read.invariant.formed, length-map (take c.loop-read.read-index c.args.reads.now) (candidates_for c.args.events.now), c.requires.room, c.loop-read-test.true, length-take-le c.loop-read.read-index c.args.reads.now (omega (arith, c.loop-read-test.true))))
 
 pub push-requires-in-loop-read : goal.push-requires-in-loop-read
 push-requires-in-loop-read c = (omega arith, omega (arith, c.loop-read.invariant.counted, c.requires.room, c.loop-read-test.true))
@@ -27,8 +27,8 @@ pub loop-read-preserved : goal.loop-read-preserved
 loop-read-preserved c =
     formed_more c.args.events.now c.args.reads.now c.loop-read.read-index _ _ _ _ _ c.loop-read.left c.len.result c.loop-read-test.true
     (c.len.ensures.value ∙ ap (λ ws. length ws) c.candidates_of-list.ensures)
-    (ap (map (λ list. list.items)) c.push.ensures.items ∙ map-append (λ list. list.items) c.loop-read.candidates.items (c.candidates_of-list.result ∷ [])
-    ∙ ap (λ (ws : List ℕ). map (λ list. list.items) c.loop-read.candidates.items ++ ws ∷ []) c.candidates_of-list.ensures)
+    (ap (map (λ list. list.items)) c.push.ensures.items ∙ map-append (λ list. list.items) c.loop-read.ways.candidates.items (c.candidates_of-list.result ∷ [])
+    ∙ ap (λ (ws : List ℕ). map (λ list. list.items) c.loop-read.ways.candidates.items ++ ws ∷ []) c.candidates_of-list.ensures)
     c.push-in-loop-read.ensures.items c.loop-read.invariant
 
 pub returns-clause-candidates : goal.returns-clause-candidates

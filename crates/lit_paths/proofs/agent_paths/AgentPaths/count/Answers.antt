@@ -1,6 +1,9 @@
-use Rattle.std.proofs.Common.{ap, ◌∙◌, length}
-use Rattle.lit_paths.proofs.Combined.{list_here}
+use Rattle.std.proofs.Common.{arith, ap, ◌∙◌, length}
+use Rattle.lit_paths.proofs.Combined.{list_here, lists_here}
 use Rattle.lit_paths.proofs.agent_paths.AgentPaths.count.Goals as goal
+
+pub index-requires : goal.index-requires
+index-requires c = omega (arith, lists_here _ c.self.invariant _ c.self.view_is, c.requires)
 
 pub returns : goal.returns
 returns c =

@@ -1,10 +1,15 @@
-use Rattle.std.proofs.Common.{arith, ap, ap₂, ◌∙◌, length}
+use Rattle.std.proofs.Common.{List, arith, ap, ap₂, ◌∙◌, length, subst, sym}
+use Rattle.lit_paths.specs.declared.event.Event.{Event}
+use Rattle.lit_paths.specs.Plan.{AreEventsIn}
 use Rattle.lit_paths.specs.ByteReads.{byte_reads}
 use Rattle.lit_paths.specs.Choice.{product, sources_of}
 use Rattle.lit_paths.specs.Planning.CandidateLists.{candidate_lists, ways_after}
-use Rattle.lit_paths.proofs.Totals.{before_more, some_choice}
+use Rattle.lit_paths.proofs.Totals.{before_more, few_candidates, some_choice}
 use Rattle.lit_paths.proofs.WaySteps.{candidate_lists-known}
 use Rattle.lit_paths.proofs.combination.Combination.new.Goals as goal
+
+pub ways_of-ways-requires-clause-fit : goal.ways_of-ways-requires-clause-fit
+ways_of-ways-requires-clause-fit c = λ i read at. few_candidates c.args.paths.now.bytes _ read (subst (λ (es : List Event). AreEventsIn c.args.paths.now.bytes es) (sym c.as_slice-2.ensures.value) c.requires.sound)
 
 pub ways_of-ways-requires-clause-whole : goal.ways_of-ways-requires-clause-whole
 ways_of-ways-requires-clause-whole c =

@@ -1,10 +1,17 @@
-use Rattle.std.proofs.Common.{ap, sym, ◌∙◌, subst, List, ℕ, ◌+◌}
+use Rattle.std.proofs.Common.{arith, ap, sym, ◌∙◌, subst, length, List, ℕ, ◌+◌, ◌≤◌}
 use Rattle.lit_paths.specs.declared.event.Event.{Event}
 use Rattle.lit_paths.specs.Event.{event_at}
 use Rattle.lit_paths.specs.Choice.{candidates_of}
 use Rattle.lit_paths.specs.Plan.{events_in, ListsCandidates}
+use Rattle.lit_paths.specs.declared.limits.TheConstants.{EVENT_LIMIT}
+use Rattle.lit_paths.proofs.Candidates.{length-candidates_from}
 use Rattle.lit_paths.proofs.PlanFacts.{lists-candidates}
 use Rattle.lit_paths.proofs.planning.Plan.candidates.Goals as goal
+
+pub candidates_of-requires : goal.candidates_of-requires
+candidates_of-requires c =
+    let few : length c.as_slice-events.result.now ≤ EVENT_LIMIT = omega (arith, ap length c.as_slice-events.ensures.value, c.events-events.ensures.sound.few) in
+    (omega arith, (few, omega (arith, few, length-candidates_from (c.args.read, c.event_at.result.now.first + c.args.byte) 0 c.as_slice-events.result.now)))
 
 pub returns : goal.returns
 returns c =

@@ -1,4 +1,5 @@
-//! Litmus texts that tests of several crates work with, in their canonical form.
+//! Litmus texts that tests of several crates work with, each once, in their canonical form.
+#![tactic(auto)]
 
 /// Store buffering with atomic accesses.
 pub const STORE_BUFFERING: &str = "test sb
@@ -247,7 +248,7 @@ r2 = U32[0]
 check A.r0 == 0
 ";
 
-/// Store buffering among events that have no part in it: as many accesses as a test may have.
+/// Store buffering among twelve accesses, eight of which have no part in it.
 pub const AMONG_IDLE_EVENTS: &str = "test wide
 bytes 16
 agent A

@@ -5,12 +5,12 @@ ghost use Rattle.lit_desk.specs.Desk.{IsPlaceOf};
 ghost use Rattle.lit_paths.specs.Choice.{choices_of};
 ghost use Rattle.lit_share.specs.Pieces.{pieces_of};
 
-use crate::texts::INDEPENDENT_READS;
 use lit_desk::{Desk, Place};
 use lit_paths::{Plan, plan};
 use lit_read::read;
 use lit_search::{Found, merge};
 use lit_share::{OpenGate, ShareFault, search, work};
+use lit_texts::INDEPENDENT_READS;
 use std::alloc::Global;
 use std::test::Fail;
 use std::thread::{Threads, join_mut};

@@ -1,10 +1,10 @@
 //! `lit_share`: searches and quick searches by several workers.
 
-use crate::texts::{EQUAL_STORES, INDEPENDENT_READS, LOAD_BUFFERING, STORE_BUFFERING};
 use lit_desk::{Class2, Desk};
 use lit_paths::plan;
 use lit_read::read;
 use lit_share::{OpenGate, hunt, quick, search, work};
+use lit_texts::{EQUAL_STORES, INDEPENDENT_READS, LOAD_BUFFERING, STORE_BUFFERING};
 use std::test::Fail;
 
 mod callers;

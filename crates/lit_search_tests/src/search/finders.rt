@@ -1,16 +1,16 @@
 //! Both finders of orders, on the choices of whole tests.
 
 use crate::rel::part_of;
-use crate::texts::{
+use lit_order::{ForcedFinder, OrderFinder, PlainFinder};
+use lit_paths::plan;
+use lit_read::read;
+use lit_rel::Part;
+use lit_texts::{
     BOTH_EXCHANGE_FOR_ONE, FAILED_EXCHANGE, INDEPENDENT_READS, INDEPENDENT_READS_PLAIN,
     LOAD_BUFFERING, LOAD_BUFFERING_ATOMIC, MESSAGE_PASSING, MESSAGE_PASSING_PLAIN, OWN_STORE,
     READ_READ_COHERENCE_ATOMIC, READ_READ_COHERENCE_PLAIN, STORE_BUFFERING, STORE_BUFFERING_MIXED,
     STORE_BUFFERING_PLAIN, TYPED_READ, VIEWED_READ,
 };
-use lit_order::{ForcedFinder, OrderFinder, PlainFinder};
-use lit_paths::plan;
-use lit_read::read;
-use lit_rel::Part;
 use std::test::Fail;
 
 /// Tests of two agents, without and with branches, and of three and four.

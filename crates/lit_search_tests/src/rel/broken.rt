@@ -1,10 +1,10 @@
 //! What breaks a part.
 
 use super::{give, of_sources};
-use crate::texts::{LOAD_BUFFERING, LOAD_BUFFERING_ATOMIC, TYPED_READ};
 use lit_paths::plan;
 use lit_read::read;
 use lit_rel::Part;
+use lit_texts::{LOAD_BUFFERING, LOAD_BUFFERING_ATOMIC, TYPED_READ};
 use std::test::Fail;
 
 const UNWRITTEN: &str = "test unwritten

@@ -1,16 +1,20 @@
 //! Sets of events, of pairs and of triples.
 
 use super::assert_pairs;
+use lit_paths::EVENT_LIMIT;
 use lit_rel::{
     Between, EventSet, Rows, mixed_sizes_never_synchronize, never_reads_itself,
     relations_grow_with_bytes, typed_load_mixes_with_init_only, values_stay, viewed_load_mixes,
 };
 
+/// The number of the last event that there may be.
+const LAST: usize = EVENT_LIMIT - 1;
+
 #[test]
 fn sets_have_what_is_put_in(rt: HostRuntime) {
-    let first = EventSet::new().with(0).with(27);
-    let other = EventSet::new().with(27);
-    assert!(rt; first.contains(0) && first.contains(27) && !first.contains(26));
+    let first = EventSet::new().with(0).with(LAST);
+    let other = EventSet::new().with(LAST);
+    assert!(rt; first.contains(0) && first.contains(LAST) && !first.contains(LAST - 1));
     assert!(rt; EventSet::new().is_empty() && !other.is_empty());
     assert!(rt; other.is_within(first) && !first.is_within(other));
     assert!(rt; other.union(EventSet::new().with(0)) == first);
@@ -21,22 +25,22 @@ fn sets_have_what_is_put_in(rt: HostRuntime) {
 fn sets_are_taken_apart(rt: HostRuntime) {
     let first = EventSet::below(3);
     assert!(rt; first == EventSet::new().with(0).with(1).with(2));
-    assert!(rt; EventSet::below(0).is_empty() && EventSet::below(28).contains(27));
-    let other = EventSet::new().with(1).with(27);
+    assert!(rt; EventSet::below(0).is_empty() && EventSet::below(EVENT_LIMIT).contains(LAST));
+    let other = EventSet::new().with(1).with(LAST);
     assert!(rt; first.difference(other) == EventSet::new().with(0).with(2));
-    assert!(rt; other.difference(first) == EventSet::new().with(27));
-    assert!(rt; other.split_first() == Some((1, EventSet::new().with(27))));
+    assert!(rt; other.difference(first) == EventSet::new().with(LAST));
+    assert!(rt; other.split_first() == Some((1, EventSet::new().with(LAST))));
     assert!(rt; EventSet::new().split_first().is_none());
 }
 
 #[test]
 fn rows_hold_of_what_is_put_in(rt: HostRuntime) {
-    let mut rows = Rows::new(28);
-    assert_eq!(rt; rows.len(), 28);
-    rows.put(3, 27);
-    rows.put(0, 27);
-    assert_pairs(&rt, &rows, &[(0, 27), (3, 27)]);
-    assert!(rt; rows.predecessors(27) == EventSet::new().with(0).with(3));
+    let mut rows = Rows::new(EVENT_LIMIT);
+    assert_eq!(rt; rows.len(), EVENT_LIMIT);
+    rows.put(3, LAST);
+    rows.put(0, LAST);
+    assert_pairs(&rt, &rows, &[(0, LAST), (3, LAST)]);
+    assert!(rt; rows.predecessors(LAST) == EventSet::new().with(0).with(3));
     assert!(rt; rows.is_irreflexive());
     rows.put(5, 5);
     assert!(rt; !rows.is_irreflexive());

@@ -1,9 +1,9 @@
 //! What schedules come to.
 
-use crate::texts::{EXCHANGES, LOAD_BUFFERING, STORE_BUFFERING, VIEWED_READ};
 use lit_paths::plan;
 use lit_read::read;
 use lit_search::{interleave, search_range};
+use lit_texts::{EXCHANGES, LOAD_BUFFERING, STORE_BUFFERING, VIEWED_READ};
 use std::alloc::Global;
 use std::process::Abort;
 use std::test::Fail;

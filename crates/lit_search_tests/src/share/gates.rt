@@ -1,9 +1,9 @@
 //! Gates that hold a worker until others have come: workers run at once, and draw from one desk.
 
-use crate::texts::{LOAD_BUFFERING, STORE_BUFFERING};
 use lit_paths::plan;
 use lit_read::read;
 use lit_share::{Gate, quick, search};
+use lit_texts::{LOAD_BUFFERING, STORE_BUFFERING};
 use std::sync::atomic::{AtomicBool, AtomicU64, Ordering};
 use std::test::Fail;
 use std::thread;

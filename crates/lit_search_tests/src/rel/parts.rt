@@ -1,13 +1,13 @@
 //! The relations of whole choices.
 
 use super::{assert_pairs, assert_triples, part_of};
-use crate::texts::{
-    OWN_STORE, STORE_BUFFERING, STORE_BUFFERING_MIXED, STORE_BUFFERING_PLAIN, TYPED_READ,
-    VIEWED_READ,
-};
 use lit_paths::{Plan, plan};
 use lit_read::read;
 use lit_rel::Part;
+use lit_texts::{
+    OWN_STORE, STORE_BUFFERING, STORE_BUFFERING_MIXED, STORE_BUFFERING_PLAIN, TYPED_READ,
+    VIEWED_READ,
+};
 use std::process::Abort;
 use std::test::Fail;
 

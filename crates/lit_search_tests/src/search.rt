@@ -1,12 +1,12 @@
 //! `lit_search`: ranges of choices, and what is merged and collected from them.
 
-use crate::texts::{
-    BOTH_EXCHANGE_FOR_ONE, EQUAL_STORES, LOAD_BUFFERING, LOAD_BUFFERING_ATOMIC, STORE_BUFFERING,
-    TYPED_READ,
-};
 use lit_paths::plan;
 use lit_read::read;
 use lit_search::{Class, Collector, Found, first_in, merge, search_range};
+use lit_texts::{
+    BOTH_EXCHANGE_FOR_ONE, EQUAL_STORES, LOAD_BUFFERING, LOAD_BUFFERING_ATOMIC, STORE_BUFFERING,
+    TYPED_READ,
+};
 use std::alloc::{AllocError, AllocGlobal, Global};
 use std::process::Abort;
 use std::test::Fail;
