@@ -8,7 +8,9 @@ const GROUPS = [16, 64, 32, 256, 128];     // how many copies have one barrier
 const ROUND = (size) => Math.ceil(size / ALIGNMENT) * ALIGNMENT;
 const STRIDES = [64, ROUND(BYTES), 64 + ALIGNMENT, 192];
 const SKEWS = [0, 8, 0, 40];
-const PATIENCE = 3000;                     // looks at a group's barrier before an agent goes on alone
+const PATIENCES = [2000, 20000, 100000];    // looks at a group's barrier before an agent goes on alone,
+const IMPATIENCE = 100;                    // and where it is alone already
+const LOOKS = 3000;                        // looks at a step's barrier before it waits without a core
 const SILENCE = 15000;                     // milliseconds after which an agent counts as lost
 
 // Words of control: agents that came to the barrier of a step, steps' barriers that are open, whether to go on, whether
@@ -31,7 +33,7 @@ function meet(control, count) {
     Atomics.store(control, OPEN, count);
     Atomics.notify(control, OPEN);
   }
-  for (let tries = 0; tries < PATIENCE; tries += 1) {
+  for (let tries = 0; tries < LOOKS; tries += 1) {
     if (Atomics.load(control, OPEN) >= count) return true;
   }
   const start = Date.now();
@@ -44,10 +46,11 @@ function meet(control, count) {
 }
 
 // The barrier of a group: 1 where all agents came while this one had patience.
-function lineUp(barriers, group) {
-  Atomics.add(barriers, group * LINE, 1);
-  for (let tries = 0; tries < PATIENCE; tries += 1) {
-    if (Atomics.load(barriers, group * LINE) === AGENTS) return 1;
+function lineUp(barriers, group, patience) {
+  const word = group * LINE;
+  Atomics.add(barriers, word, 1);
+  for (let tries = 0; tries < patience; tries += 1) {
+    if (Atomics.load(barriers, word) === AGENTS) return 1;
   }
   return 0;
 }
@@ -63,6 +66,7 @@ function settingOf(step) {
     group: GROUPS[step % GROUPS.length],
     stride: STRIDES[step % STRIDES.length],
     skew: SKEWS[(step + Math.floor(step / 20)) % SKEWS.length],
+    patience: PATIENCES[step % PATIENCES.length],
   };
 }
 
@@ -73,11 +77,13 @@ function runGroup(views, out, from, to, stride) {
 }
 
 function runStep(state, step) {
-  const { group, stride, skew } = settingOf(step);
+  const { group, stride, skew, patience } = settingOf(step);
   let noise = step * 7919 + AGENT * 104729;
+  let met = 1;
   for (let place = 0; place * group < COPIES; place += 1) {
     noise = (noise * 1103515 + 12345) % 65536;
-    state.met[place * AGENTS + AGENT] = lineUp(state.barriers, place);
+    met = lineUp(state.barriers, place, met === 1 ? patience : IMPATIENCE);
+    state.met[place * AGENTS + AGENT] = met;
     if (skew > 0) delay(state.control, noise % skew);
     runGroup(state.views, state.out, place * group, (place + 1) * group, stride);
   }
