@@ -59,6 +59,6 @@ try {
   vm.runInThisContext(fs.readFileSync(process.argv[2], 'utf8'), { filename: process.argv[2] });
   process.exit(0);
 } catch (error) {
-  fs.writeSync(2, `${error.name}: ${error.message}\n`);
+  fs.writeSync(2, `${error.constructor.name}: ${error.message}\n`);
   process.exit(1);
 }
