@@ -1,0 +1,68 @@
+'use strict';
+// A test as JavaScript: the function of an agent, and the condition.
+
+const { accessesOf, registersOf } = require('./litmus.js');
+
+// Where an element or byte stands: from `base`, the copy's first byte, or `half` and `word`, the same in elements.
+const BASES = { U8: 'base', U16: 'half', U32: 'word', DV: 'base' };
+const at = (access) => `${BASES[access.view]} + ${access.place}`;
+
+function accessCode({ kind, atomic, view, bits, place, values }) {
+  const where = at({ view, place });
+  if (atomic) return `Atomics.${kind}(${[view, where, ...values].join(', ')})`;
+  if (view === 'DV') {
+    const words = [where, ...values, ...(bits === 8 ? [] : ['true'])].join(', ');
+    return `DV.${kind === 'load' ? 'get' : 'set'}Uint${bits}(${words})`;
+  }
+  return `${view}[${where}]${kind === 'store' ? ` = ${values[0]}` : ''}`;
+}
+
+// The lines of statements, each with `indent` before it.
+function statementLines(statements, indent) {
+  return statements.flatMap((statement) => {
+    if (statement.kind) {
+      return [`${indent}${statement.register ? `${statement.register} = ` : ''}${accessCode(statement)};`];
+    }
+    const { register, equal, number, body, other } = statement;
+    const lines = [`${indent}if (${register} ${equal ? '===' : '!=='} ${number}) {`, ...statementLines(body, `${indent}  `)];
+    if (other.length) lines.push(`${indent}} else {`, ...statementLines(other, `${indent}  `));
+    return [...lines, `${indent}}`];
+  });
+}
+
+const namedIn = (statements) => statements.flatMap((statement) => [
+  ...(statement.register ? [statement.register] : []),
+  ...(statement.kind ? [] : [...namedIn(statement.body), ...namedIn(statement.other)])]);
+
+// The function that carries out one copy of an agent's statements, and puts its registers where `place` says.
+function agentCode(test, agent) {
+  const { statements } = test.agents[agent];
+  const views = new Set(accessesOf(statements).map(({ view }) => view));
+  const registers = [...new Set(namedIn(statements))].sort();
+  const results = registersOf(test).flatMap(([owner, register], place) => (
+    owner === agent ? [`  out[place + ${place}] = ${register};`] : []));
+  return ['function copy(U8, U16, U32, DV, base, out, place) {',
+    ...(views.has('U16') ? ['  const half = base >> 1;'] : []),
+    ...(views.has('U32') ? ['  const word = base >> 2;'] : []),
+    ...(registers.length ? [`  let ${registers.map((register) => `${register} = 0`).join(', ')};`] : []),
+    ...statementLines(statements, '  '), ...results, '}'].join('\n');
+}
+
+// The condition as an expression on `seen`, the list of an outcome's values.
+function conditionCode(test) {
+  const places = new Map(registersOf(test).map(([agent, register], place) => [`${test.agents[agent].name}.${register}`, place]));
+  const code = (condition) => {
+    if (condition.all) return `(${condition.all.map(code).join(' && ')})`;
+    if (condition.any) return `(${condition.any.map(code).join(' || ')})`;
+    if (condition.not) return `!${code(condition.not)}`;
+    const { agent, register, equal, number } = condition;
+    return `(seen[${places.get(`${agent}.${register}`)}] ${equal ? '===' : '!=='} ${number})`;
+  };
+  return code(test.condition);
+}
+
+// The size of the widest element that a typed array of the test has: copies begin at its multiples.
+const alignmentOf = (test) => Math.max(1, ...test.agents.flatMap(({ statements }) => (
+  accessesOf(statements).filter(({ view }) => view !== 'DV').map(({ bits }) => bits / 8))));
+
+module.exports = { agentCode, alignmentOf, conditionCode };

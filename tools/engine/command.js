@@ -1,0 +1,165 @@
+'use strict';
+// What the commands share: their words, the program's report, children that are stopped with the command, and faults.
+
+const fs = require('fs');
+const path = require('path');
+const { spawn } = require('child_process');
+const { Fault } = require('./lines.js');
+const { readReport } = require('./report.js');
+const { readTest, registersOf } = require('./litmus.js');
+
+const TOP = path.resolve(__dirname, '..', '..');
+const SIGNALS = { SIGHUP: 129, SIGINT: 130, SIGTERM: 143 };
+
+class Failure extends Error {
+  constructor(status, message) {
+    super(message);
+    this.status = status;
+  }
+}
+
+// The words of a command: options with a value each, and one file.
+function readWords(given, options) {
+  const words = { ...options };
+  const files = [];
+  for (let place = 0; place < given.length; place += 1) {
+    const [, name, value] = /^--([a-z]+)(?:=(.*))?$/s.exec(given[place]) || [];
+    if (given[place] === '--help' || given[place] === '-h') return { help: true };
+    if (name === undefined) files.push(given[place]);
+    else if (!Object.hasOwn(options, name)) throw new Failure(2, `no option --${name}`);
+    else if (value === undefined && place + 1 === given.length) throw new Failure(2, `--${name} needs a value`);
+    else if (value === undefined) words[name] = given[place += 1];
+    else words[name] = value;
+  }
+  if (files.length !== 1) throw new Failure(2, `one file is needed, and ${files.length || 'none'} given`);
+  return { ...words, file: files[0] };
+}
+
+// Children have process groups of their own, so that all that they started can be stopped with them.
+const children = new Set();
+
+function stop(child, signal) {
+  try {
+    process.kill(-child.pid, signal);
+  } catch {
+    // It has ended.
+  }
+}
+
+// Starts a child; `ended` is a promise of its status and signal, or of why it could not be started.
+function start(command, words, stdio) {
+  const child = spawn(command, words, { stdio, detached: true });
+  if (child.pid !== undefined) children.add(child);
+  const ended = new Promise((done) => {
+    child.on('error', (error) => done({ error }));
+    child.on('close', (status, signal) => {
+      stop(child, 'SIGKILL');
+      children.delete(child);
+      done({ status, signal });
+    });
+  });
+  return { child, ended };
+}
+
+function stopAtSignals(name) {
+  for (const [signal, status] of Object.entries(SIGNALS)) {
+    process.on(signal, () => {
+      process.stderr.write(`${name}: stopped by ${signal}\n`);
+      for (const child of children) stop(child, 'SIGTERM');
+      setTimeout(() => {
+        for (const child of children) stop(child, 'SIGKILL');
+        process.exit(status);
+      }, 200);
+    });
+  }
+}
+
+// What a report allows: the registers, the values of each outcome, their places by `key`, and the verdict.
+class Allowed {
+  constructor() {
+    this.outcomes = [];
+    this.places = new Map();
+  }
+
+  static key(values) {
+    return values.join(' ');
+  }
+
+  give(part) {
+    if (part.begins) Object.assign(this, part.begins);
+    else if (part.ends) Object.assign(this, part.ends);
+    else if (part.outcome) {
+      this.places.set(Allowed.key(part.outcome.values), this.outcomes.length);
+      this.outcomes.push(part.outcome.values);
+    } else if (part.all.kind === 'refusal') {
+      const { number, name, line } = part.all;
+      throw new Failure(3, `refused ${number} ${name}${line === undefined ? '' : ` line ${line}`}`);
+    } else if (part.all.kind !== 'empty') throw new Failure(3, `a report is needed, and this is of the kind ${part.all.kind}`);
+  }
+}
+
+async function read(stream, allowed) {
+  try {
+    await readReport(stream, (part) => allowed.give(part), () => undefined);
+  } catch (error) {
+    if (error instanceof Fault) throw new Failure(3, error.message);
+    throw error;
+  }
+}
+
+// Of what the program says of a text.
+async function askProgram(program, text) {
+  const allowed = new Allowed();
+  const { child, ended } = start(path.resolve(program), [], ['pipe', 'pipe', 'inherit']);
+  child.stdin.on('error', () => {});
+  child.stdin.end(text);
+  const { error } = await Promise.race([ended, new Promise((done) => child.on('spawn', () => done({})))]);
+  if (error) throw new Failure(3, `the program isn't run: ${error.message}`);
+  try {
+    await read(child.stdout, allowed);
+  } finally {
+    stop(child, 'SIGTERM');
+  }
+  const { status, signal } = await ended;
+  if (allowed.verdict === undefined) throw new Failure(3, `${program} gave no report, and ended with ${signal || `status ${status}`}`);
+  return allowed;
+}
+
+function readFile(file) {
+  try {
+    return fs.readFileSync(file);
+  } catch (error) {
+    throw new Failure(2, error.message);
+  }
+}
+
+// The test in a file, its text, and what is allowed of it by the program's report, or by the report in a file.
+async function testAndReport({ file, program, report }) {
+  const text = readFile(file);
+  let allowed = new Allowed();
+  if (report === null) allowed = await askProgram(program, text);
+  else await read([readFile(report)], allowed);
+  const test = readTest(text.toString('latin1'));
+  const registers = registersOf(test).map(([agent, register]) => `${test.agents[agent].name}.${register}`);
+  if (allowed.test !== test.name || allowed.registers.join() !== registers.join()) {
+    throw new Failure(3, `the report isn't of the test ${test.name} and its registers`);
+  }
+  return { text: text.toString('latin1'), test, allowed };
+}
+
+// Runs a command's `main`, and ends with its status.
+function run(name, usage, main) {
+  stopAtSignals(name);
+  process.stdout.on('error', () => process.exit(4));
+  main(process.argv.slice(2)).then((status) => {
+    process.exitCode = status;
+  }, (error) => {
+    process.stderr.write(`${name}: ${error instanceof Failure || error instanceof Fault ? error.message : error.stack}\n`);
+    if (error.status === 2) process.stderr.write(usage);
+    process.exitCode = error.status ?? 3;
+  });
+}
+
+const grouped = (number) => String(number).replace(/\B(?=(?:[0-9]{3})+$)/g, ',');
+
+module.exports = { Allowed, Failure, TOP, grouped, readWords, run, start, stop, testAndReport };

@@ -1,0 +1,64 @@
+// Workers as the engines have them: script text that program.js puts behind SCRIPTS, one script for each agent. A host
+// makes a block, starts a worker with each script and the words that call `work` with the block, and waits for them. What
+// goes wrong with a worker is said as a line of JSON, as the workers do.
+
+// The words of control that agent.js names.
+const WRONG = 3, ENDED = 4;
+
+// As large as the shared block that the scripts want.
+function sizeOf(script) {
+  return new Function(`${script}\nreturn SHARED_BYTES;`)();
+}
+
+function onNode() {
+  const { Worker } = require('worker_threads');
+  const write = (line) => require('fs').writeSync(1, `${line}\n`);
+  const shared = new SharedArrayBuffer(sizeOf(SCRIPTS[0]));
+  const fail = (agent, text) => {
+    write(JSON.stringify({ wrong: `agent ${agent}: ${text}` }));
+    process.exit(1);
+  };
+  const tail = '\nfunction say(line) { require("fs").writeSync(1, `${line}\\n`); }\nwork(require("worker_threads").workerData);';
+  SCRIPTS.forEach((script, agent) => {
+    const worker = new Worker(script + tail, { eval: true, workerData: shared });
+    worker.on('error', (error) => fail(agent, String(error)));
+    worker.on('exit', (status) => {
+      if (status !== 0) fail(agent, `its worker ended with status ${status}`);
+    });
+  });
+}
+
+// Waits in the shell's own thread until all agents have ended, or one said that something went wrong.
+function waitForAgents(shared, pause) {
+  const control = new Int32Array(shared, 0, 16);
+  while (Atomics.load(control, ENDED) < SCRIPTS.length && Atomics.load(control, WRONG) === 0) pause(20);
+  for (let tries = 0; tries < 50 && Atomics.load(control, ENDED) < SCRIPTS.length; tries += 1) pause(20);
+}
+
+function onSpiderMonkey() {
+  const shared = new SharedArrayBuffer(sizeOf(SCRIPTS[0]));
+  setSharedArrayBuffer(shared);
+  const tail = '\nfunction say(line) { print(line); }\nwork(getSharedArrayBuffer());';
+  for (const script of SCRIPTS) evalInWorker(script + tail);
+  waitForAgents(shared, (milliseconds) => sleep(milliseconds / 1000));
+}
+
+function onAgentHost(agent) {
+  const shared = new SharedArrayBuffer(sizeOf(SCRIPTS[0]));
+  const host = typeof $262 === 'undefined' ? '$' : '$262';
+  const tail = `\nlet lines = [];\nfunction say(line) { lines.push(line); }
+${host}.agent.receiveBroadcast((shared) => { work(shared); for (const line of lines) ${host}.agent.report(line); ${host}.agent.leaving(); });`;
+  for (const script of SCRIPTS) agent.start(script + tail);
+  agent.broadcast(shared);
+  waitForAgents(shared, (milliseconds) => agent.sleep(milliseconds));
+  for (let tries = 0, lines = 0; tries < 100 && lines < SCRIPTS.length; tries += 1) {
+    for (let line; (line = agent.getReport()) != null; lines += 1) print(line);
+    agent.sleep(10);
+  }
+}
+
+if (typeof process === 'object' && typeof require === 'function') onNode();
+else if (typeof evalInWorker === 'function') onSpiderMonkey();
+else if (typeof $262 === 'object' && $262.agent) onAgentHost($262.agent);
+else if (typeof $ === 'object' && $.agent) onAgentHost($.agent);
+else print(JSON.stringify({ wrong: 'this engine has no workers that are known here' }));

@@ -1,0 +1,53 @@
+'use strict';
+// Lines of a stream, and a writer that waits for its stream, so that a long report is never held whole.
+
+const LONGEST_LINE = 65536;
+
+class Fault extends Error {}
+
+// Gives each line of a stream to `take`, without the byte 10 that ends it, and waits where `take` gives a promise.
+async function eachLine(stream, take) {
+  let rest = '';
+  let number = 0;
+  for await (const chunk of stream) {
+    const lines = (rest + chunk.toString('latin1')).split('\n');
+    rest = lines.pop();
+    for (const line of lines) {
+      number += 1;
+      const wait = take(line);
+      if (wait) await wait;
+    }
+    if (rest.length > LONGEST_LINE) throw new Fault(`line ${number + 1} is longer than any line of a report`);
+  }
+  if (rest !== '') throw new Fault(`line ${number + 1} doesn't end: the report breaks off`);
+}
+
+// Collects text, and writes it in large pieces.
+class Writer {
+  constructor(stream) {
+    this.stream = stream;
+    this.pieces = [];
+    this.length = 0;
+  }
+
+  add(text) {
+    this.pieces.push(text);
+    this.length += text.length;
+  }
+
+  // A promise where the stream has to be waited for.
+  drain() {
+    return this.length > LONGEST_LINE ? this.flush() : undefined;
+  }
+
+  flush() {
+    const text = this.pieces.join('');
+    this.pieces = [];
+    this.length = 0;
+    return new Promise((done, failed) => {
+      this.stream.write(text, 'latin1', (error) => (error ? failed(error) : done()));
+    });
+  }
+}
+
+module.exports = { Fault, Writer, eachLine };
