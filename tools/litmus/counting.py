@@ -3,7 +3,7 @@ import functools
 import math
 
 from litmus import limits
-from litmus.text import Event, If, inits, walks
+from litmus.text import If, inits, walks
 
 
 def accesses(statements):

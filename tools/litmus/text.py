@@ -17,7 +17,7 @@ class Event(collections.namedtuple("Event", "line register atomic first size val
 
 
 # An if: its register, whether equal, the number compared, its line's number, then-part and else-part.
-If = collections.namedtuple("If", "register equal value number body other")
+If = collections.namedtuple("If", "register equal number_compared number body other")
 Test = collections.namedtuple("Test", "name size agents condition")
 
 
