@@ -4,6 +4,8 @@ import re
 
 from litmus.text import Fault, inits, walks
 
+MOST_SETS = 100_000
+
 
 def value_of(event, sources, events):
     """The composed value of the read, or None where some source doesn't write its byte."""
@@ -181,14 +183,28 @@ class Relations:
                 return f"tear free reads: {r} mixes {' and '.join(whole)}"
         return None
 
+    def forcing(self):
+        """What happens-before and the triples force, or None where an event is forced before itself."""
+        pairs, longer = self.before, None
+        while pairs != longer:
+            longer = pairs
+            pairs = self.closed(pairs | {(r, v) for w, r, v in self.triples if (w, v) in pairs}
+                                | {(v, w) for w, r, v in self.triples if (v, r) in pairs})
+        return None if any(a == b for a, b in pairs) else pairs
+
     def has_order(self):
         """Whether some list of all events keeps happens-before and has no V between W and R: by sets of events placed."""
-        earlier = {name: {a for a, b in self.before if b == name} for name in self.names}
+        forced = self.forcing()
+        if forced is None:
+            return False
+        earlier = {name: {a for a, b in forced if b == name} for name in self.names}
         seen, waiting = set(), [frozenset()]
         while waiting:
             placed = waiting.pop()
             if len(placed) == len(self.names):
                 return True
+            if len(seen) > MOST_SETS:
+                raise Fault("whether the choice has a memory-order takes too long to find")
             for name in reversed(self.names):
                 longer = placed | {name}
                 if name not in placed and earlier[name] <= placed and longer not in seen and not any(
