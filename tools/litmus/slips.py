@@ -1,0 +1,201 @@
+"""The common slips of one line that has no form, and what to write instead. A rule is a pattern, what stands in its place,
+and why; where None stands in its place the rule only says why. Rules go over the line one after another, and what comes out
+is shown where it has a form."""
+import re
+
+from litmus import forms
+
+SIZES = {"8": 1, "16": 2, "32": 4}
+VIEW = r"\b(?:[iu](8|16|32)|I(8|16|32)|U?[iI]nt(8|16|32)(?:Array)?|ui(8|16|32))\b"
+METHODS = {"load": "load", "read": "load", "get": "load", "store": "store", "write": "store", "set": "store",
+           "exchange": "exchange", "swap": "exchange", "xchg": "exchange", "compareexchange": "compareExchange",
+           "cas": "compareExchange", "cmpxchg": "compareExchange", "compareandswap": "compareExchange",
+           "compareandexchange": "compareExchange"}
+
+
+def view_of(match):
+    return "U" + next(filter(None, match.groups()))
+
+
+def decimal(match):
+    return str(int(match[0].rstrip("n").replace("_", ""), 0))
+
+
+def unsigned(match):
+    """-1 as the access's size has it."""
+    size = re.search(r"U(?:int)?(8|16|32)\b", match.string)
+    return str(2 ** int(size[1] if size else 32) - int(match[1]))
+
+
+def method(match):
+    name = METHODS.get(match[1].replace("_", "").lower())
+    return f"Atomics.{name}(" if name else match[0]
+
+
+def nth_agent(agents):
+    def named(match):
+        place = int(match[1])
+        return f"{agents[place] if place < len(agents) else 'NAME'}.{match[2]}"
+    return named
+
+
+COMMENTS = [
+    (r"/\*.*?\*/|\(\*.*?\*\)|/\*.*$|\(\*.*$", "", "a comment begins with `//` and ends with its line"),
+    (r"\s*(?:#|--|%).*$", "", "a comment begins with `//`"),
+]
+SIGNS = [
+    (r";\s*$", "", "no `;` ends a line"),
+    (r";", None, "each statement stands on a line of its own, without `;`"),
+    (r"===", "==", "equal is `==`"),
+    (r"!==", "!=", "unequal is `!=`"),
+    (r"<>", "!=", "unequal is `!=`"),
+    (r":=|<-", "=", "`=` puts a value into its place"),
+    (r"^(?:let|const|var|int|auto|u?int\d+_t)\s+", "", "registers aren't declared: there are r0 to r7"),
+    (r"\b0[xX][0-9a-fA-F]+n?\b|\b0[bB][01]+n?\b|\b0[oO][0-7]+n?\b|\b[1-9][0-9]*n\b|\b[0-9]+(?:_[0-9]+)+n?\b", decimal,
+     "numbers are decimal, of digits alone"),
+    (r"\b0+([1-9][0-9]*)\b|\b0+(0)\b", lambda m: m[1] or m[2], "a number has no 0 in front"),
+    (r"(?<=[=,(])\s*-\s*(\d+)", lambda m: (" " if m[0][0] == " " else "") + unsigned(m),
+     "numbers have no sign: -1 is 255 in one byte, 65535 in two and 4294967295 in four"),
+    (r"\b\d+\.\d+\b", None, "numbers are whole"),
+    (r"\b[A-Za-z_]\w{32,}", None, "a word has at most 32 letters, digits and `_`"),
+]
+VIEWS = [
+    (VIEW, view_of, "the arrays are U8, U16 and U32; an Int32Array touches the same bytes as U32"),
+    (r"\b(?:F|Float|U|I|BigInt|BigUint)(?:64|32)(?:Array)?\b(?<!\bU32)", None, "there are no floating and no 64-bit arrays: only U8, U16 and U32"),
+    (r"\b(?:Uint8ClampedArray|U8C)\b", "U8", "a Uint8ClampedArray touches the same bytes as U8"),
+    (r"\bU(8|16|32)\((\d+)\)", r"U\1[\2]", "an element stands in brackets"),
+    (r"\bU(8|16|32)\[r[0-7].*?\]", None, "an index is a number: for each value of the register write an `if` with the access in it"),
+    (r"\b(?:Atomics\.)?(fence|mfence|barrier|atomic_thread_fence)\b", None, "there are no fences: only accesses through Atomics order anything"),
+]
+ATOMICS = [
+    (r"\b[aA]tomics?\s*(?:\.|::)\s*", "Atomics.", "the accesses are Atomics.load, store, exchange and compareExchange"),
+    (r"Atomics\.(add|sub|and|or|xor|increment|fetch_add|fetchAdd)\b", None,
+     "there is no Atomics.add, sub, and, or, xor: where n is the value that is there, `r0 = Atomics.compareExchange(U8, 0, n, n + 1)` "
+     "with the numbers put in does it"),
+    (r"Atomics\.(wait|waitAsync|notify|isLockFree|pause)\b", None, "there is no waiting and no waking: load the flag, and go on in an `if`"),
+    (r"Atomics\.(\w+)\s*\(", method, "the accesses are Atomics.load, store, exchange and compareExchange"),
+    (r"Atomics\.(\w+)\(U(8|16|32)\[(\d+)\]", r"Atomics.\1(U\2, \3", "array and index are two arguments"),
+    (r"^(Atomics\.(?:load|exchange|compareExchange)\(|DV\.get)", r"r0 = \1", "what is read goes to a register, always"),
+    (r"^(U(?:8|16|32)\[\d+\])$", r"r0 = \1", "what is read goes to a register, always"),
+    (r"^r\d\s*=\s*(Atomics\.store\(|DV\.set)", r"\1", "a store leaves nothing in a register"),
+    (r"^r\d\s*=\s*U\d+\[\d+\]\s*=", None, "a store leaves nothing in a register: two lines"),
+]
+DATA_VIEW = [
+    (r"\b(?:dv|DataView|view|dataView)\.(?=[gs]et)", "DV.", "the DataView's name is DV"),
+    (r"\b([gs]et)U?[iI]nt(8|16|32)\b", r"\1Uint\2", "the DataView's accesses are getUint8, 16, 32 and setUint8, 16, 32"),
+    (r"\b([gs]et)(?:BigU?[iI]nt64|Float\w+)\b", None, "there are no floating and no 64-bit accesses"),
+    (r"(DV\.[gs]etUint(?:16|32)\([^)]*), *false\)", r"\1, true)", "the lowest byte stands first: the last argument is `true`, never `false`"),
+    (r"(DV\.getUint(?:16|32)\(\s*\d+)\s*\)", r"\1, true)", "two and four bytes need the argument `true`: the lowest byte stands first"),
+    (r"(DV\.setUint(?:16|32)\(\s*\d+\s*,\s*\d+)\s*\)", r"\1, true)", "two and four bytes need the argument `true`: the lowest byte stands first"),
+    (r"(DV\.[gs]etUint8\([^)]*), *(?:true|false)\)", r"\1)", "one byte has no order, and no `true`"),
+    (r"\bDV\[(\d+)\]", None, "a DataView is used by its calls: `r0 = DV.getUint8(0)`, `DV.setUint8(0, 1)`"),
+]
+STATEMENTS = [
+    (r"\bR([0-7])\b", r"r\1", "registers are r0 to r7, small letters"),
+    (r"\br(?:[89]|\d\d+)\b", None, "an agent has eight registers, r0 to r7"),
+    (r"^(while|for|do|loop|repeat|until|goto)\b", None, "there are no loops: write the turns out, one in the `if` of the other"),
+    (r"^(return|break|continue)\b", None, "nothing leaves early: put the rest into an `else` part"),
+    (r"(\+\+|--|[-+*|&^]=)", None, "there is no arithmetic: a load, and a store of a number"),
+    (r"(?<=[\w\])])\s*[-+*^%]\s*(?=[\w(])", None, "there is no arithmetic: the values stored and compared are plain numbers"),
+    (r"^(U\w+\[\d+\]\s*=|Atomics\.(?:store|exchange)\(U\w+,\s*\d+,|DV\.set\w+\(\d+,)\s*r\d", None,
+     "only numbers are stored: for each value of the register write an `if` with a store in it"),
+    (r"^(U\w+\[\d+\])\s*=\s*(U\w+\[\d+\])$", None, "a line is one access: load into a register, then store a number"),
+    (r"^(U\d+\[\d+\])\s*==\s*(\d+)$", r"\1 = \2", "`=` puts a value into its place, and `==` compares"),
+    (r"^(r[0-7])\s*==\s*(?=U\d|Atomics|DV)", r"\1 = ", "`=` puts a value into its place, and `==` compares"),
+    (r"^r\d\s*=\s*(r\d|\d+)$", None, "a register only takes what an access reads"),
+    (r"^([A-Za-z_]\w*)\s*=\s*((?:U8|U16|U32|Atomics|DV)\b.*)$", lambda m: m[0] if re.fullmatch("r[0-7]|U8|U16|U32", m[1]) else f"r0 = {m[2]}",
+     "registers are named r0 to r7"),
+    (r"^(?!if\b|check\b|test\b|agent\b|bytes\b|exists|forall)([a-z])\s*=\s*(\d+)$", None,
+     "memory has no names: byte n is `U8[n]`, so write `U8[0] = 1`"),
+    (r"^(\w+)\s*=\s*([a-z])$", None, "memory has no names: byte n is `U8[n]`, so write `r0 = U8[0]`"),
+]
+BRANCHES = [
+    (r"^\}?\s*else\s*if\b|^elif\b|^elsif\b", None, "there is no `else if`: `} else {`, on the next line `if .. {`, and one `}` more"),
+    (r"^else\s*[{:]?$", "} else {", "`}` and `else {` stand on one line, in place of the two lines"),
+    (r"^\}\s*else\s*:?$", "} else {", "an else line ends with `{`"),
+    (r"^(if\b.*\{)\s*\S.*$", None, "`if .. {`, each statement and `}` stand on lines of their own"),
+    (r"^if\s*\((.*)\)\s*(?:\{|then)?$", r"if \1 {", "an if has no parentheses"),
+    (r"^(if\b.*?)\s*(?:then|:|\bdo)\s*\{?$", r"\1 {", "an if line ends with `{`"),
+    (r"^(if\b.*[^{\s])$", r"\1 {", "an if line ends with `{`, and its end is a line `}`"),
+    (r"^(if\b.*)(&&|\|\||\band\b|\bor\b)", None, "an if has one comparison: put one `if` into the other (and), or the statements into both (or)"),
+    (r"^if\s+(?:U\d|Atomics|DV)", None, "an if looks at a register: load it on the line before, as in `r0 = U8[0]`"),
+    (r"^if\s+\w+\.(r\d)", r"if \1", "in an if the register is the agent's own"),
+    (r"^if\s+(r\d)\s*\{$", r"if \1 != 0 {", "an if compares with a number"),
+    (r"^if\s+!\s*(r\d)\s*\{$", r"if \1 == 0 {", "an if compares with a number"),
+    (r"^if\s+(r\d)\s*=\s*(\d+)", r"if \1 == \2", "a comparison is `==` or `!=`"),
+    (r"^if\s+(\d+)\s*(==|!=)\s*(r\d)", r"if \3 \2 \1", "the register stands first"),
+    (r"^if\s+r\d\s*(?:==|!=)\s*r\d", None, "a register is compared with a number: an `if` for each value"),
+    (r"^if\s+.*[<>]", None, "comparisons are `==` and `!=` alone"),
+    (r"^(\}|end|endif|fi|end if)$", "}", "an if ends with `}`"),
+]
+HEADS = [
+    (r"^(?:thread|worker|process|proc|Agent|AGENT|cpu)\s*(\w+)\s*[:{]?$", lambda m: f"agent {m[1] if not m[1][0].isdigit() else 'P' + m[1]}", "a thread is an `agent` with a name"),
+    (r"^P(\d+)\s*:?$", r"agent P\1", "a thread is an `agent` with a name"),
+    (r"^(agent\s+\w+)\s*[:{(].*$", r"\1", "an agent's line ends with its name; its statements follow, up to the next agent"),
+    (r"^(?:size|byte|block|memory|bytes)\s*[:=]?\s*(\d+)\s*(?:bytes?)?$", r"bytes \1", "the block's size is `bytes` and a number"),
+    (r"^(?:name|Test|TEST|test)\s*[:=]\s*", "test ", "a test's name stands after `test`"),
+    (r"^(test|agent)\s+[\"'](.*?)[\"']$", r"\1 \2", "a name has no quotes"),
+    (r"^(test|agent)\s+(\S.*)$", lambda m: f"{m[1]} {clean_name(m[2])}", "a name has letters, digits and `_`, and no digit first"),
+    (r"^test$", "test mine", "a test has a name"),
+    (r"^agent$", "agent A", "an agent has a name"),
+    (r"^bytes$", "bytes 8", "the block has a size"),
+    (r"^(?:async |static |export )?(?:function|class|new|import|require)\b", None, "this is JavaScript: a litmus text has only the lines of docs/FORMAT.md"),
+]
+
+
+def clean_name(words):
+    name = re.sub(r"\W+", "_", words.strip()).strip("_") or "A"
+    return ("_" if name[0].isdigit() else "") + name
+
+
+def condition_rules(agents):
+    only = agents[0] if len(agents) == 1 else "NAME"
+    bare = (f"registers are named with their agent: {only}.r0" if len(agents) != 1 else "registers are named with their agent")
+    return [
+        (r"^(?:~\s*exists|never|forbidden)\b\s*:?\s*", "check ", "the question is `check`; herd7's ~exists is the verdict never"),
+        (r"^(?:forall|always|assert)\b\s*:?\s*", "check ", "the question is `check`; herd7's forall is the verdict always"),
+        (r"^(?:exists|sometimes|condition|final|expect|assert|Check|CHECK|allowed)\b\s*:?\s*|^check\s*:\s*", "check ", "the question is `check`"),
+        (r"\s*/\\\s*", " && ", "and is `&&`"), (r"\s*\\/\s*", " || ", "or is `||`"),
+        (r"\band\b", "&&", "and is `&&`"), (r"\bor\b", "||", "or is `||`"), (r"\bnot\b|~", "!", "not is `!`"),
+        (r"(?<!&)&(?!&)", "&&", "and is `&&`"), (r"(?<!\|)\|(?!\|)", "||", "or is `||`"),
+        (r"\bP?(\d+)\s*[:.]\s*(r[0-7])\b", nth_agent(agents), "a register is named by its agent, `A.r0`"),
+        (r"\b([A-Za-z_]\w*)\s*(?::|->|_)\s*(r[0-7])\b", r"\1.\2", "a register is named by its agent, `A.r0`"),
+        (r"\s*(?<![=!<>])=(?!=)\s*", " == ", "a comparison is `==` or `!=`"),
+        (r"(?<![.\w])(\d+)\s*(==|!=)\s*(\w+\.r[0-7])", r"\3 \2 \1", "the register stands first"),
+        (r"\[\s*\w+\s*\]\s*==|U\d+\[\d+\]\s*[!=]=|Atomics|(?<![.\w])[a-z]\s*==", None,
+         "what memory holds at the end can't be asked: load it into a register of an agent, and ask for that"),
+        (r"(?<![.\w])(r[0-7])\b", f"{only}.\\1", bare),
+        (r"\w+\.r\d\s*(?:==|!=)\s*\w+\.r\d", None, "a register is compared with a number: `A.r0 == 0 && B.r0 == 0 || A.r0 == 1 && B.r0 == 1`"),
+        (r"[<>]", None, "comparisons are `==` and `!=` alone"),
+        (r"(\w+\.r\d)(?!\s*[=!]=)(?=\s*(?:$|&&|\|\||\)))", r"\1 != 0", "a register is compared with a number"),
+        (r"^check\s*$", "check A.r0 == 0", "`check` needs a condition"),
+    ]
+
+
+QUESTION = re.compile(r"^(?:~\s*exists|exists|forall|never|always|sometimes|assert|expect|condition|final|check|Check|CHECK|allowed|forbidden)\b")
+
+
+def advice(line, agents):
+    """Why the line has no form, one sentence for each slip found, and the line to write, or None."""
+    code = forms.code_of(line).strip()
+    if QUESTION.match(code):
+        rules = COMMENTS + SIGNS + condition_rules(agents)
+    elif code.startswith(("if", "}", "else", "elif")):
+        rules = COMMENTS + SIGNS + VIEWS + BRANCHES
+    else:
+        rules = COMMENTS + SIGNS + VIEWS + DATA_VIEW + ATOMICS + STATEMENTS + BRANCHES[-1:] + HEADS
+    said = []
+    for pattern, instead, why in rules:
+        if not re.search(pattern, code) or not said_of_rest(code):
+            continue
+        changed = code if instead is None else re.sub(pattern, instead, code).strip()
+        if changed != code or instead is None:
+            said.append(why)
+            code = changed
+    fixed = code if said and code and forms.first_fault(code) is None else None
+    return list(dict.fromkeys(said)), fixed
+
+
+def said_of_rest(code):
+    """Whether the line still has no form."""
+    return not code or forms.first_fault(code) is not None
