@@ -11,6 +11,7 @@ pub mod LevelLemmas
 pub mod OrderLemmas
 pub mod PartLemmas
 pub mod PlaceLemmas
+pub mod RaceLemmas
 pub mod ReadingLemmas
 pub mod RefusalLemmas
 pub mod RelatingLemmas

@@ -11,6 +11,7 @@ pub mod Forbidden
 pub mod Growth
 pub mod InitReads
 pub mod Settled
+pub mod DataRace
 pub mod Part
 pub mod Broken
 pub mod WideEvents

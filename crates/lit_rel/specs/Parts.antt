@@ -4,5 +4,6 @@ pub mod Forbidding
 pub mod Given
 pub mod Levels
 pub mod Pushed
+pub mod Racing
 pub mod Refused
 pub mod Steps

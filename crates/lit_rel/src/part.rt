@@ -6,6 +6,7 @@ ghost use Rattle.lit_paths.specs.Choice.{AreSources, combinations_of};
 ghost use Rattle.lit_paths.specs.Plan.{AreEventsIn};
 ghost use Rattle.lit_rel.specs.Between.{Forbids};
 ghost use Rattle.lit_rel.specs.Coherent.{HasCoherentReads};
+ghost use Rattle.lit_rel.specs.DataRace.{HasDataRace};
 ghost use Rattle.lit_rel.specs.Forbidden.{IsForbidden};
 ghost use Rattle.lit_rel.specs.HappensBefore.{HappensBefore};
 ghost use Rattle.lit_rel.specs.Part.{AreFirstSources, IsComplete, IsNextSource, part_events, with_sources};
@@ -161,6 +162,13 @@ impl<'p> Part<'p> {
         ensures triples { (w r v : ℕ) → Forbids result w r v ↔ IsForbidden (part_events self.now) self.now.sources w r v }
     {
         self.related.between()
+    }
+
+    /// Whether two events are in a data race (29.9), by the sources given.
+    pub fn race(&self) -> bool
+        ensures { IsTrue result ↔ HasDataRace (part_events self.now) self.now.sources }
+    {
+        self.related.race()
     }
 
     /// The value of a read (29.5.4 and 29.5.5), by its event number, from the bytes that have a source.

@@ -3,6 +3,7 @@
 mod between;
 mod broken;
 mod parts;
+mod races;
 mod sets;
 
 ghost use Rattle.std.specs.Prelude.{◌≡◌, ◌+◌, ◌<◌, ◌≤◌, [], ◌∷◌, ◌++◌, length};

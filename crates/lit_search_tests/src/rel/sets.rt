@@ -3,7 +3,7 @@
 use super::assert_pairs;
 use lit_paths::EVENT_LIMIT;
 use lit_rel::{
-    Between, EventSet, Rows, mixed_sizes_never_synchronize, never_reads_itself,
+    Between, EventSet, Rows, mixed_sizes_never_synchronize, never_reads_itself, races_are_foreseen,
     relations_grow_with_bytes, typed_load_mixes_with_init_only, values_stay, viewed_load_mixes,
 };
 
@@ -88,5 +88,6 @@ fn laws_are_named(rt: HostRuntime) {
     never_reads_itself();
     relations_grow_with_bytes();
     values_stay();
+    races_are_foreseen();
     assert!(rt; true);
 }

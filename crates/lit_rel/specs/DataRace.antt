@@ -1,0 +1,72 @@
+-- races and data races (ECMA-262, 2024, 29.8 and 29.9), by a relation that orders events, happens-before, and one of
+-- reads and their sources, reads-from.
+use Rattle.std.specs.Prelude.{◌≡◌, ◌≢◌, ◌⊎◌, ℕ, ◌<◌, ◌≤◌, IsTrue, List, ◌++◌, length, Some, slice_get}
+use Rattle.lit_paths.specs.declared.event.Order3.TheVariants.{SeqCst}
+use Rattle.lit_paths.specs.declared.event.Event.{Event}
+use Rattle.lit_paths.specs.ByteReads.{byte_reads, IsCandidate}
+use Rattle.lit_paths.specs.Event.{HasSameRange, SharesByte, does_write, event_at}
+use Rattle.lit_paths.specs.Numbers.{AreGiven}
+use Rattle.lit_rel.specs.HappensBefore.{HappensBefore, HappensBeforeBy}
+use Rattle.lit_rel.specs.ReadsFrom.{ReadsByteFrom, ReadsFrom, ReadsFromBy}
+
+-- both write, and some byte is in both ranges; also events that make the block write
+pub record WriteOneByte (e d : Event) : Type 0 where
+  pub first : IsTrue (does_write e.kind)
+  pub second : IsTrue (does_write d.kind)
+  pub shares : SharesByte e d
+
+-- the ranges share a byte, and are not equal
+pub record HaveOverlap (e d : Event) : Type 0 where
+  pub shares : SharesByte e d
+  pub unequal : ¬ HasSameRange e d
+
+-- e and d are two events, neither happens before the other, and either both write a byte or one reads from the other
+pub record IsRace (events : List Event) (before reads : ℕ → ℕ → Type 0) (e d : ℕ) : Type 0 where
+  pub first_known : e < length events
+  pub second_known : d < length events
+  pub distinct : e ≢ d
+  pub not_before : ¬ before e d
+  pub not_after : ¬ before d e
+  pub conflict : WriteOneByte (event_at events e) (event_at events d) ⊎ reads e d ⊎ reads d e
+
+-- one of the two is not sequentially consistent, or their ranges overlap
+abbrev pub AreUnguarded : Event → Event → Type 0
+AreUnguarded e d = (e.order ≢ SeqCst) ⊎ (d.order ≢ SeqCst) ⊎ HaveOverlap e d
+
+-- a race of two events that are so
+pub record IsDataRace (events : List Event) (before reads : ℕ → ℕ → Type 0) (e d : ℕ) : Type 0 where
+  pub race : IsRace events before reads e d
+  pub unguarded : AreUnguarded (event_at events e) (event_at events d)
+
+-- some two events are in a data race
+pub record HasDataRaceOf (events : List Event) (before reads : ℕ → ℕ → Type 0) : Type 0 where
+  pub first : ℕ
+  pub second : ℕ
+  pub is_race : IsDataRace events before reads first second
+
+abbrev pub HasDataRaceBy : List Event → (ℕ → ℕ → ℕ → Type 0) → Type 0
+HasDataRaceBy events given = HasDataRaceOf events (HappensBeforeBy events given) (ReadsFromBy given)
+
+abbrev pub HasDataRace : List Event → List ℕ → Type 0
+HasDataRace events sources = HasDataRaceBy events (ReadsByteFrom events sources)
+
+-- some byte of read r has no source yet, and w is a candidate of it (this project's own)
+pub record HasCandidateLeft (events : List Event) (sources : List ℕ) (r w : ℕ) : Type 0 where
+  pub place : ℕ
+  pub byte : ℕ
+  pub is_read : slice_get (byte_reads events) place ≡ Some (r, byte)
+  pub left : length sources ≤ place
+  pub candidate : IsCandidate events r byte w
+
+-- read r reads from w, or can still come to (this project's own)
+abbrev pub MayReadFrom : List Event → List ℕ → ℕ → ℕ → Type 0
+MayReadFrom events sources r w = ReadsFrom events sources r w ⊎ HasCandidateLeft events sources r w
+
+-- A data race, by happens-before of the sources given, where reads may also read from candidates of bytes that have no
+-- source yet (this project's own).
+abbrev pub MayRace : List Event → List ℕ → Type 0
+MayRace events sources = HasDataRaceOf events (HappensBefore events sources) (MayReadFrom events sources)
+
+-- a data race that comes with further sources could be foreseen
+abbrev pub RacesAreForeseen : Type 0
+RacesAreForeseen = (events : List Event) (sources rest : List ℕ) → AreGiven events (sources ++ rest) → HasDataRace events (sources ++ rest) → MayRace events sources

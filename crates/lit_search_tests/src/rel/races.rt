@@ -1,0 +1,128 @@
+//! Data races of the sources given, and of those that may come.
+
+use super::give;
+use lit_paths::plan;
+use lit_read::read;
+use lit_rel::Part;
+use lit_texts::{
+    EQUAL_STORES, INDEPENDENT_READS_PLAIN, MESSAGE_PASSING, OWN_STORE, STORE_BUFFERING,
+    STORE_BUFFERING_MIXED, STORE_BUFFERING_PLAIN, SWAPS, TYPED_READ,
+};
+use std::alloc::AllocGlobal;
+use std::process::Abort;
+use std::test::Fail;
+
+const MASK: &str = "test mask
+bytes 1
+agent A
+U8[0] = 0
+agent B
+r0 = U8[0]
+check B.r0 == 0
+";
+
+const OVERLAP: &str = "test overlap
+bytes 2
+agent A
+Atomics.store(U16, 0, 1)
+agent B
+r0 = Atomics.exchange(U8, 0, 1)
+check B.r0 == 0
+";
+
+const UPPER_BYTE: &str = "test upper
+bytes 2
+agent A
+r0 = U16[0]
+agent B
+U8[1] = 1
+check A.r0 == 0
+";
+
+/// Whether the first combination of a test, with these sources for its first byte reads, has a data race, and whether it
+/// may come to one.
+fn races_of(
+    rt: &(impl Abort + AllocGlobal),
+    text: &str,
+    sources: &[u8],
+) -> Result<(bool, bool), Fail> {
+    let test = read(rt.alloc(), text.as_bytes())?;
+    let plan = plan(rt.alloc(), &test)?;
+    assert!(rt; plan.combinations() > 0);
+    let mut part = Part::open(&plan, 0);
+    for source in sources {
+        give(rt, &mut part, *source);
+    }
+    Ok((part.race(), part.may_race()))
+}
+
+/// Texts with sources for the first byte reads of their only combination, whether these give a data race, and whether
+/// further ones may.
+const RACES: [(&str, &[u8], bool, bool); 33] = [
+    // A stores byte 0 (2) and loads byte 1 (3), B stores byte 1 (4) and loads byte 0 (5): all seq-cst, of one byte.
+    (STORE_BUFFERING, &[], false, false),
+    (STORE_BUFFERING, &[1, 2], false, false),
+    (STORE_BUFFERING, &[4, 0], false, false),
+    // The same events, plain. What is read from init is ordered; the other agent's store is not.
+    (STORE_BUFFERING_PLAIN, &[], false, true),
+    (STORE_BUFFERING_PLAIN, &[1], false, true),
+    (STORE_BUFFERING_PLAIN, &[1, 0], false, false),
+    (STORE_BUFFERING_PLAIN, &[1, 2], true, true),
+    (STORE_BUFFERING_PLAIN, &[4], true, true),
+    // A stores bytes 0 and 1 (4) and loads byte 2 (5), B stores bytes 2 and 3 (6) and loads byte 0 (7): all seq-cst, but
+    // a load has half the range of the store.
+    (STORE_BUFFERING_MIXED, &[], false, true),
+    (STORE_BUFFERING_MIXED, &[2], false, true),
+    (STORE_BUFFERING_MIXED, &[2, 0], false, false),
+    (STORE_BUFFERING_MIXED, &[6, 0], true, true),
+    // A stores byte 0 (2) and then the flag (3), B loads the flag (4) and byte 0 (5). Where the flag is read from A, A's
+    // plain store happens before B's plain load.
+    (MESSAGE_PASSING, &[], false, true),
+    (MESSAGE_PASSING, &[3], false, false),
+    (MESSAGE_PASSING, &[3, 2], false, false),
+    (MESSAGE_PASSING, &[3, 0], false, false),
+    (MESSAGE_PASSING, &[1], false, true),
+    (MESSAGE_PASSING, &[1, 0], false, false),
+    (MESSAGE_PASSING, &[1, 2], true, true),
+    // Two plain stores of one byte, or of the same two, race before anything is read.
+    (EQUAL_STORES, &[], true, true),
+    (EQUAL_STORES, &[0], true, true),
+    (TYPED_READ, &[], true, true),
+    // Two exchanges of one byte do not, and two read-modify-writes of ranges that overlap do.
+    (SWAPS, &[], false, false),
+    (SWAPS, &[2, 1], false, false),
+    (OVERLAP, &[], true, true),
+    // A plain load of what is stored through Atomics.
+    (INDEPENDENT_READS_PLAIN, &[], false, true),
+    (INDEPENDENT_READS_PLAIN, &[2], true, true),
+    // An agent's own store comes before its load.
+    (OWN_STORE, &[], false, false),
+    (OWN_STORE, &[1], false, false),
+    // The store (1) writes what init (0) has made; the load (2) races where it reads from the store.
+    (MASK, &[], false, true),
+    (MASK, &[0], false, false),
+    (MASK, &[1], true, true),
+    // The load of bytes 0 and 1 (2) has its lower byte, and can still read the upper one from the store (3).
+    (UPPER_BYTE, &[0], false, true),
+];
+
+#[test]
+fn sources_give_a_race_or_may_come_to_one(rt: HostRuntime) -> Result<(), Fail> {
+    for (text, sources, race, may) in RACES {
+        let found = races_of(&rt, text, sources)?;
+        assert_eq!(rt;
+            found,
+            (race, may),
+            "of {} sources in {text}",
+            sources.len()
+        );
+    }
+    Ok(())
+}
+
+#[test]
+fn the_last_byte_decides(rt: HostRuntime) -> Result<(), Fail> {
+    assert_eq!(rt; races_of(&rt, UPPER_BYTE, &[0, 1])?, (false, false));
+    assert_eq!(rt; races_of(&rt, UPPER_BYTE, &[0, 3])?, (true, true));
+    Ok(())
+}
