@@ -115,11 +115,10 @@ async function askProgram(program, text) {
   child.stdin.end(text);
   const { error } = await Promise.race([ended, new Promise((done) => child.on('spawn', () => done({})))]);
   if (error) throw new Failure(3, `the program isn't run: ${error.message}`);
-  try {
-    await read(child.stdout, allowed);
-  } finally {
+  await read(child.stdout, allowed).catch((failure) => {
     stop(child, 'SIGTERM');
-  }
+    throw failure;
+  });
   const { status, signal } = await ended;
   if (allowed.verdict === undefined) throw new Failure(3, `${program} gave no report, and ended with ${signal || `status ${status}`}`);
   return allowed;
@@ -139,6 +138,7 @@ async function testAndReport({ file, program, report }) {
   let allowed = new Allowed();
   if (report === null) allowed = await askProgram(program, text);
   else await read([readFile(report)], allowed);
+  if (allowed.verdict === undefined) throw new Failure(3, `${report} has no report`);
   const test = readTest(text.toString('latin1'));
   const registers = registersOf(test).map(([agent, register]) => `${test.agents[agent].name}.${register}`);
   if (allowed.test !== test.name || allowed.registers.join() !== registers.join()) {
