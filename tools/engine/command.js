@@ -37,6 +37,7 @@ function readWords(given, options) {
 
 // Children have process groups of their own, so that all that they started can be stopped with them.
 const children = new Set();
+let stopping = false;
 
 function stop(child, signal) {
   try {
@@ -64,6 +65,8 @@ function start(command, words, stdio) {
 function stopAtSignals(name) {
   for (const [signal, status] of Object.entries(SIGNALS)) {
     process.on(signal, () => {
+      if (stopping) return;
+      stopping = true;
       process.stderr.write(`${name}: stopped by ${signal}\n`);
       for (const child of children) stop(child, 'SIGTERM');
       setTimeout(() => {
@@ -154,6 +157,7 @@ function run(name, usage, main) {
   main(process.argv.slice(2)).then((status) => {
     process.exitCode = status;
   }, (error) => {
+    if (stopping) return;
     process.stderr.write(`${name}: ${error instanceof Failure || error instanceof Fault ? error.message : error.stack}\n`);
     if (error.status === 2) process.stderr.write(usage);
     process.exitCode = error.status ?? 3;
