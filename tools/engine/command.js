@@ -37,6 +37,7 @@ function readWords(given, options) {
 
 // Children have process groups of their own, so that all that they started can be stopped with them.
 const children = new Set();
+let stopping = false;
 
 function stop(child, signal) {
   try {
@@ -64,6 +65,8 @@ function start(command, words, stdio) {
 function stopAtSignals(name) {
   for (const [signal, status] of Object.entries(SIGNALS)) {
     process.on(signal, () => {
+      if (stopping) return;
+      stopping = true;
       process.stderr.write(`${name}: stopped by ${signal}\n`);
       for (const child of children) stop(child, 'SIGTERM');
       setTimeout(() => {
@@ -115,11 +118,10 @@ async function askProgram(program, text) {
   child.stdin.end(text);
   const { error } = await Promise.race([ended, new Promise((done) => child.on('spawn', () => done({})))]);
   if (error) throw new Failure(3, `the program isn't run: ${error.message}`);
-  try {
-    await read(child.stdout, allowed);
-  } finally {
+  await read(child.stdout, allowed).catch((failure) => {
     stop(child, 'SIGTERM');
-  }
+    throw failure;
+  });
   const { status, signal } = await ended;
   if (allowed.verdict === undefined) throw new Failure(3, `${program} gave no report, and ended with ${signal || `status ${status}`}`);
   return allowed;
@@ -139,6 +141,7 @@ async function testAndReport({ file, program, report }) {
   let allowed = new Allowed();
   if (report === null) allowed = await askProgram(program, text);
   else await read([readFile(report)], allowed);
+  if (allowed.verdict === undefined) throw new Failure(3, `${report} has no report`);
   const test = readTest(text.toString('latin1'));
   const registers = registersOf(test).map(([agent, register]) => `${test.agents[agent].name}.${register}`);
   if (allowed.test !== test.name || allowed.registers.join() !== registers.join()) {
@@ -154,6 +157,7 @@ function run(name, usage, main) {
   main(process.argv.slice(2)).then((status) => {
     process.exitCode = status;
   }, (error) => {
+    if (stopping) return;
     process.stderr.write(`${name}: ${error instanceof Failure || error instanceof Fault ? error.message : error.stack}\n`);
     if (error.status === 2) process.stderr.write(usage);
     process.exitCode = error.status ?? 3;
