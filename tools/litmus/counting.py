@@ -47,7 +47,7 @@ def too_many_paths(test):
     total = math.prod(paths(statements) for _, statements in test.agents)
     return [f"{', '.join(told)}: {total} combinations, and {limits.COMBINATIONS} at most",
             "each compareExchange and each `if` doubles what comes after it: put later ones into an `if` or an else part, "
-            "or leave one out; each one less halves the number"]
+            "or leave one out"]
 
 
 def narrow(statements):
@@ -69,8 +69,6 @@ def most_choices(test):
                     candidates = [writes[byte] - (e.value is not None) for byte in e.range()]
                     yield math.prod(candidates), name, e, candidates
 
-    # The longest walk of each agent writes the most: an agent's other walks can only leave accesses out or let a
-    # compareExchange fail. Where two parts of an if differ that isn't so, and the combinations are gone through.
     every = functools.reduce(lambda lists, walks_: [c + [w] for c in lists for w in walks_], [w for _, w in kept], [[]])
     return max((list(reads_of(c)) for c in every), key=lambda reads: math.prod(r[0] for r in reads))
 

@@ -110,6 +110,13 @@ def first_fault(line):
     return len(tokens), list(dict.fromkeys(form[len(tokens)] for form in alive))
 
 
+def begun(line, place):
+    """The forms that the line has so far, before the token that can't stand, as docs/FORMAT.md writes them."""
+    tokens = tokens_of(line)
+    alive = [form for form in FORMS if len(form) >= place and all(map(fits, form[:place], tokens[:place]))]
+    return [re.sub(r" ?([.()\[\],]) ?", r"\1", " ".join(form)).replace(",", ", ") for form in alive]
+
+
 def spoken(terminals):
     words = [SPOKEN.get(terminal, f"`{terminal}`") for terminal in terminals]
     return " or ".join(filter(None, [", ".join(words[:-1]), words[-1]]))

@@ -44,7 +44,14 @@ COMMENTS = [
     (r"\s*(?:#|--|%).*$", "", "a comment begins with `//`"),
 ]
 SIGNS = [
-    (r";\s*$", "", "no `;` ends a line"),
+    (r"^(while|for|do|loop|repeat|until|goto)\b", None, "there are no loops: write the turns out, one in the `if` of the other"),
+    (r"^(?:print|printf|console|alert|postMessage)\b.*$", None, "nothing is printed: the report shows all registers"),
+    (r"[;,]\s*$", "", "no `;` and no `,` ends a line"),
+    (r"^(?:\}\s*){2,}$", None, "each `}` stands on a line of its own"),
+    (r"[\"'](\d+)[\"']", r"\1", "numbers have no quotes"),
+    (r"(?<=[=,])\s*(true|false)\s*$|(?<=[=,])\s*(true|false)(?=\s*\{)", lambda m: " 1" if (m[1] or m[2]) == "true" else " 0",
+     "values are numbers: 1 and 0"),
+    (r"\b([1-9])[eE]([1-8])\b", lambda m: m[1] + "0" * int(m[2]), "numbers are decimal, of digits alone"),
     (r";", None, "each statement stands on a line of its own, without `;`"),
     (r"===", "==", "equal is `==`"),
     (r"!==", "!=", "unequal is `!=`"),
@@ -64,10 +71,15 @@ VIEWS = [
     (r"\b(?:F|Float|U|I|BigInt|BigUint)(?:64|32)(?:Array)?\b(?<!\bU32)", None, "there are no floating and no 64-bit arrays: only U8, U16 and U32"),
     (r"\b(?:Uint8ClampedArray|U8C)\b", "U8", "a Uint8ClampedArray touches the same bytes as U8"),
     (r"\bU(8|16|32)\((\d+)\)", r"U\1[\2]", "an element stands in brackets"),
+    (r"\[\s*-\d+", None, "an index counts from 0, and has no sign"),
+    (r"^\[\w+\]\s*=|=\s*\[\w+\]$", None, "memory has no names: byte n is `U8[n]`"),
+    (r"\b(?!U8\b|U16\b|U32\b|DV\b)[A-Za-z_]\w*(?=\[\d+\])", "U8", "memory is U8, U16 and U32, views of the whole block"),
     (r"\bU(8|16|32)\[r[0-7].*?\]", None, "an index is a number: for each value of the register write an `if` with the access in it"),
     (r"\b(?:Atomics\.)?(fence|mfence|barrier|atomic_thread_fence)\b", None, "there are no fences: only accesses through Atomics order anything"),
 ]
 ATOMICS = [
+    (r"^(r\d\s*=\s*)?(load|store|exchange|compareExchange)\s*\(", lambda m: f"{m[1] or ''}Atomics.{m[2]}(", "the accesses are Atomics.load, store, exchange and compareExchange"),
+    (r"Atomics\.(load|store|exchange|compareExchange)\((?=\d)", r"Atomics.\1(U8, ", "array and index are two arguments"),
     (r"\b[aA]tomics?\s*(?:\.|::)\s*", "Atomics.", "the accesses are Atomics.load, store, exchange and compareExchange"),
     (r"Atomics\.(add|sub|and|or|xor|increment|fetch_add|fetchAdd)\b", None,
      "there is no Atomics.add, sub, and, or, xor: where n is the value that is there, `r0 = Atomics.compareExchange(U8, 0, n, n + 1)` "
@@ -93,7 +105,6 @@ DATA_VIEW = [
 STATEMENTS = [
     (r"\bR([0-7])\b", r"r\1", "registers are r0 to r7, small letters"),
     (r"\br(?:[89]|\d\d+)\b", None, "an agent has eight registers, r0 to r7"),
-    (r"^(while|for|do|loop|repeat|until|goto)\b", None, "there are no loops: write the turns out, one in the `if` of the other"),
     (r"^(return|break|continue)\b", None, "nothing leaves early: put the rest into an `else` part"),
     (r"(\+\+|--|[-+*|&^]=)", None, "there is no arithmetic: a load, and a store of a number"),
     (r"(?<=[\w\])])\s*[-+*^%]\s*(?=[\w(])", None, "there is no arithmetic: the values stored and compared are plain numbers"),
@@ -149,8 +160,8 @@ def clean_name(words):
 
 
 def condition_rules(agents):
-    only = agents[0] if len(agents) == 1 else "NAME"
-    bare = (f"registers are named with their agent: {only}.r0" if len(agents) != 1 else "registers are named with their agent")
+    only = agents[0] if agents else "A"
+    bare = f"registers are named with their agent, as {only}.r0"
     return [
         (r"^(?:~\s*exists|never|forbidden)\b\s*:?\s*", "check ", "the question is `check`; herd7's ~exists is the verdict never"),
         (r"^(?:forall|always|assert)\b\s*:?\s*", "check ", "the question is `check`; herd7's forall is the verdict always"),
