@@ -48,7 +48,7 @@ fn many_choices(rt: HostRuntime) -> Result<(), Fail> {
     let head = b"test many\nbytes 4\nagent A\nU32[0] = 1\nU32[0] = 2\nU32[0] = 3\nagent B\n";
     let (line, check) = (b"r0 = U32[0]\n", b"check B.r0 == 0\n");
     let reads = CHOICE_LIMIT.trailing_zeros() as usize / 8;
-    let fewer = repeated(alloc, head, reads - 1, line, check)?;
+    let fewer = repeated(alloc, head, reads.saturating_sub(1), line, check)?;
     assert_planned(&rt, &fewer, Ok((1, CHOICE_LIMIT / 256)))?;
     let most = repeated(alloc, head, reads, line, check)?;
     assert_planned(&rt, &most, Ok((1, CHOICE_LIMIT)))?;
