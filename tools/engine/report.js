@@ -93,17 +93,17 @@ class ReportReader {
     }
     begin();
     const ends = { count: Number(this.match(line, 'outcomes', '`outcome` or `outcomes`')[1]) };
-    return yield* this.verdict(ends, { ends });
+    ends.verdict = this.verdict(yield);
+    const race = yield;
+    if (race === null) return this.give({ ends });
+    ends.data_race = this.match(race, 'race', '`data race` or the end')[1] === 'yes';
+    return yield* this.last({ ends });
   }
 
-  // The verdict, perhaps a line on data races, and the end; `part` has the record that takes them.
-  * verdict(record, part) {
-    record.verdict = this.match(yield, 'verdict', '`verdict`')[1];
-    const race = yield;
-    if (race === null) return this.give(part);
-    record.data_race = this.match(race, 'race', '`data race` or the end')[1] === 'yes';
-    return yield* this.last(part);
+  verdict(line) {
+    return this.match(line, 'verdict', '`verdict`')[1];
   }
+
 
   * example(values) {
     const from = [];
@@ -123,7 +123,8 @@ class ReportReader {
       all[name] = line.endsWith(' none') ? null : yield* this.example(this.values(found[1] || ''));
     }
     all.registers = this.registers || [];
-    return yield* this.verdict(all, { all });
+    all.verdict = this.verdict(yield);
+    return yield* this.last({ all });
   }
 
   * schedule(test, line) {
@@ -164,11 +165,13 @@ function outcomeLines(head, registers, outcome) {
   return lines;
 }
 
-const yesNo = (truth) => (truth ? 'yes' : 'no');
+// Anything but true and false makes a line that is none of a report.
+const yesNo = (truth) => (truth === true ? 'yes' : truth === false ? 'no' : JSON.stringify(truth));
 
-function verdictLines(record) {
-  const lines = [`verdict ${record.verdict}`];
-  if (record.data_race !== undefined) lines.push(`data race ${yesNo(record.data_race)}`);
+// The last lines of a report; those of earlier versions of the program say nothing of data races.
+function lastLines(ends) {
+  const lines = [`outcomes ${ends.count}`, `verdict ${ends.verdict}`];
+  if (ends.data_race !== undefined) lines.push(`data race ${yesNo(ends.data_race)}`);
   return lines;
 }
 
@@ -180,14 +183,14 @@ const LINES_OF_ALL = {
   quick: (all) => [`test ${all.test}`,
     ...['met', 'unmet'].flatMap((name) => (all[name] === null ? [`${name} none`]
       : outcomeLines(`${name} outcome`, all.registers, all[name]))),
-    ...verdictLines(all)],
+    `verdict ${all.verdict}`],
 };
 
 // The lines of a part; the registers are those with which the report began.
 function linesOf(part, registers) {
   if (part.begins) return [`test ${part.begins.test}`];
   if (part.outcome) return outcomeLines('outcome', registers, part.outcome);
-  if (part.ends) return [`outcomes ${part.ends.count}`, ...verdictLines(part.ends)];
+  if (part.ends) return lastLines(part.ends);
   if (!Object.hasOwn(LINES_OF_ALL, part.all.kind)) throw new Fault(`no kind of report: ${JSON.stringify(part.all.kind)}`);
   return LINES_OF_ALL[part.all.kind](part.all);
 }

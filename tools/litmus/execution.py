@@ -112,7 +112,7 @@ def why_no_execution(test, sources):
 
 
 class Relations:
-    """synchronizes-with, happens-before, and the triples (W, R, V) in which V may not stand between W and R."""
+    """synchronizes-with, happens-before, the triples (W, R, V) in which V may not stand between W and R, and data races."""
 
     def __init__(self, execution):
         self.execution, self.events = execution, execution.events
@@ -126,10 +126,13 @@ class Relations:
     def equal(self, a, b):
         return self.events[a].range() == self.events[b].range()
 
+    def share(self, a, b):
+        return bool(set(self.events[a].range()) & set(self.events[b].range()))
+
     def steps(self):
         owner = {name: re.match(r"\w+[.\[]", name)[0] for name in self.names}
         return {(a, b) for a, b in itertools.combinations(self.names, 2) if owner[a] == owner[b] or
-                owner[a] == "init[" and set(self.events[a].range()) & set(self.events[b].range())}
+                owner[a] == "init[" and self.share(a, b)}
 
     def closed(self, pairs):
         after = {name: {b for a, b in pairs if a == name} for name in self.names}
@@ -145,6 +148,20 @@ class Relations:
             (w, r) in self.synchronizes and self.equal(v, r) or
             (w, r) in before and (v, r) in before and events[w].atomic and self.equal(w, v) or
             (w, r) in before and (w, v) in before and events[r].atomic and self.equal(v, r))
+
+    def data_races(self):
+        """The pairs of events that are in a data race, each pair once."""
+        return [(a, b) for a, b in itertools.combinations(self.names, 2) if self.races(a, b) and self.unguarded(a, b)]
+
+    def races(self, a, b):
+        both_write = self.events[a].value is not None and self.events[b].value is not None
+        ordered = (a, b) in self.before or (b, a) in self.before
+        return not ordered and (both_write and self.share(a, b) or (a, b) in self.reads_from or (b, a) in self.reads_from)
+
+    def unguarded(self, a, b):
+        """Whether one of the two isn't seq-cst, or their ranges share a byte and aren't equal."""
+        atomic = self.events[a].atomic and self.events[b].atomic
+        return not atomic or self.share(a, b) and not self.equal(a, b)
 
     def forced(self):
         """The pairs that a triple puts in order at once: R and V where W happens before V, V and W where V happens before R."""

@@ -199,12 +199,20 @@ def advice(line, agents):
     for pattern, instead, why in rules:
         if not re.search(pattern, code) or not said_of_rest(code):
             continue
-        changed = code if instead is None else re.sub(pattern, instead, code).strip()
+        changed = code if instead is None else changed_by(pattern, instead, code)
         if changed != code or instead is None:
             said.append(why)
             code = changed
     fixed = code if said and code and forms.first_fault(code) is None else None
     return list(dict.fromkeys(said)), fixed
+
+
+def changed_by(pattern, instead, code):
+    """The line as the rule changes it; as it is where a number in it has too many digits to be read."""
+    try:
+        return re.sub(pattern, instead, code).strip()
+    except ValueError:
+        return code
 
 
 def said_of_rest(code):

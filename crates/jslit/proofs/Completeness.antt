@@ -28,5 +28,5 @@ pub complete : (t : Litmus) (report : Report) → ((x : Execution) → IsCandida
 complete t report chosen lists is x valid =
     let number = lists.all (execution_choice x) (chosen x valid.candidate) in
     let lt : number.0 < length (choices_of t) = slice_get_within (choices_of t) number.0 (execution_choice x) number.1 in
-    let found = is.whole number.0 (execution_outcome t x) (below_total (length (choices_of t)) number.0 lt) (record { execution = x; valid = valid; chosen = number.1; result = refl }) in
+    let found = is.listed.whole number.0 (execution_outcome t x) (below_total (length (choices_of t)) number.0 lt) (record { execution = x; valid = valid; chosen = number.1; result = refl }) in
     listed report.entries found.0 found.1 (execution_outcome t x) found.2 found.3

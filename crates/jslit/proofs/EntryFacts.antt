@@ -37,7 +37,7 @@ choice_at-is t n choice at = get_or_from_slice_get (choices_of t) n choice _ at
 
 -- an entry of a report is one of its entries
 pub entry_in : (t : Litmus) (to : ℕ) (report : Report) (i : ℕ) → IsReport t (in_range 0 to) report → i < length report.entries → IsEntry t (in_range 0 to) (entry_at report i)
-entry_in t to report i is lt = is.each i (entry_at report i) (slice_get-get_or report.entries i _ lt)
+entry_in t to report i is lt = is.listed.each i (entry_at report i) (slice_get-get_or report.entries i _ lt)
 
 -- a number among all
 pub among_all : (total n : ℕ) → IsTrue (in_range 0 total n) → n < total

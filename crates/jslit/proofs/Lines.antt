@@ -1,5 +1,5 @@
 -- The texts of single lines, as they are put together.
-use Rattle.std.proofs.Common.{◌≡◌, ℕ, ◌+◌, ◌<◌, ◌≤◌, Option, Some, None, List, [], ◌∷◌, ◌++◌, length, drop, get_or, codes, refl, sym, ap, ◌∙◌, append_assoc}
+use Rattle.std.proofs.Common.{◌≡◌, ℕ, Bool, ◌+◌, ◌<◌, ◌≤◌, Option, Some, None, List, [], ◌∷◌, ◌++◌, length, drop, get_or, codes, refl, sym, ap, ◌∙◌, append_assoc}
 use Rattle.std.specs.List.{flat_map}
 use Rattle.std.proofs.lemmas.List.{drop_more, drop_all, get_or_default}
 use Rattle.std.specs.Fmt.{decimal}
@@ -89,16 +89,15 @@ class_some t word first report entry is same =
     ap (λ (e : Entry). (word ++ codes " ") ++ entry_text t e) same ∙ ap (λ (o : Option Report). class_text t word (entry_of_option o)) (sym is)
 
 -- a whole report
-pub whole_is : (t test : Litmus) (report : Report) (count : ℕ) (verdict : Verdict) → test ≡ t → count ≡ length report.entries
-    → ((((line (codes "test " ++ test.name) ++ flat_map (entry_text t) report.entries) ++ codes "outcomes ") ++ decimal count) ++ codes "\n") ++ line (codes "verdict " ++ verdict_text verdict) ≡ report_text t report verdict
+pub whole_is : (t test : Litmus) (report : Report) (count : ℕ) (verdict : Verdict) (race : Bool) → test ≡ t → count ≡ length report.entries → race ≡ report.race
+    → (((((line (codes "test " ++ test.name) ++ flat_map (entry_text t) report.entries) ++ codes "outcomes ") ++ decimal count) ++ codes "\n") ++ line (codes "verdict " ++ verdict_text verdict)) ++ line (codes "data race " ++ yes_or_no race)
+    ≡ report_text t report verdict
 unfolding report_text
-whole_is t test report count verdict same is =
-    ap (λ (u : Litmus). ((((line (codes "test " ++ u.name) ++ flat_map (entry_text t) report.entries) ++ codes "outcomes ") ++ decimal count) ++ codes "\n") ++ line (codes "verdict " ++ verdict_text verdict)) same
-    ∙ ap (λ (n : ℕ). ((((line (codes "test " ++ t.name) ++ flat_map (entry_text t) report.entries) ++ codes "outcomes ") ++ decimal n) ++ codes "\n") ++ line (codes "verdict " ++ verdict_text verdict)) is
-    ∙ joined (line (codes "test " ++ t.name)) (flat_map (entry_text t) report.entries) (codes "outcomes ") (decimal (length report.entries)) (line (codes "verdict " ++ verdict_text verdict))
+whole_is t test report count verdict race same is marked =
+    rw (same, is, marked) (joined (line (codes "test " ++ t.name)) (flat_map (entry_text t) report.entries) (codes "outcomes ") (decimal (length report.entries)) (line (codes "verdict " ++ verdict_text verdict)) (line (codes "data race " ++ yes_or_no report.race)))
   where
-    joined : (a b c d e : List ℕ) → ((((a ++ b) ++ c) ++ d) ++ codes "\n") ++ e ≡ a ++ b ++ line (c ++ d) ++ e
-    joined a b c d e = simp append_assoc
+    joined : (a b c d e f : List ℕ) → (((((a ++ b) ++ c) ++ d) ++ codes "\n") ++ e) ++ f ≡ a ++ b ++ line (c ++ d) ++ e ++ f
+    joined a b c d e f = simp append_assoc
 
 -- a quick report
 pub quick_is : (t test : Litmus) (met unmet : Option Entry) (verdict : Verdict) → test ≡ t

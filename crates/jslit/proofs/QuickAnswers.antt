@@ -41,12 +41,12 @@ module _ (t : Litmus) where
   its_class class entry is = subst (λ (o : List ℕ). IsTrue (is_of_class t class o)) (is.only is.first.gives.outcome is.first.gives.gives) is.first.gives.of_class
 
   -- the report has it
-  pub first_reported : (class : Class) (entry : Entry) (report : Report) → IsFirstEntry t class entry → IsReport t (all_of t) report → HasEntry report entry
+  pub first_reported : (class : Class) (entry : Entry) (report : Report) → IsFirstEntry t class entry → IsReport t (all_of t) report → HasEntry report.entries entry
   first_reported class entry report is reported =
-      let found = reported.whole entry.choice entry.outcome is.first.among is.gives in
+      let found = reported.listed.whole entry.choice entry.outcome is.first.among is.gives in
       let i = found.0 in
       let e = found.1 in
-      let there = reported.each i e found.2 in
+      let there = reported.listed.each i e found.2 in
       let given : Gives t entry.choice e.outcome = subst (λ (o : List ℕ). Gives t entry.choice o) (sym found.3) is.gives in
       let of_class : IsTrue (is_of_class t class e.outcome) = subst (λ (o : List ℕ). IsTrue (is_of_class t class o)) (sym found.3) (its_class class entry is) in
       let choice : e.choice ≡ entry.choice =
@@ -79,7 +79,7 @@ module _ (t : Litmus) where
 
   module _ (report : Report) (reported : IsReport t (all_of t) report) where
     its_entry : (k : ℕ) (d : Entry) → k < length report.entries → IsEntry t (all_of t) (get_or report.entries k d)
-    its_entry k d lt = reported.each k (get_or report.entries k d) (slice_get-get_or report.entries k d lt)
+    its_entry k d lt = reported.listed.each k (get_or report.entries k d) (slice_get-get_or report.entries k d lt)
 
     -- where no choice gives an outcome of the class, no entry has one
     never_of : (class : Class) → IsFirst t class None → (k : ℕ) (d : Entry) → k < length report.entries → ¬ IsTrue (is_of_class t class (get_or report.entries k d).outcome)

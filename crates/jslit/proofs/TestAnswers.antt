@@ -17,10 +17,10 @@ use Rattle.lit_search.specs.Report.{Report, Gives, IsReport, entry_at, in_range}
 use Rattle.jslit.specs.declared.fault.RunFault.{RunFault}
 use Rattle.jslit.specs.declared.fault.RunFault.TheVariants.{OutputFailed}
 use Rattle.jslit.specs.declared.verdict.Verdict.{Verdict}
-use Rattle.jslit.specs.Answer.{HasBegun, IsAnswerOf, IsQuickReportOf}
+use Rattle.jslit.specs.Answer.{HasBegun, HasReported, IsAnswerOf, IsComplete, IsQuickReportOf, IsReportOf}
 use Rattle.jslit.specs.Devices.{AppendsBeginning}
-use Rattle.jslit.specs.ReportText.{quick_text}
-use Rattle.jslit.specs.Verdict.{verdict_of}
+use Rattle.jslit.specs.ReportText.{quick_text, report_text}
+use Rattle.jslit.specs.Verdict.{IsVerdict, verdict_of}
 use Rattle.jslit.specs.Steps.Answering.{HasWritten, HasWrittenSome, IsFirstFound}
 use Rattle.jslit.specs.Steps.FirstEntry.{entry_of_option}
 use Rattle.jslit.proofs.QuickAnswers.{quick_judged}
@@ -42,10 +42,10 @@ below total n is = grind (arith, nat_tests)
 pub found_is : OneOutcome → (t : Litmus) (class : Class) (n : ℕ) (report : Report) → IsLitmus t → IsFirstOf t class (in_range 0 (length (choices_of t))) n
     → IsReport t (in_range n (n + 1)) report → IsFirstFound t class (Some report)
 found_is one t class n report litmus first reported =
-    let found = reported.whole n first.gives.outcome (itself n) first.gives.gives in
+    let found = reported.listed.whole n first.gives.outcome (itself n) first.gives.gives in
     let some : 0 < length report.entries = omega (arith, slice_get_within report.entries found.0 found.1 found.2) in
     let entry = entry_at report 0 in
-    let is = reported.each 0 entry (slice_get-get_or report.entries 0 _ some) in
+    let is = reported.listed.each 0 entry (slice_get-get_or report.entries 0 _ some) in
     let same : entry.choice ≡ n = alone n entry.choice is.among in
     let there : IsFirstOf t class (in_range 0 (length (choices_of t))) entry.choice = subst (λ (m : ℕ). IsFirstOf t class (in_range 0 (length (choices_of t))) m) (sym same) first in
     record {
@@ -72,6 +72,10 @@ quick_report_is t met unmet some other verdict p q first second is =
       is = ap (quick_text t (entry_of_option met) (entry_of_option unmet)) same;
     }
 
+-- the whole report
+pub report_is : (t : Litmus) (report : Report) (verdict : Verdict) → IsReport t (in_range 0 (length (choices_of t))) report → IsComplete t report → IsVerdict t report verdict → IsReportOf t (report_text t report verdict)
+report_is t report verdict reported complete judged = record { report = report; reported = reported; complete = complete; verdict = verdict; judged = judged; is = refl }
+
 -- what was written is the answer's
 pub written_for : {X E : Type 0} (r : Result X E) (quick : Bool) (t : Litmus) (answer : List ℕ) (old new : Option (List ℕ)) → IsAnswerOf quick t answer → OnOk r (Appends old new answer) → OnOk r (HasWritten quick t old new)
 written_for (Ok x) quick t answer old new of written = record { answer = answer; of_test = of; written = written }
@@ -94,3 +98,18 @@ begun_on quick asked text t plan old new spelled planned same is some = record {
   };
   begun = some.begun;
 }
+
+-- and the answer that was written is one of the text's
+pub reported_on : {X E : Type 0} (r : Result X E) (quick asked : Bool) (text : List ℕ) (t plan : Litmus) (old new : Option (List ℕ)) → Spells text t → ((fault : PlanFault) → ¬ IsRefusal t fault) → plan ≡ t → asked ≡ quick
+    → OnOk r (HasWritten quick plan old new) → OnOk r (HasReported asked text old new)
+reported_on (Ok x) quick asked text t plan old new spelled planned same is some = record {
+  answer = some.answer;
+  on = record {
+    test = t;
+    spelled = spelled;
+    planned = planned;
+    of_test = subst (λ (u : Litmus). IsAnswerOf asked u some.answer) same (subst (λ (b : Bool). IsAnswerOf b plan some.answer) (sym is) some.of_test);
+  };
+  written = some.written;
+}
+reported_on (Err e) quick asked text t plan old new spelled planned same is some = tt

@@ -64,6 +64,10 @@ verdict_text Always = codes "always"
 verdict_text Sometimes = codes "sometimes"
 verdict_text Never = codes "never"
 
+abbrev pub yes_or_no : Bool → List ℕ
+yes_or_no true = codes "yes"
+yes_or_no false = codes "no"
+
 -- the whole report
 unfoldable pub report_text : Litmus → Report → Verdict → List ℕ
 report_text t report verdict =
@@ -71,6 +75,7 @@ report_text t report verdict =
     ++ flat_map (entry_text t) report.entries
     ++ line (codes "outcomes " ++ decimal (length report.entries))
     ++ line (codes "verdict " ++ verdict_text verdict)
+    ++ line (codes "data race " ++ yes_or_no report.race)
 
 -- in a quick report what is said of a class of outcomes, by its word: its first outcome and example, or that there is none
 abbrev pub class_text : Litmus → List ℕ → Option Entry → List ℕ
@@ -84,10 +89,6 @@ quick_text t met unmet verdict =
     ++ class_text t (codes "met") met
     ++ class_text t (codes "unmet") unmet
     ++ line (codes "verdict " ++ verdict_text verdict)
-
-abbrev pub yes_or_no : Bool → List ℕ
-yes_or_no true = codes "yes"
-yes_or_no false = codes "no"
 
 -- the outcome of a schedule, and whether it meets the condition
 unfoldable pub interleaving_text : Litmus → List ℕ → List ℕ

@@ -7,27 +7,20 @@ ghost use Rattle.lit_paths.specs.Outcome.{names_of};
 ghost use Rattle.jslit.specs.Counted.{device_of, failures_of, one_more};
 ghost use Rattle.jslit.specs.Devices.{AppendsBeginning, ConsumesBeginning, ConsumesTold, OfToldText};
 ghost use Rattle.jslit.specs.InterleavingAnswer.{HasInterleaved, HasInterleavedSome, IsScheduleFaultOn};
-ghost use Rattle.jslit.specs.ReportText.{interleaving_text, yes_or_no};
+ghost use Rattle.jslit.specs.ReportText.{interleaving_text};
 ghost use Rattle.jslit.specs.Steps.Answering.{IsOfTextOrWriting};
 
 use crate::counted::Counted;
 use crate::fault::RunFault;
 use crate::page::Page;
 use crate::reading::read_text;
-use crate::reporting::{put_head, put_registers};
+use crate::reporting::{put_head, put_registers, word_for};
 use crate::schedule::agents_of;
 use lit_paths::{meets, written_names};
 use lit_read::{Test, read};
 use lit_search::interleave;
 use std::alloc::Global;
 use std::io::{Read, Write};
-
-/// The word for whether a condition is met.
-fn word_for(met: bool) -> &'static [u8]
-    ensures { result.now ≡ yes_or_no met }
-{
-    if met { b"yes" } else { b"no" }
-}
 
 /// Writes the outcome of a schedule, and whether it meets the condition. Takes no memory.
 fn write_interleaving<W: Write>(

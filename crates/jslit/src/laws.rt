@@ -32,7 +32,7 @@ pub fn answers_are_unique()
 /// What a quick report says of a class is what the whole report says of this outcome.
 pub fn quick_answers_are_reported()
     ensures { (t : Litmus) (class : Class) (entry : Entry) (report : Report) → IsFirstEntry t class entry
-        → IsReport t (in_range 0 (length (choices_of t))) report → HasEntry report entry }
+        → IsReport t (in_range 0 (length (choices_of t))) report → HasEntry report.entries entry }
 {}
 
 /// What a schedule comes to on a text is that of an outcome in the text's report, and no report is empty.

@@ -9,7 +9,7 @@ ghost use Rattle.lit_paths.specs.ByteReads.{byte_reads};
 ghost use Rattle.lit_search.specs.Report.{Gives, HasLeastOrder, IsReport, in_range};
 ghost use Rattle.jslit.specs.Counted.{device_of, failures_of, one_more};
 ghost use Rattle.jslit.specs.Devices.{AppendsBeginning};
-ghost use Rattle.jslit.specs.ReportText.{line, verdict_text, event_name, names_text, source_line, from_lines, register_text, registers_text, entry_text, class_text, report_text, quick_text};
+ghost use Rattle.jslit.specs.ReportText.{line, verdict_text, event_name, names_text, source_line, from_lines, register_text, registers_text, entry_text, class_text, report_text, quick_text, yes_or_no};
 ghost use Rattle.jslit.specs.Steps.FirstEntry.{IsOnlyEntry, entry_of_option};
 ghost use Rattle.jslit.specs.Steps.ReadLine.{read_line, rest_after};
 ghost use Rattle.jslit.specs.Steps.Writing.{HasPut, writing_of};
@@ -18,7 +18,7 @@ use crate::counted::Counted;
 use crate::fault::RunFault;
 use crate::page::Page;
 use crate::verdict::Verdict;
-use lit_paths::{Event, Kind, Plan, combinations_are_listed};
+use lit_paths::{Combination, Event, Kind, Plan, combinations_are_listed};
 use lit_read::Test;
 use lit_search::{Example, Found};
 use std::io::Write;
@@ -158,11 +158,12 @@ pub(crate) fn put_registers<W: Write>(
     }
 }
 
-/// Puts an outcome and its example.
-fn put_entry<W: Write>(
+/// Puts an outcome and its example, whose combination is entered in place of one that was entered before.
+fn put_entry<'p, W: Write>(
     page: &mut Page,
     output: &mut Counted<W>,
-    plan: &Plan<'_>,
+    plan: &'p Plan<'p>,
+    combination: &mut Combination<'p>,
     outcome: &[u32],
     example: &Example,
 )
@@ -174,7 +175,7 @@ fn put_entry<W: Write>(
 {
     combinations_are_listed();
     let test = plan.test();
-    let combination = plan.enter(plan.combination(example.choice));
+    plan.reenter(combination, plan.combination(example.choice));
     let events = combination.events();
     let sources = combination.sources(example.choice);
     page.put(output, b"outcome");
@@ -204,16 +205,35 @@ fn put_verdict<W: Write>(page: &mut Page, output: &mut Counted<W>, verdict: Verd
     page.put(output, b"\n");
 }
 
+/// The word for whether something is so.
+pub(crate) fn word_for(answer: bool) -> &'static [u8]
+    ensures { result.now ≡ yes_or_no answer }
+{
+    if answer { b"yes" } else { b"no" }
+}
+
+/// Puts the line that says whether some valid execution has a data race.
+fn put_race<W: Write>(page: &mut Page, output: &mut Counted<W>, race: bool)
+    ensures { HasPut (writing_of W.contents output.old page.old) (writing_of W.contents output.new page.new) (line (codes "data race " ++ yes_or_no race)) }
+{
+    page.put(output, b"data race ");
+    page.put(output, word_for(race));
+    page.put(output, b"\n");
+}
+
 /// Puts an outcome and its example for each entry of a report.
 fn put_entries<W: Write>(page: &mut Page, output: &mut Counted<W>, plan: &Plan<'_>, found: &Found)
     requires report { IsReport plan.now (in_range 0 (length (choices_of plan.now))) found.now }
     ensures { HasPut (writing_of W.contents output.old page.old) (writing_of W.contents output.new page.new) (flat_map (entry_text plan.now) found.now.entries) }
 {
+    let _some = plan.combinations();
+    let mut combination = plan.enter(0);
     for place in 0..found.len() {
         put_entry(
             page,
             output,
-            plan,
+            &*plan,
+            &mut combination,
             found.outcome(place),
             found.example(place),
         );
@@ -241,6 +261,7 @@ pub(crate) fn write_report<W: Write>(
     page.put_number(output, found.len() as u64);
     page.put(output, b"\n");
     put_verdict(&mut page, output, verdict);
+    put_race(&mut page, output, found.race());
     page.finish(output)
 }
 
@@ -262,7 +283,16 @@ fn put_class<W: Write>(
         return;
     };
     page.put(output, b" ");
-    put_entry(page, output, plan, found.outcome(0), found.example(0));
+    let _some = plan.combinations();
+    let mut combination = plan.enter(0);
+    put_entry(
+        page,
+        output,
+        &*plan,
+        &mut combination,
+        found.outcome(0),
+        found.example(0),
+    );
 }
 
 /// Writes a test's quick report. Takes no memory.

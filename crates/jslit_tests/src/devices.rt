@@ -128,7 +128,7 @@ fn many_outcomes(alloc: Global) -> Result<String, AllocError> {
             }
         }
     }
-    report.push_str("outcomes 125\nverdict sometimes\n")?;
+    report.push_str("outcomes 125\nverdict sometimes\ndata race yes\n")?;
     Ok(report)
 }
 
@@ -350,13 +350,13 @@ fn input_fails_at_each_call(rt: HostRuntime) -> Result<(), Fail> {
 fn output_fails_at_each_call(rt: HostRuntime) -> Result<(), Fail> {
     let alloc = rt.alloc();
     let (text, report) = OWN_STORE;
-    assert_eq!(rt; report.len(), 89);
-    for call in 1..91 {
+    assert_eq!(rt; report.len(), 102);
+    for call in 1..104 {
         let mut input = Counted::new(text.as_bytes());
         let mut output = Counted::new(fails_at_call(alloc, &[], call));
         let outcome = run(&rt, alloc, &mut input, &mut output, ONE_WORKER);
-        let taken = call.min(90) - 1;
-        if call == 90 {
+        let taken = call.min(103) - 1;
+        if call == 103 {
             assert!(rt; outcome.is_ok());
             assert_eq!(rt; output.failures(), 0);
         } else {

@@ -19,6 +19,7 @@ outcome A.r0=1 B.r0=1
   order init[0] init[1] init[2] init[3] init[4] init[5] init[6] init[7] init[8] init[9] init[10] init[11] init[12] init[13] init[14] init[15] A.0 B.0 A.1 B.1 C.0 C.1 C.2 C.3 D.0 D.1 D.2 D.3
 outcomes 3
 verdict never
+data race no
 ",
 );
 
@@ -60,6 +61,7 @@ outcome A.r0=1 B.r0=1
   order init[0] init[1] init[2] init[3] init[4] init[5] init[6] init[7] init[8] init[9] init[10] init[11] init[12] init[13] init[14] init[15] A.0 B.0 A.1 B.1 C.0 C.1 C.2 C.3 D.0 D.1 D.2 D.3 D.4
 outcomes 3
 verdict never
+data race no
 ",
 );
 
@@ -82,6 +84,7 @@ outcome B.r0=1
   order init[0] init[1] init[2] init[3] init[4] init[5] init[6] init[7] init[8] init[9] init[10] init[11] init[12] init[13] init[14] init[15] init[16] init[17] init[18] init[19] init[20] init[21] init[22] init[23] init[24] init[25] init[26] init[27] init[28] init[29] init[30] init[31] A.0 B.0
 outcomes 2
 verdict sometimes
+data race yes
 ",
 );
 
@@ -122,5 +125,6 @@ outcome A.r0=1
   order init[0] A.0 A.1 A.2 A.3 A.4 A.5 A.6 A.7 A.8 A.9 A.10 A.11 A.12 A.13 A.14 A.15 A.16 A.17 A.18 A.19 A.20 A.21 A.22 A.23
 outcomes 1
 verdict always
+data race no
 ",
 );

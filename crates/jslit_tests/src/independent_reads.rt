@@ -97,6 +97,7 @@ outcome C.r0=1 C.r1=1 D.r0=1 D.r1=1
   order init[0] init[1] A.0 B.0 C.0 C.1 D.0 D.1
 outcomes 15
 verdict never
+data race no
 ",
 );
 
@@ -201,5 +202,6 @@ outcome C.r0=1 C.r1=1 D.r0=1 D.r1=1
   order init[0] init[1] A.0 B.0 C.0 C.1 D.0 D.1
 outcomes 16
 verdict sometimes
+data race yes
 ",
 );

@@ -28,5 +28,6 @@ outcome A.r0=3
   order init[0] init[1] init[2] init[3] A.0 A.1 A.2 A.3 A.4 A.5 A.6 A.7 A.8
 outcomes 1
 verdict always
+data race no
 ",
 );

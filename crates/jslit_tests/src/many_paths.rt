@@ -44,6 +44,7 @@ outcome A.r0=0
   order init[0] A.0
 outcomes 1
 verdict always
+data race no
 ",
 );
 

@@ -15,6 +15,7 @@ outcome A.r0=1 B.r0=1
   order init[0] init[1] A.0 A.1 B.0 B.1
 outcomes 2
 verdict sometimes
+data race yes
 ",
 );
 
@@ -27,6 +28,7 @@ outcome A.r0=0 B.r0=0
   order init[0] init[1] A.0 B.0
 outcomes 1
 verdict never
+data race no
 ",
 );
 
@@ -43,6 +45,7 @@ outcome A.r0=1 B.r0=0
   order init[0] B.0 A.0
 outcomes 2
 verdict never
+data race no
 ",
 );
 
@@ -63,6 +66,7 @@ outcome A.r0=5 A.r1=1
   order init[0] init[1] B.0 B.1 A.0 A.1
 outcomes 3
 verdict never
+data race yes
 ",
 );
 
@@ -79,6 +83,7 @@ outcome A.r0=2 B.r0=0
   order init[0] B.0 A.0
 outcomes 2
 verdict always
+data race no
 ",
 );
 
@@ -111,6 +116,7 @@ outcome A.r0=2
   order init[0] A.0 B.0 B.1 A.1 A.2
 outcomes 3
 verdict sometimes
+data race yes
 ",
 );
 
@@ -136,6 +142,7 @@ outcome A.r0=0 A.r1=1
   order init[0] A.0 B.0
 outcomes 2
 verdict sometimes
+data race yes
 ",
 );
 
@@ -155,6 +162,7 @@ outcome A.r0=0
   order init[0] A.0
 outcomes 1
 verdict always
+data race no
 ",
 );
 
@@ -172,6 +180,7 @@ outcome A.r0=0
   order init[0] A.0
 outcomes 1
 verdict always
+data race no
 ",
 );
 

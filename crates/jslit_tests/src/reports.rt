@@ -22,6 +22,7 @@ outcome A.r0=1 B.r0=1
   order init[0] init[1] A.0 B.0 A.1 B.1
 outcomes 3
 verdict never
+data race no
 ",
 );
 
@@ -46,6 +47,7 @@ outcome A.r0=1 B.r0=1
   order init[0] init[1] A.0 A.1 B.0 B.1
 outcomes 4
 verdict sometimes
+data race yes
 ",
 );
 
@@ -66,6 +68,7 @@ outcome B.r0=1 B.r1=1
   order init[0] init[1] A.0 A.1 B.0 B.1
 outcomes 3
 verdict never
+data race yes
 ",
 );
 
@@ -90,6 +93,7 @@ outcome B.r0=1 B.r1=1
   order init[0] init[1] A.0 A.1 B.0 B.1
 outcomes 4
 verdict sometimes
+data race yes
 ",
 );
 
@@ -114,6 +118,7 @@ outcome B.r0=1 B.r1=1
   order init[0] A.0 B.0 B.1
 outcomes 4
 verdict sometimes
+data race yes
 ",
 );
 
@@ -134,6 +139,7 @@ outcome B.r0=1 B.r1=1
   order init[0] A.0 B.0 B.1
 outcomes 3
 verdict never
+data race no
 ",
 );
 
@@ -145,6 +151,7 @@ outcome A.r0=1
   order init[0] A.0 A.1
 outcomes 1
 verdict always
+data race no
 ",
 );
 
@@ -156,6 +163,7 @@ outcome A.r0=0
   order init[0] A.0
 outcomes 1
 verdict always
+data race no
 ",
 );
 
@@ -170,10 +178,39 @@ outcome C.r0=1
   order init[0] A.0 B.0 C.0
 outcomes 2
 verdict sometimes
+data race yes
 ",
 );
 
-pub(super) const REPORTS: [Reported; 11] = [
+pub(super) const PUBLICATION: Reported = (
+    lit_texts::PUBLICATION,
+    "test pub
+outcome B.r0=0 B.r1=0
+  from B.0 init[1]
+  order init[0] init[1] A.0 B.0 A.1
+outcome B.r0=1 B.r1=1
+  from B.0 A.1
+  from B.1 A.0
+  order init[0] init[1] A.0 A.1 B.0 B.1
+outcomes 2
+verdict never
+data race no
+",
+);
+
+pub(super) const MASKED_STORE: Reported = (
+    lit_texts::MASKED_STORE,
+    "test mask
+outcome B.r0=0
+  from B.0 init[0]
+  order init[0] A.0 B.0
+outcomes 1
+verdict always
+data race yes
+",
+);
+
+pub(super) const REPORTS: [Reported; 13] = [
     STORE_BUFFERING,
     STORE_BUFFERING_PLAIN,
     MESSAGE_PASSING,
@@ -183,6 +220,8 @@ pub(super) const REPORTS: [Reported; 11] = [
     OWN_STORE,
     UNTOUCHED_BYTE,
     EQUAL_STORES,
+    PUBLICATION,
+    MASKED_STORE,
     INDEPENDENT_READS,
     INDEPENDENT_READS_PLAIN,
 ];

@@ -23,6 +23,7 @@ outcome A.r0=1 B.r0=1
   order init[0] init[1] init[2] init[3] A.0 A.1 B.0 B.1
 outcomes 4
 verdict sometimes
+data race yes
 ",
 );
 
@@ -52,6 +53,7 @@ outcome C.r0=514
   order init[0] init[1] A.0 B.0 C.0
 outcomes 7
 verdict never
+data race yes
 ",
 );
 
@@ -87,6 +89,7 @@ outcome C.r0=514
   order init[0] init[1] A.0 B.0 C.0
 outcomes 9
 verdict sometimes
+data race yes
 ",
 );
 
@@ -110,6 +113,7 @@ outcome A.r0=0 B.r0=258
   order init[0] init[1] A.0 B.0
 outcomes 2
 verdict never
+data race no
 ",
 );
 

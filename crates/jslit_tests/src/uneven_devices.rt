@@ -116,7 +116,7 @@ fn ends_there(
 
 #[test]
 fn output_halts_at_each_call(rt: HostRuntime) -> Result<(), Fail> {
-    for calls_before in 0..89 {
+    for calls_before in 0..102 {
         ends_there(&rt, calls_before, false);
         ends_there(&rt, calls_before, true);
     }

@@ -78,33 +78,33 @@ module _ (x : Inside) (is : IsEntered x) (p : Litmus × ℕ) (view : (x.paths.no
   list_known : place < length lists
   list_known = omega (arith, read_here, length-map (byte_reads all) (candidates_of all))
 
-  pub later_length : (kept : List ℕ) → kept ≡ x.ways.later.items → place < length kept
+  pub later_length : (kept : List ℕ) → kept ≡ x.formed.ways.later.items → place < length kept
   later_length kept is_kept =
       omega (
         arith,
         list_known,
-        ap (λ (ns : List ℕ). length ns) (is_kept ∙ is.all_later),
+        ap (λ (ns : List ℕ). length ns) (is_kept ∙ is.formed.all_later),
         ap (λ (ws : List (List ℕ)). length (ways_after ws)) (entered_lists x is),
         length-ways_after lists,
       )
 
-  pub later_at : (kept : List ℕ) → kept ≡ x.ways.later.items → get_or kept place 0 ≡ ways_from (events_in p.0 p.1) (place + 1)
+  pub later_at : (kept : List ℕ) → kept ≡ x.formed.ways.later.items → get_or kept place 0 ≡ ways_from (events_in p.0 p.1) (place + 1)
   later_at kept is_kept =
-      ap (λ (ns : List ℕ). get_or ns place 0) (is_kept ∙ is.all_later ∙ ap (λ (ws : List (List ℕ)). ways_after ws) (entered_lists x is))
+      ap (λ (ns : List ℕ). get_or ns place 0) (is_kept ∙ is.formed.all_later ∙ ap (λ (ws : List (List ℕ)). ways_after ws) (entered_lists x is))
       ∙ ways_after-at lists place 0 list_known ∙ ways_from-later all place ∙ ap (λ (es : List Event). ways_from es (place + 1)) same_events
 
-  pub later_some : (kept : List ℕ) → kept ≡ x.ways.later.items → 1 ≤ get_or kept place 0
+  pub later_some : (kept : List ℕ) → kept ≡ x.formed.ways.later.items → 1 ≤ get_or kept place 0
   later_some kept is_kept =
       let whole = length-product-some all (byte_reads all) (suc place) (λ i read at. some_candidate x.paths.now.bytes all i read.0 read.1 sound at) in
       omega (arith, whole, later_at kept is_kept, ap (λ (es : List Event). ways_from es (place + 1)) same_events, ways_from-later all place, ap (λ (ws : List (List ℕ)). length (product ws)) (drop-map (candidates_of all) (suc place) (byte_reads all)))
     where
       sound : AreEventsIn x.paths.now.bytes all
-      sound = subst (λ (es : List Event). AreEventsIn x.paths.now.bytes es) is.joined.events is.sound
+      sound = subst (λ (es : List Event). AreEventsIn x.paths.now.bytes es) is.formed.joined.events is.formed.sound
 
   -- the list of candidates that is kept
-  module _ (kept : List (ArrayVec ℕ)) (is_kept : kept ≡ x.ways.candidates.items) where
+  module _ (kept : List (ArrayVec ℕ)) (is_kept : kept ≡ x.formed.ways.candidates.items) where
     lists_are : map (λ (v : ArrayVec ℕ). v.items) kept ≡ lists
-    lists_are = ap (λ (vs : List (ArrayVec ℕ)). map (λ v. v.items) vs) is_kept ∙ is.all_candidates ∙ entered_lists x is
+    lists_are = ap (λ (vs : List (ArrayVec ℕ)). map (λ v. v.items) vs) is_kept ∙ is.formed.all_candidates ∙ entered_lists x is
 
     pub list_length : place < length kept
     list_length = omega (arith, list_known, ap (λ (ws : List (List ℕ)). length ws) lists_are, length-map kept (λ (v : ArrayVec ℕ). v.items))
@@ -130,6 +130,6 @@ module _ (x : Inside) (is : IsEntered x) (p : Litmus × ℕ) (view : (x.paths.no
     list_some v shown at is_shown =
         let read : ℕ × ℕ = byte_read_at all place in
         let some : 1 ≤ length (candidates_of all read) =
-        some_candidate x.paths.now.bytes all place read.0 read.1 (subst (λ (es : List Event). AreEventsIn x.paths.now.bytes es) is.joined.events is.sound)
+        some_candidate x.paths.now.bytes all place read.0 read.1 (subst (λ (es : List Event). AreEventsIn x.paths.now.bytes es) is.formed.joined.events is.formed.sound)
         (slice_get-get_or (byte_reads all) place (0, 0) read_here) in
         omega (arith, some, ap (λ (ws : List ℕ). length ws) (here v shown at is_shown))

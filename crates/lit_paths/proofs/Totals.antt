@@ -184,18 +184,18 @@ module _ (x : Inside) (is : IsEntered x) where
   c = x.number
 
   abbrev lists : List (List ℕ)
-  lists = candidate_lists x.joined.events.items x.reads.items
+  lists = candidate_lists x.formed.joined.events.items x.formed.reads.items
 
   pub entered_lists : lists ≡ map (candidates_of (events_in t c)) (byte_reads (events_in t c))
   entered_lists =
-      candidate_lists-are x.joined.events.items x.reads.items is.all_reads
-      ∙ ap (λ (es : List Event). map (candidates_of es) (byte_reads es)) is.joined.events
+      candidate_lists-are x.formed.joined.events.items x.formed.reads.items is.formed.all_reads
+      ∙ ap (λ (es : List Event). map (candidates_of es) (byte_reads es)) is.formed.joined.events
 
   pub entered_count : length (product lists) ≡ length (sources_of (events_in t c))
   entered_count = ap (λ (ws : List (List ℕ)). length (product ws)) entered_lists
 
   pub entered_end : x.first + x.total ≡ choices_before t (c + 1)
-  entered_end = omega (arith, is.before, is.whole, before_more t c is.known, entered_count)
+  entered_end = omega (arith, is.before, is.formed.whole, before_more t c is.known, entered_count)
 
   entered_at : (n : ℕ) (sources : List ℕ) → slice_get (product lists) (n - x.first) ≡ Some sources → slice_get (sources_of (events_in t c)) (n - choices_before t c) ≡ Some sources
   entered_at n sources at =

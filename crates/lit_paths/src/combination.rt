@@ -8,15 +8,15 @@ ghost use Rattle.lit_paths.specs.Numbers.{ways_from};
 ghost use Rattle.lit_paths.specs.declared.sources.ByteRead.{ByteRead as Read};
 ghost use Rattle.lit_paths.specs.Plan.{events_in, choices_before, first_event, path_in, walk_in, AreEventsIn, HasSources, IsOfCombination, IsWalkIn, ListsCandidates};
 ghost use Rattle.lit_paths.specs.Planning.CandidateLists.{candidate_lists, candidates_for, ways_after};
-ghost use Rattle.lit_paths.specs.Planning.Combining.{IsJoined};
+ghost use Rattle.lit_paths.specs.Planning.Entered.{IsFormed};
 ghost use Rattle.lit_paths.specs.Planning.Walks.{IsInLimits};
 
 use crate::agent_paths::AgentPaths;
 use crate::event::{Event, Sources};
-use crate::joined::Joined;
+use crate::joined::{Joined, join};
 use crate::limits::{BYTE_READ_LIMIT, CANDIDATE_LIMIT};
 use crate::path::Path;
-use crate::sources::{ByteRead, ByteReads, byte_reads_of, candidates_of};
+use crate::sources::{ByteRead, ByteReads, candidates_of, find_byte_reads};
 use arrayvec::ArrayVec;
 use lit_read::Test;
 use std::marker::Model;
@@ -28,20 +28,18 @@ struct Ways {
     later: ArrayVec<u64, BYTE_READ_LIMIT>,
 }
 
-/// The candidates of each of these bytes, whose sources can be chosen in `total` ways.
-fn ways_of(events: &[Event], reads: &[ByteRead], total: u64) -> Ways
+/// Makes what is there the candidates of each of these bytes, whose sources can be chosen in `total` ways.
+fn find_ways(ways: &mut Ways, events: &[Event], reads: &[ByteRead], total: u64)
     requires few { length events.now ≤ EVENT_LIMIT }
     requires room { length reads.now ≤ READS }
     requires fit { (i : ℕ) (read : Read) → slice_get reads.now i ≡ Some read → length (candidates_for events.now read) ≤ CANDIDATES }
     requires whole { total ≡ length (product (candidate_lists events.now reads.now)) }
     requires some { 1 ≤ total }
-    ensures candidates { map (λ list. list.items) result.candidates.items ≡ candidate_lists events.now reads.now }
-    ensures later { result.later.items ≡ ways_after (candidate_lists events.now reads.now) }
+    ensures candidates { map (λ list. list.items) ways.new.candidates.items ≡ candidate_lists events.now reads.now }
+    ensures later { ways.new.later.items ≡ ways_after (candidate_lists events.now reads.now) }
 {
-    let mut ways = Ways {
-        candidates: ArrayVec::new(),
-        later: ArrayVec::new(),
-    };
+    ways.candidates.clear();
+    ways.later.clear();
     let mut left = total;
     for read in reads {
         let list = candidates_of(events, *read);
@@ -49,7 +47,41 @@ fn ways_of(events: &[Event], reads: &[ByteRead], total: u64) -> Ways
         ways.candidates.push(list);
         ways.later.push(left);
     }
-    ways
+}
+
+/// What is formed on entering a combination: its paths and events, the bytes that these read, and the candidates of each.
+#[derive(Drop)]
+struct Formed {
+    joined: Joined,
+    reads: ByteReads,
+    ways: Ways,
+}
+
+impl Formed {
+    /// Nothing yet.
+    fn new() -> Self {
+        Formed {
+            joined: Joined::new(),
+            reads: ByteReads::new(),
+            ways: Ways {
+                candidates: ArrayVec::new(),
+                later: ArrayVec::new(),
+            },
+        }
+    }
+
+    /// Forms a combination, by its number, of which there are `total` choices, in place of what is there.
+    fn form(&mut self, paths: &AgentPaths<'_>, number: usize, total: u64)
+        requires limits { IsInLimits paths.now }
+        requires known { number < length (combinations_of paths.now) }
+        requires whole { choices_before paths.now number + total ≡ choices_before paths.now (number + 1) }
+        ensures { IsFormed paths.now number total self.new }
+    {
+        join(&mut self.joined, paths, number);
+        let events = self.joined.events.as_slice();
+        find_byte_reads(&mut self.reads, events);
+        find_ways(&mut self.ways, events, self.reads.as_slice(), total);
+    }
 }
 
 /// The candidate of a byte that a choice takes: `place / later` counts round and round through them.
@@ -69,9 +101,7 @@ fn candidate_at(candidates: &[u8], later: u64, place: u64) -> u8
 pub struct Combination<'p> {
     paths: &'p AgentPaths<'p>,
     number: usize,
-    joined: Joined,
-    reads: ByteReads,
-    ways: Ways,
+    formed: Formed,
     first: u64,
     total: u64,
 }
@@ -94,33 +124,45 @@ impl<'p> Model for Combination<'p> {
 
 impl<'p> Combination<'p> {
     /// Combination `number` of a plan's test, with so many choices from number `first` on.
-    pub(crate) fn new(
-        paths: &'p AgentPaths<'p>,
-        number: usize,
-        joined: Joined,
-        first: u64,
-        total: u64,
-    ) -> Self
+    pub(crate) fn new(paths: &'p AgentPaths<'p>, number: usize, first: u64, total: u64) -> Self
         requires limits { IsInLimits paths.now }
         requires known { number < length (combinations_of paths.now) }
-        requires joined { IsJoined paths.now number joined }
-        requires sound { AreEventsIn paths.now.bytes joined.events.items }
         requires first { first ≡ choices_before paths.now number }
         requires whole { first + total ≡ choices_before paths.now (number + 1) }
         requires few { first + total ≤ CHOICE_LIMIT }
         ensures { result ≡ (paths.now, number) }
     {
-        let reads = byte_reads_of(joined.events.as_slice());
-        let ways = ways_of(joined.events.as_slice(), reads.as_slice(), total);
+        let mut formed = Formed::new();
+        formed.form(paths, number, total);
         Combination {
             paths,
             number,
-            joined,
-            reads,
-            ways,
+            formed,
             first,
             total,
         }
+    }
+
+    /// Makes it combination `number` of a plan's test, with so many choices from number `first` on, in place.
+    pub(crate) fn reenter(
+        &mut self,
+        paths: &'p AgentPaths<'p>,
+        number: usize,
+        first: u64,
+        total: u64,
+    )
+        requires limits { IsInLimits paths.now }
+        requires known { number < length (combinations_of paths.now) }
+        requires first { first ≡ choices_before paths.now number }
+        requires whole { first + total ≡ choices_before paths.now (number + 1) }
+        requires few { first + total ≤ CHOICE_LIMIT }
+        ensures { self.new ≡ (paths.now, number) }
+    {
+        self.formed.form(paths, number, total);
+        self.paths = paths;
+        self.number = number;
+        self.first = first;
+        self.total = total;
     }
 
     /// The test.
@@ -135,7 +177,7 @@ impl<'p> Combination<'p> {
         ensures value { result.now ≡ events_in self.now.0 self.now.1 }
         ensures sound { AreEventsIn self.now.0.bytes result.now }
     {
-        self.joined.events.as_slice()
+        self.formed.joined.events.as_slice()
     }
 
     /// The path of an agent, by its number: below the number of agents.
@@ -144,7 +186,7 @@ impl<'p> Combination<'p> {
         ensures exact { result.now ≡ path_in self.now.0 self.now.1 agent }
         ensures walk { IsWalkIn self.now.0 self.now.1 agent (walk_in self.now.0 self.now.1 agent) }
     {
-        let number = self.joined.numbers.as_slice()[agent];
+        let number = self.formed.joined.numbers.as_slice()[agent];
         self.paths.path(agent, usize::from(number))
     }
 
@@ -154,14 +196,14 @@ impl<'p> Combination<'p> {
         requires { agent < length self.now.0.agents }
         ensures { result ≡ first_event self.now.0 self.now.1 agent }
     {
-        self.joined.firsts.as_slice()[agent]
+        self.formed.joined.firsts.as_slice()[agent]
     }
 
     /// Each byte that is read: reads by rising number, bytes rising within a read.
     pub fn byte_reads(&self) -> &[ByteRead]
         ensures { map pair_of result.now ≡ byte_reads (events_in self.now.0 self.now.1) }
     {
-        self.reads.as_slice()
+        self.formed.reads.as_slice()
     }
 
     /// The candidates of a byte read, by its place in `byte_reads`: by rising event number, and at least one.
@@ -171,7 +213,7 @@ impl<'p> Combination<'p> {
         ensures lists { ListsCandidates (events_in self.now.0 self.now.1) (byte_read_at (events_in self.now.0 self.now.1) place).0 (byte_read_at (events_in self.now.0 self.now.1) place).1 result.now }
         ensures some { 1 ≤ length result.now }
     {
-        self.ways.candidates.as_slice()[place].as_slice()
+        self.formed.ways.candidates.as_slice()[place].as_slice()
     }
 
     /// How many choices on the combination each candidate of a byte read leads to, by the byte read's place in
@@ -181,7 +223,7 @@ impl<'p> Combination<'p> {
         ensures value { result ≡ ways_from (events_in self.now.0 self.now.1) (place + 1) }
         ensures some { 1 ≤ result }
     {
-        self.ways.later.as_slice()[place]
+        self.formed.ways.later.as_slice()[place]
     }
 
     /// The number of its first choice.
@@ -208,8 +250,8 @@ impl<'p> Combination<'p> {
         ensures sourced { AreSources (events_in self.now.0 self.now.1) result.items }
     {
         let place = n - self.first;
-        let candidates = self.ways.candidates.as_slice();
-        let later = self.ways.later.as_slice();
+        let candidates = self.formed.ways.candidates.as_slice();
+        let later = self.formed.ways.later.as_slice();
         let mut sources = Sources::new();
         for i in 0..candidates.len() {
             sources.push(candidate_at(candidates[i].as_slice(), later[i], place));

@@ -25,12 +25,23 @@ pub(crate) struct Joined {
     pub events: Events,
 }
 
-/// The events that make a block.
-fn made_events(bytes: u8) -> Events
+impl Joined {
+    /// No path, and no event.
+    pub(crate) fn new() -> Self {
+        Joined {
+            numbers: ArrayVec::new(),
+            firsts: ArrayVec::new(),
+            events: Events::new(),
+        }
+    }
+}
+
+/// Makes a list that of the events that make a block.
+fn make_events(events: &mut Events, bytes: u8)
     requires { bytes ≤ BLOCK_LIMIT }
-    ensures { result.items ≡ init_events bytes }
+    ensures { events.new.items ≡ init_events bytes }
 {
-    let mut events = Events::new();
+    events.clear();
     for byte in 0..bytes {
         events.push(Event {
             kind: Kind::Write,
@@ -43,7 +54,6 @@ fn made_events(bytes: u8) -> Events
             place: byte,
         });
     }
-    events
 }
 
 /// Adds the events of a path.
@@ -56,27 +66,22 @@ fn push_events(events: &mut Events, path: &Path)
     }
 }
 
-/// The paths of a combination, by its number: the last agent's paths change first.
-pub(crate) fn join(paths: &AgentPaths<'_>, combination: usize) -> Joined
+/// Makes what is there the paths of a combination, by its number: the last agent's paths change first.
+pub(crate) fn join(joined: &mut Joined, paths: &AgentPaths<'_>, combination: usize)
     requires { combination < count_of paths.now.agents }
-    ensures joined { IsJoined paths.now combination result }
-    ensures sound { AreEventsIn paths.now.bytes result.events.items }
+    ensures joined { IsJoined paths.now combination joined.new }
+    ensures sound { AreEventsIn paths.now.bytes joined.new.events.items }
 {
     let mut later = paths.combinations();
-    let mut numbers = ArrayVec::new();
-    let mut firsts = ArrayVec::new();
-    let mut events = made_events(paths.test().bytes());
+    joined.numbers.clear();
+    joined.firsts.clear();
+    make_events(&mut joined.events, paths.test().bytes());
     for agent in 0..paths.test().agents() {
         let count = paths.count(agent);
         later /= count;
         let number = combination / later % count;
-        numbers.push(number as u16);
-        firsts.push(events.len() as u8);
-        push_events(&mut events, paths.path(agent, number));
-    }
-    Joined {
-        numbers,
-        firsts,
-        events,
+        joined.numbers.push(number as u16);
+        joined.firsts.push(joined.events.len() as u8);
+        push_events(&mut joined.events, paths.path(agent, number));
     }
 }

@@ -11,11 +11,11 @@ ghost use Rattle.lit_paths.specs.Planning.Totals.{totals_below};
 
 use crate::agent_paths::AgentPaths;
 use crate::counting::{longest_walk, walk_count};
-use crate::joined::join;
+use crate::joined::{Joined, join};
 use crate::limits::{ACCESS_LIMIT, CHOICE_LIMIT, COMBINATION_LIMIT};
 use crate::names::written_names;
 use crate::planning::{Plan, PlanFault};
-use crate::sources::{byte_reads_of, count_sources};
+use crate::sources::{ByteReads, count_sources, find_byte_reads};
 use lit_read::Test;
 use std::alloc::Global;
 
@@ -42,15 +42,22 @@ fn combination_count(test: &Test) -> usize
     count
 }
 
-/// How many choices a combination has, or `None` where these are more than there may be.
-fn choice_count(paths: &AgentPaths<'_>, combination: usize) -> Option<u64>
+/// How many choices a combination has, or `None` where these are more than there may be. Its paths and byte reads come in
+/// place of what is there.
+fn choice_count(
+    joined: &mut Joined,
+    reads: &mut ByteReads,
+    paths: &AgentPaths<'_>,
+    combination: usize,
+) -> Option<u64>
     requires { combination < count_of paths.now.agents }
     ensures { MatchOption result (CHOICES < length (sources_of (events_in paths.now combination)))
         (λ count. (count ≡ length (sources_of (events_in paths.now combination))) × (count ≤ CHOICES)) }
 {
-    let events = join(paths, combination).events;
-    let reads = byte_reads_of(events.as_slice());
-    count_sources(events.as_slice(), reads.as_slice())
+    join(joined, paths, combination);
+    let events = joined.events.as_slice();
+    find_byte_reads(reads, events);
+    count_sources(events, reads.as_slice())
 }
 
 /// How many choices the first combinations have, up to each.
@@ -61,9 +68,11 @@ fn running_totals(alloc: Global, paths: &AgentPaths<'_>) -> Result<Vec<u64>, Pla
 {
     let count = paths.combinations();
     let mut totals = Vec::with_capacity(alloc, count)?;
+    let mut joined = Joined::new();
+    let mut reads = ByteReads::new();
     let mut total = 0;
     for combination in 0..count {
-        let Some(choices) = choice_count(paths, combination) else {
+        let Some(choices) = choice_count(&mut joined, &mut reads, paths, combination) else {
             return Err(PlanFault::TooManyChoices);
         };
         total += choices;

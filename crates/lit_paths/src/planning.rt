@@ -13,7 +13,7 @@ ghost use Rattle.lit_paths.specs.Plan.{events_in, choices_before, path_in, walk_
 use crate::agent_paths::AgentPaths;
 use crate::combination::Combination;
 use crate::event::{Events, Sources, event_at};
-use crate::joined::join;
+use crate::joined::{Joined, join};
 use crate::names::{Names, asks, holds};
 use crate::path::Path;
 use crate::sources::{ByteRead, Candidates, candidates_of};
@@ -181,8 +181,18 @@ impl<'t> Plan<'t> {
     {
         let first = self.first_of(combination);
         let total = self.end_of(combination) - first;
-        let joined = join(&self.paths, combination);
-        Combination::new(&self.paths, combination, joined, first, total)
+        Combination::new(&self.paths, combination, first, total)
+    }
+
+    /// Enters a combination of paths, by its number, below `combinations`, in place of one that was entered before. This
+    /// is `enter`, but that nothing as large as a combination is made.
+    pub fn reenter<'p>(&'p self, combination: &mut Combination<'p>, number: usize)
+        requires { number < length (combinations_of self.now) }
+        ensures { combination.new ≡ (self.now, number) }
+    {
+        let first = self.first_of(number);
+        let total = self.end_of(number) - first;
+        combination.reenter(&self.paths, number, first, total);
     }
 
     /// The sources of a choice, by its number: below `total`.
@@ -199,7 +209,9 @@ impl<'t> Plan<'t> {
         ensures value { result.items ≡ events_in self.now combination }
         ensures sound { AreEventsIn self.now.bytes result.items }
     {
-        join(&self.paths, combination).events
+        let mut joined = Joined::new();
+        join(&mut joined, &self.paths, combination);
+        joined.events
     }
 
     /// The path of an agent in a combination. The combination is below `combinations`, the agent below the number of

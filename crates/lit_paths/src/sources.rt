@@ -43,18 +43,17 @@ fn push_bytes(reads: &mut ByteReads, number: u8, event: &Event)
     }
 }
 
-/// Each byte that the events read.
-pub(crate) fn byte_reads_of(events: &[Event]) -> ByteReads
+/// Makes a list that of each byte that the events read.
+pub(crate) fn find_byte_reads(reads: &mut ByteReads, events: &[Event])
     requires few { length events.now ≤ 2 ^ 8 }
     requires room { length (byte_reads events.now) ≤ BYTE_READ_LIMIT }
     requires ranges { (i : ℕ) → i < length events.now → (event_at events.now i).first + (event_at events.now i).size ≤ 2 ^ 8 }
-    ensures { map pair_of result.items ≡ byte_reads events.now }
+    ensures { map pair_of reads.new.items ≡ byte_reads events.now }
 {
-    let mut reads = ByteReads::new();
+    reads.clear();
     for (number, event) in events.iter().enumerate() {
-        push_bytes(&mut reads, number as u8, event);
+        push_bytes(reads, number as u8, event);
     }
-    reads
 }
 
 /// Whether the event with this number may be the source of a byte for a read.

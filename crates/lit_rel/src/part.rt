@@ -64,6 +64,18 @@ impl<'p> Part<'p> {
         }
     }
 
+    /// Opens a combination of a plan's test, by its number, below `combinations`, in place of the part that is there. This
+    /// is `open`, but that nothing as large as a part is made.
+    pub fn reopen(&mut self, plan: &'p Plan<'p>, combination: usize)
+        requires { combination < length (combinations_of plan.now) }
+        ensures value { self.new ≡ record { test = plan.now; combination = combination; sources = [] } }
+        ensures sound { AreEventsIn self.new.test.bytes (part_events self.new) }
+    {
+        self.related.reopen(plan, combination);
+        self.earlier.clear();
+        self.refused = has_false_test(self.related.combination(), None, 0);
+    }
+
     /// Its combination.
     pub fn combination(&self) -> &Combination<'p>
         ensures { result.now ≡ (self.now.test, self.now.combination) }

@@ -3,6 +3,7 @@
 ghost use Rattle.std.specs.Prelude.{◌≡◌, ◌↔◌, ℕ, ◌-◌, ◌<◌, ◌≤◌, IsTrue, [], ◌∷◌, ◌++◌, length, take};
 ghost use Rattle.lit_paths.specs.declared.limits.TheConstants.{BYTE_READ_LIMIT};
 ghost use Rattle.lit_paths.specs.ByteReads.{byte_reads};
+ghost use Rattle.lit_paths.specs.Choice.{combinations_of};
 ghost use Rattle.lit_paths.specs.Event.{event_at};
 ghost use Rattle.lit_paths.specs.Plan.{AreEventsIn};
 ghost use Rattle.lit_rel.specs.Between.{Forbids};
@@ -21,7 +22,7 @@ use crate::closing::unsourced_order;
 use crate::given::{Given, SourcedByte, SourcedBytes};
 use crate::levels::{Level, Levels};
 use crate::triples::Between;
-use lit_paths::Combination;
+use lit_paths::{Combination, Plan};
 use std::marker::Model;
 
 /// A combination of a test's paths, with sources for its first byte reads, their happens-before, and whether its
@@ -74,6 +75,23 @@ impl<'p> Related<'p> {
                 broken,
             },
         }
+    }
+
+    /// Makes it a combination of a plan's test, by its number, in place. No byte read has a source yet.
+    pub(crate) fn reopen(&mut self, plan: &'p Plan<'p>, combination: usize)
+        requires { combination < length (combinations_of plan.now) }
+        ensures value { self.new ≡ record { test = plan.now; combination = combination; sources = [] } }
+        ensures sound { AreEventsIn self.new.test.bytes (part_events self.new) }
+    {
+        plan.reenter(&mut self.combination, combination);
+        self.bytes.clear();
+        self.earlier.clear();
+        self.start = unsourced_order(self.combination.events());
+        self.order = self.start;
+        self.level = Level {
+            adds: false,
+            broken: self.start.has_cycle(),
+        };
     }
 
     /// Its combination.

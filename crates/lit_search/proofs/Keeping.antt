@@ -1,5 +1,5 @@
 -- What is kept, and what is found first, while choices are looked at in order.
-use Rattle.std.proofs.Common.{◌≡◌, ◌⊎◌, inl, inr, Ok, Err, ℕ, zero, suc, ◌+◌, ◌<◌, ◌≤◌, Bool, List, [], ◌∷◌, Some, refl, sym, subst, arith}
+use Rattle.std.proofs.Common.{◌≡◌, ◌↔◌, ◌⊎◌, inl, inr, Ok, Err, ℕ, zero, suc, ◌+◌, ◌<◌, ◌≤◌, Bool, List, [], ◌∷◌, Some, refl, sym, subst, arith}
 use Rattle.std.specs.Prelude.{IfOk, IsTrue, slice_get}
 use Rattle.std.specs.declared.result.Result.{Result}
 use Rattle.std.specs.declared.cmp.Ordering.{Ordering}
@@ -10,45 +10,46 @@ use Rattle.lit_read.specs.Syntax.{Litmus}
 use Rattle.lit_search.specs.declared.class.Class.{Class}
 use Rattle.lit_search.specs.Class.{GivesClass, HasNoneOf, IsFirstOf, is_of_class}
 use Rattle.lit_search.specs.Collected.{Collected, HasTaken}
-use Rattle.lit_search.specs.Report.{Entry, Report, in_either, in_range}
+use Rattle.lit_search.specs.Report.{Entry, HasRaceIn, in_either, in_range}
 use Rattle.lit_search.specs.Searching.Examined.{IsExample}
 use Rattle.lit_search.specs.Searching.Merged.{merged}
 use Rattle.lit_search.specs.Searching.Outcomes.{HasOutcome}
 use Rattle.lit_search.specs.Searching.Shown.{IsNext, IsShown, NoneShow}
-use Rattle.lit_search.specs.Searching.Taking.{KeepsRange}
+use Rattle.lit_search.specs.Searching.Taking.{KeepsRange, MarksRaces}
 use Rattle.lit_search.proofs.Entries.{cmp, differs}
-use Rattle.lit_search.proofs.MergedEntries.{IsMerge-merged}
+use Rattle.lit_search.proofs.MergedEntries.{AreMerged-merged}
 use Rattle.lit_search.proofs.NumberSets.{before_end, either_cases, in_other, in_some, not_below, same_test, within}
-use Rattle.lit_search.proofs.Reports.{IsReport-merged, IsReport-one, IsReport-passed, IsReport-same}
+use Rattle.lit_search.proofs.RacingLemmas.{marked_more}
+use Rattle.lit_search.proofs.Reports.{AreEntries-merged, AreEntries-one, AreEntries-passed, AreEntries-same}
 
 -- ---- an outcome is kept, or it is not
-kept_or_not : (outcome : List ℕ) (xs : List Entry) → HasOutcome (record { entries = xs }) outcome ⊎ ¬ HasOutcome (record { entries = xs }) outcome
+kept_or_not : (outcome : List ℕ) (xs : List Entry) → HasOutcome xs outcome ⊎ ¬ HasOutcome xs outcome
 kept_or_not outcome [] = inr (λ o. absurd (let e = o.is in cc))
 kept_or_not outcome (x ∷ xs) = by (cmp x.outcome outcome) refl (kept_or_not outcome xs)
   where
-    later : HasOutcome (record { entries = xs }) outcome → HasOutcome (record { entries = x ∷ xs }) outcome
+    later : HasOutcome xs outcome → HasOutcome (x ∷ xs) outcome
     later o = record { place = suc o.place; entry = o.entry; is = o.is; same = o.same }
 
-    none : ¬ (x.outcome ≡ outcome) → ¬ HasOutcome (record { entries = xs }) outcome → ¬ HasOutcome (record { entries = x ∷ xs }) outcome
+    none : ¬ (x.outcome ≡ outcome) → ¬ HasOutcome xs outcome → ¬ HasOutcome (x ∷ xs) outcome
     none ne not o = at o.place o.entry o.is o.same
       where
         at : (i : ℕ) (entry : Entry) → slice_get (x ∷ xs) i ≡ Some entry → entry.outcome ≡ outcome → ⊥
         at zero entry is same = ne (let e : Some x ≡ Some entry = is in let here : x ≡ entry = cc in let P : Entry → Type 0 = λ w. w.outcome ≡ outcome in subst P (sym here) same)
         at (suc i) entry is same = not (record { place = i; entry = entry; is = is; same = same })
 
-    split : ¬ (x.outcome ≡ outcome) → HasOutcome (record { entries = xs }) outcome ⊎ ¬ HasOutcome (record { entries = xs }) outcome
-        → HasOutcome (record { entries = x ∷ xs }) outcome ⊎ ¬ HasOutcome (record { entries = x ∷ xs }) outcome
+    split : ¬ (x.outcome ≡ outcome) → HasOutcome xs outcome ⊎ ¬ HasOutcome xs outcome
+        → HasOutcome (x ∷ xs) outcome ⊎ ¬ HasOutcome (x ∷ xs) outcome
     split ne (inl o) = inl (later o)
     split ne (inr not) = inr (none ne not)
 
-    by : (o : Ordering) → cmp x.outcome outcome ≡ o → HasOutcome (record { entries = xs }) outcome ⊎ ¬ HasOutcome (record { entries = xs }) outcome
-        → HasOutcome (record { entries = x ∷ xs }) outcome ⊎ ¬ HasOutcome (record { entries = x ∷ xs }) outcome
+    by : (o : Ordering) → cmp x.outcome outcome ≡ o → HasOutcome xs outcome ⊎ ¬ HasOutcome xs outcome
+        → HasOutcome (x ∷ xs) outcome ⊎ ¬ HasOutcome (x ∷ xs) outcome
     by Less e rest = split (differs x.outcome outcome (λ f. absurd cc)) rest
     by Equal e rest = inl (record { place = 0; entry = x; is = refl; same = exact_bytes x.outcome outcome e })
     by Greater e rest = split (differs x.outcome outcome (λ f. absurd cc)) rest
 
-kept_from : (r : Report) (outcome : List ℕ) → ¬ ¬ HasOutcome r outcome → HasOutcome r outcome
-kept_from r outcome not = by (kept_or_not outcome r.entries)
+kept_from : (r : List Entry) (outcome : List ℕ) → ¬ ¬ HasOutcome r outcome → HasOutcome r outcome
+kept_from r outcome not = by (kept_or_not outcome r)
   where
     by : HasOutcome r outcome ⊎ ¬ HasOutcome r outcome → HasOutcome r outcome
     by (inl o) = o
@@ -64,16 +65,16 @@ module _ (t : Litmus) (Wanted : List ℕ → Type 0) where
 
 -- ---- keeping
 module _ (t : Litmus) where
-  pub keeps_none : (n : ℕ) (r : Report) → KeepsRange t n n r r
-  keeps_none n r taken below h = IsReport-same t taken (in_either taken (in_range n n)) r (λ m known. same_test (taken m) (in_either taken (in_range n n) m) (in_some (taken m) (in_range n n m)) (λ p. by m (either_cases (taken m) (in_range n n m) p))) h
+  pub keeps_none : (n : ℕ) (r : List Entry) → KeepsRange t n n r r
+  keeps_none n r taken below h = AreEntries-same t taken (in_either taken (in_range n n)) r (λ m known. same_test (taken m) (in_either taken (in_range n n) m) (in_some (taken m) (in_range n n m)) (λ p. by m (either_cases (taken m) (in_range n n m) p))) h
     where
       by : (m : ℕ) → IsTrue (taken m) ⊎ IsTrue (in_range n n m) → IsTrue (taken m)
       by m (inl p) = p
       by m (inr q) = absurd (omega (arith, not_below n n m q, before_end n n m q))
 
-  pub keeps_joined : (from mid to : ℕ) (old kept new : Report) → from ≤ mid → mid ≤ to → KeepsRange t from mid old kept → KeepsRange t mid to kept new → KeepsRange t from to old new
+  pub keeps_joined : (from mid to : ℕ) (old kept new : List Entry) → from ≤ mid → mid ≤ to → KeepsRange t from mid old kept → KeepsRange t mid to kept new → KeepsRange t from to old new
   keeps_joined from mid to old kept new low high first second taken below h =
-      IsReport-same t (in_either (in_either taken (in_range from mid)) (in_range mid to)) (in_either taken (in_range from to)) new
+      AreEntries-same t (in_either (in_either taken (in_range from mid)) (in_range mid to)) (in_either taken (in_range from to)) new
       (λ m known. same_test (in_either (in_either taken (in_range from mid)) (in_range mid to) m) (in_either taken (in_range from to) m)
       (λ p. over m (either_cases (in_either taken (in_range from mid) m) (in_range mid to m) p))
       (λ p. back m (either_cases (taken m) (in_range from to m) p)))
@@ -103,25 +104,29 @@ module _ (t : Litmus) where
       back m (inr q) = cut m q (cases_lt m mid)
 
   -- choices that show nothing new
-  pub keeps_passed : (from to : ℕ) (r : Report) → NoneShow t (λ outcome. ¬ HasOutcome r outcome) (in_range from to) → KeepsRange t from to r r
+  pub keeps_passed : (from to : ℕ) (r : List Entry) → NoneShow t (λ outcome. ¬ HasOutcome r outcome) (in_range from to) → KeepsRange t from to r r
   keeps_passed from to r none taken below h =
-      IsReport-passed t taken (in_range from to) r h (λ m n p q. omega (arith, below m p, not_below from to n q)) (λ n outcome inside g. kept_from r outcome (λ not. none n inside outcome g not))
+      AreEntries-passed t taken (in_range from to) r h (λ m n p q. omega (arith, below m p, not_below from to n q)) (λ n outcome inside g. kept_from r outcome (λ not. none n inside outcome g not))
 
   -- a choice with its example
-  pub keeps_one : (n : ℕ) (r new : Report) (e : Entry) → e.choice ≡ n → IsExample t n e.outcome e.order → new.entries ≡ merged r.entries (e ∷ []) → KeepsRange t n (n + 1) r new
+  pub keeps_one : (n : ℕ) (r new : List Entry) (e : Entry) → e.choice ≡ n → IsExample t n e.outcome e.order → new ≡ merged r (e ∷ []) → KeepsRange t n (n + 1) r new
   keeps_one n r new e chosen example is taken below h =
-      let one = IsReport-one t n e chosen example in
-      IsReport-merged t taken (in_range n (n + 1)) r (record { entries = e ∷ [] }) new h one (IsMerge-merged r (record { entries = e ∷ [] }) new h.rising one.rising is)
+      let one = AreEntries-one t n e chosen example in
+      AreEntries-merged t taken (in_range n (n + 1)) r (e ∷ []) new h one (AreMerged-merged r (e ∷ []) new h.rising one.rising is)
 
   -- the next one that is new, and those before it
-  pub keeps_next : (from to : ℕ) (r new : Report) (e : Entry) → IsNext t (λ outcome. ¬ HasOutcome r outcome) from to e → new.entries ≡ merged r.entries (e ∷ []) → KeepsRange t from (e.choice + 1) r new
+  pub keeps_next : (from to : ℕ) (r new : List Entry) (e : Entry) → IsNext t (λ outcome. ¬ HasOutcome r outcome) from to e → new ≡ merged r (e ∷ []) → KeepsRange t from (e.choice + 1) r new
   keeps_next from to r new e next is =
       keeps_joined from e.choice (e.choice + 1) r r new next.after (omega arith) (keeps_passed from e.choice r next.none_before) (keeps_one e.choice r new e refl next.shown.example is)
 
-  pub taken_more : (from to : ℕ) (taken : ℕ → Bool) (old new : Collected) → old.end ≤ from → from ≤ to → new.end ≡ to → KeepsRange t from to old.report new.report → HasTaken t taken old → HasTaken t (in_either taken (in_range from to)) new
-  taken_more from to taken old new follows order end keeps h = record {
+  pub taken_more : (from to : ℕ) (taken : ℕ → Bool) (kept : Bool) (old new : Collected) → old.end ≤ from → from ≤ to → new.end ≡ to → KeepsRange t from to old.report.entries new.report.entries
+      → MarksRaces t from to old.report.race kept → IsTrue new.report.race ↔ (IsTrue kept ⊎ HasRaceIn t (in_range from to)) → HasTaken t taken old → HasTaken t (in_either taken (in_range from to)) new
+  taken_more from to taken kept old new follows order end keeps marks is h = record {
     below = λ n p. by n (either_cases (taken n) (in_range from to n) p);
-    reported = keeps taken (λ n p. omega (arith, h.below n p, follows)) h.reported;
+    reported = record {
+      listed = keeps taken (λ n p. omega (arith, h.below n p, follows)) h.reported.listed;
+      marked = marked_more t from to taken old.report.race kept new.report.race marks is h.reported.marked;
+    };
   }
     where
       by : (n : ℕ) → IsTrue (taken n) ⊎ IsTrue (in_range from to n) → n < new.end

@@ -37,12 +37,12 @@ module _ {K X : Type 0} (key : K → List ℕ) (choice : X → ℕ) (order : X �
   AreRising-kept (p ∷ es) h = (all_keys p.0 es h.0 (kept p) refl, AreRising-kept es h.1)
 
   -- what a look-up of an outcome says
-  has_from : (outcome : List ℕ) (es : List (K × X)) → IsTrue (is_some (lookup (λ k. is_eq (cmp outcome (key k))) es)) → HasOutcome (record { entries = map kept es }) outcome
+  has_from : (outcome : List ℕ) (es : List (K × X)) → IsTrue (is_some (lookup (λ k. is_eq (cmp outcome (key k))) es)) → HasOutcome (map kept es) outcome
   has_from outcome [] h = absurd (let e : false ≡ true = h in cc)
   has_from outcome (p ∷ es) h = by (is_eq (cmp outcome (key p.0))) refl h (has_from outcome es)
     where
       by : (b : Bool) → is_eq (cmp outcome (key p.0)) ≡ b → IsTrue (is_some (cond b (Some p.1) (lookup (λ k. is_eq (cmp outcome (key k))) es)))
-          → (IsTrue (is_some (lookup (λ k. is_eq (cmp outcome (key k))) es)) → HasOutcome (record { entries = map kept es }) outcome) → HasOutcome (record { entries = kept p ∷ map kept es }) outcome
+          → (IsTrue (is_some (lookup (λ k. is_eq (cmp outcome (key k))) es)) → HasOutcome (map kept es) outcome) → HasOutcome (kept p ∷ map kept es) outcome
       by true e k later = record { place = 0; entry = kept p; is = refl; same = sym (exact_bytes outcome (key p.0) (is_equal _ e)) }
       by false e k later = let o = later k in record { place = suc o.place; entry = o.entry; is = o.is; same = o.same }
 
@@ -59,11 +59,11 @@ module _ {K X : Type 0} (key : K → List ℕ) (choice : X → ℕ) (order : X �
       by true h = refl
       by false h = h
 
-  pub has_kept : (outcome : List ℕ) (es : List (K × X)) → IsTrue (is_some (lookup (λ k. is_eq (cmp outcome (key k))) es)) ↔ HasOutcome (record { entries = map kept es }) outcome
+  pub has_kept : (outcome : List ℕ) (es : List (K × X)) → IsTrue (is_some (lookup (λ k. is_eq (cmp outcome (key k))) es)) ↔ HasOutcome (map kept es) outcome
   has_kept outcome es = (has_from outcome es, λ o. has_to outcome es o.place o.entry o.is o.same)
 
   -- a new outcome is kept
-  pub kept_more : (es : List (K × X)) (k : K) (x : X) → ¬ HasOutcome (record { entries = map kept es }) (key k) → map kept (insert_entry key_cmp es k x) ≡ merged (map kept es) (kept (k, x) ∷ [])
+  pub kept_more : (es : List (K × X)) (k : K) (x : X) → ¬ HasOutcome (map kept es) (key k) → map kept (insert_entry key_cmp es k x) ≡ merged (map kept es) (kept (k, x) ∷ [])
   kept_more [] k x new = refl
   kept_more (p ∷ es) k x new = by (key_cmp k p.0) (key_cmp p.0 k) (nat_list_cmp_total.antisymm (key p.0) (key k)) differs (kept_more es k x (λ o. new (record { place = suc o.place; entry = o.entry; is = o.is; same = o.same })))
     where

@@ -15,6 +15,7 @@ pub mod Entries
 pub mod MergedEntries
 pub mod Reports
 pub mod KeptEntries
+pub mod RacingLemmas
 pub mod Keeping
 pub mod OneOutcome
 pub mod SeenLemmas

@@ -42,7 +42,7 @@ abbrev pub AreNamed : Litmus → Type 0
 AreNamed t = All (λ name. (name.0 < length t.agents) × (name.1 < REGISTERS)) (names_of t)
 
 -- lists of which one begins with the other, as long as it
-no_rest : (ws vs rest : List ℕ) → ws ≡ vs ++ rest → length ws ≡ length vs → ws ≡ vs
+pub no_rest : (ws vs rest : List ℕ) → ws ≡ vs ++ rest → length ws ≡ length vs → ws ≡ vs
 no_rest ws vs rest is long = is ∙ ap (λ (rs : List ℕ). vs ++ rs) (none rest (omega (arith, long, ap (λ (us : List ℕ). length us) is, length-append vs rest))) ∙ append-nil vs
   where
     none : (rs : List ℕ) → length rs ≡ 0 → rs ≡ []

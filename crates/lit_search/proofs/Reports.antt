@@ -1,5 +1,5 @@
 -- Reports of sets of choices: of one choice, of more choices that show nothing new, and of two sets.
-use Rattle.std.proofs.Common.{◌≡◌, ◌⊎◌, inl, inr, ℕ, ◌+◌, ◌<◌, ◌≤◌, Bool, true, false, ◌==◌, List, [], ◌∷◌, length, Some, refl, sym, ap, subst, ◌∙◌, arith}
+use Rattle.std.proofs.Common.{◌≡◌, ◌⊎◌, inl, inr, ℕ, ◌+◌, ◌<◌, ◌≤◌, Bool, true, false, ◌==◌, ◌||◌, ◌↔◌, List, [], ◌∷◌, length, Some, refl, sym, ap, subst, ◌∙◌, arith}
 use Rattle.std.specs.Prelude.{IsTrue, IsFalse, nat_lt, slice_get}
 use Rattle.std.specs.List.Sorted.{IsStrictlySortedBy}
 use Rattle.std.specs.Ordering.{is_gt}
@@ -13,11 +13,11 @@ use Rattle.lit_read.specs.Syntax.{Litmus}
 use Rattle.lit_paths.specs.Choice.{choices_of}
 use Rattle.lit_paths.specs.Execution.{execution_choice, execution_events}
 use Rattle.lit_order.specs.MemoryOrder.{IsLeastMemoryOrder}
-use Rattle.lit_search.specs.Report.{Entry, Report, Gives, HasLeastOrder, IsEntry, IsReport, example_cmp, in_either, in_none, in_range}
-use Rattle.lit_search.specs.Merge.{HasInEither, IsMerge}
+use Rattle.lit_search.specs.Report.{AreEntries, Entry, Gives, GivesRace, HasLeastOrder, HasRaceIn, IsEntry, IsReport, Report, example_cmp, in_either, in_none, in_range}
+use Rattle.lit_search.specs.Merge.{AreMerged, HasInEither, IsMerge}
 use Rattle.lit_search.specs.Searching.Examined.{IsExample}
 use Rattle.lit_search.specs.Searching.Outcomes.{HasOutcome}
-use Rattle.lit_search.proofs.NumberSets.{before_end, either_cases, in_other, in_some, not_below, within}
+use Rattle.lit_search.proofs.NumberSets.{before_end, either_cases, in_other, in_some, not_below, same_test, within}
 use Rattle.lit_search.proofs.Entries.{AreRising, Stands, cmp, reversed, same_rising, stands_cases, stands_in_none}
 
 -- ---- what a choice gives
@@ -39,8 +39,8 @@ one_order t n outcome first second g f s =
 
 -- ---- reports
 -- a report of a set with the same of the test's choices
-pub IsReport-same : (t : Litmus) (some others : ℕ → Bool) (r : Report) → ((n : ℕ) → n < length (choices_of t) → some n ≡ others n) → IsReport t some r → IsReport t others r
-IsReport-same t some others r same h = record {
+pub AreEntries-same : (t : Litmus) (some others : ℕ → Bool) (r : List Entry) → ((n : ℕ) → n < length (choices_of t) → some n ≡ others n) → AreEntries t some r → AreEntries t others r
+AreEntries-same t some others r same h = record {
   rising = h.rising;
   each = λ i e is.
       let k = h.each i e is in
@@ -59,17 +59,17 @@ none_rise [] e = tt
 none_rise (x ∷ xs) e = absurd cc
 
 -- nothing is reported of no choice
-pub IsReport-none : (t : Litmus) (r : Report) → r.entries ≡ [] → IsReport t in_none r
-IsReport-none t r is = record {
-  rising = none_rise r.entries is;
+pub AreEntries-none : (t : Litmus) (r : List Entry) → r ≡ [] → AreEntries t in_none r
+AreEntries-none t r is = record {
+  rising = none_rise r is;
   each = λ i e at. absurd (stands_in_none e (record { place = i; is = sym (ap (λ (xs : List Entry). slice_get xs i) is) ∙ at }));
   whole = λ n outcome inside g. absurd (let e : false ≡ true = inside in cc);
 }
 
 -- one choice is reported by its example
-pub IsReport-one : (t : Litmus) (n : ℕ) (e : Entry) → e.choice ≡ n → IsExample t n e.outcome e.order → IsReport t (in_range n (n + 1)) (record { entries = e ∷ [] })
+pub AreEntries-one : (t : Litmus) (n : ℕ) (e : Entry) → e.choice ≡ n → IsExample t n e.outcome e.order → AreEntries t (in_range n (n + 1)) (e ∷ [])
 unfolding IsStrictlySortedBy
-IsReport-one t n e chosen example = record {
+AreEntries-one t n e chosen example = record {
   rising = (tt, tt);
   each = λ i y at. by y (stands_cases e y [] (record { place = i; is = at }));
   whole = λ m outcome inside g.
@@ -91,9 +91,9 @@ IsReport-one t n e chosen example = record {
     by y (inr s) = absurd (stands_in_none y s)
 
 -- more choices, all behind the others, that give no outcome but those reported
-pub IsReport-passed : (t : Litmus) (some others : ℕ → Bool) (r : Report) → IsReport t some r → ((m n : ℕ) → IsTrue (some m) → IsTrue (others n) → m < n)
-    → ((n : ℕ) (outcome : List ℕ) → IsTrue (others n) → Gives t n outcome → HasOutcome r outcome) → IsReport t (in_either some others) r
-IsReport-passed t some others r h behind kept = record {
+pub AreEntries-passed : (t : Litmus) (some others : ℕ → Bool) (r : List Entry) → AreEntries t some r → ((m n : ℕ) → IsTrue (some m) → IsTrue (others n) → m < n)
+    → ((n : ℕ) (outcome : List ℕ) → IsTrue (others n) → Gives t n outcome → HasOutcome r outcome) → AreEntries t (in_either some others) r
+AreEntries-passed t some others r h behind kept = record {
   rising = h.rising;
   each = λ i e is.
       let k = h.each i e is in
@@ -110,7 +110,7 @@ IsReport-passed t some others r h behind kept = record {
     by n e k (inl p) lt g = k.least_choice n p lt g
     by n e k (inr q) lt g = omega (arith, behind e.choice n k.among q, lt)
 
-    there : (n : ℕ) (outcome : List ℕ) → IsTrue (some n) ⊎ IsTrue (others n) → Gives t n outcome → (i : ℕ) × (entry : Entry) × (slice_get r.entries i ≡ Some entry) × (entry.outcome ≡ outcome)
+    there : (n : ℕ) (outcome : List ℕ) → IsTrue (some n) ⊎ IsTrue (others n) → Gives t n outcome → (i : ℕ) × (entry : Entry) × (slice_get r i ≡ Some entry) × (entry.outcome ≡ outcome)
     there n outcome (inl p) g = h.whole n outcome p g
     there n outcome (inr q) g = let o = kept n outcome q g in (o.place, o.entry, o.is, o.same)
 
@@ -132,7 +132,7 @@ choice_of_least e w h = by (cases_lt w.choice e.choice)
             test_not_same k = grind (arith, nat_tests)
     by (inr le) = le
 
-module _ (t : Litmus) (some others : ℕ → Bool) (a b c : Report) (h : IsReport t some a) (k : IsReport t others b) (m : IsMerge a b c) where
+module _ (t : Litmus) (some others : ℕ → Bool) (a b c : List Entry) (h : AreEntries t some a) (k : AreEntries t others b) (m : AreMerged a b c) where
   -- the outcome that a number of either set gives is reported in one of the two, with no greater choice
   record Reported (n : ℕ) (outcome : List ℕ) : Type 0 where
     pub entry : Entry
@@ -164,8 +164,8 @@ module _ (t : Litmus) (some others : ℕ → Bool) (a b c : Report) (h : IsRepor
   of_either e (inl p) = let is = h.each p.0 e p.1 in record { among = in_some (some e.choice) (others e.choice) is.among; gives = is.gives; least_order = is.least_order }
   of_either e (inr q) = let is = k.each q.0 e q.1 in record { among = in_other (some e.choice) (others e.choice) is.among; gives = is.gives; least_order = is.least_order }
 
-  pub IsReport-merged : IsReport t (in_either some others) c
-  IsReport-merged = record {
+  pub AreEntries-merged : AreEntries t (in_either some others) c
+  AreEntries-merged = record {
     rising = m.rising;
     each = λ i e is.
         let o = of_either e (m.of_either e (i, is)) in
@@ -200,15 +200,61 @@ one_entry t numbers e f is other same =
     ∙ ap (λ (n : ℕ). record { outcome = f.outcome; choice = n; order = e.order }) choices
     ∙ ap (λ (o : List ℕ). record { outcome = f.outcome; choice = f.choice; order = o }) orders
 
-into : (t : Litmus) (numbers : ℕ → Bool) (a b : Report) → IsReport t numbers a → IsReport t numbers b → (e : Entry) → Stands a.entries e → Stands b.entries e
+into : (t : Litmus) (numbers : ℕ → Bool) (a b : List Entry) → AreEntries t numbers a → AreEntries t numbers b → (e : Entry) → Stands a e → Stands b e
 into t numbers a b h k e s =
     let is = h.each s.place e s.is in
     let w = k.whole e.choice e.outcome is.among is.gives in
     let same : w.1 ≡ e = one_entry t numbers w.1 e (k.each w.0 w.1 w.2) is w.3 in
-    let P : Entry → Type 0 = λ v. Stands b.entries v in
+    let P : Entry → Type 0 = λ v. Stands b v in
     subst P same (record { place = w.0; is = w.2 })
+
+AreEntries-unique : (t : Litmus) (numbers : ℕ → Bool) (a b : List Entry) → AreEntries t numbers a → AreEntries t numbers b → a ≡ b
+AreEntries-unique t numbers a b h k = same_rising a b h.rising k.rising (into t numbers a b h k) (into t numbers b a k h)
+
+-- ---- entries with the mark of data races
+pub IsReport-same : (t : Litmus) (some others : ℕ → Bool) (r : Report) → ((n : ℕ) → n < length (choices_of t) → some n ≡ others n) → IsReport t some r → IsReport t others r
+IsReport-same t some others r same h = record {
+  listed = AreEntries-same t some others r.entries same h.listed;
+  marked = (
+    (λ race. let one = h.marked.0 race in (one.0, sym (same one.0 (race_listed one.0 one.2)) ∙ one.1, one.2)),
+    (λ one. h.marked.1 (one.0, same one.0 (race_listed one.0 one.2) ∙ one.1, one.2)),
+  );
+}
+  where
+    race_listed : (n : ℕ) → GivesRace t n → n < length (choices_of t)
+    race_listed n g = slice_get_within (choices_of t) n (execution_choice g.execution) g.chosen
+
+pub IsReport-none : (t : Litmus) (r : Report) → r.entries ≡ [] → r.race ≡ false → IsReport t in_none r
+IsReport-none t r is unmarked = record {
+  listed = AreEntries-none t r.entries is;
+  marked = ((λ race. absurd (let e : true ≡ false = sym race ∙ unmarked in cc)), (λ one. absurd (let e : false ≡ true = one.1 in cc)));
+}
+
+-- a data race of one set or the other
+pub HasRaceIn-either : (t : Litmus) (some others : ℕ → Bool) → HasRaceIn t (in_either some others) ↔ (HasRaceIn t some ⊎ HasRaceIn t others)
+HasRaceIn-either t some others = (
+  (λ one. elim (either_cases (some one.0) (others one.0) one.1) [ inl p ↦ inl (one.0, p, one.2) | inr q ↦ inr (one.0, q, one.2) ]),
+  (λ h. elim h [
+    | inl one ↦ (one.0, in_some (some one.0) (others one.0) one.1, one.2)
+    | inr one ↦ (one.0, in_other (some one.0) (others one.0) one.1, one.2)
+  ]),
+)
+
+pub marked_either : (t : Litmus) (some others : ℕ → Bool) (a b : Bool) → (IsTrue a ↔ HasRaceIn t some) → (IsTrue b ↔ HasRaceIn t others) → IsTrue (a || b) ↔ HasRaceIn t (in_either some others)
+marked_either t some others a b h k =
+    let both = HasRaceIn-either t some others in (
+      (λ race. both.1 (elim (either_cases a b race) [ inl p ↦ inl (h.0 p) | inr q ↦ inr (k.0 q) ])),
+      (λ one. elim (both.0 one) [ inl p ↦ in_some a b (h.1 p) | inr q ↦ in_other a b (k.1 q) ]),
+    )
+
+pub IsReport-merged : (t : Litmus) (some others : ℕ → Bool) (a b c : Report) → IsReport t some a → IsReport t others b → IsMerge a b c → IsReport t (in_either some others) c
+IsReport-merged t some others a b c h k m = record {
+  listed = AreEntries-merged t some others a.entries b.entries c.entries h.listed k.listed m.entries;
+  marked = subst (λ (race : Bool). IsTrue race ↔ HasRaceIn t (in_either some others)) (sym m.race) (marked_either t some others a.race b.race h.marked k.marked);
+}
 
 pub IsReport-unique : (t : Litmus) (numbers : ℕ → Bool) (a b : Report) → IsReport t numbers a → IsReport t numbers b → a ≡ b
 IsReport-unique t numbers a b h k =
-    let same : a.entries ≡ b.entries = same_rising a.entries b.entries h.rising k.rising (into t numbers a b h k) (into t numbers b a k h) in
-    ap (λ (xs : List Entry). record { entries = xs }) same
+    let entries : a.entries ≡ b.entries = AreEntries-unique t numbers a.entries b.entries h.listed k.listed in
+    let race : a.race ≡ b.race = same_test a.race b.race (λ p. k.marked.1 (h.marked.0 p)) (λ q. h.marked.1 (k.marked.0 q)) in
+    ap (λ (xs : List Entry). record { entries = xs; race = a.race }) entries ∙ ap (λ (mark : Bool). record { entries = b.entries; race = mark }) race

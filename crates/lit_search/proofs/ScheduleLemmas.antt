@@ -47,7 +47,7 @@ is_reported laws t schedule report has reports =
     let n = listed.0 in
     let total = length (choices_of t) in
     let inside : n < total = slice_get_within (choices_of t) n (execution_choice x) listed.1 in
-    reports.whole n (interleaved t schedule) (and_from (nat_le 0 n) (nat_lt n total) (le-leb 0 n (omega arith)) (lt-ltb n total inside))
+    reports.listed.whole n (interleaved t schedule) (and_from (nat_le 0 n) (nat_lt n total) (le-leb 0 n (omega arith)) (lt-ltb n total inside))
     (record { execution = x; valid = is.valid; chosen = listed.1; result = is.result })
 
 pub some_entry : (t : Litmus) (report : Report) → (All (λ agent. agent < length t.agents) [] → IsReported t [] report) → 1 ≤ length report.entries

@@ -7,7 +7,7 @@ use Rattle.std.specs.declared.cmp.Ordering.TheVariants.{Less, Equal, Greater}
 use Rattle.std.proofs.lemmas.Bool.{cases_eq, cases_lt}
 use Rattle.std.proofs.lemmas.Map.Lookups.{exact_bytes}
 use Rattle.lit_read.specs.Syntax.{Litmus}
-use Rattle.lit_search.specs.Report.{Entry, Gives, Report, example_cmp, in_range, outcome_cmp}
+use Rattle.lit_search.specs.Report.{Entry, Gives, example_cmp, in_range, outcome_cmp}
 use Rattle.lit_search.specs.Searching.Merged.{lesser, merged, merged_from}
 use Rattle.lit_search.specs.Searching.Outcomes.{HasOutcome}
 use Rattle.lit_search.specs.Searching.Shown.{IsNext, NoneShow, ShowsNone}
@@ -15,7 +15,7 @@ use Rattle.lit_search.proofs.NumberSets.{before_end, not_below, within}
 
 -- one of these entries has the outcome
 abbrev Has : List Entry → List ℕ → Type 0
-Has xs outcome = HasOutcome (record { entries = xs }) outcome
+Has xs outcome = HasOutcome xs outcome
 
 has_first : (x : Entry) (xs : List Entry) (outcome : List ℕ) → x.outcome ≡ outcome → Has (x ∷ xs) outcome
 has_first x xs outcome same = record { place = 0; entry = x; is = refl; same = same }
@@ -59,10 +59,10 @@ has_merged (x ∷ xs) e outcome some = by (outcome_cmp x e) refl some (has_merge
     by Greater is (inr same) rest = has_first e (x ∷ xs) outcome same
 
 -- ---- a range
-module _ (t : Litmus) (from next to : ℕ) (old new : Report) (e : Entry) (seen : NoneShow t (λ outcome. ¬ HasOutcome old outcome) (in_range from next))
-    (is : IsNext t (λ outcome. ¬ HasOutcome old outcome) next to e) (keeps : new.entries ≡ merged old.entries (e ∷ [])) where
+module _ (t : Litmus) (from next to : ℕ) (old new : List Entry) (e : Entry) (seen : NoneShow t (λ outcome. ¬ HasOutcome old outcome) (in_range from next))
+    (is : IsNext t (λ outcome. ¬ HasOutcome old outcome) next to e) (keeps : new ≡ merged old (e ∷ [])) where
   has_new : (outcome : List ℕ) → HasOutcome old outcome ⊎ (e.outcome ≡ outcome) → HasOutcome new outcome
-  has_new outcome some = subst (λ (ys : List Entry). Has ys outcome) (sym keeps) (has_merged old.entries e outcome some)
+  has_new outcome some = subst (λ (ys : List Entry). Has ys outcome) (sym keeps) (has_merged old e outcome some)
 
   -- an outcome that was not new is not new now
   stays_kept : (n : ℕ) → ShowsNone t (λ outcome. ¬ HasOutcome old outcome) n → ShowsNone t (λ outcome. ¬ HasOutcome new outcome) n

@@ -5,4 +5,4 @@ use Rattle.lit_search.specs.Entry.{entry_of}
 use Rattle.lit_search.specs.Report.{Report}
 
 abbrev pub report_of : Inside → Report
-report_of found = record { entries = map entry_of found.entries.items }
+report_of found = record { entries = map entry_of found.entries.items; race = found.race }

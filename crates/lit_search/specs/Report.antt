@@ -1,12 +1,13 @@
--- The report of a set of choices (this project's own): the outcomes of the valid executions, each with its example. A
--- set of choices is a test on their numbers.
-use Rattle.std.specs.Prelude.{◌≡◌, ℕ, ◌<◌, Bool, false, ◌&&◌, ◌||◌, nat_le, nat_lt, IsTrue, List, [], Some, slice_get, slice_index_or}
+-- The report of a set of choices (this project's own): the outcomes of the valid executions, each with its example, and
+-- whether one of these has a data race. A set of choices is a test on their numbers.
+use Rattle.std.specs.Prelude.{◌≡◌, ◌↔◌, ℕ, ◌<◌, Bool, false, ◌&&◌, ◌||◌, nat_le, nat_lt, IsTrue, List, [], Some, slice_get, slice_index_or}
 use Rattle.std.specs.Cmp.Lexicographic.{slice_cmp}
 use Rattle.std.specs.Ordering.{nat_cmp, ordering_then}
 use Rattle.std.specs.declared.cmp.Ordering.{Ordering}
 use Rattle.std.specs.List.Sorted.{IsStrictlySortedBy}
 use Rattle.lit_read.specs.Syntax.{Litmus}
 use Rattle.lit_paths.specs.Choice.{choices_of}
+use Rattle.lit_rel.specs.DataRace.{HasDataRace}
 use Rattle.lit_order.specs.MemoryOrder.{IsLeastMemoryOrder}
 use Rattle.lit_paths.specs.Execution.{Execution, execution_events, execution_choice, execution_outcome}
 use Rattle.lit_search.specs.ValidExecution.{IsValidExecution}
@@ -17,8 +18,10 @@ pub record Entry : Type 0 where
   pub choice : ℕ
   pub order : List ℕ
 
+-- entries, and the mark of data races
 pub record Report : Type 0 where
   pub entries : List Entry
+  pub race : Bool
 
 -- how entries compare by their outcomes, as lists
 abbrev pub outcome_cmp : Entry → Entry → Ordering
@@ -32,9 +35,9 @@ example_cmp a b = ordering_then (nat_cmp a.choice b.choice) (slice_cmp nat_cmp a
 abbrev pub entry_at : Report → ℕ → Entry
 entry_at report i = slice_index_or report.entries i (record { outcome = []; choice = 0; order = [] })
 
--- the report has this entry
-abbrev pub HasEntry : Report → Entry → Type 0
-HasEntry report entry = (i : ℕ) × (slice_get report.entries i ≡ Some entry)
+-- this is one of the entries
+abbrev pub HasEntry : List Entry → Entry → Type 0
+HasEntry entries entry = (i : ℕ) × (slice_get entries i ≡ Some entry)
 
 -- ---- sets of numbers
 -- none
@@ -62,6 +65,17 @@ abbrev pub HasLeastOrder : Litmus → ℕ → List ℕ → Type 0
 HasLeastOrder t n order =
     (x : Execution) → IsValidExecution t x → slice_get (choices_of t) n ≡ Some (execution_choice x) → IsLeastMemoryOrder (execution_events t x) x.sources order
 
+-- Some valid execution with a data race has the choice with this number.
+pub record GivesRace (t : Litmus) (n : ℕ) : Type 0 where
+  pub execution : Execution
+  pub valid : IsValidExecution t execution
+  pub chosen : slice_get (choices_of t) n ≡ Some (execution_choice execution)
+  pub races : HasDataRace (execution_events t execution) execution.sources
+
+-- one of these numbers is such a choice's
+abbrev pub HasRaceIn : Litmus → (ℕ → Bool) → Type 0
+HasRaceIn t numbers = (n : ℕ) × IsTrue (numbers n) × GivesRace t n
+
 -- an entry of the report of the choices with these numbers
 pub record IsEntry (t : Litmus) (numbers : ℕ → Bool) (entry : Entry) : Type 0 where
   pub among : IsTrue (numbers entry.choice)
@@ -69,9 +83,15 @@ pub record IsEntry (t : Litmus) (numbers : ℕ → Bool) (entry : Entry) : Type 
   pub least_choice : (n : ℕ) → IsTrue (numbers n) → n < entry.choice → ¬ Gives t n entry.outcome
   pub least_order : HasLeastOrder t entry.choice entry.order
 
--- The report of the choices with these numbers: the outcomes of all valid executions that have one of these choices,
+-- The entries of the choices with these numbers: the outcomes of all valid executions that have one of these choices,
 -- rising, each once, each with the least choice and the least memory-order of that choice.
+pub record AreEntries (t : Litmus) (numbers : ℕ → Bool) (entries : List Entry) : Type 0 where
+  pub rising : IsStrictlySortedBy outcome_cmp entries
+  pub each : (i : ℕ) (entry : Entry) → slice_get entries i ≡ Some entry → IsEntry t numbers entry
+  pub whole : (n : ℕ) (outcome : List ℕ) → IsTrue (numbers n) → Gives t n outcome → (i : ℕ) × (entry : Entry) × (slice_get entries i ≡ Some entry) × (entry.outcome ≡ outcome)
+
+-- The report of the choices with these numbers: their entries, marked exactly where a valid execution that has one of
+-- these choices has a data race.
 pub record IsReport (t : Litmus) (numbers : ℕ → Bool) (report : Report) : Type 0 where
-  pub rising : IsStrictlySortedBy outcome_cmp report.entries
-  pub each : (i : ℕ) (entry : Entry) → slice_get report.entries i ≡ Some entry → IsEntry t numbers entry
-  pub whole : (n : ℕ) (outcome : List ℕ) → IsTrue (numbers n) → Gives t n outcome → (i : ℕ) × (entry : Entry) × (slice_get report.entries i ≡ Some entry) × (entry.outcome ≡ outcome)
+  pub listed : AreEntries t numbers report.entries
+  pub marked : IsTrue report.race ↔ HasRaceIn t numbers

@@ -20,8 +20,8 @@ use lit_paths::{
     runs_choose_for_each_read,
 };
 use lit_rel::{
-    byte_reads_are_of_events, init_takes_place, relations_grow_with_bytes, settled_pasts_stay,
-    values_keep_place, values_stay,
+    byte_reads_are_of_events, init_takes_place, races_are_foreseen, relations_grow_with_bytes,
+    settled_pasts_stay, values_keep_place, values_stay,
 };
 
 /// The laws of the crates below.
@@ -42,6 +42,7 @@ pub(crate) fn laws()
     init_takes_place();
     values_keep_place();
     settled_pasts_stay();
+    races_are_foreseen();
 }
 
 /// No valid execution goes on from a part that is broken.

@@ -57,6 +57,19 @@ impl<'p> Cursor<'p> {
         }
     }
 
+    /// Makes it a combination of a plan's test, by its number, below `combinations`, in place. No byte read has a source
+    /// yet.
+    pub(crate) fn reopen(&mut self, plan: &'p Plan<'p>, combination: usize)
+        requires { combination < length (combinations_of plan.now) }
+        ensures { self.new ≡ record { test = plan.now; combination = combination; places = [] } }
+    {
+        let _test = plan.test();
+        self.part.reopen(plan, combination);
+        self.places.clear();
+        self.low = self.part.combination().first();
+        self.end = self.part.combination().end();
+    }
+
     /// Its part.
     pub(crate) fn part(&self) -> &Part<'p>
         ensures value { result.now ≡ part_at self.now }

@@ -59,10 +59,12 @@ pub(crate) struct Entry {
     pub example: Box<Example>,
 }
 
-/// The outcomes of a set of choices, rising, each with its example. A clause sees it as a `Report`.
+/// The outcomes of a set of choices, rising, each with its example, and whether one of these choices has a data race. A
+/// clause sees it as a `Report`.
 #[derive(Drop)]
 pub struct Found {
     entries: Vec<Entry>,
+    race: bool,
 }
 
 impl Model for Found {
@@ -85,12 +87,13 @@ impl Found {
     ghost use Rattle.lit_search.specs.Entry.{entry_of};
     ghost use Rattle.lit_search.specs.Report.{entry_at, outcome_cmp};
 
-    /// These outcomes, rising, with their examples.
-    pub(crate) fn from_rising(entries: Vec<Entry>) -> Self
+    /// These outcomes, rising, with their examples, and the mark of data races.
+    pub(crate) fn from_rising(entries: Vec<Entry>, race: bool) -> Self
         requires { IsStrictlySortedBy outcome_cmp (map entry_of entries.items) }
-        ensures { result.entries ≡ map entry_of entries.items }
+        ensures entries { result.entries ≡ map entry_of entries.items }
+        ensures race { result.race ≡ race }
     {
-        Found { entries }
+        Found { entries, race }
     }
 
     /// The outcomes with their examples.
@@ -98,8 +101,15 @@ impl Found {
         ensures entries { map entry_of result.items ≡ self.entries }
         ensures rising { IsStrictlySortedBy outcome_cmp self.entries }
     {
-        let Found { entries } = self;
+        let Found { entries, race: _ } = self;
         entries
+    }
+
+    /// Whether some valid execution of these choices has a data race (ECMA-262, 2024, 29.9). It takes no memory.
+    pub fn race(&self) -> bool
+        ensures { result ≡ self.now.race }
+    {
+        self.race
     }
 
     /// How many outcomes there are.

@@ -14,7 +14,7 @@ use std::boxed::{Box, BoxedSlice};
 use std::collections::BTreeMap;
 use std::marker::Model;
 
-/// Outcomes, each with its example. A clause sees it as a `Report`.
+/// Outcomes, each with its example. A clause sees it as a list of entries.
 #[derive(Drop)]
 pub(crate) struct Kept {
     alloc: Global,
@@ -22,13 +22,13 @@ pub(crate) struct Kept {
 }
 
 impl Model for Kept {
-    ghost use Rattle.lit_search.specs.Report.{Report};
+    ghost use Rattle.std.specs.Prelude.{List};
+    ghost use Rattle.lit_search.specs.Report.{Entry};
+    ghost use Rattle.lit_search.specs.Searching.Kept.{entries_of};
 
-    ghost Value = { Report };
+    ghost Value = { List Entry };
 
-    ghost use Rattle.lit_search.specs.Searching.Kept.{report_of};
-
-    ghost view = { report_of };
+    ghost view = { entries_of };
 }
 
 impl Kept {
@@ -38,7 +38,7 @@ impl Kept {
 
     /// Nothing kept yet.
     pub(crate) fn new(alloc: Global) -> Self
-        ensures { result.entries ≡ [] }
+        ensures { result ≡ [] }
     {
         Kept {
             alloc,
@@ -56,7 +56,7 @@ impl Kept {
     /// Keeps one more outcome, with its example.
     pub(crate) fn keep(&mut self, shown: Shown) -> Result<(), AllocError>
         requires { ¬ HasOutcome self.old shown.outcome.items }
-        ensures ok { OnOk result (self.new.entries ≡ merged self.old.entries (shown_entry shown ∷ [])) }
+        ensures ok { OnOk result (self.new ≡ merged self.old (shown_entry shown ∷ [])) }
         ensures err { OnErr result (self.new ≡ self.old) }
     {
         let outcome = BoxedSlice::from_slice(self.alloc, shown.outcome.as_slice())?;
@@ -67,8 +67,8 @@ impl Kept {
 
     /// What is kept, rising by outcome.
     pub(crate) fn into_entries(self) -> Result<Vec<Entry>, AllocError>
-        ensures entries { IfOk result (λ entries. map entry_of entries.items ≡ self.entries) }
-        ensures rising { IsStrictlySortedBy outcome_cmp self.entries }
+        ensures entries { IfOk result (λ entries. map entry_of entries.items ≡ self) }
+        ensures rising { IsStrictlySortedBy outcome_cmp self }
     {
         let Kept { alloc, examples } = self;
         let mut entries = Vec::with_capacity(alloc, examples.len())?;

@@ -18,6 +18,7 @@ mod kept;
 mod laws;
 mod merging;
 mod passing;
+mod racing;
 mod runner;
 mod scheduled;
 mod searching;

@@ -1,6 +1,6 @@
 //! Merging what is found in two sets of choices.
 
-ghost use Rattle.std.specs.Prelude.{◌≡◌, ℕ, ◌+◌, ◌<◌, ◌++◌, Bool, [], length, map, IfOk, IfNone, OnSome};
+ghost use Rattle.std.specs.Prelude.{◌≡◌, ℕ, ◌+◌, ◌<◌, ◌++◌, ◌||◌, Bool, [], length, map, IfOk, IfNone, OnSome};
 ghost use Rattle.std.specs.Option.{option_to_list, option_map};
 ghost use Rattle.lit_read.specs.Syntax.{Litmus};
 ghost use Rattle.lit_search.specs.Entry.{entry_of};
@@ -48,8 +48,15 @@ fn take_least(a: &mut VecDeque<Entry>, b: &mut VecDeque<Entry>) -> Option<Entry>
     }
 }
 
-/// The outcomes of both, each with the lesser of its examples: by choice, and then by order as a list. The report of two
-/// sets of choices is the merge of theirs. Answers `SearchFault::OutOfMemory` where a growth was refused, and no other
+/// Whether one of two is marked with a data race.
+fn is_one_marked(a: &Found, b: &Found) -> bool
+    ensures { result ≡ (a.now.race || b.now.race) }
+{
+    a.race() || b.race()
+}
+
+/// The outcomes of both, each with the lesser of its examples: by choice, and then by order as a list; and a data race
+/// where either has one. The report of two sets of choices is the merge of theirs. Answers `SearchFault::OutOfMemory` where a growth was refused, and no other
 /// fault.
 pub fn merge(alloc: Global, a: Found, b: Found) -> Result<Found, SearchFault>
     ensures merged { IfOk result (IsMerge a b) }
@@ -57,11 +64,12 @@ pub fn merge(alloc: Global, a: Found, b: Found) -> Result<Found, SearchFault>
         → IsReport t (in_either some others) found) }
 {
     let (first, second) = (a.len(), b.len());
+    let race = is_one_marked(&a, &b);
     if first == 0 {
-        return Ok(b);
+        return Ok(Found::from_rising(b.into_entries(), race));
     }
     if second == 0 {
-        return Ok(a);
+        return Ok(Found::from_rising(a.into_entries(), race));
     }
     let mut entries = Vec::with_capacity(alloc, first.saturating_add(second))?;
     let mut left = VecDeque::from_vec(a.into_entries());
@@ -69,5 +77,5 @@ pub fn merge(alloc: Global, a: Found, b: Found) -> Result<Found, SearchFault>
     while let Some(entry) = take_least(&mut left, &mut right) {
         entries.push(entry)?;
     }
-    Ok(Found::from_rising(entries))
+    Ok(Found::from_rising(entries, race))
 }

@@ -79,7 +79,7 @@ impl Cursor<'_> {
     /// How many of its first sources begin choices that may all be passed over: from number `from` on, none of them
     /// shows an outcome that is wanted. None from `since` up to its own does. Everything that the search asks about is
     /// known after `known` byte reads.
-    fn passed<W: Wanted>(
+    pub(crate) fn passed<W: Wanted>(
         &self,
         plan: &Plan<'_>,
         wanted: &W,
@@ -111,7 +111,7 @@ impl Cursor<'_> {
         if self.is_stood_for(plan, since) {
             return Some(depth);
         }
-        if depth == part.reads() {
+        if depth == 0 || depth == part.reads() {
             return None;
         }
         if is_forced_round(part) {
@@ -122,7 +122,7 @@ impl Cursor<'_> {
 
     /// What its choice shows: its outcome with the least memory-order, or `None` where no valid execution has it. Each
     /// byte read has a source.
-    fn shown(&self, plan: &Plan<'_>) -> Option<Shown>
+    pub(crate) fn shown(&self, plan: &Plan<'_>) -> Option<Shown>
         requires test { self.now.test ≡ plan.now }
         requires all { HasAll self.now }
         requires whole { ¬ IsBroken (part_at self.now) }
@@ -167,6 +167,7 @@ impl Cursor<'_> {
             (NoneShow plan.now (W.IsWanted wanted.now plan.now) (in_range from to))
             (λ shown. IsNext plan.now (W.IsWanted wanted.now plan.now) from to (shown_entry shown)) }
         ensures stands { IfSome result (λ shown. low_at self.new ≡ shown.example.choice) }
+        ensures all { IfSome result (λ shown. HasAll self.new) }
     {
         laws();
         while self.low() < to {

@@ -38,16 +38,21 @@ pub fn first_in(plan: &Plan<'_>, class: Class, from: u64, to: u64) -> Option<u64
     requires known { to ≤ length (choices_of plan.now) }
     ensures { MatchOption result (HasNoneOf plan.now class (in_range from to)) (IsFirstOf plan.now class (in_range from to)) }
 {
+    if from == to {
+        return None;
+    }
+    let mut cursor = Cursor::open(&*plan, plan.combination(from));
     let mut next = from;
     while next < to {
-        let combination = plan.combination(next);
-        let mut cursor = Cursor::open(&*plan, combination);
         let known = known_after(plan, cursor.part(), &class);
         let end = cursor.end().min(to);
         if let Some(shown) = cursor.next(plan, &class, known, next, next, end) {
             return Some(shown.example.choice);
         }
         next = end;
+        if next < to {
+            cursor.reopen(&*plan, plan.combination(next));
+        }
     }
     None
 }

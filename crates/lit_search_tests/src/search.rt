@@ -13,6 +13,7 @@ use std::test::Fail;
 
 mod finders;
 mod interleaving;
+mod races;
 
 const OWN_STORES: &str = "test own
 bytes 1

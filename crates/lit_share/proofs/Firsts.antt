@@ -127,9 +127,9 @@ first_entry (x ∷ xs) d some = refl
 pub one_entry : (t : Litmus) (n : ℕ) (outcome : List ℕ) (report : Report) → IsReport t (in_range n (n + 1)) report → Gives t n outcome
     → (0 < length report.entries) × HasLeastOrder t n (entry_at report 0).order
 one_entry t n outcome report is g =
-    let w = is.whole n outcome (within n (n + 1) n (omega arith) (omega arith)) g in
+    let w = is.listed.whole n outcome (within n (n + 1) n (omega arith) (omega arith)) g in
     let inside = slice_get_within report.entries w.0 w.1 w.2 in
     let some : 0 < length report.entries = omega (arith, inside) in
-    let entry = is.each 0 (entry_at report 0) (first_entry report.entries _ some) in
+    let entry = is.listed.each 0 (entry_at report 0) (first_entry report.entries _ some) in
     let same : (entry_at report 0).choice ≡ n = omega (arith, not_below n (n + 1) (entry_at report 0).choice entry.among, before_end n (n + 1) (entry_at report 0).choice entry.among) in
     (some, subst (λ (k : ℕ). HasLeastOrder t k (entry_at report 0).order) same entry.least_order)

@@ -112,6 +112,30 @@ r0 = U8[0]
 check C.r0 == 1
 ";
 
+/// A plain store that is published by an atomic one.
+pub const PUBLICATION: &str = "test pub
+bytes 2
+agent A
+U8[0] = 1
+Atomics.store(U8, 1, 1)
+agent B
+r0 = Atomics.load(U8, 1)
+if r0 == 1 {
+r1 = U8[0]
+}
+check B.r0 == 1 && B.r1 == 0
+";
+
+/// A store of what the byte holds already.
+pub const MASKED_STORE: &str = "test mask
+bytes 1
+agent A
+U8[0] = 0
+agent B
+r0 = U8[0]
+check B.r0 == 0
+";
+
 /// Independent reads of independent writes, with atomic loads.
 pub const INDEPENDENT_READS: &str = "test iriw
 bytes 2

@@ -10,6 +10,7 @@ use Rattle.lit_paths.specs.PathModel.{path_model}
 use Rattle.lit_paths.specs.Plan.{IsOfCombination, IsWalkIn, choices_before, walk_in}
 use Rattle.lit_paths.specs.Run.{IsRun, Run}
 use Rattle.lit_paths.specs.Told.{TellsRuns, read_places}
+use Rattle.lit_rel.specs.DataRace.{RacesAreForeseen}
 use Rattle.lit_rel.specs.Growth.{GrowWithBytes, ValuesStay}
 use Rattle.lit_rel.specs.InitReads.{AreOfEvents, InitTakesPlace, ValuesKeepPlace}
 use Rattle.lit_rel.specs.Settled.{SettledPastsStay}
@@ -33,3 +34,4 @@ pub record Laws : Type 0 where
   pub init : InitTakesPlace
   pub values : ValuesKeepPlace
   pub settled : SettledPastsStay
+  pub foreseen : RacesAreForeseen

@@ -1,10 +1,10 @@
--- The outcomes of a report.
+-- The outcomes of entries.
 use Rattle.std.specs.Prelude.{◌≡◌, ℕ, List, Some, slice_get}
-use Rattle.lit_search.specs.Report.{Entry, Report}
+use Rattle.lit_search.specs.Report.{Entry}
 
--- an entry of the report has this outcome
-pub record HasOutcome (report : Report) (outcome : List ℕ) : Type 0 where
+-- one of the entries has this outcome
+pub record HasOutcome (entries : List Entry) (outcome : List ℕ) : Type 0 where
   pub place : ℕ
   pub entry : Entry
-  pub is : slice_get report.entries place ≡ Some entry
+  pub is : slice_get entries place ≡ Some entry
   pub same : entry.outcome ≡ outcome

@@ -1,12 +1,12 @@
 //! The relations of whole choices.
 
-use super::{assert_pairs, assert_triples, part_of};
+use super::{assert_pairs, assert_triples, give, part_of};
 use lit_paths::{Plan, plan};
 use lit_read::read;
 use lit_rel::Part;
 use lit_texts::{
-    OWN_STORE, STORE_BUFFERING, STORE_BUFFERING_MIXED, STORE_BUFFERING_PLAIN, TYPED_READ,
-    VIEWED_READ,
+    LOAD_BUFFERING, OWN_STORE, STORE_BUFFERING, STORE_BUFFERING_MIXED, STORE_BUFFERING_PLAIN,
+    TYPED_READ, VIEWED_READ,
 };
 use std::process::Abort;
 use std::test::Fail;
@@ -145,5 +145,27 @@ fn sources_are_taken_back(rt: HostRuntime) -> Result<(), Fail> {
     assert_eq!(rt; part.reads(), 2);
     let empty = Part::open(&plan, combination);
     assert_eq!(rt; empty.len(), 0);
+    Ok(())
+}
+
+/// Where no agent stores, and then where both do: there a read of init makes a test false.
+#[test]
+fn one_part_in_place_of_another(rt: HostRuntime) -> Result<(), Fail> {
+    let test = read(rt.alloc(), LOAD_BUFFERING.as_bytes())?;
+    let plan = plan(rt.alloc(), &test)?;
+    assert_eq!(rt; plan.combinations(), 4);
+    let mut part = Part::open(&plan, 3);
+    give(&rt, &mut part, 0);
+    part.reopen(&plan, 0);
+    assert_eq!(rt; part.len(), 0);
+    assert!(rt; !part.broken());
+    assert_pairs(&rt, &part.reads_from(), &[]);
+    give(&rt, &mut part, 5);
+    give(&rt, &mut part, 3);
+    assert!(rt; !part.broken());
+    assert_pairs(&rt, &part.reads_from(), &[(2, 5), (4, 3)]);
+    part.reopen(&plan, 0);
+    give(&rt, &mut part, 0);
+    assert!(rt; part.broken());
     Ok(())
 }

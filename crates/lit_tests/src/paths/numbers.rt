@@ -73,3 +73,21 @@ fn load_buffering_combinations(rt: HostRuntime) -> Result<(), Fail> {
     }
     Ok(())
 }
+
+#[test]
+fn one_combination_in_place_of_another(rt: HostRuntime) -> Result<(), Fail> {
+    let test = read(rt.alloc(), LOAD_BUFFERING.as_bytes())?;
+    let plan = plan(rt.alloc(), &test)?;
+    assert_eq!(rt; plan.combinations(), 4);
+    let mut combination = plan.enter(3);
+    plan.reenter(&mut combination, 0);
+    assert_eq!(rt; combination.events().len(), 6);
+    assert_eq!(rt; combination.byte_reads().len(), 2);
+    assert_eq!(rt; combination.first(), 0);
+    assert_eq!(rt; combination.end(), 4);
+    plan.reenter(&mut combination, 3);
+    assert_eq!(rt; combination.events().len(), 4);
+    assert_eq!(rt; combination.first(), 8);
+    assert_eq!(rt; combination.end(), 9);
+    Ok(())
+}

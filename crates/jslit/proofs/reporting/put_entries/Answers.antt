@@ -3,8 +3,11 @@ use Rattle.lit_paths.specs.Choice.{choices_of}
 use Rattle.lit_search.specs.Report.{Entry, entry_at}
 use Rattle.jslit.proofs.EntryFacts.{entry_in, among_all}
 use Rattle.jslit.proofs.Lines.{entries_more, entries_end}
-use Rattle.jslit.proofs.Putting.{puts_more, puts_end}
+use Rattle.jslit.proofs.Putting.{puts_end, puts_more, puts_start}
 use Rattle.jslit.proofs.reporting.put_entries.Goals as goal
+
+pub loop-place-init : goal.loop-place-init
+loop-place-init g c = puts_start _ _
 
 pub put_entry-requires-clause-known : goal.put_entry-requires-clause-known
 put_entry-requires-clause-known g c =

@@ -16,8 +16,8 @@ use Rattle.lit_paths.proofs.joined.join.Goals as goal
 
 pub loop-agent-init : goal.loop-agent-init
 loop-agent-init c =
-    joined_none c.args.paths.now c.args.combination c.combinations-later.result _ _ _ c.combinations-later.ensures.value c.new-numbers.ensures c.new-firsts.ensures
-    (c.made_events-events.ensures ∙ ap init_events (c.bytes.ensures.value ∙ ap (λ t. t.bytes) c.test.ensures))
+    joined_none c.args.paths.now c.args.combination c.combinations-later.result _ _ _ c.combinations-later.ensures.value c.clear.ensures c.clear-2.ensures
+    (c.make_events.ensures ∙ ap init_events (c.bytes.ensures.value ∙ ap (λ t. t.bytes) c.test.ensures))
 
 pub nonzero_div-later : goal.nonzero_div-later
 nonzero_div-later c = omega (arith, c.count-count.ensures, walks_of-some (agent_of c.args.paths.now c.loop-agent.agent).body)
@@ -73,7 +73,7 @@ returns-clause-joined c =
     record {
       numbers = c.loop-agent.invariant.all_numbers ∙ ap (λ n. map (walk_number c.args.paths.now c.args.combination) (range_with_len 0 n)) all;
       firsts = c.loop-agent.invariant.all_firsts ∙ ap (λ n. map (first_event c.args.paths.now c.args.combination) (range_with_len 0 n)) all;
-      events = events_whole c.args.paths.now c.args.combination c.loop-agent.agent c.loop-agent.events.items (omega (arith, c.requires, count_of-combinations c.args.paths.now)) all c.loop-agent.invariant.all_events;
+      events = events_whole c.args.paths.now c.args.combination c.loop-agent.agent c.loop-agent.joined.events.items (omega (arith, c.requires, count_of-combinations c.args.paths.now)) all c.loop-agent.invariant.all_events;
     }
 
 pub returns-clause-sound : goal.returns-clause-sound
@@ -82,15 +82,15 @@ returns-clause-sound c =
     let all : c.loop-agent.agent ≡ length c.args.paths.now.agents =
     omega (arith, c.loop-agent-test.false, c.agents-agent-end.ensures.value, ap (λ t. length t.agents) c.test-2.ensures, c.loop-agent.auto.agent-end) in
     subst (λ (es : List Event). AreEventsIn c.args.paths.now.bytes es)
-    (sym (events_whole c.args.paths.now c.args.combination c.loop-agent.agent c.loop-agent.events.items known all c.loop-agent.invariant.all_events))
+    (sym (events_whole c.args.paths.now c.args.combination c.loop-agent.agent c.loop-agent.joined.events.items known all c.loop-agent.invariant.all_events))
     (are_events c.args.paths.now c.args.combination c.combinations-later.ensures.limits.litmus c.combinations-later.ensures.limits.short.short known)
 
 pub push_events-requires : goal.push_events-requires
 push_events-requires c =
     let known : c.args.combination < length (combinations_of c.args.paths.now) = omega (arith, c.requires, count_of-combinations c.args.paths.now) in
     let inside : c.loop-agent.agent < length c.args.paths.now.agents = omega (arith, c.loop-agent-test.true, c.agents-agent-end.ensures.value, ap (λ t. length t.agents) c.test-2.ensures) in
-    let next : IsNextJoined c.args.paths.now c.args.combination c.loop-agent.agent c.count-count.result c.loop-agent.later (c.loop-agent.later / c.count-count.result) (c.args.combination / (c.loop-agent.later / c.count-count.result) % c.count-count.result) (length c.loop-agent.events.items) c.loop-agent.events.items c.path.result.now (c.loop-agent.events.items ++ c.path.result.now.events) = record { known = known; inside = inside; counted = c.count-count.ensures; left_is = refl; number_is = refl; first_is = refl; path_is = c.path.ensures; pushed = refl } in
-    accesses_room c.args.paths.now c.args.combination c.loop-agent.agent EVENT_LIMIT c.loop-agent.events.items c.path.result.now known inside c.loop-agent.invariant.all_events
+    let next : IsNextJoined c.args.paths.now c.args.combination c.loop-agent.agent c.count-count.result c.loop-agent.later (c.loop-agent.later / c.count-count.result) (c.args.combination / (c.loop-agent.later / c.count-count.result) % c.count-count.result) (length c.loop-agent.joined.events.items) c.loop-agent.joined.events.items c.path.result.now (c.loop-agent.joined.events.items ++ c.path.result.now.events) = record { known = known; inside = inside; counted = c.count-count.ensures; left_is = refl; number_is = refl; first_is = refl; path_is = c.path.ensures; pushed = refl } in
+    accesses_room c.args.paths.now c.args.combination c.loop-agent.agent EVENT_LIMIT c.loop-agent.joined.events.items c.path.result.now known inside c.loop-agent.invariant.all_events
     (path_joined c.args.paths.now c.args.combination c.loop-agent.agent c.count-count.result c.loop-agent.later _ _ _ _ _ _ _ _ next c.loop-agent.invariant)
     (omega (arith, c.combinations-later.ensures.limits.litmus.block, c.combinations-later.ensures.limits.short.short))
 
@@ -98,5 +98,5 @@ pub loop-agent-preserved : goal.loop-agent-preserved
 loop-agent-preserved c =
     let known : c.args.combination < length (combinations_of c.args.paths.now) = omega (arith, c.requires, count_of-combinations c.args.paths.now) in
     let inside : c.loop-agent.agent < length c.args.paths.now.agents = omega (arith, c.loop-agent-test.true, c.agents-agent-end.ensures.value, ap (λ t. length t.agents) c.test-2.ensures) in
-    let next : IsNextJoined c.args.paths.now c.args.combination c.loop-agent.agent c.count-count.result c.loop-agent.later (c.loop-agent.later / c.count-count.result) (c.args.combination / (c.loop-agent.later / c.count-count.result) % c.count-count.result) c.len.result c.loop-agent.events.items c.path.result.now c.push_events.new.events.items = record { known = known; inside = inside; counted = c.count-count.ensures; left_is = refl; number_is = refl; first_is = c.len.ensures.value; path_is = c.path.ensures; pushed = c.push_events.ensures } in
+    let next : IsNextJoined c.args.paths.now c.args.combination c.loop-agent.agent c.count-count.result c.loop-agent.later (c.loop-agent.later / c.count-count.result) (c.args.combination / (c.loop-agent.later / c.count-count.result) % c.count-count.result) c.len.result c.loop-agent.joined.events.items c.path.result.now c.push_events.new.events.items = record { known = known; inside = inside; counted = c.count-count.ensures; left_is = refl; number_is = refl; first_is = c.len.ensures.value; path_is = c.path.ensures; pushed = c.push_events.ensures } in
     joined_more c.args.paths.now c.args.combination c.loop-agent.agent c.count-count.result c.loop-agent.later _ _ _ _ _ _ _ _ _ _ next c.push.ensures.items c.push-in-loop-agent.ensures.items c.loop-agent.invariant

@@ -11,15 +11,15 @@ use Rattle.lit_paths.proofs.making.choice_count.Goals as goal
 
 pub count_sources-requires-clause-some : goal.count_sources-requires-clause-some
 count_sources-requires-clause-some c =
-    λ i read at. subst (λ (es : List Event). 1 ≤ length (candidates_for es read)) (sym c.as_slice-2.ensures.value)
-    (ways-some c.args.paths.now.bytes c.join-events.result.events.items c.byte_reads_of-reads.result.items i read c.join-events.ensures.sound
-    (c.byte_reads_of-reads.ensures ∙ ap byte_reads c.as_slice.ensures.value) (ap (λ rs. slice_get rs i) (sym c.as_slice-3.ensures.value) ∙ at))
+    λ i read at. subst (λ (es : List Event). 1 ≤ length (candidates_for es read)) (sym c.as_slice-events.ensures.value)
+    (ways-some c.args.paths.now.bytes c.join.new.joined.events.items c.find_byte_reads.new.reads.items i read c.join.ensures.sound
+    (c.find_byte_reads.ensures ∙ ap byte_reads c.as_slice-events.ensures.value) (ap (λ rs. slice_get rs i) (sym c.as_slice.ensures.value) ∙ at))
 
 pub returns : goal.returns
 returns c =
-    let events = c.join-events.ensures.joined.events in
+    let events = c.join.ensures.joined.events in
     match_count c.count_sources.result CHOICE_LIMIT _ _
-    (ap₂ (λ es rs. length (product (candidate_lists es rs))) c.as_slice-2.ensures.value c.as_slice-3.ensures.value
-    ∙ ap (λ ws. length ws) (candidate_lists-known c.join-events.result.events.items c.byte_reads_of-reads.result.items (c.byte_reads_of-reads.ensures ∙ ap byte_reads c.as_slice.ensures.value))
+    (ap₂ (λ es rs. length (product (candidate_lists es rs))) c.as_slice-events.ensures.value c.as_slice.ensures.value
+    ∙ ap (λ ws. length ws) (candidate_lists-known c.join.new.joined.events.items c.find_byte_reads.new.reads.items (c.find_byte_reads.ensures ∙ ap byte_reads c.as_slice-events.ensures.value))
     ∙ ap (λ es. length (sources_of es)) events)
     c.count_sources.ensures

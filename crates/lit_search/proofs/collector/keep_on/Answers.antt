@@ -6,6 +6,7 @@ use Rattle.lit_search.specs.Searching.Shown.{shown_entry}
 use Rattle.lit_search.specs.Searching.Outcomes.{HasOutcome}
 use Rattle.lit_search.proofs.Keeping.{keeps_none, keeps_joined, keeps_next, keeps_passed}
 use Rattle.lit_search.proofs.NextLemmas.{known_as, known_at, none_at_first, same_reads}
+use Rattle.lit_search.proofs.RacingLemmas.{marks_joined, marks_next, marks_none}
 use Rattle.lit_search.proofs.SeenLemmas.{seen_next}
 use Rattle.lit_search.proofs.collector.keep_on.Goals as goal
 
@@ -16,6 +17,7 @@ loop-next-init c = record {
   stands = c.requires.stands;
   seen = none_at_first c.args.plan.now (λ outcome. ¬ HasOutcome c.args.kept.now outcome) c.args.from c.args.from (omega arith);
   keeps = keeps_none c.args.plan.now c.args.from c.args.kept.now;
+  marks = marks_none c.args.plan.now c.args.from c.args.from c.args.race.now;
   test = c.requires.test;
   combination = refl;
 }
@@ -50,11 +52,18 @@ loop-next-preserved c =
       seen = seen_next c.args.plan.now c.args.from c.loop-next.next c.args.to c.loop-next.kept c.keep.new.self e c.loop-next.invariant.seen is c.in_ok-keep.ensures.ok;
       keeps = keeps_joined c.args.plan.now c.args.from c.loop-next.next _ c.args.kept.now c.loop-next.kept c.keep.new.self c.loop-next.invariant.after (omega (arith, is.after)) c.loop-next.invariant.keeps
           (keeps_next c.args.plan.now c.loop-next.next c.args.to c.loop-next.kept c.keep.new.self e is c.in_ok-keep.ensures.ok);
+      marks = marks_joined c.args.plan.now c.args.from c.loop-next.next _ c.args.race.now c.loop-next.race c.mark_race.new.race c.loop-next.invariant.after (omega (arith, is.after)) c.loop-next.invariant.marks
+          (marks_next c.laws.ensures c.next.new.self c.part-in-Some.result.now c.part-in-Some.ensures.value c.part-in-Some.ensures.entered c.part-in-Some.ensures.placed c.in-Some.ensures.all c.args.plan.now c.loop-next.next c.args.to e c.in-Some.ensures.test c.in-Some.ensures.stands is c.mark_race.ensures);
       test = c.in-Some.ensures.test;
       combination = c.in-Some.ensures.combination ∙ c.loop-next.invariant.combination;
     }
 
-pub returns : goal.returns
-returns c =
+pub returns-clause-marks : goal.returns-clause-marks
+returns-clause-marks c =
+    marks_joined c.args.plan.now c.args.from c.loop-next.next c.args.to c.args.race.now c.loop-next.race c.loop-next.race c.loop-next.invariant.after c.loop-next.invariant.before c.loop-next.invariant.marks
+    (marks_none c.args.plan.now c.loop-next.next c.args.to c.loop-next.race)
+
+pub returns-clause-keeps : goal.returns-clause-keeps
+returns-clause-keeps c =
     keeps_joined c.args.plan.now c.args.from c.loop-next.next c.args.to c.args.kept.now c.loop-next.kept c.loop-next.kept c.loop-next.invariant.after c.loop-next.invariant.before c.loop-next.invariant.keeps
     (keeps_passed c.args.plan.now c.loop-next.next c.args.to c.loop-next.kept c.in_default.ensures.shows)

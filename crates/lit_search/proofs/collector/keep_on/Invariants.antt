@@ -3,7 +3,7 @@ use Rattle.lit_search.specs.Report.{in_range}
 use Rattle.lit_search.specs.Searching.Outcomes.{HasOutcome}
 use Rattle.lit_search.specs.Searching.Places.{low_at}
 use Rattle.lit_search.specs.Searching.Shown.{NoneShow}
-use Rattle.lit_search.specs.Searching.Taking.{KeepsRange}
+use Rattle.lit_search.specs.Searching.Taking.{KeepsRange, MarksRaces}
 use Rattle.lit_search.proofs.collector.keep_on.Given as goal
 
 abbrev pub invariant-loop-next : goal.invariant-loop-next
@@ -13,6 +13,7 @@ invariant-loop-next l = record {
   stands : low_at l.cursor ≤ l.next;
   seen : NoneShow l.plan (λ outcome. ¬ HasOutcome l.kept outcome) (in_range l.from l.next);
   keeps : KeepsRange l.plan l.from l.next l.fn.kept l.kept;
+  marks : MarksRaces l.plan l.from l.next l.fn.race l.race;
   test : l.cursor.test ≡ l.plan;
   combination : l.cursor.combination ≡ l.fn.cursor.combination;
 }

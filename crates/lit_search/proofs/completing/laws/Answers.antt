@@ -16,4 +16,5 @@ returns c = record {
   init = c.init_takes_place.ensures;
   values = c.values_keep_place.ensures;
   settled = c.settled_pasts_stay.ensures;
+  foreseen = c.races_are_foreseen.ensures;
 }

@@ -5,9 +5,9 @@ use Rattle.lit_paths.proofs.combination.Combination.first_event.Goals as goal
 
 pub bounds-as_slice-agent : goal.bounds-as_slice-agent
 bounds-as_slice-agent c =
-    kept_length (first_event c.self.inside.paths.now c.self.inside.number) _ _ _ c.self.view_is _ c.args.agent (c.as_slice.ensures.value ∙ c.self.invariant.joined.firsts) c.requires
+    kept_length (first_event c.self.inside.paths.now c.self.inside.number) _ _ _ c.self.view_is _ c.args.agent (c.as_slice.ensures.value ∙ c.self.invariant.formed.joined.firsts) c.requires
 
 pub returns : goal.returns
 returns c =
-    kept_at (first_event c.self.inside.paths.now c.self.inside.number) _ _ _ c.self.view_is _ c.args.agent (c.as_slice.ensures.value ∙ c.self.invariant.joined.firsts) c.requires
+    kept_at (first_event c.self.inside.paths.now c.self.inside.number) _ _ _ c.self.view_is _ c.args.agent (c.as_slice.ensures.value ∙ c.self.invariant.formed.joined.firsts) c.requires
     ∙ ap (λ p. first_event p.0 p.1 c.args.agent) c.self.view_is

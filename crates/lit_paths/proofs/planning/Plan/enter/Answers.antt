@@ -1,6 +1,5 @@
-use Rattle.std.proofs.Common.{arith, ap, length, ◌+◌}
-use Rattle.lit_paths.specs.Choice.{combinations_of}
-use Rattle.lit_paths.proofs.CombinedPaths.{count_of-combinations}
+use Rattle.std.proofs.Common.{arith, ap, ◌+◌}
+use Rattle.lit_paths.specs.Plan.{choices_before}
 use Rattle.lit_paths.proofs.PlanFacts.{before_mono}
 use Rattle.lit_paths.proofs.planning.Plan.enter.Goals as goal
 
@@ -18,5 +17,12 @@ new-requires-clause-few c =
       before_mono c.args.self.now c.args.combination (c.args.combination + 1) (omega arith),
     )
 
-pub join-joined-requires : goal.join-joined-requires
-join-joined-requires c = omega (arith, c.requires, ap (λ t. length (combinations_of t)) c.self.view_is, count_of-combinations c.self.inside.paths)
+pub new-requires-clause-whole : goal.new-requires-clause-whole
+new-requires-clause-whole c =
+    omega (
+      arith,
+      c.first_of-first.ensures,
+      c.end_of.ensures.value,
+      before_mono c.args.self.now c.args.combination (c.args.combination + 1) (omega arith),
+      ap (λ t. choices_before t (c.args.combination + 1)) c.self.view_is,
+    )

@@ -12,4 +12,4 @@ pub returns-clause-value : goal.returns-clause-value
 returns-clause-value c = c.join.ensures.joined.events ∙ ap (λ t. events_in t c.args.combination) c.self.view_is
 
 pub returns-clause-sound : goal.returns-clause-sound
-returns-clause-sound c = subst (λ (t : Litmus). AreEventsIn t.bytes c.join.result.events.items) c.self.view_is c.join.ensures.sound
+returns-clause-sound c = subst (λ (t : Litmus). AreEventsIn t.bytes c.join.new.joined.events.items) c.self.view_is c.join.ensures.sound

@@ -134,6 +134,20 @@ returns-in-Some-shown-clause-shows g c =
     } in
     next_shown t Wanted c.args.from c.args.to (low_at s) (shown_entry shown) (omega (arith, open'.behind, one)) (omega (arith, c.loop-self-test.true, c.low.ensures)) c.loop-self.invariant.none is
 
+pub returns-in-Some-shown-clause-all : goal.returns-in-Some-shown-clause-all
+returns-in-Some-shown-clause-all g c =
+    let s = c.loop-self.self in
+    omega (
+      arith,
+      c.if-len-reads.false,
+      c.len.ensures.value,
+      c.len.ensures.few,
+      c.reads.ensures,
+      length-part s c.part.result.now c.part.ensures.value,
+      ap (λ (p : PartModel). length (byte_reads (part_events p))) c.part.ensures.value,
+      ap (λ (p : PartModel). length (byte_reads (part_events p))) c.part-in_default.ensures.value,
+    )
+
 pub leave-requires-in_default-shown : goal.leave-requires-in_default-shown
 leave-requires-in_default-shown g c = omega (arith, c.len-depth.ensures.value, length-part c.loop-self.self c.part-in_default-shown.result.now c.part-in_default-shown.ensures.value)
 

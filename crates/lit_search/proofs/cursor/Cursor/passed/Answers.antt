@@ -29,8 +29,8 @@ returns-then-broken-clause-passed g c =
 pub returns-then-has_unwanted-clause-passed : goal.returns-then-has_unwanted-clause-passed
 returns-then-has_unwanted-clause-passed g c = pass_from c.args.plan.now _ c.args.from c.args.self.now c.args.known (c.has_unwanted.ensures.passed c.if-has_unwanted.true)
 
-pub returns-then-depth-reads-clause-passed : goal.returns-then-depth-reads-clause-passed
-returns-then-depth-reads-clause-passed g c =
+pub returns-then-depth-eq0-clause-passed : goal.returns-then-depth-eq0-clause-passed
+returns-then-depth-eq0-clause-passed g c =
     let s = c.args.self.now in
     record {
       whole = λ broken. false≢true (sym c.if-broken.false ∙ c.broken.ensures.1 (subst IsBroken (sym c.part-part.ensures.value) broken));

@@ -2,15 +2,15 @@ use Rattle.std.proofs.Common.{arith, ap, sym, ◌∙◌, map, List, [], ◌∷�
 use Rattle.std.proofs.lemmas.List.{map-append, length-map, length-take-le}
 use Rattle.lit_paths.specs.Planning.CandidateLists.{candidates_for}
 use Rattle.lit_paths.proofs.WaySteps.{AreFormed, formed_none, some_way, formed_more, formed_all, behind_all}
-use Rattle.lit_paths.proofs.combination.ways_of.Goals as goal
+use Rattle.lit_paths.proofs.combination.find_ways.Goals as goal
 
 pub loop-read-init : goal.loop-read-init
 loop-read-init c =
     let P : List (List ℕ) → List ℕ → Type 0 = λ ws ls. AreFormed c.args.events.now c.args.reads.now 0 ws ls c.args.total in
     let none : List (List ℕ) = [] in
     let nothing : List ℕ = [] in
-    subst (λ (ws : List (List ℕ)). P ws c.new-2.result.items) (sym (ap (map (λ list. list.items)) c.new.ensures))
-    (subst (λ (ls : List ℕ). P none ls) (sym c.new-2.ensures) (formed_none c.args.events.now c.args.reads.now c.args.total c.requires.whole c.requires.some))
+    subst (λ (ws : List (List ℕ)). P ws c.clear-2.new.self.items) (sym (ap (map (λ list. list.items)) c.clear.ensures))
+    (subst (λ (ls : List ℕ). P none ls) (sym c.clear-2.ensures) (formed_none c.args.events.now c.args.reads.now c.args.total c.requires.whole c.requires.some))
 
 pub nonzero_div-left : goal.nonzero_div-left
 nonzero_div-left c =

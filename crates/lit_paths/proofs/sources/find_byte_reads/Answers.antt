@@ -2,7 +2,7 @@ use Rattle.std.proofs.Common.{◌+◌, ◌≤◌, subst}
 use Rattle.std.proofs.lemmas.List.{get_or_default}
 use Rattle.lit_paths.specs.declared.event.Event.{Event}
 use Rattle.lit_paths.proofs.ByteReads.{reads_room, byte_reads_step}
-use Rattle.lit_paths.proofs.sources.byte_reads_of.Goals as goal
+use Rattle.lit_paths.proofs.sources.find_byte_reads.Goals as goal
 
 pub push_bytes-requires : goal.push_bytes-requires
 push_bytes-requires c = record {

@@ -1,0 +1,173 @@
+-- Data races of the choices of a range: where the part of a stand may not race, where a choice is that of a valid
+-- execution with a data race, and what a collector marks.
+use Rattle.std.proofs.Common.{◌≡◌, ◌⊎◌, refl, inl, inr, ℕ, ◌+◌, ◌<◌, ◌≤◌, ◌↔◌, Bool, true, false, List, ◌++◌, length, sym, ap, subst, ◌∙◌, arith}
+use Rattle.std.specs.Prelude.{IsFalse, IsTrue}
+use Rattle.std.proofs.lemmas.Bool.{cases_lt, false≢true}
+use Rattle.std.proofs.lemmas.Option.{slice_get_within}
+use Rattle.lit_read.specs.Syntax.{Litmus}
+use Rattle.lit_paths.specs.declared.event.Event.{Event}
+use Rattle.lit_paths.specs.ByteReads.{byte_reads}
+use Rattle.lit_paths.specs.Choice.{AreSources}
+use Rattle.lit_paths.specs.Execution.{Execution, execution_outcome}
+use Rattle.lit_paths.specs.Numbers.{ways_from}
+use Rattle.lit_rel.specs.DataRace.{HasDataRace, MayRace}
+use Rattle.lit_rel.specs.Part.{PartModel, part_events}
+use Rattle.lit_rel.proofs.RaceLemmas.{MayRace-iff}
+use Rattle.lit_search.specs.Completion.{Completes, IsEntered}
+use Rattle.lit_search.specs.Report.{Entry, Gives, GivesRace, HasRaceIn, in_either, in_range}
+use Rattle.lit_search.specs.Searching.Laws.{Laws}
+use Rattle.lit_search.specs.Searching.Passing.{HasAll, MayPass, first_places}
+use Rattle.lit_search.specs.Searching.Places.{ArePlaces, Stand, behind_at, low_at, part_at, stand_events}
+use Rattle.lit_search.specs.Searching.Shown.{IsNext}
+use Rattle.lit_search.specs.Searching.Taking.{MarksRaces}
+use Rattle.lit_search.proofs.CompletionLemmas.{carried, its_events}
+use Rattle.lit_search.proofs.NumberSets.{before_end, not_below, within}
+use Rattle.lit_search.proofs.PassingLemmas.{completed, no_rest, whole_stand}
+use Rattle.lit_search.proofs.PlaceLemmas.{length-sources, ways_end}
+use Rattle.lit_search.proofs.Reports.{HasRaceIn-either}
+
+-- none of these choices is that of a valid execution with a data race
+abbrev pub NoneRace : Litmus → (ℕ → Bool) → Type 0
+NoneRace t numbers = (n : ℕ) → IsTrue (numbers n) → ¬ GivesRace t n
+
+-- a valid execution with a data race is one with its outcome
+race_gives : (t : Litmus) (n : ℕ) (g : GivesRace t n) → Gives t n (execution_outcome t g.execution)
+race_gives t n g = record { execution = g.execution; valid = g.valid; chosen = g.chosen; result = refl }
+
+-- where each byte read has a source, a data race that may be is one
+pub complete_race : (events : List Event) (sources : List ℕ) → length sources ≡ length (byte_reads events) → MayRace events sources → HasDataRace events sources
+complete_race events sources all may =
+    elim ((MayRace-iff events sources).0 may) [
+      | inl race ↦ race
+      | inr left ↦ absurd (let h = left.is_pair in omega (arith, h.left, slice_get_within (byte_reads events) h.place (left.first, h.byte) h.is_read, all))
+    ]
+
+-- ---- the choices that begin with a stand's sources
+module _ (laws : Laws) (s : Stand) (entered : IsEntered (part_at s)) (placed : ArePlaces (stand_events s) 0 s.places) (few : length s.places ≤ length (byte_reads (stand_events s))) where
+  -- where the part may not race, none of them has a data race
+  pub none_race : ¬ MayRace (stand_events s) (part_at s).sources → (n : ℕ) → low_at s ≤ n → n < behind_at s → ¬ GivesRace s.test n
+  none_race not n low high g =
+      let x = g.execution in
+      let is = completed laws s entered placed few n low high x g.valid g.chosen in
+      let given : AreSources (stand_events s) ((part_at s).sources ++ is.rest) = carried (part_at s) x is AreSources g.valid.candidate.sourced in
+      not (laws.foreseen (stand_events s) (part_at s).sources is.rest (record { few = omega (arith, given.one_each); each = given.each }) (carried (part_at s) x is HasDataRace g.races))
+
+  -- the choice with all its sources has a data race where they have one
+  pub race_here : HasAll s → (outcome : List ℕ) → Gives s.test (low_at s) outcome → HasDataRace (stand_events s) (part_at s).sources → GivesRace s.test (low_at s)
+  race_here all outcome g race =
+      let x = g.execution in
+      let one : ways_from (stand_events s) (length s.places) ≡ 1 = ways_end (stand_events s) (length s.places) (omega (arith, all)) in
+      let is : Completes (part_at s) x = completed laws s entered placed few (low_at s) (omega arith) (omega (arith, one)) x g.valid g.chosen in
+      let count : length (part_at s).sources ≡ length (byte_reads (stand_events s)) = length-sources (stand_events s) 0 s.places ∙ all in
+      let same : x.sources ≡ (part_at s).sources =
+      no_rest x.sources (part_at s).sources is.rest is.begun
+      (is.valid.candidate.sourced.one_each ∙ ap (λ (es : List Event). length (byte_reads es)) (its_events (part_at s) x is) ∙ sym count) in
+      record {
+        execution = x;
+        valid = g.valid;
+        chosen = g.chosen;
+        races = subst (λ (es : List Event). HasDataRace es x.sources) (sym (its_events (part_at s) x is)) (subst (λ (ws : List ℕ). HasDataRace (stand_events s) ws) (sym same) race);
+      }
+
+-- ---- a range
+-- what was gone by, and the choices behind it
+pub race_on : (t : Litmus) (from low behind first : ℕ) → NoneRace t (in_range from low) → first ≤ low → ((n : ℕ) → from ≤ n → first ≤ n → n < behind → ¬ GivesRace t n) → NoneRace t (in_range from behind)
+race_on t from low behind first none below more n inside =
+    elim (cases_lt n low) [
+      | inl less ↦ none n (within from low n (not_below from behind n inside) less)
+      | inr later ↦ more n (not_below from behind n inside) (omega (arith, below, later)) (before_end from behind n inside)
+    ]
+
+pub race_up_to : (t : Litmus) (from to more : ℕ) → to ≤ more → NoneRace t (in_range from more) → NoneRace t (in_range from to)
+race_up_to t from to more le none n inside = none n (within from more n (not_below from to n inside) (omega (arith, before_end from to n inside, le)))
+
+pub race_at_first : (t : Litmus) (from low : ℕ) → low ≤ from → NoneRace t (in_range from low)
+race_at_first t from low le n inside = absurd (omega (arith, not_below from low n inside, before_end from low n inside, le))
+
+-- none of a stand's choices passed over has a data race
+pub passed_race : (t : Litmus) (from : ℕ) (s : Stand) (depth : ℕ) → MayPass t (λ _. Unit {0}) from s depth → NoneRace t (in_range from (low_at s)) → NoneRace t (in_range from (behind_at (first_places s depth)))
+passed_race t from s depth may none =
+    race_on t from (low_at s) (behind_at (first_places s depth)) (low_at (first_places s depth)) none may.low
+    (λ n above low high g. may.none n above low high _ (race_gives t n g) tt)
+
+-- nor one of a stand whose part may not race
+pub apart_race : (laws : Laws) (s : Stand) → IsEntered (part_at s) → ArePlaces (stand_events s) 0 s.places → length s.places ≤ length (byte_reads (stand_events s))
+    → (t : Litmus) (from depth : ℕ) → s.test ≡ t → depth ≡ length s.places → ¬ MayRace (stand_events s) (part_at s).sources → NoneRace t (in_range from (low_at s)) → NoneRace t (in_range from (behind_at (first_places s depth)))
+apart_race laws s entered placed few t from depth test deep apart none =
+    let same : first_places s depth ≡ s = ap (first_places s) deep ∙ whole_stand s in
+    subst (λ (u : Stand). NoneRace t (in_range from (behind_at u))) (sym same)
+    (race_on t from (low_at s) (behind_at s) (low_at s) none (omega arith) (λ n above low high g. none_race laws s entered placed few apart n low high (subst (λ (u : Litmus). GivesRace u n) (sym test) g)))
+
+-- what is passed over from a number on is so from a greater one on
+pub pass_later : {t : Litmus} {Wanted : List ℕ → Type 0} {from later : ℕ} {s : Stand} {depth : ℕ} → from ≤ later → MayPass t Wanted from s depth → MayPass t Wanted later s depth
+pass_later more may = record { few = may.few; low = may.low; high = may.high; none = λ n above low high. may.none n (omega (arith, more, above)) low high }
+
+-- ---- what is answered
+pub none_found : (t : Litmus) (numbers : ℕ → Bool) → NoneRace t numbers → IsTrue false ↔ HasRaceIn t numbers
+none_found t numbers none = ((λ p. absurd (false≢true p)), (λ one. absurd (none one.0 one.1 one.2)))
+
+pub one_found : (t : Litmus) (numbers : ℕ → Bool) → HasRaceIn t numbers → IsTrue true ↔ HasRaceIn t numbers
+one_found t numbers one = ((λ p. one), (λ race. refl))
+
+-- two ranges, one behind the other
+pub race_joined : (t : Litmus) (from mid to : ℕ) → NoneRace t (in_range from mid) → NoneRace t (in_range mid to) → NoneRace t (in_range from to)
+race_joined t from mid to first second n inside =
+    elim (cases_lt n mid) [
+      | inl less ↦ first n (within from mid n (not_below from to n inside) less)
+      | inr later ↦ second n (within mid to n later (before_end from to n inside))
+    ]
+
+-- a data race of a part of a range
+pub race_wider : (t : Litmus) (from to low high : ℕ) → low ≤ from → to ≤ high → HasRaceIn t (in_range from to) → HasRaceIn t (in_range low high)
+race_wider t from to low high below above one =
+    (one.0, within low high one.0 (omega (arith, not_below from to one.0 one.1, below)) (omega (arith, before_end from to one.0 one.1, above)), one.2)
+
+-- ---- marks
+-- what was marked stays so, and what was not is marked by what is found now
+pub marked_before : {X : Type 0} (old : Bool) → IsTrue old → IsTrue old ↔ (IsTrue old ⊎ X)
+marked_before old is = ((λ p. inl p), (λ h. is))
+
+pub marked_now : {X : Type 0} (old new : Bool) → IsFalse old → IsTrue new ↔ X → IsTrue new ↔ (IsTrue old ⊎ X)
+marked_now old new unmarked is = ((λ p. inr (is.0 p)), (λ h. elim h [ inl p ↦ absurd (false≢true (sym unmarked ∙ p)) | inr x ↦ is.1 x ]))
+
+pub marks_none : (t : Litmus) (from to : ℕ) (mark : Bool) → MarksRaces t from to mark mark
+marks_none t from to mark = record { stays = λ p. p; comes = λ p. inl p }
+
+pub marks_joined : (t : Litmus) (from mid to : ℕ) (old kept new : Bool) → from ≤ mid → mid ≤ to → MarksRaces t from mid old kept → MarksRaces t mid to kept new → MarksRaces t from to old new
+marks_joined t from mid to old kept new low high first second = record {
+  stays = λ p. second.stays (first.stays p);
+  comes = λ p. elim (second.comes p) [
+    | inl q ↦ elim (first.comes q) [ inl r ↦ inl r | inr race ↦ inr (race_wider t from mid from to (omega arith) high race) ]
+    | inr race ↦ inr (race_wider t mid to from to low (omega arith) race)
+  ];
+}
+
+-- the next choice kept, with its part's data race
+pub marks_next : (laws : Laws) (s : Stand) (part : PartModel) → part ≡ part_at s → IsEntered (part_at s) → ArePlaces (stand_events s) 0 s.places → HasAll s
+    → (t : Litmus) {Wanted : List ℕ → Type 0} (from to : ℕ) (e : Entry) → s.test ≡ t → low_at s ≡ e.choice → IsNext t Wanted from to e
+    → {old new : Bool} → IsTrue new ↔ (IsTrue old ⊎ HasDataRace (part_events part) part.sources) → MarksRaces t from (e.choice + 1) old new
+marks_next laws s part at entered placed all t from to e test here next mark = record {
+  stays = λ p. mark.1 (inl p);
+  comes = λ p. elim (mark.0 p) [
+    | inl q ↦ inl q
+    | inr race ↦ inr (e.choice, within from (e.choice + 1) e.choice next.after (omega arith), given race)
+  ];
+}
+  where
+    given : HasDataRace (part_events part) part.sources → GivesRace t e.choice
+    given race =
+        let gives : Gives s.test (low_at s) e.outcome = subst (λ (u : Litmus). Gives u (low_at s) e.outcome) (sym test) (subst (λ (n : ℕ). Gives t n e.outcome) (sym here) next.shown.example.gives) in
+        let its : HasDataRace (stand_events s) (part_at s).sources = subst (λ (p : PartModel). HasDataRace (part_events p) p.sources) at race in
+        subst (λ (u : Litmus). GivesRace u e.choice) test (subst (λ (n : ℕ). GivesRace s.test n) here (race_here laws s entered placed (omega (arith, all)) all e.outcome gives its))
+
+-- where what was kept is marked, and what is not marked is looked for, the mark is exact
+pub marked_more : (t : Litmus) (from to : ℕ) (taken : ℕ → Bool) (old kept new : Bool) → MarksRaces t from to old kept → IsTrue new ↔ (IsTrue kept ⊎ HasRaceIn t (in_range from to)) → IsTrue old ↔ HasRaceIn t taken
+    → IsTrue new ↔ HasRaceIn t (in_either taken (in_range from to))
+marked_more t from to taken old kept new marks is was =
+    let both = HasRaceIn-either t taken (in_range from to) in (
+      (λ p. both.1 (elim (is.0 p) [
+        | inl q ↦ elim (marks.comes q) [ inl r ↦ inl (was.0 r) | inr race ↦ inr race ]
+        | inr race ↦ inr race
+      ])),
+      (λ one. is.1 (elim (both.0 one) [ inl race ↦ inl (marks.stays (was.1 race)) | inr race ↦ inr race ])),
+    )

@@ -1,0 +1,282 @@
+use Rattle.std.proofs.Common.{◌≡◌, ℕ, ◌+◌, ◌-◌, ◌*◌, ◌<◌, ◌≤◌, List, length, refl, ap, sym, subst, ◌∙◌, arith}
+use Rattle.std.proofs.lemmas.Bool.{false≢true}
+use Rattle.lit_read.specs.Syntax.{Litmus}
+use Rattle.lit_paths.specs.ByteReads.{byte_reads}
+use Rattle.lit_paths.specs.Plan.{choices_before}
+use Rattle.lit_rel.specs.DataRace.{MayRace}
+use Rattle.lit_rel.specs.Part.{PartModel, part_events}
+use Rattle.lit_search.specs.Report.{Gives, GivesRace, in_range}
+use Rattle.lit_search.specs.Searching.Held.{part_outcome}
+use Rattle.lit_search.specs.Searching.Passing.{HasAll, first_places}
+use Rattle.lit_search.specs.Searching.Places.{Stand, behind_at, low_at, part_at, stand_events}
+use Rattle.lit_search.specs.Searching.Shown.{NoneShow}
+use Rattle.lit_search.proofs.NextLemmas.{long_entered, low_entered, none_at_first, passed_on, same_reads, smaller_enter, smaller_leave}
+use Rattle.lit_search.proofs.NumberSets.{within}
+use Rattle.lit_search.proofs.PassingLemmas.{length-part, pass_invalid, whole_stand}
+use Rattle.lit_search.proofs.PlaceLemmas.{length-sources, ways_end}
+use Rattle.lit_search.proofs.RacingLemmas.{NoneRace, apart_race, complete_race, none_found, one_found, pass_later, passed_race, race_at_first, race_here, race_up_to}
+use Rattle.lit_search.proofs.cursor.Cursor.has_race.Goals as goal
+
+-- no outcome is left out
+abbrev All : List ℕ → Type 0
+All _ = Unit {0}
+
+pub loop-self-init : goal.loop-self-init
+loop-self-init c = record {
+  test = c.requires.test;
+  combination = refl;
+  after = omega arith;
+  none = race_at_first c.args.plan.now c.args.from (low_at c.args.self.now) c.requires.low;
+  barren = none_at_first c.args.plan.now All c.args.from (low_at c.args.self.now) c.requires.low;
+}
+
+pub passed-requires-clause-test : goal.passed-requires-clause-test
+passed-requires-clause-test c = c.loop-self.invariant.test
+
+pub passed-requires-clause-few : goal.passed-requires-clause-few
+passed-requires-clause-few c =
+    let first = c.args.self.now in
+    omega (
+      arith,
+      c.reads-reads.ensures,
+      ap (λ (p : PartModel). length (byte_reads (part_events p))) c.part.ensures.value,
+      same_reads first c.args.plan.now first.combination c.loop-self.self c.requires.test refl c.loop-self.invariant.test c.loop-self.invariant.combination,
+    )
+
+pub passed-requires-clause-seen : goal.passed-requires-clause-seen
+passed-requires-clause-seen c = c.loop-self.invariant.barren
+
+pub returns-then-not-leave : goal.returns-then-not-leave
+returns-then-not-leave c =
+    let t = c.args.plan.now in
+    let s = c.loop-self.self in
+    let may = c.in-Some.ensures.passed in
+    let end : choices_before s.test (s.combination + 1) ≡ behind_at (first_places s c.in-Some.less) = c.leave.ensures.last c.if-not-leave.true in
+    none_found t (in_range c.args.from c.args.to)
+    (race_up_to t c.args.from c.args.to _ (omega (arith, c.requires.high, end, ap (λ (u : Litmus). choices_before u (s.combination + 1)) c.loop-self.invariant.test, ap (λ (k : ℕ). choices_before t (k + 1)) c.loop-self.invariant.combination))
+    (passed_race t c.args.from s c.in-Some.less may c.loop-self.invariant.none))
+
+pub loop-self-smaller-else-not-leave : goal.loop-self-smaller-else-not-leave
+loop-self-smaller-else-not-leave c =
+    let s = c.loop-self.self in
+    let new = c.leave.new.self in
+    let may = c.in-Some.ensures.passed in
+    let next : low_at new ≡ behind_at (first_places s c.in-Some.less) = c.leave.ensures.next c.if-not-leave.false in
+    let reads = same_reads s s.test s.combination new refl refl c.leave.ensures.test c.leave.ensures.combination in
+    omega (
+      arith,
+      smaller_leave c.args.to (low_at s) (low_at new) (length (byte_reads (stand_events s))) (length s.places) (length new.places) (omega (arith, next, may.high, c.in-Some.ensures.some)) (omega (arith, c.loop-self-test.true, c.low.ensures)),
+      ap (λ (r : ℕ). (c.args.to - low_at new) * (r + 1) + (r - length new.places)) reads,
+    )
+
+pub loop-self-preserved-else-not-leave : goal.loop-self-preserved-else-not-leave
+loop-self-preserved-else-not-leave c =
+    let t = c.args.plan.now in
+    let s = c.loop-self.self in
+    let may = c.in-Some.ensures.passed in
+    let next : low_at c.leave.new.self ≡ behind_at (first_places s c.in-Some.less) = c.leave.ensures.next c.if-not-leave.false in
+    record {
+      test = c.leave.ensures.test ∙ c.loop-self.invariant.test;
+      combination = c.leave.ensures.combination ∙ c.loop-self.invariant.combination;
+      after = c.loop-self.invariant.after;
+      none = subst (λ (n : ℕ). NoneRace t (in_range c.args.from n)) (sym next) (passed_race t c.args.from s c.in-Some.less may c.loop-self.invariant.none);
+      barren = subst (λ (n : ℕ). NoneShow t All (in_range c.loop-self.barren n)) (sym next) (passed_on t All c.loop-self.barren (low_at s) s c.in-Some.less c.loop-self.invariant.barren may.low (pass_later c.loop-self.invariant.after may));
+    }
+
+pub leave-requires-then-not-may_race : goal.leave-requires-then-not-may_race
+leave-requires-then-not-may_race c = omega (arith, c.len-depth.ensures.value, length-part c.loop-self.self c.part-in-loop-self.result.now c.part-in-loop-self.ensures.value)
+
+pub returns-then-not-leave-2 : goal.returns-then-not-leave-2
+returns-then-not-leave-2 c =
+    let t = c.args.plan.now in
+    let s = c.loop-self.self in
+    let part = c.part-in-loop-self.ensures.value in
+    let long = length-part s c.part-in-loop-self.result.now part in
+    let few : length s.places ≤ length (byte_reads (stand_events s)) = omega (arith, long, c.len-depth.ensures.few, c.len-depth.ensures.value, ap (λ (p : PartModel). length (byte_reads (part_events p))) part) in
+    let apart : ¬ MayRace (stand_events s) (part_at s).sources =
+    λ may. false≢true (sym c.if-not-may_race.true ∙ c.may_race.ensures.1 (subst (λ (p : PartModel). MayRace (part_events p) p.sources) (sym c.part-in_default.ensures.value) may)) in
+    let end : choices_before s.test (s.combination + 1) ≡ behind_at (first_places s c.len-depth.result) = c.leave-then-not-may_race.ensures.last c.if-not-leave-2.true in
+    none_found t (in_range c.args.from c.args.to)
+    (race_up_to t c.args.from c.args.to _ (omega (arith, c.requires.high, end, ap (λ (u : Litmus). choices_before u (s.combination + 1)) c.loop-self.invariant.test, ap (λ (k : ℕ). choices_before t (k + 1)) c.loop-self.invariant.combination))
+    (apart_race c.laws.ensures s c.part-in-loop-self.ensures.entered c.part-in-loop-self.ensures.placed few t c.args.from c.len-depth.result c.loop-self.invariant.test (c.len-depth.ensures.value ∙ long) apart c.loop-self.invariant.none))
+
+pub loop-self-smaller-then-not-may_race : goal.loop-self-smaller-then-not-may_race
+loop-self-smaller-then-not-may_race c =
+    let s = c.loop-self.self in
+    let new = c.leave-then-not-may_race.new.self in
+    let deep = c.len-depth.ensures.value ∙ length-part s c.part-in-loop-self.result.now c.part-in-loop-self.ensures.value in
+    let same = ap behind_at (ap (first_places s) deep ∙ whole_stand s) in
+    let next : low_at new ≡ behind_at (first_places s c.len-depth.result) = c.leave-then-not-may_race.ensures.next c.if-not-leave-2.false in
+    let reads = same_reads s s.test s.combination new refl refl c.leave-then-not-may_race.ensures.test c.leave-then-not-may_race.ensures.combination in
+    omega (
+      arith,
+      smaller_leave c.args.to (low_at s) (low_at new) (length (byte_reads (stand_events s))) (length s.places) (length new.places) (omega (arith, next, same, c.in_default.ensures.some)) (omega (arith, c.loop-self-test.true, c.low.ensures)),
+      ap (λ (r : ℕ). (c.args.to - low_at new) * (r + 1) + (r - length new.places)) reads,
+    )
+
+pub loop-self-preserved-then-not-may_race : goal.loop-self-preserved-then-not-may_race
+loop-self-preserved-then-not-may_race c =
+    let t = c.args.plan.now in
+    let s = c.loop-self.self in
+    let new = c.leave-then-not-may_race.new.self in
+    let part = c.part-in-loop-self.ensures.value in
+    let long = length-part s c.part-in-loop-self.result.now part in
+    let deep = c.len-depth.ensures.value ∙ long in
+    let few : length s.places ≤ length (byte_reads (stand_events s)) = omega (arith, long, c.len-depth.ensures.few, c.len-depth.ensures.value, ap (λ (p : PartModel). length (byte_reads (part_events p))) part) in
+    let apart : ¬ MayRace (stand_events s) (part_at s).sources =
+    λ may. false≢true (sym c.if-not-may_race.true ∙ c.may_race.ensures.1 (subst (λ (p : PartModel). MayRace (part_events p) p.sources) (sym c.part-in_default.ensures.value) may)) in
+    let next : low_at new ≡ behind_at (first_places s c.len-depth.result) = c.leave-then-not-may_race.ensures.next c.if-not-leave-2.false in
+    record {
+      test = c.leave-then-not-may_race.ensures.test ∙ c.loop-self.invariant.test;
+      combination = c.leave-then-not-may_race.ensures.combination ∙ c.loop-self.invariant.combination;
+      after = omega (arith, c.low-barren.ensures, next, ap behind_at (ap (first_places s) deep ∙ whole_stand s), c.in_default.ensures.passed.behind);
+      none = subst (λ (n : ℕ). NoneRace t (in_range c.args.from n)) (sym next)
+          (apart_race c.laws.ensures s c.part-in-loop-self.ensures.entered c.part-in-loop-self.ensures.placed few t c.args.from c.len-depth.result c.loop-self.invariant.test deep apart c.loop-self.invariant.none);
+      barren = none_at_first t All c.low-barren.result (low_at new) (omega (arith, c.low-barren.ensures));
+    }
+
+pub enter-requires : goal.enter-requires
+enter-requires c =
+    let first = c.args.self.now in
+    let s = c.loop-self.self in
+    omega (
+      arith,
+      c.if-depth-reads.true,
+      c.len-depth.ensures.value,
+      c.reads-reads.ensures,
+      length-part s c.part-in-loop-self.result.now c.part-in-loop-self.ensures.value,
+      ap (λ (p : PartModel). length (byte_reads (part_events p))) c.part.ensures.value,
+      same_reads first c.args.plan.now first.combination s c.requires.test refl c.loop-self.invariant.test c.loop-self.invariant.combination,
+    )
+
+pub loop-self-smaller-then-depth-reads : goal.loop-self-smaller-then-depth-reads
+loop-self-smaller-then-depth-reads c =
+    let first = c.args.self.now in
+    let s = c.loop-self.self in
+    let new = c.enter.new.self in
+    let left : length s.places < length (byte_reads (stand_events s)) =
+    omega (
+      arith,
+      c.if-depth-reads.true,
+      c.len-depth.ensures.value,
+      c.reads-reads.ensures,
+      length-part s c.part-in-loop-self.result.now c.part-in-loop-self.ensures.value,
+      ap (λ (p : PartModel). length (byte_reads (part_events p))) c.part.ensures.value,
+      same_reads first c.args.plan.now first.combination s c.requires.test refl c.loop-self.invariant.test c.loop-self.invariant.combination,
+    ) in
+    let long : length new.places ≡ length s.places + 1 = ap (λ (u : Stand). length u.places) c.enter.ensures ∙ long_entered s in
+    let low : low_at new ≡ low_at s = ap low_at c.enter.ensures ∙ low_entered s in
+    omega (
+      arith,
+      smaller_enter c.args.to (low_at s) (length (byte_reads (stand_events s))) (length s.places) (length new.places) long left,
+      ap (λ (l : ℕ). (c.args.to - l) * (length (byte_reads (stand_events s)) + 1)) low,
+      ap (λ (u : Stand). (c.args.to - low_at new) * (length (byte_reads (stand_events u)) + 1) + (length (byte_reads (stand_events u)) - length new.places)) c.enter.ensures,
+    )
+
+pub loop-self-preserved-then-depth-reads : goal.loop-self-preserved-then-depth-reads
+loop-self-preserved-then-depth-reads c =
+    let t = c.args.plan.now in
+    let s = c.loop-self.self in
+    let low : low_at c.enter.new.self ≡ low_at s = ap low_at c.enter.ensures ∙ low_entered s in
+    record {
+      test = ap (λ (u : Stand). u.test) c.enter.ensures ∙ c.loop-self.invariant.test;
+      combination = ap (λ (u : Stand). u.combination) c.enter.ensures ∙ c.loop-self.invariant.combination;
+      after = c.loop-self.invariant.after;
+      none = subst (λ (n : ℕ). NoneRace t (in_range c.args.from n)) (sym low) c.loop-self.invariant.none;
+      barren = subst (λ (n : ℕ). NoneShow t All (in_range c.loop-self.barren n)) (sym low) c.loop-self.invariant.barren;
+    }
+
+pub shown-requires-clause-test : goal.shown-requires-clause-test
+shown-requires-clause-test c = c.loop-self.invariant.test
+
+pub shown-requires-clause-all : goal.shown-requires-clause-all
+shown-requires-clause-all c =
+    let first = c.args.self.now in
+    let s = c.loop-self.self in
+    omega (
+      arith,
+      c.if-depth-reads.false,
+      c.len-depth.ensures.value,
+      c.len-depth.ensures.few,
+      c.reads-reads.ensures,
+      length-part s c.part-in-loop-self.result.now c.part-in-loop-self.ensures.value,
+      ap (λ (p : PartModel). length (byte_reads (part_events p))) c.part-in-loop-self.ensures.value,
+      ap (λ (p : PartModel). length (byte_reads (part_events p))) c.part.ensures.value,
+      same_reads first c.args.plan.now first.combination s c.requires.test refl c.loop-self.invariant.test c.loop-self.invariant.combination,
+    )
+
+pub returns-in-Some-shown : goal.returns-in-Some-shown
+returns-in-Some-shown c =
+    let t = c.args.plan.now in
+    let first = c.args.self.now in
+    let s = c.loop-self.self in
+    let long = length-part s c.part-in-loop-self.result.now c.part-in-loop-self.ensures.value in
+    let all : HasAll s =
+    omega (
+      arith,
+      c.if-depth-reads.false,
+      c.len-depth.ensures.value,
+      c.len-depth.ensures.few,
+      c.reads-reads.ensures,
+      long,
+      ap (λ (p : PartModel). length (byte_reads (part_events p))) c.part-in-loop-self.ensures.value,
+      ap (λ (p : PartModel). length (byte_reads (part_events p))) c.part.ensures.value,
+      same_reads first t first.combination s c.requires.test refl c.loop-self.invariant.test c.loop-self.invariant.combination,
+    ) in
+    let one = ways_end (stand_events s) (length s.places) (omega (arith, all)) in
+    let may : MayRace (stand_events s) (part_at s).sources = subst (λ (p : PartModel). MayRace (part_events p) p.sources) c.part-in_default.ensures.value (c.may_race.ensures.0 c.if-not-may_race.false) in
+    let race : GivesRace s.test (low_at s) =
+    race_here c.laws.ensures s c.part-in-loop-self.ensures.entered c.part-in-loop-self.ensures.placed (omega (arith, all)) all _
+    (subst (λ (u : Litmus). Gives u (low_at s) (part_outcome (part_at s))) (sym c.loop-self.invariant.test) c.in-Some-shown.ensures.shows.gives)
+    (complete_race (stand_events s) (part_at s).sources (length-sources (stand_events s) 0 s.places ∙ all) may) in
+    one_found t (in_range c.args.from c.args.to)
+    (low_at s, within c.args.from c.args.to (low_at s) (omega (arith, c.in_default.ensures.passed.behind, one)) (omega (arith, c.loop-self-test.true, c.low.ensures)), subst (λ (u : Litmus). GivesRace u (low_at s)) c.loop-self.invariant.test race)
+
+pub leave-requires-in_default-shown : goal.leave-requires-in_default-shown
+leave-requires-in_default-shown c = omega (arith, c.len-depth.ensures.value, length-part c.loop-self.self c.part-in-loop-self.result.now c.part-in-loop-self.ensures.value)
+
+pub returns-then-not-leave-3 : goal.returns-then-not-leave-3
+returns-then-not-leave-3 c =
+    let t = c.args.plan.now in
+    let s = c.loop-self.self in
+    let deep = c.len-depth.ensures.value ∙ length-part s c.part-in-loop-self.result.now c.part-in-loop-self.ensures.value in
+    let may = pass_invalid s t All c.args.from c.len-depth.result deep c.in_default-shown.ensures.none in
+    let end : choices_before s.test (s.combination + 1) ≡ behind_at (first_places s c.len-depth.result) = c.leave-in_default-shown.ensures.last c.if-not-leave-3.true in
+    none_found t (in_range c.args.from c.args.to)
+    (race_up_to t c.args.from c.args.to _ (omega (arith, c.requires.high, end, ap (λ (u : Litmus). choices_before u (s.combination + 1)) c.loop-self.invariant.test, ap (λ (k : ℕ). choices_before t (k + 1)) c.loop-self.invariant.combination))
+    (passed_race t c.args.from s c.len-depth.result may c.loop-self.invariant.none))
+
+pub loop-self-smaller : goal.loop-self-smaller
+loop-self-smaller c =
+    let s = c.loop-self.self in
+    let new = c.leave-in_default-shown.new.self in
+    let deep = c.len-depth.ensures.value ∙ length-part s c.part-in-loop-self.result.now c.part-in-loop-self.ensures.value in
+    let same = ap behind_at (ap (first_places s) deep ∙ whole_stand s) in
+    let next : low_at new ≡ behind_at (first_places s c.len-depth.result) = c.leave-in_default-shown.ensures.next c.if-not-leave-3.false in
+    let reads = same_reads s s.test s.combination new refl refl c.leave-in_default-shown.ensures.test c.leave-in_default-shown.ensures.combination in
+    omega (
+      arith,
+      smaller_leave c.args.to (low_at s) (low_at new) (length (byte_reads (stand_events s))) (length s.places) (length new.places) (omega (arith, next, same, c.in_default.ensures.some)) (omega (arith, c.loop-self-test.true, c.low.ensures)),
+      ap (λ (r : ℕ). (c.args.to - low_at new) * (r + 1) + (r - length new.places)) reads,
+    )
+
+pub loop-self-preserved : goal.loop-self-preserved
+loop-self-preserved c =
+    let t = c.args.plan.now in
+    let s = c.loop-self.self in
+    let new = c.leave-in_default-shown.new.self in
+    let deep = c.len-depth.ensures.value ∙ length-part s c.part-in-loop-self.result.now c.part-in-loop-self.ensures.value in
+    let may = pass_invalid s t All c.args.from c.len-depth.result deep c.in_default-shown.ensures.none in
+    let next : low_at new ≡ behind_at (first_places s c.len-depth.result) = c.leave-in_default-shown.ensures.next c.if-not-leave-3.false in
+    record {
+      test = c.leave-in_default-shown.ensures.test ∙ c.loop-self.invariant.test;
+      combination = c.leave-in_default-shown.ensures.combination ∙ c.loop-self.invariant.combination;
+      after = c.loop-self.invariant.after;
+      none = subst (λ (n : ℕ). NoneRace t (in_range c.args.from n)) (sym next) (passed_race t c.args.from s c.len-depth.result may c.loop-self.invariant.none);
+      barren = subst (λ (n : ℕ). NoneShow t All (in_range c.loop-self.barren n)) (sym next) (passed_on t All c.loop-self.barren (low_at s) s c.len-depth.result c.loop-self.invariant.barren may.low (pass_later c.loop-self.invariant.after may));
+    }
+
+pub returns : goal.returns
+returns c =
+    none_found c.args.plan.now (in_range c.args.from c.args.to)
+    (race_up_to c.args.plan.now c.args.from c.args.to (low_at c.loop-self.self) (omega (arith, c.loop-self-test.false, c.low.ensures)) c.loop-self.invariant.none)

@@ -1,0 +1,19 @@
+use Rattle.std.proofs.Common.{◌≡◌, ◌≤◌, ◌+◌, ◌*◌, ◌-◌, length}
+use Rattle.lit_paths.specs.ByteReads.{byte_reads}
+use Rattle.lit_search.specs.Report.{in_range}
+use Rattle.lit_search.specs.Searching.Places.{low_at, stand_events}
+use Rattle.lit_search.specs.Searching.Shown.{NoneShow}
+use Rattle.lit_search.proofs.RacingLemmas.{NoneRace}
+use Rattle.lit_search.proofs.cursor.Cursor.has_race.Given as goal
+
+abbrev pub invariant-loop-self : goal.invariant-loop-self
+invariant-loop-self l = record {
+  test : l.self.test ≡ l.plan;
+  combination : l.self.combination ≡ l.fn.self.combination;
+  after : l.from ≤ l.barren;
+  none : NoneRace l.plan (in_range l.from (low_at l.self));
+  barren : NoneShow l.plan (λ _. Unit {0}) (in_range l.barren (low_at l.self));
+}
+
+abbrev pub decreases-loop-self : goal.decreases-loop-self
+decreases-loop-self l = (l.to - low_at l.self) * (length (byte_reads (stand_events l.self)) + 1) + (length (byte_reads (stand_events l.self)) - length l.self.places)

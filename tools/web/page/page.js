@@ -1,0 +1,172 @@
+// The page: a text, what the program says of it, and the execution of an outcome.
+
+import { TEXT_LIMIT, ask, bytesOf, library, stop } from './ask.js';
+import { addressOf, textOf } from './address.js';
+import { clearFault, onChange, setText, showRefusal, text } from './editor.js';
+import { byId, grouped, make } from './make.js';
+import { showPicture } from './picture.js';
+import { setOutcomes, spoken } from './table.js';
+import { newText } from './turns.js';
+import { linesOf, say, sayStopped, sayVerdict } from './verdict.js';
+
+// The text that was run, and the report's part that is shown.
+let asked = '';
+let told = null;
+
+function running(is) {
+  byId('stop').disabled = !is;
+  byId('verdict').setAttribute('aria-busy', String(is));
+}
+
+function hideOutcomes() {
+  stop('picture');
+  told = null;
+  byId('stale').hidden = true;
+  byId('outcomes').hidden = true;
+  byId('example').hidden = true;
+}
+
+async function run(kind, words = {}, of = text()) {
+  asked = of;
+  clearFault();
+  hideOutcomes();
+  const length = bytesOf(asked).length;
+  if (length > TEXT_LIMIT) {
+    say('failed', `The text has ${grouped(length)} bytes, and ${grouped(TEXT_LIMIT)} at most.`);
+    return;
+  }
+  say('running', 'Running: ten seconds at most.');
+  running(true);
+  const answer = await ask('run', kind, words, asked);
+  if (!answer) return;
+  running(false);
+  show(answer, kind);
+  byId(answer.kind === 'refusal' ? 'refusal' : 'verdict').scrollIntoView({ block: 'nearest' });
+}
+
+const whole = (skip, of) => run('report', { skip }, of);
+
+function show(answer, kind) {
+  if (answer.kind === 'refusal') {
+    say('failed', make('strong', {}, answer.refused));
+    if (text() === asked) showRefusal(answer);
+  } else if (answer.kind === 'stopped') {
+    sayStopped(answer, kind, () => run('quick'));
+  } else if (answer.kind === 'failed') {
+    say('failed', `No answer: ${answer.said}.`);
+  } else {
+    told = answer;
+    sayVerdict(answer);
+    byId('outcomes').hidden = answer.outcomes.length === 0;
+    setOutcomes(answer.outcomes, showOutcome);
+    byId('before').hidden = !(answer.skip > 0);
+    byId('after').hidden = !(answer.skip + answer.outcomes.length < answer.count);
+  }
+}
+
+// How many outcomes are shown, of how many that have arrived, of how many that there are.
+function sayShown(shown) {
+  if (!told) return;
+  const { skip = 0, count = told.outcomes.length, outcomes } = told;
+  const last = skip + outcomes.length;
+  const part = last - skip === count ? grouped(count) : skip === 0 ? `the first ${grouped(last)} of ${grouped(count)}`
+    : `${grouped(skip + 1)} to ${grouped(last)} of ${grouped(count)}`;
+  byId('shown').textContent = shown === outcomes.length ? `shown: ${part}` : `shown: ${grouped(shown)}, out of ${part}`;
+}
+
+async function showOutcome(outcome) {
+  const title = `Outcome ${grouped(outcome.number)}: ${spoken(outcome)}`;
+  byId('example').hidden = false;
+  byId('example-title').textContent = title;
+  byId('lines').textContent = linesOf(outcome);
+  byId('picture').setAttribute('aria-busy', 'true');
+  byId('picture').textContent = 'Drawing.';
+  const words = {
+    sources: outcome.from.map(([event, sources]) => `${event}=${sources.join(',')}`).join(' '),
+    order: outcome.order.join(' '),
+    outcome: spoken(outcome),
+  };
+  const picture = await ask('picture', 'picture', words, asked);
+  if (!picture) return;
+  byId('picture').setAttribute('aria-busy', 'false');
+  if (picture.kind === 'picture') showPicture(picture, title);
+  else byId('picture').textContent = `There is no picture: ${picture.limit ? `stopped at the limit of ${picture.limit}` : picture.said ?? picture.refused}.`;
+  byId('example').scrollIntoView({ block: 'nearest' });
+}
+
+function changed() {
+  newText();
+  byId('stale').hidden = !told || text() === asked;
+}
+
+// Takes a text from the library or the address.
+function take(value) {
+  stop('run');
+  running(false);
+  setText(value);
+  hideOutcomes();
+  newText();
+  say('nothing', 'Nothing has been run yet.');
+}
+
+function takeAddress(otherwise) {
+  const { text: given, broken } = textOf(location.hash);
+  take(given ?? otherwise);
+  if (broken) say('failed', 'The address holds no text that can be read.');
+}
+
+function fillLibrary(groups) {
+  const tests = new Map();
+  for (const group of groups) {
+    const options = group.tests.map((test) => {
+      tests.set(test.name, test);
+      return make('option', { value: test.name }, `${test.name}: ${test.shows}`);
+    });
+    byId('library').append(make('optgroup', { label: group.heading }, ...options));
+  }
+  byId('library').addEventListener('change', () => {
+    const test = tests.get(byId('library').value);
+    byId('shows').textContent = test?.shows ?? '';
+    if (!test) return;
+    keep();
+    history.pushState(null, '', addressOf(test.text));
+    take(test.text);
+  });
+  return tests;
+}
+
+let waiting = 0;
+
+// Keeps the text in the address, so that Back brings it back.
+function keep() {
+  clearTimeout(waiting);
+  history.replaceState(null, '', addressOf(text()));
+}
+
+onChange(() => {
+  changed();
+  clearTimeout(waiting);
+  waiting = setTimeout(keep, 300);
+});
+byId('met').addEventListener('rendered', (event) => sayShown(event.detail));
+byId('run').addEventListener('click', () => whole(0));
+byId('quick').addEventListener('click', () => run('quick'));
+byId('before').addEventListener('click', () => whole(Math.max(told.skip - 1000, 0), asked));
+byId('after').addEventListener('click', () => whole(told.skip + told.outcomes.length, asked));
+byId('stop').addEventListener('click', () => {
+  stop('run');
+  running(false);
+  say('stopped', 'Stopped, as you asked.');
+  byId('run').focus();
+});
+document.addEventListener('keydown', (event) => {
+  if (event.key === 'Enter' && (event.ctrlKey || event.metaKey)) {
+    event.preventDefault();
+    whole(0);
+  }
+});
+window.addEventListener('hashchange', () => takeAddress(text()));
+const tests = fillLibrary(await library());
+takeAddress(tests.get('sb')?.text ?? '');
+keep();
+document.documentElement.dataset.ready = 'yes';

@@ -1,0 +1,40 @@
+// What is said of an answer, in the words of the program.
+
+import { byId, grouped, make } from './make.js';
+
+const MEANS = { always: 'every outcome meets', sometimes: 'some outcome meets, and some doesn\u2019t meet,', never: 'no outcome meets' };
+
+export function say(kind, ...inside) {
+  const place = byId('verdict');
+  place.className = `is-${kind}`;
+  place.replaceChildren(...inside);
+}
+
+function race(told) {
+  return told.race ? [make('p', { id: 'race' }, `data race ${told.race}`)] : [];
+}
+
+export function sayVerdict(told) {
+  const count = told.kind === 'quick' ? 'quick report: an example of each kind that there is'
+    : `${grouped(told.count)} outcome${told.count === 1 ? '' : 's'}`;
+  say('told', make('p', {}, make('strong', {}, `${told.test}: verdict ${told.verdict}`)),
+    make('p', {}, `${MEANS[told.verdict]} the condition `, make('code', {}, told.condition)),
+    make('p', { id: 'count' }, count), ...race(told));
+}
+
+export function sayStopped(told, kind, quick) {
+  const said = [make('p', {}, make('strong', {}, `Stopped at the limit of ${told.limit}.`), ' Nothing is known of the outcomes.')];
+  if (kind === 'report') {
+    said.push(make('p', {}, 'Quick asks for the verdict and two examples alone, and may end sooner. ',
+      make('button', { type: 'button', id: 'offered', onclick: quick }, 'Quick')));
+  }
+  said.push(make('p', { class: 'note' }, 'The program itself, without this page, has no such limit.'));
+  say('stopped', ...said);
+}
+
+// The lines of an outcome as the report has them.
+export function linesOf(outcome) {
+  const values = outcome.values.map(([name, value]) => ` ${name}=${value}`).join('');
+  return [`${outcome.group ? `${outcome.group} ` : ''}outcome${values}`,
+    ...outcome.from.map(([event, sources]) => `  from ${event} ${sources.join(' ')}`), `  order ${outcome.order.join(' ')}`].join('\n');
+}
