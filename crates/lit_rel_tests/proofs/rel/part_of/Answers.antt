@@ -7,7 +7,7 @@ use Rattle.lit_paths.specs.ByteReads.{byte_reads}
 use Rattle.lit_paths.specs.Choice.{AreSources}
 use Rattle.lit_paths.specs.Plan.{events_in}
 use Rattle.lit_rel.specs.Part.{IsNextSource, PartModel, part_events}
-use Rattle.lit_search_tests.proofs.rel.part_of.Goals as goal
+use Rattle.lit_rel_tests.proofs.rel.part_of.Goals as goal
 
 next_source : (part : PartModel) (sources : List ℕ) → AreSources (part_events part) sources → (i d : ℕ) → part.sources ≡ take i sources → i < length sources → IsNextSource part (get_or sources i d)
 next_source part sources are i d given within =
