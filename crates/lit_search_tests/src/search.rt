@@ -11,7 +11,6 @@ use std::alloc::{AllocError, AllocGlobal, Global};
 use std::process::Abort;
 use std::test::Fail;
 
-mod finders;
 mod interleaving;
 mod races;
 
