@@ -64,6 +64,7 @@ fn merged_marks(rt: HostRuntime) -> Result<(), Fail> {
     let alloc = rt.alloc();
     let test = read(alloc, MASKED_STORE.as_bytes())?;
     let plan = plan(alloc, &test)?;
+    assert_eq!(rt; plan.total(), 2);
     for (first, second, wanted) in [
         ((0, 1), (1, 2), true),
         ((1, 2), (0, 1), true),
@@ -72,6 +73,8 @@ fn merged_marks(rt: HostRuntime) -> Result<(), Fail> {
         ((0, 1), (2, 2), false),
         ((0, 0), (0, 1), false),
     ] {
+        assert!(rt; first.0 <= first.1 && first.1 <= 2);
+        assert!(rt; second.0 <= second.1 && second.1 <= 2);
         let first = search_range(alloc, &plan, first.0, first.1)?;
         let second = search_range(alloc, &plan, second.0, second.1)?;
         assert_eq!(rt; merge(alloc, first, second)?.race(), wanted);
@@ -84,6 +87,7 @@ fn collected_marks(rt: HostRuntime) -> Result<(), Fail> {
     let alloc = rt.alloc();
     let test = read(alloc, MASKED_STORE.as_bytes())?;
     let plan = plan(alloc, &test)?;
+    assert_eq!(rt; plan.total(), 2);
     let mut collector = Collector::new(alloc);
     collector.take(&plan, 0, 1)?;
     assert!(rt; !collector.into_found()?.race());
