@@ -1,5 +1,6 @@
-//! Calls of the libraries where memory is refused. With a number as its word, which is how many workers search, it makes the
-//! calls that can be refused on the litmus text of standard input; with none, those that take no memory.
+//! Calls of the libraries where memory is refused, as `tools/refused-calls` refuses it. With a number as its word, which is how
+//! many workers search, it makes the calls that can be refused on the litmus text of standard input; with none, those that
+//! take no memory.
 #![tactic(auto)]
 
 mod again;
@@ -14,7 +15,11 @@ fn main(rt: HostRuntime) -> Result<(), Fail> {
     let Some(word) = env::args(&rt)?.nth(1) else {
         return without_memory::call_all(&rt);
     };
-    let workers = word.as_str().parse::<usize>().unwrap_or(1).clamp(1, WORKER_LIMIT);
+    let workers = word
+        .as_str()
+        .parse::<usize>()
+        .unwrap_or(1)
+        .clamp(1, WORKER_LIMIT);
     let mut text = Vec::new(rt.alloc());
     rt.stdin().read_to_end(&mut text)?;
     again::call_all(&rt, rt.alloc(), &text, workers)
