@@ -5,7 +5,7 @@ use Rattle.std.specs.Io.KnownBytes.{Keeps}
 use Rattle.jslit.specs.Answer.{HasGrown, HasGrownSome, HasGrownRefusal}
 use Rattle.jslit.specs.Counted.{device_of, failures_of}
 use Rattle.jslit.specs.Devices.{OfToldText}
-use Rattle.jslit.specs.Steps.Saying.{HasSaid, IsSaid}
+use Rattle.jslit.specs.Internal.Saying.{HasSaid, IsSaid}
 use Rattle.jslit.specs.declared.counted.Counted.{Counted}
 use Rattle.jslit.specs.declared.fault.RunFault.{RunFault}
 use Rattle.jslit.specs.declared.fault.RunFault.TheVariants as faults

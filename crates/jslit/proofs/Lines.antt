@@ -11,7 +11,7 @@ use Rattle.lit_search.specs.Report.{Entry, Report, entry_at}
 use Rattle.jslit.specs.ChoiceEvents.{choice_at, choice_events}
 use Rattle.jslit.specs.ReportText.{class_text, entry_text, event_name, from_lines, interleaving_text, line, names_text, owned_name, quick_text, register_text, registers_text, report_text, verdict_text, yes_or_no}
 use Rattle.jslit.specs.declared.verdict.Verdict.{Verdict}
-use Rattle.jslit.specs.Steps.FirstEntry.{entry_of_option}
+use Rattle.jslit.specs.Internal.FirstEntry.{entry_of_option}
 
 -- the name of an agent's access
 pub access_name : (t : Litmus) (e : Event) (agent : ℕ) (name bytes : List ℕ) → e.owner ≡ Some agent → name ≡ (agent_of t agent).name → bytes ≡ name

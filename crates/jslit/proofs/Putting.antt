@@ -5,7 +5,7 @@ use Rattle.std.proofs.lemmas.List.{append-nil}
 use Rattle.std.specs.Io.KnownBytes.{Appends}
 use Rattle.jslit.specs.Counted.{one_more}
 use Rattle.jslit.specs.Devices.{AppendsBeginning}
-use Rattle.jslit.specs.Steps.Writing.{Writing, GoesOn, Fails, Stays, HasPut, IsFinished, IsStopped}
+use Rattle.jslit.specs.Internal.Writing.{Writing, GoesOn, Fails, Stays, HasPut, IsFinished, IsStopped}
 use Rattle.jslit.proofs.Written.{Appends-then, Appends-nothing}
 
 -- a beginning of what stands before is a beginning of all

@@ -9,8 +9,8 @@ use Rattle.lit_read.specs.declared.limits.TheConstants.{TEXT_LIMIT}
 use Rattle.lit_read.specs.declared.fault.ReadFault.{ReadFault}
 use Rattle.lit_read.specs.declared.fault.ReadKind.{ReadKind}
 use Rattle.lit_read.specs.declared.fault.ReadKind.TheVariants as kinds
-use Rattle.lit_paths.specs.declared.planning.PlanFault.{PlanFault}
-use Rattle.lit_paths.specs.declared.planning.PlanFault.TheVariants as plan_faults
+use Rattle.lit_paths.specs.declared.fault.PlanFault.{PlanFault}
+use Rattle.lit_paths.specs.declared.fault.PlanFault.TheVariants as plan_faults
 use Rattle.lit_paths.specs.Plan as plan
 use Rattle.lit_paths.specs.Choice.{choices_of, combinations_of}
 use Rattle.lit_paths.specs.declared.limits.TheConstants.{CHOICE_LIMIT, COMBINATION_LIMIT}
@@ -18,7 +18,7 @@ use Rattle.jslit.specs.declared.fault.RunFault.{RunFault}
 use Rattle.jslit.specs.declared.fault.RunFault.TheVariants as faults
 use Rattle.jslit.specs.Answer.{IsFaultOn}
 use Rattle.jslit.specs.Devices.{IsTold, OfToldText}
-use Rattle.jslit.specs.Steps.Reading.{IsReadFailure}
+use Rattle.jslit.specs.Internal.Reading.{IsReadFailure}
 
 -- want of memory is no fault of a text
 not_memory : (text : List ℕ) (kind : ReadKind) (n : ℕ) → IsFirstFault text kind n → kind ≢ kinds.OutOfMemory

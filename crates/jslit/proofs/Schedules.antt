@@ -9,7 +9,7 @@ use Rattle.std.proofs.lemmas.List.Elements.{All-nil, All-drop, All-get_or, All-p
 use Rattle.lit_read.specs.Syntax.{IsLitmus, Litmus, agent_of}
 use Rattle.lit_read.specs.Tokens.{begins_with, begins_word, is_in_word}
 use Rattle.jslit.specs.Schedule.{NamesAgents, NamesNoAgents, schedule_text}
-use Rattle.jslit.specs.Steps.Scheduling.{NamesNone, behind_comma}
+use Rattle.jslit.specs.Internal.Scheduling.{NamesNone, behind_comma}
 
 -- ---- text with and without turns
 -- the text of a schedule, where it has a turn

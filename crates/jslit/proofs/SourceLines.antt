@@ -10,7 +10,7 @@ use Rattle.lit_paths.specs.Event.{does_read, event_at}
 use Rattle.lit_paths.specs.ByteReads.{bytes_read_by, byte_reads_from, byte_reads}
 use Rattle.lit_search.specs.ValidExecution.{read_numbers_from}
 use Rattle.jslit.specs.ReportText.{source_line, from_lines}
-use Rattle.jslit.specs.Steps.ReadLine.{read_line, rest_after}
+use Rattle.jslit.specs.Internal.ReadLine.{read_line, rest_after}
 
 -- the lines of the reads among these events, where the sources are those of their bytes
 abbrev pub lines_from : Litmus → List Event → List Event → List ℕ → List ℕ

@@ -8,7 +8,7 @@ use Rattle.std.specs.Io.KnownBytes.{Appends}
 use Rattle.lit_read.specs.Syntax.{IsLitmus, Litmus}
 use Rattle.lit_read.specs.Spelling.{Spells}
 use Rattle.lit_paths.specs.Choice.{choices_of}
-use Rattle.lit_paths.specs.declared.planning.PlanFault.{PlanFault}
+use Rattle.lit_paths.specs.declared.fault.PlanFault.{PlanFault}
 use Rattle.lit_paths.specs.Plan.{IsRefusal}
 use Rattle.lit_search.specs.declared.class.Class.{Class}
 use Rattle.lit_search.specs.declared.class.Class.TheVariants.{Met, Unmet}
@@ -21,8 +21,8 @@ use Rattle.jslit.specs.Answer.{HasBegun, HasReported, IsAnswerOf, IsComplete, Is
 use Rattle.jslit.specs.Devices.{AppendsBeginning}
 use Rattle.jslit.specs.ReportText.{quick_text, report_text}
 use Rattle.jslit.specs.Verdict.{IsVerdict, verdict_of}
-use Rattle.jslit.specs.Steps.Answering.{HasWritten, HasWrittenSome, IsFirstFound}
-use Rattle.jslit.specs.Steps.FirstEntry.{entry_of_option}
+use Rattle.jslit.specs.Internal.Answering.{HasWritten, HasWrittenSome, IsFirstFound}
+use Rattle.jslit.specs.Internal.FirstEntry.{entry_of_option}
 use Rattle.jslit.proofs.QuickAnswers.{quick_judged}
 use Rattle.jslit.proofs.Refusals.{on_err}
 

@@ -5,7 +5,7 @@ use Rattle.std.proofs.lemmas.List.{append-nil, length-append, take_all}
 use Rattle.std.specs.Io.KnownBytes.{Consumes, IsAtEnd}
 use Rattle.lit_read.specs.declared.limits.TheConstants.{TEXT_LIMIT}
 use Rattle.jslit.specs.Devices.{IsTold, ConsumesBeginning}
-use Rattle.jslit.specs.Steps.Reading.{HasRead}
+use Rattle.jslit.specs.Internal.Reading.{HasRead}
 
 pub Consumes-then : (a b c : Option (List ℕ)) (front more : List ℕ) → Consumes a b front → Consumes b c more → Consumes a c (front ++ more)
 Consumes-then None b c front more p q = tt

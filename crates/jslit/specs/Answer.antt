@@ -5,7 +5,7 @@ use Rattle.lit_read.specs.Syntax.{Litmus}
 use Rattle.lit_read.specs.Faults.{IsFirstFault}
 use Rattle.lit_read.specs.Spelling.{Spells}
 use Rattle.lit_paths.specs.Choice.{choices_of}
-use Rattle.lit_paths.specs.declared.planning.PlanFault.{PlanFault}
+use Rattle.lit_paths.specs.declared.fault.PlanFault.{PlanFault}
 use Rattle.lit_paths.specs.Plan.{IsRefusal}
 use Rattle.lit_search.specs.Report.{Entry, Report, IsReport, in_range}
 use Rattle.lit_search.specs.declared.class.Class.TheVariants.{Met, Unmet}

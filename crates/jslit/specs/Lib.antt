@@ -8,4 +8,4 @@ pub mod QuickAnswer
 pub mod Answer
 pub mod Schedule
 pub mod InterleavingAnswer
-pub mod Steps
+pub mod Internal

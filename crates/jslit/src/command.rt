@@ -1,20 +1,21 @@
 //! The program: what it prints, and its status.
 
+pub(crate) mod words;
+
 ghost use Rattle.std.specs.Prelude.{◌≡◌, ◌≢◌, ◌⊎◌, ◌<◌, ◌^◌, ◌-◌, false, IfErr, OnOk};
 ghost use Rattle.std.specs.Io.KnownBytes.{Keeps};
 ghost use Rattle.jslit.specs.Answer.{HasReported, HasBegun, HasRefused, IsCheckStatus, IsStatus, status_of};
 ghost use Rattle.jslit.specs.Counted.{device_of, failures_of};
 ghost use Rattle.jslit.specs.Devices.{OfToldText};
 ghost use Rattle.jslit.specs.InterleavingAnswer.{HasInterleaved, HasInterleavedSome, HasRefusedSchedule};
-ghost use Rattle.jslit.specs.Steps.Saying.{HasSaid, IsSaid};
+ghost use Rattle.jslit.specs.Internal.Saying.{HasSaid, IsSaid};
 
-use crate::asked::Line;
+use crate::command::words::{Line, line};
 use crate::counted::Counted;
 use crate::engine::{Options, run};
 use crate::fault::RunFault;
 use crate::interleaving::run_schedule;
-use crate::refusing::{write_plan_fault, write_read_fault, write_unknown_agent};
-use crate::words::line;
+use crate::page::refusing::{write_plan_fault, write_read_fault, write_unknown_agent};
 use clap::Error;
 use clap::error::ErrorKind;
 use std::alloc::Global;

@@ -1,5 +1,7 @@
 //! From the bytes of a litmus text to the bytes of its report.
 
+pub(crate) mod answering;
+
 ghost use Rattle.std.specs.Prelude.{◌≡◌, ◌≢◌, ◌+◌, ◌≤◌, ◌<◌, ◌^◌, ◌-◌, ◌↔◌, IfErr, OnOk, IsErrOf};
 ghost use Rattle.lit_read.specs.declared.limits.TheConstants.{TEXT_LIMIT};
 ghost use Rattle.lit_share.specs.declared.limits.TheConstants.{CUT_LIMIT, WORKER_LIMIT};
@@ -7,8 +9,8 @@ ghost use Rattle.jslit.specs.Answer.{IsFaultOn, HasReported, HasBegun};
 ghost use Rattle.jslit.specs.Counted.{device_of, failures_of};
 ghost use Rattle.jslit.specs.Devices.{OfToldText, ConsumesBeginning, ConsumesTold};
 
-use crate::answering::answer;
 use crate::counted::Counted;
+use crate::engine::answering::answer;
 use crate::fault::RunFault;
 use crate::reading::read_text;
 use std::alloc::Global;

@@ -34,7 +34,7 @@ pub enum RunFault {
 
 /// That memory ran out is a fault of the run.
 impl From<ReadFault> for RunFault {
-    ghost use Rattle.jslit.specs.Steps.Faults.{IsOfReader};
+    ghost use Rattle.jslit.specs.Internal.Faults.{IsOfReader};
 
     ghost from_gives = { IsOfReader };
 
@@ -48,7 +48,7 @@ impl From<ReadFault> for RunFault {
 
 /// That memory ran out is a fault of the run.
 impl From<PlanFault> for RunFault {
-    ghost use Rattle.jslit.specs.Steps.Faults.{IsOfPlan};
+    ghost use Rattle.jslit.specs.Internal.Faults.{IsOfPlan};
 
     ghost from_gives = { IsOfPlan };
 

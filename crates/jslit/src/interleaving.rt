@@ -1,5 +1,7 @@
 //! From the bytes of a litmus text and of a schedule to the bytes of what the schedule comes to.
 
+pub(crate) mod schedule;
+
 ghost use Rattle.std.specs.Prelude.{◌≡◌, ◌≢◌, ◌+◌, ◌≤◌, ◌<◌, ◌^◌, ◌-◌, ◌↔◌, IfErr, OnOk, OnErr, IsErrOf, length};
 ghost use Rattle.std.specs.Io.KnownBytes.{Appends};
 ghost use Rattle.lit_read.specs.declared.limits.TheConstants.{TEXT_LIMIT};
@@ -8,14 +10,14 @@ ghost use Rattle.jslit.specs.Counted.{device_of, failures_of, one_more};
 ghost use Rattle.jslit.specs.Devices.{AppendsBeginning, ConsumesBeginning, ConsumesTold, OfToldText};
 ghost use Rattle.jslit.specs.InterleavingAnswer.{HasInterleaved, HasInterleavedSome, IsScheduleFaultOn};
 ghost use Rattle.jslit.specs.ReportText.{interleaving_text};
-ghost use Rattle.jslit.specs.Steps.Answering.{IsOfTextOrWriting};
+ghost use Rattle.jslit.specs.Internal.Answering.{IsOfTextOrWriting};
 
 use crate::counted::Counted;
 use crate::fault::RunFault;
+use crate::interleaving::schedule::agents_of;
 use crate::page::Page;
+use crate::page::reporting::{put_head, put_registers, word_for};
 use crate::reading::read_text;
-use crate::reporting::{put_head, put_registers, word_for};
-use crate::schedule::agents_of;
 use lit_paths::{meets, written_names};
 use lit_read::{Test, read};
 use lit_search::interleave;

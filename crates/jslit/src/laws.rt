@@ -9,9 +9,9 @@ ghost use Rattle.jslit.specs.Answer.{IsAnswerOn, IsComplete};
 ghost use Rattle.jslit.specs.InterleavingAnswer.{IsInterleavingOn, IsOfEntry};
 ghost use Rattle.jslit.specs.QuickAnswer.{IsFirstEntry};
 
-use lit_paths::{candidate_executions_have_choices, choices_are_listed};
-use lit_read::{spells_one_test, spells_within_limits};
-use lit_search::{interleavings_are_reported, reports_are_unique, reports_have_an_entry};
+use lit_paths::laws::{candidate_executions_have_choices, choices_are_listed};
+use lit_read::laws::{spells_one_test, spells_within_limits};
+use lit_search::laws::{interleavings_are_reported, reports_are_unique, reports_have_an_entry};
 
 /// The report on all choices of a test has the outcome of each of its valid executions.
 pub fn reports_are_complete()

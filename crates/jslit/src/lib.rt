@@ -3,33 +3,23 @@
 //! `run` reads a litmus text from a reader and writes its report to a writer: its contract is the theorem of this
 //! repository, from the bytes in to the bytes out. `run_schedule` carries a test out step by step, in turns that the caller
 //! names. `program` is the program around both. The definitions stand in specs/: `Answer` (what a run answers for a text),
-//! `InterleavingAnswer`, `Schedule`, `ReportText`, `ChoiceEvents`, `Verdict`, `Devices` and `Counted`; those in `Steps` serve
-//! private contracts alone.
+//! `InterleavingAnswer`, `Schedule`, `ReportText`, `ChoiceEvents`, `Verdict`, `Devices` and `Counted`; those in
+//! `Internal` serve private contracts alone.
 #![tactic(auto)]
 
-mod answering;
-mod asked;
 mod command;
 mod counted;
 mod engine;
 mod fault;
 mod interleaving;
-mod laws;
+pub mod laws;
 mod page;
 mod reading;
-mod refusing;
-mod reporting;
-mod schedule;
 mod verdict;
-mod words;
 
-pub use asked::Line;
+pub use command::words::{Line, line};
 pub use command::{check, check_schedule, no_words, program};
 pub use counted::Counted;
 pub use engine::{Options, run};
 pub use fault::RunFault;
 pub use interleaving::run_schedule;
-pub use laws::{
-    answers_are_unique, quick_answers_are_reported, reports_are_complete, schedules_are_reported,
-};
-pub use words::line;

@@ -1,11 +1,14 @@
 //! Text on its way to a writer.
 
+pub(crate) mod refusing;
+pub(crate) mod reporting;
+
 ghost use Rattle.std.specs.Prelude.{◌≡◌, [], false, IfErr, OnOk, OnErr};
 ghost use Rattle.std.specs.Fmt.{decimal};
 ghost use Rattle.std.specs.Io.KnownBytes.{Appends};
 ghost use Rattle.jslit.specs.Counted.{device_of, failures_of, one_more};
 ghost use Rattle.jslit.specs.Devices.{AppendsBeginning};
-ghost use Rattle.jslit.specs.Steps.Writing.{HasPut, IsFinished, IsStopped, writing_of};
+ghost use Rattle.jslit.specs.Internal.Writing.{HasPut, IsFinished, IsStopped, writing_of};
 
 use crate::counted::Counted;
 use crate::fault::RunFault;

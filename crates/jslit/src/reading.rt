@@ -4,7 +4,7 @@ ghost use Rattle.std.specs.Prelude.{◌≡◌, ◌+◌, ◌-◌, ◌^◌, ◌<�
 ghost use Rattle.std.specs.Io.KnownBytes.{Consumes};
 ghost use Rattle.jslit.specs.Counted.{device_of, failures_of};
 ghost use Rattle.jslit.specs.Devices.{IsTold, ConsumesBeginning};
-ghost use Rattle.jslit.specs.Steps.Reading.{HasRead, IsReadFailure};
+ghost use Rattle.jslit.specs.Internal.Reading.{HasRead, IsReadFailure};
 
 use crate::counted::Counted;
 use crate::fault::RunFault;

@@ -11,9 +11,9 @@ use Rattle.lit_desk.specs.declared.class.Class2.TheVariants.{Met, Unmet}
 use Rattle.lit_desk.specs.declared.rule.Terms.{Terms}
 use Rattle.lit_desk.specs.declared.words.TheConstants.{NONE_TOLD}
 use Rattle.lit_desk.specs.Accounts.{new_account, took, told, saw}
-use Rattle.lit_desk.specs.Desk.Gathered.{joined}
-use Rattle.lit_desk.specs.Desk.Words.{number_in}
-use Rattle.lit_desk.specs.Desk.Rule.{numbers_below, all_tickets, late_of, all_told_in, all_seen_in, IsKept, AreFair}
+use Rattle.lit_desk.specs.Internal.Gathered.{joined}
+use Rattle.lit_desk.specs.Internal.Words.{number_in}
+use Rattle.lit_desk.specs.Internal.Rule.{numbers_below, all_tickets, late_of, all_told_in, all_seen_in, IsKept, AreFair}
 use Rattle.lit_desk.proofs.Alike.{AreAlike}
 use Rattle.lit_desk.proofs.Lists.{sum_at_most, first_changed, below_all}
 use Rattle.lit_desk.proofs.Kept.{All-front, more_moved, kept_moved, kept_told, kept_seen}

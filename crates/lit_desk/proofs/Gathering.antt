@@ -18,9 +18,9 @@ use Rattle.lit_desk.specs.declared.rule.Terms.{Terms}
 use Rattle.lit_desk.specs.declared.words.TheConstants.{TICKET_WORD, MET_WORD, UNMET_WORD}
 use Rattle.lit_desk.specs.Accounts.{new_account, numbers_in}
 use Rattle.lit_desk.specs.Desk.{DeskName, PlaceLists, IsPlaceOf, IsDone, IsLeastOf, draws_of, all_draws, all_told, all_seen}
-use Rattle.lit_desk.specs.Desk.Gathered.{gathered_account}
-use Rattle.lit_desk.specs.Desk.Words.{number_in}
-use Rattle.lit_desk.specs.Desk.Rule.{numbers_below, all_told_in, IsKept, AreFair}
+use Rattle.lit_desk.specs.Internal.Gathered.{gathered_account}
+use Rattle.lit_desk.specs.Internal.Words.{number_in}
+use Rattle.lit_desk.specs.Internal.Rule.{numbers_below, all_told_in, IsKept, AreFair}
 use Rattle.lit_desk.proofs.Alike.{without, front_alike}
 use Rattle.lit_desk.proofs.Lists.{contains_cases, contains_none, filter_keeps, filter_kept, distinct_filter, distinct_apart, below_all, below_contains, below_distinct}
 use Rattle.lit_desk.proofs.Fair.{fair_alike}

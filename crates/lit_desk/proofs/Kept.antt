@@ -8,8 +8,8 @@ use Rattle.std.proofs.lemmas.Bool.Decides.{eqb_tells}
 use Rattle.std.proofs.lemmas.Bool.{cases_lt}
 use Rattle.lit_desk.specs.declared.words.TheConstants.{NONE_TOLD}
 use Rattle.lit_desk.specs.Desk.{IsLeastOf}
-use Rattle.lit_desk.specs.Desk.Words.{number_in}
-use Rattle.lit_desk.specs.Desk.Rule.{IsKept}
+use Rattle.lit_desk.specs.Internal.Words.{number_in}
+use Rattle.lit_desk.specs.Internal.Rule.{IsKept}
 
 module _ {X : Type 0} where
   pub empty_by_length : (xs : List X) → length xs ≡ 0 → xs ≡ []

@@ -7,7 +7,7 @@ use Rattle.std.proofs.lemmas.List.Sums.{sum_by-cons}
 use Rattle.std.proofs.lemmas.Map.Keys.{IsDistinct-head, IsDistinct-tail, IsDistinct-cons, apart_from_distinct}
 use Rattle.std.proofs.lemmas.Bool.Decides.{eqb_tells}
 use Rattle.std.proofs.lemmas.Bool.{cases_lt}
-use Rattle.lit_desk.specs.Desk.Rule.{numbers_below}
+use Rattle.lit_desk.specs.Internal.Rule.{numbers_below}
 
 module _ {X : Type 0} where
   pub contains_here : (x : X) (xs : List X) → Contains (x ∷ xs) x

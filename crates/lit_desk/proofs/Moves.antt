@@ -12,10 +12,10 @@ use Rattle.lit_desk.specs.declared.class.Class2.TheVariants.{Met, Unmet}
 use Rattle.lit_desk.specs.declared.rule.Terms.{Terms}
 use Rattle.lit_desk.specs.declared.words.TheConstants.{NONE_TOLD, TICKET_WORD, MET_WORD, UNMET_WORD}
 use Rattle.lit_desk.specs.Accounts.{new_account, numbers_in, took, told, saw}
-use Rattle.lit_desk.specs.Desk.Gathered.{joined}
-use Rattle.lit_desk.specs.Desk.Words.{number_in, word_of}
-use Rattle.lit_desk.specs.Desk.Rule.{late_of, all_told_in, all_seen_in, AreFair, IsFair}
-use Rattle.lit_desk.specs.Desk.Steps.{Takes, Tells, Sees, SeesIn}
+use Rattle.lit_desk.specs.Internal.Gathered.{joined}
+use Rattle.lit_desk.specs.Internal.Words.{number_in, word_of}
+use Rattle.lit_desk.specs.Internal.Rule.{late_of, all_told_in, all_seen_in, AreFair, IsFair}
+use Rattle.lit_desk.specs.Internal.Steps.{Takes, Tells, Sees, SeesIn}
 use Rattle.lit_desk.proofs.Alike.{AreAlike, alike_then, alike_below, without, front_alike, set_alike, last_alike, other_place}
 use Rattle.lit_desk.proofs.Kept.{kept_own, number_cases}
 use Rattle.lit_desk.proofs.Fair.{fair_alike, fair_bound, fair_took, fair_above, fair_told_met, fair_told_unmet, fair_saw_met, fair_saw_unmet, fair_left, fair_joined, fair_sat}

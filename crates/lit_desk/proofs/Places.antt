@@ -10,10 +10,10 @@ use Rattle.lit_desk.specs.declared.account.Account.{Account}
 use Rattle.lit_desk.specs.declared.class.Class2.{Class2}
 use Rattle.lit_desk.specs.declared.class.Class2.TheVariants.{Met, Unmet}
 use Rattle.lit_desk.specs.Accounts.{numbers_in, took, told, saw}
-use Rattle.lit_desk.specs.Desk.Words.{number_in, word_of}
-use Rattle.lit_desk.specs.Desk.Rule.{late_of}
-use Rattle.lit_desk.specs.Desk.Steps.{SeesIn}
-use Rattle.lit_desk.specs.Desk.Place.{IsTaken}
+use Rattle.lit_desk.specs.Internal.Words.{number_in, word_of}
+use Rattle.lit_desk.specs.Internal.Rule.{late_of}
+use Rattle.lit_desk.specs.Internal.Steps.{SeesIn}
+use Rattle.lit_desk.specs.Internal.Place.{IsTaken}
 use Rattle.lit_desk.proofs.Lists.{filter_none}
 
 not_at_most : (a b : ℕ) → b < a → leb a b ≡ false

@@ -1,10 +1,4 @@
 -- A desk gives the numbers below its count of pieces out to its places, and carries the least number told in each class.
-pub mod Gathered
-pub mod Words
-pub mod Rule
-pub mod Steps
-pub mod Place
-pub mod Opened
 use Rattle.std.specs.Prelude.{◌≡◌, ◌<◌, ◌≤◌, ℕ, List, [], ◌∷◌, ◌++◌, Option, Some, None, All, Any, Contains, filter, nat_lt}
 use Rattle.std.specs.List.{flat_map}
 use Rattle.atomic_table.specs.Seated.{TableId}

@@ -33,7 +33,7 @@ impl Model for Desk {
 
     ghost Value = { DeskName };
 
-    ghost use Rattle.lit_desk.specs.Desk.Opened.{name_of, IsOpen};
+    ghost use Rattle.lit_desk.specs.Internal.Opened.{name_of, IsOpen};
 
     ghost view = { name_of };
 
@@ -42,7 +42,7 @@ impl Model for Desk {
 
 impl Desk {
     ghost use Rattle.lit_desk.specs.Desk.{IsPlaceOf, IsDone, IsLeastOf, new_place, draws_of, told_by, seen_by, with_ticket, with_told, with_seen, all_draws, all_told, all_seen};
-    ghost use Rattle.lit_desk.specs.Desk.Gathered.{gathered_account};
+    ghost use Rattle.lit_desk.specs.Internal.Gathered.{gathered_account};
 
     /// Opens a desk of `pieces` numbers with `seats` places.
     pub fn open(alloc: Global, pieces: u64, seats: usize) -> Result<(Desk, Vec<Place>), DeskFault>

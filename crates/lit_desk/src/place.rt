@@ -18,7 +18,7 @@ impl Model for Place {
 
     ghost Value = { PlaceLists };
 
-    ghost use Rattle.lit_desk.specs.Desk.Place.{place_of, IsSound};
+    ghost use Rattle.lit_desk.specs.Internal.Place.{place_of, IsSound};
 
     ghost view = { place_of };
 

@@ -14,7 +14,7 @@ pub struct Terms {
 pub(crate) struct Fair;
 
 impl<S> TableRule<S, Account, Terms> for Fair {
-    ghost use Rattle.lit_desk.specs.Desk.Rule.{IsFair};
+    ghost use Rattle.lit_desk.specs.Internal.Rule.{IsFair};
     ghost use Rattle.lit_desk.specs.Accounts.{new_account};
 
     ghost holds = { λ terms s. IsFair terms s.words s.views };
@@ -26,7 +26,7 @@ pub(crate) struct Draws;
 
 impl<S> Play<S, Account> for Draws {
     ghost use Rattle.std.specs.Prelude.{◌≡◌};
-    ghost use Rattle.lit_desk.specs.Desk.Steps.{Takes};
+    ghost use Rattle.lit_desk.specs.Internal.Steps.{Takes};
 
     ghost then = { λ step old found new. Takes old.0 found new.0 × (new.1 ≡ old.1) };
 }
@@ -35,7 +35,7 @@ pub(crate) struct Tells;
 
 impl<S> Play<S, Account> for Tells {
     ghost use Rattle.std.specs.Prelude.{◌≡◌};
-    ghost use Rattle.lit_desk.specs.Desk.Steps.{Tells};
+    ghost use Rattle.lit_desk.specs.Internal.Steps.{Tells};
 
     ghost then = { λ step old found new. Tells step.word old.0 step.first new.0 × (new.1 ≡ old.1) };
 }
@@ -44,7 +44,7 @@ pub(crate) struct Looks;
 
 impl<S> Play<S, Account> for Looks {
     ghost use Rattle.std.specs.Prelude.{◌≡◌};
-    ghost use Rattle.lit_desk.specs.Desk.Steps.{Sees};
+    ghost use Rattle.lit_desk.specs.Internal.Steps.{Sees};
 
     ghost then = { λ step old found new. Sees step.word old.0 found new.0 × (new.1 ≡ old.1) };
 }
@@ -76,7 +76,7 @@ pub(crate) struct Gathers;
 
 impl Join<Account> for Gathers {
     ghost use Rattle.lit_desk.specs.Accounts.{new_account};
-    ghost use Rattle.lit_desk.specs.Desk.Gathered.{joined};
+    ghost use Rattle.lit_desk.specs.Internal.Gathered.{joined};
 
     ghost both = { λ v w. joined w v };
 

@@ -1,7 +1,7 @@
 //! The three words of a desk: the next ticket, and the least number told in each class.
 
 ghost use Rattle.std.specs.Prelude.{◌≡◌};
-ghost use Rattle.lit_desk.specs.Desk.Words.{word_of, number_in};
+ghost use Rattle.lit_desk.specs.Internal.Words.{word_of, number_in};
 
 use crate::class::Class2;
 

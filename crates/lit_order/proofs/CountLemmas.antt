@@ -8,7 +8,7 @@ use Rattle.std.proofs.lemmas.Map.Made.{IsDistinct-from_AllPairs}
 use Rattle.std.proofs.lemmas.Map.Steps.{length-le_from_distinct_below, le-length_from_below}
 use Rattle.std.proofs.lemmas.Map.Views.{list_any-from_Contains, Contains-from_any}
 use Rattle.std.specs.List.{slice_get, list_any, Contains}
-use Rattle.lit_order.specs.Finding.Beginning.{Stands}
+use Rattle.lit_order.specs.Internal.Beginning.{Stands}
 
 -- the words of std's lemmas on how many numbers a list has
 pub any_from_place : (xs : List ℕ) (k e : ℕ) → slice_get xs k ≡ Some e → list_any (eqb e) xs ≡ true

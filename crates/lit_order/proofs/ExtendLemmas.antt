@@ -1,9 +1,9 @@
 -- Orders where one pair more is given.
 use Rattle.std.proofs.Common.{◌≡◌, ◌≢◌, ◌⊎◌, ◌↔◌, ℕ, ◌<◌, List, [], ◌∷◌, refl, sym, subst, inl, inr}
 use Rattle.lit_rel.specs.HappensBefore.{Chain}
-use Rattle.lit_rel.specs.declared.bit_rows.Rows.{Rows}
+use Rattle.lit_rel.specs.declared.rows.Rows.{Rows}
 use Rattle.lit_rel.specs.Rows.{Holds, rows_len, IsTransitive, WithPair}
-use Rattle.lit_order.specs.Finding.Deciding.{AreDecided, IsUndecided}
+use Rattle.lit_order.specs.Internal.Deciding.{AreDecided, IsUndecided}
 use Rattle.lit_order.specs.Forced.{AndPair}
 use Rattle.lit_order.specs.Forcing.{HasChain, IsForced, Given, Through, HasForcedCycle}
 use Rattle.lit_order.specs.MemoryOrder.{StandsBefore, IsOrderOf}

@@ -3,7 +3,7 @@ use Rattle.std.proofs.Common.{◌≢◌, ◌↔◌, ℕ, ◌<◌, List, [], ◌�
 use Rattle.lit_rel.specs.Between.{BetweenModel, Forbids}
 use Rattle.lit_rel.specs.HappensBefore.{Chain}
 use Rattle.lit_rel.specs.Rows.{IsTransitive, WithPair}
-use Rattle.lit_order.specs.Finding.Deciding.{HasAllForced, IsForcedNext}
+use Rattle.lit_order.specs.Internal.Deciding.{HasAllForced, IsForcedNext}
 use Rattle.lit_order.specs.Forcing.{HasChain, IsForced, Given, Through, AfterRead, BeforeSource}
 use Rattle.lit_order.proofs.ForcedLemmas.{AreTriplesBelow}
 

@@ -3,8 +3,8 @@ use Rattle.std.proofs.Common.{◌≡◌, ◌≢◌, ◌⊎◌, ℕ, ◌+◌, ◌
 use Rattle.std.proofs.lemmas.Bool.{cases_eq, cases_Bool, false≢true}
 use Rattle.std.proofs.lemmas.List.{length_push}
 use Rattle.std.specs.List.{list_any}
-use Rattle.lit_order.specs.Finding.Beginning.{Stands, IsBeginning, CanStandNext}
-use Rattle.lit_order.specs.Finding.Deciding.{AreDecided}
+use Rattle.lit_order.specs.Internal.Beginning.{Stands, IsBeginning, CanStandNext}
+use Rattle.lit_order.specs.Internal.Deciding.{AreDecided}
 use Rattle.lit_order.specs.MemoryOrder.{IsOrderOf}
 use Rattle.lit_order.proofs.ForcedLemmas.{AreTriplesBelow}
 use Rattle.lit_order.proofs.OrderLemmas.{IsBeginning-nil, IsBeginning-push, IsOrderOf-from_beginning}

@@ -3,8 +3,8 @@ use Rattle.std.proofs.Common.{◌≡◌, ◌≢◌, ◌⊎◌, ◌↔◌, ℕ, �
 use Rattle.std.proofs.lemmas.Bool.{cases_eq, cases_lt}
 use Rattle.std.proofs.lemmas.Option.{same_Some, slice_get_within}
 use Rattle.std.specs.List.{slice_get}
-use Rattle.lit_order.specs.Finding.Beginning.{Stands, HasNoOrder}
-use Rattle.lit_order.specs.Finding.Narrowed.{IsNarrowed}
+use Rattle.lit_order.specs.Internal.Beginning.{Stands, HasNoOrder}
+use Rattle.lit_order.specs.Internal.Narrowed.{IsNarrowed}
 use Rattle.lit_order.specs.MemoryOrder.{StandsBefore, HasOrder, IsOrderOf}
 use Rattle.lit_rel.proofs.PlaceLemmas.{place-left, place_from-left, place-middle}
 

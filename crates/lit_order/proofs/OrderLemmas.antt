@@ -9,7 +9,7 @@ use Rattle.std.specs.List.{slice_get}
 use Rattle.std.specs.Ordering.{nat_cmp, ordering_then, MatchOrdering}
 use Rattle.std.specs.declared.cmp.Ordering.{Ordering}
 use Rattle.std.specs.declared.cmp.Ordering.TheVariants.{Less, Equal, Greater}
-use Rattle.lit_order.specs.Finding.Beginning.{Stands, IsBeginning, CanStandNext, HasNoOrder, IsLeastFrom}
+use Rattle.lit_order.specs.Internal.Beginning.{Stands, IsBeginning, CanStandNext, HasNoOrder, IsLeastFrom}
 use Rattle.lit_order.specs.MemoryOrder.{StandsBefore, IsOrderOf, IsLeastOrderOf}
 use Rattle.lit_rel.proofs.PlaceLemmas.{place-left, place_from-left, place-middle, place-push}
 use Rattle.lit_order.proofs.CountLemmas.{length_from_all, all_from_length}

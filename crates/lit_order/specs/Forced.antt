@@ -3,7 +3,7 @@
 use Rattle.std.specs.Prelude.{◌≡◌, ◌⊎◌, ◌↔◌, ℕ}
 use Rattle.lit_rel.specs.Between.{Forbids}
 use Rattle.lit_rel.specs.Rows.{Holds, rows_len}
-use Rattle.lit_order.specs.declared.extending.Forced.{Forced}
+use Rattle.lit_order.specs.declared.forced.Forced.{Forced}
 
 -- between how many events
 abbrev pub forced_len : Forced → ℕ

@@ -1,4 +1,4 @@
 pub mod MemoryOrder
 pub mod Forcing
 pub mod Forced
-pub mod Finding
+pub mod Internal

@@ -5,7 +5,7 @@ ghost use Rattle.lit_paths.specs.declared.limits.TheConstants.{EVENT_LIMIT};
 ghost use Rattle.lit_rel.specs.Between.{Forbids};
 ghost use Rattle.lit_rel.specs.EventSet.{HasEvent};
 ghost use Rattle.lit_rel.specs.Rows.{rows_len, Holds};
-ghost use Rattle.lit_order.specs.Finding.Contested.{IsContested};
+ghost use Rattle.lit_order.specs.Internal.Contested.{IsContested};
 
 use lit_paths::EVENT_LIMIT;
 use lit_rel::{Between, EventSet, Pair, Rows};
@@ -68,8 +68,8 @@ pub(crate) struct Constraints<'a> {
 }
 
 impl<'a> Constraints<'a> {
-    ghost use Rattle.lit_order.specs.Finding.Beginning.{CanStandNext};
-    ghost use Rattle.lit_order.specs.Finding.Constrained.{constrained_len, ComesBefore, MayNotStand};
+    ghost use Rattle.lit_order.specs.Internal.Beginning.{CanStandNext};
+    ghost use Rattle.lit_order.specs.Internal.Constrained.{constrained_len, ComesBefore, MayNotStand};
 
     /// What the converse of a relation and triples ask, both on the same events.
     pub(crate) fn new(converse: &'a Rows, between: &'a Between) -> Self

@@ -1,7 +1,7 @@
 //! Laws of what is forced.
 
 ghost use Rattle.std.specs.Prelude.{◌≡◌, ◌↔◌, ℕ, List};
-ghost use Rattle.lit_rel.specs.declared.bit_rows.Rows.{Rows};
+ghost use Rattle.lit_rel.specs.declared.rows.Rows.{Rows};
 ghost use Rattle.lit_rel.specs.Between.{BetweenModel, Forbids};
 ghost use Rattle.lit_rel.specs.Rows.{rows_len, Holds};
 ghost use Rattle.lit_order.specs.Forcing.{IsForced};

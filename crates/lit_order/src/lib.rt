@@ -6,18 +6,17 @@
 #![tactic(auto)]
 
 mod constraints;
-mod extending;
-mod finding;
+mod forced;
+mod forced_finder;
 mod forcing;
-mod laws;
-mod lining;
-mod plain;
-mod triples;
-mod two_way;
+pub mod laws;
+mod order;
+mod plain_finder;
+mod triple;
+mod two_way_rows;
 
-pub use extending::Forced;
-pub use finding::{Order, OrderFinder};
+pub use forced::Forced;
+pub use forced_finder::ForcedFinder;
 pub use forcing::forced_precedence;
-pub use laws::{forcing_keeps_orders, orders_keep_what_is_forced};
-pub use lining::ForcedFinder;
-pub use plain::PlainFinder;
+pub use order::{Order, OrderFinder};
+pub use plain_finder::PlainFinder;

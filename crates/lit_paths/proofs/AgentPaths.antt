@@ -5,9 +5,9 @@ use Rattle.std.proofs.lemmas.Option.{slice_get-get_or}
 use Rattle.lit_read.specs.Syntax.{Statements, Agent, Litmus, IsLitmus, agent_of}
 use Rattle.lit_paths.specs.Path.{walks_of}
 use Rattle.lit_paths.specs.PathModel.{PathModel, path_model}
-use Rattle.lit_paths.specs.Planning.PathSteps.{empty_path, with_steps}
-use Rattle.lit_paths.specs.Planning.Combining.{path_models, all_path_models}
-use Rattle.lit_paths.specs.Planning.Walks.{AreSaid, longest, longest_of, count_of, walk_at}
+use Rattle.lit_paths.specs.Internal.PathSteps.{empty_path, with_steps}
+use Rattle.lit_paths.specs.Internal.Combining.{path_models, all_path_models}
+use Rattle.lit_paths.specs.Internal.Walks.{AreSaid, longest, longest_of, count_of, walk_at}
 use Rattle.lit_paths.proofs.PathSteps.{with_steps-model, walk-registers}
 use Rattle.lit_paths.proofs.Walks.{walks_of-known, walks_of-some}
 

@@ -3,12 +3,12 @@ use Rattle.std.proofs.Common.{◌≡◌, ℕ, zero, suc, ◌+◌, ◌*◌, ◌/�
 use Rattle.std.specs.Global.{Vec}
 use Rattle.std.proofs.lemmas.List.{drop_more, drop_all, get_or-map, get_or_default, length-map}
 use Rattle.lit_read.specs.Syntax.{Litmus, Agent, agent_of}
-use Rattle.lit_paths.specs.declared.agent_paths.AgentPaths.TheInside.{Inside}
-use Rattle.lit_paths.specs.Planning.AllPaths.{AreAllPaths}
+use Rattle.lit_paths.specs.declared.planning.agent_paths.AgentPaths.TheInside.{Inside}
+use Rattle.lit_paths.specs.Internal.AllPaths.{AreAllPaths}
 use Rattle.lit_paths.specs.Path.{walks_of}
 use Rattle.lit_paths.specs.PathModel.{PathModel, path_model}
-use Rattle.lit_paths.specs.Planning.Walks.{count_of, walk_at}
-use Rattle.lit_paths.specs.Planning.Combining.{path_models, all_path_models, walk_number}
+use Rattle.lit_paths.specs.Internal.Walks.{count_of, walk_at}
+use Rattle.lit_paths.specs.Internal.Combining.{path_models, all_path_models, walk_number}
 use Rattle.lit_paths.proofs.Products.{next_places}
 use Rattle.lit_paths.proofs.Walks.{walks_of-some}
 use Rattle.lit_paths.proofs.AgentPaths.{count_of-some}

@@ -11,8 +11,8 @@ use Rattle.lit_paths.specs.Path.{Path, Step, IsStatementWalk, IsWalk, walks_of, 
 use Rattle.lit_paths.specs.Choice.{product, paths_of_agents, combinations_of}
 use Rattle.lit_paths.specs.PathModel.{PathModel, path_model}
 use Rattle.lit_paths.specs.Plan.{combination_at, events_in, walks_in, walk_in, path_in, first_event}
-use Rattle.lit_paths.specs.Planning.Walks.{longest, statement_longest, longest_of, count_of, walk_at}
-use Rattle.lit_paths.specs.Planning.Combining.{walk_number, numbered_walk}
+use Rattle.lit_paths.specs.Internal.Walks.{longest, statement_longest, longest_of, count_of, walk_at}
+use Rattle.lit_paths.specs.Internal.Combining.{walk_number, numbered_walk}
 use Rattle.lit_paths.proofs.Products.{length-product}
 use Rattle.lit_paths.proofs.Digits.{later_ways, digit}
 use Rattle.lit_paths.proofs.Rising.{slice_get-map-found}

@@ -5,7 +5,7 @@ use Rattle.lit_read.specs.declared.syntax.Stmt.{Stmt}
 use Rattle.lit_read.specs.Syntax.{Statements}
 use Rattle.lit_read.specs.Litmus.{statement_of, statements_of}
 use Rattle.lit_paths.specs.Path.{walks_of, statement_walks}
-use Rattle.lit_paths.specs.Planning.Walks.{longest, statement_longest}
+use Rattle.lit_paths.specs.Internal.Walks.{longest, statement_longest}
 use Rattle.lit_paths.proofs.Parts.{statements_left, statements_end}
 use Rattle.lit_paths.proofs.Walks.{length-walks_of, walks_of-some, statement_walks-some}
 

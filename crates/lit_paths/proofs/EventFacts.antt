@@ -13,7 +13,7 @@ use Rattle.lit_paths.specs.Path.{Step, IsStatementWalk, IsWalk, events_on, first
 use Rattle.lit_paths.specs.ByteReads.{byte_reads, byte_reads_from, bytes_read_by}
 use Rattle.lit_paths.specs.Choice.{combinations_of}
 use Rattle.lit_paths.specs.Plan.{AreEventsIn, events_in, walk_in, path_in}
-use Rattle.lit_paths.specs.Planning.Walks.{longest_of}
+use Rattle.lit_paths.specs.Internal.Walks.{longest_of}
 use Rattle.lit_paths.proofs.ByteReads.{length-bytes_read_by}
 use Rattle.lit_paths.proofs.EventLists.{length-init_events}
 use Rattle.lit_paths.proofs.Placed.{event-owned, event-accessed, event-placed}

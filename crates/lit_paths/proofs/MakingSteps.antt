@@ -6,12 +6,12 @@ use Rattle.std.proofs.lemmas.List.{drop_more, drop_all}
 use Rattle.std.proofs.lemmas.Option.{slice_get_within}
 use Rattle.lit_read.specs.Syntax.{Litmus, Agent, Statement, Statements, Load, Store, Exchange, CompareExchange, If, End, Then, agent_of}
 use Rattle.lit_paths.specs.declared.limits.TheConstants.{ACCESS_LIMIT, COMBINATION_LIMIT, CHOICE_LIMIT}
-use Rattle.lit_paths.specs.declared.planning.PlanFault.{PlanFault}
-use Rattle.lit_paths.specs.declared.planning.PlanFault.TheVariants.{OutOfMemory, TooManyChoices}
+use Rattle.lit_paths.specs.declared.fault.PlanFault.{PlanFault}
+use Rattle.lit_paths.specs.declared.fault.PlanFault.TheVariants.{OutOfMemory, TooManyChoices}
 use Rattle.lit_paths.specs.Path.{Path, Step, LoadMet, StoreMet, ExchangeMet, CompareExchangeMet, IfMet, IsStatementWalk, IsWalk, IsPath, walks_of, events_on, path_on}
 use Rattle.lit_paths.specs.Choice.{combinations_of, choices_of}
 use Rattle.lit_paths.specs.Plan.{accesses_on, HasTooManyEvents, HasFewEvents, IsPlanFault}
-use Rattle.lit_paths.specs.Planning.Walks.{longest, statement_longest, longest_of, count_of}
+use Rattle.lit_paths.specs.Internal.Walks.{longest, statement_longest, longest_of, count_of}
 use Rattle.lit_paths.proofs.Walks.{walks_of-some}
 use Rattle.lit_paths.proofs.AgentPaths.{count_of-some}
 use Rattle.lit_paths.proofs.Counts.{capped_factor}

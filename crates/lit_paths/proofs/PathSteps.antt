@@ -13,7 +13,7 @@ use Rattle.lit_paths.specs.declared.path.Tested.{Tested}
 use Rattle.lit_paths.specs.Path.{Step, LoadMet, StoreMet, ExchangeMet, CompareExchangeMet, IfMet, IsStatementWalk, IsWalk, read_event, write_event, modify_event, compare_exchange_event, decisions_on, events_on}
 use Rattle.lit_paths.specs.Event.{does_read}
 use Rattle.lit_paths.specs.PathModel.{PathModel, IsReadAt, accesses_of, access_count, reads_into, last_read_from, last_read, asked, tests_after, tests_on, path_model}
-use Rattle.lit_paths.specs.Planning.PathSteps.{empty_path, with_steps}
+use Rattle.lit_paths.specs.Internal.PathSteps.{empty_path, with_steps}
 
 -- ---- what steps ask and hold, from a place on, where the registers hold these reads
 abbrev pub tests_from : ℕ → List (Option ℕ) → List Step → List Tested

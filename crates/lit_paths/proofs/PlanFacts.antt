@@ -14,8 +14,8 @@ use Rattle.lit_paths.specs.Path.{Step}
 use Rattle.lit_paths.specs.Plan.{events_in, choices_before, walk_in, AreEventsIn, IsOfCombination, IsWalkIn, ListsCandidates}
 use Rattle.lit_paths.specs.declared.event.Event.{Event}
 use Rattle.lit_paths.specs.Event.{no_event}
-use Rattle.lit_paths.specs.Planning.Planned.{IsPlanned}
-use Rattle.lit_paths.specs.Planning.Totals.{totals_below}
+use Rattle.lit_paths.specs.Internal.Planned.{IsPlanned}
+use Rattle.lit_paths.specs.Internal.Totals.{totals_below}
 use Rattle.lit_paths.proofs.AgentPaths.{count_of-some}
 use Rattle.lit_paths.proofs.CombinedPaths.{count_of-combinations, path_at, walk_in-walks}
 use Rattle.lit_paths.proofs.PathSteps.{length-tests_on, tests_reads, holds_reads}

@@ -7,8 +7,8 @@ use Rattle.lit_read.specs.Syntax.{Statement, Statements, Then, End, Load, Store,
 use Rattle.lit_read.specs.Litmus.{statement_of, statements_of}
 use Rattle.lit_paths.specs.Path.{Step, IfMet, walks_of, statement_walks}
 use Rattle.lit_paths.specs.PathModel.{PathModel}
-use Rattle.lit_paths.specs.Planning.PathSteps.{with_step, with_steps}
-use Rattle.lit_paths.specs.Planning.Walks.{IsSaid, AreSaid, longest, statement_longest, walk_at, statement_walk_at}
+use Rattle.lit_paths.specs.Internal.PathSteps.{with_step, with_steps}
+use Rattle.lit_paths.specs.Internal.Walks.{IsSaid, AreSaid, longest, statement_longest, walk_at, statement_walk_at}
 use Rattle.lit_paths.proofs.Products.{next_places, slice_get_left, slice_get_right}
 use Rattle.lit_paths.proofs.Rising.{slice_get-map-found}
 use Rattle.lit_paths.proofs.Walks.{length-walks_of, length-walks-if, walks_of-some, statement_walks-some}

@@ -15,11 +15,11 @@ use Rattle.lit_paths.proofs.Rising.{slice_get-map-found}
 use Rattle.lit_paths.proofs.ByteReads.{byte_reads-known}
 use Rattle.lit_paths.proofs.Candidates.{candidates_from, candidates_from-candidate, candidates_from-other, candidates_of-found, is_candidate-parts, length-candidates_from}
 use Rattle.lit_paths.proofs.ChoiceLists.{events_on, choice_on, AreSources-sources_of}
-use Rattle.lit_paths.specs.declared.sources.ByteRead.{ByteRead}
+use Rattle.lit_paths.specs.declared.byte_reads.ByteRead.{ByteRead}
 use Rattle.lit_paths.specs.Execution.{execution_choice}
 use Rattle.lit_paths.specs.declared.combination.Combination.TheInside.{Inside}
-use Rattle.lit_paths.specs.Planning.CandidateLists.{candidates_for, candidate_lists}
-use Rattle.lit_paths.specs.Planning.Entered.{IsEntered}
+use Rattle.lit_paths.specs.Internal.CandidateLists.{candidates_for, candidate_lists}
+use Rattle.lit_paths.specs.Internal.Entered.{IsEntered}
 use Rattle.lit_paths.proofs.PathLists.{combinations_of-known}
 use Rattle.lit_paths.proofs.RunPaths.{runs-on_paths}
 use Rattle.lit_paths.proofs.WaySteps.{candidate_lists-are}

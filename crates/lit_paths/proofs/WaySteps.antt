@@ -4,10 +4,10 @@ use Rattle.std.proofs.lemmas.List.{map_more, drop_more, drop_all, take_all}
 use Rattle.std.proofs.lemmas.Option.{slice_get-get_or, slice_get_within, slice_get-map}
 use Rattle.arrayvec.specs.ArrayVec.{ArrayVec}
 use Rattle.lit_paths.specs.declared.event.Event.{Event}
-use Rattle.lit_paths.specs.declared.sources.ByteRead.{ByteRead}
+use Rattle.lit_paths.specs.declared.byte_reads.ByteRead.{ByteRead}
 use Rattle.lit_paths.specs.ByteReads.{byte_reads, pair_of}
 use Rattle.lit_paths.specs.Choice.{product, candidates_of, sources_of}
-use Rattle.lit_paths.specs.Planning.CandidateLists.{candidates_for, candidate_lists, ways_after}
+use Rattle.lit_paths.specs.Internal.CandidateLists.{candidates_for, candidate_lists, ways_after}
 use Rattle.lit_paths.proofs.Products.{length-product, next_places, next_positive, factors-positive, product-known}
 use Rattle.lit_paths.proofs.Digits.{later_ways, ways_split, digit}
 

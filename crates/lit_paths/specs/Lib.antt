@@ -8,5 +8,6 @@ pub mod Outcome
 pub mod Execution
 pub mod Told
 pub mod Plan
+pub mod FaultNames
 pub mod Numbers
-pub mod Planning
+pub mod Internal

@@ -7,8 +7,8 @@ use Rattle.lit_paths.specs.declared.limits.TheConstants.{ACCESS_LIMIT, EVENT_LIM
 use Rattle.lit_paths.specs.declared.event.Event.{Event}
 use Rattle.lit_paths.specs.declared.event.Order3.TheVariants.{Init}
 use Rattle.lit_paths.specs.declared.path.Tested.{Tested}
-use Rattle.lit_paths.specs.declared.planning.PlanFault.{PlanFault}
-use Rattle.lit_paths.specs.declared.planning.PlanFault.TheVariants.{TooManyEvents, TooManyPaths, TooManyChoices, OutOfMemory}
+use Rattle.lit_paths.specs.declared.fault.PlanFault.{PlanFault}
+use Rattle.lit_paths.specs.declared.fault.PlanFault.TheVariants.{TooManyEvents, TooManyPaths, TooManyChoices, OutOfMemory}
 use Rattle.lit_paths.specs.Event.{event_at, init_event}
 use Rattle.lit_paths.specs.Path.{Path, Step, IsWalk, walks_of, decisions_on, path_on}
 use Rattle.lit_paths.specs.PathModel.{PathModel, IsReadAt, last_read, tests_on, path_model}

@@ -1,22 +1,24 @@
 //! A combination of paths, entered: what the choices on it share.
 
+pub(crate) mod joined;
+
 ghost use Rattle.std.specs.Prelude.{◌≡◌, ℕ, ◌+◌, ◌/◌, ◌%◌, ◌<◌, ◌≤◌, length, map, Some, slice_get};
 ghost use Rattle.lit_paths.specs.declared.limits.TheConstants.{BYTE_READ_LIMIT as READS, CANDIDATE_LIMIT as CANDIDATES, CHOICE_LIMIT, EVENT_LIMIT};
 ghost use Rattle.lit_paths.specs.ByteReads.{byte_reads, byte_read_at, pair_of};
 ghost use Rattle.lit_paths.specs.Choice.{product, AreSources, candidates_of as candidates_among, combinations_of};
 ghost use Rattle.lit_paths.specs.Numbers.{ways_from};
-ghost use Rattle.lit_paths.specs.declared.sources.ByteRead.{ByteRead as Read};
+ghost use Rattle.lit_paths.specs.declared.byte_reads.ByteRead.{ByteRead as Read};
 ghost use Rattle.lit_paths.specs.Plan.{events_in, choices_before, first_event, path_in, walk_in, AreEventsIn, HasSources, IsOfCombination, IsWalkIn, ListsCandidates};
-ghost use Rattle.lit_paths.specs.Planning.CandidateLists.{candidate_lists, candidates_for, ways_after};
-ghost use Rattle.lit_paths.specs.Planning.Entered.{IsFormed};
-ghost use Rattle.lit_paths.specs.Planning.Walks.{IsInLimits};
+ghost use Rattle.lit_paths.specs.Internal.CandidateLists.{candidate_lists, candidates_for, ways_after};
+ghost use Rattle.lit_paths.specs.Internal.Entered.{IsFormed};
+ghost use Rattle.lit_paths.specs.Internal.Walks.{IsInLimits};
 
-use crate::agent_paths::AgentPaths;
+use crate::byte_reads::{ByteRead, ByteReads, candidates_of, find_byte_reads};
+use crate::combination::joined::{Joined, join};
 use crate::event::{Event, Sources};
-use crate::joined::{Joined, join};
 use crate::limits::{BYTE_READ_LIMIT, CANDIDATE_LIMIT};
 use crate::path::Path;
-use crate::sources::{ByteRead, ByteReads, candidates_of, find_byte_reads};
+use crate::planning::agent_paths::AgentPaths;
 use arrayvec::ArrayVec;
 use lit_read::Test;
 use std::marker::Model;
@@ -111,7 +113,7 @@ impl<'p> Model for Combination<'p> {
     ghost use Rattle.std.specs.Coded.{coded×, coded_ℕ};
     ghost use Rattle.lit_read.specs.Syntax.{Litmus};
     ghost use Rattle.lit_read.specs.SyntaxCodes.{coded_litmus};
-    ghost use Rattle.lit_paths.specs.Planning.Entered.{IsEntered};
+    ghost use Rattle.lit_paths.specs.Internal.Entered.{IsEntered};
 
     ghost Value = { Litmus × ℕ };
 

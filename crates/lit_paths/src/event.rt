@@ -1,5 +1,7 @@
 //! Events (ECMA-262, 2024, clause 29, "Memory Model Fundamentals").
 
+pub(crate) mod access;
+
 ghost use Rattle.std.specs.Prelude.{◌≡◌, ◌<◌, length};
 ghost use Rattle.lit_paths.specs.Event.{event_at};
 

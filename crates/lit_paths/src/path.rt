@@ -1,9 +1,12 @@
 //! A path of an agent, with what it asks of the values that are read on it.
 
+pub(crate) mod counting;
+pub(crate) mod walking;
+
 ghost use Rattle.std.specs.Prelude.{◌≡◌, ◌<◌, length, Some, None, IfOk, slice_index_or};
 ghost use Rattle.lit_read.specs.declared.limits.TheConstants.{REGISTERS as HELD};
 ghost use Rattle.lit_paths.specs.declared.limits.TheConstants.{ACCESS_LIMIT as ACCESSES};
-ghost use Rattle.lit_paths.specs.Planning.PathSteps.{empty_path, with_access, with_read, with_test};
+ghost use Rattle.lit_paths.specs.Internal.PathSteps.{empty_path, with_access, with_read, with_test};
 
 use crate::event::Event;
 use crate::limits::ACCESS_LIMIT;

@@ -1,5 +1,8 @@
 //! The plan of a test: its choices by number, and what they are made of. `making` makes it.
 
+pub(crate) mod agent_paths;
+pub(crate) mod making;
+
 ghost use Rattle.std.specs.Prelude.{◌≡◌, ℕ, ◌+◌, ◌<◌, ◌≤◌, length, All, nat_le, slice_index};
 ghost use Rattle.std.specs.List.Sorted.{IsNonDecreasingBy};
 ghost use Rattle.lit_read.specs.Syntax.{IsLitmus};
@@ -10,56 +13,15 @@ ghost use Rattle.lit_paths.specs.Event.{event_at};
 ghost use Rattle.lit_paths.specs.Outcome.{asks as is_asked, names_of, meets as is_met};
 ghost use Rattle.lit_paths.specs.Plan.{events_in, choices_before, path_in, walk_in, AreEventsIn, HasSources, IsOfCombination, IsWalkIn, ListsCandidates};
 
-use crate::agent_paths::AgentPaths;
+use crate::byte_reads::{ByteRead, Candidates, candidates_of};
 use crate::combination::Combination;
+use crate::combination::joined::{Joined, join};
 use crate::event::{Events, Sources, event_at};
-use crate::joined::{Joined, join};
 use crate::names::{Names, asks, holds};
 use crate::path::Path;
-use crate::sources::{ByteRead, Candidates, candidates_of};
+use crate::planning::agent_paths::AgentPaths;
 use lit_read::Test;
-use std::alloc::{AllocError, AllocFailed};
 use std::marker::Model;
-use thiserror::Error;
-
-/// Why a test has no plan, in the order in which this is decided.
-#[derive(Clone, Copy, Debug, PartialEq, Eq, Error)]
-pub enum PlanFault {
-    /// Some combination of paths has more than `ACCESS_LIMIT` access events.
-    #[error("14 too_many_events")]
-    TooManyEvents,
-    /// There are more than `COMBINATION_LIMIT` combinations of paths: 4,096.
-    #[error("13 too_many_paths")]
-    TooManyPaths,
-    /// There are more than `CHOICE_LIMIT` choices.
-    #[error("15 too_many_choices")]
-    TooManyChoices,
-    /// A growth was refused.
-    #[error("out_of_memory")]
-    OutOfMemory,
-}
-
-impl From<AllocError> for PlanFault {
-    ghost use Rattle.std.specs.Prelude.{◌≡◌};
-    ghost use Rattle.lit_paths.specs.declared.planning.PlanFault.TheVariants.{OutOfMemory};
-
-    ghost from_gives = { λ _ e. e ≡ OutOfMemory };
-
-    fn from(_e: AllocError) -> PlanFault {
-        PlanFault::OutOfMemory
-    }
-}
-
-impl<T: Drop> From<AllocFailed<T>> for PlanFault {
-    ghost use Rattle.std.specs.Prelude.{◌≡◌};
-    ghost use Rattle.lit_paths.specs.declared.planning.PlanFault.TheVariants.{OutOfMemory};
-
-    ghost from_gives = { λ _ e. e ≡ OutOfMemory };
-
-    fn from(_e: AllocFailed<T>) -> PlanFault {
-        PlanFault::OutOfMemory
-    }
-}
 
 /// The choices of a test, by number, and what all of them share. A clause sees it as the test's value.
 #[derive(Drop)]
@@ -72,7 +34,7 @@ pub struct Plan<'t> {
 impl<'t> Model for Plan<'t> {
     ghost use Rattle.lit_read.specs.Syntax.{Litmus};
     ghost use Rattle.lit_read.specs.SyntaxCodes.{coded_litmus};
-    ghost use Rattle.lit_paths.specs.Planning.Planned.{IsPlanned};
+    ghost use Rattle.lit_paths.specs.Internal.Planned.{IsPlanned};
 
     ghost Value = { Litmus };
 
@@ -98,8 +60,8 @@ fn combination_of(totals: &[u64], n: u64) -> usize
 }
 
 impl<'t> Plan<'t> {
-    ghost use Rattle.lit_paths.specs.Planning.Totals.{totals_below};
-    ghost use Rattle.lit_paths.specs.Planning.Walks.{IsInLimits};
+    ghost use Rattle.lit_paths.specs.Internal.Totals.{totals_below};
+    ghost use Rattle.lit_paths.specs.Internal.Walks.{IsInLimits};
 
     /// The plan of a test, from what it keeps of it.
     pub(crate) fn new(paths: AgentPaths<'t>, totals: Vec<u64>, names: Names) -> Self

@@ -3,7 +3,7 @@ use Rattle.std.proofs.Common.{◌≡◌, ℕ, ◌^◌, ◌<◌, ◌≤◌, Bool,
 use Rattle.std.specs.Prelude.{codes}
 use Rattle.std.specs.Char.{is_ascii_digit}
 use Rattle.std.specs.Fmt.{decimal}
-use Rattle.lit_read.specs.declared.symbols.Symbol.TheVariants.{Same, Differs, Gives, OpenBracket, CloseBracket, OpenParen, CloseParen, OpenBrace, CloseBrace, Comma, Dot}
+use Rattle.lit_read.specs.declared.tokens.symbols.Symbol.TheVariants.{Same, Differs, Gives, OpenBracket, CloseBracket, OpenParen, CloseParen, OpenBrace, CloseBrace, Comma, Dot}
 use Rattle.lit_read.specs.declared.limits.TheConstants.{BLOCK_LIMIT, REGISTERS}
 use Rattle.lit_read.specs.Syntax.{Window, Uint8, Uint16, Uint32, DataView8, DataView16, DataView32, is_data_view, Statement, Load, Store, Exchange, CompareExchange, If, is_in_block, fits_window, IsStatementIn}
 use Rattle.lit_read.specs.Tokens.{Token, Word, Number, Sign, begins_with, IsWord}

@@ -14,8 +14,8 @@ use Rattle.lit_read.specs.Spelling.{written_value, AreFormsOf, Spells}
 use Rattle.lit_read.specs.Canonical.{statement_forms, statements_forms, else_forms, agents_forms, canonical_forms}
 use Rattle.lit_read.specs.Parentheses.{written_of}
 use Rattle.lit_read.specs.CanonicalText.{form_text, canonical}
-use Rattle.lit_read.specs.Reading.State.{State, Empty, Whole, step}
-use Rattle.lit_read.specs.Reading.LineSteps.{IsLine, LineStep}
+use Rattle.lit_read.specs.Internal.State.{State, Empty, Whole, step}
+use Rattle.lit_read.specs.Internal.LineSteps.{IsLine, LineStep}
 use Rattle.lit_read.proofs.LineLemmas.{behind, lines_split, lines_pass}
 use Rattle.lit_read.proofs.CutLemmas.{run_len}
 use Rattle.lit_read.proofs.DraftForms.{Holds}

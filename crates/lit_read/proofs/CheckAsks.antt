@@ -11,7 +11,7 @@ use Rattle.lit_read.specs.Written.{Comparison, Operand, Compared, Negated, Group
 use Rattle.lit_read.specs.Forms.{CheckLine, IsForm}
 use Rattle.lit_read.specs.Faults.{has_small_numbers}
 use Rattle.lit_read.specs.Spelling.{place_of, numbered, operand_value, conjunction_value, written_value, operand_values, conjunction_values}
-use Rattle.lit_read.specs.Reading.State.{body_named, is_known, are_known}
+use Rattle.lit_read.specs.Internal.State.{body_named, is_known, are_known}
 use Rattle.lit_read.proofs.ListLemmas.{all_both, all_weaker, all_pass}
 use Rattle.lit_read.proofs.CanonicalConditions.{IsWritable, AreWritable}
 

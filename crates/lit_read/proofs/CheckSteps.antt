@@ -8,7 +8,7 @@ use Rattle.std.proofs.lemmas.Bool.{leb-true, eqb-true}
 use Rattle.std.proofs.lemmas.List.{length-reverse}
 use Rattle.std.proofs.lemmas.List.Folds.{list_all-map}
 use Rattle.lit_read.specs.declared.draft.Level as raw
-use Rattle.lit_read.specs.declared.marks.Mark as marks
+use Rattle.lit_read.specs.declared.forms.marks.Mark as marks
 use Rattle.lit_read.specs.declared.fault.ReadKind.{ReadKind}
 use Rattle.lit_read.specs.declared.fault.ReadKind.TheVariants.{TooLong, NotAscii, Syntax, Misplaced, BlockSize, TooManyAgents, DuplicateAgent, LiteralRange, OutOfBlock, UnknownName, TooDeep, MissingPart, OutOfMemory}
 use Rattle.lit_read.specs.declared.syntax.Stmt.{Stmt}
@@ -18,10 +18,10 @@ use Rattle.lit_read.specs.Written.{Comparison, Operand, Compared, Negated, Group
 use Rattle.lit_read.specs.Forms.{CheckLine, IsForm}
 use Rattle.lit_read.specs.Faults.{has_small_numbers}
 use Rattle.lit_read.specs.Spelling.{written_value}
-use Rattle.lit_read.specs.Reading.Marks.{Mark, Bang, Opens, Closes, Joins, Parts, Compares, operand_marks, conjunction_marks, written_marks, is_small}
-use Rattle.lit_read.specs.Reading.Built.{build, begun}
-use Rattle.lit_read.specs.Reading.State.{State, Open, Whole, Level, with_agent, is_known, is_known_mark, are_known, next_step, agent_step, test_of, check_step, IsState}
-use Rattle.lit_read.specs.Reading.Views.{mark_view, mark_views, level_view, agents_view, Fails}
+use Rattle.lit_read.specs.Internal.Marks.{Mark, Bang, Opens, Closes, Joins, Parts, Compares, operand_marks, conjunction_marks, written_marks, is_small}
+use Rattle.lit_read.specs.Internal.Built.{build, begun}
+use Rattle.lit_read.specs.Internal.State.{State, Open, Whole, Level, with_agent, is_known, is_known_mark, are_known, next_step, agent_step, test_of, check_step, IsState}
+use Rattle.lit_read.specs.Internal.Views.{mark_view, mark_views, level_view, agents_view, Fails}
 use Rattle.lit_read.proofs.BuildLemmas.{all_joined, built}
 use Rattle.lit_read.proofs.StepLemmas.{check_kept}
 

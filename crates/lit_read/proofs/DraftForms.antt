@@ -10,7 +10,7 @@ use Rattle.lit_read.specs.Forms.{Form, Blank, TestLine, BytesLine, AgentLine, St
 use Rattle.lit_read.specs.Structure.{is_body_line, AreStatements, AreAgents}
 use Rattle.lit_read.specs.Faults.{is_block_line, is_agent_line, is_check_line, is_begun, ends_in_test, open_behind, open_ifs, is_in_then, is_empty, block_of, names_of, line_writes, lines_write, agent_writes, is_misplaced}
 use Rattle.lit_read.specs.Spelling.{AreFormsOf}
-use Rattle.lit_read.specs.Reading.State.{State, Empty, Named, Sized, Open, Whole, Level, with_agent, body_named, IsUnfinished}
+use Rattle.lit_read.specs.Internal.State.{State, Empty, Named, Sized, Open, Whole, Level, with_agent, body_named, IsUnfinished}
 use Rattle.lit_read.proofs.SpellLemmas.{fold-append, any_joined, all_joined, are_body_lines, statements_body, statements_open, any_writes, statements_wrote, or_right_false}
 use Rattle.lit_read.proofs.ListLemmas.{neither}
 

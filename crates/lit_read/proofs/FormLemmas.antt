@@ -1,20 +1,20 @@
 -- The computed form is the one that the tokens spell, and it is computed wherever they spell one but a check line.
 use Rattle.std.proofs.Common.{◌≡◌, ℕ, ◌+◌, Bool, true, false, cond, true≢false, List, [], ◌∷◌, Option, Some, None, refl, ap, sym, subst, ◌∙◌, ◌⊎◌, inl, inr}
 use Rattle.std.specs.Prelude.{codes}
-use Rattle.lit_read.specs.declared.symbols.Symbol.TheVariants.{Gives}
+use Rattle.lit_read.specs.declared.tokens.symbols.Symbol.TheVariants.{Gives}
 use Rattle.lit_read.specs.Syntax.{Window, Uint8, Uint16, Uint32, DataView8, DataView16, DataView32, is_data_view, Load, Store, Exchange, CompareExchange, If}
 use Rattle.lit_read.specs.Tokens.{Token, Word, Sign}
 use Rattle.lit_read.specs.Written.{Written}
 use Rattle.lit_read.specs.Forms.{Form, Blank, TestLine, BytesLine, AgentLine, StatementLine, IfLine, ElseLine, EndLine, CheckLine, read_tokens, store_tokens, element_tokens, spelled, IsForm, IsSpelling}
 use Rattle.lit_read.specs.Faults.{is_check_line}
-use Rattle.lit_read.specs.Reading.FirstToken.{or_else}
-use Rattle.lit_read.specs.Reading.FormOfTokens.{after_sign, word_of, number_of, after_word, register_of, register_number, view_of, window_named, relation_of, ended, Item, front, ToldParts, in_parts}
-use Rattle.lit_read.specs.Reading.FormOfTokens.{test_row, test_made, bytes_row, bytes_made, agent_row, agent_made, if_row, if_made, else_row, else_made, end_row, end_made}
-use Rattle.lit_read.specs.Reading.FormOfTokens.{plain_load_parts, plain_load_made, plain_store_parts, plain_store_made, atomic_load_parts, atomic_load_made, atomic_store_parts, atomic_store_made}
-use Rattle.lit_read.specs.Reading.FormOfTokens.{exchange_parts, exchange_made, compare_exchange_parts, compare_exchange_made}
-use Rattle.lit_read.specs.Reading.FormOfTokens.{byte_load_parts, byte_load_made, byte_store_parts, byte_store_made, wide_load_parts, wide_load_made, wide_store_parts, wide_store_made}
-use Rattle.lit_read.specs.Reading.FormOfTokens.{test_line, agent_line, bytes_line, if_line, else_line, end_line, plain_load, plain_store, atomic_load, atomic_store, exchange, compare_exchange}
-use Rattle.lit_read.specs.Reading.FormOfTokens.{byte_load, byte_store, wide_load, wide_store, frame_form, array_form, view_form, fixed_form}
+use Rattle.lit_read.specs.Internal.FirstToken.{or_else}
+use Rattle.lit_read.specs.Internal.FormOfTokens.{after_sign, word_of, number_of, after_word, register_of, register_number, view_of, window_named, relation_of, ended, Item, front, ToldParts, in_parts}
+use Rattle.lit_read.specs.Internal.FormOfTokens.{test_row, test_made, bytes_row, bytes_made, agent_row, agent_made, if_row, if_made, else_row, else_made, end_row, end_made}
+use Rattle.lit_read.specs.Internal.FormOfTokens.{plain_load_parts, plain_load_made, plain_store_parts, plain_store_made, atomic_load_parts, atomic_load_made, atomic_store_parts, atomic_store_made}
+use Rattle.lit_read.specs.Internal.FormOfTokens.{exchange_parts, exchange_made, compare_exchange_parts, compare_exchange_made}
+use Rattle.lit_read.specs.Internal.FormOfTokens.{byte_load_parts, byte_load_made, byte_store_parts, byte_store_made, wide_load_parts, wide_load_made, wide_store_parts, wide_store_made}
+use Rattle.lit_read.specs.Internal.FormOfTokens.{test_line, agent_line, bytes_line, if_line, else_line, end_line, plain_load, plain_store, atomic_load, atomic_store, exchange, compare_exchange}
+use Rattle.lit_read.specs.Internal.FormOfTokens.{byte_load, byte_store, wide_load, wide_store, frame_form, array_form, view_form, fixed_form}
 use Rattle.lit_read.proofs.RowLemmas.{parts_row, PartsFit, in_parts_is, register_number_again}
 
 -- ---- a form that is computed is spelled

@@ -13,11 +13,11 @@ use Rattle.lit_read.specs.Tokens.{Token, CutsInto, is_comment}
 use Rattle.lit_read.specs.Forms.{Form, IsSpelling, without_blanks}
 use Rattle.lit_read.specs.Faults.{number_of, is_allowed, HasFault, IsFirstFault}
 use Rattle.lit_read.specs.Spelling.{AreFormsOf, Spells}
-use Rattle.lit_read.specs.Reading.FirstToken.{token_front, after_blanks}
-use Rattle.lit_read.specs.Reading.FormOfTokens.{after_word, fixed_form}
-use Rattle.lit_read.specs.Reading.Marks.{Mark, mark_tokens, mark_of, follow, SpellsMarks, SpellsNoCondition}
-use Rattle.lit_read.specs.Reading.State.{State, Empty, Named, Sized, Open, Whole, step, IsState}
-use Rattle.lit_read.specs.Reading.LineSteps.{IsLine, IsNoLine}
+use Rattle.lit_read.specs.Internal.FirstToken.{token_front, after_blanks}
+use Rattle.lit_read.specs.Internal.FormOfTokens.{after_word, fixed_form}
+use Rattle.lit_read.specs.Internal.Marks.{Mark, mark_tokens, mark_of, follow, SpellsMarks, SpellsNoCondition}
+use Rattle.lit_read.specs.Internal.State.{State, Empty, Named, Sized, Open, Whole, step, IsState}
+use Rattle.lit_read.specs.Internal.LineSteps.{IsLine, IsNoLine}
 use Rattle.lit_read.proofs.LineLemmas.{behind, lines_split}
 use Rattle.lit_read.proofs.Cuttings.{Cutting, cutting_begins, cutting_goes_on, cutting_ends, cutting_fails, cut_shorter}
 use Rattle.lit_read.proofs.FormLemmas.{fixed_form_is}

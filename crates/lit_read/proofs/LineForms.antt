@@ -4,8 +4,8 @@ use Rattle.std.specs.Prelude.{codes, IfOk, IfNone}
 use Rattle.lit_read.specs.Tokens.{Token, Word}
 use Rattle.lit_read.specs.Written.{Written, written_tokens}
 use Rattle.lit_read.specs.Forms.{CheckLine, spelled, IsForm, IsSpelling}
-use Rattle.lit_read.specs.Reading.FormOfTokens.{after_word, word_of, fixed_form}
-use Rattle.lit_read.specs.Reading.Marks.{Mark, written_marks, SpellsMarks, SpellsNoCondition, SpellsForm, SpellsNoCheck, SpellsNothing}
+use Rattle.lit_read.specs.Internal.FormOfTokens.{after_word, word_of, fixed_form}
+use Rattle.lit_read.specs.Internal.Marks.{Mark, written_marks, SpellsMarks, SpellsNoCondition, SpellsForm, SpellsNoCheck, SpellsNothing}
 use Rattle.lit_read.proofs.ListLemmas.{tail_is}
 use Rattle.lit_read.proofs.RowLemmas.{after_word_is}
 use Rattle.lit_read.proofs.FormLemmas.{fixed_form_absent}

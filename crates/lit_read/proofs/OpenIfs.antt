@@ -7,7 +7,7 @@ use Rattle.lit_read.specs.Syntax.{Statement, Statements, Load, Store, Exchange, 
 use Rattle.lit_read.specs.Forms.{Form, Blank, TestLine, BytesLine, AgentLine, StatementLine, IfLine, ElseLine, EndLine, CheckLine, IsForm}
 use Rattle.lit_read.specs.Structure.{is_body_line, IsStatement, AreStatements, AreElse, IsOpenPart, LeaveOpen}
 use Rattle.lit_read.specs.Faults.{is_agent_line, is_check_line, is_begun, open_behind, open_ifs, is_in_then, is_empty, is_misplaced, none_misplaced}
-use Rattle.lit_read.specs.Reading.State.{followed_by}
+use Rattle.lit_read.specs.Internal.State.{followed_by}
 use Rattle.lit_read.proofs.ListLemmas.{both}
 use Rattle.lit_read.proofs.SpellLemmas.{fold-append, any_joined, are_body_lines, statement_open, statements_open, statements_added, or_right_false}
 use Rattle.lit_read.proofs.DraftForms.{IsOther, other_check, not_not}

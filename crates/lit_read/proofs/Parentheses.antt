@@ -1,9 +1,9 @@
 -- What a condition asks tells its tokens but the parentheses.
 use Rattle.std.proofs.Common.{◌≡◌, ℕ, Bool, true, false, cond, not, List, [], ◌∷◌, ◌++◌, refl, ap, sym, subst, ◌∙◌}
 use Rattle.std.proofs.lemmas.List.{append-nil}
-use Rattle.lit_read.specs.declared.symbols.Symbol.{Symbol}
-use Rattle.lit_read.specs.declared.symbols.Symbol.TheVariants.{And, Or, CloseParen}
-use Rattle.lit_read.specs.declared.symbols.Symbol.TheVariants.{Not as Bang}
+use Rattle.lit_read.specs.declared.tokens.symbols.Symbol.{Symbol}
+use Rattle.lit_read.specs.declared.tokens.symbols.Symbol.TheVariants.{And, Or, CloseParen}
+use Rattle.lit_read.specs.declared.tokens.symbols.Symbol.TheVariants.{Not as Bang}
 use Rattle.lit_read.specs.Tokens.{Token, Sign}
 use Rattle.lit_read.specs.Syntax.{End, Condition, Conditions, Any, All, Not, Is, NoMore, Also, Litmus, IsConditionOn, AreConditionsOn, IsLitmus}
 use Rattle.lit_read.specs.Forms.{Form}

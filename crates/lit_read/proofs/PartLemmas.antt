@@ -13,7 +13,7 @@ use Rattle.lit_read.specs.Faults.{has_fitting_literals, stays_in_block, has_smal
 use Rattle.lit_read.specs.Spelling.{place_of, numbered, operand_value, conjunction_value, written_value, operand_values, conjunction_values}
 use Rattle.lit_read.proofs.ListLemmas.{all_parts, both}
 use Rattle.lit_read.proofs.DepthLemmas.{operands_count, conjunctions_count, shallow_kept}
-use Rattle.lit_read.specs.Reading.State.{followed_by, body_named, is_known, are_known, AreDistinct, IsPart, AreAgentsIn}
+use Rattle.lit_read.specs.Internal.State.{followed_by, body_named, is_known, are_known, AreDistinct, IsPart, AreAgentsIn}
 
 -- ---- lists
 

@@ -11,8 +11,8 @@ use Rattle.lit_read.specs.Lines.{lines_of, lines_from, onto_first}
 use Rattle.lit_read.specs.Forms.{Form, HasForm, HaveForms, without_blanks}
 use Rattle.lit_read.specs.Faults.{number_of, is_allowed, is_check_line, is_faulty, HasLineFault, HasFault, IsFirstFault, IsReadFault}
 use Rattle.lit_read.specs.Spelling.{Spells}
-use Rattle.lit_read.specs.Reading.State.{State, Empty, Whole, IsState, IsUnfinished}
-use Rattle.lit_read.specs.Reading.LineSteps.{LineStep, LineFails}
+use Rattle.lit_read.specs.Internal.State.{State, Empty, Whole, IsState, IsUnfinished}
+use Rattle.lit_read.specs.Internal.LineSteps.{LineStep, LineFails}
 use Rattle.lit_read.proofs.StepLemmas.{step_kept}
 use Rattle.lit_read.proofs.DraftForms.{Holds, not_checked, is_checked}
 use Rattle.lit_read.proofs.StepFaults.{Clear, below, Outcome, outcome}

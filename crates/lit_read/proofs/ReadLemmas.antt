@@ -9,7 +9,7 @@ use Rattle.lit_read.specs.Forms.{Form, Blank, TestLine, BytesLine, AgentLine, St
 use Rattle.lit_read.specs.Faults.{is_check_line, is_faulty, HasLineFault, AreFormsBefore, HasFault}
 use Rattle.lit_read.specs.Lines.{lines_of}
 use Rattle.lit_read.specs.declared.limits.TheConstants.{TEXT_LIMIT}
-use Rattle.lit_read.specs.Reading.LineSteps.{IsLine}
+use Rattle.lit_read.specs.Internal.LineSteps.{IsLine}
 use Rattle.lit_read.proofs.Cuttings.{cut_once}
 use Rattle.lit_read.proofs.StepHolds.{added}
 use Rattle.lit_read.proofs.OneForm.{spelled_once}

@@ -10,7 +10,7 @@ use Rattle.lit_read.specs.Syntax.{Condition, Conditions, Any, All, Not, Is, NoMo
 use Rattle.lit_read.specs.Litmus.{condition_of}
 use Rattle.lit_read.specs.Parentheses.{operand_of, conjunction_of, all_written, any_written}
 use Rattle.lit_read.specs.CanonicalText.{operand_text, conjunction_text, written_text}
-use Rattle.lit_read.specs.Reading.Views.{conditions_view}
+use Rattle.lit_read.specs.Internal.Views.{conditions_view}
 use Rattle.lit_read.proofs.TreeViews.{all_views, any_views}
 
 -- ---- members, each but the first behind a sign

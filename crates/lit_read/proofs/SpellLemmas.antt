@@ -7,7 +7,7 @@ use Rattle.lit_read.specs.Syntax.{Statement, Statements, Load, Store, Exchange, 
 use Rattle.lit_read.specs.Forms.{Form, EndLine}
 use Rattle.lit_read.specs.Structure.{is_body_line, IsStatement, AreStatements, AreElse}
 use Rattle.lit_read.specs.Faults.{open_behind, line_writes}
-use Rattle.lit_read.specs.Reading.State.{followed_by}
+use Rattle.lit_read.specs.Internal.State.{followed_by}
 
 -- ---- lists
 

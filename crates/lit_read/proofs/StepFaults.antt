@@ -11,7 +11,7 @@ use Rattle.lit_read.specs.Written.{Comparison, Written, written_depths, is_shall
 use Rattle.lit_read.specs.Forms.{Form, Blank, TestLine, BytesLine, AgentLine, StatementLine, IfLine, ElseLine, EndLine, CheckLine}
 use Rattle.lit_read.specs.Faults.{number_of, block_of, names_of, open_ifs, agent_writes, is_misplaced, is_wrong_block, is_one_agent_more, is_known_agent, has_fitting_literals, has_small_numbers, has_large_literal, stays_in_block, leaves_block, has_unknown_name, is_too_deep, is_faulty, is_in_then}
 use Rattle.lit_read.specs.Spelling.{written_value}
-use Rattle.lit_read.specs.Reading.State.{State, Empty, Named, Sized, Open, Whole, Level, followed_by, with_agent, body_named, is_known, are_known, else_from, test_step, block_step, next_step, agent_step, statement_step, if_step, else_step, end_step, test_of, whole, check_step, step}
+use Rattle.lit_read.specs.Internal.State.{State, Empty, Named, Sized, Open, Whole, Level, followed_by, with_agent, body_named, is_known, are_known, else_from, test_step, block_step, next_step, agent_step, statement_step, if_step, else_step, end_step, test_of, whole, check_step, step}
 use Rattle.lit_read.proofs.DraftForms.{Holds, names, any_named, opened, flags, placed, agents_added, agents_wrote}
 
 -- ---- the faults of a form

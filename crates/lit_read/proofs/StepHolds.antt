@@ -11,7 +11,7 @@ use Rattle.lit_read.specs.Forms.{Form, Blank, TestLine, BytesLine, AgentLine, St
 use Rattle.lit_read.specs.Structure.{IsStatement, AreStatements, AreElse}
 use Rattle.lit_read.specs.Faults.{has_fitting_literals, stays_in_block, has_small_numbers}
 use Rattle.lit_read.specs.Spelling.{written_value}
-use Rattle.lit_read.specs.Reading.State.{State, Empty, Named, Sized, Open, Whole, Level, followed_by, with_agent, else_from, ended_if, are_known, test_step, block_step, next_step, agent_step, statement_step, if_step, else_step, end_step, test_of, whole, check_step, step}
+use Rattle.lit_read.specs.Internal.State.{State, Empty, Named, Sized, Open, Whole, Level, followed_by, with_agent, else_from, ended_if, are_known, test_step, block_step, next_step, agent_step, statement_step, if_step, else_step, end_step, test_of, whole, check_step, step}
 use Rattle.lit_read.proofs.SpellLemmas.{statements_added}
 use Rattle.lit_read.proofs.DraftForms.{AreParts, AreOpen, opening, Holds, agents_added}
 

@@ -14,7 +14,7 @@ use Rattle.lit_read.specs.Written.{Written, is_shallow}
 use Rattle.lit_read.specs.Forms.{Form, Blank, TestLine, BytesLine, AgentLine, StatementLine, IfLine, ElseLine, EndLine, CheckLine, IsAccess, IsForm}
 use Rattle.lit_read.specs.Faults.{has_fitting_literals, stays_in_block, has_small_numbers}
 use Rattle.lit_read.specs.Spelling.{written_value}
-use Rattle.lit_read.specs.Reading.State.{State, Empty, Named, Sized, Open, Whole, Level, followed_by, with_agent, are_known, else_level, else_from, ended_if, test_step, block_step, next_step, agent_step, statement_step, if_step, else_step, end_step, test_of, whole, check_step, step, IsPart, AreAgentsIn, IsState}
+use Rattle.lit_read.specs.Internal.State.{State, Empty, Named, Sized, Open, Whole, Level, followed_by, with_agent, are_known, else_level, else_from, ended_if, test_step, block_step, next_step, agent_step, statement_step, if_step, else_step, end_step, test_of, whole, check_step, step, IsPart, AreAgentsIn, IsState}
 use Rattle.lit_read.proofs.PartLemmas.{all_added, all_changed, distinct_changed, distinct_added, part_followed, statement_in, is_litmus}
 use Rattle.lit_read.proofs.ListLemmas.{neither}
 

@@ -7,7 +7,7 @@ use Rattle.lit_read.specs.Forms.{Form, Blank, TestLine, BytesLine, AgentLine, St
 use Rattle.lit_read.specs.Structure.{is_body_line, IsStatement, AreStatements, AreElse, AreAgents}
 use Rattle.lit_read.specs.Spelling.{written_value, AreFormsOf}
 use Rattle.lit_read.specs.Canonical.{statement_forms, statements_forms, else_forms, agents_forms, starts_with_end, without_empty_elses}
-use Rattle.lit_read.specs.Reading.State.{Level, followed_by, else_level, ended_if}
+use Rattle.lit_read.specs.Internal.State.{Level, followed_by, else_level, ended_if}
 use Rattle.lit_read.proofs.ListLemmas.{tail_is}
 use Rattle.lit_read.proofs.SpellLemmas.{fold-append, are_body_lines, statements_body}
 

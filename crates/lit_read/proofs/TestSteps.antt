@@ -11,7 +11,7 @@ use Rattle.lit_read.specs.Forms.{Form, TestLine, BytesLine, AgentLine, Statement
 use Rattle.lit_read.specs.Structure.{IsStatement, AreStatements, AreElse, AreAgents}
 use Rattle.lit_read.specs.Faults.{has_fitting_literals, stays_in_block}
 use Rattle.lit_read.specs.Spelling.{written_value, AreFormsOf}
-use Rattle.lit_read.specs.Reading.State.{Level, State, Empty, Named, Sized, Open, Whole, followed_by, with_agent, else_level, are_known, test_step, block_step, next_step, agent_step, statement_step, if_step, else_step, end_step, check_step, step}
+use Rattle.lit_read.specs.Internal.State.{Level, State, Empty, Named, Sized, Open, Whole, followed_by, with_agent, else_level, are_known, test_step, block_step, next_step, agent_step, statement_step, if_step, else_step, end_step, check_step, step}
 use Rattle.lit_read.proofs.TestForms.{behind, behind_end, behind_one, new_level}
 use Rattle.lit_read.proofs.CanonicalForms.{differ}
 use Rattle.lit_read.proofs.CheckAsks.{check_small, check_known}

@@ -8,7 +8,7 @@ use Rattle.lit_read.specs.declared.syntax.Cond.{Cond, Row_of-Cond, end_of-Cond, 
 use Rattle.lit_read.specs.declared.syntax.Cond as code
 use Rattle.lit_read.specs.Syntax.{statement_writes, writes, Statements, Then, If, Conditions, Any, All, Also}
 use Rattle.lit_read.specs.Litmus.{statement_of, part_of, statements_of, condition_of, conditions_of}
-use Rattle.lit_read.specs.Reading.Views.{conditions_view}
+use Rattle.lit_read.specs.Internal.Views.{conditions_view}
 
 -- ---- a condition of several members
 

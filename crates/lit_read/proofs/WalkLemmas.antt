@@ -2,8 +2,8 @@
 use Rattle.std.proofs.Common.{◌≡◌, ℕ, zero, suc, ◌<◌, Bool, true, false, List, [], ◌∷◌, ◌++◌, length, Option, Some, None, refl, ap, sym, ◌∙◌, arith, append_assoc}
 use Rattle.std.proofs.lemmas.List.{append-nil}
 use Rattle.lit_read.specs.Written.{Operand, Compared, Negated, Grouped, Conjunction, Lone, Both, Written, Single, Either}
-use Rattle.lit_read.specs.Reading.FormOfTokens.{◌>>=◌}
-use Rattle.lit_read.specs.Reading.Marks.{Mark, Bang, Opens, Closes, Joins, Parts, Compares, operand_marks, conjunction_marks, written_marks, follow}
+use Rattle.lit_read.specs.Internal.FormOfTokens.{◌>>=◌}
+use Rattle.lit_read.specs.Internal.Marks.{Mark, Bang, Opens, Closes, Joins, Parts, Compares, operand_marks, conjunction_marks, written_marks, follow}
 
 -- behind these marks
 abbrev pub walk : Bool → ℕ → List Mark → Option (Bool × ℕ)

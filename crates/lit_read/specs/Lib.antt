@@ -9,7 +9,8 @@ pub mod Parentheses
 pub mod Forms
 pub mod Structure
 pub mod Faults
+pub mod FaultNames
 pub mod Spelling
 pub mod Canonical
 pub mod CanonicalText
-pub mod Reading
+pub mod Internal

@@ -9,7 +9,7 @@ use Rattle.lit_read.specs.declared.syntax.Cond as cond
 use Rattle.lit_read.specs.Syntax.{Window, Uint8, Uint16, Uint32, DataView8, DataView16, DataView32}
 use Rattle.lit_read.specs.Syntax.{Statement, Statements, Load, Store, Exchange, CompareExchange, If, End, Then}
 use Rattle.lit_read.specs.Syntax.{Condition, Conditions, Any, All, Not, Is, NoMore, Also, Litmus}
-use Rattle.lit_read.specs.declared.litmus.Test.TheInside.{Inside}
+use Rattle.lit_read.specs.declared.test.Test.TheInside.{Inside}
 
 abbrev pub window_of : View → Window
 window_of view.U8 = Uint8

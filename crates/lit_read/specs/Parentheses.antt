@@ -1,6 +1,6 @@
 -- A condition written with no more parentheses than are needed (this project's own).
 use Rattle.std.specs.Prelude.{ℕ, Bool, true, false, not, List, [], slice_index_or, filter}
-use Rattle.lit_read.specs.declared.symbols.Symbol.TheVariants.{OpenParen, CloseParen}
+use Rattle.lit_read.specs.declared.tokens.symbols.Symbol.TheVariants.{OpenParen, CloseParen}
 use Rattle.lit_read.specs.Trees.{End, Condition, Conditions, Any, All, Not, Is, NoMore, Also, Agent}
 use Rattle.lit_read.specs.Tokens.{Token, Sign}
 use Rattle.lit_read.specs.Written.{Comparison, Operand, Compared, Negated, Grouped, Conjunction, Lone, Both, Written, Single, Either}

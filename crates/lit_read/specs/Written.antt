@@ -2,7 +2,7 @@
 use Rattle.std.specs.Prelude.{ℕ, ◌+◌, nat_le, Bool, if◌then◌else◌, List, [], ◌∷◌, ◌++◌}
 use Rattle.std.specs.List.{list_all}
 use Rattle.lit_read.specs.declared.limits.TheConstants.{DEPTH_LIMIT}
-use Rattle.lit_read.specs.declared.symbols.Symbol.TheVariants.{Same, Differs, And, Or, Not, OpenParen, CloseParen, Dot}
+use Rattle.lit_read.specs.declared.tokens.symbols.Symbol.TheVariants.{Same, Differs, And, Or, Not, OpenParen, CloseParen, Dot}
 use Rattle.lit_read.specs.Tokens.{Token, Word, Number, Sign}
 
 -- a comparison, with the agent's name

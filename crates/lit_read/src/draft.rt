@@ -1,21 +1,25 @@
 //! The test as far as a text has come.
 
+pub(crate) mod accesses;
+pub(crate) mod checking;
+pub(crate) mod conditions;
+
 ghost use Rattle.std.specs.Prelude.{◌≡◌, ◌<◌, string_bytes, false, IfOk, Ok};
 ghost use Rattle.std.specs.List.{list_any};
 ghost use Rattle.std.specs.Str.{bytes_eq};
 ghost use Rattle.lit_read.specs.Litmus.{statements_of};
-ghost use Rattle.lit_read.specs.Reading.State.{test_step, block_step, agent_step, statement_step, if_step, else_step, end_step, step, check_step, with_agent, followed_by, IsState};
-ghost use Rattle.lit_read.specs.Reading.Views.{Returns, state_view, form_view, open_view, agents_view};
+ghost use Rattle.lit_read.specs.Internal.State.{test_step, block_step, agent_step, statement_step, if_step, else_step, end_step, step, check_step, with_agent, followed_by, IsState};
+ghost use Rattle.lit_read.specs.Internal.Views.{Returns, state_view, form_view, open_view, agents_view};
 
-use crate::accesses::checked_access;
-use crate::building::condition;
-use crate::checking::{are_known, are_small};
+use crate::draft::accesses::checked_access;
+use crate::draft::checking::{are_known, are_small};
+use crate::draft::conditions::condition;
 use crate::fault::ReadKind;
+use crate::forms::marks::Mark;
 use crate::forms::{Access, Form, Line};
 use crate::limits::{AGENT_LIMIT, BLOCK_LIMIT, COMPARED_LIMIT, IF_LIMIT};
-use crate::litmus::Test;
-use crate::marks::Mark;
 use crate::syntax::Stmt;
+use crate::test::Test;
 use indexmap::IndexMap;
 use std::alloc::{AllocError, Global};
 
@@ -67,8 +71,8 @@ fn with_last(
 
 impl Level {
     ghost use Rattle.lit_read.specs.Litmus.{statement_of};
-    ghost use Rattle.lit_read.specs.Reading.State.{ended_if};
-    ghost use Rattle.lit_read.specs.Reading.Views.{level_view, part_view};
+    ghost use Rattle.lit_read.specs.Internal.State.{ended_if};
+    ghost use Rattle.lit_read.specs.Internal.Views.{level_view, part_view};
 
     /// The `if` whose part this is the last of, behind the statements before it.
     fn ended(self, alloc: Global, body: Vec<Stmt>) -> Result<Vec<Stmt>, AllocError>
@@ -101,9 +105,9 @@ impl Open {
     ghost use Rattle.lit_read.specs.Litmus.{statement_of};
     ghost use Rattle.lit_read.specs.Written.{Written};
     ghost use Rattle.lit_read.specs.Forms.{IsForm, CheckLine};
-    ghost use Rattle.lit_read.specs.Reading.Marks.{written_marks};
-    ghost use Rattle.lit_read.specs.Reading.State.{Whole, with_statement};
-    ghost use Rattle.lit_read.specs.Reading.Views.{access_view, mark_views};
+    ghost use Rattle.lit_read.specs.Internal.Marks.{written_marks};
+    ghost use Rattle.lit_read.specs.Internal.State.{Whole, with_statement};
+    ghost use Rattle.lit_read.specs.Internal.Views.{access_view, mark_views};
 
     /// With one statement more.
     fn with_statement(self, stmt: Stmt) -> Result<Open, ReadKind>
@@ -254,7 +258,7 @@ impl Open {
 impl Draft {
     ghost use Rattle.lit_read.specs.Forms as shapes;
     ghost use Rattle.lit_read.specs.Forms.{IsForm};
-    ghost use Rattle.lit_read.specs.Reading.Views.{Shows};
+    ghost use Rattle.lit_read.specs.Internal.Views.{Shows};
 
     #[tactic(auto, unfolding(crate::specs::Reading::State::test_step))]
     fn test(self, alloc: Global, name: &str) -> Result<Draft, ReadKind>

@@ -4,51 +4,77 @@ ghost use Rattle.std.specs.Prelude.{◌≡◌};
 ghost use Rattle.lit_read.specs.declared.fault.ReadKind.TheVariants.{OutOfMemory};
 
 use std::alloc::{AllocError, AllocFailed};
+use std::fmt;
 use thiserror::Error;
 
 /// What is wrong, in the order of the numbers that are shown. Among several faults of one line the first decides.
-#[derive(Clone, Copy, Debug, PartialEq, Eq, Error)]
+#[derive(Clone, Copy, Debug, PartialEq, Eq)]
 pub enum ReadKind {
     /// The text has more than 65,536 bytes.
-    #[error("1 too_long")]
     TooLong,
     /// The line has a byte that is neither a blank nor printable ASCII.
-    #[error("2 not_ascii")]
     NotAscii,
     /// The line has none of the forms.
-    #[error("3 syntax")]
     Syntax,
     /// The form cannot stand here.
-    #[error("4 misplaced")]
     Misplaced,
     /// The block has no byte, or more than `BLOCK_LIMIT`.
-    #[error("5 block_size")]
     BlockSize,
     /// There are `AGENT_LIMIT` agents before this one.
-    #[error("6 too_many_agents")]
     TooManyAgents,
     /// An earlier agent has this name.
-    #[error("7 duplicate_agent")]
     DuplicateAgent,
     /// A number does not fit the element that it is written to, or is above 4,294,967,295 in a comparison.
-    #[error("8 literal_range")]
     LiteralRange,
     /// The access is not wholly in the block.
-    #[error("9 out_of_block")]
     OutOfBlock,
     /// A comparison names no agent, or a register that this agent writes nowhere.
-    #[error("10 unknown_name")]
     UnknownName,
     /// An `if` line opens a ninth level, or a comparison stands inside more than eight `!` and parentheses.
-    #[error("11 too_deep")]
     TooDeep,
     /// The text ends before its `check` line.
-    #[error("12 missing_part")]
     MissingPart,
     /// A growth was refused.
-    #[error("out_of_memory")]
     OutOfMemory,
 }
+
+impl ReadKind {
+    ghost use Rattle.lit_read.specs.FaultNames.{kind_text};
+
+    /// Its number and its name, as they are shown.
+    pub fn as_str(&self) -> &'static str
+        ensures { result.now ≡ kind_text self.now }
+    {
+        match self {
+            ReadKind::TooLong => "1 too_long",
+            ReadKind::NotAscii => "2 not_ascii",
+            ReadKind::Syntax => "3 syntax",
+            ReadKind::Misplaced => "4 misplaced",
+            ReadKind::BlockSize => "5 block_size",
+            ReadKind::TooManyAgents => "6 too_many_agents",
+            ReadKind::DuplicateAgent => "7 duplicate_agent",
+            ReadKind::LiteralRange => "8 literal_range",
+            ReadKind::OutOfBlock => "9 out_of_block",
+            ReadKind::UnknownName => "10 unknown_name",
+            ReadKind::TooDeep => "11 too_deep",
+            ReadKind::MissingPart => "12 missing_part",
+            ReadKind::OutOfMemory => "out_of_memory",
+        }
+    }
+}
+
+impl fmt::Display for ReadKind {
+    ghost use Rattle.std.specs.Prelude.{Some};
+    ghost use Rattle.lit_read.specs.FaultNames.{kind_text};
+
+    ghost output = { λ kind. Some (kind_text kind) };
+
+    fn fmt<W: fmt::Write>(&self, f: &mut fmt::Formatter<W>) -> fmt::Result {
+        f.write_str(self.as_str())
+    }
+}
+
+impl std::error::Error for ReadKind {}
 
 impl From<AllocError> for ReadKind {
     ghost from_gives = { λ _ e. e ≡ OutOfMemory };

@@ -1,16 +1,22 @@
 //! The form of a line, which is a function of that line alone.
 
-ghost use Rattle.std.specs.Prelude.{◌≡◌, option_map, IfSome, IfNone, IfOk};
-ghost use Rattle.lit_read.specs.Reading.Marks.{SpellsForm, SpellsNothing, SpellsNoCheck};
-ghost use Rattle.lit_read.specs.Reading.FormOfTokens.{test_line, agent_line, bytes_line, if_line, else_line, end_line, frame_form, array_form, view_form, fixed_form};
-ghost use Rattle.lit_read.specs.Reading.Views.{token_views, form_view, Shows};
+pub(crate) mod access_forms;
+pub(crate) mod access_parts;
+pub(crate) mod marks;
 
-use crate::access_forms::{array_form, view_form};
-use crate::cursor::{after_sign, after_word, ended, number_of, register_of, relation_of, word_of};
-use crate::marks::{Mark, marks_of};
-use crate::symbols::Symbol;
+ghost use Rattle.std.specs.Prelude.{◌≡◌, option_map, IfSome, IfNone, IfOk};
+ghost use Rattle.lit_read.specs.Internal.Marks.{SpellsForm, SpellsNothing, SpellsNoCheck};
+ghost use Rattle.lit_read.specs.Internal.FormOfTokens.{test_line, agent_line, bytes_line, if_line, else_line, end_line, frame_form, array_form, view_form, fixed_form};
+ghost use Rattle.lit_read.specs.Internal.Views.{token_views, form_view, Shows};
+
+use crate::forms::access_forms::{array_form, view_form};
+use crate::forms::marks::{Mark, marks_of};
 use crate::syntax::View;
 use crate::tokens::Token;
+use crate::tokens::front::{
+    after_sign, after_word, ended, number_of, register_of, relation_of, word_of,
+};
+use crate::tokens::symbols::Symbol;
 use std::alloc::{AllocError, Global};
 
 /// An access, with its numbers as they stand in the text.

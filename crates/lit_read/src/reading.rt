@@ -7,16 +7,16 @@ ghost use Rattle.lit_read.specs.declared.limits.TheConstants.{TEXT_LIMIT};
 ghost use Rattle.lit_read.specs.Faults.{is_allowed, IsReadFault};
 ghost use Rattle.lit_read.specs.Forms.{Form};
 ghost use Rattle.lit_read.specs.Spelling.{Spells};
-ghost use Rattle.lit_read.specs.Reading.State.{IsState, IsUnfinished, Whole};
-ghost use Rattle.lit_read.specs.Reading.Views.{state_view, Shows};
-ghost use Rattle.lit_read.specs.Reading.LineSteps.{IsLine, IsNoLine, LineStep, LineFails};
+ghost use Rattle.lit_read.specs.Internal.State.{IsState, IsUnfinished, Whole};
+ghost use Rattle.lit_read.specs.Internal.Views.{state_view, Shows};
+ghost use Rattle.lit_read.specs.Internal.LineSteps.{IsLine, IsNoLine, LineStep, LineFails};
 
 use crate::draft::Draft;
 use crate::fault::{ReadFault, ReadKind};
 use crate::forms::{Line, form_of};
 use crate::limits::TEXT_LIMIT;
 use crate::lines::split_line;
-use crate::litmus::Test;
+use crate::test::Test;
 use crate::tokens::tokens_of;
 use std::alloc::Global;
 

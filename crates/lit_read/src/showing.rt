@@ -1,5 +1,8 @@
 //! The canonical text of a test.
 
+pub(crate) mod conditions;
+pub(crate) mod statements;
+
 ghost use Rattle.std.specs.Prelude.{◌≡◌, ◌++◌, ◌∷◌, [], IfOk, IfErr, OnOk, string_bytes};
 ghost use Rattle.lit_read.specs.declared.fault.ReadKind.TheVariants.{OutOfMemory};
 ghost use Rattle.lit_read.specs.Forms.{TestLine, BytesLine, AgentLine, CheckLine};
@@ -8,9 +11,9 @@ ghost use Rattle.lit_read.specs.Parentheses.{written_of};
 ghost use Rattle.lit_read.specs.CanonicalText.{forms_text, canonical};
 
 use crate::fault::ReadFault;
-use crate::litmus::Test;
-use crate::shown_conditions::put_condition;
-use crate::shown_statements::put_statements;
+use crate::showing::conditions::put_condition;
+use crate::showing::statements::put_statements;
+use crate::test::Test;
 use std::alloc::{AllocError, Global};
 
 /// Writes the first two lines.

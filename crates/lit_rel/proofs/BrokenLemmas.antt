@@ -5,7 +5,7 @@ use Rattle.lit_paths.specs.Event.{event_at}
 use Rattle.lit_rel.specs.Broken.{IsBrokenBy}
 use Rattle.lit_rel.specs.Coherent.{IsCoherentRead}
 use Rattle.lit_rel.specs.HappensBefore.{HappensBeforeBy}
-use Rattle.lit_rel.specs.Parts.Pushed.{CanChange, IsBrokenAnew}
+use Rattle.lit_rel.specs.Internal.Pushed.{CanChange, IsBrokenAnew}
 use Rattle.lit_rel.specs.Rows.{WithPair}
 use Rattle.lit_rel.specs.TearFree.{CanReadWhole, ReadsWholeBy}
 use Rattle.lit_rel.proofs.GrowthLemmas.{Grows-from}

@@ -2,9 +2,9 @@
 use Rattle.std.proofs.Common.{◌≡◌, ℕ, ◌<◌, ◌≤◌, suc, zero, bit_or, arith, inl, inr, sym, subst}
 use Rattle.std.proofs.lemmas.Nat.{le_or_l}
 use Rattle.std.specs.Prelude.{slice_index_or}
-use Rattle.lit_rel.specs.declared.bit_rows.Rows.{Rows}
+use Rattle.lit_rel.specs.declared.rows.Rows.{Rows}
 use Rattle.lit_rel.specs.EventSet.{no_events}
-use Rattle.lit_rel.specs.Parts.Closing.{IsCovered}
+use Rattle.lit_rel.specs.Internal.Closing.{IsCovered}
 use Rattle.lit_rel.specs.Rows.{Holds, IsTransitive, rows_len}
 use Rattle.lit_rel.proofs.SetLemmas.{HasBit, or_from_within}
 

@@ -4,8 +4,8 @@ use Rattle.std.proofs.lemmas.Option.{slice_get-get_or}
 use Rattle.lit_paths.specs.declared.event.Event.{Event}
 use Rattle.lit_rel.specs.declared.given.SourcedByte.{SourcedByte}
 use Rattle.lit_rel.specs.Forbidden.{IsForbiddenBetween, IsForbiddenTriple}
-use Rattle.lit_rel.specs.Parts.Forbidding.{IsForbidding, RepeatsPair}
-use Rattle.lit_rel.specs.Parts.Given.{AreFirstReads, sources_of}
+use Rattle.lit_rel.specs.Internal.Forbidding.{IsForbidding, RepeatsPair}
+use Rattle.lit_rel.specs.Internal.Given.{AreFirstReads, sources_of}
 use Rattle.lit_rel.specs.ReadsFrom.{ReadsByteFrom, ReadsFrom}
 use Rattle.lit_rel.proofs.EachLemmas.{SomeBelow, SomeBelow-again, SomeBelow-all}
 use Rattle.lit_rel.proofs.ReadingLemmas.{write_known}

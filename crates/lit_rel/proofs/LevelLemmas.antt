@@ -9,14 +9,14 @@ use Rattle.std.specs.Prelude.{slice_index_or}
 use Rattle.lit_paths.specs.declared.event.Event.{Event}
 use Rattle.lit_paths.specs.ByteReads.{byte_reads}
 use Rattle.lit_paths.specs.Event.{event_at}
-use Rattle.lit_rel.specs.declared.bit_rows.Rows.{Rows}
+use Rattle.lit_rel.specs.declared.rows.Rows.{Rows}
 use Rattle.lit_rel.specs.declared.given.SourcedByte.{SourcedByte}
 use Rattle.lit_rel.specs.Broken.{IsBrokenBy}
 use Rattle.lit_rel.specs.Coherent.{IsCoherentRead}
 use Rattle.lit_rel.specs.EventSet.{no_events}
 use Rattle.lit_rel.specs.HappensBefore.{HappensBeforeBy}
-use Rattle.lit_rel.specs.Parts.Given.{AreFirstReads, Tears, sources_of}
-use Rattle.lit_rel.specs.Parts.Pushed.{CanChange, HasByteSo, HasChangedByte, HasTearing, IsBrokenAnew, IsChangedByte}
+use Rattle.lit_rel.specs.Internal.Given.{AreFirstReads, Tears, sources_of}
+use Rattle.lit_rel.specs.Internal.Pushed.{CanChange, HasByteSo, HasChangedByte, HasTearing, IsBrokenAnew, IsChangedByte}
 use Rattle.lit_rel.specs.ReadsFrom.{ReadsByteFrom}
 use Rattle.lit_rel.specs.Rows.{Holds, WithPair, rows_len}
 use Rattle.lit_rel.specs.TearFree.{CanReadWhole}

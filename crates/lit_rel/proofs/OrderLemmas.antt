@@ -6,11 +6,11 @@ use Rattle.std.specs.List.{slice_get}
 use Rattle.lit_paths.specs.declared.event.Event.{Event}
 use Rattle.lit_paths.specs.ByteReads.{byte_reads}
 use Rattle.lit_paths.specs.Event.{event_at}
-use Rattle.lit_rel.specs.declared.bit_rows.Rows.{Rows}
+use Rattle.lit_rel.specs.declared.rows.Rows.{Rows}
 use Rattle.lit_rel.specs.declared.given.SourcedByte.{SourcedByte}
 use Rattle.lit_rel.specs.HappensBefore.{HappensBefore}
-use Rattle.lit_rel.specs.Parts.Given.{AreFirstReads, read_of, sources_of}
-use Rattle.lit_rel.specs.Parts.Levels.{IsOrder}
+use Rattle.lit_rel.specs.Internal.Given.{AreFirstReads, read_of, sources_of}
+use Rattle.lit_rel.specs.Internal.Levels.{IsOrder}
 use Rattle.lit_rel.specs.ReadsFrom.{ReadsByteFrom}
 use Rattle.lit_rel.specs.Rows.{Holds, WithPair, rows_len}
 use Rattle.lit_rel.specs.SynchronizesWith.{CanSynchronize}

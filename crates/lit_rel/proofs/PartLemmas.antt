@@ -10,19 +10,19 @@ use Rattle.std.specs.List.{slice_get, take-map}
 use Rattle.lit_read.specs.Syntax.{Litmus}
 use Rattle.lit_paths.specs.declared.event.Event.{Event}
 use Rattle.lit_paths.specs.declared.limits.TheConstants.{BYTE_READ_LIMIT}
-use Rattle.lit_paths.specs.declared.sources.ByteRead.{ByteRead}
+use Rattle.lit_paths.specs.declared.byte_reads.ByteRead.{ByteRead}
 use Rattle.lit_paths.specs.ByteReads.{IsCandidate, byte_reads, pair_of}
 use Rattle.lit_paths.specs.Event.{event_at, no_event}
 use Rattle.lit_paths.specs.Plan.{AreEventsIn}
-use Rattle.lit_rel.specs.declared.bit_rows.Rows.{Rows}
+use Rattle.lit_rel.specs.declared.rows.Rows.{Rows}
 use Rattle.lit_rel.specs.declared.given.SourcedByte.{SourcedByte}
-use Rattle.lit_rel.specs.declared.levels.Level.{Level}
+use Rattle.lit_rel.specs.declared.part.levels.Level.{Level}
 use Rattle.lit_rel.specs.Coherent.{IsCoherentRead}
 use Rattle.lit_rel.specs.HappensBefore.{HappensBefore, HappensBeforeBy}
 use Rattle.lit_rel.specs.Part.{AreFirstSources, IsNextSource, PartModel, part_events, with_sources}
-use Rattle.lit_rel.specs.Parts.Given.{AreFirstReads, IsKnown, Tears, read_of, sources_of}
-use Rattle.lit_rel.specs.Parts.Levels.{IsKept, IsLevel, IsOrder}
-use Rattle.lit_rel.specs.Parts.Pushed.{HasByteSo, IsChangedByte}
+use Rattle.lit_rel.specs.Internal.Given.{AreFirstReads, IsKnown, Tears, read_of, sources_of}
+use Rattle.lit_rel.specs.Internal.Levels.{IsKept, IsLevel, IsOrder}
+use Rattle.lit_rel.specs.Internal.Pushed.{HasByteSo, IsChangedByte}
 use Rattle.lit_rel.specs.ReadsFrom.{ReadsByteFrom}
 use Rattle.lit_rel.specs.Rows.{Holds, WithPair}
 use Rattle.lit_rel.specs.SynchronizesWith.{CanSynchronize}

@@ -5,15 +5,15 @@ use Rattle.std.proofs.lemmas.List.{length-map}
 use Rattle.std.proofs.lemmas.Option.{same_Some, slice_get-get_or}
 use Rattle.std.specs.List.{slice_get}
 use Rattle.lit_paths.specs.declared.event.Event.{Event}
-use Rattle.lit_paths.specs.declared.sources.ByteRead.{ByteRead}
+use Rattle.lit_paths.specs.declared.byte_reads.ByteRead.{ByteRead}
 use Rattle.lit_paths.specs.ByteReads.{IsCandidate, byte_read_at, byte_reads, pair_of}
 use Rattle.lit_paths.specs.Event.{HasSameRange, event_at}
 use Rattle.lit_paths.specs.Plan.{ListsCandidates}
 use Rattle.lit_rel.specs.DataRace.{AreUnguarded, HasCandidateLeft, HasDataRace, HasDataRaceOf, MayRace, MayReadFrom, RacesAreForeseen}
 use Rattle.lit_rel.specs.declared.given.SourcedByte.{SourcedByte}
 use Rattle.lit_rel.specs.HappensBefore.{HappensBefore}
-use Rattle.lit_rel.specs.Parts.Given.{AreFirstReads, sources_of}
-use Rattle.lit_rel.specs.Parts.Racing.{AreApart, HasApartPair, WritesWith}
+use Rattle.lit_rel.specs.Internal.Given.{AreFirstReads, sources_of}
+use Rattle.lit_rel.specs.Internal.Racing.{AreApart, HasApartPair, WritesWith}
 use Rattle.lit_rel.specs.ReadsFrom.{ReadsFrom}
 use Rattle.lit_rel.proofs.GrowthLemmas.{grow_with_bytes}
 use Rattle.lit_rel.proofs.PlaceLemmas.{place_from-left}

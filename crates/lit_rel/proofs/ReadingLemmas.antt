@@ -8,7 +8,7 @@ use Rattle.lit_paths.specs.declared.event.Event.{Event}
 use Rattle.lit_paths.specs.Event.{does_write, event_at, no_event}
 use Rattle.lit_rel.specs.declared.given.SourcedByte.{SourcedByte}
 use Rattle.lit_rel.specs.Coherent.{AreCoherentReads, IsCoherentRead}
-use Rattle.lit_rel.specs.Parts.Given.{AreFirstReads, Tears, sources_of}
+use Rattle.lit_rel.specs.Internal.Given.{AreFirstReads, Tears, sources_of}
 use Rattle.lit_rel.specs.ReadsFrom.{ReadsByteFrom}
 use Rattle.lit_rel.specs.TearFree.{CanReadWhole, HasTearFreeReads, ReadsWholeBy}
 use Rattle.lit_rel.proofs.SourceLemmas.{IsByte, read_at, byte_at}

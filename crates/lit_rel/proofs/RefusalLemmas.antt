@@ -6,14 +6,14 @@ use Rattle.std.proofs.lemmas.Option.{none-some, same_Some, slice_get_within, sli
 use Rattle.std.specs.Bool.{IsTrue}
 use Rattle.std.specs.List.{range_with_len, slice_get}
 use Rattle.lit_paths.specs.declared.event.Event.{Event}
-use Rattle.lit_paths.specs.declared.sources.ByteRead.{ByteRead}
+use Rattle.lit_paths.specs.declared.byte_reads.ByteRead.{ByteRead}
 use Rattle.lit_paths.specs.ByteReads.{byte_reads, byte_reads_from, bytes_read_by, pair_of}
 use Rattle.lit_paths.specs.Event.{does_read, event_at, no_event}
 use Rattle.lit_paths.specs.Plan.{AreEventsIn, IsWalkIn, first_event, walk_in}
 use Rattle.lit_rel.specs.Broken.{HasFalseTest, HasFalseTestOn, StaysBroken, number_on}
 use Rattle.lit_rel.specs.Growth.{IsGivenWhole}
 use Rattle.lit_rel.specs.Part.{IsNextSource, PartModel, part_events, with_sources}
-use Rattle.lit_rel.specs.Parts.Refused.{AreRefusals, IsRefusedAtLast}
+use Rattle.lit_rel.specs.Internal.Refused.{AreRefusals, IsRefusedAtLast}
 use Rattle.lit_rel.specs.ReadsFrom.{ReadsByteFrom, value_of}
 use Rattle.lit_rel.proofs.GrowthLemmas.{ReadsByteFrom-longer, values_stay}
 use Rattle.lit_rel.proofs.BrokenLemmas.{IsBrokenBy-grows}

@@ -4,8 +4,8 @@ use Rattle.lit_paths.specs.declared.event.Event.{Event}
 use Rattle.lit_paths.specs.Event.{event_at}
 use Rattle.lit_rel.specs.declared.given.SourcedByte.{SourcedByte}
 use Rattle.lit_rel.specs.HappensBefore.{StepBy}
-use Rattle.lit_rel.specs.Parts.Given.{AreFirstReads, sources_of}
-use Rattle.lit_rel.specs.Parts.Steps.{IsFixedStep}
+use Rattle.lit_rel.specs.Internal.Given.{AreFirstReads, sources_of}
+use Rattle.lit_rel.specs.Internal.Steps.{IsFixedStep}
 use Rattle.lit_rel.specs.ReadsFrom.{ReadsByteFrom, ReadsFrom}
 use Rattle.lit_rel.specs.SynchronizesWith.{CanSynchronize, Synchronizes}
 use Rattle.lit_rel.proofs.EachLemmas.{SomeBelow, SomeBelow-all}

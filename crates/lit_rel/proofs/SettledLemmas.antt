@@ -4,7 +4,7 @@ use Rattle.std.proofs.lemmas.Bool.{cases_lt}
 use Rattle.std.specs.List.{slice_get}
 use Rattle.std.proofs.lemmas.Option.{get_or_from_slice_get, slice_get-get_or}
 use Rattle.lit_paths.specs.declared.event.Event.{Event}
-use Rattle.lit_paths.specs.declared.sources.ByteRead.{ByteRead}
+use Rattle.lit_paths.specs.declared.byte_reads.ByteRead.{ByteRead}
 use Rattle.lit_paths.specs.ByteReads.{pair_of}
 use Rattle.lit_paths.specs.Numbers.{AreGiven}
 use Rattle.lit_rel.specs.HappensBefore.{Chain, HappensBefore, StepBy}

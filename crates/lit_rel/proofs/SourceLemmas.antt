@@ -7,9 +7,9 @@ use Rattle.std.specs.List.{range_with_len, slice_get, take-map}
 use Rattle.lit_paths.specs.declared.event.Event.{Event}
 use Rattle.lit_paths.specs.Event.{does_read}
 use Rattle.lit_paths.specs.ByteReads.{byte_reads, byte_reads_from, bytes_read_by, pair_of}
-use Rattle.lit_paths.specs.declared.sources.ByteRead.{ByteRead}
+use Rattle.lit_paths.specs.declared.byte_reads.ByteRead.{ByteRead}
 use Rattle.lit_rel.specs.declared.given.SourcedByte.{SourcedByte}
-use Rattle.lit_rel.specs.Parts.Given.{AreFirstReads, read_of, sources_of}
+use Rattle.lit_rel.specs.Internal.Given.{AreFirstReads, read_of, sources_of}
 use Rattle.lit_rel.specs.ReadsFrom.{ReadsByteFrom}
 
 -- what a slice of bytes gives past its end

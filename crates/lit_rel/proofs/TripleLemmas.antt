@@ -5,7 +5,7 @@ use Rattle.std.proofs.lemmas.Bool.{cases_eq}
 use Rattle.std.proofs.lemmas.Option.{none-some, same_Some}
 use Rattle.std.specs.List.{slice_get}
 use Rattle.lit_rel.specs.declared.event_set.EventSet.{EventSet}
-use Rattle.lit_rel.specs.declared.triples.Pair.{Pair}
+use Rattle.lit_rel.specs.declared.between.Pair.{Pair}
 use Rattle.lit_rel.specs.Between.{IsPairOf, ArePairsOf, Forbids}
 use Rattle.lit_rel.specs.EventSet.{HasEvent, no_events}
 use Rattle.lit_rel.proofs.PlaceLemmas.{place-left, place-middle, place-push, place-set_same, place-set_other}

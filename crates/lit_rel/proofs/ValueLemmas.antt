@@ -11,7 +11,7 @@ use Rattle.lit_rel.specs.declared.given.SourcedByte.{SourcedByte}
 use Rattle.lit_paths.specs.declared.event.Event.{Event}
 use Rattle.lit_paths.specs.Event.{does_read, event_at, no_event, payload_at}
 use Rattle.lit_paths.specs.ByteReads.{byte_reads, byte_reads_from, bytes_read_by}
-use Rattle.lit_rel.specs.Parts.Given.{AreFirstReads, read_of, sources_of}
+use Rattle.lit_rel.specs.Internal.Given.{AreFirstReads, read_of, sources_of}
 use Rattle.lit_rel.specs.ReadsFrom.{composed, value_of}
 use Rattle.lit_rel.proofs.SourceLemmas.{read_place}
 

@@ -2,7 +2,7 @@
 use Rattle.std.specs.Prelude.{◌≡◌, ℕ, ◌<◌, List, Some, slice_get}
 use Rattle.std.proofs.Common.{refl}
 use Rattle.std.specs.Coded.{Coded, code_by, coded×, coded_ℕ, coded_list}
-use Rattle.lit_rel.specs.declared.triples.Pair.{Pair}
+use Rattle.lit_rel.specs.declared.between.Pair.{Pair}
 use Rattle.lit_rel.specs.EventSet.{HasEvent}
 
 -- of how many events it is, and the pairs with what may not stand between them

@@ -15,4 +15,4 @@ pub mod DataRace
 pub mod Part
 pub mod Broken
 pub mod WideEvents
-pub mod Parts
+pub mod Internal

@@ -1,6 +1,6 @@
 -- Relations on events as rows of sets (this project's own).
 use Rattle.std.specs.Prelude.{◌≡◌, ◌⊎◌, ℕ, ◌<◌, slice_index_or}
-use Rattle.lit_rel.specs.declared.bit_rows.Rows.{Rows}
+use Rattle.lit_rel.specs.declared.rows.Rows.{Rows}
 use Rattle.lit_rel.specs.EventSet.{HasEvent, no_events}
 
 -- on how many events it is

@@ -1,8 +1,15 @@
 //! The byte reads of a combination that have a source (ECMA-262, 2024, 29.6.2).
 
+pub(crate) mod breaks;
+pub(crate) mod forbidden;
+pub(crate) mod races;
+pub(crate) mod reads;
+pub(crate) mod relations;
+pub(crate) mod values;
+
 ghost use Rattle.std.specs.Prelude.{◌≡◌, ◌≤◌, length};
 ghost use Rattle.lit_paths.specs.declared.limits.TheConstants.{BYTE_READ_LIMIT as READS, EVENT_LIMIT};
-ghost use Rattle.lit_rel.specs.Parts.Given.{AreFirstReads, AreKnown};
+ghost use Rattle.lit_rel.specs.Internal.Given.{AreFirstReads, AreKnown};
 
 use arrayvec::ArrayVec;
 use lit_paths::{BYTE_READ_LIMIT, Event};

@@ -1,5 +1,12 @@
 //! A combination of paths, with sources for its first byte reads.
 
+pub(crate) mod fixed_steps;
+pub(crate) mod levels;
+pub(crate) mod races;
+pub(crate) mod refused;
+pub(crate) mod related;
+pub(crate) mod settled;
+
 ghost use Rattle.std.specs.Prelude.{◌≡◌, ◌↔◌, ℕ, ◌-◌, ◌<◌, ◌≤◌, IsTrue, [], ◌∷◌, ◌++◌, length, take};
 ghost use Rattle.lit_paths.specs.ByteReads.{byte_reads};
 ghost use Rattle.lit_paths.specs.Choice.{AreSources, combinations_of};
@@ -15,10 +22,10 @@ ghost use Rattle.lit_rel.specs.Rows.{Holds, rows_len};
 ghost use Rattle.lit_rel.specs.SynchronizesWith.{Synchronizes};
 ghost use Rattle.lit_rel.specs.TearFree.{HasTearFreeReads};
 
-use crate::bit_rows::Rows;
-use crate::refusing::{has_false_test, is_refused_with};
-use crate::related::Related;
-use crate::triples::Between;
+use crate::between::Between;
+use crate::part::refused::{has_false_test, is_refused_with};
+use crate::part::related::Related;
+use crate::rows::Rows;
 use arrayvec::ArrayVec;
 use lit_paths::{BYTE_READ_LIMIT, Combination, Plan};
 use std::marker::Model;
@@ -35,7 +42,7 @@ pub struct Part<'p> {
 
 impl<'p> Model for Part<'p> {
     ghost use Rattle.lit_rel.specs.Part.{PartModel, coded_part};
-    ghost use Rattle.lit_rel.specs.Parts.Refused.{AreRefusals};
+    ghost use Rattle.lit_rel.specs.Internal.Refused.{AreRefusals};
 
     ghost Value = { PartModel };
 

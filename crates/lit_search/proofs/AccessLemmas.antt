@@ -6,7 +6,7 @@ use Rattle.std.proofs.lemmas.List.{length-take-le}
 use Rattle.lit_read.specs.Syntax.{Window, Uint8, Uint16, Uint32, DataView8, DataView16, DataView32, window_size, is_in_block, Statement, Load, Store, Exchange, CompareExchange, If, IsStatementIn}
 use Rattle.lit_paths.specs.Path.{first_byte, payload_of}
 use Rattle.lit_search.specs.Interleaving.{Contents, after_statement, number_in, with_number}
-use Rattle.lit_search.specs.Searching.Runners.{is_access}
+use Rattle.lit_search.specs.Internal.Runners.{is_access}
 
 -- an access lies in its block
 pub in_block : (bytes : ℕ) (window : Window) (index : ℕ) → IsTrue (is_in_block bytes window index) → first_byte window index + window_size window ≤ bytes

@@ -8,7 +8,7 @@ use Rattle.lit_paths.specs.Path.{Step, LoadMet, StoreMet, ExchangeMet, CompareEx
 use Rattle.lit_paths.specs.Run.{AgreesWith}
 use Rattle.lit_rel.specs.ReadsFrom.{composed}
 use Rattle.lit_search.specs.Interleaving.{Contents, after_statement, number_in, with_number}
-use Rattle.lit_search.specs.Searching.Runners.{is_access}
+use Rattle.lit_search.specs.Internal.Runners.{is_access}
 
 -- ---- events on a block
 -- the number that an event finds in its range

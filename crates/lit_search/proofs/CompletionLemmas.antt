@@ -26,9 +26,9 @@ use Rattle.lit_rel.specs.TearFree.{HasTearFreeReads}
 use Rattle.lit_order.specs.MemoryOrder.{IsMemoryOrder}
 use Rattle.lit_search.specs.Completion.{Completes, IsEntered}
 use Rattle.lit_search.specs.ValidExecution.{IsValidExecution, read_numbers}
-use Rattle.lit_search.specs.Searching.GivenRuns.{AreGivenRuns, HasGivenRun, IsGivenRun}
-use Rattle.lit_search.specs.Searching.Laws.{ChooseForEachRead, Laws}
-use Rattle.lit_search.specs.Searching.Held.{part_outcome, value_held}
+use Rattle.lit_search.specs.Internal.GivenRuns.{AreGivenRuns, HasGivenRun, IsGivenRun}
+use Rattle.lit_search.specs.Internal.Laws.{ChooseForEachRead, Laws}
+use Rattle.lit_search.specs.Internal.Held.{part_outcome, value_held}
 use Rattle.lit_search.proofs.HeldLemmas.{held_by_run, holds, run_where_true, true_of_run}
 use Rattle.lit_search.proofs.RunLemmas.{given_apart, given_together, made, no_path, no_run}
 use Rattle.lit_search.proofs.Takings.{gathered}

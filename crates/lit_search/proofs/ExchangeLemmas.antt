@@ -36,8 +36,8 @@ use Rattle.lit_order.specs.MemoryOrder.{IsMemoryOrder}
 use Rattle.lit_search.specs.Completion.{Completes, IsEntered}
 use Rattle.lit_search.specs.StandsFor.{IsOn, IsUsed, MakesNoDifference, StandsFor}
 use Rattle.lit_search.specs.ValidExecution.{IsValidExecution}
-use Rattle.lit_search.specs.Searching.Held.{part_outcome, read_held, value_held}
-use Rattle.lit_search.specs.Searching.Laws.{Laws}
+use Rattle.lit_search.specs.Internal.Held.{part_outcome, read_held, value_held}
+use Rattle.lit_search.specs.Internal.Laws.{Laws}
 use Rattle.lit_search.proofs.CompletionLemmas.{carried, example, example_completes, example_paths, its_events, its_outcome, not_broken}
 use Rattle.lit_search.proofs.HeldLemmas.{length-init_events}
 use Rattle.lit_search.proofs.PassingLemmas.{AreNamed}

@@ -14,7 +14,7 @@ use Rattle.lit_paths.specs.Run.{AgreesWith, compares}
 use Rattle.lit_paths.proofs.NameSteps.{range_more}
 use Rattle.lit_search.specs.Interleaving.{Contents, Moment, Progress, access_or, accessed, after, after_each, after_end, after_statement, after_turn, beginning, ending, found_by, from_access, from_access_in, left_behind, progress_of}
 use Rattle.lit_search.specs.InTurn.{accesses, made_at_end, made_by_each, made_in_turn, makers_of, next_maker}
-use Rattle.lit_search.specs.Searching.Runners.{is_access}
+use Rattle.lit_search.specs.Internal.Runners.{is_access}
 use Rattle.lit_search.proofs.ActLemmas.{act_agrees, act_block, act_events, act_found, act_owner, act_walked, after_event, event_made, found_before, found_in_turn, is_owned_by, same_agent, step_made}
 use Rattle.lit_search.proofs.CourseLemmas.{agrees_behind, events_behind, lead}
 use Rattle.lit_search.proofs.MakerLemmas.{accesses_from, one_access}

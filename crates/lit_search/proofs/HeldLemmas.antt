@@ -20,8 +20,8 @@ use Rattle.lit_paths.specs.Told.{TellsRuns, chosen_on, is_true_of, read_places, 
 use Rattle.lit_rel.specs.Broken.{number_on}
 use Rattle.lit_rel.specs.ReadsFrom.{value_of}
 use Rattle.lit_search.specs.ValidExecution.{read_numbers_from}
-use Rattle.lit_search.specs.Searching.GivenRuns.{HasGivenRun, IsGivenRun, path_at, taken_by}
-use Rattle.lit_search.specs.Searching.Held.{read_held, value_held}
+use Rattle.lit_search.specs.Internal.GivenRuns.{HasGivenRun, IsGivenRun, path_at, taken_by}
+use Rattle.lit_search.specs.Internal.Held.{read_held, value_held}
 
 pub length-init_events : (bytes : ℕ) → length (init_events bytes) ≡ bytes
 length-init_events bytes = length-map (range_with_len 0 bytes) init_event ∙ length-range_with_len 0 bytes

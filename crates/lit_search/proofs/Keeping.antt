@@ -11,11 +11,11 @@ use Rattle.lit_search.specs.declared.class.Class.{Class}
 use Rattle.lit_search.specs.Class.{GivesClass, HasNoneOf, IsFirstOf, is_of_class}
 use Rattle.lit_search.specs.Collected.{Collected, HasTaken}
 use Rattle.lit_search.specs.Report.{Entry, HasRaceIn, in_either, in_range}
-use Rattle.lit_search.specs.Searching.Examined.{IsExample}
-use Rattle.lit_search.specs.Searching.Merged.{merged}
-use Rattle.lit_search.specs.Searching.Outcomes.{HasOutcome}
-use Rattle.lit_search.specs.Searching.Shown.{IsNext, IsShown, NoneShow}
-use Rattle.lit_search.specs.Searching.Taking.{KeepsRange, MarksRaces}
+use Rattle.lit_search.specs.Internal.Examined.{IsExample}
+use Rattle.lit_search.specs.Internal.Merged.{merged}
+use Rattle.lit_search.specs.Internal.Outcomes.{HasOutcome}
+use Rattle.lit_search.specs.Internal.Shown.{IsNext, IsShown, NoneShow}
+use Rattle.lit_search.specs.Internal.Taking.{KeepsRange, MarksRaces}
 use Rattle.lit_search.proofs.Entries.{cmp, differs}
 use Rattle.lit_search.proofs.MergedEntries.{AreMerged-merged}
 use Rattle.lit_search.proofs.NumberSets.{before_end, either_cases, in_other, in_some, not_below, same_test, within}

@@ -11,8 +11,8 @@ use Rattle.std.specs.declared.cmp.Ordering.{Ordering}
 use Rattle.std.specs.declared.cmp.Ordering.TheVariants.{Less, Equal, Greater}
 use Rattle.std.proofs.lemmas.Map.Lookups.{exact_bytes}
 use Rattle.lit_search.specs.Report.{Entry, outcome_cmp}
-use Rattle.lit_search.specs.Searching.Merged.{lesser, merged}
-use Rattle.lit_search.specs.Searching.Outcomes.{HasOutcome}
+use Rattle.lit_search.specs.Internal.Merged.{lesser, merged}
+use Rattle.lit_search.specs.Internal.Outcomes.{HasOutcome}
 use Rattle.lit_search.proofs.Entries.{AreRising, cmp, cmp_same}
 
 is_equal : (o : Ordering) → IsTrue (is_eq o) → o ≡ Equal

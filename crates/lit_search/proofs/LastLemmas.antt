@@ -8,8 +8,8 @@ use Rattle.lit_paths.specs.Numbers.{NumbersChoices, ways_from}
 use Rattle.lit_paths.specs.Plan.{events_in}
 use Rattle.lit_rel.specs.Part.{part_events}
 use Rattle.lit_search.specs.declared.cursor.Cursor.TheInside.{Inside}
-use Rattle.lit_search.specs.Searching.Places.{Stand, candidates_at, low_at, part_at, sources_at, with_places}
-use Rattle.lit_search.specs.Searching.Standing.{IsStanding}
+use Rattle.lit_search.specs.Internal.Places.{Stand, candidates_at, low_at, part_at, sources_at, with_places}
+use Rattle.lit_search.specs.Internal.Standing.{IsStanding}
 use Rattle.lit_search.proofs.PlaceLemmas.{length-sources, sources_more}
 use Rattle.lit_search.proofs.StandLemmas.{candidates_here, its_end, known_up, left_up, low_up, reads_here, stand_of, ways_here}
 

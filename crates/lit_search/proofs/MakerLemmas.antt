@@ -5,7 +5,7 @@ use Rattle.lit_read.specs.Syntax.{Statement, Statements, Load, Store, Exchange, 
 use Rattle.lit_paths.specs.Run.{compares}
 use Rattle.lit_search.specs.InTurn.{accesses, statement_accesses}
 use Rattle.lit_search.specs.Interleaving.{Contents, access_or, after, after_statement, from_access, from_access_in, joined}
-use Rattle.lit_search.specs.Searching.Runners.{is_access}
+use Rattle.lit_search.specs.Internal.Runners.{is_access}
 use Rattle.lit_search.proofs.NextAccess.{after_in}
 
 accesses-joined : (a b : Statements) (c : Contents) → accesses (joined a b) c ≡ accesses a c + accesses b (after a c)

@@ -11,7 +11,7 @@ use Rattle.std.proofs.lemmas.List.{append-nil, nil_from_length}
 use Rattle.std.proofs.lemmas.Map.Lookups.{exact_bytes}
 use Rattle.lit_search.specs.Report.{Entry, HasEntry, Report, example_cmp, outcome_cmp}
 use Rattle.lit_search.specs.Merge.{AreMerged, HasInEither, IsMerge}
-use Rattle.lit_search.specs.Searching.Merged.{heads_cmp, lesser, merged_from, merged}
+use Rattle.lit_search.specs.Internal.Merged.{heads_cmp, lesser, merged_from, merged}
 use Rattle.lit_search.proofs.Entries.{AreRising, Stands, all_stand, all_from_each, below_rising, first_stands, later_stands, not_after_greater, not_after_itself, once, reversed, same_below, stands_cases, stands_in_none}
 
 -- ---- the lesser of two

@@ -7,7 +7,7 @@ use Rattle.lit_read.specs.Litmus.{statement_of, statements_of}
 use Rattle.lit_read.specs.Syntax.{Statement, Statements, Load, Store, Exchange, CompareExchange, If, End, Then, IsStatementIn, AreStatementsIn}
 use Rattle.lit_paths.specs.Run.{compares}
 use Rattle.lit_search.specs.Interleaving.{joined, access_or, from_access_in, from_access, Contents, Progress, after, after_statement}
-use Rattle.lit_search.specs.Searching.Runners.{ChoosesPart, IsNext, is_access, joined_all}
+use Rattle.lit_search.specs.Internal.Runners.{ChoosesPart, IsNext, is_access, joined_all}
 
 -- ---- statements, and then others
 pub joined_end : (ss : Statements) → joined ss End ≡ ss

@@ -5,15 +5,15 @@ use Rattle.std.proofs.lemmas.Bool.{cases_lt}
 use Rattle.std.proofs.lemmas.List.{length-map}
 use Rattle.std.proofs.lemmas.Option.{get_or_from_slice_get, slice_get_within}
 use Rattle.lit_read.specs.Syntax.{Litmus}
-use Rattle.lit_paths.specs.declared.sources.ByteRead.{ByteRead}
+use Rattle.lit_paths.specs.declared.byte_reads.ByteRead.{ByteRead}
 use Rattle.lit_paths.specs.ByteReads.{byte_reads, pair_of}
 use Rattle.lit_paths.specs.Plan.{events_in}
 use Rattle.lit_search.specs.Report.{in_range}
-use Rattle.lit_search.specs.Searching.Passing.{MayPass, first_places}
-use Rattle.lit_search.specs.Searching.Places.{Stand, behind_at, low_at, part_at, stand_events, with_places}
+use Rattle.lit_search.specs.Internal.Passing.{MayPass, first_places}
+use Rattle.lit_search.specs.Internal.Places.{Stand, behind_at, low_at, part_at, stand_events, with_places}
 use Rattle.lit_rel.specs.Part.{PartModel}
-use Rattle.lit_search.specs.Searching.Shown.{NoneShow}
-use Rattle.lit_search.specs.Searching.Wanting.{AllKnownAfter}
+use Rattle.lit_search.specs.Internal.Shown.{NoneShow}
+use Rattle.lit_search.specs.Internal.Wanting.{AllKnownAfter}
 use Rattle.lit_search.proofs.PlaceLemmas.{passed_more, product_le}
 use Rattle.lit_search.proofs.NumberSets.{before_end, not_below, within}
 

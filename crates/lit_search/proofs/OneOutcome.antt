@@ -13,8 +13,8 @@ use Rattle.lit_paths.proofs.NameSteps.{names_from-within}
 use Rattle.lit_rel.specs.Part.{PartModel, with_sources}
 use Rattle.lit_search.specs.Completion.{Completes, IsEntered}
 use Rattle.lit_search.specs.Report.{Gives}
-use Rattle.lit_search.specs.Searching.Held.{part_outcome}
-use Rattle.lit_search.specs.Searching.Laws.{Laws}
+use Rattle.lit_search.specs.Internal.Held.{part_outcome}
+use Rattle.lit_search.specs.Internal.Laws.{Laws}
 use Rattle.lit_search.proofs.CompletionLemmas.{its_outcome}
 
 -- where a number stands among others that begin at 0

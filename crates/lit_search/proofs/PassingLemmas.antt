@@ -23,12 +23,12 @@ use Rattle.lit_order.specs.Forcing.{HasForcedCycle, IsForced}
 use Rattle.lit_order.specs.MemoryOrder.{IsLeastMemoryOrder, IsOrderOf, StandsBefore}
 use Rattle.lit_search.specs.Completion.{Completes, IsEntered}
 use Rattle.lit_search.specs.ValidExecution.{IsValidExecution}
-use Rattle.lit_search.specs.Searching.Examined.{IsExample}
-use Rattle.lit_search.specs.Searching.Held.{part_outcome, read_held, value_held}
-use Rattle.lit_search.specs.Searching.Laws.{Laws}
-use Rattle.lit_search.specs.Searching.Passing.{HasAll, MayPass, NoneFrom, NoneValid, first_places}
-use Rattle.lit_search.specs.Searching.Places.{ArePlaces, Stand, behind_at, candidates_at, low_at, part_at, sources_at, stand_events, with_places}
-use Rattle.lit_search.specs.Searching.Wanting.{AllKnownAfter, GoesBy}
+use Rattle.lit_search.specs.Internal.Examined.{IsExample}
+use Rattle.lit_search.specs.Internal.Held.{part_outcome, read_held, value_held}
+use Rattle.lit_search.specs.Internal.Laws.{Laws}
+use Rattle.lit_search.specs.Internal.Passing.{HasAll, MayPass, NoneFrom, NoneValid, first_places}
+use Rattle.lit_search.specs.Internal.Places.{ArePlaces, Stand, behind_at, candidates_at, low_at, part_at, sources_at, stand_events, with_places}
+use Rattle.lit_search.specs.Internal.Wanting.{AllKnownAfter, GoesBy}
 use Rattle.lit_search.proofs.CompletionLemmas.{example, example_completes, example_paths, its_events, its_outcome, order_kept}
 use Rattle.lit_order.proofs.SameOrders.{order_back}
 use Rattle.lit_search.proofs.PlaceLemmas.{length-sources, numbered, passed_within, placed_take, ways_end, within}

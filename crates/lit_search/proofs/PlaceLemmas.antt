@@ -9,7 +9,7 @@ use Rattle.lit_paths.specs.ByteReads.{byte_reads}
 use Rattle.lit_paths.specs.Choice.{candidates_of}
 use Rattle.lit_paths.specs.Numbers.{AreNumbered, NumbersChoices, length_product, ways_from}
 use Rattle.lit_paths.specs.Plan.{choices_before, events_in}
-use Rattle.lit_search.specs.Searching.Places.{ArePlaces, candidates_at, passed_at, sources_at}
+use Rattle.lit_search.specs.Internal.Places.{ArePlaces, candidates_at, passed_at, sources_at}
 
 -- ---- products
 pub product_le : (p n m w : ℕ) → p < n → m ≤ w → p * w + m ≤ n * w

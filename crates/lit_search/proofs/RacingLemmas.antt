@@ -15,11 +15,11 @@ use Rattle.lit_rel.specs.Part.{PartModel, part_events}
 use Rattle.lit_rel.proofs.RaceLemmas.{MayRace-iff}
 use Rattle.lit_search.specs.Completion.{Completes, IsEntered}
 use Rattle.lit_search.specs.Report.{Entry, Gives, GivesRace, HasRaceIn, in_either, in_range}
-use Rattle.lit_search.specs.Searching.Laws.{Laws}
-use Rattle.lit_search.specs.Searching.Passing.{HasAll, MayPass, first_places}
-use Rattle.lit_search.specs.Searching.Places.{ArePlaces, Stand, behind_at, low_at, part_at, stand_events}
-use Rattle.lit_search.specs.Searching.Shown.{IsNext}
-use Rattle.lit_search.specs.Searching.Taking.{MarksRaces}
+use Rattle.lit_search.specs.Internal.Laws.{Laws}
+use Rattle.lit_search.specs.Internal.Passing.{HasAll, MayPass, first_places}
+use Rattle.lit_search.specs.Internal.Places.{ArePlaces, Stand, behind_at, low_at, part_at, stand_events}
+use Rattle.lit_search.specs.Internal.Shown.{IsNext}
+use Rattle.lit_search.specs.Internal.Taking.{MarksRaces}
 use Rattle.lit_search.proofs.CompletionLemmas.{carried, its_events}
 use Rattle.lit_search.proofs.NumberSets.{before_end, not_below, within}
 use Rattle.lit_search.proofs.PassingLemmas.{completed, no_rest, whole_stand}

@@ -15,8 +15,8 @@ use Rattle.lit_paths.specs.Execution.{execution_choice, execution_events}
 use Rattle.lit_order.specs.MemoryOrder.{IsLeastMemoryOrder}
 use Rattle.lit_search.specs.Report.{AreEntries, Entry, Gives, GivesRace, HasLeastOrder, HasRaceIn, IsEntry, IsReport, Report, example_cmp, in_either, in_none, in_range}
 use Rattle.lit_search.specs.Merge.{AreMerged, HasInEither, IsMerge}
-use Rattle.lit_search.specs.Searching.Examined.{IsExample}
-use Rattle.lit_search.specs.Searching.Outcomes.{HasOutcome}
+use Rattle.lit_search.specs.Internal.Examined.{IsExample}
+use Rattle.lit_search.specs.Internal.Outcomes.{HasOutcome}
 use Rattle.lit_search.proofs.NumberSets.{before_end, either_cases, in_other, in_some, not_below, same_test, within}
 use Rattle.lit_search.proofs.Entries.{AreRising, Stands, cmp, reversed, same_rising, stands_cases, stands_in_none}
 

@@ -12,7 +12,7 @@ use Rattle.lit_order.specs.MemoryOrder.{IsMemoryOrder}
 use Rattle.lit_search.specs.InTurn.{HasExecution, IsReported}
 use Rattle.lit_search.specs.Interleaving.{interleaved}
 use Rattle.lit_search.specs.Report.{IsReport, Report, in_range}
-use Rattle.lit_search.specs.Searching.Laws.{Laws}
+use Rattle.lit_search.specs.Internal.Laws.{Laws}
 use Rattle.lit_search.specs.Sequential.{IsSequential}
 use Rattle.lit_search.specs.ValidExecution.{HasValidChosenReads, IsValidExecution}
 use Rattle.lit_search.proofs.FutureLemmas.{interleaving_future}

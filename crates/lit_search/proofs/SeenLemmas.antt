@@ -8,9 +8,9 @@ use Rattle.std.proofs.lemmas.Bool.{cases_eq, cases_lt}
 use Rattle.std.proofs.lemmas.Map.Lookups.{exact_bytes}
 use Rattle.lit_read.specs.Syntax.{Litmus}
 use Rattle.lit_search.specs.Report.{Entry, Gives, example_cmp, in_range, outcome_cmp}
-use Rattle.lit_search.specs.Searching.Merged.{lesser, merged, merged_from}
-use Rattle.lit_search.specs.Searching.Outcomes.{HasOutcome}
-use Rattle.lit_search.specs.Searching.Shown.{IsNext, NoneShow, ShowsNone}
+use Rattle.lit_search.specs.Internal.Merged.{lesser, merged, merged_from}
+use Rattle.lit_search.specs.Internal.Outcomes.{HasOutcome}
+use Rattle.lit_search.specs.Internal.Shown.{IsNext, NoneShow, ShowsNone}
 use Rattle.lit_search.proofs.NumberSets.{before_end, not_below, within}
 
 -- one of these entries has the outcome

@@ -13,8 +13,8 @@ use Rattle.lit_paths.specs.Plan.{AreEventsIn, ListsCandidates, choices_before, e
 use Rattle.lit_rel.specs.Part.{IsNextSource, PartModel, part_events, with_sources}
 use Rattle.lit_search.specs.declared.cursor.Cursor.TheInside.{Inside}
 use Rattle.lit_search.specs.Completion.{IsEntered}
-use Rattle.lit_search.specs.Searching.Places.{ArePlaces, Stand, behind_at, candidates_at, low_at, part_at, passed_at, sources_at, stand_events, with_places}
-use Rattle.lit_search.specs.Searching.Standing.{IsStanding}
+use Rattle.lit_search.specs.Internal.Places.{ArePlaces, Stand, behind_at, candidates_at, low_at, part_at, passed_at, sources_at, stand_events, with_places}
+use Rattle.lit_search.specs.Internal.Standing.{IsStanding}
 use Rattle.lit_search.proofs.PlaceLemmas.{length-sources, passed_more, placed_front, placed_last, placed_more, sources_more, ways_end, ways_split, within}
 
 -- a law on numbers

@@ -14,7 +14,7 @@ use Rattle.std.proofs.lemmas.Option.{get_or_from_slice_get, none-some, same_Some
 use Rattle.lit_read.specs.Syntax.{Litmus}
 use Rattle.lit_paths.specs.declared.event.Event.{Event}
 use Rattle.lit_paths.specs.declared.event.Order3.TheVariants.{Unordered}
-use Rattle.lit_paths.specs.declared.sources.ByteRead.{ByteRead}
+use Rattle.lit_paths.specs.declared.byte_reads.ByteRead.{ByteRead}
 use Rattle.lit_paths.specs.ByteReads.{IsCandidate, byte_read_at, byte_reads, pair_of}
 use Rattle.lit_paths.specs.Event.{HasByte, does_write, event_at, payload_at}
 use Rattle.lit_paths.specs.Choice.{Choice, ListsChoices, choice_cmp, choices_of}
@@ -24,7 +24,7 @@ use Rattle.lit_paths.specs.Path.{Path}
 use Rattle.lit_paths.specs.Plan.{AreEventsIn, ListsCandidates, events_in}
 use Rattle.lit_paths.specs.Run.{run_path}
 use Rattle.lit_rel.specs.InitReads.{with_source}
-use Rattle.lit_rel.specs.declared.bit_rows.Rows.{Rows}
+use Rattle.lit_rel.specs.declared.rows.Rows.{Rows}
 use Rattle.lit_rel.specs.Broken.{IsBroken}
 use Rattle.lit_rel.specs.HappensBefore.{HappensBefore}
 use Rattle.lit_rel.specs.Part.{AreFirstSources, PartModel, part_events}
@@ -33,11 +33,11 @@ use Rattle.lit_rel.specs.Settled.{HasSettledPast}
 use Rattle.lit_search.specs.Completion.{Completes, IsEntered}
 use Rattle.lit_search.specs.Report.{Gives, in_range}
 use Rattle.lit_search.specs.StandsFor.{HasStandIn, IsUsed, MakesNoDifference}
-use Rattle.lit_search.specs.Searching.Laws.{Laws}
-use Rattle.lit_search.specs.Searching.Passing.{MayPass, NoneFrom, first_places}
-use Rattle.lit_search.specs.Searching.Places.{ArePlaces, Stand, behind_at, candidates_at, low_at, part_at, sources_at, stand_events}
-use Rattle.lit_search.specs.Searching.Shown.{NoneShow, ShowsNone}
-use Rattle.lit_search.specs.Searching.StoodFor.{IsStoodFor}
+use Rattle.lit_search.specs.Internal.Laws.{Laws}
+use Rattle.lit_search.specs.Internal.Passing.{MayPass, NoneFrom, first_places}
+use Rattle.lit_search.specs.Internal.Places.{ArePlaces, Stand, behind_at, candidates_at, low_at, part_at, sources_at, stand_events}
+use Rattle.lit_search.specs.Internal.Shown.{NoneShow, ShowsNone}
+use Rattle.lit_search.specs.Internal.StoodFor.{IsStoodFor}
 use Rattle.lit_search.proofs.ExchangeLemmas.{past_stays, same_list, same_lists, stand_in}
 use Rattle.lit_search.proofs.PassingLemmas.{at_numbers, completed, whole_stand}
 use Rattle.lit_search.proofs.PlaceLemmas.{length-sources, placed_take}

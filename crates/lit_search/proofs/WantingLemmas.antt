@@ -7,7 +7,7 @@ use Rattle.lit_paths.specs.Outcome.{all_hold, any_holds, asks, holds, meets, nam
 use Rattle.lit_search.specs.declared.class.Class.{Class}
 use Rattle.lit_search.specs.declared.class.Class.TheVariants.{Met, Unmet}
 use Rattle.lit_search.specs.Class.{is_of_class}
-use Rattle.lit_search.specs.Searching.Wanting.{GoesBy}
+use Rattle.lit_search.specs.Internal.Wanting.{GoesBy}
 
 -- maps that agree on a list
 pub same_maps : {f g : ℕ × ℕ → ℕ} (ns : List (ℕ × ℕ)) → ((k : ℕ) (name : ℕ × ℕ) → slice_get ns k ≡ Some name → f name ≡ g name) → map f ns ≡ map g ns

@@ -5,7 +5,7 @@ pub mod Report
 pub mod Merge
 pub mod Collected
 pub mod Class
-pub mod Searching
+pub mod Internal
 pub mod Entry
 pub mod Found
 pub mod Interleaving

@@ -2,7 +2,7 @@
 
 ghost use Rattle.std.specs.Prelude.{IsTrue};
 
-use crate::wanted::Wanted;
+use crate::cursor::wanted::Wanted;
 use lit_paths::Plan;
 
 /// A class of outcomes, by the test's condition.

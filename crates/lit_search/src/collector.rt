@@ -1,20 +1,23 @@
 //! What is found while ranges of choices are taken, one after the other.
 
+pub(crate) mod kept;
+
 ghost use Rattle.std.specs.Prelude.{◌≡◌, ◌↔◌, ◌⊎◌, ℕ, ◌+◌, ◌≤◌, Bool, IsTrue, length, OnOk};
 ghost use Rattle.lit_paths.specs.Choice.{choices_of};
 ghost use Rattle.lit_paths.specs.Plan.{choices_before};
 ghost use Rattle.lit_rel.specs.DataRace.{HasDataRace};
 ghost use Rattle.lit_rel.specs.Part.{part_events};
 ghost use Rattle.lit_search.specs.Report.{HasRaceIn, in_range};
-ghost use Rattle.lit_search.specs.Searching.Places.{low_at};
-ghost use Rattle.lit_search.specs.Searching.Taking.{KeepsRange, MarksRaces};
+ghost use Rattle.lit_search.specs.Internal.Places.{low_at};
+ghost use Rattle.lit_search.specs.Internal.Taking.{KeepsRange, MarksRaces};
 
-use crate::completing::laws;
+use crate::collector::kept::Kept;
 use crate::cursor::Cursor;
-use crate::found::{Found, SearchFault};
-use crate::holding::known_after;
-use crate::kept::Kept;
-use crate::racing::has_race_in;
+use crate::cursor::held::known_after;
+use crate::cursor::racing::has_race_in;
+use crate::fault::SearchFault;
+use crate::found::Found;
+use crate::laws::completions::laws;
 use lit_paths::Plan;
 use lit_rel::Part;
 use std::alloc::{AllocError, Global};

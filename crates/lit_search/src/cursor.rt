@@ -1,15 +1,23 @@
 //! Going through the choices of a combination, source by source.
 
+pub(crate) mod held;
+pub(crate) mod passing;
+pub(crate) mod racing;
+pub(crate) mod standing_in;
+pub(crate) mod used;
+pub(crate) mod wanted;
+
 ghost use Rattle.std.specs.Prelude.{◌≡◌, ◌↔◌, ◌+◌, ◌-◌, ◌<◌, ◌≤◌, Some, IsTrue, IsFalse, [], ◌∷◌, ◌++◌, length, slice_get, take};
 ghost use Rattle.lit_paths.specs.ByteReads.{byte_reads};
 ghost use Rattle.lit_paths.specs.Choice.{combinations_of};
 ghost use Rattle.lit_paths.specs.declared.limits.TheConstants.{EVENT_LIMIT};
 ghost use Rattle.lit_paths.specs.Plan.{choices_before};
 ghost use Rattle.lit_search.specs.Completion.{IsEntered};
-ghost use Rattle.lit_search.specs.Searching.Places.{ArePlaces, behind_at, candidates_at, low_at, part_at, stand_events, with_places};
+ghost use Rattle.lit_search.specs.Internal.Places.{ArePlaces, behind_at, candidates_at, low_at, part_at, stand_events, with_places};
 
 use arrayvec::ArrayVec;
-use lit_paths::{BYTE_READ_LIMIT, Plan, choices_have_numbers};
+use lit_paths::laws::choices_have_numbers;
+use lit_paths::{BYTE_READ_LIMIT, Plan};
 use lit_rel::Part;
 use std::marker::Model;
 
@@ -27,8 +35,8 @@ pub(crate) struct Cursor<'p> {
 }
 
 impl<'p> Model for Cursor<'p> {
-    ghost use Rattle.lit_search.specs.Searching.Places.{Stand, coded_stand};
-    ghost use Rattle.lit_search.specs.Searching.Standing.{IsStanding};
+    ghost use Rattle.lit_search.specs.Internal.Places.{Stand, coded_stand};
+    ghost use Rattle.lit_search.specs.Internal.Standing.{IsStanding};
 
     ghost Value = { Stand };
 

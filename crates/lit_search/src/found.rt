@@ -1,14 +1,12 @@
 //! The outcomes found, each with its example.
 
-ghost use Rattle.std.specs.Prelude.{◌≡◌, length};
+pub(crate) mod merging;
 
 use arrayvec::ArrayVec;
 use lit_order::Order;
 use lit_paths::NAME_LIMIT;
-use std::alloc::{AllocError, AllocFailed};
 use std::boxed::{Box, BoxedSlice};
 use std::marker::Model;
-use thiserror::Error;
 
 /// The last values of the registers of an outcome, one for each of `Plan::names` and in that order.
 pub type Outcome = ArrayVec<u32, NAME_LIMIT>;
@@ -20,36 +18,6 @@ pub struct Example {
     pub choice: u64,
     /// Its memory-order: the number of each event of the choice, once.
     pub order: Order,
-}
-
-/// Why a search gave no report.
-#[derive(Clone, Copy, Debug, PartialEq, Eq, Error)]
-pub enum SearchFault {
-    /// A growth was refused.
-    #[error("out_of_memory")]
-    OutOfMemory,
-}
-
-impl From<AllocError> for SearchFault {
-    ghost use Rattle.std.specs.Prelude.{◌≡◌};
-    ghost use Rattle.lit_search.specs.declared.found.SearchFault.TheVariants.{OutOfMemory};
-
-    ghost from_gives = { λ _ e. e ≡ OutOfMemory };
-
-    fn from(_e: AllocError) -> SearchFault {
-        SearchFault::OutOfMemory
-    }
-}
-
-impl<T: Drop> From<AllocFailed<T>> for SearchFault {
-    ghost use Rattle.std.specs.Prelude.{◌≡◌};
-    ghost use Rattle.lit_search.specs.declared.found.SearchFault.TheVariants.{OutOfMemory};
-
-    ghost from_gives = { λ _ e. e ≡ OutOfMemory };
-
-    fn from(_e: AllocFailed<T>) -> SearchFault {
-        SearchFault::OutOfMemory
-    }
 }
 
 /// An outcome with its example, each in a room of its own, so that a map or list of entries holds four words for each.

@@ -1,11 +1,15 @@
 //! Interleavings: a test's agents in turns, on one block.
 
+pub(crate) mod block;
+pub(crate) mod deciding;
+pub(crate) mod runner;
+
 ghost use Rattle.std.specs.Prelude.{◌≡◌, ◌<◌, All, IfOk, length, map};
 ghost use Rattle.lit_paths.specs.Outcome.{outcome_of};
 ghost use Rattle.lit_search.specs.Interleaving.{beginning, interleaved};
 
-use crate::found::SearchFault;
-use crate::runner::Runner;
+use crate::fault::SearchFault;
+use crate::interleaving::runner::Runner;
 use lit_paths::written_names;
 use lit_read::Test;
 use std::alloc::{AllocError, Global};

@@ -1,11 +1,22 @@
-//! Laws of reports.
+//! What holds of reports, of parts and their completions, and of schedules. The functions do nothing: their contracts are
+//! theorems.
+
+pub(crate) mod completions;
+mod schedules;
+mod sequential;
 
 ghost use Rattle.std.specs.Prelude.{◌≡◌, ℕ, ◌<◌, Bool, List, length};
 ghost use Rattle.lit_read.specs.Syntax.{Litmus, IsLitmus};
 ghost use Rattle.lit_paths.specs.Choice.{choices_of};
 ghost use Rattle.lit_search.specs.Report.{Report, Gives, IsReport};
 
-use crate::completing::laws;
+use crate::laws::completions::laws;
+pub use completions::{
+    broken_parts_have_no_completion, init_stands_for_sources, orders_of_completions_keep_parts,
+    settled_pasts_are_final, whole_parts_are_decided_by_orders,
+};
+pub use schedules::{interleavings_are_reported, interleavings_are_valid, reports_have_an_entry};
+pub use sequential::sequential_executions_are_valid;
 
 /// A set of choices has one report.
 pub fn reports_are_unique()

@@ -8,8 +8,9 @@ ghost use Rattle.lit_search.specs.Report.{IsReport, in_range};
 use crate::class::Class;
 use crate::collector::Collector;
 use crate::cursor::Cursor;
-use crate::found::{Found, SearchFault};
-use crate::holding::known_after;
+use crate::cursor::held::known_after;
+use crate::fault::SearchFault;
+use crate::found::Found;
 use lit_paths::Plan;
 use std::alloc::Global;
 

@@ -5,9 +5,9 @@ use Rattle.lit_desk.specs.Desk.{DeskName, PlaceLists}
 use Rattle.lit_read.specs.Syntax.{Litmus}
 use Rattle.lit_search.specs.Report.{Report}
 use Rattle.lit_share.specs.declared.fault.ShareFault.{ShareFault}
-use Rattle.lit_share.specs.declared.workers.Worker.{Worker}
-use Rattle.lit_share.specs.declared.workers.Worker.TheVariants.{Ready, Ended, Away}
-use Rattle.lit_share.specs.Workers.{HasSearched, HasHunted}
+use Rattle.lit_share.specs.declared.worker.Worker.{Worker}
+use Rattle.lit_share.specs.declared.worker.Worker.TheVariants.{Ready, Ended, Away}
+use Rattle.lit_share.specs.Internal.Workers.{HasSearched, HasHunted}
 
 -- ---- a worker whose call has ended has its place back
 pub searched_ended : {P : Type 0} (t : Litmus) (cut : ℕ) (desk : DeskName) (w : Worker P (Result Report ShareFault)) → HasSearched t cut desk w

@@ -15,7 +15,7 @@ use Rattle.lit_search.specs.Report.{Entry, Report, Gives, HasLeastOrder, IsRepor
 use Rattle.lit_search.proofs.NumberSets.{before_end, not_below, within}
 use Rattle.lit_share.specs.Pieces.{pieces_of, in_piece, piece_start, piece_end}
 use Rattle.lit_share.specs.Hunted.{desk_class, IsHunted}
-use Rattle.lit_share.specs.Workers.{IsHuntedOut}
+use Rattle.lit_share.specs.Internal.Workers.{IsHuntedOut}
 use Rattle.lit_share.proofs.Ending.{any_of_all}
 use Rattle.lit_share.proofs.Cutting.{piece_at}
 

@@ -13,7 +13,7 @@ use Rattle.lit_search.specs.declared.class.Class.TheVariants as of_test
 use Rattle.lit_search.specs.Class.{GivesClass}
 use Rattle.lit_share.specs.Drawn.{since, drawn_since}
 use Rattle.lit_share.specs.Hunted.{desk_class, IsHunted, HasTold}
-use Rattle.lit_share.specs.Workers.{IsHuntedOut}
+use Rattle.lit_share.specs.Internal.Workers.{IsHuntedOut}
 use Rattle.lit_share.proofs.Rising.{since_more, grown_more}
 
 -- ---- a ticket leaves what was told and seen

@@ -2,4 +2,4 @@ pub mod Pieces
 pub mod Drawn
 pub mod Hunted
 pub mod Quick
-pub mod Workers
+pub mod Internal

@@ -10,20 +10,27 @@ ghost use Rattle.lit_search.specs.Class.{HasNoneOf, IsFirstOf};
 ghost use Rattle.lit_search.specs.Report.{Gives, HasLeastOrder, in_range};
 ghost use Rattle.lit_share.specs.Pieces.{pieces_of};
 ghost use Rattle.lit_share.specs.Quick.{IsQuickAnswer};
-ghost use Rattle.lit_share.specs.Workers.{IsReady, HasHunted, IsHuntedOut};
+ghost use Rattle.lit_share.specs.Internal.Workers.{IsReady, HasHunted, IsHuntedOut};
 
-use crate::answer::Quick;
 use crate::fault::ShareFault;
 use crate::gate::Gate;
 use crate::hunting::hunt;
 use crate::limits::CUT_LIMIT;
-use crate::workers::{Worker, workers_at};
+use crate::worker::{Worker, workers_at};
 use lit_desk::{Desk, Place};
 use lit_paths::Plan;
 use lit_search::{Class, Example, search_range};
 use std::alloc::Global;
 use std::mem;
 use std::thread::{Threads, join_mut};
+
+/// The least choice of a valid execution whose outcome meets the condition, with its least memory-order, and the least
+/// of one whose outcome does not.
+#[derive(Debug, PartialEq, Eq, Drop)]
+pub struct Quick {
+    pub met: Option<Example>,
+    pub unmet: Option<Example>,
+}
 
 /// A worker of a quick search. It answers nothing: what it found it tells the desk.
 type Hunter<P> = Worker<P, ()>;

@@ -6,24 +6,21 @@
 //! definitions stand in `specs/`: `Pieces`, `Drawn`, `Hunted` and `Quick`.
 #![tactic(auto)]
 
-mod answer;
 mod asking;
 mod fault;
 mod gate;
 mod hunting;
-mod laws;
+pub mod laws;
 mod limits;
 mod pieces;
 mod searching;
-mod workers;
+mod worker;
 mod working;
 
-pub use answer::Quick;
-pub use asking::quick;
+pub use asking::{Quick, quick};
 pub use fault::ShareFault;
 pub use gate::{Gate, OpenGate};
 pub use hunting::hunt;
-pub use laws::pieces_cover_once;
 pub use limits::{CUT_LIMIT, WORKER_LIMIT};
 pub use searching::search;
 pub use working::work;

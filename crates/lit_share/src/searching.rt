@@ -7,12 +7,12 @@ ghost use Rattle.lit_desk.specs.Desk.{IsPlaceOf, IsDone, all_draws};
 ghost use Rattle.lit_desk.specs.declared.limits.TheConstants.{MOST_SEATS};
 ghost use Rattle.lit_search.specs.Report.{IsReport, in_range};
 ghost use Rattle.lit_share.specs.Pieces.{in_pieces, pieces_of};
-ghost use Rattle.lit_share.specs.Workers.{IsReady, HasSearched};
+ghost use Rattle.lit_share.specs.Internal.Workers.{IsReady, HasSearched};
 
 use crate::fault::ShareFault;
 use crate::gate::Gate;
 use crate::limits::CUT_LIMIT;
-use crate::workers::{Worker, workers_at};
+use crate::worker::{Worker, workers_at};
 use crate::working::work;
 use lit_desk::{Desk, Place};
 use lit_paths::Plan;

@@ -2,10 +2,11 @@
 
 use super::assert_pairs;
 use lit_paths::EVENT_LIMIT;
-use lit_rel::{
-    Between, EventSet, Rows, mixed_sizes_never_synchronize, never_reads_itself, races_are_foreseen,
+use lit_rel::laws::{
+    mixed_sizes_never_synchronize, never_reads_itself, races_are_foreseen,
     relations_grow_with_bytes, typed_load_mixes_with_init_only, values_stay, viewed_load_mixes,
 };
+use lit_rel::{Between, EventSet, Rows};
 
 /// The number of the last event that there may be.
 const LAST: usize = EVENT_LIMIT - 1;

@@ -1,7 +1,7 @@
 use Rattle.std.proofs.Common.{List, ℕ, sym, subst}
 use Rattle.jslit.specs.Answer.{HasBegun, IsFaultOn}
 use Rattle.jslit.specs.Counted.{device_of, failures_of}
-use Rattle.jslit.specs.Steps.Reading.{IsReadFailure}
+use Rattle.jslit.specs.Internal.Reading.{IsReadFailure}
 use Rattle.jslit.proofs.Refusals.{if_err, of_any_text, read_failed, not_output}
 use Rattle.jslit.proofs.engine.run.Goals as goal
 

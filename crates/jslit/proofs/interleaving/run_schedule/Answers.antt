@@ -1,7 +1,7 @@
 use Rattle.std.proofs.Common.{List, ℕ, sym, subst}
 use Rattle.jslit.specs.InterleavingAnswer.{HasInterleavedSome, IsScheduleFaultOn}
 use Rattle.jslit.specs.Counted.{device_of, failures_of}
-use Rattle.jslit.specs.Steps.Reading.{IsReadFailure}
+use Rattle.jslit.specs.Internal.Reading.{IsReadFailure}
 use Rattle.jslit.proofs.Refusals.{if_err, of_any_text, read_failed, not_output}
 use Rattle.jslit.proofs.interleaving.run_schedule.Goals as goal
 

@@ -1,6 +1,6 @@
 use Rattle.std.proofs.Common.{◌≡◌, ◌⊎◌, ◌<◌, ℕ, Some}
 use Rattle.std.specs.List.{slice_get}
-use Rattle.lit_rel.specs.declared.triples.Pair.{Pair}
+use Rattle.lit_rel.specs.declared.between.Pair.{Pair}
 use Rattle.lit_rel.specs.EventSet.{HasEvent}
 use Rattle.lit_order.proofs.constraints.allows.Given as goal
 

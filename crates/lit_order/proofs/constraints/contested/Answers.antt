@@ -2,9 +2,9 @@ use Rattle.std.proofs.Common.{◌<◌, ◌≤◌, List, arith, inl, inr, sym, ap
 use Rattle.std.proofs.lemmas.Bool.{cases_eq}
 use Rattle.std.proofs.lemmas.Option.{get_or_from_slice_get, slice_get-get_or, slice_get_within}
 use Rattle.std.specs.List.{slice_get}
-use Rattle.lit_rel.specs.declared.triples.Pair.{Pair}
+use Rattle.lit_rel.specs.declared.between.Pair.{Pair}
 use Rattle.lit_rel.specs.EventSet.{HasEvent, no_events}
-use Rattle.lit_order.specs.Finding.Contested.{IsContested}
+use Rattle.lit_order.specs.Internal.Contested.{IsContested}
 use Rattle.lit_order.proofs.constraints.contested.Goals as goal
 
 -- what a slice of pairs gives past its end

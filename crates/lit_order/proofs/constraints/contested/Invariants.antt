@@ -1,6 +1,6 @@
 use Rattle.std.proofs.Common.{◌<◌, ℕ}
 use Rattle.lit_rel.specs.EventSet.{HasEvent}
-use Rattle.lit_order.specs.Finding.Contested.{IsContested}
+use Rattle.lit_order.specs.Internal.Contested.{IsContested}
 use Rattle.lit_order.proofs.constraints.contested.Given as goal
 
 abbrev pub invariant-loop-pair : goal.invariant-loop-pair

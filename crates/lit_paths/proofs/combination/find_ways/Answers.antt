@@ -1,6 +1,6 @@
 use Rattle.std.proofs.Common.{arith, ap, sym, ◌∙◌, map, List, [], ◌∷◌, ◌++◌, ℕ, length, subst, take}
 use Rattle.std.proofs.lemmas.List.{map-append, length-map, length-take-le}
-use Rattle.lit_paths.specs.Planning.CandidateLists.{candidates_for}
+use Rattle.lit_paths.specs.Internal.CandidateLists.{candidates_for}
 use Rattle.lit_paths.proofs.WaySteps.{AreFormed, formed_none, some_way, formed_more, formed_all, behind_all}
 use Rattle.lit_paths.proofs.combination.find_ways.Goals as goal
 

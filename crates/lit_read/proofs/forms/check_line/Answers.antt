@@ -1,5 +1,5 @@
 use Rattle.std.proofs.Common.{sym}
-use Rattle.lit_read.specs.Reading.Views.{token_views, mark_views}
+use Rattle.lit_read.specs.Internal.Views.{token_views, mark_views}
 use Rattle.lit_read.proofs.LineForms.{no_check, check_found, check_absent}
 use Rattle.lit_read.proofs.forms.check_line.Goals as goal
 

@@ -1,5 +1,5 @@
 use Rattle.std.proofs.Common.{sym, refl}
-use Rattle.lit_read.specs.Reading.Views.{token_views, form_view}
+use Rattle.lit_read.specs.Internal.Views.{token_views, form_view}
 use Rattle.lit_read.proofs.FormLemmas.{fixed_form_is}
 use Rattle.lit_read.proofs.LineForms.{form_absent, if_none_weaker}
 use Rattle.lit_read.proofs.forms.form_of.Goals as goal

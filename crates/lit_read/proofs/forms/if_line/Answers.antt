@@ -1,5 +1,5 @@
-use Rattle.lit_read.specs.Reading.FormOfTokens.{if_line, front}
-use Rattle.lit_read.specs.Reading.Views.{token_views}
+use Rattle.lit_read.specs.Internal.FormOfTokens.{if_line, front}
+use Rattle.lit_read.specs.Internal.Views.{token_views}
 use Rattle.lit_read.proofs.RowLemmas.{ended_view}
 use Rattle.lit_read.proofs.forms.if_line.Goals as goal
 

@@ -2,8 +2,8 @@ use Rattle.std.proofs.Common.{◌≡◌, ◌<◌, ◌+◌, ℕ, List, Option, So
 use Rattle.std.specs.Prelude.{IfSome}
 use Rattle.std.specs.Option.{option_map}
 use Rattle.lit_read.specs.declared.fault.ReadKind.TheVariants.{TooLong, MissingPart}
-use Rattle.lit_read.specs.Reading.State.{State}
-use Rattle.lit_read.specs.Reading.Views.{state_view}
+use Rattle.lit_read.specs.Internal.State.{State}
+use Rattle.lit_read.specs.Internal.Views.{state_view}
 use Rattle.lit_read.proofs.Progress.{Progress, progress_begins, progress_goes_on, progress_fails, progress_spells, progress_ends, number_fits, too_long, refused}
 use Rattle.lit_read.proofs.reading.read.Goals as goal
 

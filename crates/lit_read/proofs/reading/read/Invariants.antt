@@ -1,6 +1,6 @@
 use Rattle.std.proofs.Common.{length, ◌+◌, unwrap_or}
 use Rattle.std.specs.Option.{option_map}
-use Rattle.lit_read.specs.Reading.Views.{state_view}
+use Rattle.lit_read.specs.Internal.Views.{state_view}
 use Rattle.lit_read.proofs.Progress.{Progress}
 use Rattle.lit_read.proofs.reading.read.Given as goal
 

@@ -1,8 +1,8 @@
 use Rattle.std.proofs.Common.{◌≡◌, true, false, sym, ◌∙◌, Some, ◌∷◌, []}
 use Rattle.std.proofs.lemmas.List.{map-append}
 use Rattle.lit_read.specs.Tokens.{is_comment}
-use Rattle.lit_read.specs.Reading.FirstToken.{token_front, after_blanks}
-use Rattle.lit_read.specs.Reading.Views.{token_views, token_view}
+use Rattle.lit_read.specs.Internal.FirstToken.{token_front, after_blanks}
+use Rattle.lit_read.specs.Internal.Views.{token_views, token_view}
 use Rattle.lit_read.proofs.Cuttings.{cutting_ends, cutting_fails, cutting_goes_on, cut_shorter}
 use Rattle.lit_read.proofs.tokens.tokens_of.Goals as goal
 

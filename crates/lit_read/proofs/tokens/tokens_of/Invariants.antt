@@ -1,5 +1,5 @@
 use Rattle.std.proofs.Common.{length}
-use Rattle.lit_read.specs.Reading.Views.{token_views}
+use Rattle.lit_read.specs.Internal.Views.{token_views}
 use Rattle.lit_read.proofs.Cuttings.{Cutting}
 use Rattle.lit_read.proofs.tokens.tokens_of.Given as goal
 

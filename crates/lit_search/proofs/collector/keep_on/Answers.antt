@@ -2,8 +2,8 @@ use Rattle.std.proofs.Common.{refl, ap, ◌∙◌, sym, arith, length, ℕ, ◌+
 use Rattle.lit_paths.specs.ByteReads.{byte_reads}
 use Rattle.lit_paths.specs.Plan.{choices_before}
 use Rattle.lit_rel.specs.Part.{PartModel, part_events}
-use Rattle.lit_search.specs.Searching.Shown.{shown_entry}
-use Rattle.lit_search.specs.Searching.Outcomes.{HasOutcome}
+use Rattle.lit_search.specs.Internal.Shown.{shown_entry}
+use Rattle.lit_search.specs.Internal.Outcomes.{HasOutcome}
 use Rattle.lit_search.proofs.Keeping.{keeps_none, keeps_joined, keeps_next, keeps_passed}
 use Rattle.lit_search.proofs.NextLemmas.{known_as, known_at, none_at_first, same_reads}
 use Rattle.lit_search.proofs.RacingLemmas.{marks_joined, marks_next, marks_none}

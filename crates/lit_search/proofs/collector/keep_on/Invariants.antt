@@ -1,9 +1,9 @@
 use Rattle.std.proofs.Common.{◌≡◌, ◌-◌, ◌≤◌}
 use Rattle.lit_search.specs.Report.{in_range}
-use Rattle.lit_search.specs.Searching.Outcomes.{HasOutcome}
-use Rattle.lit_search.specs.Searching.Places.{low_at}
-use Rattle.lit_search.specs.Searching.Shown.{NoneShow}
-use Rattle.lit_search.specs.Searching.Taking.{KeepsRange, MarksRaces}
+use Rattle.lit_search.specs.Internal.Outcomes.{HasOutcome}
+use Rattle.lit_search.specs.Internal.Places.{low_at}
+use Rattle.lit_search.specs.Internal.Shown.{NoneShow}
+use Rattle.lit_search.specs.Internal.Taking.{KeepsRange, MarksRaces}
 use Rattle.lit_search.proofs.collector.keep_on.Given as goal
 
 abbrev pub invariant-loop-next : goal.invariant-loop-next

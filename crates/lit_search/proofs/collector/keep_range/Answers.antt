@@ -1,8 +1,8 @@
 use Rattle.std.proofs.Common.{◌≡◌, ◌≤◌, ℕ, ◌+◌, subst, ap, arith}
 use Rattle.lit_read.specs.Syntax.{Litmus}
 use Rattle.lit_paths.specs.Plan.{choices_before}
-use Rattle.lit_search.specs.Searching.Places.{Stand, low_at}
-use Rattle.lit_search.specs.Searching.Taking.{KeepsRange, MarksRaces}
+use Rattle.lit_search.specs.Internal.Places.{Stand, low_at}
+use Rattle.lit_search.specs.Internal.Taking.{KeepsRange, MarksRaces}
 use Rattle.lit_search.proofs.Keeping.{keeps_none, keeps_joined}
 use Rattle.lit_search.proofs.RacingLemmas.{marks_joined, marks_none}
 use Rattle.lit_search.proofs.collector.keep_range.Goals as goal

@@ -1,7 +1,7 @@
 use Rattle.std.proofs.Common.{◌≡◌, ◌+◌, ◌-◌, ◌<◌, ◌≤◌}
 use Rattle.lit_paths.specs.Plan.{choices_before}
-use Rattle.lit_search.specs.Searching.Places.{low_at}
-use Rattle.lit_search.specs.Searching.Taking.{KeepsRange, MarksRaces}
+use Rattle.lit_search.specs.Internal.Places.{low_at}
+use Rattle.lit_search.specs.Internal.Taking.{KeepsRange, MarksRaces}
 use Rattle.lit_search.proofs.collector.keep_range.Given as goal
 
 abbrev pub invariant-loop-next : goal.invariant-loop-next

@@ -3,8 +3,8 @@ use Rattle.std.specs.Prelude.{IsTrue}
 use Rattle.lit_read.specs.Syntax.{Litmus}
 use Rattle.lit_paths.specs.Plan.{choices_before}
 use Rattle.lit_search.specs.Class.{is_of_class}
-use Rattle.lit_search.specs.Searching.Shown.{shown_entry}
-use Rattle.lit_search.specs.Searching.Places.{Stand, low_at}
+use Rattle.lit_search.specs.Internal.Shown.{shown_entry}
+use Rattle.lit_search.specs.Internal.Places.{Stand, low_at}
 use Rattle.lit_search.proofs.NextLemmas.{known_at, none_at_first}
 use Rattle.lit_search.proofs.Keeping.{none_behind, first_found}
 use Rattle.lit_search.proofs.NumberSets.{before_end, not_below}

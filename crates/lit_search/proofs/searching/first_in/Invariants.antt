@@ -2,7 +2,7 @@ use Rattle.std.proofs.Common.{◌≡◌, ◌+◌, ◌-◌, ◌<◌, ◌≤◌}
 use Rattle.lit_paths.specs.Plan.{choices_before}
 use Rattle.lit_search.specs.Class.{HasNoneOf}
 use Rattle.lit_search.specs.Report.{in_range}
-use Rattle.lit_search.specs.Searching.Places.{low_at}
+use Rattle.lit_search.specs.Internal.Places.{low_at}
 use Rattle.lit_search.proofs.searching.first_in.Given as goal
 
 abbrev pub invariant-loop-next : goal.invariant-loop-next

@@ -2,7 +2,7 @@ use Rattle.std.proofs.Common.{◌≡◌, List, [], ◌∷◌, length, sym, ap, s
 use Rattle.std.specs.Prelude.{All}
 use Rattle.std.proofs.lemmas.List.Elements.{All-nil, All-push, All-pop}
 use Rattle.lit_desk.specs.Desk.{PlaceLists}
-use Rattle.lit_share.specs.Workers.{HasHunted, IsHuntedOut}
+use Rattle.lit_share.specs.Internal.Workers.{HasHunted, IsHuntedOut}
 use Rattle.lit_share.proofs.Ending.{hunted_ended}
 use Rattle.lit_share.proofs.asking.places_of.Goals as goal
 

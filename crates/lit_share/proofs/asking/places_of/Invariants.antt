@@ -1,6 +1,6 @@
 use Rattle.std.proofs.Common.{◌≡◌, ◌+◌, length, vec_len}
 use Rattle.std.specs.Prelude.{All}
-use Rattle.lit_share.specs.Workers.{HasHunted, IsHuntedOut}
+use Rattle.lit_share.specs.Internal.Workers.{HasHunted, IsHuntedOut}
 use Rattle.lit_share.proofs.asking.places_of.Given as goal
 
 abbrev pub invariant-loop-worker : goal.invariant-loop-worker

@@ -7,7 +7,7 @@ use Rattle.lit_desk.specs.Desk.{PlaceLists, IsPlaceOf, IsDone, all_draws, draws_
 use Rattle.lit_paths.specs.Choice.{choices_of}
 use Rattle.lit_search.specs.Report.{Report, IsReport, in_none}
 use Rattle.lit_share.specs.Pieces.{in_pieces}
-use Rattle.lit_share.specs.Workers.{HasSearched, IsSearched}
+use Rattle.lit_share.specs.Internal.Workers.{HasSearched, IsSearched}
 use Rattle.lit_share.proofs.Cutting.{pieces_joined}
 use Rattle.lit_share.proofs.Ending.{searched_ended}
 use Rattle.lit_share.proofs.searching.merged.Goals as goal

@@ -4,7 +4,7 @@ use Rattle.lit_desk.specs.Desk.{IsPlaceOf, IsDone, all_draws}
 use Rattle.lit_paths.specs.Choice.{choices_of}
 use Rattle.lit_search.specs.Report.{IsReport}
 use Rattle.lit_share.specs.Pieces.{in_pieces}
-use Rattle.lit_share.specs.Workers.{HasSearched}
+use Rattle.lit_share.specs.Internal.Workers.{HasSearched}
 use Rattle.lit_share.proofs.searching.merged.Given as goal
 
 abbrev pub invariant-loop-worker : goal.invariant-loop-worker

@@ -1,7 +1,7 @@
 use Rattle.std.proofs.Common.{◌≡◌, ℕ, [], sym, ap, subst, ◌∙◌}
 use Rattle.arrayvec.specs.ArrayVec.{ArrayVec}
 use Rattle.jslit.specs.Counted.{device_of, failures_of}
-use Rattle.jslit.specs.Steps.Writing.{HasPut, writing_of}
+use Rattle.jslit.specs.Internal.Writing.{HasPut, writing_of}
 use Rattle.jslit.proofs.Putting.{HasPut-then, at_error, not_ok, put_through}
 use Rattle.jslit.proofs.page.Page.put.Goals as goal
 

@@ -1,6 +1,6 @@
 use Rattle.std.proofs.Common.{◌≡◌, List, ◌++◌, length, vec_len}
 use Rattle.lit_desk.specs.Desk.{PlaceLists}
-use Rattle.lit_desk.specs.Desk.Gathered.{gathered_account}
+use Rattle.lit_desk.specs.Internal.Gathered.{gathered_account}
 use Rattle.lit_desk.proofs.desk.Desk.gather.Given as goal
 
 abbrev pub invariant-loop-place : goal.invariant-loop-place

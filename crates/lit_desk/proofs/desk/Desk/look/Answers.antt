@@ -1,6 +1,6 @@
 use Rattle.std.proofs.Common.{◌<◌, sym, ap, ◌∙◌, arith}
 use Rattle.lit_desk.specs.Desk.{DeskName, PlaceLists}
-use Rattle.lit_desk.specs.Desk.Words.{class_of}
+use Rattle.lit_desk.specs.Internal.Words.{class_of}
 use Rattle.lit_desk.proofs.Moves.{looks_as}
 use Rattle.lit_desk.proofs.Places.{sees_same, taken_after, word_is_small}
 use Rattle.lit_desk.proofs.desk.Desk.look.Goals as goal

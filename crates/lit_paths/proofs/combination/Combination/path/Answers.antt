@@ -2,8 +2,8 @@ use Rattle.std.proofs.Common.{arith, ap, sym, subst, ◌∙◌, ℕ}
 use Rattle.lit_read.specs.Syntax.{Litmus, agent_of}
 use Rattle.lit_paths.specs.PathModel.{path_model}
 use Rattle.lit_paths.specs.Plan.{path_in, walk_in, IsWalkIn}
-use Rattle.lit_paths.specs.Planning.Combining.{walk_number}
-use Rattle.lit_paths.specs.Planning.Walks.{walk_at}
+use Rattle.lit_paths.specs.Internal.Combining.{walk_number}
+use Rattle.lit_paths.specs.Internal.Walks.{walk_at}
 use Rattle.lit_paths.proofs.Combined.{walk_number-known}
 use Rattle.lit_paths.proofs.CombinedPaths.{walk_in-numbered}
 use Rattle.lit_paths.proofs.Entered.{kept_length, kept_at, agent_here}

@@ -3,7 +3,7 @@ use Rattle.lit_paths.specs.declared.event.Event.{Event}
 use Rattle.lit_paths.specs.Plan.{AreEventsIn}
 use Rattle.lit_paths.specs.ByteReads.{byte_reads}
 use Rattle.lit_paths.specs.Choice.{product, sources_of}
-use Rattle.lit_paths.specs.Planning.CandidateLists.{candidate_lists, ways_after}
+use Rattle.lit_paths.specs.Internal.CandidateLists.{candidate_lists, ways_after}
 use Rattle.lit_paths.proofs.CombinedPaths.{count_of-combinations}
 use Rattle.lit_paths.proofs.Totals.{before_more, few_candidates, some_choice}
 use Rattle.lit_paths.proofs.WaySteps.{candidate_lists-known}

@@ -3,8 +3,8 @@ use Rattle.std.specs.Global.{Vec}
 use Rattle.lit_read.specs.declared.syntax.Stmt.{Stmt}
 use Rattle.lit_read.specs.Syntax.{Statement, Statements, If}
 use Rattle.lit_read.specs.Litmus.{statements_of}
-use Rattle.lit_read.specs.Reading.State.{followed_by, ended_if}
-use Rattle.lit_read.specs.Reading.Views.{level_view, part_view}
+use Rattle.lit_read.specs.Internal.State.{followed_by, ended_if}
+use Rattle.lit_read.specs.Internal.Views.{level_view, part_view}
 use Rattle.lit_read.proofs.TreeViews.{if_views}
 use Rattle.lit_read.proofs.DraftLemmas.{statements_pushed}
 use Rattle.lit_read.proofs.draft.Level.ended.Goals as goal

@@ -5,9 +5,9 @@ use Rattle.std.proofs.lemmas.List.{length-append}
 use Rattle.std.proofs.lemmas.Result.{err_from_is_err_and}
 use Rattle.lit_read.specs.Syntax.{Agent, Condition, End, IsLitmus}
 use Rattle.lit_read.specs.Litmus.{statements_of, condition_of}
-use Rattle.lit_read.specs.Reading.Built.{build, begun}
-use Rattle.lit_read.specs.Reading.State.{IsState, Whole, with_agent, is_known_mark}
-use Rattle.lit_read.specs.Reading.Views.{agents_view, mark_view, mark_views, Fails}
+use Rattle.lit_read.specs.Internal.Built.{build, begun}
+use Rattle.lit_read.specs.Internal.State.{IsState, Whole, with_agent, is_known_mark}
+use Rattle.lit_read.specs.Internal.Views.{agents_view, mark_view, mark_views, Fails}
 use Rattle.lit_read.proofs.DraftLemmas.{last_is_new}
 use Rattle.lit_read.proofs.CheckSteps.{too_open, too_large, not_known, build_fails, makes, made_litmus, few_entries, is_zero, is_some_number}
 use Rattle.lit_read.proofs.draft.Open.check.Goals as goal

@@ -1,7 +1,7 @@
 use Rattle.std.proofs.Common.{◌≡◌, ◌↔◌, ◌≤◌, ℕ, length}
 use Rattle.lit_rel.specs.declared.given.SourcedByte.{SourcedByte}
 use Rattle.lit_rel.specs.Between.{Forbids}
-use Rattle.lit_rel.specs.Parts.Forbidding.{IsForbidding}
+use Rattle.lit_rel.specs.Internal.Forbidding.{IsForbidding}
 use Rattle.lit_rel.specs.Rows.{Holds}
 use Rattle.lit_rel.proofs.EachLemmas.{SomeBelow}
 use Rattle.lit_rel.proofs.given.Given.between.Given as goal

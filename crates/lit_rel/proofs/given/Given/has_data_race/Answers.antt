@@ -1,6 +1,6 @@
 use Rattle.std.proofs.Common.{inl, inr}
 use Rattle.std.proofs.lemmas.Bool.{false≢true}
-use Rattle.lit_rel.specs.Parts.Given.{sources_of}
+use Rattle.lit_rel.specs.Internal.Given.{sources_of}
 use Rattle.lit_rel.specs.ReadsFrom.{ReadsFrom}
 use Rattle.lit_rel.specs.Rows.{Holds}
 use Rattle.lit_rel.proofs.RaceLemmas.{HasDataRaceOf-iff}

@@ -2,7 +2,7 @@ use Rattle.std.proofs.Common.{refl}
 use Rattle.std.proofs.lemmas.Bool.{false≢true}
 use Rattle.lit_rel.specs.declared.given.SourcedByte.{SourcedByte}
 use Rattle.lit_rel.specs.EventSet.{HasEvent}
-use Rattle.lit_rel.specs.Parts.Pushed.{IsChangedByte}
+use Rattle.lit_rel.specs.Internal.Pushed.{IsChangedByte}
 use Rattle.lit_rel.specs.Rows.{Holds}
 use Rattle.lit_rel.proofs.EachLemmas.{EachBelow-more, each_from_EachBelow}
 use Rattle.lit_rel.proofs.SourceLemmas.{no_byte}

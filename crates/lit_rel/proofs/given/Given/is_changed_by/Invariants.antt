@@ -1,6 +1,6 @@
 use Rattle.lit_rel.specs.declared.given.SourcedByte.{SourcedByte}
 use Rattle.lit_rel.specs.EventSet.{HasEvent}
-use Rattle.lit_rel.specs.Parts.Pushed.{IsChangedByte}
+use Rattle.lit_rel.specs.Internal.Pushed.{IsChangedByte}
 use Rattle.lit_rel.specs.Rows.{Holds}
 use Rattle.lit_rel.proofs.EachLemmas.{EachBelow}
 use Rattle.lit_rel.proofs.given.Given.is_changed_by.Given as goal

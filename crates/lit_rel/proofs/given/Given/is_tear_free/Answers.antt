@@ -3,7 +3,7 @@ use Rattle.std.proofs.lemmas.Bool.{false≢true}
 use Rattle.std.proofs.lemmas.Option.{slice_get-get_or}
 use Rattle.std.specs.List.{slice_get}
 use Rattle.lit_rel.specs.declared.given.SourcedByte.{SourcedByte}
-use Rattle.lit_rel.specs.Parts.Given.{Tears}
+use Rattle.lit_rel.specs.Internal.Given.{Tears}
 use Rattle.lit_rel.proofs.EachLemmas.{EachBelow-more, each_from_EachBelow}
 use Rattle.lit_rel.proofs.ReadingLemmas.{HasTearFreeReads-from_each, not_torn}
 use Rattle.lit_rel.proofs.SourceLemmas.{no_byte}

@@ -1,7 +1,7 @@
 use Rattle.std.proofs.Common.{◌≡◌, ℕ, Some}
 use Rattle.std.specs.List.{slice_get}
 use Rattle.lit_rel.specs.declared.given.SourcedByte.{SourcedByte}
-use Rattle.lit_rel.specs.Parts.Given.{Tears}
+use Rattle.lit_rel.specs.Internal.Given.{Tears}
 use Rattle.lit_rel.proofs.EachLemmas.{EachBelow}
 use Rattle.lit_rel.proofs.given.Given.is_tear_free.Given as goal
 

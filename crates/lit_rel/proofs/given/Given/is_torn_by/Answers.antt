@@ -2,7 +2,7 @@ use Rattle.std.proofs.Common.{refl}
 use Rattle.std.proofs.lemmas.Bool.{false≢true}
 use Rattle.std.proofs.lemmas.Option.{slice_get-get_or}
 use Rattle.lit_rel.specs.declared.given.SourcedByte.{SourcedByte}
-use Rattle.lit_rel.specs.Parts.Given.{Tears}
+use Rattle.lit_rel.specs.Internal.Given.{Tears}
 use Rattle.lit_rel.proofs.EachLemmas.{EachBelow-more, each_from_EachBelow}
 use Rattle.lit_rel.proofs.SourceLemmas.{no_byte}
 use Rattle.lit_rel.proofs.given.Given.is_torn_by.Goals as goal

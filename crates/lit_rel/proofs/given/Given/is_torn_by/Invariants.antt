@@ -1,5 +1,5 @@
 use Rattle.lit_rel.specs.declared.given.SourcedByte.{SourcedByte}
-use Rattle.lit_rel.specs.Parts.Given.{Tears}
+use Rattle.lit_rel.specs.Internal.Given.{Tears}
 use Rattle.lit_rel.proofs.EachLemmas.{EachBelow}
 use Rattle.lit_rel.proofs.given.Given.is_torn_by.Given as goal
 

@@ -1,7 +1,7 @@
 use Rattle.std.proofs.Common.{◌↔◌, ◌+◌, ◌<◌, ◌≤◌, ℕ, List, length, take, get_or, arith, refl, sym, subst}
 use Rattle.std.proofs.lemmas.Bool.{false≢true}
-use Rattle.lit_rel.specs.Parts.Given.{sources_of}
-use Rattle.lit_rel.specs.Parts.Levels.{IsOrder}
+use Rattle.lit_rel.specs.Internal.Given.{sources_of}
+use Rattle.lit_rel.specs.Internal.Levels.{IsOrder}
 use Rattle.lit_rel.specs.Rows.{Holds, WithPair}
 use Rattle.lit_rel.proofs.OrderLemmas.{IsOrder-alone, IsOrder-with_pair, next_left, next_sources}
 use Rattle.lit_rel.proofs.SourceLemmas.{no_byte}

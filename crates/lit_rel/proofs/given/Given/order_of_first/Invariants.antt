@@ -1,6 +1,6 @@
 use Rattle.std.proofs.Common.{take}
-use Rattle.lit_rel.specs.Parts.Given.{sources_of}
-use Rattle.lit_rel.specs.Parts.Levels.{IsOrder}
+use Rattle.lit_rel.specs.Internal.Given.{sources_of}
+use Rattle.lit_rel.specs.Internal.Levels.{IsOrder}
 use Rattle.lit_rel.proofs.given.Given.order_of_first.Given as goal
 
 abbrev pub invariant-loop-place : goal.invariant-loop-place

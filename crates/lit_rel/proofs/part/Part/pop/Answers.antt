@@ -1,6 +1,6 @@
 use Rattle.std.proofs.Common.{◌≡◌, ◌+◌, ◌-◌, ◌<◌, Bool, false, List, length, take, get_or, arith, ap, sym, ◌∙◌, subst}
 use Rattle.lit_rel.specs.Part.{PartModel, with_sources}
-use Rattle.lit_rel.specs.Parts.Refused.{AreRefusals}
+use Rattle.lit_rel.specs.Internal.Refused.{AreRefusals}
 use Rattle.lit_rel.proofs.RefusalLemmas.{AreRefusals-pop}
 use Rattle.lit_rel.proofs.part.Part.pop.Goals as goal
 

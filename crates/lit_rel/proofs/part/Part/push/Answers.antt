@@ -3,7 +3,7 @@ use Rattle.std.proofs.lemmas.List.{length_push}
 use Rattle.std.specs.Bool.{IsTrue}
 use Rattle.lit_paths.specs.declared.limits.TheConstants.{BYTE_READ_LIMIT}
 use Rattle.lit_rel.specs.Part.{IsNextSource, PartModel}
-use Rattle.lit_rel.specs.Parts.Refused.{AreRefusals, IsRefusedAtLast}
+use Rattle.lit_rel.specs.Internal.Refused.{AreRefusals, IsRefusedAtLast}
 use Rattle.lit_rel.proofs.RefusalLemmas.{AreRefusals-push}
 use Rattle.lit_rel.proofs.part.Part.push.Goals as goal
 

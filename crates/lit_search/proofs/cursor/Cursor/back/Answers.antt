@@ -1,5 +1,5 @@
 use Rattle.std.proofs.Common.{length, ap, arith}
-use Rattle.lit_search.specs.Searching.Places.{Stand}
+use Rattle.lit_search.specs.Internal.Places.{Stand}
 use Rattle.lit_search.proofs.StandLemmas.{back_more}
 use Rattle.lit_search.proofs.cursor.Cursor.back.Goals as goal
 

@@ -1,5 +1,5 @@
 use Rattle.std.proofs.Common.{◌≡◌, ◌≤◌, length, take}
-use Rattle.lit_search.specs.Searching.Places.{with_places}
+use Rattle.lit_search.specs.Internal.Places.{with_places}
 use Rattle.lit_search.proofs.cursor.Cursor.back.Given as goal
 
 abbrev pub invariant-loop-self : goal.invariant-loop-self

@@ -5,7 +5,7 @@ use Rattle.lit_paths.specs.Numbers.{ways_from}
 use Rattle.lit_paths.specs.ByteReads.{byte_read_at}
 use Rattle.lit_paths.specs.Plan.{ListsCandidates}
 use Rattle.lit_rel.specs.Part.{IsNextSource, part_events, with_sources}
-use Rattle.lit_search.specs.Searching.Places.{candidates_at}
+use Rattle.lit_search.specs.Internal.Places.{candidates_at}
 use Rattle.lit_search.proofs.StandLemmas.{candidates_here, known_here, left_here, lists_here, next_source, reads_here, room_down, standing_down, ways_here}
 use Rattle.lit_search.proofs.cursor.Cursor.down.Goals as goal
 

@@ -3,7 +3,7 @@ use Rattle.lit_read.specs.Syntax.{Litmus}
 use Rattle.lit_paths.specs.ByteReads.{byte_reads}
 use Rattle.lit_paths.specs.Plan.{events_in}
 use Rattle.lit_rel.specs.Part.{part_events}
-use Rattle.lit_search.specs.Searching.Places.{Stand, candidates_at, stand_events}
+use Rattle.lit_search.specs.Internal.Places.{Stand, candidates_at, stand_events}
 use Rattle.lit_search.proofs.NumberSets.{lt_test}
 use Rattle.lit_search.proofs.StandLemmas.{candidates_here, few_candidates}
 use Rattle.lit_search.proofs.cursor.Cursor.has_candidate.Goals as goal

@@ -6,10 +6,10 @@ use Rattle.lit_paths.specs.Plan.{choices_before}
 use Rattle.lit_rel.specs.DataRace.{MayRace}
 use Rattle.lit_rel.specs.Part.{PartModel, part_events}
 use Rattle.lit_search.specs.Report.{Gives, GivesRace, in_range}
-use Rattle.lit_search.specs.Searching.Held.{part_outcome}
-use Rattle.lit_search.specs.Searching.Passing.{HasAll, first_places}
-use Rattle.lit_search.specs.Searching.Places.{Stand, behind_at, low_at, part_at, stand_events}
-use Rattle.lit_search.specs.Searching.Shown.{NoneShow}
+use Rattle.lit_search.specs.Internal.Held.{part_outcome}
+use Rattle.lit_search.specs.Internal.Passing.{HasAll, first_places}
+use Rattle.lit_search.specs.Internal.Places.{Stand, behind_at, low_at, part_at, stand_events}
+use Rattle.lit_search.specs.Internal.Shown.{NoneShow}
 use Rattle.lit_search.proofs.NextLemmas.{long_entered, low_entered, none_at_first, passed_on, same_reads, smaller_enter, smaller_leave}
 use Rattle.lit_search.proofs.NumberSets.{within}
 use Rattle.lit_search.proofs.PassingLemmas.{length-part, pass_invalid, whole_stand}

@@ -1,8 +1,8 @@
 use Rattle.std.proofs.Common.{◌≡◌, ◌≤◌, ◌+◌, ◌*◌, ◌-◌, length}
 use Rattle.lit_paths.specs.ByteReads.{byte_reads}
 use Rattle.lit_search.specs.Report.{in_range}
-use Rattle.lit_search.specs.Searching.Places.{low_at, stand_events}
-use Rattle.lit_search.specs.Searching.Shown.{NoneShow}
+use Rattle.lit_search.specs.Internal.Places.{low_at, stand_events}
+use Rattle.lit_search.specs.Internal.Shown.{NoneShow}
 use Rattle.lit_search.proofs.RacingLemmas.{NoneRace}
 use Rattle.lit_search.proofs.cursor.Cursor.has_race.Given as goal
 

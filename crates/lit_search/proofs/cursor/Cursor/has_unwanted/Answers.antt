@@ -5,8 +5,8 @@ use Rattle.lit_read.specs.Syntax.{Litmus}
 use Rattle.lit_paths.specs.ByteReads.{byte_reads}
 use Rattle.lit_paths.specs.Outcome.{names_of}
 use Rattle.lit_rel.specs.Part.{PartModel, part_events}
-use Rattle.lit_search.specs.Searching.Held.{part_outcome}
-use Rattle.lit_search.specs.Searching.Places.{part_at, stand_events}
+use Rattle.lit_search.specs.Internal.Held.{part_outcome}
+use Rattle.lit_search.specs.Internal.Places.{part_at, stand_events}
 use Rattle.lit_search.proofs.PassingLemmas.{AreNamed, length-part, pass_unwanted}
 use Rattle.lit_search.proofs.cursor.Cursor.has_unwanted.Goals as goal
 

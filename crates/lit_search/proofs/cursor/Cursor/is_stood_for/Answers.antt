@@ -2,7 +2,7 @@ use Rattle.std.proofs.Common.{◌-◌, ℕ, length, refl, ap, subst, ◌∙◌}
 use Rattle.std.specs.Prelude.{slice_get}
 use Rattle.lit_rel.specs.Broken.{IsBroken}
 use Rattle.lit_rel.specs.Part.{PartModel}
-use Rattle.lit_search.specs.Searching.Places.{part_at}
+use Rattle.lit_search.specs.Internal.Places.{part_at}
 use Rattle.lit_search.proofs.PassingLemmas.{length-part}
 use Rattle.lit_search.proofs.cursor.Cursor.is_stood_for.Goals as goal
 

@@ -1,6 +1,6 @@
 use Rattle.std.proofs.Common.{ℕ, ◌+◌, [], ◌∷◌, ◌++◌, ap, sym, ◌∙◌, arith}
 use Rattle.std.proofs.lemmas.Bool.{false≢true}
-use Rattle.lit_search.specs.Searching.Places.{Stand, with_places}
+use Rattle.lit_search.specs.Internal.Places.{Stand, with_places}
 use Rattle.lit_search.proofs.StandLemmas.{left_last, left_next}
 use Rattle.lit_search.proofs.cursor.Cursor.leave.Goals as goal
 

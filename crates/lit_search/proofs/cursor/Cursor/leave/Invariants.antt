@@ -1,5 +1,5 @@
 use Rattle.std.proofs.Common.{◌≡◌, length, take}
-use Rattle.lit_search.specs.Searching.Places.{behind_at, with_places}
+use Rattle.lit_search.specs.Internal.Places.{behind_at, with_places}
 use Rattle.lit_search.proofs.cursor.Cursor.leave.Given as goal
 
 abbrev pub invariant-loop-self : goal.invariant-loop-self

@@ -4,11 +4,11 @@ use Rattle.lit_paths.specs.ByteReads.{byte_reads}
 use Rattle.lit_paths.specs.Plan.{choices_before}
 use Rattle.lit_rel.specs.Part.{PartModel, part_events}
 use Rattle.lit_search.specs.Report.{in_range}
-use Rattle.lit_search.specs.Searching.Held.{part_outcome}
-use Rattle.lit_search.specs.Searching.Passing.{HasAll, first_places}
-use Rattle.lit_search.specs.Searching.Places.{Stand, behind_at, low_at, part_at, stand_events}
-use Rattle.lit_search.specs.Searching.Shown.{IsShown, NoneShow, shown_entry}
-use Rattle.lit_search.specs.Searching.Examined.{IsExample}
+use Rattle.lit_search.specs.Internal.Held.{part_outcome}
+use Rattle.lit_search.specs.Internal.Passing.{HasAll, first_places}
+use Rattle.lit_search.specs.Internal.Places.{Stand, behind_at, low_at, part_at, stand_events}
+use Rattle.lit_search.specs.Internal.Shown.{IsShown, NoneShow, shown_entry}
+use Rattle.lit_search.specs.Internal.Examined.{IsExample}
 use Rattle.lit_search.proofs.Keeping.{next_shown}
 use Rattle.lit_search.proofs.NextLemmas.{long_entered, low_entered, none_at_first, none_up_to, passed_on, same_reads, seen_on, smaller_enter, smaller_leave}
 use Rattle.lit_search.proofs.PassingLemmas.{length-part, pass_invalid}

@@ -5,7 +5,7 @@ use Rattle.lit_paths.specs.Execution.{Execution}
 use Rattle.lit_rel.specs.Broken.{IsBroken}
 use Rattle.lit_rel.specs.Part.{PartModel, part_events}
 use Rattle.lit_search.specs.Completion.{Completes}
-use Rattle.lit_search.specs.Searching.Places.{stand_events}
+use Rattle.lit_search.specs.Internal.Places.{stand_events}
 use Rattle.lit_search.proofs.CompletionLemmas.{not_broken}
 use Rattle.lit_search.proofs.PassingLemmas.{length-part, pass_all, pass_from, pass_less}
 use Rattle.lit_search.proofs.StoodForLemmas.{pass_stood_for}

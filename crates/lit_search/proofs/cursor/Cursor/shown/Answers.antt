@@ -7,9 +7,9 @@ use Rattle.lit_rel.specs.Part.{PartModel, part_events}
 use Rattle.lit_order.specs.MemoryOrder.{IsLeastMemoryOrder}
 use Rattle.lit_order.proofs.SameOrders.{IsLeastOrderOf-same}
 use Rattle.lit_search.specs.Completion.{Completes}
-use Rattle.lit_search.specs.Searching.Examined.{IsExample}
-use Rattle.lit_search.specs.Searching.Held.{part_outcome}
-use Rattle.lit_search.specs.Searching.Places.{low_at, part_at}
+use Rattle.lit_search.specs.Internal.Examined.{IsExample}
+use Rattle.lit_search.specs.Internal.Held.{part_outcome}
+use Rattle.lit_search.specs.Internal.Places.{low_at, part_at}
 use Rattle.lit_search.proofs.PassingLemmas.{AreNamed, is_example, no_order, none_shown}
 use Rattle.lit_search.proofs.cursor.Cursor.shown.Goals as goal
 

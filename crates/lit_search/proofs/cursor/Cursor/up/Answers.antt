@@ -2,7 +2,7 @@ use Rattle.std.proofs.Common.{ℕ, ◌+◌, ◌*◌, ◌-◌, ◌<◌, List, [],
 use Rattle.lit_paths.specs.ByteReads.{byte_reads}
 use Rattle.lit_paths.specs.Numbers.{ways_from}
 use Rattle.lit_rel.specs.Part.{PartModel, part_events}
-use Rattle.lit_search.specs.Searching.Places.{candidates_at}
+use Rattle.lit_search.specs.Internal.Places.{candidates_at}
 use Rattle.lit_search.proofs.StandLemmas.{count_places, its_end, known_up, left_up, long_up, low_up, reads_here, standing_up, ways_here}
 use Rattle.lit_search.proofs.cursor.Cursor.up.Goals as goal
 

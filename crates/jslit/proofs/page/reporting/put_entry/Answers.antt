@@ -1,0 +1,42 @@
+use Rattle.std.proofs.Common.{◌≡◌, refl}
+use Rattle.lit_paths.specs.Outcome.{names_of}
+use Rattle.lit_search.specs.Report.{Entry}
+use Rattle.jslit.specs.ChoiceEvents.{choice_at, choice_events}
+use Rattle.jslit.proofs.ChosenEvents.{executed, entered_events, entered_owned, entered_choice, entered_sources}
+use Rattle.jslit.proofs.EntryFacts.{length-outcome, order_known, sources_known}
+use Rattle.jslit.proofs.Lines.{entry_is}
+use Rattle.jslit.proofs.Putting.{HasPut-then, HasPut-is}
+use Rattle.jslit.proofs.page.reporting.put_entry.Goals as goal
+
+pub put_registers-requires-clause-one_each : goal.put_registers-requires-clause-one_each
+put_registers-requires-clause-one_each g c = rw c.names.ensures.value (length-outcome c.args.plan.now c.args.example.now.choice c.args.outcome.now c.requires.gives)
+
+pub put_sources-requires-clause-owned : goal.put_sources-requires-clause-owned
+put_sources-requires-clause-owned g c =
+    rw c.test-test.ensures.value (entered_owned c.args.plan.now c.args.plan.now c.args.example.now.choice c.combination.result c.reenter.new.combination c.events-events.result.now refl c.reenter.ensures c.events-events.ensures.value c.combination.ensures.value (c.combinations_are_listed.ensures c.args.plan.now))
+
+pub put_sources-requires-clause-known : goal.put_sources-requires-clause-known
+put_sources-requires-clause-known g c = rw (c.as_slice.ensures.value, c.events-events.ensures.value) (sources_known _ _ c.sources-sources.ensures.sourced)
+
+pub put_events-requires-clause-owned : goal.put_events-requires-clause-owned
+put_events-requires-clause-owned g c =
+    rw c.test-test.ensures.value (entered_owned c.args.plan.now c.args.plan.now c.args.example.now.choice c.combination.result c.reenter.new.combination c.events-events.result.now refl c.reenter.ensures c.events-events.ensures.value c.combination.ensures.value (c.combinations_are_listed.ensures c.args.plan.now))
+
+pub put_events-requires-clause-known : goal.put_events-requires-clause-known
+put_events-requires-clause-known g c =
+    rw (c.as_slice-2.ensures.value, entered_events c.args.plan.now c.args.plan.now c.args.example.now.choice c.combination.result c.reenter.new.combination c.events-events.result.now refl c.reenter.ensures c.events-events.ensures.value c.combination.ensures.value)
+    (order_known c.args.plan.now c.args.example.now.choice c.args.outcome.now c.args.example.now.order.items _ c.requires.gives c.requires.least_order (executed c.args.plan.now c.args.example.now.choice c.combination.result c.combination.ensures.value))
+
+pub returns : goal.returns
+returns g c =
+    let t = c.args.plan.now in
+    let choice = choice_at t c.args.example.now.choice in
+    let entry : Entry = record { outcome = c.args.outcome.now; choice = c.args.example.now.choice; order = c.args.example.now.order.items } in
+    let names : c.names.result.now ≡ names_of t = c.names.ensures.value in
+    let events : c.events-events.result.now ≡ choice_events t choice =
+    entered_choice t t c.args.example.now.choice c.combination.result c.reenter.new.combination c.events-events.result.now refl c.reenter.ensures c.events-events.ensures.value c.combination.ensures.value (c.combinations_are_listed.ensures t) in
+    let sources : c.as_slice.result.now ≡ choice.sources =
+    entered_sources t t c.args.example.now.choice c.combination.result c.reenter.new.combination c.events-events.result.now refl c.reenter.ensures c.events-events.ensures.value c.combination.ensures.value c.sources-sources.result.items c.as_slice.result.now c.sources-sources.ensures.listed c.as_slice.ensures.value in
+    HasPut-is _ _ _ _
+    (HasPut-then _ _ _ _ _ (HasPut-then _ _ _ _ _ (HasPut-then _ _ _ _ _ (HasPut-then _ _ _ _ _ (HasPut-then _ _ _ _ _ (HasPut-then _ _ _ _ _ c.put.ensures c.put_registers.ensures) c.put-2.ensures) c.put_sources.ensures) c.put-3.ensures) c.put_events.ensures) c.put-4.ensures)
+    (entry_is t c.test-test.result.now c.names.result.now c.events-events.result.now c.as_slice.result.now c.as_slice-2.result.now entry c.test-test.ensures.value names events sources c.as_slice-2.ensures.value)

@@ -1,0 +1,147 @@
+//! The words of the command line, and what they ask for.
+
+ghost use Rattle.std.specs.Prelude.{◌≡◌, [], false, IfOk, codes};
+ghost use Rattle.jslit.specs.Internal.Command.{IsCommand, ReadsNumber};
+ghost use Rattle.lit_share.specs.declared.limits.TheConstants.{CUT_LIMIT as CUTS, WORKER_LIMIT as WORKERS};
+
+use crate::engine::Options;
+use clap::{Arg, ArgAction, Command, Error, value_parser};
+use lit_share::{CUT_LIMIT, WORKER_LIMIT};
+use std::alloc::{AllocError, Global};
+use std::convert::AsStr;
+
+/// What the words of the command line ask for.
+#[derive(Clone, Copy, Debug, PartialEq, Eq)]
+pub struct Line<'a> {
+    /// How the work is done, and which report is asked for.
+    pub options: Options,
+    /// The schedule whose outcome is asked for in place of a report.
+    pub schedule: Option<&'a str>,
+    /// The file that holds the text; standard input where there is none.
+    pub file: Option<&'a str>,
+}
+
+/// What is done where the words say nothing else.
+const USUAL: Options = Options {
+    workers: 1,
+    cut: 4_096,
+    quick: false,
+};
+
+/// What follows the list of flags in the help.
+const AFTER: &str = "\
+Exit status:
+  0  a report, or the outcome of a schedule, was printed
+  1  the text, its test or the schedule is refused: the reason is printed on standard output
+  2  a fault of the command line
+  3  out of memory
+  4  the input or the output failed
+
+Example:
+  jslit --workers 4 litmus/mp.lit";
+
+/// The flag for the number of workers.
+fn workers_flag<'a>(alloc: Global) -> Arg<'a>
+    ensures reads { ReadsNumber result (codes "workers") 1 WORKERS }
+    ensures ungrouped { result.groups.items ≡ [] }
+    ensures local { result.global ≡ false }
+{
+    Arg::new(alloc, "workers")
+        .long("workers")
+        .value_name("N")
+        .action(ArgAction::Set)
+        .value_parser(value_parser!(usize).range(1..=WORKER_LIMIT as i64))
+        .help("How many workers search, 1 to 16 [default: 1]")
+}
+
+/// The flag for the cutting.
+fn cut_flag<'a>(alloc: Global) -> Arg<'a>
+    ensures reads { ReadsNumber result (codes "cut") 1 CUTS }
+    ensures ungrouped { result.groups.items ≡ [] }
+    ensures local { result.global ≡ false }
+{
+    Arg::new(alloc, "cut")
+        .long("cut")
+        .value_name("N")
+        .action(ArgAction::Set)
+        .value_parser(value_parser!(u64).range(1..=CUT_LIMIT as i64))
+        .help("The fewest choices in a piece of the work, 1 to 281474976710656 [default: 4096]")
+}
+
+/// The flag for the quick report.
+fn quick_flag<'a>(alloc: Global) -> Arg<'a>
+    ensures id { result.id.now ≡ codes "quick" }
+    ensures ungrouped { result.groups.items ≡ [] }
+    ensures local { result.global ≡ false }
+{
+    Arg::new(alloc, "quick")
+        .long("quick")
+        .action(ArgAction::SetTrue)
+        .help("Report only the first choice that meets the condition and the first that does not")
+}
+
+/// The flag for a schedule, which stands with no flag for a report.
+fn schedule_flag<'a>(alloc: Global) -> Result<Arg<'a>, AllocError>
+    ensures id { IfOk result (λ flag. flag.id.now ≡ codes "schedule") }
+    ensures ungrouped { IfOk result (λ flag. flag.groups.items ≡ []) }
+    ensures local { IfOk result (λ flag. flag.global ≡ false) }
+{
+    let flag = Arg::new(alloc, "schedule")
+        .long("schedule")
+        .value_name("TEXT")
+        .action(ArgAction::Set)
+        .help(
+            "Carry the test out in turns, by the names of agents, such as A,B,A, and print its outcome",
+        );
+    let no_workers = flag.conflicts_with("workers")?;
+    let no_cut = no_workers.conflicts_with("cut")?;
+    let alone = no_cut.conflicts_with("quick")?;
+    Ok(alone)
+}
+
+/// The file that holds the text.
+fn file_argument<'a>(alloc: Global) -> Arg<'a>
+    ensures id { result.id.now ≡ codes "file" }
+    ensures ungrouped { result.groups.items ≡ [] }
+    ensures local { result.global ≡ false }
+{
+    Arg::new(alloc, "file")
+        .value_name("FILE")
+        .action(ArgAction::Set)
+        .help("The litmus text [default: standard input]")
+}
+
+/// The command `jslit`.
+fn command<'a>(alloc: Global) -> Result<Command<'a>, AllocError>
+    ensures { IfOk result IsCommand }
+{
+    let bare = Command::new(alloc, "jslit")
+        .about("Prints every outcome that the memory model of ECMAScript allows a litmus test")
+        .after_help(AFTER)
+        .bin_name("jslit")?;
+    let with_workers = bare.arg(workers_flag(alloc))?;
+    let with_cut = with_workers.arg(cut_flag(alloc))?;
+    let with_quick = with_cut.arg(quick_flag(alloc))?;
+    let with_schedule = with_quick.arg(schedule_flag(alloc)?)?;
+    let whole = with_schedule.arg(file_argument(alloc))?;
+    Ok(whole)
+}
+
+/// What the words ask for: the program's name, its flags and at most one file. What is no number of workers or choices
+/// within the limits is refused, and so is what is no flag, as `clap` does it.
+pub fn line<'a, S: AsStr>(alloc: Global, words: &'a [S]) -> Result<Line<'a>, Error> {
+    let command = command(alloc)?;
+    let matches = command.try_get_matches_from(words)?;
+    let workers = matches.get_one("workers").unwrap_or(USUAL.workers);
+    let cut = matches.get_one("cut").unwrap_or(USUAL.cut);
+    let options = Options {
+        workers,
+        cut,
+        quick: matches.get_flag("quick"),
+    };
+    Ok(Line {
+        options,
+        schedule: matches.get_str("schedule"),
+        file: matches.get_str("file"),
+    })
+}

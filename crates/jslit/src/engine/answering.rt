@@ -1,0 +1,144 @@
+//! What is answered for a text: the report on the test that it spells, or a fault.
+
+ghost use Rattle.std.specs.Prelude.{◌≡◌, ◌≢◌, ◌<◌, ◌≤◌, true, false, length, IfOk, IfErr, OnOk, IsErrOf};
+ghost use Rattle.lit_paths.specs.Choice.{choices_of};
+ghost use Rattle.lit_paths.specs.declared.limits.TheConstants.{CHOICE_LIMIT};
+ghost use Rattle.lit_share.specs.declared.limits.TheConstants.{CUT_LIMIT};
+ghost use Rattle.lit_share.specs.Quick.{IsQuickAnswer};
+ghost use Rattle.jslit.specs.Answer.{IsFaultOn, HasReported, HasBegun};
+ghost use Rattle.jslit.specs.Counted.{device_of, failures_of, one_more};
+ghost use Rattle.jslit.specs.Internal.Answering.{HasWritten, HasWrittenSome, IsFirstFound, IsOfWriting, IsOfTextOrWriting};
+
+use crate::counted::Counted;
+use crate::engine::Options;
+use crate::fault::RunFault;
+use crate::laws::reports_are_complete;
+use crate::page::reporting::{write_quick_report, write_report};
+use crate::verdict::{verdict_from, verdict_on};
+use lit_paths::{Plan, plan};
+use lit_read::read;
+use lit_search::laws::choices_have_one_outcome;
+use lit_search::{Class, Example, Found, search_range};
+use lit_share::{OpenGate, quick, search};
+use std::alloc::{AllocError, Global};
+use std::io::Write;
+use std::thread::Threads;
+
+/// How many pieces several workers draw at the most.
+const SHARED_PIECES: u64 = 1_024;
+
+/// How many choices a piece has: those asked for, or more where that would make too many pieces. One worker alone needs
+/// no cutting: a search is quickest in one piece.
+fn cut_of(total: u64, options: Options) -> u64
+    requires few { total ≤ CHOICE_LIMIT }
+    ensures some { 0 < result }
+    ensures small { result ≤ CUT_LIMIT }
+{
+    let pieces = if options.workers == 1 {
+        1
+    } else {
+        SHARED_PIECES
+    };
+    options.cut.max(total.div_ceil(pieces))
+}
+
+/// A pass for each worker.
+fn passes(alloc: Global, workers: usize) -> Result<Vec<()>, AllocError>
+    ensures { IfOk result (λ passes. length passes.items ≡ workers) }
+{
+    let mut passes = Vec::new(alloc);
+    passes.resize(workers, ())?;
+    Ok(passes)
+}
+
+/// Searches all choices, and writes the report on them.
+fn report<T: Threads + Sync, W: Write>(
+    rt: &T,
+    alloc: Global,
+    plan: &Plan<'_>,
+    output: &mut Counted<W>,
+    options: Options,
+) -> Result<(), RunFault>
+    ensures written { OnOk result (HasWritten false plan.now (W.contents (device_of output.old)) (W.contents (device_of output.new))) }
+    ensures not_failed { OnOk result (failures_of output.new ≡ failures_of output.old) }
+    ensures begun { IsErrOf result RunFault.OutputFailed → HasWrittenSome false plan.now (W.contents (device_of output.old)) (W.contents (device_of output.new)) }
+    ensures failed { IsErrOf result RunFault.OutputFailed → failures_of output.new ≡ one_more (failures_of output.old) }
+    ensures unwritten { IsErrOf result RunFault.OutOfMemory → output.new ≡ output.old }
+    ensures fault { IfErr result IsOfWriting }
+{
+    let cut = cut_of(plan.total(), options);
+    let passes = passes(alloc, options.workers)?;
+    let found = search(rt, alloc, plan, cut, &OpenGate, passes)?;
+    let verdict = verdict_on(plan, &found);
+    reports_are_complete();
+    write_report(output, plan, &found, verdict)
+}
+
+/// The report of the first choice of a class alone, which has the choice's outcome.
+fn first_found(
+    alloc: Global,
+    plan: &Plan<'_>,
+    _class: Class,
+    first: &Option<Example>,
+) -> Result<Option<Found>, RunFault>
+    requires few { length (choices_of plan.now) ≤ CHOICE_LIMIT }
+    requires first { IsQuickAnswer plan.now _class first.now }
+    ensures found { IfOk result (IsFirstFound plan.now _class) }
+    ensures fault { IfErr result (λ fault. fault ≡ RunFault.OutOfMemory) }
+{
+    let Some(example) = first else {
+        return Ok(None);
+    };
+    choices_have_one_outcome();
+    let _test = plan.test();
+    let found = search_range(alloc, plan, example.choice, example.choice + 1)?;
+    Ok(Some(found))
+}
+
+/// Searches the first choice of each class, and writes the quick report.
+fn quick_report<T: Threads + Sync, W: Write>(
+    rt: &T,
+    alloc: Global,
+    plan: &Plan<'_>,
+    output: &mut Counted<W>,
+    options: Options,
+) -> Result<(), RunFault>
+    ensures written { OnOk result (HasWritten true plan.now (W.contents (device_of output.old)) (W.contents (device_of output.new))) }
+    ensures not_failed { OnOk result (failures_of output.new ≡ failures_of output.old) }
+    ensures begun { IsErrOf result RunFault.OutputFailed → HasWrittenSome true plan.now (W.contents (device_of output.old)) (W.contents (device_of output.new)) }
+    ensures failed { IsErrOf result RunFault.OutputFailed → failures_of output.new ≡ one_more (failures_of output.old) }
+    ensures unwritten { IsErrOf result RunFault.OutOfMemory → output.new ≡ output.old }
+    ensures fault { IfErr result IsOfWriting }
+{
+    let cut = cut_of(plan.total(), options);
+    let passes = passes(alloc, options.workers)?;
+    let first = quick(rt, alloc, plan, cut, &OpenGate, passes)?;
+    let met = first_found(alloc, plan, Class::Met, &first.met)?;
+    let unmet = first_found(alloc, plan, Class::Unmet, &first.unmet)?;
+    let verdict = verdict_from(met.is_some(), unmet.is_some());
+    write_quick_report(output, plan, &met, &unmet, verdict)
+}
+
+/// Writes what is answered for a text: the report on the test that it spells. Where there is none, nothing is written.
+pub(crate) fn answer<T: Threads + Sync, W: Write>(
+    rt: &T,
+    alloc: Global,
+    text: &[u8],
+    output: &mut Counted<W>,
+    options: Options,
+) -> Result<(), RunFault>
+    ensures reported { OnOk result (HasReported options.quick text.now (W.contents (device_of output.old)) (W.contents (device_of output.new))) }
+    ensures not_failed { OnOk result (failures_of output.new ≡ failures_of output.old) }
+    ensures begun { IsErrOf result RunFault.OutputFailed → HasBegun options.quick text.now (W.contents (device_of output.old)) (W.contents (device_of output.new)) }
+    ensures failed { IsErrOf result RunFault.OutputFailed → failures_of output.new ≡ one_more (failures_of output.old) }
+    ensures unwritten { IfErr result (λ fault. fault ≢ RunFault.OutputFailed → output.new ≡ output.old) }
+    ensures refused { IfErr result (IsFaultOn text.now) }
+    ensures of_text { IfErr result IsOfTextOrWriting }
+{
+    let test = read(alloc, text)?;
+    let plan = plan(alloc, &test)?;
+    if options.quick {
+        return quick_report(rt, alloc, &plan, output, options);
+    }
+    report(rt, alloc, &plan, output, options)
+}

@@ -1,0 +1,321 @@
+//! The text of a report, put on a page.
+
+ghost use Rattle.std.specs.Prelude.{◌≡◌, ℕ, ◌<◌, ◌≤◌, true, ◌++◌, All, IfSome, OnOk, OnErr, IfErr, length, codes};
+ghost use Rattle.std.specs.Io.KnownBytes.{Appends};
+ghost use Rattle.std.specs.List.{flat_map};
+ghost use Rattle.lit_paths.specs.Event.{does_read};
+ghost use Rattle.lit_paths.specs.Choice.{choices_of};
+ghost use Rattle.lit_paths.specs.ByteReads.{byte_reads};
+ghost use Rattle.lit_search.specs.Report.{Gives, HasLeastOrder, IsReport, in_range};
+ghost use Rattle.jslit.specs.Counted.{device_of, failures_of, one_more};
+ghost use Rattle.jslit.specs.Devices.{AppendsBeginning};
+ghost use Rattle.jslit.specs.ReportText.{line, verdict_text, event_name, names_text, source_line, from_lines, register_text, registers_text, entry_text, class_text, report_text, quick_text, yes_or_no};
+ghost use Rattle.jslit.specs.Internal.FirstEntry.{IsOnlyEntry, entry_of_option};
+ghost use Rattle.jslit.specs.Internal.ReadLine.{read_line, rest_after};
+ghost use Rattle.jslit.specs.Internal.Writing.{HasPut, writing_of};
+
+use crate::counted::Counted;
+use crate::fault::RunFault;
+use crate::page::Page;
+use crate::verdict::Verdict;
+use lit_paths::laws::combinations_are_listed;
+use lit_paths::{Combination, Event, Kind, Plan};
+use lit_read::Test;
+use lit_search::{Example, Found};
+use std::io::Write;
+
+/// Puts a blank and the name of an event: of a byte of the block, or of an agent's access.
+fn put_event<W: Write>(page: &mut Page, output: &mut Counted<W>, test: &Test, event: &Event)
+    requires { IfSome event.now.owner (λ agent. agent < length test.now.agents) }
+    ensures { HasPut (writing_of W.contents output.old page.old) (writing_of W.contents output.new page.new) (codes " " ++ event_name test.now event.now) }
+{
+    let Some(agent) = event.owner else {
+        page.put(output, b" init[");
+        page.put_number(output, event.place as u64);
+        page.put(output, b"]");
+        return;
+    };
+    page.put(output, b" ");
+    page.put(output, test.agent_name(agent as usize).as_bytes());
+    page.put(output, b".");
+    page.put_number(output, event.place as u64);
+}
+
+/// Puts a blank and the name of each of these events, by their numbers.
+fn put_events<W: Write>(
+    page: &mut Page,
+    output: &mut Counted<W>,
+    test: &Test,
+    events: &[Event],
+    numbers: &[u8],
+)
+    requires owned { All (λ e. IfSome e.owner (λ agent. agent < length test.now.agents)) events.now }
+    requires known { All (λ n. n < length events.now) numbers.now }
+    ensures { HasPut (writing_of W.contents output.old page.old) (writing_of W.contents output.new page.new) (names_text test.now events.now numbers.now) }
+{
+    for number in numbers {
+        put_event(page, output, test, &events[*number as usize]);
+    }
+}
+
+/// Puts the line of a read, with the sources of its bytes.
+fn put_source_line<W: Write>(
+    page: &mut Page,
+    output: &mut Counted<W>,
+    test: &Test,
+    events: &[Event],
+    read: &Event,
+    sources: &[u8],
+)
+    requires owner { IfSome read.now.owner (λ agent. agent < length test.now.agents) }
+    requires owned { All (λ e. IfSome e.owner (λ agent. agent < length test.now.agents)) events.now }
+    requires known { All (λ n. n < length events.now) sources.now }
+    ensures { HasPut (writing_of W.contents output.old page.old) (writing_of W.contents output.new page.new) (source_line test.now events.now read.now sources.now) }
+{
+    page.put(output, b"  from");
+    put_event(page, output, test, read);
+    put_events(page, output, test, events, sources);
+    page.put(output, b"\n");
+}
+
+/// Puts the line of an event that reads, whose sources are the first of these, and gives the others.
+fn put_read<'s, W: Write>(
+    page: &mut Page,
+    output: &mut Counted<W>,
+    test: &Test,
+    events: &[Event],
+    event: &Event,
+    sources: &'s [u8],
+) -> &'s [u8]
+    requires owner { IfSome event.now.owner (λ agent. agent < length test.now.agents) }
+    requires owned { All (λ e. IfSome e.owner (λ agent. agent < length test.now.agents)) events.now }
+    requires known { All (λ n. n < length events.now) sources.now }
+    requires room { does_read event.now.kind ≡ true → event.now.size ≤ length sources.now }
+    ensures text { HasPut (writing_of W.contents output.old page.old) (writing_of W.contents output.new page.new) (read_line test.now events.now event.now sources.now) }
+    ensures rest { result.now ≡ rest_after event.now sources.now }
+{
+    match event.kind {
+        Kind::Write => sources,
+        Kind::Read | Kind::Modify => {
+            let (own, rest) = sources.split_at(event.size as usize);
+            put_source_line(page, output, test, events, event, own);
+            rest
+        }
+    }
+}
+
+/// Puts a line for each read, with the sources of its bytes.
+fn put_sources<W: Write>(
+    page: &mut Page,
+    output: &mut Counted<W>,
+    test: &Test,
+    events: &[Event],
+    sources: &[u8],
+)
+    requires owned { All (λ e. IfSome e.owner (λ agent. agent < length test.now.agents)) events.now }
+    requires known { All (λ n. n < length events.now) sources.now }
+    requires one_each { length sources.now ≡ length (byte_reads events.now) }
+    ensures { HasPut (writing_of W.contents output.old page.old) (writing_of W.contents output.new page.new) (from_lines test.now events.now sources.now) }
+{
+    let mut rest = sources;
+    for event in events {
+        rest = put_read(page, output, test, events, event, rest);
+    }
+}
+
+/// Puts a register of an outcome, named by agent and register, with its value.
+fn put_register<W: Write>(
+    page: &mut Page,
+    output: &mut Counted<W>,
+    test: &Test,
+    name: (u8, u8),
+    value: u32,
+)
+    requires { name.0 < length test.now.agents }
+    ensures { HasPut (writing_of W.contents output.old page.old) (writing_of W.contents output.new page.new) (register_text test.now (name, value)) }
+{
+    page.put(output, b" ");
+    page.put(output, test.agent_name(name.0 as usize).as_bytes());
+    page.put(output, b".r");
+    page.put_number(output, name.1 as u64);
+    page.put(output, b"=");
+    page.put_number(output, value as u64);
+}
+
+/// Puts the registers of an outcome with their values.
+pub(crate) fn put_registers<W: Write>(
+    page: &mut Page,
+    output: &mut Counted<W>,
+    test: &Test,
+    names: &[(u8, u8)],
+    values: &[u32],
+)
+    requires known { All (λ name. name.0 < length test.now.agents) names.now }
+    requires one_each { length values.now ≡ length names.now }
+    ensures { HasPut (writing_of W.contents output.old page.old) (writing_of W.contents output.new page.new) (registers_text test.now names.now values.now) }
+{
+    for (place, value) in values.iter().enumerate() {
+        put_register(page, output, test, names[place], *value);
+    }
+}
+
+/// Puts an outcome and its example, whose combination is entered in place of one that was entered before.
+fn put_entry<'p, W: Write>(
+    page: &mut Page,
+    output: &mut Counted<W>,
+    plan: &'p Plan<'p>,
+    combination: &mut Combination<'p>,
+    outcome: &[u32],
+    example: &Example,
+)
+    requires known { example.now.choice < length (choices_of plan.now) }
+    requires gives { Gives plan.now example.now.choice outcome.now }
+    requires least_order { HasLeastOrder plan.now example.now.choice example.now.order.items }
+    ensures { HasPut (writing_of W.contents output.old page.old) (writing_of W.contents output.new page.new)
+        (entry_text plan.now (record { outcome = outcome.now; choice = example.now.choice; order = example.now.order.items })) }
+{
+    combinations_are_listed();
+    let test = plan.test();
+    plan.reenter(combination, plan.combination(example.choice));
+    let events = combination.events();
+    let sources = combination.sources(example.choice);
+    page.put(output, b"outcome");
+    put_registers(page, output, test, plan.names(), outcome);
+    page.put(output, b"\n");
+    put_sources(page, output, test, events, sources.as_slice());
+    page.put(output, b"  order");
+    put_events(page, output, test, events, example.order.as_slice());
+    page.put(output, b"\n");
+}
+
+/// Puts the first line of a report.
+pub(crate) fn put_head<W: Write>(page: &mut Page, output: &mut Counted<W>, test: &Test)
+    ensures { HasPut (writing_of W.contents output.old page.old) (writing_of W.contents output.new page.new) (line (codes "test " ++ test.now.name)) }
+{
+    page.put(output, b"test ");
+    page.put(output, test.name().as_bytes());
+    page.put(output, b"\n");
+}
+
+/// Puts the line of the verdict.
+fn put_verdict<W: Write>(page: &mut Page, output: &mut Counted<W>, verdict: Verdict)
+    ensures { HasPut (writing_of W.contents output.old page.old) (writing_of W.contents output.new page.new) (line (codes "verdict " ++ verdict_text verdict)) }
+{
+    page.put(output, b"verdict ");
+    page.put(output, verdict.as_str().as_bytes());
+    page.put(output, b"\n");
+}
+
+/// The word for whether something is so.
+pub(crate) fn word_for(answer: bool) -> &'static [u8]
+    ensures { result.now ≡ yes_or_no answer }
+{
+    if answer { b"yes" } else { b"no" }
+}
+
+/// Puts the line that says whether some valid execution has a data race.
+fn put_race<W: Write>(page: &mut Page, output: &mut Counted<W>, race: bool)
+    ensures { HasPut (writing_of W.contents output.old page.old) (writing_of W.contents output.new page.new) (line (codes "data race " ++ yes_or_no race)) }
+{
+    page.put(output, b"data race ");
+    page.put(output, word_for(race));
+    page.put(output, b"\n");
+}
+
+/// Puts an outcome and its example for each entry of a report.
+fn put_entries<W: Write>(page: &mut Page, output: &mut Counted<W>, plan: &Plan<'_>, found: &Found)
+    requires report { IsReport plan.now (in_range 0 (length (choices_of plan.now))) found.now }
+    ensures { HasPut (writing_of W.contents output.old page.old) (writing_of W.contents output.new page.new) (flat_map (entry_text plan.now) found.now.entries) }
+{
+    let _some = plan.combinations();
+    let mut combination = plan.enter(0);
+    for place in 0..found.len() {
+        put_entry(
+            page,
+            output,
+            &*plan,
+            &mut combination,
+            found.outcome(place),
+            found.example(place),
+        );
+    }
+}
+
+/// Writes a test's report. Takes no memory.
+pub(crate) fn write_report<W: Write>(
+    output: &mut Counted<W>,
+    plan: &Plan<'_>,
+    found: &Found,
+    verdict: Verdict,
+) -> Result<(), RunFault>
+    requires report { IsReport plan.now (in_range 0 (length (choices_of plan.now))) found.now }
+    ensures written { OnOk result (Appends (W.contents (device_of output.old)) (W.contents (device_of output.new)) (report_text plan.now found.now verdict)) }
+    ensures not_failed { OnOk result (failures_of output.new ≡ failures_of output.old) }
+    ensures begun { OnErr result (AppendsBeginning (W.contents (device_of output.old)) (W.contents (device_of output.new)) (report_text plan.now found.now verdict)) }
+    ensures failed { OnErr result (failures_of output.new ≡ one_more (failures_of output.old)) }
+    ensures fault { IfErr result (λ fault. fault ≡ RunFault.OutputFailed) }
+{
+    let mut page = Page::new();
+    put_head(&mut page, output, plan.test());
+    put_entries(&mut page, output, plan, found);
+    page.put(output, b"outcomes ");
+    page.put_number(output, found.len() as u64);
+    page.put(output, b"\n");
+    put_verdict(&mut page, output, verdict);
+    put_race(&mut page, output, found.race());
+    page.finish(output)
+}
+
+/// Puts what a quick report says of a class: the outcome of its first choice with that choice's example, or that there
+/// is none.
+fn put_class<W: Write>(
+    page: &mut Page,
+    output: &mut Counted<W>,
+    plan: &Plan<'_>,
+    word: &[u8],
+    first: &Option<Found>,
+)
+    requires first { IfSome first.now (IsOnlyEntry plan.now) }
+    ensures { HasPut (writing_of W.contents output.old page.old) (writing_of W.contents output.new page.new) (class_text plan.now word.now (entry_of_option first.now)) }
+{
+    page.put(output, word);
+    let Some(found) = first else {
+        page.put(output, b" none\n");
+        return;
+    };
+    page.put(output, b" ");
+    let _some = plan.combinations();
+    let mut combination = plan.enter(0);
+    put_entry(
+        page,
+        output,
+        &*plan,
+        &mut combination,
+        found.outcome(0),
+        found.example(0),
+    );
+}
+
+/// Writes a test's quick report. Takes no memory.
+pub(crate) fn write_quick_report<W: Write>(
+    output: &mut Counted<W>,
+    plan: &Plan<'_>,
+    met: &Option<Found>,
+    unmet: &Option<Found>,
+    verdict: Verdict,
+) -> Result<(), RunFault>
+    requires met { IfSome met.now (IsOnlyEntry plan.now) }
+    requires unmet { IfSome unmet.now (IsOnlyEntry plan.now) }
+    ensures written { OnOk result (Appends (W.contents (device_of output.old)) (W.contents (device_of output.new)) (quick_text plan.now (entry_of_option met.now) (entry_of_option unmet.now) verdict)) }
+    ensures not_failed { OnOk result (failures_of output.new ≡ failures_of output.old) }
+    ensures begun { OnErr result (AppendsBeginning (W.contents (device_of output.old)) (W.contents (device_of output.new)) (quick_text plan.now (entry_of_option met.now) (entry_of_option unmet.now) verdict)) }
+    ensures failed { OnErr result (failures_of output.new ≡ one_more (failures_of output.old)) }
+    ensures fault { IfErr result (λ fault. fault ≡ RunFault.OutputFailed) }
+{
+    let mut page = Page::new();
+    put_head(&mut page, output, plan.test());
+    put_class(&mut page, output, plan, b"met", met);
+    put_class(&mut page, output, plan, b"unmet", unmet);
+    put_verdict(&mut page, output, verdict);
+    page.finish(output)
+}

@@ -1,0 +1,64 @@
+use Rattle.std.proofs.Common.{◌≢◌, ℕ, refl, sym, subst, inl, inr}
+use Rattle.lit_rel.specs.EventSet.{HasEvent}
+use Rattle.lit_rel.specs.Rows.{Holds}
+use Rattle.lit_order.proofs.RowsLemmas.{holds_or_not}
+use Rattle.lit_order.proofs.triple.forced_by.Goals as goal
+
+pub returns-in-Some : goal.returns-in-Some
+returns-in-Some c =
+    let v = c.in-Some.other in
+    let w = c.from-source.result in
+    let r = c.from-read.result in
+    let rows = c.args.rows.now.rows in
+    let apart = (c.others_of-others.ensures v).0 c.in-Some.ensures.0 in
+    let after : Holds rows w v = (c.successors-after_source.ensures v).0 c.in-Some.ensures.1 in
+    record {
+      other = v;
+      is_other = record { known = after.second_known; marked = apart.0 };
+      forces = record {
+        not_source = apart.1;
+        not_read = apart.2;
+        new = λ there. c.in-Some.ensures.2 ((c.successors.ensures v).1 there);
+        side = inl (c.from-read.ensures, refl, subst (λ (x : ℕ). Holds rows x v) c.from-source.ensures after);
+      };
+    }
+
+pub returns-in-Some-first_lacking : goal.returns-in-Some-first_lacking
+returns-in-Some-first_lacking c =
+    let v = c.in-Some-first_lacking.other in
+    let w = c.from-source.result in
+    let r = c.from-read.result in
+    let rows = c.args.rows.now.rows in
+    let apart = (c.others_of-others.ensures v).0 c.in-Some-first_lacking.ensures.0 in
+    let earlier : Holds rows v r = (c.args.rows.now.same.pairs v r).0 ((c.successors-before_read.ensures v).0 c.in-Some-first_lacking.ensures.1) in
+    record {
+      other = v;
+      is_other = record { known = earlier.first_known; marked = apart.0 };
+      forces = record {
+        not_source = apart.1;
+        not_read = apart.2;
+        new = λ there. c.in-Some-first_lacking.ensures.2 ((c.successors-2.ensures v).1 ((c.args.rows.now.same.pairs v w).1 there));
+        side = inr (refl, c.from-source.ensures, subst (Holds rows v) c.from-read.ensures earlier);
+      };
+    }
+
+pub returns : goal.returns
+returns c v other =
+    let w = c.from-source.result in
+    let r = c.from-read.result in
+    let rows = c.args.rows.now.rows in
+    let turned = c.args.rows.now.same in
+    let is_w = c.from-source.ensures in
+    let is_r = c.from-read.ensures in
+    let among : v ≢ c.args.pair.now.source → v ≢ c.args.pair.now.read → HasEvent c.others_of-others.result v =
+    λ not_source not_read. (c.others_of-others.ensures v).1 (other.marked, not_source, not_read) in
+    record {
+      after = λ not_source not_read after. elim (holds_or_not rows r v) [
+        | inl there ↦ subst (λ (x : ℕ). Holds rows x v) is_r there
+        | inr lacking ↦ absurd (c.in_default.ensures v (among not_source not_read) ((c.successors-after_source.ensures v).1 (subst (λ (x : ℕ). Holds rows x v) (sym is_w) after)) (λ there. lacking ((c.successors.ensures v).0 there)))
+      ];
+      earlier = λ not_source not_read earlier. elim (holds_or_not rows v w) [
+        | inl there ↦ subst (Holds rows v) is_w there
+        | inr lacking ↦ absurd (c.in_default-first_lacking.ensures v (among not_source not_read) ((c.successors-before_read.ensures v).1 ((turned.pairs v r).1 (subst (Holds rows v) (sym is_r) earlier))) (λ there. lacking ((turned.pairs v w).0 ((c.successors-2.ensures v).0 there))))
+      ];
+    }

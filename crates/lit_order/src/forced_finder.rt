@@ -1,0 +1,113 @@
+//! Memory-orders by what is forced.
+
+ghost use Rattle.std.specs.Prelude.{◌≡◌, ◌⊎◌, ℕ, ◌<◌, ◌≤◌, ◌↔◌, IsTrue};
+ghost use Rattle.arrayvec.specs.ArrayVec.{array_vec_len};
+ghost use Rattle.lit_rel.specs.EventSet.{HasEvent};
+ghost use Rattle.lit_rel.specs.Rows.{rows_len, Holds};
+ghost use Rattle.lit_order.specs.Internal.Beginning.{Stands, IsBeginning, HasNoOrder, IsLeastFrom};
+ghost use Rattle.lit_order.specs.Internal.Constrained.{constrained_len, ComesBefore, MayNotStand};
+ghost use Rattle.lit_order.specs.Internal.Narrowed.{IsNarrowed};
+
+use crate::constraints::Constraints;
+use crate::forced::has_order;
+use crate::forcing::force;
+use crate::order::{Order, OrderFinder};
+use crate::two_way_rows::TwoWayRows;
+use lit_rel::{Between, EventSet, Rows};
+
+/// Finds first what is forced, and then places the least event that can stand next, again and again: so it seldom has
+/// to try. Only where no event can stand next does it begin anew, and ask at each place what leaves an order.
+#[derive(Clone, Copy, Debug, Default, PartialEq, Eq)]
+pub struct ForcedFinder;
+
+impl OrderFinder for ForcedFinder {
+    fn least_order(&self, before: &Rows, between: &Between) -> Option<Order> {
+        let mut forced = TwoWayRows::closed(before);
+        if !force(&mut forced, between) {
+            return None;
+        }
+        let constraints = Constraints::new(&forced.converse, between);
+        let mut walked = Order::new();
+        if walk(&mut walked, EventSet::new(), &constraints) {
+            return Some(walked);
+        }
+        let mut order = Order::new();
+        if complete(&mut order, EventSet::new(), &forced.rows, &constraints) {
+            Some(order)
+        } else {
+            None
+        }
+    }
+}
+
+/// Goes on with the beginning of an order, of which `placed` has the events, by the least event that can stand next,
+/// until none can. Says whether all events are placed then: the order is the least that begins so.
+fn walk(order: &mut Order, placed: EventSet, constraints: &Constraints<'_>) -> bool
+    requires fits { array_vec_len order.old ≤ constrained_len constraints.now }
+    requires begins { IsBeginning (constrained_len constraints.now) (ComesBefore constraints.now) (MayNotStand constraints.now) order.old.items }
+    requires placed { (e : ℕ) → HasEvent placed e ↔ Stands order.old.items e }
+    ensures { IsTrue result →
+        IsLeastFrom (constrained_len constraints.now) (ComesBefore constraints.now) (MayNotStand constraints.now) order.old.items order.new.items }
+{
+    if order.len() == constraints.len() {
+        return true;
+    }
+    let mut left = constraints.unplaced(placed);
+    'walking: while let Some((event, others)) = left.split_first() {
+        if constraints.can_stand_next(event, placed) {
+            order.push(event as u8);
+            return walk(order, placed.with(event), constraints);
+        }
+        left = others;
+    }
+    false
+}
+
+/// Makes the beginning of an order, of which `placed` has the events, the least order that begins so, and says whether
+/// there is one. The orders of `narrow` are those that begin so.
+fn complete(
+    order: &mut Order,
+    placed: EventSet,
+    narrow: &Rows,
+    constraints: &Constraints<'_>,
+) -> bool
+    requires fits { array_vec_len order.old ≤ constrained_len constraints.now }
+    requires begins { IsBeginning (constrained_len constraints.now) (ComesBefore constraints.now) (MayNotStand constraints.now) order.old.items }
+    requires placed { (e : ℕ) → HasEvent placed e ↔ Stands order.old.items e }
+    requires len { rows_len narrow.now ≡ constrained_len constraints.now }
+    requires narrowed { IsNarrowed (constrained_len constraints.now) (ComesBefore constraints.now) (MayNotStand constraints.now) (Holds narrow.now) order.old.items }
+    ensures found { IsTrue result →
+        IsLeastFrom (constrained_len constraints.now) (ComesBefore constraints.now) (MayNotStand constraints.now) order.old.items order.new.items }
+    ensures none { ¬ IsTrue result →
+        HasNoOrder (constrained_len constraints.now) (ComesBefore constraints.now) (MayNotStand constraints.now) order.old.items }
+{
+    if order.len() == constraints.len() {
+        return true;
+    }
+    for event in 0..constraints.len() {
+        if constraints.can_stand_next(event, placed) {
+            let next = placed_next(narrow, event, placed.with(event));
+            if has_order(&next, constraints.between()) {
+                order.push(event as u8);
+                return complete(order, placed.with(event), &next, constraints);
+            }
+        }
+    }
+    false
+}
+
+/// The relation with an event before all that are not placed.
+fn placed_next(rows: &Rows, event: usize, placed: EventSet) -> Rows
+    requires { event < rows_len rows.now }
+    ensures len { rows_len result ≡ rows_len rows.now }
+    ensures pairs { (a d : ℕ) →
+        Holds result a d ↔ (Holds rows.now a d ⊎ ((a ≡ event) × (d < rows_len rows.now) × ¬ HasEvent placed d)) }
+{
+    let mut next = *rows;
+    for other in 0..rows.len() {
+        if !placed.contains(other) {
+            next.put(event, other);
+        }
+    }
+    next
+}

@@ -1,0 +1,56 @@
+//! Memory-orders, event by event.
+
+ghost use Rattle.std.specs.Prelude.{◌≡◌, ℕ, ◌≤◌, ◌↔◌, IsTrue};
+ghost use Rattle.arrayvec.specs.ArrayVec.{array_vec_len};
+ghost use Rattle.lit_rel.specs.EventSet.{HasEvent};
+ghost use Rattle.lit_order.specs.Internal.Beginning.{Stands, IsBeginning, HasNoOrder, IsLeastFrom};
+ghost use Rattle.lit_order.specs.Internal.Constrained.{constrained_len, ComesBefore, MayNotStand};
+
+use crate::constraints::Constraints;
+use crate::order::{Order, OrderFinder};
+use crate::two_way_rows::converse_of;
+use lit_rel::{Between, EventSet, Rows};
+
+/// Builds orders event by event, the least event that can stand next first, and goes back where none can be completed.
+#[derive(Clone, Copy, Debug, Default, PartialEq, Eq)]
+pub struct PlainFinder;
+
+impl OrderFinder for PlainFinder {
+    fn least_order(&self, before: &Rows, between: &Between) -> Option<Order> {
+        let converse = converse_of(before);
+        let constraints = Constraints::new(&converse, between);
+        let mut order = Order::new();
+        if extend(&mut order, EventSet::new(), &constraints) {
+            Some(order)
+        } else {
+            None
+        }
+    }
+}
+
+/// Makes the beginning of an order, of which `placed` has the events, the least order that begins so, and says whether
+/// there is one. If not, the beginning stays.
+fn extend(order: &mut Order, placed: EventSet, constraints: &Constraints<'_>) -> bool
+    requires fits { array_vec_len order.old ≤ constrained_len constraints.now }
+    requires begins { IsBeginning (constrained_len constraints.now) (ComesBefore constraints.now) (MayNotStand constraints.now) order.old.items }
+    requires placed { (e : ℕ) → HasEvent placed e ↔ Stands order.old.items e }
+    ensures found { IsTrue result →
+        IsLeastFrom (constrained_len constraints.now) (ComesBefore constraints.now) (MayNotStand constraints.now) order.old.items order.new.items }
+    ensures none { ¬ IsTrue result →
+        HasNoOrder (constrained_len constraints.now) (ComesBefore constraints.now) (MayNotStand constraints.now) order.old.items }
+    ensures kept { ¬ IsTrue result → order.new.items ≡ order.old.items }
+{
+    if order.len() == constraints.len() {
+        return true;
+    }
+    for event in 0..constraints.len() {
+        if constraints.can_stand_next(event, placed) {
+            order.push(event as u8);
+            if extend(order, placed.with(event), constraints) {
+                return true;
+            }
+            order.pop();
+        }
+    }
+    false
+}

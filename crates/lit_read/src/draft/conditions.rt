@@ -1,0 +1,217 @@
+//! The condition of a test, from the marks of its `check` line.
+
+ghost use Rattle.std.specs.Prelude.{◌≡◌, ◌+◌, ◌≤◌, nat_le, IfOk, length, string_bytes, true};
+ghost use Rattle.std.specs.List.{list_all};
+ghost use Rattle.lit_read.specs.Litmus.{condition_of};
+ghost use Rattle.lit_read.specs.Spelling.{place_of};
+ghost use Rattle.lit_read.specs.Internal.Built.{negated, all_of, any_of, with_operand, parted, asked, build_step, build, begun, HasSmallNumber};
+ghost use Rattle.lit_read.specs.Internal.Marks.{is_small};
+ghost use Rattle.lit_read.specs.Internal.Views.{Returns, conditions_view, frame_view, frames_view, mark_view, mark_views, agents_view};
+
+use crate::fault::ReadKind;
+use crate::forms::marks::Mark;
+use crate::limits::{AGENT_LIMIT, DEPTH_LIMIT};
+use crate::syntax::{Cond, Stmt};
+use indexmap::IndexMap;
+use std::alloc::{AllocError, Global};
+
+/// What stands in a parenthesis so far: how many `!` and `(` are around it, the `!` before the next operand, the
+/// conjunctions before the last `||`, and the operands behind it.
+#[derive(Drop)]
+pub struct Frame {
+    depth: usize,
+    nots: usize,
+    any: Vec<Cond>,
+    all: Vec<Cond>,
+}
+
+/// A frame, and those around it, the outermost first.
+#[derive(Drop)]
+pub struct Frames {
+    inner: Frame,
+    outer: Vec<Frame>,
+}
+
+/// The condition under so many `!`.
+fn negated(alloc: Global, cond: Cond, nots: usize) -> Result<Cond, AllocError>
+    ensures { IfOk result (λ c. condition_of c ≡ negated nots (condition_of cond)) }
+{
+    let mut negated = cond;
+    for _done in 0..nots {
+        negated = Cond::Not(Box::new(alloc, negated)?);
+    }
+    Ok(negated)
+}
+
+/// All of the members; a lone one is itself.
+fn all_of(members: Vec<Cond>) -> Cond
+    ensures { condition_of result ≡ all_of (conditions_view members.items) }
+{
+    let mut members = members;
+    if members.len() != 1 {
+        return Cond::All(members);
+    }
+    match members.pop() {
+        Some(member) => member,
+        None => unreachable!(),
+    }
+}
+
+/// Any of the members; a lone one is itself.
+fn any_of(members: Vec<Cond>) -> Cond
+    ensures { condition_of result ≡ any_of (conditions_view members.items) }
+{
+    let mut members = members;
+    if members.len() != 1 {
+        return Cond::Any(members);
+    }
+    match members.pop() {
+        Some(member) => member,
+        None => unreachable!(),
+    }
+}
+
+/// The number of the agent with a name, or of agents where none has it.
+fn place_of(agents: &IndexMap<String, Vec<Stmt>>, name: &str) -> usize
+    ensures value { result ≡ place_of name.now (agents_view agents.now.entries) }
+    ensures within { result ≤ length agents.now.entries }
+{
+    match agents.get_full(name) {
+        Some((place, _, _)) => place,
+        None => agents.len(),
+    }
+}
+
+impl Frame {
+    ghost use Rattle.lit_read.specs.Internal.Built.{empty_frame};
+
+    fn new(alloc: Global, depth: usize) -> Frame
+        ensures { frame_view result ≡ empty_frame depth }
+    {
+        Frame {
+            depth,
+            nots: 0,
+            any: Vec::new(alloc),
+            all: Vec::new(alloc),
+        }
+    }
+
+    /// Whether no `!` and no `(` can follow.
+    fn is_full(&self) -> bool
+        ensures { result ≡ nat_le DEPTH_LIMIT (self.now.depth + self.now.nots) }
+    {
+        self.depth.saturating_add(self.nots) >= DEPTH_LIMIT
+    }
+
+    /// With one operand more.
+    #[tactic(auto, using(crate::proofs::FrameLemmas::views_pushed))]
+    fn with_operand(self, alloc: Global, cond: Cond) -> Result<Frame, AllocError>
+        ensures { IfOk result (λ f. frame_view f ≡ with_operand (frame_view self) (condition_of cond)) }
+    {
+        let mut all = self.all;
+        all.push(negated(alloc, cond, self.nots)?)?;
+        Ok(Frame {
+            depth: self.depth,
+            nots: 0,
+            any: self.any,
+            all,
+        })
+    }
+
+    /// Behind `||`.
+    #[tactic(auto, using(crate::proofs::FrameLemmas::views_pushed))]
+    fn parted(self, alloc: Global) -> Result<Frame, AllocError>
+        ensures { IfOk result (λ f. frame_view f ≡ parted (frame_view self)) }
+    {
+        let mut any = self.any;
+        any.push(all_of(self.all))?;
+        Ok(Frame {
+            depth: self.depth,
+            nots: self.nots,
+            any,
+            all: Vec::new(alloc),
+        })
+    }
+
+    /// What it asks.
+    #[tactic(auto, using(crate::proofs::FrameLemmas::views_pushed))]
+    fn asked(self) -> Result<Cond, AllocError>
+        ensures { IfOk result (λ c. condition_of c ≡ asked (frame_view self)) }
+    {
+        let mut any = self.any;
+        any.push(all_of(self.all))?;
+        Ok(any_of(any))
+    }
+}
+
+impl Frames {
+    /// With one mark more.
+    #[tactic(auto, unfolding(crate::specs::Reading::Built::build_step))]
+    fn with_mark(
+        self,
+        alloc: Global,
+        agents: &IndexMap<String, Vec<Stmt>>,
+        mark: Mark<'_>,
+    ) -> Result<Frames, ReadKind>
+        requires few { length agents.now.entries ≤ AGENT_LIMIT }
+        requires small { HasSmallNumber (mark_view mark) }
+        ensures { Returns frames_view result (build_step (agents_view agents.now.entries) (frames_view self) (mark_view mark.entry)) }
+    {
+        let mut inner = self.inner;
+        let mut outer = self.outer;
+        match mark {
+            Mark::Bang => {
+                if inner.is_full() {
+                    return Err(ReadKind::TooDeep);
+                }
+                inner.nots += 1;
+            }
+            Mark::Open => {
+                if inner.is_full() {
+                    return Err(ReadKind::TooDeep);
+                }
+                let depth = inner.depth + inner.nots + 1;
+                outer.push(inner)?;
+                inner = Frame::new(alloc, depth);
+            }
+            Mark::Close => {
+                let Some(around) = outer.pop() else {
+                    return Err(ReadKind::Syntax);
+                };
+                inner = around.with_operand(alloc, inner.asked()?)?;
+            }
+            Mark::And => {}
+            Mark::Or => inner = inner.parted(alloc)?,
+            Mark::Is(comparison) => {
+                let asked = Cond::Is {
+                    agent: place_of(agents, comparison.agent) as u8,
+                    reg: comparison.reg,
+                    equal: comparison.equal,
+                    value: comparison.value as u32,
+                };
+                inner = inner.with_operand(alloc, asked)?;
+            }
+        }
+        Ok(Frames { inner, outer })
+    }
+}
+
+/// The condition that the marks ask.
+pub fn condition(
+    alloc: Global,
+    agents: &IndexMap<String, Vec<Stmt>>,
+    marks: &[Mark<'_>],
+) -> Result<Cond, ReadKind>
+    requires few { length agents.now.entries ≤ AGENT_LIMIT }
+    requires small { list_all (λ m. is_small (mark_view m)) marks.now ≡ true }
+    ensures { Returns condition_of result (build (agents_view agents.now.entries) begun (mark_views marks.now)) }
+{
+    let mut frames = Frames {
+        inner: Frame::new(alloc, 0),
+        outer: Vec::new(alloc),
+    };
+    for mark in marks {
+        frames = frames.with_mark(alloc, agents, *mark)?;
+    }
+    Ok(frames.inner.asked()?)
+}

@@ -1,5 +1,0 @@
-use Rattle.lit_rel.proofs.RefusalLemmas.{stays_broken}
-use Rattle.lit_rel.proofs.growth.broken_parts_stay_broken.Goals as goal
-
-pub returns : goal.returns
-returns c = stays_broken

@@ -1,7 +1,0 @@
-use Rattle.std.proofs.Common.{ℕ, ◌<◌}
-use Rattle.lit_rel.specs.Parts.Racing.{AreApart, WritesWith}
-use Rattle.lit_rel.specs.Rows.{Holds}
-use Rattle.lit_rel.proofs.races.has_racing_writes.Given as goal
-
-abbrev pub invariant-loop-write : goal.invariant-loop-write
-invariant-loop-write l = (e : ℕ) → e < l.write → (d : ℕ) → d < e → WritesWith l.events e d → AreApart l.events (Holds l.before) e d → ⊥

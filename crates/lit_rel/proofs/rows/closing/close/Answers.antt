@@ -1,0 +1,19 @@
+use Rattle.std.proofs.Common.{arith, ◌∙◌, ◌<◌, refl}
+use Rattle.lit_rel.specs.Rows.{Holds, rows_len}
+use Rattle.lit_rel.proofs.ChainLemmas.{IsClosedBelow-more, HasChain-from_closed, HasChain-from_transitive}
+use Rattle.lit_rel.proofs.rows.closing.close.Goals as goal
+
+pub returns-then-is_strict_order-clause-pairs : goal.returns-then-is_strict_order-clause-pairs
+returns-then-is_strict_order-clause-pairs c e d = HasChain-from_transitive (Holds c.args.rows.now) ((c.if-is_strict_order.ensures.0 refl).0) e d
+
+pub loop-middle-preserved : goal.loop-middle-preserved
+loop-middle-preserved c = record {
+  len = c.lead_through.ensures.len ∙ c.loop-middle.invariant.len;
+  closed = IsClosedBelow-more (Holds c.args.rows.now) (Holds c.loop-middle.rows) (Holds c.lead_through.new.rows) c.loop-middle.middle c.lead_through.ensures.pairs c.loop-middle.invariant.closed;
+}
+
+pub returns-clause-pairs : goal.returns-clause-pairs
+returns-clause-pairs c e d =
+    HasChain-from_closed (Holds c.args.rows.now) (Holds c.loop-middle.rows) c.loop-middle.middle
+    (λ a b h. let known : a < rows_len c.loop-middle.rows = h.first_known in omega arith)
+    c.loop-middle.invariant.closed e d

@@ -1,0 +1,15 @@
+//! What holds of the relations and of parts. The functions do nothing: their contracts are theorems.
+
+mod growth;
+mod init_reads;
+mod wide_events;
+
+pub use growth::{
+    broken_parts_stay_broken, races_are_foreseen, relations_grow_with_bytes, settled_pasts_stay,
+    values_stay,
+};
+pub use init_reads::{byte_reads_are_of_events, init_takes_place, values_keep_place};
+pub use wide_events::{
+    mixed_sizes_never_synchronize, never_reads_itself, typed_load_mixes_with_init_only,
+    viewed_load_mixes,
+};

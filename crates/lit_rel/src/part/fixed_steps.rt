@@ -1,0 +1,67 @@
+//! The steps of happens-before that no source decides (ECMA-262, 2024, 29.6.1 and 29.6.6).
+
+ghost use Rattle.std.specs.Prelude.{◌≡◌, ◌⊎◌, ◌↔◌, ℕ, ◌<◌, ◌≤◌, IsTrue, length};
+ghost use Rattle.lit_paths.specs.declared.limits.TheConstants.{EVENT_LIMIT};
+ghost use Rattle.lit_rel.specs.AgentOrder.{IsAgentOrdered};
+ghost use Rattle.lit_rel.specs.HappensBefore.{IsMadeBefore};
+ghost use Rattle.lit_rel.specs.Internal.Steps.{IsFixedStep};
+ghost use Rattle.lit_rel.specs.Rows.{Holds, rows_len};
+
+use crate::rows::Rows;
+use lit_paths::{Event, Order3, event_at};
+
+/// All of them.
+pub(crate) fn fixed_steps(events: &[Event]) -> Rows
+    requires { length events.now ≤ EVENT_LIMIT }
+    ensures len { rows_len result ≡ length events.now }
+    ensures pairs { (e d : ℕ) → Holds result e d ↔ IsFixedStep events.now e d }
+{
+    let mut rows = Rows::new(events.len());
+    for first in 0..events.len() {
+        put_fixed_steps(&mut rows, events, first);
+    }
+    rows
+}
+
+/// Puts in those from one event.
+fn put_fixed_steps(rows: &mut Rows, events: &[Event], first: usize)
+    requires rows { rows_len rows.old ≡ length events.now }
+    requires first { first < length events.now }
+    ensures len { rows_len rows.new ≡ rows_len rows.old }
+    ensures pairs { (e d : ℕ) → Holds rows.new e d ↔ (Holds rows.old e d ⊎ ((e ≡ first) × IsFixedStep events.now e d)) }
+{
+    for second in 0..events.len() {
+        if is_fixed_step(events, first, second) {
+            rows.put(first, second);
+        }
+    }
+}
+
+/// Whether one event comes before another in such a step.
+fn is_fixed_step(events: &[Event], first: usize, second: usize) -> bool
+    requires first { first < length events.now }
+    requires second { second < length events.now }
+    ensures { IsTrue result ↔ IsFixedStep events.now first second }
+{
+    is_agent_ordered(events, first, second) || is_made_before(events, first, second)
+}
+
+/// agent-order (29.6.1): whether two events are in one event list, the first one before the other.
+fn is_agent_ordered(events: &[Event], first: usize, second: usize) -> bool
+    requires first { first < length events.now }
+    requires second { second < length events.now }
+    ensures { IsTrue result ↔ IsAgentOrdered events.now first second }
+{
+    let (e, d) = (event_at(events, first), event_at(events, second));
+    e.owner == d.owner && e.place < d.place
+}
+
+/// Whether the first event makes a byte that is in the range of the second, another event.
+fn is_made_before(events: &[Event], first: usize, second: usize) -> bool
+    requires first { first < length events.now }
+    requires second { second < length events.now }
+    ensures { IsTrue result ↔ IsMadeBefore events.now first second }
+{
+    let (e, d) = (event_at(events, first), event_at(events, second));
+    first != second && e.order == Order3::Init && e.shares_byte(d)
+}

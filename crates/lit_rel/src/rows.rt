@@ -1,0 +1,160 @@
+//! A relation on the events of a candidate execution, as rows of sets. `given::relations` has the relations of clause 29.
+
+pub(crate) mod closing;
+
+ghost use Rattle.std.specs.Prelude.{◌≡◌, ◌⊎◌, ◌↔◌, ℕ, ◌<◌, ◌≤◌, IsTrue};
+ghost use Rattle.lit_paths.specs.declared.limits.TheConstants.{EVENT_LIMIT};
+ghost use Rattle.lit_rel.specs.EventSet.{AreWithin};
+
+use crate::event_set::EventSet;
+use lit_paths::EVENT_LIMIT;
+
+/// A relation on the events with numbers below `len()`, at most `EVENT_LIMIT`.
+#[derive(Clone, Copy)]
+pub struct Rows {
+    len: usize,
+    /// For each event the set of those that it leads to.
+    sets: [EventSet; EVENT_LIMIT],
+    ghost in_limit: { len ≤ EVENT_LIMIT },
+    ghost within: { AreWithin len sets },
+}
+
+impl Rows {
+    ghost use Rattle.lit_rel.specs.EventSet.{HasEvent};
+    ghost use Rattle.lit_rel.specs.Rows.{Holds, IsLeastWith, IsTransitive, WithPair, rows_len};
+
+    /// The empty relation on so many events, at most `EVENT_LIMIT`.
+    pub fn new(len: usize) -> Self
+        requires { len ≤ EVENT_LIMIT }
+        ensures len { rows_len result ≡ len }
+        ensures empty { (a d : ℕ) → ¬ Holds result a d }
+    {
+        Rows {
+            len,
+            sets: [EventSet::new(); EVENT_LIMIT],
+        }
+    }
+
+    /// How many events it is on.
+    pub fn len(&self) -> usize
+        ensures value { result ≡ rows_len self.now }
+        ensures few { result ≤ EVENT_LIMIT }
+    {
+        self.len
+    }
+
+    /// Whether it holds of a pair of events, both numbers below `len()`.
+    pub fn holds(&self, a: usize, d: usize) -> bool
+        requires first { a < rows_len self.now }
+        requires second { d < rows_len self.now }
+        ensures { IsTrue result ↔ Holds self.now a d }
+    {
+        self.sets[a].contains(d)
+    }
+
+    /// Whether it holds of a pair of events. Of other numbers it does not.
+    pub(crate) fn has_pair(&self, a: usize, d: usize) -> bool
+        ensures { IsTrue result ↔ Holds self.now a d }
+    {
+        a < self.len && d < self.len && self.holds(a, d)
+    }
+
+    /// Lets event a lead to all events of a set, all numbers below `len()`.
+    pub fn put_all(&mut self, a: usize, set: EventSet)
+        requires first { a < rows_len self.old }
+        requires second { (d : ℕ) → HasEvent set d → d < rows_len self.old }
+        ensures len { rows_len self.new ≡ rows_len self.old }
+        ensures pairs { (x y : ℕ) → Holds self.new x y ↔ (Holds self.old x y ⊎ ((x ≡ a) × HasEvent set y)) }
+    {
+        self.sets[a] = self.sets[a].union(set);
+    }
+
+    /// Puts a pair in, both numbers below `len()`.
+    pub fn put(&mut self, a: usize, d: usize)
+        requires first { a < rows_len self.old }
+        requires second { d < rows_len self.old }
+        ensures len { rows_len self.new ≡ rows_len self.old }
+        ensures pairs { (x y : ℕ) → Holds self.new x y ↔ (Holds self.old x y ⊎ ((x ≡ a) × (y ≡ d))) }
+    {
+        self.put_all(a, EventSet::new().with(d));
+    }
+
+    /// Lets event `a` lead to all that event `d` leads to, both numbers below `len()`.
+    pub(crate) fn join(&mut self, a: usize, d: usize)
+        requires first { a < rows_len self.old }
+        requires second { d < rows_len self.old }
+        ensures len { rows_len self.new ≡ rows_len self.old }
+        ensures pairs { (x y : ℕ) → Holds self.new x y ↔ (Holds self.old x y ⊎ ((x ≡ a) × Holds self.old d y)) }
+    {
+        self.put_all(a, self.successors(d));
+    }
+
+    /// The events that an event leads to, whose number is below `len()`.
+    pub fn successors(&self, event: usize) -> EventSet
+        requires { event < rows_len self.now }
+        ensures { (d : ℕ) → HasEvent result d ↔ Holds self.now event d }
+    {
+        self.sets[event]
+    }
+
+    /// The events that lead to an event, whose number is below `len()`.
+    pub fn predecessors(&self, event: usize) -> EventSet
+        requires { event < rows_len self.now }
+        ensures { (a : ℕ) → HasEvent result a ↔ Holds self.now a event }
+    {
+        let mut set = EventSet::new();
+        for other in 0..self.len {
+            if self.holds(other, event) {
+                set = set.with(other);
+            }
+        }
+        set
+    }
+
+    /// Whether an event is another one or leads to it, both numbers below `len()`.
+    pub(crate) fn leads(&self, a: usize, d: usize) -> bool
+        requires first { a < rows_len self.now }
+        requires second { d < rows_len self.now }
+        ensures { IsTrue result ↔ (Holds self.now a d ⊎ (a ≡ d)) }
+    {
+        a == d || self.holds(a, d)
+    }
+
+    /// Puts a pair in, both numbers below `len()`, and with it what it leads through: from a, and from all that lead
+    /// to a, to d, and to all that d leads to. A transitive relation becomes the least transitive one that has it and
+    /// the pair.
+    pub fn close_with(&mut self, a: usize, d: usize)
+        requires first { a < rows_len self.old }
+        requires second { d < rows_len self.old }
+        ensures len { rows_len self.new ≡ rows_len self.old }
+        ensures pairs { (x y : ℕ) → Holds self.new x y ↔ WithPair (Holds self.old) a d x y }
+        ensures transitive { IsTransitive (Holds self.old) → IsTransitive (Holds self.new) }
+        ensures least { IsLeastWith (Holds self.old) a d (Holds self.new) }
+    {
+        let behind = self.successors(d).with(d);
+        for first in 0..self.len {
+            if self.leads(first, a) {
+                self.put_all(first, behind);
+            }
+        }
+    }
+
+    /// Whether it holds of some event and itself.
+    pub(crate) fn has_cycle(&self) -> bool
+        ensures { IsTrue result ↔ ((e : ℕ) × Holds self.now e e) }
+    {
+        for event in 0..self.len {
+            if self.holds(event, event) {
+                return true;
+            }
+        }
+        false
+    }
+
+    /// Whether it holds of no event and itself.
+    pub fn is_irreflexive(&self) -> bool
+        ensures { IsTrue result ↔ ((e : ℕ) → ¬ Holds self.now e e) }
+    {
+        !self.has_cycle()
+    }
+}

@@ -1,0 +1,82 @@
+//! Relations closed under chains, and happens-before of no source.
+
+ghost use Rattle.std.specs.Prelude.{◌≡◌, ◌⊎◌, ◌↔◌, ℕ, ◌<◌, ◌≤◌, IsTrue, List, [], length};
+ghost use Rattle.lit_paths.specs.declared.limits.TheConstants.{EVENT_LIMIT};
+ghost use Rattle.lit_rel.specs.HappensBefore.{Chain, HappensBefore};
+ghost use Rattle.lit_rel.specs.Internal.Closing.{IsCovered};
+ghost use Rattle.lit_rel.specs.Rows.{Holds, IsTransitive, rows_len};
+
+use crate::part::fixed_steps::fixed_steps;
+use crate::rows::Rows;
+use lit_paths::Event;
+
+/// happens-before (ECMA-262, 2024, 29.6.6) where no byte read has a source.
+pub(crate) fn unsourced_order(events: &[Event]) -> Rows
+    requires { length events.now ≤ EVENT_LIMIT }
+    ensures len { rows_len result ≡ length events.now }
+    ensures pairs { (e d : ℕ) → Holds result e d ↔ HappensBefore events.now [] e d }
+{
+    let mut rows = fixed_steps(events);
+    close(&mut rows);
+    rows
+}
+
+/// Makes a relation the least transitive one that contains it.
+pub fn close(rows: &mut Rows)
+    ensures len { rows_len rows.new ≡ rows_len rows.old }
+    ensures pairs { (e d : ℕ) → Holds rows.new e d ↔ ((middles : List ℕ) × Chain (Holds rows.old) e middles d) }
+{
+    if is_strict_order(rows) {
+        return;
+    }
+    for middle in 0..rows.len() {
+        lead_through(rows, middle);
+    }
+}
+
+/// Whether what leads through an event leads on, and no event leads to itself.
+fn is_strict_order(rows: &Rows) -> bool
+    ensures { IsTrue result ↔ (IsTransitive (Holds rows.now) × ((e : ℕ) → ¬ Holds rows.now e e)) }
+{
+    if !rows.is_irreflexive() {
+        return false;
+    }
+    for event in 0..rows.len() {
+        if !leads_on(rows, event) {
+            return false;
+        }
+    }
+    true
+}
+
+/// Whether some of the events that an event leads to reach all of those, and lead only to them.
+fn leads_on(rows: &Rows, event: usize) -> bool
+    requires { event < rows_len rows.now }
+    ensures covered { IsTrue result → IsCovered (Holds rows.now) event }
+    ensures transitive { IsTransitive (Holds rows.now) → IsTrue result }
+{
+    let reached = rows.successors(event);
+    let mut left = reached;
+    while let Some((middle, others)) = left.split_first() {
+        let further = rows.successors(middle);
+        if !further.is_within(reached) {
+            return false;
+        }
+        left = others.difference(further);
+    }
+    true
+}
+
+/// Lets each event that leads to the middle one lead to all that the middle one leads to.
+fn lead_through(rows: &mut Rows, middle: usize)
+    requires { middle < rows_len rows.old }
+    ensures len { rows_len rows.new ≡ rows_len rows.old }
+    ensures pairs { (e d : ℕ) →
+        Holds rows.new e d ↔ (Holds rows.old e d ⊎ (Holds rows.old e middle × Holds rows.old middle d)) }
+{
+    for first in 0..rows.len() {
+        if rows.holds(first, middle) {
+            rows.join(first, middle);
+        }
+    }
+}

@@ -1,0 +1,15 @@
+use Rattle.std.proofs.Common.{◌≡◌, ℕ}
+use Rattle.lit_read.specs.Syntax.{AreStatementsIn, End}
+use Rattle.lit_search.specs.Interleaving.{from_access}
+use Rattle.lit_search.specs.Internal.Runners.{joined_all}
+use Rattle.lit_search.proofs.NextAccess.{lists_size}
+use Rattle.lit_search.proofs.interleaving.deciding.next_access.Given as goal
+
+abbrev pub invariant-deciding : goal.invariant-deciding
+invariant-deciding l = record {
+  said : (bytes : ℕ) × AreStatementsIn bytes (joined_all l.left.items End);
+  same : from_access l.registers (joined_all l.left.items End) ≡ from_access l.registers (joined_all l.fn.left.items End);
+}
+
+abbrev pub decreases-deciding : goal.decreases-deciding
+decreases-deciding l = lists_size l.left.items

@@ -1,0 +1,6 @@
+use Rattle.std.specs.Prelude.{[]}
+use Rattle.lit_search.proofs.ScheduleLemmas.{some_entry}
+use Rattle.lit_search.proofs.laws.schedules.reports_have_an_entry.Goals as goal
+
+pub returns : goal.returns
+returns c = λ t report litmus reports. some_entry t report (λ known. c.interleavings_are_reported.ensures t [] report litmus known reports)

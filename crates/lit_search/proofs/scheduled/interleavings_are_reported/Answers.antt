@@ -1,5 +1,0 @@
-use Rattle.lit_search.proofs.ScheduleLemmas.{is_reported}
-use Rattle.lit_search.proofs.scheduled.interleavings_are_reported.Goals as goal
-
-pub returns : goal.returns
-returns c = λ t schedule report litmus known. is_reported c.laws.ensures t schedule report (c.interleavings_are_valid.ensures t schedule litmus known)

@@ -1,0 +1,94 @@
+//! What the registers hold at the end of a combination's paths, from the sources of a part.
+
+ghost use Rattle.std.specs.Prelude.{◌≡◌, ◌≢◌, ◌↔◌, ℕ, ◌<◌, ◌≤◌, All, Some, IsTrue, IsFalse, length, slice_get};
+ghost use Rattle.lit_read.specs.declared.limits.TheConstants.{REGISTERS};
+ghost use Rattle.lit_paths.specs.ByteReads.{byte_reads};
+ghost use Rattle.lit_paths.specs.Outcome.{names_of};
+ghost use Rattle.lit_rel.specs.Part.{part_events};
+ghost use Rattle.lit_search.specs.Internal.Held.{part_outcome, read_held as read_of, value_held as value_of};
+ghost use Rattle.lit_search.specs.Internal.Wanting.{AllKnownAfter};
+
+use crate::cursor::wanted::Wanted;
+use crate::found::Outcome;
+use lit_paths::Plan;
+use lit_paths::laws::combinations_are_walked;
+use lit_rel::Part;
+
+/// The number of the read that a register holds at the end, named by agent and register; `None` where it was not
+/// written.
+fn read_held(part: &Part<'_>, name: (u8, u8)) -> Option<u8>
+    requires agent { name.0 < length part.now.test.agents }
+    requires reg { name.1 < REGISTERS }
+    ensures { result ≡ read_of part.now.test part.now.combination name }
+{
+    let agent = usize::from(name.0);
+    let combination = part.combination();
+    let _events = combination.events();
+    let place = combination.path(agent).last(name.1)?;
+    Some(combination.first_event(agent) + place)
+}
+
+/// What a register holds at the end by the sources given.
+fn value_held(part: &Part<'_>, name: (u8, u8)) -> u32
+    requires agent { name.0 < length part.now.test.agents }
+    requires reg { name.1 < REGISTERS }
+    ensures { result ≡ value_of part.now (read_of part.now.test part.now.combination name) }
+{
+    match read_held(part, name) {
+        Some(read) => part.value(read),
+        None => 0,
+    }
+}
+
+/// The outcome of a part by the sources given. The part is one of the plan's test.
+pub(crate) fn outcome_of(plan: &Plan<'_>, part: &Part<'_>) -> Outcome
+    requires { part.now.test ≡ plan.now }
+    ensures value { result.items ≡ part_outcome part.now }
+    ensures named { All (λ name. (name.0 < length part.now.test.agents) × (name.1 < REGISTERS)) (names_of part.now.test) }
+{
+    let mut outcome = Outcome::new();
+    for name in plan.names() {
+        outcome.push(value_held(part, *name));
+    }
+    outcome
+}
+
+/// Whether a register holds a read, by the read's number.
+pub(crate) fn holds_read(part: &Part<'_>, name: (u8, u8), read: u8) -> bool
+    requires agent { name.0 < length part.now.test.agents }
+    requires reg { name.1 < REGISTERS }
+    ensures { IsTrue result ↔ (read_of part.now.test part.now.combination name ≡ Some read) }
+{
+    match read_held(part, name) {
+        Some(held) => held == read,
+        None => false,
+    }
+}
+
+/// Whether some register that a search asks about holds a read.
+fn is_asked<W: Wanted>(plan: &Plan<'_>, part: &Part<'_>, wanted: &W, read: u8) -> bool
+    requires { part.now.test ≡ plan.now }
+    ensures { IsFalse result → (k : ℕ) (name : ℕ × ℕ) → slice_get (names_of plan.now) k ≡ Some name → IsTrue (W.Asks wanted.now plan.now name)
+        → read_of part.now.test part.now.combination name ≢ Some read }
+{
+    for name in plan.names() {
+        if wanted.asks(plan, *name) && holds_read(part, *name, read) {
+            return true;
+        }
+    }
+    false
+}
+
+/// After how many byte reads everything that a search asks about is known.
+pub(crate) fn known_after<W: Wanted>(plan: &Plan<'_>, part: &Part<'_>, wanted: &W) -> usize
+    requires { part.now.test ≡ plan.now }
+    ensures few { result ≤ length (byte_reads (part_events part.now)) }
+    ensures known { AllKnownAfter part.now.test part.now.combination result (W.Asks wanted.now plan.now) }
+{
+    let reads = part.combination().byte_reads();
+    let mut depth = reads.len();
+    while depth > 0 && !is_asked(plan, part, wanted, reads[depth - 1].read) {
+        depth -= 1;
+    }
+    depth
+}

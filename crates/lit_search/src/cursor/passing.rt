@@ -1,0 +1,192 @@
+//! Going on to the next choice that shows an outcome that is wanted, and leaving what can show none.
+
+ghost use Rattle.std.specs.Prelude.{◌≡◌, ℕ, ◌+◌, ◌-◌, ◌<◌, ◌≤◌, ◌↔◌, IsTrue, IsFalse, IfNone, IfSome, MatchOption, length};
+ghost use Rattle.lit_paths.specs.ByteReads.{byte_reads};
+ghost use Rattle.lit_paths.specs.Plan.{choices_before};
+ghost use Rattle.lit_paths.specs.Execution.{Execution};
+ghost use Rattle.lit_rel.specs.Broken.{IsBroken};
+ghost use Rattle.lit_rel.specs.Part.{part_events};
+ghost use Rattle.lit_search.specs.Completion.{Completes};
+ghost use Rattle.lit_search.specs.Report.{in_range};
+ghost use Rattle.lit_search.specs.Internal.Examined.{IsExample};
+ghost use Rattle.lit_search.specs.Internal.Held.{part_outcome};
+ghost use Rattle.lit_search.specs.Internal.Passing.{HasAll, IsOpen, MayPass, NoneValid, first_places};
+ghost use Rattle.lit_search.specs.Internal.Places.{behind_at, low_at, part_at, stand_events};
+ghost use Rattle.lit_search.specs.Internal.Shown.{IsNext, NoneShow, shown_entry};
+ghost use Rattle.lit_search.specs.Internal.StoodFor.{IsStoodFor};
+ghost use Rattle.lit_search.specs.Internal.Wanting.{AllKnownAfter};
+
+use crate::cursor::Cursor;
+use crate::cursor::held::outcome_of;
+use crate::cursor::standing_in::is_stood_for;
+use crate::cursor::wanted::Wanted;
+use crate::found::{Example, Outcome};
+use crate::laws::completions::laws;
+use lit_order::laws::orders_keep_what_is_forced;
+use lit_order::{ForcedFinder, OrderFinder, forced_precedence};
+use lit_paths::Plan;
+use lit_rel::Part;
+
+/// The outcome of a choice of some valid execution, with the choice and its least memory-order.
+#[derive(Debug, Drop)]
+pub(crate) struct Shown {
+    pub outcome: Outcome,
+    pub example: Example,
+}
+
+/// Whether some event of a part is forced before itself, so that no valid execution goes on from it.
+fn is_forced_round(part: &Part<'_>) -> bool
+    ensures { IsTrue result → (x : Execution) → ¬ Completes part.now x }
+{
+    laws();
+    orders_keep_what_is_forced();
+    forced_precedence(&part.happens_before(), &part.between()).is_none()
+}
+
+impl Cursor<'_> {
+    /// Whether the outcome is known, as everything is that a search asks about after so many byte reads, and is not
+    /// wanted.
+    fn has_unwanted<W: Wanted>(&self, plan: &Plan<'_>, wanted: &W, known: usize) -> bool
+        requires test { self.now.test ≡ plan.now }
+        requires known { AllKnownAfter self.now.test self.now.combination known (W.Asks wanted.now plan.now) }
+        ensures passed { IsTrue result → MayPass plan.now (W.IsWanted wanted.now plan.now) 0 self.now known }
+        ensures wanted { IsFalse result → known ≤ length self.now.places → W.IsWanted wanted.now plan.now (part_outcome (part_at self.now)) }
+    {
+        laws();
+        let part = self.part();
+        if part.len() < known {
+            return false;
+        }
+        !wanted.wants(plan, outcome_of(plan, part).as_slice())
+    }
+
+    /// Whether the event that made a byte can stand for its last source, with choices from number `since` on.
+    fn is_stood_for(&self, plan: &Plan<'_>, since: u64) -> bool
+        requires test { self.now.test ≡ plan.now }
+        requires whole { ¬ IsBroken (part_at self.now) }
+        ensures { IsTrue result
+            ↔ (IsStoodFor (part_at self.now) × (since ≤ low_at (first_places self.now (length self.now.places - 1)))) }
+    {
+        let part = self.part();
+        if part.len() == 0 {
+            return false;
+        }
+        if self.low_without_last() < since {
+            return false;
+        }
+        is_stood_for(plan, part, self.last_source())
+    }
+
+    /// How many of its first sources begin choices that may all be passed over: from number `from` on, none of them
+    /// shows an outcome that is wanted. None from `since` up to its own does. Everything that the search asks about is
+    /// known after `known` byte reads.
+    pub(crate) fn passed<W: Wanted>(
+        &self,
+        plan: &Plan<'_>,
+        wanted: &W,
+        known: usize,
+        since: u64,
+        from: u64,
+    ) -> Option<usize>
+        requires test { self.now.test ≡ plan.now }
+        requires few { known ≤ length (byte_reads (stand_events self.now)) }
+        requires known { AllKnownAfter self.now.test self.now.combination known (W.Asks wanted.now plan.now) }
+        requires seen { NoneShow plan.now (W.IsWanted wanted.now plan.now) (in_range since (low_at self.now)) }
+        ensures some { low_at self.now < behind_at self.now }
+        ensures passed { MatchOption result
+            (IsOpen (W.IsWanted wanted.now plan.now) from self.now)
+            (MayPass plan.now (W.IsWanted wanted.now plan.now) from self.now) }
+    {
+        laws();
+        let part = self.part();
+        let depth = part.len();
+        if self.behind() <= from {
+            return Some(depth);
+        }
+        if part.broken() {
+            return Some(depth);
+        }
+        if self.has_unwanted(plan, wanted, known) {
+            return Some(known);
+        }
+        if self.is_stood_for(plan, since) {
+            return Some(depth);
+        }
+        if depth == 0 || depth == part.reads() {
+            return None;
+        }
+        if is_forced_round(part) {
+            return Some(depth);
+        }
+        None
+    }
+
+    /// What its choice shows: its outcome with the least memory-order, or `None` where no valid execution has it. Each
+    /// byte read has a source.
+    pub(crate) fn shown(&self, plan: &Plan<'_>) -> Option<Shown>
+        requires test { self.now.test ≡ plan.now }
+        requires all { HasAll self.now }
+        requires whole { ¬ IsBroken (part_at self.now) }
+        ensures none { IfNone result (NoneValid plan.now self.now) }
+        ensures shows { IfSome result (λ shown. IsExample plan.now (low_at self.now) (part_outcome (part_at self.now)) shown.example.order.items) }
+        ensures outcome { IfSome result (λ shown. shown.outcome.items ≡ part_outcome (part_at self.now)) }
+        ensures choice { IfSome result (λ shown. shown.example.choice ≡ low_at self.now) }
+    {
+        laws();
+        let part = self.part();
+        let before = part.happens_before();
+        let Some(order) = ForcedFinder.least_order(&before, &part.between()) else {
+            return None;
+        };
+        let outcome = outcome_of(plan, part);
+        let choice = self.low();
+        let example = Example { choice, order };
+        Some(Shown { outcome, example })
+    }
+
+    /// The first choice with a number from `from` up to and without `to` that shows an outcome that is wanted. None from
+    /// `since` up to and without `from` does. The cursor stands at most at `from`, and then at that choice. Everything
+    /// that the search asks about is known after `known` byte reads.
+    pub(crate) fn next<W: Wanted>(
+        &mut self,
+        plan: &Plan<'_>,
+        wanted: &W,
+        known: usize,
+        since: u64,
+        from: u64,
+        to: u64,
+    ) -> Option<Shown>
+        requires test { self.old.test ≡ plan.now }
+        requires few { known ≤ length (byte_reads (stand_events self.old)) }
+        requires known { AllKnownAfter self.old.test self.old.combination known (W.Asks wanted.now plan.now) }
+        requires seen { NoneShow plan.now (W.IsWanted wanted.now plan.now) (in_range since from) }
+        requires low { low_at self.old ≤ from }
+        requires high { to ≤ choices_before plan.now (self.old.combination + 1) }
+        ensures test { self.new.test ≡ plan.now }
+        ensures combination { self.new.combination ≡ self.old.combination }
+        ensures shows { MatchOption result
+            (NoneShow plan.now (W.IsWanted wanted.now plan.now) (in_range from to))
+            (λ shown. IsNext plan.now (W.IsWanted wanted.now plan.now) from to (shown_entry shown)) }
+        ensures stands { IfSome result (λ shown. low_at self.new ≡ shown.example.choice) }
+        ensures all { IfSome result (λ shown. HasAll self.new) }
+    {
+        laws();
+        while self.low() < to {
+            if let Some(depth) = self.passed(plan, wanted, known, since, from) {
+                if !self.leave(depth) {
+                    return None;
+                }
+            } else if self.part().len() < self.part().reads() {
+                self.enter();
+            } else if let Some(shown) = self.shown(plan) {
+                return Some(shown);
+            } else {
+                let depth = self.part().len();
+                if !self.leave(depth) {
+                    return None;
+                }
+            }
+        }
+        None
+    }
+}

@@ -1,0 +1,130 @@
+//! An agent that carries out its statements, in turns.
+
+ghost use Rattle.std.specs.Prelude.{◌≡◌};
+
+use crate::interleaving::block::{number_at, put_number};
+use crate::interleaving::deciding::next_access;
+use lit_read::{REGISTERS, Stmt};
+use std::alloc::{AllocError, Global};
+use std::marker::Model;
+
+/// How far an agent has come. A clause sees it as a `Progress`.
+#[derive(Drop)]
+pub(crate) struct Runner<'t> {
+    /// What is left of the lists of statements that it is in, the innermost last.
+    left: Vec<&'t [Stmt]>,
+    registers: [u32; REGISTERS],
+}
+
+impl<'t> Model for Runner<'t> {
+    ghost use Rattle.lit_search.specs.Interleaving.{Progress};
+    ghost use Rattle.lit_search.specs.Internal.Runners.{coded_progress, progress};
+
+    ghost Value = { Progress };
+
+    ghost coded = { coded_progress };
+
+    ghost view = { progress };
+}
+
+impl<'t> Runner<'t> {
+    ghost use Rattle.std.specs.Prelude.{◌≡◌, ◌<◌, IfOk, true, replicate, length, slice_index};
+    ghost use Rattle.lit_read.specs.declared.limits.TheConstants.{REGISTERS as HELD};
+    ghost use Rattle.lit_read.specs.Litmus.{statement_of, statements_of};
+    ghost use Rattle.lit_read.specs.Syntax.{AreStatementsIn, IsStatementIn, End};
+    ghost use Rattle.lit_search.specs.Interleaving.{accessed, after, after_statement, from_access};
+    ghost use Rattle.lit_search.specs.Internal.Runners.{is_access};
+
+    /// An agent before its first statement.
+    pub(crate) fn new(alloc: Global, body: &'t [Stmt]) -> Result<Self, AllocError>
+        ensures { IfOk result (λ runner. runner ≡ record { left = statements_of body.now; registers = replicate HELD 0 }) }
+    {
+        let mut left = Vec::new(alloc);
+        left.push(body)?;
+        Ok(Runner {
+            left,
+            registers: [0; REGISTERS],
+        })
+    }
+
+    /// What a register holds.
+    pub(crate) fn register(&self, reg: u8) -> u32
+        requires { reg < HELD }
+        ensures { result ≡ slice_index self.now.registers reg }
+    {
+        self.registers[usize::from(reg)]
+    }
+
+    /// Carries out an access.
+    fn carry_out(&mut self, access: &Stmt, block: &mut [u8])
+        requires said { IsStatementIn (length block.old) (statement_of access.now) }
+        requires access { is_access (statement_of access.now) ≡ true }
+        ensures left { self.new.left ≡ self.old.left }
+        ensures done { record { block = block.new; registers = self.new.registers } ≡ after_statement (statement_of access.now) (record { block = block.old; registers = self.old.registers }) }
+    {
+        match access {
+            Stmt::Load {
+                reg,
+                view,
+                index,
+                ..
+            } => {
+                self.registers[usize::from(*reg)] = number_at(block, *view, *index);
+            }
+            Stmt::Store {
+                view,
+                index,
+                value,
+                ..
+            } => put_number(block, *view, *index, *value),
+            Stmt::Exchange {
+                reg,
+                view,
+                index,
+                value,
+            } => {
+                self.registers[usize::from(*reg)] = number_at(block, *view, *index);
+                put_number(block, *view, *index, *value);
+            }
+            Stmt::CompareExchange {
+                reg,
+                view,
+                index,
+                expected,
+                value,
+            } => {
+                let found = number_at(block, *view, *index);
+                self.registers[usize::from(*reg)] = found;
+                if found == *expected {
+                    put_number(block, *view, *index, *value);
+                }
+            }
+            Stmt::If { .. } => unreachable!(),
+        }
+    }
+
+    /// A turn: the statements up to and including the next access, on the block.
+    pub(crate) fn turn(&mut self, block: &mut [u8]) -> Result<(), AllocError>
+        requires { AreStatementsIn (length block.old) self.old.left }
+        ensures left { IfOk result (λ _. self.new.left ≡ (accessed (from_access self.old.registers self.old.left) (record { block = block.old; registers = self.old.registers })).0) }
+        ensures done { IfOk result (λ _. record { block = block.new; registers = self.new.registers }
+            ≡ (accessed (from_access self.old.registers self.old.left) (record { block = block.old; registers = self.old.registers })).1) }
+    {
+        if let Some(access) = next_access(&mut self.left, &self.registers)? {
+            self.carry_out(access, block);
+        }
+        Ok(())
+    }
+
+    /// All that is left, on the block.
+    pub(crate) fn finish(&mut self, block: &mut [u8]) -> Result<(), AllocError>
+        requires { AreStatementsIn (length block.old) self.old.left }
+        ensures left { IfOk result (λ _. self.new.left ≡ End) }
+        ensures done { IfOk result (λ _. record { block = block.new; registers = self.new.registers } ≡ after self.old.left (record { block = block.old; registers = self.old.registers })) }
+    {
+        'accesses: while let Some(next) = next_access(&mut self.left, &self.registers)? {
+            self.carry_out(next, block);
+        }
+        Ok(())
+    }
+}
