@@ -119,7 +119,7 @@ impl Open {
     }
 
     /// With one access more.
-    #[tactic(auto, unfolding(crate::specs::Reading::State::statement_step))]
+    #[tactic(auto, unfolding(crate::specs::Internal::State::statement_step))]
     fn access(self, access: Access) -> Result<Open, ReadKind>
         ensures { Returns open_view result (statement_step (open_view self) (access_view access)) }
     {
@@ -128,7 +128,7 @@ impl Open {
     }
 
     /// Begins an `if`.
-    #[tactic(auto, unfolding(crate::specs::Reading::State::if_step))]
+    #[tactic(auto, unfolding(crate::specs::Internal::State::if_step))]
     fn begin_if(self, alloc: Global, reg: u8, equal: bool, value: u64) -> Result<Open, ReadKind>
         ensures { Returns open_view result (if_step (open_view self) reg equal value) }
     {
@@ -154,7 +154,7 @@ impl Open {
     }
 
     /// Begins the else-part of the innermost `if`.
-    #[tactic(auto, unfolding(crate::specs::Reading::State::else_step))]
+    #[tactic(auto, unfolding(crate::specs::Internal::State::else_step))]
     fn begin_else(self, alloc: Global) -> Result<Open, ReadKind>
         ensures { Returns open_view result (else_step (open_view self)) }
     {
@@ -180,7 +180,7 @@ impl Open {
     }
 
     /// Ends the innermost `if`.
-    #[tactic(auto, unfolding(crate::specs::Reading::State::end_step))]
+    #[tactic(auto, unfolding(crate::specs::Internal::State::end_step))]
     fn end_if(self, alloc: Global) -> Result<Open, ReadKind>
         ensures { Returns open_view result (end_step (open_view self)) }
     {
@@ -204,7 +204,7 @@ impl Open {
     }
 
     /// Begins the next agent.
-    #[tactic(auto, unfolding(crate::specs::Reading::State::agent_step, crate::specs::Reading::State::next_step))]
+    #[tactic(auto, unfolding(crate::specs::Internal::State::agent_step, crate::specs::Internal::State::next_step))]
     fn next(self, alloc: Global, name: &str) -> Result<Open, ReadKind>
         requires { IsState (open_view self) }
         ensures { Returns open_view result (agent_step (open_view self) name.now) }
@@ -260,7 +260,7 @@ impl Draft {
     ghost use Rattle.lit_read.specs.Forms.{IsForm};
     ghost use Rattle.lit_read.specs.Internal.Views.{Shows};
 
-    #[tactic(auto, unfolding(crate::specs::Reading::State::test_step))]
+    #[tactic(auto, unfolding(crate::specs::Internal::State::test_step))]
     fn test(self, alloc: Global, name: &str) -> Result<Draft, ReadKind>
         ensures { Returns state_view result (test_step (state_view self) name.now) }
     {
@@ -270,7 +270,7 @@ impl Draft {
         }
     }
 
-    #[tactic(auto, unfolding(crate::specs::Reading::State::block_step))]
+    #[tactic(auto, unfolding(crate::specs::Internal::State::block_step))]
     fn block(self, bytes: u64) -> Result<Draft, ReadKind>
         ensures { Returns state_view result (block_step (state_view self) bytes) }
     {
@@ -288,7 +288,7 @@ impl Draft {
         }
     }
 
-    #[tactic(auto, unfolding(crate::specs::Reading::State::agent_step))]
+    #[tactic(auto, unfolding(crate::specs::Internal::State::agent_step))]
     fn agent(self, alloc: Global, agent: &str) -> Result<Draft, ReadKind>
         requires { IsState (state_view self) }
         ensures { Returns state_view result (agent_step (state_view self) agent.now) }
@@ -308,7 +308,7 @@ impl Draft {
     }
 
     /// What the lines so far and a line of this form say.
-    #[tactic(auto, unfolding(crate::specs::Reading::State::step, crate::specs::Reading::State::statement_step, crate::specs::Reading::State::if_step, crate::specs::Reading::State::else_step, crate::specs::Reading::State::end_step))]
+    #[tactic(auto, unfolding(crate::specs::Internal::State::step, crate::specs::Internal::State::statement_step, crate::specs::Internal::State::if_step, crate::specs::Internal::State::else_step, crate::specs::Internal::State::end_step))]
     fn add_form(self, alloc: Global, form: Form<'_>) -> Result<Draft, ReadKind>
         requires { IsState (state_view self) }
         ensures { Returns state_view result (step (state_view self) (form_view form.entry)) }

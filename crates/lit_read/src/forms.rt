@@ -70,7 +70,7 @@ pub enum Line<'a> {
 }
 
 /// `test NAME`
-#[tactic(auto, unfolding(crate::specs::Reading::FormOfTokens::test_line, crate::specs::Reading::FormOfTokens::front))]
+#[tactic(auto, unfolding(crate::specs::Internal::FormOfTokens::test_line, crate::specs::Internal::FormOfTokens::front))]
 fn test_line<'a>(tokens: &[Token<'a>]) -> Option<Form<'a>>
     ensures { option_map form_view result ≡ test_line (token_views tokens.now) }
 {
@@ -80,7 +80,7 @@ fn test_line<'a>(tokens: &[Token<'a>]) -> Option<Form<'a>>
 }
 
 /// `agent NAME`
-#[tactic(auto, unfolding(crate::specs::Reading::FormOfTokens::agent_line, crate::specs::Reading::FormOfTokens::front))]
+#[tactic(auto, unfolding(crate::specs::Internal::FormOfTokens::agent_line, crate::specs::Internal::FormOfTokens::front))]
 fn agent_line<'a>(tokens: &[Token<'a>]) -> Option<Form<'a>>
     ensures { option_map form_view result ≡ agent_line (token_views tokens.now) }
 {
@@ -90,7 +90,7 @@ fn agent_line<'a>(tokens: &[Token<'a>]) -> Option<Form<'a>>
 }
 
 /// `bytes NUM`
-#[tactic(auto, unfolding(crate::specs::Reading::FormOfTokens::bytes_line, crate::specs::Reading::FormOfTokens::front))]
+#[tactic(auto, unfolding(crate::specs::Internal::FormOfTokens::bytes_line, crate::specs::Internal::FormOfTokens::front))]
 fn bytes_line<'a>(tokens: &[Token<'a>]) -> Option<Form<'a>>
     ensures { option_map form_view result ≡ bytes_line (token_views tokens.now) }
 {
@@ -100,7 +100,7 @@ fn bytes_line<'a>(tokens: &[Token<'a>]) -> Option<Form<'a>>
 }
 
 /// `if REG == NUM {` or `if REG != NUM {`
-#[tactic(auto, unfolding(crate::specs::Reading::FormOfTokens::if_line, crate::specs::Reading::FormOfTokens::front))]
+#[tactic(auto, unfolding(crate::specs::Internal::FormOfTokens::if_line, crate::specs::Internal::FormOfTokens::front))]
 fn if_line<'a>(tokens: &[Token<'a>]) -> Option<Form<'a>>
     ensures { option_map form_view result ≡ if_line (token_views tokens.now) }
 {
@@ -114,7 +114,7 @@ fn if_line<'a>(tokens: &[Token<'a>]) -> Option<Form<'a>>
 }
 
 /// `} else {`
-#[tactic(auto, unfolding(crate::specs::Reading::FormOfTokens::else_line, crate::specs::Reading::FormOfTokens::front))]
+#[tactic(auto, unfolding(crate::specs::Internal::FormOfTokens::else_line, crate::specs::Internal::FormOfTokens::front))]
 fn else_line<'a>(tokens: &[Token<'a>]) -> Option<Form<'a>>
     ensures { option_map form_view result ≡ else_line (token_views tokens.now) }
 {
@@ -125,7 +125,7 @@ fn else_line<'a>(tokens: &[Token<'a>]) -> Option<Form<'a>>
 }
 
 /// `}`
-#[tactic(auto, unfolding(crate::specs::Reading::FormOfTokens::end_line, crate::specs::Reading::FormOfTokens::front))]
+#[tactic(auto, unfolding(crate::specs::Internal::FormOfTokens::end_line, crate::specs::Internal::FormOfTokens::front))]
 fn end_line<'a>(tokens: &[Token<'a>]) -> Option<Form<'a>>
     ensures { option_map form_view result ≡ end_line (token_views tokens.now) }
 {
@@ -134,7 +134,7 @@ fn end_line<'a>(tokens: &[Token<'a>]) -> Option<Form<'a>>
 }
 
 /// A line that says no access.
-#[tactic(auto, unfolding(crate::specs::Reading::FormOfTokens::frame_form))]
+#[tactic(auto, unfolding(crate::specs::Internal::FormOfTokens::frame_form))]
 fn frame_form<'a>(tokens: &[Token<'a>]) -> Option<Form<'a>>
     ensures { option_map form_view result ≡ frame_form (token_views tokens.now) }
 {
@@ -160,7 +160,7 @@ fn frame_form<'a>(tokens: &[Token<'a>]) -> Option<Form<'a>>
 }
 
 /// The form that takes no memory.
-#[tactic(auto, unfolding(crate::specs::Reading::FormOfTokens::fixed_form))]
+#[tactic(auto, unfolding(crate::specs::Internal::FormOfTokens::fixed_form))]
 fn fixed_form<'a>(tokens: &[Token<'a>]) -> Option<Form<'a>>
     ensures { option_map form_view result ≡ fixed_form (token_views tokens.now) }
 {

@@ -91,7 +91,7 @@ fn number_of(digits: &[u8]) -> u64
 }
 
 /// The word at the front, if it is no longer than words are, and the bytes after it.
-#[tactic(auto, unfolding(crate::specs::Reading::FirstToken::word_front))]
+#[tactic(auto, unfolding(crate::specs::Internal::FirstToken::word_front))]
 fn word_at(bytes: &[u8]) -> Option<(Token<'_>, &[u8])>
     ensures { option_map (λ p. (token_view p.0, p.1.now)) result ≡ word_front bytes.now }
 {
@@ -107,7 +107,7 @@ fn word_at(bytes: &[u8]) -> Option<(Token<'_>, &[u8])>
 }
 
 /// The number at the front, if its digits are one, and the bytes after it.
-#[tactic(auto, unfolding(crate::specs::Reading::FirstToken::number_front))]
+#[tactic(auto, unfolding(crate::specs::Internal::FirstToken::number_front))]
 fn number_at(bytes: &[u8]) -> Option<(Token<'_>, &[u8])>
     requires { 0 < prefix_len is_ascii_digit bytes.now }
     ensures { option_map (λ p. (token_view p.0, p.1.now)) result ≡ number_front bytes.now }
@@ -121,7 +121,7 @@ fn number_at(bytes: &[u8]) -> Option<(Token<'_>, &[u8])>
 }
 
 /// The token at the front, and the bytes after it.
-#[tactic(auto, unfolding(crate::specs::Reading::FirstToken::token_front))]
+#[tactic(auto, unfolding(crate::specs::Internal::FirstToken::token_front))]
 fn token_at(bytes: &[u8]) -> Option<(Token<'_>, &[u8])>
     ensures { option_map (λ p. (token_view p.0, p.1.now)) result ≡ token_front bytes.now }
 {

@@ -146,7 +146,7 @@ impl Frame {
 
 impl Frames {
     /// With one mark more.
-    #[tactic(auto, unfolding(crate::specs::Reading::Built::build_step))]
+    #[tactic(auto, unfolding(crate::specs::Internal::Built::build_step))]
     fn with_mark(
         self,
         alloc: Global,

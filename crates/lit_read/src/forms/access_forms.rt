@@ -14,7 +14,7 @@ use crate::tokens::Token;
 use crate::tokens::front::ended;
 
 /// `REG = VIEW[NUM]`
-#[tactic(auto, unfolding(crate::specs::Reading::FormOfTokens::plain_load))]
+#[tactic(auto, unfolding(crate::specs::Internal::FormOfTokens::plain_load))]
 fn plain_load<'a>(tokens: &[Token<'a>]) -> Option<Form<'a>>
     ensures { option_map form_view result ≡ plain_load (token_views tokens.now) }
 {
@@ -30,7 +30,7 @@ fn plain_load<'a>(tokens: &[Token<'a>]) -> Option<Form<'a>>
 }
 
 /// `VIEW[NUM] = NUM`
-#[tactic(auto, unfolding(crate::specs::Reading::FormOfTokens::plain_store))]
+#[tactic(auto, unfolding(crate::specs::Internal::FormOfTokens::plain_store))]
 fn plain_store<'a>(tokens: &[Token<'a>]) -> Option<Form<'a>>
     ensures { option_map form_view result ≡ plain_store (token_views tokens.now) }
 {
@@ -46,7 +46,7 @@ fn plain_store<'a>(tokens: &[Token<'a>]) -> Option<Form<'a>>
 }
 
 /// `REG = Atomics.load(VIEW, NUM)`
-#[tactic(auto, unfolding(crate::specs::Reading::FormOfTokens::atomic_load))]
+#[tactic(auto, unfolding(crate::specs::Internal::FormOfTokens::atomic_load))]
 fn atomic_load<'a>(tokens: &[Token<'a>]) -> Option<Form<'a>>
     ensures { option_map form_view result ≡ atomic_load (token_views tokens.now) }
 {
@@ -63,7 +63,7 @@ fn atomic_load<'a>(tokens: &[Token<'a>]) -> Option<Form<'a>>
 }
 
 /// `Atomics.store(VIEW, NUM, NUM)`
-#[tactic(auto, unfolding(crate::specs::Reading::FormOfTokens::atomic_store))]
+#[tactic(auto, unfolding(crate::specs::Internal::FormOfTokens::atomic_store))]
 fn atomic_store<'a>(tokens: &[Token<'a>]) -> Option<Form<'a>>
     ensures { option_map form_view result ≡ atomic_store (token_views tokens.now) }
 {
@@ -80,7 +80,7 @@ fn atomic_store<'a>(tokens: &[Token<'a>]) -> Option<Form<'a>>
 }
 
 /// `REG = Atomics.exchange(VIEW, NUM, NUM)`
-#[tactic(auto, unfolding(crate::specs::Reading::FormOfTokens::exchange))]
+#[tactic(auto, unfolding(crate::specs::Internal::FormOfTokens::exchange))]
 fn exchange<'a>(tokens: &[Token<'a>]) -> Option<Form<'a>>
     ensures { option_map form_view result ≡ exchange (token_views tokens.now) }
 {
@@ -98,7 +98,7 @@ fn exchange<'a>(tokens: &[Token<'a>]) -> Option<Form<'a>>
 }
 
 /// `REG = Atomics.compareExchange(VIEW, NUM, NUM, NUM)`
-#[tactic(auto, unfolding(crate::specs::Reading::FormOfTokens::compare_exchange))]
+#[tactic(auto, unfolding(crate::specs::Internal::FormOfTokens::compare_exchange))]
 fn compare_exchange<'a>(tokens: &[Token<'a>]) -> Option<Form<'a>>
     ensures { option_map form_view result ≡ compare_exchange (token_views tokens.now) }
 {
@@ -118,7 +118,7 @@ fn compare_exchange<'a>(tokens: &[Token<'a>]) -> Option<Form<'a>>
 }
 
 /// `REG = DV.getUint8(NUM)`
-#[tactic(auto, unfolding(crate::specs::Reading::FormOfTokens::byte_load))]
+#[tactic(auto, unfolding(crate::specs::Internal::FormOfTokens::byte_load))]
 fn byte_load<'a>(tokens: &[Token<'a>]) -> Option<Form<'a>>
     ensures { option_map form_view result ≡ byte_load (token_views tokens.now) }
 {
@@ -135,7 +135,7 @@ fn byte_load<'a>(tokens: &[Token<'a>]) -> Option<Form<'a>>
 }
 
 /// `DV.setUint8(NUM, NUM)`
-#[tactic(auto, unfolding(crate::specs::Reading::FormOfTokens::byte_store))]
+#[tactic(auto, unfolding(crate::specs::Internal::FormOfTokens::byte_store))]
 fn byte_store<'a>(tokens: &[Token<'a>]) -> Option<Form<'a>>
     ensures { option_map form_view result ≡ byte_store (token_views tokens.now) }
 {
@@ -152,7 +152,7 @@ fn byte_store<'a>(tokens: &[Token<'a>]) -> Option<Form<'a>>
 }
 
 /// `REG = DV.NAME(NUM, true)`
-#[tactic(auto, unfolding(crate::specs::Reading::FormOfTokens::wide_load))]
+#[tactic(auto, unfolding(crate::specs::Internal::FormOfTokens::wide_load))]
 fn wide_load<'a>(tokens: &[Token<'a>], name: &str, view: View) -> Option<Form<'a>>
     ensures { option_map form_view result ≡ wide_load name.now (window_of view) (token_views tokens.now) }
 {
@@ -169,7 +169,7 @@ fn wide_load<'a>(tokens: &[Token<'a>], name: &str, view: View) -> Option<Form<'a
 }
 
 /// `DV.NAME(NUM, NUM, true)`
-#[tactic(auto, unfolding(crate::specs::Reading::FormOfTokens::wide_store))]
+#[tactic(auto, unfolding(crate::specs::Internal::FormOfTokens::wide_store))]
 fn wide_store<'a>(tokens: &[Token<'a>], name: &str, view: View) -> Option<Form<'a>>
     ensures { option_map form_view result ≡ wide_store name.now (window_of view) (token_views tokens.now) }
 {
@@ -186,7 +186,7 @@ fn wide_store<'a>(tokens: &[Token<'a>], name: &str, view: View) -> Option<Form<'
 }
 
 /// An access through a typed array.
-#[tactic(auto, unfolding(crate::specs::Reading::FormOfTokens::array_form))]
+#[tactic(auto, unfolding(crate::specs::Internal::FormOfTokens::array_form))]
 pub fn array_form<'a>(tokens: &[Token<'a>]) -> Option<Form<'a>>
     ensures { option_map form_view result ≡ array_form (token_views tokens.now) }
 {
@@ -209,7 +209,7 @@ pub fn array_form<'a>(tokens: &[Token<'a>]) -> Option<Form<'a>>
 }
 
 /// An access through the DataView.
-#[tactic(auto, unfolding(crate::specs::Reading::FormOfTokens::view_form))]
+#[tactic(auto, unfolding(crate::specs::Internal::FormOfTokens::view_form))]
 pub fn view_form<'a>(tokens: &[Token<'a>]) -> Option<Form<'a>>
     ensures { option_map form_view result ≡ view_form (token_views tokens.now) }
 {

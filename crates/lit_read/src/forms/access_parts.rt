@@ -11,7 +11,7 @@ use crate::tokens::front::{after_sign, after_word, number_of, register_of, view_
 use crate::tokens::symbols::Symbol;
 
 /// `REG =`
-#[tactic(auto, unfolding(crate::specs::Reading::FormOfTokens::front))]
+#[tactic(auto, unfolding(crate::specs::Internal::FormOfTokens::front))]
 pub fn given_to<'t, 'a>(tokens: &'t [Token<'a>]) -> Option<(u8, &'t [Token<'a>])>
     ensures { option_map (λ p. ((p.0, tt), token_views p.1.now)) result ≡ front given_to (token_views tokens.now) }
 {
@@ -21,7 +21,7 @@ pub fn given_to<'t, 'a>(tokens: &'t [Token<'a>]) -> Option<(u8, &'t [Token<'a>])
 }
 
 /// `VIEW[NUM]`
-#[tactic(auto, unfolding(crate::specs::Reading::FormOfTokens::front))]
+#[tactic(auto, unfolding(crate::specs::Internal::FormOfTokens::front))]
 pub fn element<'t, 'a>(tokens: &'t [Token<'a>]) -> Option<(View, u64, &'t [Token<'a>])>
     ensures { option_map (λ p. ((window_of p.0, (p.1, tt)), token_views p.2.now)) result ≡ front element (token_views tokens.now) }
 {
@@ -33,7 +33,7 @@ pub fn element<'t, 'a>(tokens: &'t [Token<'a>]) -> Option<(View, u64, &'t [Token
 }
 
 /// `= NUM`
-#[tactic(auto, unfolding(crate::specs::Reading::FormOfTokens::front))]
+#[tactic(auto, unfolding(crate::specs::Internal::FormOfTokens::front))]
 pub fn stored<'t, 'a>(tokens: &'t [Token<'a>]) -> Option<(u64, &'t [Token<'a>])>
     ensures { option_map (λ p. ((p.0, tt), token_views p.1.now)) result ≡ front stored (token_views tokens.now) }
 {
@@ -42,7 +42,7 @@ pub fn stored<'t, 'a>(tokens: &'t [Token<'a>]) -> Option<(u64, &'t [Token<'a>])>
 }
 
 /// `Atomics.NAME(VIEW, NUM`
-#[tactic(auto, unfolding(crate::specs::Reading::FormOfTokens::front))]
+#[tactic(auto, unfolding(crate::specs::Internal::FormOfTokens::front))]
 pub fn atomic_call<'t, 'a>(
     tokens: &'t [Token<'a>],
     name: &str,
@@ -60,7 +60,7 @@ pub fn atomic_call<'t, 'a>(
 }
 
 /// `DV.NAME(NUM`
-#[tactic(auto, unfolding(crate::specs::Reading::FormOfTokens::front))]
+#[tactic(auto, unfolding(crate::specs::Internal::FormOfTokens::front))]
 pub fn view_call<'t, 'a>(tokens: &'t [Token<'a>], name: &str) -> Option<(u64, &'t [Token<'a>])>
     ensures { option_map (λ p. ((p.0, tt), token_views p.1.now)) result ≡ front (view_call name.now) (token_views tokens.now) }
 {
@@ -72,7 +72,7 @@ pub fn view_call<'t, 'a>(tokens: &'t [Token<'a>], name: &str) -> Option<(u64, &'
 }
 
 /// `, NUM`
-#[tactic(auto, unfolding(crate::specs::Reading::FormOfTokens::front))]
+#[tactic(auto, unfolding(crate::specs::Internal::FormOfTokens::front))]
 pub fn argument<'t, 'a>(tokens: &'t [Token<'a>]) -> Option<(u64, &'t [Token<'a>])>
     ensures { option_map (λ p. ((p.0, tt), token_views p.1.now)) result ≡ front argument (token_views tokens.now) }
 {
@@ -81,7 +81,7 @@ pub fn argument<'t, 'a>(tokens: &'t [Token<'a>]) -> Option<(u64, &'t [Token<'a>]
 }
 
 /// `)`
-#[tactic(auto, unfolding(crate::specs::Reading::FormOfTokens::front))]
+#[tactic(auto, unfolding(crate::specs::Internal::FormOfTokens::front))]
 pub fn closed<'t, 'a>(tokens: &'t [Token<'a>]) -> Option<&'t [Token<'a>]>
     ensures { option_map (λ rest. (tt, token_views rest.now)) result ≡ front closed (token_views tokens.now) }
 {
@@ -89,7 +89,7 @@ pub fn closed<'t, 'a>(tokens: &'t [Token<'a>]) -> Option<&'t [Token<'a>]>
 }
 
 /// `, true)`
-#[tactic(auto, unfolding(crate::specs::Reading::FormOfTokens::front))]
+#[tactic(auto, unfolding(crate::specs::Internal::FormOfTokens::front))]
 pub fn little_endian<'t, 'a>(tokens: &'t [Token<'a>]) -> Option<&'t [Token<'a>]>
     ensures { option_map (λ rest. (tt, token_views rest.now)) result ≡ front little_endian (token_views tokens.now) }
 {

@@ -31,7 +31,7 @@ pub enum Mark<'a> {
 }
 
 /// `NAME.REG == NUM` or `NAME.REG != NUM`, and the tokens after it.
-#[tactic(auto, unfolding(crate::specs::Reading::FormOfTokens::comparison_of))]
+#[tactic(auto, unfolding(crate::specs::Internal::FormOfTokens::comparison_of))]
 fn comparison_of<'t, 'a>(tokens: &'t [Token<'a>]) -> Option<(Comparison<'a>, &'t [Token<'a>])>
     ensures { option_map (λ p. (comparison_view p.0, token_views p.1.now)) result ≡ comparison_of (token_views tokens.now) }
 {
@@ -50,7 +50,7 @@ fn comparison_of<'t, 'a>(tokens: &'t [Token<'a>]) -> Option<(Comparison<'a>, &'t
 }
 
 /// The mark at the front, and the tokens after it.
-#[tactic(auto, unfolding(crate::specs::Reading::Marks::mark_of))]
+#[tactic(auto, unfolding(crate::specs::Internal::Marks::mark_of))]
 fn mark_of<'t, 'a>(tokens: &'t [Token<'a>]) -> Option<(Mark<'a>, &'t [Token<'a>])>
     ensures { option_map (λ p. (mark_view p.0, token_views p.1.now)) result ≡ mark_of (token_views tokens.now) }
 {
@@ -75,7 +75,7 @@ fn mark_of<'t, 'a>(tokens: &'t [Token<'a>]) -> Option<(Mark<'a>, &'t [Token<'a>]
 
 /// Whether an operand stands behind a mark and how many parentheses are open there, if the mark can follow one or none
 /// and so many.
-#[tactic(auto, unfolding(crate::specs::Reading::Marks::follow))]
+#[tactic(auto, unfolding(crate::specs::Internal::Marks::follow))]
 fn follow(behind: bool, opened: usize, mark: Mark<'_>) -> Option<(bool, usize)>
     requires { opened + 1 < 2 ^ 64 }
     ensures { result ≡ follow behind opened (mark_view mark.entry) }

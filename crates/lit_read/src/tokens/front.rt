@@ -11,7 +11,7 @@ use crate::tokens::Token;
 use crate::tokens::symbols::Symbol;
 
 /// The tokens after this symbol.
-#[tactic(auto, unfolding(crate::specs::Reading::FormOfTokens::after_sign))]
+#[tactic(auto, unfolding(crate::specs::Internal::FormOfTokens::after_sign))]
 pub fn after_sign<'t, 'a>(tokens: &'t [Token<'a>], sign: Symbol) -> Option<&'t [Token<'a>]>
     ensures { option_map (λ rest. token_views rest.now) result ≡ after_sign (token_views tokens.now) sign }
 {
@@ -22,7 +22,7 @@ pub fn after_sign<'t, 'a>(tokens: &'t [Token<'a>], sign: Symbol) -> Option<&'t [
 }
 
 /// The word at the front, and the tokens after it.
-#[tactic(auto, unfolding(crate::specs::Reading::FormOfTokens::word_of))]
+#[tactic(auto, unfolding(crate::specs::Internal::FormOfTokens::word_of))]
 pub fn word_of<'t, 'a>(tokens: &'t [Token<'a>]) -> Option<(&'a str, &'t [Token<'a>])>
     ensures { option_map (λ p. (p.0.now, token_views p.1.now)) result ≡ word_of (token_views tokens.now) }
 {
@@ -33,7 +33,7 @@ pub fn word_of<'t, 'a>(tokens: &'t [Token<'a>]) -> Option<(&'a str, &'t [Token<'
 }
 
 /// The number at the front, and the tokens after it.
-#[tactic(auto, unfolding(crate::specs::Reading::FormOfTokens::number_of))]
+#[tactic(auto, unfolding(crate::specs::Internal::FormOfTokens::number_of))]
 pub fn number_of<'t, 'a>(tokens: &'t [Token<'a>]) -> Option<(u64, &'t [Token<'a>])>
     ensures { option_map (λ p. (p.0, token_views p.1.now)) result ≡ number_of (token_views tokens.now) }
 {
@@ -44,7 +44,7 @@ pub fn number_of<'t, 'a>(tokens: &'t [Token<'a>]) -> Option<(u64, &'t [Token<'a>
 }
 
 /// The tokens after this word.
-#[tactic(auto, unfolding(crate::specs::Reading::FormOfTokens::after_word))]
+#[tactic(auto, unfolding(crate::specs::Internal::FormOfTokens::after_word))]
 pub fn after_word<'t, 'a>(tokens: &'t [Token<'a>], text: &str) -> Option<&'t [Token<'a>]>
     ensures { option_map (λ rest. token_views rest.now) result ≡ after_word (token_views tokens.now) text.now }
 {
@@ -53,7 +53,7 @@ pub fn after_word<'t, 'a>(tokens: &'t [Token<'a>], text: &str) -> Option<&'t [To
 }
 
 /// The number of a register: 0 for `r0`.
-#[tactic(auto, unfolding(crate::specs::Reading::FormOfTokens::register_number))]
+#[tactic(auto, unfolding(crate::specs::Internal::FormOfTokens::register_number))]
 fn register_number(word: &str) -> Option<u8>
     ensures { result ≡ register_number word.now }
 {
@@ -66,7 +66,7 @@ fn register_number(word: &str) -> Option<u8>
 }
 
 /// The register at the front, and the tokens after it.
-#[tactic(auto, unfolding(crate::specs::Reading::FormOfTokens::register_of))]
+#[tactic(auto, unfolding(crate::specs::Internal::FormOfTokens::register_of))]
 pub fn register_of<'t, 'a>(tokens: &'t [Token<'a>]) -> Option<(u8, &'t [Token<'a>])>
     ensures { option_map (λ p. (p.0, token_views p.1.now)) result ≡ register_of (token_views tokens.now) }
 {
@@ -75,7 +75,7 @@ pub fn register_of<'t, 'a>(tokens: &'t [Token<'a>]) -> Option<(u8, &'t [Token<'a
 }
 
 /// The typed array of this name.
-#[tactic(auto, unfolding(crate::specs::Reading::FormOfTokens::window_named))]
+#[tactic(auto, unfolding(crate::specs::Internal::FormOfTokens::window_named))]
 fn window_named(word: &str) -> Option<View>
     ensures { option_map window_of result ≡ window_named word.now }
 {
@@ -91,7 +91,7 @@ fn window_named(word: &str) -> Option<View>
 }
 
 /// The typed array at the front, and the tokens after it.
-#[tactic(auto, unfolding(crate::specs::Reading::FormOfTokens::view_of))]
+#[tactic(auto, unfolding(crate::specs::Internal::FormOfTokens::view_of))]
 pub fn view_of<'t, 'a>(tokens: &'t [Token<'a>]) -> Option<(View, &'t [Token<'a>])>
     ensures { option_map (λ p. (window_of p.0, token_views p.1.now)) result ≡ view_of (token_views tokens.now) }
 {
@@ -100,7 +100,7 @@ pub fn view_of<'t, 'a>(tokens: &'t [Token<'a>]) -> Option<(View, &'t [Token<'a>]
 }
 
 /// Whether `==` stands at the front, or `!=`, and the tokens after it.
-#[tactic(auto, unfolding(crate::specs::Reading::FormOfTokens::relation_of))]
+#[tactic(auto, unfolding(crate::specs::Internal::FormOfTokens::relation_of))]
 pub fn relation_of<'t, 'a>(tokens: &'t [Token<'a>]) -> Option<(bool, &'t [Token<'a>])>
     ensures { option_map (λ p. (p.0, token_views p.1.now)) result ≡ relation_of (token_views tokens.now) }
 {

@@ -36,7 +36,7 @@ pub enum Symbol {
     Dot,
 }
 
-#[tactic(auto, unfolding(crate::specs::Reading::FirstToken::pair_of))]
+#[tactic(auto, unfolding(crate::specs::Internal::FirstToken::pair_of))]
 fn pair(first: u8, second: u8) -> Option<Symbol>
     ensures { result ≡ pair_of first second }
 {
@@ -49,7 +49,7 @@ fn pair(first: u8, second: u8) -> Option<Symbol>
     }
 }
 
-#[tactic(auto, unfolding(crate::specs::Reading::FirstToken::single_of))]
+#[tactic(auto, unfolding(crate::specs::Internal::FirstToken::single_of))]
 fn single(byte: u8) -> Option<Symbol>
     ensures { result ≡ single_of byte }
 {
@@ -69,7 +69,7 @@ fn single(byte: u8) -> Option<Symbol>
 }
 
 /// The longest symbol at the front, and the bytes after it.
-#[tactic(auto, unfolding(crate::specs::Reading::FirstToken::symbol_front))]
+#[tactic(auto, unfolding(crate::specs::Internal::FirstToken::symbol_front))]
 pub fn symbol_at(bytes: &[u8]) -> Option<(Symbol, &[u8])>
     ensures { option_map (λ p. (p.0, p.1.now)) result ≡ symbol_front bytes.now }
 {
