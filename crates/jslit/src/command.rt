@@ -1,5 +1,6 @@
 //! The program: what it prints, and its status.
 
+pub(crate) mod asked_line;
 pub(crate) mod words;
 
 ghost use Rattle.std.specs.Prelude.{◌≡◌, ◌≢◌, ◌⊎◌, ◌<◌, ◌^◌, ◌-◌, false, IfErr, OnOk};
@@ -10,7 +11,8 @@ ghost use Rattle.jslit.specs.Devices.{OfToldText};
 ghost use Rattle.jslit.specs.InterleavingAnswer.{HasInterleaved, HasInterleavedSome, HasRefusedSchedule};
 ghost use Rattle.jslit.specs.Internal.Saying.{HasSaid, IsSaid};
 
-use crate::command::words::{Line, line};
+use crate::command::asked_line::Line;
+use crate::command::words::line;
 use crate::counted::Counted;
 use crate::engine::{Options, run};
 use crate::fault::RunFault;

@@ -17,7 +17,8 @@ mod page;
 mod reading;
 mod verdict;
 
-pub use command::words::{Line, line};
+pub use command::asked_line::Line;
+pub use command::words::line;
 pub use command::{check, check_schedule, no_words, program};
 pub use counted::Counted;
 pub use engine::{Options, run};

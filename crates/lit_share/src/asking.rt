@@ -16,6 +16,7 @@ use crate::fault::ShareFault;
 use crate::gate::Gate;
 use crate::hunting::hunt;
 use crate::limits::CUT_LIMIT;
+use crate::quick_answer::Quick;
 use crate::worker::{Worker, workers_at};
 use lit_desk::{Desk, Place};
 use lit_paths::Plan;
@@ -23,14 +24,6 @@ use lit_search::{Class, Example, search_range};
 use std::alloc::Global;
 use std::mem;
 use std::thread::{Threads, join_mut};
-
-/// The least choice of a valid execution whose outcome meets the condition, with its least memory-order, and the least
-/// of one whose outcome does not.
-#[derive(Debug, PartialEq, Eq, Drop)]
-pub struct Quick {
-    pub met: Option<Example>,
-    pub unmet: Option<Example>,
-}
 
 /// A worker of a quick search. It answers nothing: what it found it tells the desk.
 type Hunter<P> = Worker<P, ()>;

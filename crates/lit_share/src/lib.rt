@@ -13,14 +13,16 @@ mod hunting;
 pub mod laws;
 mod limits;
 mod pieces;
+mod quick_answer;
 mod searching;
 mod worker;
 mod working;
 
-pub use asking::{Quick, quick};
+pub use asking::quick;
 pub use fault::ShareFault;
 pub use gate::{Gate, OpenGate};
 pub use hunting::hunt;
 pub use limits::{CUT_LIMIT, WORKER_LIMIT};
+pub use quick_answer::Quick;
 pub use searching::search;
 pub use working::work;

@@ -1,25 +1,15 @@
-//! The words of the command line, and what they ask for.
+//! The words of the command line.
 
 ghost use Rattle.std.specs.Prelude.{◌≡◌, [], false, IfOk, codes};
 ghost use Rattle.jslit.specs.Internal.Command.{IsCommand, ReadsNumber};
 ghost use Rattle.lit_share.specs.declared.limits.TheConstants.{CUT_LIMIT as CUTS, WORKER_LIMIT as WORKERS};
 
+use crate::command::asked_line::Line;
 use crate::engine::Options;
 use clap::{Arg, ArgAction, Command, Error, value_parser};
 use lit_share::{CUT_LIMIT, WORKER_LIMIT};
 use std::alloc::{AllocError, Global};
 use std::convert::AsStr;
-
-/// What the words of the command line ask for.
-#[derive(Clone, Copy, Debug, PartialEq, Eq)]
-pub struct Line<'a> {
-    /// How the work is done, and which report is asked for.
-    pub options: Options,
-    /// The schedule whose outcome is asked for in place of a report.
-    pub schedule: Option<&'a str>,
-    /// The file that holds the text; standard input where there is none.
-    pub file: Option<&'a str>,
-}
 
 /// What is done where the words say nothing else.
 const USUAL: Options = Options {

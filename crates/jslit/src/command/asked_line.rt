@@ -1,0 +1,14 @@
+//! What the words of the command line ask for.
+
+use crate::engine::Options;
+
+/// What the words of the command line ask for.
+#[derive(Clone, Copy, Debug, PartialEq, Eq)]
+pub struct Line<'a> {
+    /// How the work is done, and which report is asked for.
+    pub options: Options,
+    /// The schedule whose outcome is asked for in place of a report.
+    pub schedule: Option<&'a str>,
+    /// The file that holds the text; standard input where there is none.
+    pub file: Option<&'a str>,
+}
