@@ -4,7 +4,7 @@ use Rattle.std.specs.Cmp.Lexicographic.{slice_cmp}
 use Rattle.std.specs.Ordering.{nat_cmp}
 use Rattle.std.specs.declared.cmp.Ordering.TheVariants.{Less, Equal}
 use Rattle.std.proofs.lemmas.Bool.{cases_lt}
-use Rattle.std.proofs.lemmas.List.{drop_more}
+use Rattle.std.proofs.lemmas.List.{drop_more, length_push}
 use Rattle.std.proofs.lemmas.Option.{slice_get-get_or, slice_get_within}
 use Rattle.lit_read.specs.Syntax.{Litmus}
 use Rattle.lit_paths.specs.declared.event.Event.{Event}
@@ -270,7 +270,7 @@ next_numbered t c known given low i w are left here =
     let at : choices_before t c + low_of (lists_of events) (places.0 ++ i ∷ []) ≡ low + i * more =
     ap (λ n. choices_before t c + n) (low_more (lists_of events) given places.0 _ i places.1 list ∙ ap (λ m. low_of (lists_of events) places.0 + i * m) (ways_from-later events k))
     ∙ omega (arith, same) in
-    let long : ways_from events (length (given ++ w ∷ [])) ≡ more = ap (ways_from events) (long_push given w) in
+    let long : ways_from events (length (given ++ w ∷ [])) ≡ more = ap (ways_from events) (length_push given w) in
     subst (λ (m : ℕ). AreNumbered t c (given ++ w ∷ []) (low + i * more) m) long
     (subst (λ (m : ℕ). AreNumbered t c (given ++ w ∷ []) m (ways_from events (length (given ++ w ∷ [])))) at next))
     (λ no_way.
@@ -280,10 +280,6 @@ next_numbered t c known given low i w are left here =
       λ within. absurd (omega (arith, within, none)),
     ))
     (cases_lt 0 (ways_from events k))
-  where
-    long_push : (xs : List ℕ) (x : ℕ) → length (xs ++ x ∷ []) ≡ length xs + 1
-    long_push [] x = omega arith
-    long_push (y ∷ xs) x = omega (arith, long_push xs x)
 
 pub numbers_choices : (t : Litmus) (c : ℕ) → c < length (combinations_of t) → NumbersChoices t c
 numbers_choices t c known = record {
