@@ -18,7 +18,7 @@ use Rattle.lit_paths.proofs.ChoiceLists.{choice_on, AreSources-sources_of}
 use Rattle.lit_paths.proofs.Digits.{later_ways}
 use Rattle.lit_paths.proofs.Entered.{ways_from-later, length_product-is}
 use Rattle.lit_paths.proofs.PathLists.{combinations_of-rise}
-use Rattle.lit_paths.proofs.Products.{fronted-known, slice_get-fronted, slice_get_right}
+use Rattle.lit_paths.proofs.Products.{fronted-known, slice_get-fronted, slice_get_right, slice_get_left}
 use Rattle.lit_paths.proofs.Rising.{slice_get-map-found, slice_cmp-same, nat_cmp-same}
 use Rattle.lit_paths.proofs.Totals.{before_more, choice_in}
 
@@ -217,17 +217,12 @@ begun_given events n given is =
     let are = AreSources-sources_of events n is.whole is.at in
     record {
       few = omega (arith, are.one_each, ap (λ (ws : List ℕ). length ws) is.begun, long given is.rest);
-      each = λ i r b w at from. are.each i r b w at (ap (λ (ws : List ℕ). slice_get ws i) is.begun ∙ front given is.rest i w from);
+      each = λ i r b w at from. are.each i r b w at (ap (λ (ws : List ℕ). slice_get ws i) is.begun ∙ slice_get_left given is.rest i (slice_get_within given i w from) ∙ from);
     }
   where
     long : (xs ys : List ℕ) → length xs ≤ length (xs ++ ys)
     long [] ys = omega arith
     long (x ∷ xs) ys = omega (arith, long xs ys)
-
-    front : (xs ys : List ℕ) (i w : ℕ) → slice_get xs i ≡ Some w → slice_get (xs ++ ys) i ≡ Some w
-    front [] ys i w at = cc
-    front (x ∷ xs) ys zero w at = at
-    front (x ∷ xs) ys (suc i) w at = front xs ys i w at
 
 -- ---- the next byte read
 list_next : (events : List Event) (k : ℕ) → k < length (byte_reads events) → slice_get (lists_of events) k ≡ Some (candidates_of events (byte_read_at events k))

@@ -141,17 +141,17 @@ set-index last reg r place inside =
     ∙ ap (λ b. if b then Some place else slice_index_or last r none) (sym (ne_eqb reg r other)))
     (cases_eq reg r)
 
-length-set_last : (last : List (Option ℕ)) (reg : ℕ) (x : Option ℕ) → length (slice_set last reg x) ≡ length last
-length-set_last [] reg x = refl
-length-set_last (y ∷ last) zero x = refl
-length-set_last (y ∷ last) (suc reg) x = ap suc (length-set_last last reg x)
+pub length-slice_set : {A : Type 0} (xs : List A) (i : ℕ) (x : A) → length (slice_set xs i x) ≡ length xs
+length-slice_set [] i x = refl
+length-slice_set (y ∷ xs) zero x = refl
+length-slice_set (y ∷ xs) (suc i) x = ap suc (length-slice_set xs i x)
 
 length-last_from : (place : ℕ) (last : List (Option ℕ)) (steps : List Step) → length (last_from place last steps) ≡ length last
 length-last_from place last [] = refl
-length-last_from place last (LoadMet reg window index atomic ∷ steps) = length-last_from (place + 1) (slice_set last reg (Some place)) steps ∙ length-set_last last reg (Some place)
+length-last_from place last (LoadMet reg window index atomic ∷ steps) = length-last_from (place + 1) (slice_set last reg (Some place)) steps ∙ length-slice_set last reg (Some place)
 length-last_from place last (StoreMet window index value atomic ∷ steps) = length-last_from (place + 1) last steps
-length-last_from place last (ExchangeMet reg window index value ∷ steps) = length-last_from (place + 1) (slice_set last reg (Some place)) steps ∙ length-set_last last reg (Some place)
-length-last_from place last (CompareExchangeMet reg window index expected value succeeds ∷ steps) = length-last_from (place + 1) (slice_set last reg (Some place)) steps ∙ length-set_last last reg (Some place)
+length-last_from place last (ExchangeMet reg window index value ∷ steps) = length-last_from (place + 1) (slice_set last reg (Some place)) steps ∙ length-slice_set last reg (Some place)
+length-last_from place last (CompareExchangeMet reg window index expected value succeeds ∷ steps) = length-last_from (place + 1) (slice_set last reg (Some place)) steps ∙ length-slice_set last reg (Some place)
 length-last_from place last (IfMet reg equal value holds ∷ steps) = length-last_from place last steps
 
 -- a read into a register, and then later steps
@@ -173,12 +173,12 @@ last_from-at : (place : ℕ) (last : List (Option ℕ)) (steps : List Step) (r :
     → slice_index_or (last_from place last steps) r None ≡ option_or (last_read_from place steps r) (slice_index_or last r None)
 last_from-at place last [] r inside = refl
 last_from-at place last (LoadMet reg window index atomic ∷ steps) r inside =
-    last_from-at (place + 1) (slice_set last reg (Some place)) steps r (omega (arith, inside, length-set_last last reg (Some place))) ∙ read_then place reg r last steps inside
+    last_from-at (place + 1) (slice_set last reg (Some place)) steps r (omega (arith, inside, length-slice_set last reg (Some place))) ∙ read_then place reg r last steps inside
 last_from-at place last (StoreMet window index value atomic ∷ steps) r inside = last_from-at (place + 1) last steps r inside ∙ other_then (place + 1) (place + 1) r last steps refl
 last_from-at place last (ExchangeMet reg window index value ∷ steps) r inside =
-    last_from-at (place + 1) (slice_set last reg (Some place)) steps r (omega (arith, inside, length-set_last last reg (Some place))) ∙ read_then place reg r last steps inside
+    last_from-at (place + 1) (slice_set last reg (Some place)) steps r (omega (arith, inside, length-slice_set last reg (Some place))) ∙ read_then place reg r last steps inside
 last_from-at place last (CompareExchangeMet reg window index expected value succeeds ∷ steps) r inside =
-    last_from-at (place + 1) (slice_set last reg (Some place)) steps r (omega (arith, inside, length-set_last last reg (Some place))) ∙ read_then place reg r last steps inside
+    last_from-at (place + 1) (slice_set last reg (Some place)) steps r (omega (arith, inside, length-slice_set last reg (Some place))) ∙ read_then place reg r last steps inside
 last_from-at place last (IfMet reg equal value holds ∷ steps) r inside = last_from-at place last steps r inside ∙ other_then place (place + 0) r last steps (omega arith)
 
 none-at : (n r : ℕ) → slice_index_or ((let none : Option ℕ = None in replicate n none)) r None ≡ None
@@ -221,7 +221,7 @@ pub record Reflects (before : List Step) (last : List (Option ℕ)) : Type 0 whe
 reflects-read : (before : List Step) (step : Step) (reg : ℕ) (last : List (Option ℕ)) → ((r : ℕ) → reads_into r step ≡ (reg == r)) → Reflects before last
     → Reflects (before ++ step ∷ []) (slice_set last reg (Some (access_count before)))
 reflects-read before step reg last reads is = record {
-  long = length-set_last last reg (Some (access_count before)) ∙ is.long;
+  long = length-slice_set last reg (Some (access_count before)) ∙ is.long;
   each = λ r inside.
       set-index last reg r (access_count before) (omega (arith, inside, is.long))
       ∙ ap (λ b. if b then Some (access_count before) else slice_index_or last r None) (sym (reads r))
