@@ -1,10 +1,9 @@
 -- Sets of events as words: after an event is put in, of two sets together, sets of no event, and sets within another.
-use Rattle.std.proofs.Common.{◌≡◌, ◌≢◌, ◌⊎◌, ◌↔◌, ℕ, ◌+◌, ◌-◌, ◌*◌, ◌^◌, ◌/◌, ◌%◌, ◌<◌, ◌≤◌, max, min, List, [], ◌∷◌, get_or, length, bit_and, bit_or, ap, inl, inr, arith, refl, subst, sym, ◌∙◌, w64, suc, zero}
+use Rattle.std.proofs.Common.{◌≡◌, ◌≢◌, ◌⊎◌, ◌↔◌, ℕ, ◌+◌, ◌-◌, ◌*◌, ◌^◌, ◌/◌, ◌%◌, ◌<◌, ◌≤◌, max, min, List, [], ◌∷◌, get_or, bit_and, bit_or, ap, inl, inr, arith, refl, subst, sym, ◌∙◌, w64, suc, zero}
 use Rattle.std.proofs.Math.ListN.{set}
-use Rattle.std.proofs.lemmas.List.{get_or-set_same, get_or-set_other}
 use Rattle.std.specs.Int.RustNames.{bit_xor}
 use Rattle.std.proofs.lemmas.Nat.Bits.{bit_at_or, bit_at_and, bit_at_xor, bit_at-lt, bit_at-suc, bit_at-zero, bit_at_cat_high, bit_at_cat_low, bit_at_lowest, same_from_bits_below, bit_at-trailing_zeros, bit_at_ones, bit_at_ones_above, bit_at_set_same, bit_at_set_other, same_from_bits}
-use Rattle.std.proofs.lemmas.Bool.{cases_eq, cases_order}
+use Rattle.std.proofs.lemmas.Bool.{cases_eq, cases_order, cases_lt}
 use Rattle.std.proofs.lemmas.Nat.{div-add-mod', le_or_l, one_shl, pow_pos}
 use Rattle.std.proofs.Math.Nat.{mod-lt, suc-mul}
 use Rattle.std.specs.Int.{bit_at, trailing_zeros}
@@ -165,9 +164,6 @@ HasBit-ones count k within =
     not_both : (x : ℕ) → x ≡ 1 → x ≡ 0 → ⊥
     not_both x one zero_is = absurd (omega arith)
 
-    cases_lt : (x y : ℕ) → (x < y) ⊎ (y ≤ x)
-    cases_lt x y = elim (cases_order x y) [ inl same ↦ inr (omega arith) | inr apart ↦ elim apart [ inl less ↦ inl less | inr more ↦ inr (omega arith) ] ]
-
 -- the one word has no bit that the other lacks
 pub within_from_or : (a b k : ℕ) → bit_or a b ≡ b → HasBit a k → HasBit b k
 within_from_or a b k e h = subst (λ (w : ℕ). HasBit w k) e ((HasBit-or a b k).1 (inl h))
@@ -216,20 +212,6 @@ get_or-empty (s ∷ ss) e (suc k) = get_or-empty ss e.1 k
 pub HasEvent-none : (ss : List EventSet) → AreEmpty ss → (a d : ℕ) → HasEvent (get_or ss a no_events) d → ⊥
 HasEvent-none ss e a d h = HasBit-zero (get_or ss a no_events).bits d (get_or-empty ss e a) h
 
--- the sets of events below n alone: at first, and after a write
+-- the sets of events below n alone, at first
 pub AreWithin-none : (n : ℕ) (ss : List EventSet) → AreEmpty ss → AreWithin n ss
 AreWithin-none n ss e = record { first_known = λ a d h. absurd (HasEvent-none ss e a d h); second_known = λ a d h. absurd (HasEvent-none ss e a d h) }
-
-pub AreWithin-set : (n : ℕ) (ss : List EventSet) (a : ℕ) (s : EventSet) → AreWithin n ss → a < n → a < length ss → ((d : ℕ) → HasEvent s d → d < n) → AreWithin n (set ss a s)
-AreWithin-set n ss a s w below within known = record {
-  first_known = λ x d h. elim (cases_eq x a) [
-    | inl same ↦ subst (λ (k : ℕ). k < n) (sym same) below
-    | inr other ↦ w.first_known x d (subst (λ (t : EventSet). HasEvent t d) (get_or-set_other ss a x s no_events other) h)
-  ];
-  second_known = λ x d h. elim (cases_eq x a) [
-    | inl same ↦
-        let at_a : HasEvent (get_or (set ss a s) a no_events) d = subst (λ (k : ℕ). HasEvent (get_or (set ss a s) k no_events) d) same h in
-        known d (subst (λ (t : EventSet). HasEvent t d) (get_or-set_same ss a s no_events within) at_a)
-    | inr other ↦ w.second_known x d (subst (λ (t : EventSet). HasEvent t d) (get_or-set_other ss a x s no_events other) h)
-  ];
-}
