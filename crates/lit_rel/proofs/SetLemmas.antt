@@ -14,6 +14,9 @@ use Rattle.lit_rel.specs.EventSet.{AreWithin, HasEvent, IsSplit, no_events}
 abbrev pub HasBit : ℕ → ℕ → Type 0
 HasBit word k = bit_at word k ≡ 1
 
+not_both : (x : ℕ) → x ≡ 1 → x ≡ 0 → ⊥
+not_both x one none = absurd (omega arith)
+
 one_of_max : (a b : ℕ) → a < 2 → max a b ≡ 1 → (a ≡ 1) ⊎ (b ≡ 1)
 one_of_max a b l e = elim (cases_eq a 1) [ inl h ↦ inl h | inr h ↦ inr (omega arith) ]
 
@@ -135,9 +138,6 @@ module _ (word t : ℕ) (here : HasBit word t) (none : (k : ℕ) → k < t → H
     (λ h. (HasBit-and word (word - 1) k).1 (h.0, elim (cases_eq_lt k t) [ inl low ↦ absurd (none k low h.0) | inr rest ↦ elim rest [ inl same ↦ absurd (h.1 same) | inr above ↦ less_above k above ∙ h.0 ] ])),
   )
     where
-      not_both : (x : ℕ) → x ≡ 1 → x ≡ 0 → ⊥
-      not_both x one zero_is = absurd (omega arith)
-
       cases_eq_lt : (x y : ℕ) → (x < y) ⊎ ((x ≡ y) ⊎ (y < x))
       cases_eq_lt x y = elim (cases_order x y) [ inl same ↦ inr (inl same) | inr apart ↦ elim apart [ inl less ↦ inl less | inr more ↦ inr (inr more) ] ]
 
@@ -145,10 +145,7 @@ module _ (word t : ℕ) (here : HasBit word t) (none : (k : ℕ) → k < t → H
 pub lowest_bit : (word : ℕ) → word < 2 ^ 64 → (word ≡ 0 → ⊥) → (trailing_zeros w64 word < 64) × HasBit word (trailing_zeros w64 word) × ((k : ℕ) → k < trailing_zeros w64 word → HasBit word k → ⊥)
 lowest_bit word small some =
     let lowest = bit_at-trailing_zeros w64 word (omega arith) small in
-    (lowest.0, lowest.1, λ k below h. one_is_none (bit_at word k) h (lowest.2 k below))
-  where
-    one_is_none : (x : ℕ) → x ≡ 1 → x ≡ 0 → ⊥
-    one_is_none x one none = absurd (omega arith)
+    (lowest.0, lowest.1, λ k below h. not_both (bit_at word k) h (lowest.2 k below))
 
 -- as many ones have the bits below, as the code computes them
 pub HasBit-ones : (count k : ℕ) → count < 64 → HasBit (1 * 2 ^ count % 2 ^ 64 - 1) k ↔ (k < count)
@@ -160,9 +157,6 @@ HasBit-ones count k within =
       ]),
       (λ below. subst (λ (w : ℕ). HasBit (w - 1) k) (sym shifted) (bit_at_ones count k below)),
     )
-  where
-    not_both : (x : ℕ) → x ≡ 1 → x ≡ 0 → ⊥
-    not_both x one zero_is = absurd (omega arith)
 
 -- the one word has no bit that the other lacks
 pub within_from_or : (a b k : ℕ) → bit_or a b ≡ b → HasBit a k → HasBit b k
