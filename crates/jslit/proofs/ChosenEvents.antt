@@ -1,12 +1,11 @@
 -- The events of a choice are those of its combination, and their owners are agents of the test.
-use Rattle.std.proofs.Common.{◌≡◌, ℕ, zero, suc, ◌+◌, ◌<◌, Bool, true, false, cond, List, [], ◌∷◌, ◌++◌, length, map, Some, refl, sym, ap, ap₂, subst, ◌∙◌, arith}
+use Rattle.std.proofs.Common.{◌≡◌, ℕ, zero, suc, ◌+◌, ◌<◌, Bool, true, false, cond, List, [], ◌∷◌, length, map, Some, refl, sym, ap, subst, ◌∙◌, arith}
 use Rattle.std.specs.Prelude.{All, IfSome, slice_get}
 use Rattle.std.specs.List.{AllByRecursion, flat_map, range_with_len}
 use Rattle.std.specs.Cmp.Lexicographic.{slice_cmp}
-use Rattle.std.specs.Ordering.{nat_cmp, is_eq, ordering_then}
+use Rattle.std.specs.Ordering.{nat_cmp, is_eq}
 use Rattle.std.specs.declared.cmp.Ordering.{Ordering}
-use Rattle.std.specs.declared.cmp.Ordering.TheVariants.{Less, Equal, Greater}
-use Rattle.std.proofs.lemmas.Bool.{le-ltb, eq-eqb}
+use Rattle.std.specs.declared.cmp.Ordering.TheVariants.{Less, Equal}
 use Rattle.std.proofs.lemmas.List.Elements.{All-from_recursion}
 use Rattle.std.proofs.lemmas.Option.{slice_get-get_or, slice_get_within}
 use Rattle.lit_read.specs.Syntax.{Litmus, Window}
@@ -18,6 +17,8 @@ use Rattle.lit_paths.specs.Choice.{Choice, ListsCombinations, choices_of, combin
 use Rattle.lit_paths.specs.Execution.{Execution, execution_events, execution_choice, IsCandidateExecution}
 use Rattle.lit_paths.specs.Plan.{HasSources, IsOfCombination, combination_at, events_in}
 use Rattle.jslit.specs.ChoiceEvents.{paths_with, choice_at, choice_events}
+use Rattle.lit_paths.proofs.Rising.{slice_cmp-same, nat_cmp-same}
+use Rattle.lit_read.proofs.ListLemmas.{all_both}
 use Rattle.jslit.proofs.EntryFacts.{choice_at-is}
 
 -- ---- the combination with some decisions
@@ -27,15 +28,8 @@ decisions_of paths = map (λ path. path.decisions) paths
 abbrev compared : List (List ℕ) → List (List ℕ) → Ordering
 compared a b = slice_cmp (slice_cmp nat_cmp) a b
 
-lists_same : {A : Type 0} (cmp : A → A → Ordering) → ((a : A) → cmp a a ≡ Equal) → (xs : List A) → slice_cmp cmp xs xs ≡ Equal
-lists_same cmp same [] = refl
-lists_same cmp same (x ∷ xs) = ap₂ (λ (s t : Ordering). ordering_then s t) (same x) (lists_same cmp same xs)
-
-numbers_same : (n : ℕ) → nat_cmp n n ≡ Equal
-numbers_same n = ap₂ (λ (s t : Bool). cond s Less (cond t Equal Greater)) (le-ltb n n (omega arith)) (eq-eqb n n refl)
-
 compared-same : (ds : List (List ℕ)) → compared ds ds ≡ Equal
-compared-same ds = lists_same (slice_cmp nat_cmp) (lists_same nat_cmp numbers_same) ds
+compared-same ds = slice_cmp-same (slice_cmp nat_cmp) (slice_cmp-same nat_cmp nat_cmp-same) ds
 
 found_with : (combinations : List (List Path)) (c : ℕ) (paths : List Path) → slice_get combinations c ≡ Some paths
     → ((i : ℕ) (a : List Path) → i < c → slice_get combinations i ≡ Some a → compared (decisions_of a) (decisions_of paths) ≡ Less) → paths_with (decisions_of paths) combinations ≡ paths
@@ -68,10 +62,6 @@ executed t n c of x candidate at =
 abbrev pub IsOwned : ℕ → Event → Type 0
 IsOwned agents e = IfSome e.owner (λ agent. agent < agents)
 
-both : (P : Event → Type 0) (xs ys : List Event) → AllByRecursion P xs → AllByRecursion P ys → AllByRecursion P (xs ++ ys)
-both P [] ys p q = q
-both P (x ∷ xs) ys p q = (p.0, both P xs ys p.1 q)
-
 made_owned : (agents low count : ℕ) → AllByRecursion (IsOwned agents) (map init_event (range_with_len low count))
 made_owned agents low zero = tt
 made_owned agents low (suc count) = (tt, made_owned agents (low + 1) count)
@@ -92,13 +82,13 @@ paths_owned : (agents : ℕ) (paths : List Path) → ((i : ℕ) (path : Path) �
     → AllByRecursion (IsOwned agents) (flat_map (λ es. es) (map (λ path. path.events) paths))
 paths_owned agents [] each = tt
 paths_owned agents (p ∷ ps) each =
-    both (IsOwned agents) p.events (flat_map (λ es. es) (map (λ (path : Path). path.events) ps)) (each 0 p refl) (paths_owned agents ps (λ i path at. each (suc i) path at))
+    all_both (IsOwned agents) p.events (flat_map (λ es. es) (map (λ (path : Path). path.events) ps)) (each 0 p refl) (paths_owned agents ps (λ i path at. each (suc i) path at))
 
 pub events_owned : (t : Litmus) (c : ℕ) → ListsCombinations t → c < length (combinations_of t) → All (IsOwned (length t.agents)) (events_in t c)
 events_owned t c lists known =
     let combined = lists.only c (combination_at t c) (slice_get-get_or (combinations_of t) c [] known) in
     All-from_recursion (IsOwned (length t.agents)) (events_in t c)
-    (both (IsOwned (length t.agents)) (init_events t.bytes) _ (made_owned (length t.agents) 0 t.bytes)
+    (all_both (IsOwned (length t.agents)) (init_events t.bytes) _ (made_owned (length t.agents) 0 t.bytes)
     (paths_owned (length t.agents) (combination_at t c) (λ i path at.
     let is = combined.each i path at in
     let inside : i < length t.agents = omega (arith, combined.one_each, slice_get_within (combination_at t c) i path at) in

@@ -2,6 +2,7 @@
 use Rattle.std.proofs.Common.{◌≡◌, ◌≢◌, ◌⊎◌, ◌<◌, ◌∙◌, inl, inr, ℕ, List, Option, Ok, Err, OnOk, IfErr, IsErrOf, arith, sym, ap, subst}
 use Rattle.std.specs.declared.result.Result.{Result}
 use Rattle.std.specs.Io.KnownBytes.{Keeps}
+use Rattle.std.proofs.KnownBytes.{Appends-kept}
 use Rattle.jslit.specs.Answer.{HasGrown, HasGrownSome, HasGrownRefusal}
 use Rattle.jslit.specs.Counted.{device_of, failures_of}
 use Rattle.jslit.specs.Devices.{OfToldText}
@@ -9,7 +10,7 @@ use Rattle.jslit.specs.Internal.Saying.{HasSaid, IsSaid}
 use Rattle.jslit.specs.declared.counted.Counted.{Counted}
 use Rattle.jslit.specs.declared.fault.RunFault.{RunFault}
 use Rattle.jslit.specs.declared.fault.RunFault.TheVariants as faults
-use Rattle.jslit.proofs.Statuses.{Appends-kept, failed_device, never_zero, refusal_of_text, whole_is_beginning}
+use Rattle.jslit.proofs.Statuses.{failed_device, never_zero, refusal_of_text, whole_is_beginning}
 
 -- A run of this kind of answers and faults took the output from old to mid, and finishing it from there to new.
 module _ {W : Type 0} (contents : W → Option (List ℕ)) (remaining : Option (List ℕ)) (Is : List ℕ → List ℕ → Type 0) (IsFault : List ℕ → RunFault → Type 0) (old mid new : Counted W) (status : ℕ) where

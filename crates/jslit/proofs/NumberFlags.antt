@@ -6,7 +6,7 @@ use Rattle.std.specs.List.{All, slice_index_or}
 use Rattle.std.specs.Str.{bytes_eq}
 use Rattle.std.specs.Str.Parse.{ParsesUnsigned, digits_value, without_leading_plus}
 use Rattle.std.proofs.lemmas.Bool.{cases_lt}
-use Rattle.std.proofs.lemmas.List.{get_or_append_left, get_or-append-add}
+use Rattle.std.proofs.lemmas.List.{get_or_append_left, get_or-append-add, length_push}
 use Rattle.std.proofs.lemmas.List.Elements.{All-get_or, All-nil, All-push}
 use Rattle.std.proofs.lemmas.Slice.Eq.{bytes_eq-Decides}
 use Rattle.clap.specs.Words.{AddsArg, IsParsedFrom, IsUnsignedIn, ReadsOne, args_of, found_of, groups_of, matched_of, one_text, parser_of, read_as, reading_of}
@@ -38,13 +38,7 @@ at_end old new a added j none is =
     ∙ get_or-append-add (args_of old) (added.arg ∷ []) 0 none
 
 one_longer : (old new : Command) (a : Arg) (added : AddsArg old a new) → length (args_of new) ≡ length (args_of old) + 1
-one_longer old new a added = ap length added.args ∙ length_of (args_of old) added.arg
-  where
-    length_of : (l : List Arg) (x : Arg) → length (l ++ x ∷ []) ≡ length l + 1
-    length_of [] x = refl
-    length_of (y ∷ l) x =
-        let more = length_of l x in
-        omega arith
+one_longer old new a added = ap length added.args ∙ length_push (args_of old) added.arg
 
 -- an argument for numbers is still the only one of its name behind one of another name
 pub added_other : (old new : Command) (a : Arg) (name : List ℕ) (low high : ℕ) → AddsArg old a new → bytes_eq a.id.now name ≡ false

@@ -3,10 +3,10 @@ use Rattle.std.proofs.Common.{◌≡◌, ℕ, Bool, true, false, List, [], ◌++
 use Rattle.std.specs.declared.result.Result.{Result}
 use Rattle.std.proofs.lemmas.List.{append-nil}
 use Rattle.std.specs.Io.KnownBytes.{Appends}
+use Rattle.std.proofs.KnownBytes.{Appends-trans, Appends-nil}
 use Rattle.jslit.specs.Counted.{one_more}
 use Rattle.jslit.specs.Devices.{AppendsBeginning}
 use Rattle.jslit.specs.Internal.Writing.{Writing, GoesOn, Fails, Stays, HasPut, IsFinished, IsStopped}
-use Rattle.jslit.proofs.Written.{Appends-then, Appends-nothing}
 
 -- a beginning of what stands before is a beginning of all
 pub beginning_of_more : (a b : Option (List ℕ)) (x y : List ℕ) → AppendsBeginning a b x → AppendsBeginning a b (x ++ y)
@@ -26,7 +26,7 @@ going-then a b c s t p q = record {
   same = q.same ∙ p.same;
   front = p.front ++ q.front;
   parts = joined p.front q.front c.waiting b.waiting a.waiting s t p.parts q.parts;
-  appended = Appends-then a.known b.known c.known p.front q.front p.appended q.appended;
+  appended = Appends-trans a.known b.known c.known p.front q.front p.appended q.appended;
 }
 
 fails-then : (a b c : Writing) (s t : List ℕ) → GoesOn a b s → Fails b c t → Fails a c (s ++ t)
@@ -36,7 +36,7 @@ fails-then a b c s t p q = record {
     front = p.front ++ q.begun.front;
     rest = q.begun.rest;
     parts = joined p.front q.begun.front q.begun.rest b.waiting a.waiting s t p.parts q.begun.parts;
-    appended = Appends-then a.known b.known c.known p.front q.begun.front p.appended q.begun.appended;
+    appended = Appends-trans a.known b.known c.known p.front q.begun.front p.appended q.begun.appended;
   };
 }
 
@@ -68,7 +68,7 @@ HasPut-then a b c s t p q = by_middle b.failed refl
 -- nothing put
 pub HasPut-nothing : (a : Writing) → HasPut a a []
 HasPut-nothing a = record {
-  going = λ before after. record { same = refl; front = []; parts = sym (append-nil a.waiting); appended = Appends-nothing a.known };
+  going = λ before after. record { same = refl; front = []; parts = sym (append-nil a.waiting); appended = Appends-nil a.known };
   failing = λ before after. absurd cc;
   failed = λ before. record { failed = before; same = refl; known = refl };
 }
@@ -114,14 +114,14 @@ put_through a known failures failed waiting text p empty none = record {
 written_by : (a b : Writing) (known : Option (List ℕ)) (text : List ℕ) → GoesOn a b text → a.waiting ≡ [] → Appends b.known known b.waiting → Appends a.known known text
 written_by a b known text p empty rest =
     let all : p.front ++ b.waiting ≡ text = p.parts ∙ ap (λ (w : List ℕ). w ++ text) empty in
-    subst (λ (w : List ℕ). Appends a.known known w) all (Appends-then a.known b.known known p.front b.waiting p.appended rest)
+    subst (λ (w : List ℕ). Appends a.known known w) all (Appends-trans a.known b.known known p.front b.waiting p.appended rest)
 
 begun_by : (a b : Writing) (known : Option (List ℕ)) (text : List ℕ) → GoesOn a b text → a.waiting ≡ [] → AppendsBeginning b.known known b.waiting → AppendsBeginning a.known known text
 begun_by a b known text p empty rest = record {
   front = p.front ++ rest.front;
   rest = rest.rest;
   parts = append_assoc p.front rest.front rest.rest ∙ ap (λ (w : List ℕ). p.front ++ w) rest.parts ∙ p.parts ∙ ap (λ (w : List ℕ). w ++ text) empty;
-  appended = Appends-then a.known b.known known p.front rest.front p.appended rest.appended;
+  appended = Appends-trans a.known b.known known p.front rest.front p.appended rest.appended;
 }
 
 -- a text of which nothing waited before, put and then finished

@@ -1,7 +1,7 @@
 -- The first entry of a class, and what it says of the report and of the verdict.
 use Rattle.std.proofs.Common.{◌≡◌, ◌⊎◌, inl, inr, ℕ, ◌<◌, ◌≤◌, Bool, true, false, Option, Some, None, List, length, get_or, refl, sym, ap, subst, ◌∙◌, arith}
 use Rattle.std.specs.Prelude.{IsTrue, is_some, not}
-use Rattle.std.proofs.lemmas.Bool.{cases_lt, false≢true}
+use Rattle.std.proofs.lemmas.Bool.{cases_lt, false≢true, cases_Bool}
 use Rattle.std.proofs.lemmas.Option.{slice_get-get_or, slice_get_within, get_or_from_slice_get}
 use Rattle.lit_read.specs.Syntax.{Litmus}
 use Rattle.lit_paths.specs.Choice.{choices_of}
@@ -69,11 +69,6 @@ module _ (t : Litmus) where
       let here : HasLeastOrder t e.choice f.order = subst (λ (n : ℕ). HasLeastOrder t n f.order) choice q.least_order in
       ap Some (sym (same_entry f e (p.only f.outcome given) choice (one_order t e.choice e.outcome f.order e.order p.gives here p.least_order)))
 
-  -- an outcome is in one class or the other
-  decided : (b : Bool) → (b ≡ true) ⊎ (b ≡ false)
-  decided true = inl refl
-  decided false = inr refl
-
   none_unmet : (outcome : List ℕ) → meets t outcome ≡ false → IsTrue (is_of_class t Unmet outcome)
   none_unmet outcome is = rw is refl
 
@@ -94,14 +89,14 @@ module _ (t : Litmus) where
         (found.0, slice_get_within report.entries found.0 entry found.1, λ d. get_or_from_slice_get report.entries found.0 entry d found.1)
 
     not_met : (k : ℕ) (d : Entry) → k < length report.entries → IsFirst t Met None → meets t (get_or report.entries k d).outcome ≡ false
-    not_met k d lt none = by (decided (meets t (get_or report.entries k d).outcome))
+    not_met k d lt none = by (cases_Bool (meets t (get_or report.entries k d).outcome))
       where
         by : (meets t (get_or report.entries k d).outcome ≡ true) ⊎ (meets t (get_or report.entries k d).outcome ≡ false) → meets t (get_or report.entries k d).outcome ≡ false
         by (inl is) = absurd (never_of Met none k d lt is)
         by (inr is) = is
 
     all_met : (k : ℕ) (d : Entry) → k < length report.entries → IsFirst t Unmet None → meets t (get_or report.entries k d).outcome ≡ true
-    all_met k d lt none = by (decided (meets t (get_or report.entries k d).outcome))
+    all_met k d lt none = by (cases_Bool (meets t (get_or report.entries k d).outcome))
       where
         by : (meets t (get_or report.entries k d).outcome ≡ true) ⊎ (meets t (get_or report.entries k d).outcome ≡ false) → meets t (get_or report.entries k d).outcome ≡ true
         by (inl is) = is

@@ -1,13 +1,9 @@
--- A fault of the reader or of the plan, as a fault of a run.
-use Rattle.std.proofs.Common.{◌≡◌, ◌≢◌, ◌⊎◌, ◌+◌, ◌≤◌, inl, inr, ℕ, List, [], length, arith, take, Option, Some, None, IfErr, OnErr, IsErrOf, Ok, Err, refl, sym, subst, ◌∙◌}
+-- What is said of the faults of a run.
+use Rattle.std.proofs.Common.{◌≡◌, ◌+◌, ◌≤◌, ℕ, List, [], length, arith, take, Option, Some, None, IfErr, OnErr, IsErrOf, Ok, Err, refl, sym, subst, ◌∙◌}
 use Rattle.std.specs.declared.result.Result.{Result}
 use Rattle.std.specs.Result.{IsErrAnd}
 use Rattle.lit_read.specs.Syntax.{Litmus}
-use Rattle.lit_read.specs.Faults.{IsFirstFault, HasFault}
-use Rattle.lit_read.specs.Spelling.{Spells}
 use Rattle.lit_read.specs.declared.limits.TheConstants.{TEXT_LIMIT}
-use Rattle.lit_read.specs.declared.fault.ReadFault.{ReadFault}
-use Rattle.lit_read.specs.declared.fault.ReadKind.{ReadKind}
 use Rattle.lit_read.specs.declared.fault.ReadKind.TheVariants as kinds
 use Rattle.lit_paths.specs.declared.fault.PlanFault.{PlanFault}
 use Rattle.lit_paths.specs.declared.fault.PlanFault.TheVariants as plan_faults
@@ -16,41 +12,8 @@ use Rattle.lit_paths.specs.Choice.{choices_of, combinations_of}
 use Rattle.lit_paths.specs.declared.limits.TheConstants.{CHOICE_LIMIT, COMBINATION_LIMIT}
 use Rattle.jslit.specs.declared.fault.RunFault.{RunFault}
 use Rattle.jslit.specs.declared.fault.RunFault.TheVariants as faults
-use Rattle.jslit.specs.Answer.{IsFaultOn}
-use Rattle.jslit.specs.Devices.{IsTold, OfToldText}
+use Rattle.jslit.specs.Devices.{OfToldText}
 use Rattle.jslit.specs.Internal.Reading.{IsReadFailure}
-
--- want of memory is no fault of a text
-not_memory : (text : List ℕ) (kind : ReadKind) (n : ℕ) → IsFirstFault text kind n → kind ≢ kinds.OutOfMemory
-unfolding HasFault
-not_memory text kind n first is = subst (λ (k : ReadKind). HasFault text k n) is first.there
-
-module _ (text : List ℕ) (fault : ReadFault) (result : RunFault) (refused : ((fault.kind ≡ kinds.OutOfMemory) × (fault.line ≡ 0)) ⊎ IsFirstFault text fault.kind fault.line) (memory : fault.kind ≡ kinds.OutOfMemory → result ≡ faults.OutOfMemory) (given : fault.kind ≢ kinds.OutOfMemory → result ≡ faults.Read fault) where
-  as_run : (P : RunFault → Type 0) → P faults.OutOfMemory → (IsFirstFault text fault.kind fault.line → P (faults.Read fault)) → P result
-  as_run P at_memory at_fault = elim refused [
-    | inl none ↦ subst P (sym (memory none.0)) at_memory
-    | inr first ↦ subst P (sym (given (not_memory text fault.kind fault.line first))) (at_fault first)
-  ]
-
-  pub read_refused : IsFaultOn text result
-  read_refused = as_run (IsFaultOn text) tt (λ first. first)
-
--- a plan's fault is want of memory or a refusal
-memory_or : (t : Litmus) (fault : PlanFault) → plan.IsPlanFault t fault → (fault ≡ plan_faults.OutOfMemory) ⊎ plan.IsRefusal t fault
-memory_or t plan_faults.TooManyEvents refused = inr refused
-memory_or t plan_faults.TooManyPaths refused = inr refused
-memory_or t plan_faults.TooManyChoices refused = inr refused
-memory_or t plan_faults.OutOfMemory refused = inl refl
-
-module _ (text : List ℕ) (t : Litmus) (fault : PlanFault) (result : RunFault) (spelled : Spells text t) (refused : plan.IsPlanFault t fault) (memory : fault ≡ plan_faults.OutOfMemory → result ≡ faults.OutOfMemory) (given : fault ≢ plan_faults.OutOfMemory → result ≡ faults.Plan fault) where
-  as_plan : (P : RunFault → Type 0) → P faults.OutOfMemory → (plan.IsRefusal t fault → P (faults.Plan fault)) → P result
-  as_plan P at_memory at_fault = elim (memory_or t fault refused) [
-    | inl none ↦ subst P (sym (memory none)) at_memory
-    | inr refusal ↦ subst P (sym (given (λ is. subst (plan.IsRefusal t) is refusal))) (at_fault refusal)
-  ]
-
-  pub plan_refused : IsFaultOn text result
-  plan_refused = as_plan (IsFaultOn text) tt (λ refusal. record { test = t; spelled = spelled; refused = refusal })
 
 -- a test within the limits is refused for none of them
 pub not_refused : (t : Litmus) → plan.HasFewEvents t → length (combinations_of t) ≤ COMBINATION_LIMIT → length (choices_of t) ≤ CHOICE_LIMIT → (fault : PlanFault) → ¬ plan.IsRefusal t fault
@@ -63,15 +26,6 @@ not_refused t few_events few_paths few_choices plan_faults.OutOfMemory refused =
 pub if_err : {X F : Type 0} (r : Result X F) (P Q : F → Type 0) → IsErrAnd r P → ((e : F) → P e → Q e) → IfErr r Q
 if_err (Ok x) P Q is to = tt
 if_err (Err e) P Q is to = to e is
-
--- what a fault says of the text that was read
-pub fault_on_told : (remaining : Option (List ℕ)) (items bytes : List ℕ) (e fault : RunFault) → IsTold remaining items → bytes ≡ items → e ≡ fault → IsFaultOn bytes fault
-    → OfToldText remaining (λ text. IsFaultOn text e)
-fault_on_told remaining items bytes e fault known same is on = record {
-  text = items;
-  is_told = known;
-  holds = subst (λ x. IsFaultOn items x) (sym is) (subst (λ bs. IsFaultOn bs fault) same on);
-}
 
 -- what holds of each text holds of the one that is told
 pub of_any_text : (remaining : Option (List ℕ)) (Holds : List ℕ → Type 0) → ((text : List ℕ) → Holds text) → OfToldText remaining Holds

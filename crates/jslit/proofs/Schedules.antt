@@ -3,9 +3,9 @@ use Rattle.std.proofs.Common.{◌≡◌, ◌∙◌, ◌++◌, ◌∷◌, ◌+◌
 use Rattle.std.specs.Prelude.{unwrap_or}
 use Rattle.std.specs.List.{All, list_all, prefix_len}
 use Rattle.std.proofs.Math.Seq.{take-length}
-use Rattle.std.proofs.lemmas.Bool.{eqb-true}
+use Rattle.std.proofs.lemmas.Bool.{eqb-true, and_parts}
 use Rattle.std.proofs.lemmas.List.{append-nil, take-append-drop}
-use Rattle.std.proofs.lemmas.List.Elements.{All-nil, All-drop, All-get_or, All-push}
+use Rattle.std.proofs.lemmas.List.Elements.{All-drop, All-get_or, All-push}
 use Rattle.lit_read.specs.Syntax.{IsLitmus, Litmus, agent_of}
 use Rattle.lit_read.specs.Tokens.{begins_with, begins_word, is_in_word}
 use Rattle.jslit.specs.Schedule.{NamesAgents, NamesNoAgents, schedule_text}
@@ -31,13 +31,9 @@ first_turn t agent (next ∷ agents) = append_assoc (agent_of t agent).name (cod
 abbrev is_no_comma : ℕ → Bool
 is_no_comma b = not (eqb b 44)
 
-front_true : (a b : Bool) → (a && b) ≡ true → (a ≡ true) × (b ≡ true)
-front_true true b is = (refl, is)
-front_true false b is = absurd cc
-
 no_comma : (b : ℕ) (xs : List ℕ) → (is_no_comma b && list_all is_no_comma xs) ≡ true → b ≡ 44 → ⊥
 no_comma b xs whole is =
-    let yes : is_no_comma b ≡ true = (front_true (is_no_comma b) (list_all is_no_comma xs) whole).0 in
+    let yes : is_no_comma b ≡ true = (and_parts (is_no_comma b) (list_all is_no_comma xs) whole).0 in
     let bad : false ≡ true = rw is at yes in
     absurd cc
 
@@ -56,7 +52,7 @@ one_member [] (b ∷ v) (Some x) s fu fv is = absurd (no_comma b v fv (sym (ap (
 one_member (a ∷ u) [] r None fu fv is = absurd cc
 one_member (a ∷ u) [] r (Some y) fu fv is = absurd (no_comma a u fu (ap (λ (l : List ℕ). slice_index l 0) is))
 one_member (a ∷ u) (b ∷ v) r s fu fv is =
-    let rest = one_member u v r s (front_true (is_no_comma a) (list_all is_no_comma u) fu).1 (front_true (is_no_comma b) (list_all is_no_comma v) fv).1 (ap (λ (l : List ℕ). drop 1 l) is) in
+    let rest = one_member u v r s (and_parts (is_no_comma a) (list_all is_no_comma u) fu).1 (and_parts (is_no_comma b) (list_all is_no_comma v) fv).1 (ap (λ (l : List ℕ). drop 1 l) is) in
     let first : a ≡ b = ap (λ (l : List ℕ). slice_index l 0) is in
     (rw (first, rest.0) refl, rest.1)
 
@@ -116,7 +112,7 @@ in_word b is = by (eqb b 44) refl
 name_whole : (name : List ℕ) → list_all is_in_word name ≡ true → list_all is_no_comma name ≡ true
 name_whole [] is = refl
 name_whole (b ∷ bs) is =
-    let parts = front_true (is_in_word b) (list_all is_in_word bs) is in
+    let parts = and_parts (is_in_word b) (list_all is_in_word bs) is in
     rw (in_word b parts.0, name_whole bs parts.1) refl
 
 -- ---- a schedule that is read up to a member
@@ -127,13 +123,6 @@ pub record IsReadTo (t : Litmus) (schedule : List ℕ) (agents : List ℕ) (rest
   pub told : (xs : List ℕ) → turns_text t xs ≡ rest → turns_text t (agents ++ xs) ≡ some_text schedule
   pub left : (ys : List ℕ) → All (λ agent. agent < length t.agents) ys → turns_text t ys ≡ some_text schedule
       → (xs : List ℕ) × All (λ agent. agent < length t.agents) xs × (turns_text t xs ≡ rest)
-
-pub read_none : (t : Litmus) (schedule : List ℕ) → IsReadTo t schedule [] (some_text schedule)
-read_none t schedule = record {
-  known = All-nil (λ agent. agent < length t.agents);
-  told = λ xs is. is;
-  left = λ ys known is. (ys, known, is);
-}
 
 -- a text that begins with a byte isn't empty
 some_front : (u r w : List ℕ) → begins_with begins_word u ≡ true → w ≡ u ++ r → some_text w ≡ Some w

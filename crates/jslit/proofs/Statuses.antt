@@ -1,7 +1,7 @@
 -- What the program's status says.
-use Rattle.std.proofs.Common.{◌≡◌, ℕ, List, [], Option, Some, None, refl, ◌∙◌}
+use Rattle.std.proofs.Common.{◌≡◌, ℕ, List, [], Option, refl}
 use Rattle.std.proofs.lemmas.List.{append-nil}
-use Rattle.std.specs.Io.KnownBytes.{Appends, Keeps}
+use Rattle.std.specs.Io.KnownBytes.{Appends}
 use Rattle.jslit.specs.Devices.{AppendsBeginning}
 use Rattle.jslit.specs.declared.fault.RunFault.{RunFault}
 use Rattle.jslit.specs.declared.fault.RunFault.TheVariants as faults
@@ -33,13 +33,6 @@ failed_device faults.UnknownAgent A is input output = absurd cc
 failed_device faults.OutOfMemory A is input output = absurd cc
 failed_device faults.InputFailed A is input output = input refl
 failed_device faults.OutputFailed A is input output = output refl
-
--- known bytes that grew and then stay have grown
-pub Appends-kept : (a b c : Option (List ℕ)) (bytes : List ℕ) → Appends a b bytes → Keeps b c → Appends a c bytes
-Appends-kept None b c bytes grew kept = tt
-Appends-kept (Some xs) None c bytes grew kept = absurd grew
-Appends-kept (Some xs) (Some ys) None bytes grew kept = absurd kept
-Appends-kept (Some xs) (Some ys) (Some zs) bytes grew kept = kept ∙ grew
 
 -- all that was written is a beginning of it
 pub whole_is_beginning : (a b : Option (List ℕ)) (bytes : List ℕ) → Appends a b bytes → AppendsBeginning a b bytes

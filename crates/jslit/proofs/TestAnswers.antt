@@ -25,6 +25,7 @@ use Rattle.jslit.specs.Internal.Answering.{HasWritten, HasWrittenSome, IsFirstFo
 use Rattle.jslit.specs.Internal.FirstEntry.{entry_of_option}
 use Rattle.jslit.proofs.QuickAnswers.{quick_judged}
 use Rattle.jslit.proofs.Refusals.{on_err}
+use Rattle.jslit.proofs.EntryFacts.{among_all}
 
 abbrev OneOutcome : Type 0
 OneOutcome = (t : Litmus) (n : ℕ) (some other : List ℕ) → IsLitmus t → Gives t n some → Gives t n other → some ≡ other
@@ -34,9 +35,6 @@ alone n m is = grind (arith, nat_tests)
 
 itself : (n : ℕ) → IsTrue (in_range n (n + 1) n)
 itself n = grind (arith, nat_tests)
-
-below : (total n : ℕ) → IsTrue (in_range 0 total n) → n < total
-below total n is = grind (arith, nat_tests)
 
 -- the report of the first choice of a class alone
 pub found_is : OneOutcome → (t : Litmus) (class : Class) (n : ℕ) (report : Report) → IsLitmus t → IsFirstOf t class (in_range 0 (length (choices_of t))) n
@@ -49,7 +47,7 @@ found_is one t class n report litmus first reported =
     let same : entry.choice ≡ n = alone n entry.choice is.among in
     let there : IsFirstOf t class (in_range 0 (length (choices_of t))) entry.choice = subst (λ (m : ℕ). IsFirstOf t class (in_range 0 (length (choices_of t))) m) (sym same) first in
     record {
-      entry = record { some = some; known = below (length (choices_of t)) entry.choice there.among; gives = is.gives; least_order = is.least_order };
+      entry = record { some = some; known = among_all (length (choices_of t)) entry.choice there.among; gives = is.gives; least_order = is.least_order };
       first = record { first = there; gives = is.gives; only = λ o g. one t entry.choice o entry.outcome litmus g is.gives; least_order = is.least_order };
     }
 

@@ -1,17 +1,12 @@
 -- What reading the input step by step comes to.
-use Rattle.std.proofs.Common.{◌≡◌, ℕ, ◌+◌, ◌≤◌, ◌++◌, List, length, take, Option, Some, None, sym, ap, ◌∙◌, append_assoc, arith}
+use Rattle.std.proofs.Common.{◌≡◌, ℕ, ◌+◌, ◌≤◌, ◌++◌, List, length, take, Option, Some, None, sym, ap, ◌∙◌, arith}
 use Rattle.std.proofs.Math.Seq.{take-append_seam}
 use Rattle.std.proofs.lemmas.List.{append-nil, length-append, take_all}
 use Rattle.std.specs.Io.KnownBytes.{Consumes, IsAtEnd}
+use Rattle.std.proofs.KnownBytes.{Consumes-trans}
 use Rattle.lit_read.specs.declared.limits.TheConstants.{TEXT_LIMIT}
 use Rattle.jslit.specs.Devices.{IsTold, ConsumesBeginning}
 use Rattle.jslit.specs.Internal.Reading.{HasRead}
-
-pub Consumes-then : (a b c : Option (List ℕ)) (front more : List ℕ) → Consumes a b front → Consumes b c more → Consumes a c (front ++ more)
-Consumes-then None b c front more p q = tt
-Consumes-then (Some xs) None c front more p q = absurd p
-Consumes-then (Some xs) (Some ys) None front more p q = absurd q
-Consumes-then (Some xs) (Some ys) (Some zs) front more p q = p ∙ ap (λ (l : List ℕ). front ++ l) q ∙ sym (append_assoc front more zs)
 
 -- as many bytes as are told
 pub told_full : (a b : Option (List ℕ)) (text : List ℕ) → Consumes a b text → length text ≡ TEXT_LIMIT + 1 → IsTold a text
@@ -31,7 +26,7 @@ told_all (Some xs) (Some ys) text p end few =
 -- the last read found the end
 pub told_at_end : (a b c : Option (List ℕ)) (before after : List ℕ) (taken : ℕ) → Consumes a b before → HasRead b c before after taken → taken ≡ 0 → length before ≤ TEXT_LIMIT + 1 → IsTold a after
 told_at_end a b c before after taken p read none few =
-    told_all a c after (rw read.appended (Consumes-then a b c before read.bytes p read.consumed)) (read.end none)
+    told_all a c after (rw read.appended (Consumes-trans a b c before read.bytes p read.consumed)) (read.end none)
     (omega (arith, few, none, read.count, ap length read.appended, length-append before read.bytes))
 
 -- what was consumed before and then
@@ -39,5 +34,5 @@ pub ConsumesBeginning-then : (a b c : Option (List ℕ)) (text : List ℕ) (room
 ConsumesBeginning-then a b c text room limit p q fits = record {
   front = text ++ q.front;
   few = omega (arith, fits, q.few, length-append text q.front);
-  consumed = Consumes-then a b c text q.front p q.consumed;
+  consumed = Consumes-trans a b c text q.front p q.consumed;
 }

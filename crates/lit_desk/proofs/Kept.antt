@@ -3,6 +3,7 @@ use Rattle.std.proofs.Common.{◌≡◌, ◌≢◌, ℕ, ◌<◌, ◌≤◌, ◌
 use Rattle.std.specs.Prelude.{All, Contains, MatchOption}
 use Rattle.std.specs.List.Sorted.{IsPermutation}
 use Rattle.std.proofs.lemmas.List.Sorted.{IsPermutation-refl, IsPermutation-sym, IsPermutation-middle, length_permutation, All-permutation, Contains-permutation}
+use Rattle.std.proofs.lemmas.List.{nil_from_length}
 use Rattle.std.proofs.lemmas.List.Elements.{All-nil, All-cons, All-head, All-tail, All-weaker, Contains-append_right}
 use Rattle.std.proofs.lemmas.Bool.Decides.{eqb_tells}
 use Rattle.std.proofs.lemmas.Bool.{cases_lt}
@@ -12,10 +13,6 @@ use Rattle.lit_desk.specs.Internal.Words.{number_in}
 use Rattle.lit_desk.specs.Internal.Rule.{IsKept}
 
 module _ {X : Type 0} where
-  pub empty_by_length : (xs : List X) → length xs ≡ 0 → xs ≡ []
-  empty_by_length [] e = refl
-  empty_by_length (x ∷ xs) e = absurd (omega arith)
-
   pub empty_front : (xs ys : List X) → xs ++ ys ≡ [] → xs ≡ []
   empty_front [] ys e = refl
   empty_front (x ∷ xs) ys e = absurd (cc)
@@ -39,7 +36,7 @@ pub number_cases : (w : ℕ) → ((w ≡ NONE_TOLD) × (number_in w ≡ None)) �
 number_cases w = ⊎_elim (λ (t : (eqb w NONE_TOLD ≡ true) × (w ≡ NONE_TOLD)). inl (t.1, ap (λ b. cond b None (Some w)) t.0)) (λ (t : (eqb w NONE_TOLD ≡ false) × (w ≢ NONE_TOLD)). inr (ap (λ b. cond b None (Some w)) t.0)) (eqb_tells w NONE_TOLD)
 
 least_moved : (ts us : List ℕ) (o : Option ℕ) → IsPermutation ts us → IsLeastOf ts o → IsLeastOf us o
-least_moved ts us None p h = empty_by_length us (length_permutation ts us p ∙ ap length h)
+least_moved ts us None p h = nil_from_length us (length_permutation ts us p ∙ ap length h)
 least_moved ts us (Some n) p h = (Contains-permutation ts us n p h.0, All-permutation (λ m. n ≤ m) ts us p h.1)
 
 pub kept_moved : (w : ℕ) (ts us ss rs : List ℕ) → IsPermutation ts us → IsPermutation ss rs → IsKept w ts ss → IsKept w us rs

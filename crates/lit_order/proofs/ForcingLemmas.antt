@@ -1,16 +1,12 @@
 -- How what is forced is found, pair by pair.
-use Rattle.std.proofs.Common.{◌≢◌, ◌↔◌, ℕ, ◌<◌, List, [], ◌∷◌, ◌++◌, sym, ◌∙◌, subst, inl, inr}
+use Rattle.std.proofs.Common.{◌≢◌, ◌↔◌, ℕ, List, [], ◌∷◌, ◌++◌, sym, ◌∙◌, subst, inl, inr}
 use Rattle.lit_rel.specs.Between.{BetweenModel, Forbids}
 use Rattle.lit_rel.specs.HappensBefore.{Chain}
 use Rattle.lit_rel.specs.Rows.{IsTransitive, WithPair}
 use Rattle.lit_order.specs.Internal.Deciding.{HasAllForced, IsForcedNext}
 use Rattle.lit_order.specs.Forcing.{HasChain, IsForced, Given, Through, AfterRead, BeforeSource}
+use Rattle.lit_rel.proofs.ChainLemmas.{Chain-append}
 use Rattle.lit_order.proofs.ForcedLemmas.{AreTriplesBelow}
-
--- chains joined at m
-pub Chain-append : (step : ℕ → ℕ → Type 0) (e : ℕ) (ms : List ℕ) (m : ℕ) (ns : List ℕ) (d : ℕ) → Chain step e ms m → Chain step m ns d → Chain step e (ms ++ m ∷ ns) d
-Chain-append step e [] m ns d p q = (p, q)
-Chain-append step e (k ∷ ms) m ns d p q = (p.0, Chain-append step k ms m ns d p.1 q)
 
 pub HasChain-through : (step : ℕ → ℕ → Type 0) (e m d : ℕ) → HasChain step e m → HasChain step m d → HasChain step e d
 HasChain-through step e m d p q = (p.0 ++ m ∷ q.0, Chain-append step e p.0 m q.0 d p.1 q.1)
@@ -82,20 +78,6 @@ next_apart rows forbidden a d next same =
     elim next.forces.side [
       | inl after ↦ next.forces.not_read (sym after.1 ∙ sym same ∙ after.0)
       | inr earlier ↦ next.forces.not_source (sym earlier.0 ∙ same ∙ earlier.1)
-    ]
-
-pub first_known : (n : ℕ) (rows : ℕ → ℕ → Type 0) (forbidden : ℕ → ℕ → ℕ → Type 0) → AreTriplesBelow n forbidden → (a d : ℕ) → IsForcedNext rows forbidden a d → a < n
-first_known n rows forbidden triples a d next =
-    elim next.forces.side [
-      | inl after ↦ subst (λ (x : ℕ). x < n) (sym after.0) (triples.read _ _ _ next.refused)
-      | inr earlier ↦ subst (λ (x : ℕ). x < n) (sym earlier.0) (triples.other _ _ _ next.refused)
-    ]
-
-pub second_known : (n : ℕ) (rows : ℕ → ℕ → Type 0) (forbidden : ℕ → ℕ → ℕ → Type 0) → AreTriplesBelow n forbidden → (a d : ℕ) → IsForcedNext rows forbidden a d → d < n
-second_known n rows forbidden triples a d next =
-    elim next.forces.side [
-      | inl after ↦ subst (λ (x : ℕ). x < n) (sym after.1) (triples.other _ _ _ next.refused)
-      | inr earlier ↦ subst (λ (x : ℕ). x < n) (sym earlier.1) (triples.source _ _ _ next.refused)
     ]
 
 -- a pair put in closes no cycle where it is not turned round already

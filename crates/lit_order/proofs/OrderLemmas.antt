@@ -12,6 +12,7 @@ use Rattle.std.specs.declared.cmp.Ordering.TheVariants.{Less, Equal, Greater}
 use Rattle.lit_order.specs.Internal.Beginning.{Stands, IsBeginning, CanStandNext, HasNoOrder, IsLeastFrom}
 use Rattle.lit_order.specs.MemoryOrder.{StandsBefore, IsOrderOf, IsLeastOrderOf}
 use Rattle.lit_rel.proofs.PlaceLemmas.{place-left, place_from-left, place-middle, place-push}
+use Rattle.lit_paths.proofs.Rising.{nat_cmp-same}
 use Rattle.lit_order.proofs.CountLemmas.{length_from_all, all_from_length}
 
 pub StandsBefore-left : (xs ys : List ℕ) (a d : ℕ) → StandsBefore xs a d → StandsBefore (xs ++ ys) a d
@@ -122,9 +123,6 @@ less_not_equal h = subst (λ (o : Ordering). MatchOrdering o Unit ⊥ ⊥) h tt
 
 less_not_greater : Less ≡ Greater → ⊥
 less_not_greater h = subst (λ (o : Ordering). MatchOrdering o Unit ⊥ ⊥) h tt
-
-nat_cmp-same : (x : ℕ) → nat_cmp x x ≡ Equal
-nat_cmp-same x = grind (arith, nat_tests)
 
 nat_cmp-greater : (x y : ℕ) → y ≤ x → x ≢ y → nat_cmp x y ≡ Greater
 nat_cmp-greater x y h ne = grind (arith, nat_tests)

@@ -20,9 +20,6 @@ module _ (order : List ℕ) (once : IsOnce order) where
       let l : p.first < p.second = p.earlier in
       absurd (omega arith)
 
-  pub never_both : (a d : ℕ) → StandsBefore order a d → StandsBefore order d a → ⊥
-  never_both a d p q = never_before_itself a (StandsBefore-through a d a p q)
-
 -- of two events one stands before the other
 pub either_before : (n : ℕ) (order : List ℕ) → IsListOfAll n order → (a d : ℕ) → a < n → d < n → a ≢ d → StandsBefore order a d ⊎ StandsBefore order d a
 either_before n order l a d in_a in_d other =

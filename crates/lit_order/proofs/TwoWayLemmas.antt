@@ -78,11 +78,3 @@ through_pair rows converse more a d ahead behind same is_ahead is_behind put x y
     from_first : rows x a ⊎ (x ≡ a) → ahead x
     from_first (inl earlier) = (is_ahead x).1 (inl ((same x a).1 earlier))
     from_first (inr is) = (is_ahead x).1 (inr is)
-
--- with as much put in there, turned round, the converse stays the converse
-pub turned_round : (rows converse more turned : ℕ → ℕ → Type 0) (ahead behind : ℕ → Type 0) → ((x y : ℕ) → converse y x ↔ rows x y) → ((x y : ℕ) → more x y ↔ (rows x y ⊎ (ahead x × behind y)))
-    → ((y x : ℕ) → turned y x ↔ (converse y x ⊎ (behind y × ahead x))) → (x y : ℕ) → turned y x ↔ more x y
-turned_round rows converse more turned ahead behind same put put_back x y = (
-  (λ h. elim ((put_back y x).0 h) [ inl was ↦ (put x y).1 (inl ((same x y).0 was)) | inr led ↦ (put x y).1 (inr (led.1, led.0)) ]),
-  (λ h. elim ((put x y).0 h) [ inl was ↦ (put_back y x).1 (inl ((same x y).1 was)) | inr led ↦ (put_back y x).1 (inr (led.1, led.0)) ]),
-)

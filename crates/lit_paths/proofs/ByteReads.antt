@@ -22,9 +22,6 @@ first_bytes n e k = map (λ i. byte_read n (e.first + i)) (range_with_len 0 k)
 pub bytes_read_by-reads : (n : ℕ) (e : Event) → does_read e.kind ≡ true → bytes_read_by n e ≡ first_bytes n e e.size
 bytes_read_by-reads n e h = ap (λ b. if b then first_bytes n e e.size else []) h
 
-pub bytes_read_by-none : (n : ℕ) (e : Event) → does_read e.kind ≡ false → bytes_read_by n e ≡ []
-bytes_read_by-none n e h = ap (λ b. if b then first_bytes n e e.size else []) h
-
 pub length-first_bytes : (n : ℕ) (e : Event) (k : ℕ) → length (first_bytes n e k) ≡ k
 length-first_bytes n e k = length-map-range_with_len (λ i. (n, e.first + i)) 0 k
 
@@ -97,11 +94,6 @@ push_step n e k old now new p is pushed same =
 -- a byte that is read by event k of these, of which the first has number n
 abbrev pub IsRead : ℕ → List Event → ℕ → ℕ → Type 0
 IsRead n events r b = (k : ℕ) × (r ≡ n + k) × (k < length events) × (does_read (get_or events k no_event).kind ≡ true) × HasByte (get_or events k no_event) b
-
-slice_get-range : (a n i x : ℕ) → slice_get (range_with_len a n) i ≡ Some x → (x ≡ a + i) × (i < n)
-slice_get-range a zero i x at = cc
-slice_get-range a (suc n) zero x at = let same : a ≡ x = cc in (omega (arith, same), omega arith)
-slice_get-range a (suc n) (suc i) x at = let rest = slice_get-range (a + 1) n i x at in (omega (arith, rest.0), omega (arith, rest.1))
 
 first_bytes-known : (n : ℕ) (e : Event) (size i r b : ℕ) → slice_get (first_bytes n e size) i ≡ Some (r, b) → (r ≡ n) × (e.first ≤ b) × (b < e.first + size)
 first_bytes-known n e size i r b at =

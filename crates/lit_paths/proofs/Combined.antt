@@ -1,7 +1,7 @@
 -- The paths of a combination, agent by agent.
 use Rattle.std.proofs.Common.{◌≡◌, ℕ, zero, suc, ◌+◌, ◌*◌, ◌/◌, ◌%◌, ◌<◌, ◌≤◌, List, [], ◌∷◌, length, map, drop, get_or, subst, arith, refl, sym, ap, ◌∙◌, mul_assoc, mul-le-mul}
 use Rattle.std.specs.Global.{Vec}
-use Rattle.std.proofs.lemmas.List.{drop_more, drop_all, get_or-map, get_or_default, length-map}
+use Rattle.std.proofs.lemmas.List.{drop_more, get_or-map, get_or_default, length-map}
 use Rattle.lit_read.specs.Syntax.{Litmus, Agent, agent_of}
 use Rattle.lit_paths.specs.declared.planning.agent_paths.AgentPaths.TheInside.{Inside}
 use Rattle.lit_paths.specs.Internal.AllPaths.{AreAllPaths}
@@ -64,13 +64,6 @@ count_of-drop agents i d inside = ap count_of (drop_more agents i d inside)
 pub count_of-left : (t : Litmus) (i : ℕ) → i < length t.agents → count_of (drop i t.agents) ≡ length (walks_of (agent_of t i).body) * count_of (drop (i + 1) t.agents)
 count_of-left t i inside = count_of-drop t.agents i _ inside
 
-pub count_of-le : (agents : List Agent) (i : ℕ) → count_of (drop i agents) ≤ count_of agents
-count_of-le [] zero = omega arith
-count_of-le [] (suc i) = omega arith
-count_of-le (a ∷ agents) zero = omega arith
-count_of-le (a ∷ agents) (suc i) =
-    omega (arith, count_of-le agents i, mul-le-mul (walks_of-some a.body) (let le : count_of agents ≤ count_of agents = omega arith in le))
-
 pub later_step : (t : Litmus) (i count ways all : ℕ) → i < length t.agents → ways ≡ length (walks_of (agent_of t i).body) → count * count_of (drop i t.agents) ≡ all
     → (count * ways) * count_of (drop (i + 1) t.agents) ≡ all
 later_step t i count ways all inside is before =
@@ -83,9 +76,6 @@ later_fits t i count ways all inside is before =
       later_step t i count ways all inside is before,
       mul-le-mul (let le : count * ways ≤ count * ways = omega arith in le) (count_of-some (drop (i + 1) t.agents)),
     )
-
-pub later_end : (t : Litmus) (i count all : ℕ) → length t.agents ≤ i → count * count_of (drop i t.agents) ≡ all → count ≡ all
-later_end t i count all past before = omega (arith, before, ap (λ n. count * n) (ap count_of (drop_all i t.agents past)))
 
 -- ---- the path of an agent
 pub walk_number-known : (t : Litmus) (c i : ℕ) → walk_number t c i < length (walks_of (agent_of t i).body)

@@ -1,7 +1,7 @@
 -- The combination of paths with a number, and its events.
-use Rattle.std.proofs.Common.{◌≡◌, ℕ, zero, suc, ◌+◌, ◌*◌, ◌/◌, ◌%◌, ◌<◌, ◌≤◌, List, [], ◌∷◌, ◌++◌, length, map, flat_map, drop, take, get_or, slice_get, Some, Option, unwrap_or, arith, refl, sym, ap, ap₂, ◌∙◌, subst, add-one, ⊎_elim, append_assoc, append-nil, length-append}
+use Rattle.std.proofs.Common.{◌≡◌, ℕ, zero, suc, ◌+◌, ◌*◌, ◌/◌, ◌%◌, ◌<◌, ◌≤◌, List, [], ◌∷◌, ◌++◌, length, map, flat_map, drop, take, get_or, slice_get, Some, arith, refl, sym, ap, ap₂, ◌∙◌, subst, add-one, ⊎_elim, append_assoc, append-nil, length-append}
 use Rattle.std.proofs.lemmas.List.{length-map, map_more, take_all, drop_more}
-use Rattle.std.proofs.lemmas.Option.{slice_get-get_or, slice_get_within}
+use Rattle.std.proofs.lemmas.Option.{slice_get-get_or, get_or_from_slice_get}
 use Rattle.std.specs.List.{range_with_len}
 use Rattle.std.proofs.lemmas.List.FromFn.{map-range_with_len_more}
 use Rattle.lit_read.specs.Syntax.{Litmus, Agent, Statement, Statements, Load, Store, Exchange, CompareExchange, If, End, Then, agent_of}
@@ -52,11 +52,6 @@ bodies_walks-at [] i d inside = absurd (omega (arith, inside))
 bodies_walks-at (a ∷ agents) zero d inside = refl
 bodies_walks-at (a ∷ agents) (suc i) d inside = bodies_walks-at agents i d (omega (arith, inside))
 
-get_or-found : {A : Type 0} (xs : List A) (i : ℕ) (d p : A) → slice_get xs i ≡ Some p → get_or xs i d ≡ p
-get_or-found {A} xs i d p at =
-    let same : Some (get_or xs i d) ≡ Some p = sym (slice_get-get_or xs i d (slice_get_within xs i p at)) ∙ at in
-    ap (λ (o : Option A). unwrap_or o d) same
-
 -- the walk of an agent has its number among those of the agent
 pub walk_in-numbered : (t : Litmus) (c i : ℕ) → c < length (combinations_of t) → i < length t.agents → walk_in t c i ≡ numbered_walk t c i
 walk_in-numbered t c i known inside =
@@ -64,7 +59,7 @@ walk_in-numbered t c i known inside =
     let body : Statements = (agent_of t i).body in
     let within : c < length (product all) = omega (arith, known, count_of-combinations t, later_walks t.agents 0) in
     let later : later_ways all i ≡ count_of (drop (i + 1) t.agents) = later_walks t.agents (suc i) ∙ ap (λ k. count_of (drop k t.agents)) (sym (add-one i)) in
-    get_or-found (walks_in t c) i [] (numbered_walk t c i)
+    get_or_from_slice_get (walks_in t c) i (numbered_walk t c i) []
     (digit all c i (walks_in t c) (walks_of body) (slice_get-get_or (product all) c [] within) (bodies_walks-at t.agents i _ inside)
     ∙ ap (λ n. slice_get (walks_of body) (c / n % length (walks_of body))) later
     ∙ slice_get-get_or (walks_of body) (walk_number t c i) [] (walk_number-known t c i))
@@ -106,7 +101,7 @@ first_accesses t c (suc i) known long le =
     ap (λ k. flat_map (λ es. es) (map events (take k (combination_at t c)))) (sym (add-one i))
     ∙ ap (λ ess. flat_map (λ es. es) ess) (map_more events (combination_at t c) i path (omega (arith, inside, long)))
     ∙ flat_map_pushed (map events (take i (combination_at t c))) (events (get_or (combination_at t c) i path))
-    ∙ ap (λ (p : Path). flat_map (λ es. es) (map events (take i (combination_at t c))) ++ p.events) (get_or-found (combination_at t c) i path path (path_at t c i known inside))
+    ∙ ap (λ (p : Path). flat_map (λ es. es) (map events (take i (combination_at t c))) ++ p.events) (get_or_from_slice_get (combination_at t c) i path path (path_at t c i known inside))
     ∙ ap (λ xs. xs ++ path.events) (first_accesses t c i known long (omega (arith, le)))
 
 pub length-combination : (t : Litmus) (c : ℕ) → c < length (combinations_of t) → length (combination_at t c) ≡ length t.agents

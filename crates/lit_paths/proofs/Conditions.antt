@@ -1,22 +1,16 @@
 -- The value of a condition on an outcome, member by member.
-use Rattle.std.proofs.Common.{◌≡◌, ℕ, ◌+◌, ◌<◌, ◌≤◌, ◌&&◌, ◌||◌, Bool, true, false, List, length, drop, get_or, refl, ap, ◌∙◌, Vec, Global}
+use Rattle.std.proofs.Common.{◌≡◌, ℕ, ◌&&◌, ◌||◌, Bool, List, refl, ap, ◌∙◌, Vec, Global}
 use Rattle.std.specs.List.{list_any, list_all}
-use Rattle.std.proofs.lemmas.List.{drop_more, drop_all}
 use mathlib.Core.Former.{Count}
 use Rattle.lit_read.specs.declared.syntax.Cond.{Cond, Row_of-Cond, end_of-Cond, more_of-Cond, items-the_row-Cond, items_hidden-the_row-Cond-0}
 use Rattle.lit_read.specs.declared.syntax.Cond as code
 use Rattle.lit_read.specs.Litmus.{condition_of, conditions_of}
 use Rattle.lit_paths.specs.Outcome.{asks, some_asks, holds, any_holds, all_hold}
+use Rattle.lit_read.proofs.TreeViews.{row_of}
 
 -- whether a member of a condition holds
 abbrev pub member_holds : List ((ℕ × ℕ) × ℕ) → Cond → Bool
 member_holds values c = holds values (condition_of c)
-
-abbrev row_of : Cond → (n : Count) × Row_of-Cond n
-row_of (code.Any' shape row) = (_, row)
-row_of (code.All' shape row) = (_, row)
-row_of (code.Not' p c) = (_, end_of-Cond)
-row_of (code.Is agent reg equal value) = (_, end_of-Cond)
 
 module _ (values : List ((ℕ × ℕ) × ℕ)) where
   any_holds-row : (n : Count) (row : Row_of-Cond n) → any_holds values (conditions_of row) ≡ list_any (member_holds values) (items-the_row-Cond n row)
@@ -36,18 +30,6 @@ module _ (values : List ((ℕ × ℕ) × ℕ)) where
   holds-All members =
       let row = row_of (code.All members) in
       all_hold-row row.0 row.1 ∙ ap (λ cs. list_all (member_holds values) cs) (items_hidden-the_row-Cond-0 members)
-
-pub list_all_more : {A : Type 0} (p : A → Bool) (xs : List A) (i : ℕ) (d : A) → i < length xs → list_all p (drop i xs) ≡ (p (get_or xs i d) && list_all p (drop (i + 1) xs))
-list_all_more p xs i d inside = ap (λ ys. list_all p ys) (drop_more xs i d inside)
-
-pub list_all_end : {A : Type 0} (p : A → Bool) (xs : List A) (i : ℕ) → length xs ≤ i → list_all p (drop i xs) ≡ true
-list_all_end p xs i past = ap (λ ys. list_all p ys) (drop_all i xs past)
-
-pub list_any_more : {A : Type 0} (p : A → Bool) (xs : List A) (i : ℕ) (d : A) → i < length xs → list_any p (drop i xs) ≡ (p (get_or xs i d) || list_any p (drop (i + 1) xs))
-list_any_more p xs i d inside = ap (λ ys. list_any p ys) (drop_more xs i d inside)
-
-pub list_any_end : {A : Type 0} (p : A → Bool) (xs : List A) (i : ℕ) → length xs ≤ i → list_any p (drop i xs) ≡ false
-list_any_end p xs i past = ap (λ ys. list_any p ys) (drop_all i xs past)
 
 -- ---- the registers that a condition looks at
 module _ (agent reg : ℕ) where

@@ -1,8 +1,8 @@
 -- What an entered combination keeps, for each agent and each byte read.
-use Rattle.std.proofs.Common.{◌≡◌, ℕ, zero, suc, ◌+◌, ◌*◌, ◌<◌, ◌≤◌, List, [], ◌∷◌, length, map, drop, get_or, slice_get, Some, arith, refl, sym, ap, ◌∙◌, subst, add-one}
+use Rattle.std.proofs.Common.{◌≡◌, ℕ, suc, ◌+◌, ◌*◌, ◌<◌, ◌≤◌, List, [], ◌∷◌, length, map, drop, get_or, slice_get, Some, arith, sym, ap, ◌∙◌, subst, add-one}
 use Rattle.std.specs.List.{range_with_len}
-use Rattle.std.proofs.lemmas.List.{length-map, get_or-map}
-use Rattle.std.proofs.lemmas.List.FromFn.{length-map-range_with_len}
+use Rattle.std.proofs.lemmas.List.{length-map, get_or-map, drop-map}
+use Rattle.std.proofs.lemmas.List.FromFn.{length-map-range_with_len, get_or-map-range_with_len}
 use Rattle.std.proofs.lemmas.Option.{slice_get-get_or}
 use Rattle.arrayvec.specs.ArrayVec.{ArrayVec}
 use Rattle.lit_read.specs.Syntax.{Litmus}
@@ -20,11 +20,6 @@ use Rattle.lit_paths.proofs.Products.{length-product, product-some, AreSome-map,
 use Rattle.lit_paths.proofs.Totals.{entered_lists, some_candidate}
 use Rattle.lit_paths.proofs.WaySteps.{ways_after-at, length-ways_after}
 
-range-at : (f : ℕ → ℕ) (low count i d : ℕ) → i < count → get_or (map f (range_with_len low count)) i d ≡ f (low + i)
-range-at f low zero i d inside = absurd (omega (arith, inside))
-range-at f low (suc count) zero d inside = ap f (let e : low ≡ low + 0 = omega arith in e)
-range-at f low (suc count) (suc i) d inside = range-at f (low + 1) count i d (omega (arith, inside)) ∙ ap f (let e : (low + 1) + i ≡ low + suc i = omega arith in e)
-
 -- ---- what is kept for each agent
 pub agent_here : (t : Litmus) (c : ℕ) (p : Litmus × ℕ) → (t, c) ≡ p → (agent : ℕ) → agent < length p.0.agents → agent < length t.agents
 agent_here t c p view agent inside = omega (arith, inside, ap (λ (q : Litmus × ℕ). length q.0.agents) view)
@@ -37,18 +32,12 @@ kept_length f t c p view kept agent is inside =
 pub kept_at : (f : ℕ → ℕ) (t : Litmus) (c : ℕ) (p : Litmus × ℕ) → (t, c) ≡ p → (kept : List ℕ) (agent : ℕ) → kept ≡ map f (range_with_len 0 (length t.agents))
     → agent < length p.0.agents → get_or kept agent 0 ≡ f agent
 kept_at f t c p view kept agent is inside =
-    ap (λ (ns : List ℕ). get_or ns agent 0) is ∙ range-at f 0 (length t.agents) agent 0 (agent_here t c p view agent inside)
-    ∙ ap f (let e : 0 + agent ≡ agent = omega arith in e)
+    ap (λ (ns : List ℕ). get_or ns agent 0) is ∙ get_or-map-range_with_len f 0 (length t.agents) agent agent 0 (agent_here t c p view agent inside) (omega arith)
 
 -- ---- what is kept for each byte read
 pub length_product-is : (xss : List (List ℕ)) → length (product xss) ≡ length_product xss
 length_product-is [] = omega arith
 length_product-is (xs ∷ rest) = length-product xs rest ∙ ap (λ n. length xs * n) (length_product-is rest)
-
-drop-map : {A B : Type 0} (f : A → B) (k : ℕ) (xs : List A) → drop k (map f xs) ≡ map f (drop k xs)
-drop-map f zero xs = refl
-drop-map f (suc k) [] = refl
-drop-map f (suc k) (x ∷ xs) = drop-map f k xs
 
 pub ways_from-later : (events : List Event) (k : ℕ) → later_ways (map (candidates_of events) (byte_reads events)) k ≡ ways_from events (k + 1)
 ways_from-later events k =

@@ -4,6 +4,8 @@ use Rattle.std.specs.Prelude.{◌/◌, ◌≢◌, All, IsTrue, IsSome}
 use Rattle.std.proofs.lemmas.Bool.{ltb-true, leb-true}
 use Rattle.std.specs.List.{AllByRecursion, range_with_len}
 use Rattle.std.proofs.lemmas.List.Elements.{All-from_recursion}
+use Rattle.std.proofs.lemmas.List.{get_or_append_left}
+use Rattle.std.proofs.lemmas.List.FromFn.{get_or-map-range_with_len}
 use Rattle.lit_read.specs.Syntax.{Litmus, IsLitmus, Window, Uint8, Uint16, Uint32, DataView8, DataView16, DataView32, window_size, is_in_block, Statement, Statements, Load, Store, Exchange, CompareExchange, If, End, Then, IsStatementIn, AreStatementsIn, agent_of}
 use Rattle.lit_paths.specs.declared.limits.TheConstants.{ACCESS_LIMIT}
 use Rattle.lit_paths.specs.declared.event.Event.{Event}
@@ -42,7 +44,7 @@ window-sized DataView8 = inl refl
 window-sized DataView16 = inr (inl refl)
 window-sized DataView32 = inr (inr refl)
 
-window-in_block : (bytes index : ℕ) (window : Window) → IsTrue (is_in_block bytes window index) → first_byte window index + window_size window ≤ bytes
+pub window-in_block : (bytes index : ℕ) (window : Window) → IsTrue (is_in_block bytes window index) → first_byte window index + window_size window ≤ bytes
 window-in_block bytes index Uint8 h = omega (arith, ltb-true index bytes h)
 window-in_block bytes index Uint16 h = omega (arith, ltb-true index (bytes / 2) h)
 window-in_block bytes index Uint32 h = omega (arith, ltb-true index (bytes / 4) h)
@@ -152,16 +154,6 @@ all-sound : (t : Litmus) (c : ℕ) → IsLitmus t → c < length (combinations_o
 all-sound t c litmus known =
     sound-append t.bytes (init_events t.bytes) (accesses_in t c) (made-sound t.bytes 0 t.bytes (omega arith)) (accesses-sound t c (length t.agents) litmus known (omega arith))
 
-get_or-left : (xs ys : List Event) (i : ℕ) (d : Event) → i < length xs → get_or (xs ++ ys) i d ≡ get_or xs i d
-get_or-left [] ys i d inside = absurd (omega (arith, inside))
-get_or-left (x ∷ xs) ys zero d inside = refl
-get_or-left (x ∷ xs) ys (suc i) d inside = get_or-left xs ys i d (omega (arith, inside))
-
-made-at : (low count b : ℕ) (d : Event) → b < count → get_or (map init_event (range_with_len low count)) b d ≡ init_event (low + b)
-made-at low zero b d inside = absurd (omega (arith, inside))
-made-at low (suc count) zero d inside = ap init_event (let e : low ≡ low + 0 = omega arith in e)
-made-at low (suc count) (suc b) d inside = made-at (low + 1) count b d (omega (arith, inside)) ∙ ap init_event (let e : (low + 1) + b ≡ low + suc b = omega arith in e)
-
 pub are_events : (t : Litmus) (c : ℕ) → IsLitmus t → longest_of t.agents ≤ ACCESS_LIMIT → c < length (combinations_of t) → AreEventsIn t.bytes (events_in t c)
 are_events t c litmus short known =
     let made : List Event = init_events t.bytes in
@@ -184,7 +176,7 @@ are_events t c litmus short known =
       few_accesses = omega (arith, long, few);
       few_reads = omega (arith, reads, few);
       made = omega (arith, long);
-      making = λ b inside. get_or-left made (accesses_in t c) b no_event (omega (arith, inside, length-init_events t.bytes)) ∙ made-at 0 t.bytes b no_event inside ∙ ap init_event (zero_add b);
+      making = λ b inside. get_or_append_left made (accesses_in t c) no_event b (omega (arith, inside, length-init_events t.bytes)) ∙ get_or-map-range_with_len init_event 0 t.bytes b b no_event inside (zero_add b);
       sized = λ n inside. (sound-at t.bytes all n no_event inside sound).sized;
       in_block = λ n inside. (sound-at t.bytes all n no_event inside sound).in_block;
       payload = λ n inside. (sound-at t.bytes all n no_event inside sound).payload;

@@ -9,15 +9,7 @@ use Rattle.std.proofs.lemmas.List.Elements.{filter-append, All-from_recursion}
 use Rattle.std.proofs.lemmas.List.FromFn.{map-range_with_len_more}
 use Rattle.lit_read.specs.Syntax.{Agent, Statements, writes}
 use Rattle.lit_paths.specs.Outcome.{names_in, names_from, value_in}
-
-pub names_from_step : (agents : List Agent) (i : ℕ) (d : Agent) (body : Statements) (done more all : List (ℕ × ℕ)) → i < length agents → body ≡ (get_or agents i d).body
-    → more ≡ done ++ names_in i (record { name = []; body = body }) → done ++ names_from i (drop i agents) ≡ all → more ++ names_from (i + 1) (drop (i + 1) agents) ≡ all
-names_from_step agents i d body done more all inside is added before =
-    ap (λ ns. ns ++ names_from (i + 1) (drop (i + 1) agents)) added
-    ∙ append_assoc done (names_in i (record { name = []; body = body })) (names_from (i + 1) (drop (i + 1) agents))
-    ∙ ap (λ ss. done ++ (names_in i (record { name = []; body = ss }) ++ names_from (i + 1) (drop (i + 1) agents))) is
-    ∙ ap (λ rest. done ++ names_from i rest) (sym (drop_more agents i d inside))
-    ∙ before
+use Rattle.lit_read.proofs.ListLemmas.{all_both}
 
 pub range_more : (a n : ℕ) → range_with_len a (n + 1) ≡ range_with_len a n ++ (a + n) ∷ []
 range_more a n =
@@ -76,13 +68,9 @@ in_agent n agents body low (suc count) lt le = by (writes body low) (in_agent n 
     by true h = ((lt, omega arith), h)
     by false h = h
 
-both : (P : ℕ × ℕ → Type 0) (xs ys : List (ℕ × ℕ)) → AllByRecursion P xs → AllByRecursion P ys → AllByRecursion P (xs ++ ys)
-both P [] ys p q = q
-both P (x ∷ xs) ys p q = (p.0, both P xs ys p.1 q)
-
 within : (n limit : ℕ) (agents : List Agent) → n + length agents ≤ limit → AllByRecursion (IsWithin limit) (names_from n agents)
 within n limit [] le = tt
-within n limit (a ∷ agents) le = both (IsWithin limit) (names_in n a) (names_from (n + 1) agents) (in_agent n limit a.body 0 REGISTERS (omega arith) (omega arith)) (within (n + 1) limit agents (omega arith))
+within n limit (a ∷ agents) le = all_both (IsWithin limit) (names_in n a) (names_from (n + 1) agents) (in_agent n limit a.body 0 REGISTERS (omega arith) (omega arith)) (within (n + 1) limit agents (omega arith))
 
 pub names_from-within : (agents : List Agent) → All (IsWithin (length agents)) (names_from 0 agents)
 names_from-within agents = All-from_recursion (IsWithin (length agents)) (names_from 0 agents) (within 0 (length agents) agents (omega arith))

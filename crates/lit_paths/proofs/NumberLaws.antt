@@ -4,7 +4,7 @@ use Rattle.std.specs.Cmp.Lexicographic.{slice_cmp}
 use Rattle.std.specs.Ordering.{nat_cmp}
 use Rattle.std.specs.declared.cmp.Ordering.TheVariants.{Less, Equal}
 use Rattle.std.proofs.lemmas.Bool.{cases_lt}
-use Rattle.std.proofs.lemmas.List.{drop_more}
+use Rattle.std.proofs.lemmas.List.{drop_more, length_push}
 use Rattle.std.proofs.lemmas.Option.{slice_get-get_or, slice_get_within}
 use Rattle.lit_read.specs.Syntax.{Litmus}
 use Rattle.lit_paths.specs.declared.event.Event.{Event}
@@ -18,7 +18,7 @@ use Rattle.lit_paths.proofs.ChoiceLists.{choice_on, AreSources-sources_of}
 use Rattle.lit_paths.proofs.Digits.{later_ways}
 use Rattle.lit_paths.proofs.Entered.{ways_from-later, length_product-is}
 use Rattle.lit_paths.proofs.PathLists.{combinations_of-rise}
-use Rattle.lit_paths.proofs.Products.{fronted-known, slice_get-fronted, slice_get_right}
+use Rattle.lit_paths.proofs.Products.{fronted-known, slice_get-fronted, slice_get_right, slice_get_left}
 use Rattle.lit_paths.proofs.Rising.{slice_get-map-found, slice_cmp-same, nat_cmp-same}
 use Rattle.lit_paths.proofs.Totals.{before_more, choice_in}
 
@@ -217,17 +217,12 @@ begun_given events n given is =
     let are = AreSources-sources_of events n is.whole is.at in
     record {
       few = omega (arith, are.one_each, ap (λ (ws : List ℕ). length ws) is.begun, long given is.rest);
-      each = λ i r b w at from. are.each i r b w at (ap (λ (ws : List ℕ). slice_get ws i) is.begun ∙ front given is.rest i w from);
+      each = λ i r b w at from. are.each i r b w at (ap (λ (ws : List ℕ). slice_get ws i) is.begun ∙ slice_get_left given is.rest i (slice_get_within given i w from) ∙ from);
     }
   where
     long : (xs ys : List ℕ) → length xs ≤ length (xs ++ ys)
     long [] ys = omega arith
     long (x ∷ xs) ys = omega (arith, long xs ys)
-
-    front : (xs ys : List ℕ) (i w : ℕ) → slice_get xs i ≡ Some w → slice_get (xs ++ ys) i ≡ Some w
-    front [] ys i w at = cc
-    front (x ∷ xs) ys zero w at = at
-    front (x ∷ xs) ys (suc i) w at = front xs ys i w at
 
 -- ---- the next byte read
 list_next : (events : List Event) (k : ℕ) → k < length (byte_reads events) → slice_get (lists_of events) k ≡ Some (candidates_of events (byte_read_at events k))
@@ -270,7 +265,7 @@ next_numbered t c known given low i w are left here =
     let at : choices_before t c + low_of (lists_of events) (places.0 ++ i ∷ []) ≡ low + i * more =
     ap (λ n. choices_before t c + n) (low_more (lists_of events) given places.0 _ i places.1 list ∙ ap (λ m. low_of (lists_of events) places.0 + i * m) (ways_from-later events k))
     ∙ omega (arith, same) in
-    let long : ways_from events (length (given ++ w ∷ [])) ≡ more = ap (ways_from events) (long_push given w) in
+    let long : ways_from events (length (given ++ w ∷ [])) ≡ more = ap (ways_from events) (length_push given w) in
     subst (λ (m : ℕ). AreNumbered t c (given ++ w ∷ []) (low + i * more) m) long
     (subst (λ (m : ℕ). AreNumbered t c (given ++ w ∷ []) m (ways_from events (length (given ++ w ∷ [])))) at next))
     (λ no_way.
@@ -280,10 +275,6 @@ next_numbered t c known given low i w are left here =
       λ within. absurd (omega (arith, within, none)),
     ))
     (cases_lt 0 (ways_from events k))
-  where
-    long_push : (xs : List ℕ) (x : ℕ) → length (xs ++ x ∷ []) ≡ length xs + 1
-    long_push [] x = omega arith
-    long_push (y ∷ xs) x = omega (arith, long_push xs x)
 
 pub numbers_choices : (t : Litmus) (c : ℕ) → c < length (combinations_of t) → NumbersChoices t c
 numbers_choices t c known = record {

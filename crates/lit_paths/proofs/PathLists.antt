@@ -1,17 +1,16 @@
 -- The list of an agent's paths has exactly its paths, by rising decisions, and so has the list of combinations.
-use Rattle.std.proofs.Common.{◌≡◌, ℕ, zero, suc, ◌+◌, ◌<◌, ◌≤◌, List, [], ◌∷◌, length, map, get_or, slice_get, Some, arith, refl, sym, ap, ◌∙◌, subst}
+use Rattle.std.proofs.Common.{◌≡◌, ℕ, zero, suc, ◌+◌, ◌<◌, List, [], ◌∷◌, length, map, get_or, slice_get, Some, arith, refl, sym, ap, ◌∙◌, subst}
 use Rattle.std.specs.Cmp.Lexicographic.{slice_cmp}
 use Rattle.std.specs.Ordering.{nat_cmp, ordering_then}
 use Rattle.std.specs.declared.cmp.Ordering.{Ordering}
 use Rattle.std.specs.declared.cmp.Ordering.TheVariants.{Less, Equal}
-use Rattle.std.proofs.lemmas.List.{length-map}
 use Rattle.std.proofs.lemmas.Option.{slice_get_within}
 use Rattle.lit_read.specs.Syntax.{Agent, Statements, Litmus, agent_of}
 use Rattle.lit_paths.specs.Path.{Path, IsPath, path_on, paths_of, walks_of, decisions_on}
 use Rattle.lit_paths.specs.Choice.{AreCombined, ListsCombinations, paths_of_agents, combinations_of}
 use Rattle.lit_paths.proofs.Products.{product-known, product-found}
 use Rattle.lit_paths.proofs.Rising.{Rises, slice_get-map-known, slice_get-map-found, map-rises, nat_cmp-same, slice_cmp-same, product-rises}
-use Rattle.lit_paths.proofs.Walks.{WalkBefore, walks_of-known, walks_of-found, walks_of-rise, walks_of-some, walk-decided, parts-less}
+use Rattle.lit_paths.proofs.Walks.{WalkBefore, walks_of-known, walks_of-found, walks_of-rise, walk-decided, parts-less}
 
 pub paths_of-known : (owner : ℕ) (ss : Statements) (k : ℕ) (path : Path) → slice_get (paths_of owner ss) k ≡ Some path → IsPath owner ss path
 paths_of-known owner ss k path at =
@@ -22,9 +21,6 @@ pub paths_of-found : (owner : ℕ) (ss : Statements) (path : Path) → IsPath ow
 paths_of-found owner ss path is =
     let found = walks_of-found ss is.steps is.walked in
     (found.0, slice_get-map-found (path_on owner) (walks_of ss) found.0 is.steps found.1 ∙ ap (λ p. Some p) is.taken)
-
-pub paths_of-some : (owner : ℕ) (ss : Statements) → 1 ≤ length (paths_of owner ss)
-paths_of-some owner ss = omega (arith, length-map (walks_of ss) (path_on owner), walks_of-some ss)
 
 -- paths are compared by their decisions
 abbrev pub path_cmp : Path → Path → Ordering

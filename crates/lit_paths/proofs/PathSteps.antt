@@ -1,12 +1,13 @@
 -- What a path asks and holds, by its steps, is what it has once it is walked.
-use Rattle.std.proofs.Common.{◌≡◌, ℕ, zero, suc, ◌+◌, ◌<◌, ◌==◌, Bool, true, false, if◌then◌else◌, Option, Some, None, List, [], ◌∷◌, ◌++◌, length, map, replicate, get_or, slice_get, arith, refl, sym, ap, ap₂, ◌∙◌, subst, ⊎_elim, append_assoc, append-nil, length-append, IsTrue}
+use Rattle.std.proofs.Common.{◌≡◌, ℕ, zero, suc, ◌+◌, ◌<◌, ◌==◌, Bool, true, false, if◌then◌else◌, Option, Some, None, List, [], ◌∷◌, ◌++◌, length, map, replicate, get_or, slice_get, arith, refl, sym, ap, ap₂, ◌∙◌, subst, ⊎_elim, append_assoc, append-nil, IsTrue}
 use Rattle.std.specs.Prelude.{slice_set, slice_index_or}
 use Rattle.std.proofs.lemmas.Bool.{cases_eq, eq-eqb, ne_eqb}
-use Rattle.std.proofs.lemmas.List.{same_lists, get_or_default, get_or-set_same, get_or-set_other}
-use Rattle.std.proofs.lemmas.List.FromFn.{length-map-range_with_len}
+use Rattle.std.proofs.lemmas.List.{same_lists, get_or_default, get_or-set_same, get_or-set_other, length_push}
+use Rattle.std.proofs.lemmas.List.FromFn.{length-map-range_with_len, get_or-map-range_with_len}
 use Rattle.lit_read.specs.Syntax.{Statement, Statements, Load, Store, Exchange, CompareExchange, If, Then, End, IsStatementIn, AreStatementsIn}
 use Rattle.std.specs.List.{range_with_len}
 use Rattle.std.specs.Option.{option_or}
+use Rattle.std.proofs.lemmas.Option.{same_Some}
 use Rattle.lit_read.specs.declared.limits.TheConstants.{REGISTERS}
 use Rattle.lit_paths.specs.declared.event.Event.{Event}
 use Rattle.lit_paths.specs.declared.path.Tested.{Tested}
@@ -41,16 +42,13 @@ model_from owner events tests last steps = record {
   last = last_from (length events) last steps;
 }
 
-longer : (events : List Event) (e : Event) → length (events ++ e ∷ []) ≡ length events + 1
-longer events e = length-append events (e ∷ [])
-
 -- one event in front of what the later steps make
 moved : (owner : ℕ) (events : List Event) (e : Event) (tests : List Tested) (last : List (Option ℕ)) (steps : List Step)
     → model_from owner (events ++ e ∷ []) tests last steps
     ≡ record { events = events ++ e ∷ events_on owner (length events + 1) steps; tests = tests ++ tests_from (length events + 1) last steps; last = last_from (length events + 1) last steps }
 moved owner events e tests last steps =
     let n : ℕ = length events + 1 in
-    ap (λ (k : ℕ). record { events = (events ++ e ∷ []) ++ events_on owner k steps; tests = tests ++ tests_from k last steps; last = last_from k last steps }) (longer events e)
+    ap (λ (k : ℕ). record { events = (events ++ e ∷ []) ++ events_on owner k steps; tests = tests ++ tests_from k last steps; last = last_from k last steps }) (length_push events e)
     ∙ ap (λ (es : List Event). record { events = es; tests = tests ++ tests_from n last steps; last = last_from n last steps }) (append_assoc events (e ∷ []) (events_on owner n steps))
 
 abbrev put_tests : PathModel → List Tested → PathModel
@@ -143,17 +141,17 @@ set-index last reg r place inside =
     ∙ ap (λ b. if b then Some place else slice_index_or last r none) (sym (ne_eqb reg r other)))
     (cases_eq reg r)
 
-length-set_last : (last : List (Option ℕ)) (reg : ℕ) (x : Option ℕ) → length (slice_set last reg x) ≡ length last
-length-set_last [] reg x = refl
-length-set_last (y ∷ last) zero x = refl
-length-set_last (y ∷ last) (suc reg) x = ap suc (length-set_last last reg x)
+pub length-slice_set : {A : Type 0} (xs : List A) (i : ℕ) (x : A) → length (slice_set xs i x) ≡ length xs
+length-slice_set [] i x = refl
+length-slice_set (y ∷ xs) zero x = refl
+length-slice_set (y ∷ xs) (suc i) x = ap suc (length-slice_set xs i x)
 
 length-last_from : (place : ℕ) (last : List (Option ℕ)) (steps : List Step) → length (last_from place last steps) ≡ length last
 length-last_from place last [] = refl
-length-last_from place last (LoadMet reg window index atomic ∷ steps) = length-last_from (place + 1) (slice_set last reg (Some place)) steps ∙ length-set_last last reg (Some place)
+length-last_from place last (LoadMet reg window index atomic ∷ steps) = length-last_from (place + 1) (slice_set last reg (Some place)) steps ∙ length-slice_set last reg (Some place)
 length-last_from place last (StoreMet window index value atomic ∷ steps) = length-last_from (place + 1) last steps
-length-last_from place last (ExchangeMet reg window index value ∷ steps) = length-last_from (place + 1) (slice_set last reg (Some place)) steps ∙ length-set_last last reg (Some place)
-length-last_from place last (CompareExchangeMet reg window index expected value succeeds ∷ steps) = length-last_from (place + 1) (slice_set last reg (Some place)) steps ∙ length-set_last last reg (Some place)
+length-last_from place last (ExchangeMet reg window index value ∷ steps) = length-last_from (place + 1) (slice_set last reg (Some place)) steps ∙ length-slice_set last reg (Some place)
+length-last_from place last (CompareExchangeMet reg window index expected value succeeds ∷ steps) = length-last_from (place + 1) (slice_set last reg (Some place)) steps ∙ length-slice_set last reg (Some place)
 length-last_from place last (IfMet reg equal value holds ∷ steps) = length-last_from place last steps
 
 -- a read into a register, and then later steps
@@ -175,12 +173,12 @@ last_from-at : (place : ℕ) (last : List (Option ℕ)) (steps : List Step) (r :
     → slice_index_or (last_from place last steps) r None ≡ option_or (last_read_from place steps r) (slice_index_or last r None)
 last_from-at place last [] r inside = refl
 last_from-at place last (LoadMet reg window index atomic ∷ steps) r inside =
-    last_from-at (place + 1) (slice_set last reg (Some place)) steps r (omega (arith, inside, length-set_last last reg (Some place))) ∙ read_then place reg r last steps inside
+    last_from-at (place + 1) (slice_set last reg (Some place)) steps r (omega (arith, inside, length-slice_set last reg (Some place))) ∙ read_then place reg r last steps inside
 last_from-at place last (StoreMet window index value atomic ∷ steps) r inside = last_from-at (place + 1) last steps r inside ∙ other_then (place + 1) (place + 1) r last steps refl
 last_from-at place last (ExchangeMet reg window index value ∷ steps) r inside =
-    last_from-at (place + 1) (slice_set last reg (Some place)) steps r (omega (arith, inside, length-set_last last reg (Some place))) ∙ read_then place reg r last steps inside
+    last_from-at (place + 1) (slice_set last reg (Some place)) steps r (omega (arith, inside, length-slice_set last reg (Some place))) ∙ read_then place reg r last steps inside
 last_from-at place last (CompareExchangeMet reg window index expected value succeeds ∷ steps) r inside =
-    last_from-at (place + 1) (slice_set last reg (Some place)) steps r (omega (arith, inside, length-set_last last reg (Some place))) ∙ read_then place reg r last steps inside
+    last_from-at (place + 1) (slice_set last reg (Some place)) steps r (omega (arith, inside, length-slice_set last reg (Some place))) ∙ read_then place reg r last steps inside
 last_from-at place last (IfMet reg equal value holds ∷ steps) r inside = last_from-at place last steps r inside ∙ other_then place (place + 0) r last steps (omega arith)
 
 none-at : (n r : ℕ) → slice_index_or ((let none : Option ℕ = None in replicate n none)) r None ≡ None
@@ -198,12 +196,7 @@ path_model-last steps =
     get_or_default (last_from 0 none steps) r d None inside
     ∙ last_from-at 0 none steps r (omega (arith, within))
     ∙ ap (λ o. option_or (last_read steps r) o) (none-at REGISTERS r) ∙ option_or-none (last_read steps r)
-    ∙ ap (last_read steps) (let e : r ≡ 0 + r = omega arith in e) ∙ sym (map-range-at (last_read steps) 0 REGISTERS r d within))
-  where
-    map-range-at : (f : ℕ → Option ℕ) (low n i : ℕ) (d : Option ℕ) → i < n → get_or (map f (range_with_len low n)) i d ≡ f (low + i)
-    map-range-at f low zero i d h = absurd (omega (arith, h))
-    map-range-at f low (suc n) zero d h = ap f (let e : low ≡ low + 0 = omega arith in e)
-    map-range-at f low (suc n) (suc i) d h = map-range-at f (low + 1) n i d (omega (arith, h)) ∙ ap f (let e : (low + 1) + i ≡ low + suc i = omega arith in e)
+    ∙ sym (get_or-map-range_with_len (last_read steps) 0 REGISTERS r r d within (omega arith)))
 
 -- ---- the tests
 access_count-append : (a b : List Step) → access_count (a ++ b) ≡ access_count a + access_count b
@@ -228,7 +221,7 @@ pub record Reflects (before : List Step) (last : List (Option ℕ)) : Type 0 whe
 reflects-read : (before : List Step) (step : Step) (reg : ℕ) (last : List (Option ℕ)) → ((r : ℕ) → reads_into r step ≡ (reg == r)) → Reflects before last
     → Reflects (before ++ step ∷ []) (slice_set last reg (Some (access_count before)))
 reflects-read before step reg last reads is = record {
-  long = length-set_last last reg (Some (access_count before)) ∙ is.long;
+  long = length-slice_set last reg (Some (access_count before)) ∙ is.long;
   each = λ r inside.
       set-index last reg r (access_count before) (omega (arith, inside, is.long))
       ∙ ap (λ b. if b then Some (access_count before) else slice_index_or last r None) (sym (reads r))
@@ -386,9 +379,6 @@ pushed : (owner : ℕ) (before : List Step) (step : Step) (steps : List Step) (p
     → IsReadAt (events_on owner 0 (before ++ step ∷ steps)) place
 pushed owner before step steps place is = subst (λ (l : List Step). IsReadAt (events_on owner 0 l) place) (append_assoc before (step ∷ []) steps) is
 
-some-same : {m n : Tested} → Some m ≡ Some n → m ≡ n
-some-same e = cc
-
 tests_after-reads : (owner : ℕ) (before steps : List Step) (k place : ℕ) (test : Tested) → slice_get (tests_after before steps) k ≡ Some test → test.on ≡ Some place
     → IsReadAt (events_on owner 0 (before ++ steps)) place
 tests_after-reads owner before [] k place test at on = cc
@@ -399,7 +389,7 @@ tests_after-reads owner before (StoreMet window index value atomic ∷ steps) k 
 tests_after-reads owner before (ExchangeMet reg window index value ∷ steps) k place test at on =
     pushed owner before (ExchangeMet reg window index value) steps place (tests_after-reads owner (before ++ ExchangeMet reg window index value ∷ []) steps k place test at on)
 tests_after-reads owner before (CompareExchangeMet reg window index expected value succeeds ∷ steps) zero place test at on =
-    let same : record { on = Some (access_count before); equal = succeeds; value = expected } ≡ test = some-same at in
+    let same : record { on = Some (access_count before); equal = succeeds; value = expected } ≡ test = same_Some _ _ at in
     let here : Some (access_count before) ≡ Some place = ap (λ (m : Tested). m.on) same ∙ on in
     let is : access_count before ≡ place = cc in
     among-append owner place before (CompareExchangeMet reg window index expected value succeeds ∷ steps)
@@ -408,7 +398,7 @@ tests_after-reads owner before (CompareExchangeMet reg window index expected val
     pushed owner before (CompareExchangeMet reg window index expected value succeeds) steps place
     (tests_after-reads owner (before ++ CompareExchangeMet reg window index expected value succeeds ∷ []) steps k place test at on)
 tests_after-reads owner before (IfMet reg equal value holds ∷ steps) zero place test at on =
-    let same : record { on = last_read before reg; equal = asked equal holds; value = value } ≡ test = some-same at in
+    let same : record { on = last_read before reg; equal = asked equal holds; value = value } ≡ test = same_Some _ _ at in
     let here : last_read before reg ≡ Some place = ap (λ (m : Tested). m.on) same ∙ on in
     among-append owner place before (IfMet reg equal value holds ∷ steps) (read-front (events_on owner 0 before) _ place (holds_reads owner before reg place here))
 tests_after-reads owner before (IfMet reg equal value holds ∷ steps) (suc k) place test at on =

@@ -4,6 +4,8 @@ use Rattle.std.specs.Prelude.{IsSome}
 use Rattle.std.specs.List.{range_with_len}
 use Rattle.std.proofs.lemmas.Bool.{cases_lt}
 use Rattle.std.proofs.lemmas.Option.{slice_get_within}
+use Rattle.std.proofs.lemmas.List.{get_or_append_left}
+use Rattle.std.proofs.lemmas.List.FromFn.{get_or-map-range_with_len}
 use Rattle.lit_read.specs.Syntax.{Litmus}
 use Rattle.lit_paths.specs.declared.event.Event.{Event}
 use Rattle.lit_paths.specs.declared.event.Order3.TheVariants.{Init}
@@ -13,11 +15,6 @@ use Rattle.lit_paths.specs.Choice.{combinations_of}
 use Rattle.lit_paths.specs.Plan.{accesses_on, combination_at, events_in, walk_in, first_event}
 use Rattle.lit_paths.proofs.EventLists.{length-init_events}
 use Rattle.lit_paths.proofs.CombinedPaths.{path_at, length-combination}
-
-get_or_left : (xs ys : List Event) (i : ℕ) (d : Event) → i < length xs → get_or (xs ++ ys) i d ≡ get_or xs i d
-get_or_left [] ys i d inside = absurd (omega (arith, inside))
-get_or_left (x ∷ xs) ys zero d inside = refl
-get_or_left (x ∷ xs) ys (suc i) d inside = get_or_left xs ys i d (omega (arith, inside))
 
 get_or_right : (xs ys : List Event) (n i : ℕ) (d : Event) → n ≡ length xs + i → get_or (xs ++ ys) n d ≡ get_or ys i d
 get_or_right [] ys n i d same = ap (λ k. get_or ys k d) (let e : n ≡ i = omega (arith, same) in e)
@@ -31,7 +28,7 @@ pub record IsAccessAt (owner place : ℕ) (e : Event) : Type 0 where
   pub placed : e.place ≡ place
   pub accessed : e.order ≢ Init
 
-order-other : (atomic : Bool) → order_of atomic ≢ Init
+pub order-other : (atomic : Bool) → order_of atomic ≢ Init
 order-other true = λ e. cc
 order-other false = λ e. cc
 
@@ -73,7 +70,7 @@ path-stands (p ∷ paths) zero path at =
     let same : p ≡ path = cc in
     subst (λ (q : Path). StandsAt (p.events ++ accesses_on paths) 0 q.events) same (record {
       within = omega (arith, length-append p.events (accesses_on paths));
-      each = λ k d inside. ap (λ n. get_or (p.events ++ accesses_on paths) n d) (let e : 0 + k ≡ k = omega arith in e) ∙ get_or_left p.events (accesses_on paths) k d inside;
+      each = λ k d inside. ap (λ n. get_or (p.events ++ accesses_on paths) n d) (let e : 0 + k ≡ k = omega arith in e) ∙ get_or_append_left p.events (accesses_on paths) d k inside;
     })
 path-stands (p ∷ paths) (suc i) path at =
     let later = path-stands paths i path at in
@@ -111,10 +108,6 @@ located (p ∷ paths) n inside =
     (cases_lt n (length p.events))
 
 -- ---- all events
-init-at : (low count b : ℕ) (d : Event) → b < count → get_or (map init_event (range_with_len low count)) b d ≡ init_event (low + b)
-init-at low zero b d inside = absurd (omega (arith, inside))
-init-at low (suc count) zero d inside = ap init_event (let e : low ≡ low + 0 = omega arith in e)
-init-at low (suc count) (suc b) d inside = init-at (low + 1) count b d (omega (arith, inside)) ∙ ap init_event (let e : (low + 1) + b ≡ low + suc b = omega arith in e)
 
 -- the path of an agent stands among all events from its first one on
 pub agent-stands : (t : Litmus) (c agent : ℕ) → c < length (combinations_of t) → agent < length t.agents
@@ -162,8 +155,8 @@ of_agent t c n known behind inside =
 
 pub made_at : (t : Litmus) (c b : ℕ) → b < t.bytes → event_at (events_in t c) b ≡ init_event b
 made_at t c b inside =
-    get_or_left (init_events t.bytes) (accesses_on (combination_at t c)) b no_event (omega (arith, inside, length-init_events t.bytes)) ∙ init-at 0 t.bytes b no_event inside
-    ∙ ap init_event (let e : 0 + b ≡ b = omega arith in e)
+    get_or_append_left (init_events t.bytes) (accesses_on (combination_at t c)) no_event b (omega (arith, inside, length-init_events t.bytes))
+    ∙ get_or-map-range_with_len init_event 0 t.bytes b b no_event inside (omega arith)
 
 pub event-owned : (t : Litmus) (c n : ℕ) → c < length (combinations_of t) → t.bytes ≤ n → n < length (events_in t c) → IsSome (event_at (events_in t c) n).owner
 event-owned t c n known behind inside =

@@ -1,10 +1,10 @@
 -- What follows from what a plan keeps of a test.
-use Rattle.std.proofs.Common.{◌≡◌, ◌⊎◌, ℕ, zero, suc, ◌+◌, ◌-◌, ◌<◌, ◌≤◌, List, [], ◌∷◌, length, map, flat_map, take, get_or, arith, refl, sym, ap, ◌∙◌, subst, add-one, length-append, inl, inr}
+use Rattle.std.proofs.Common.{◌≡◌, ◌⊎◌, ℕ, zero, suc, ◌+◌, ◌-◌, ◌<◌, ◌≤◌, List, [], ◌∷◌, length, map, flat_map, take, get_or, arith, sym, ap, ◌∙◌, subst, add-one, length-append, inl, inr}
 use Rattle.std.specs.Prelude.{slice_index}
 use Rattle.std.specs.List.{range_with_len}
 use Rattle.std.specs.List.Sorted.{IsNonDecreasingBy}
 use Rattle.std.proofs.lemmas.Bool.{cases_lt}
-use Rattle.std.proofs.lemmas.List.FromFn.{length-map-range_with_len}
+use Rattle.std.proofs.lemmas.List.FromFn.{length-map-range_with_len, get_or-map-range_with_len}
 use Rattle.std.proofs.lemmas.Option.{slice_get-get_or}
 use Rattle.lit_read.specs.Syntax.{Litmus, IsLitmus}
 use Rattle.lit_paths.specs.declared.limits.TheConstants.{COMBINATION_LIMIT, CHOICE_LIMIT}
@@ -36,16 +36,11 @@ joined_mono f (x ∷ xs) (suc i) (suc j) le =
 pub before_mono : (t : Litmus) (i j : ℕ) → i ≤ j → choices_before t i ≤ choices_before t j
 before_mono t i j le = joined_mono (choices_on t.bytes) (combinations_of t) i j le
 
-range_at : (f : ℕ → ℕ) (low count i d : ℕ) → i < count → get_or (map f (range_with_len low count)) i d ≡ f (low + i)
-range_at f low zero i d inside = absurd (omega (arith, inside))
-range_at f low (suc count) zero d inside = ap f (let e : low ≡ low + 0 = omega arith in e)
-range_at f low (suc count) (suc i) d inside = range_at f (low + 1) count i d (omega (arith, inside)) ∙ ap f (let e : (low + 1) + i ≡ low + suc i = omega arith in e)
-
 pub length-totals : (t : Litmus) (count : ℕ) → length (totals_below t count) ≡ count
 length-totals t count = length-map-range_with_len (λ c. choices_before t (c + 1)) 0 count
 
 pub totals-at : (t : Litmus) (count c d : ℕ) → c < count → get_or (totals_below t count) c d ≡ choices_before t (c + 1)
-totals-at t count c d inside = range_at (λ k. choices_before t (k + 1)) 0 count c d inside ∙ ap (λ k. choices_before t (k + 1)) (let e : 0 + c ≡ c = omega arith in e)
+totals-at t count c d inside = get_or-map-range_with_len (λ k. choices_before t (k + 1)) 0 count c c d inside (omega arith)
 
 pub totals-rise : (t : Litmus) (count : ℕ) → IsNonDecreasingBy (λ (x : ℕ). x) (totals_below t count)
 totals-rise t count i j d le inside =
@@ -93,12 +88,6 @@ module _ (p : Inside) (is : IsPlanned p) where
 
   pub planned-total : choices_before t (length (combinations_of t)) ≡ length (choices_of t)
   planned-total = before_all t (length (combinations_of t)) (omega arith)
-
-  pub planned-choice : 1 ≤ length (choices_of t)
-  planned-choice =
-      let first = some_choice t.bytes (events_in t 0) (planned-events 0 (omega (arith, planned-some))) in
-      let none : choices_before t 0 ≡ 0 = refl in
-      omega (arith, first, before_more t 0 (omega (arith, planned-some)), before_le t (0 + 1))
 
   pub planned-below : (c : ℕ) → choices_before t c ≤ CHOICE_LIMIT
   planned-below c = omega (arith, before_le t c, is.few_choices)

@@ -1,8 +1,8 @@
 -- The product of lists: how many members it has, and which one a number gives.
-use Rattle.std.proofs.Common.{◌≡◌, ℕ, zero, suc, ◌+◌, ◌*◌, ◌/◌, ◌%◌, ◌<◌, ◌≤◌, List, [], ◌∷◌, ◌++◌, length, map, flat_map, slice_get, Some, option_map, arith, length-append, refl, sym, ap, ◌∙◌, take, drop, get_or, mul-le-mul, mul-le-mul_left, mul_assoc, take-append-drop, zero-mul, mul-zero, div-lt_iff_lt-mul, subst, ap₂, Option, append_assoc, append-nil, ◌-◌, ⊎_elim}
+use Rattle.std.proofs.Common.{◌≡◌, ℕ, zero, suc, ◌+◌, ◌*◌, ◌/◌, ◌<◌, ◌≤◌, List, [], ◌∷◌, ◌++◌, length, map, flat_map, slice_get, Some, option_map, arith, length-append, refl, sym, ap, ◌∙◌, take, drop, get_or, mul-le-mul, mul-le-mul_left, mul_assoc, take-append-drop, zero-mul, mul-zero, ap₂, Option, ◌-◌, ⊎_elim}
 use Rattle.std.proofs.lemmas.Bool.{cases_lt}
 use Rattle.std.proofs.Math.Nat.{mul-div_cancel_left}
-use Rattle.std.proofs.lemmas.List.{length-map, map_more, map-append, drop_more, drop_all}
+use Rattle.std.proofs.lemmas.List.{length-map, map_more, map-append}
 use Rattle.std.proofs.lemmas.Option.{slice_get-map, slice_get_within, slice_get_past, slice_get-get_or}
 use Rattle.lit_paths.specs.Choice.{product}
 
@@ -51,14 +51,6 @@ slice_get-fronted rest (y ∷ xs) (suc i) j n x ys e here there =
     slice_get_right (map (λ zs. y ∷ zs) rest) (fronted rest xs) n (i * length rest + j) (omega (arith, e, length-map rest (λ zs. y ∷ zs)))
     ∙ slice_get-fronted rest xs i j (i * length rest + j) x ys refl here there
 
--- the member of a product with a number: the first list's members change slowest
-pub slice_get-product : {A : Type 0} (xs : List A) (rest : List (List A)) (n : ℕ) (x : A) (ys : List A)
-    → slice_get xs (n / length (product rest)) ≡ Some x → slice_get (product rest) (n % length (product rest)) ≡ Some ys
-    → slice_get (product (xs ∷ rest)) n ≡ Some (x ∷ ys)
-slice_get-product xs rest n x ys here there =
-    let inside : n % length (product rest) < length (product rest) = slice_get_within (product rest) _ ys there in
-    slice_get-fronted (product rest) xs (n / length (product rest)) (n % length (product rest)) n x ys (omega arith) here there
-
 -- each list has a member
 abbrev pub AreSome : {A : Type 0} → List (List A) → Type 0
 AreSome {A} xss = (i : ℕ) (xs : List A) → slice_get xss i ≡ Some xs → 1 ≤ length xs
@@ -100,19 +92,6 @@ module _ {X A : Type 0} (f : X → List A) where
       let rest : AreSome (map f (drop i xs)) = AreSome-map (drop i xs) (λ k x h. each (i + k) x (sym (slice_get-drop i k xs) ∙ h)) in
       omega (arith, length-product-append (map f (take i xs)) (map f (drop i xs)) rest, ap (λ l. length (product l)) split)
 
-  -- the places after the first list's, in a count from the front
-  pub product_after : (xs : List X) (i : ℕ) (d : X) → i < length xs
-      → length (product (map f (drop i xs))) ≡ length (f (get_or xs i d)) * length (product (map f (drop (i + 1) xs)))
-  product_after xs i d inside =
-      ap (λ l. length (product (map f l))) (drop_more xs i d inside) ∙ length-product (f (get_or xs i d)) (map f (drop (i + 1) xs))
-
-  pub product_member : (xs : List X) (i : ℕ) (d : X) (n : ℕ) (x : A) (ys : List A) → i < length xs
-      → slice_get (f (get_or xs i d)) (n / length (product (map f (drop (i + 1) xs)))) ≡ Some x
-      → slice_get (product (map f (drop (i + 1) xs))) (n % length (product (map f (drop (i + 1) xs)))) ≡ Some ys
-      → slice_get (product (map f (drop i xs))) n ≡ Some (x ∷ ys)
-  product_member xs i d n x ys inside here there =
-      ap (λ l. slice_get (product (map f l)) n) (drop_more xs i d inside) ∙ slice_get-product (f (get_or xs i d)) (map f (drop (i + 1) xs)) n x ys here there
-
 pub factors-positive : (a b n : ℕ) → n < a * b → (0 < a) × (0 < b)
 factors-positive zero b n h = absurd (omega (arith, h, zero-mul b))
 factors-positive (suc a) zero n h = absurd (omega (arith, h, mul-zero (suc a)))
@@ -129,42 +108,10 @@ next_positive after count rest left is inside =
     let some : (0 < count) × (0 < rest) = factors-positive count rest left (omega (arith, is, inside)) in
     omega (arith, next_places after count rest left is inside, some.1)
 
-pub next_index : (after count rest left : ℕ) → after ≡ count * rest → left < after → left / (after / count) < count
-next_index after count rest left is inside =
-    let some : (0 < count) × (0 < rest) = factors-positive count rest left (omega (arith, is, inside)) in
-    let there : left / rest < count = (div-lt_iff_lt-mul {k = rest} {x = left} {y = count} some.1).1 (omega (arith, is, inside)) in
-    let P : ℕ → Type 0 = λ n. left / n < count in
-    subst P (sym (next_places after count rest left is inside)) there
-
 module _ {X A : Type 0} (f : X → List A) where
   pub count_step : (xs : List X) (i : ℕ) (d : X) (total count : ℕ) → i < length xs → total ≡ length (product (map f (take i xs))) → count ≡ length (f (get_or xs i d))
       → total * count ≡ length (product (map f (take (i + 1) xs)))
   count_step xs i d total count inside done one = ap₂ (λ a b. a * b) done one ∙ sym (product_more f xs i d inside)
-
-  pub places_are : (xs : List X) (i : ℕ) (d : X) (after count : ℕ) → i < length xs → after ≡ length (product (map f (drop i xs))) → count ≡ length (f (get_or xs i d))
-      → after ≡ count * length (product (map f (drop (i + 1) xs)))
-  places_are xs i d after count inside places one = places ∙ product_after f xs i d inside ∙ ap (λ n. n * length (product (map f (drop (i + 1) xs)))) (sym one)
-
-  -- the member with a number, once the members of one more list are chosen
-  pub member_step : (xs : List X) (i : ℕ) (d : X) (after count left : ℕ) (x : A) (done : List A) (whole : Option (List A))
-      → i < length xs → after ≡ length (product (map f (drop i xs))) → count ≡ length (f (get_or xs i d)) → left < after
-      → slice_get (f (get_or xs i d)) (left / (after / count)) ≡ Some x
-      → ((ys : List A) → slice_get (product (map f (drop i xs))) left ≡ Some ys → whole ≡ Some (done ++ ys))
-      → (ys : List A) → slice_get (product (map f (drop (i + 1) xs))) (left % (after / count)) ≡ Some ys → whole ≡ Some ((done ++ x ∷ []) ++ ys)
-  member_step xs i d after count left x done whole inside places one within here same ys there =
-      let is = next_places after count _ left (places_are xs i d after count inside places one) within in
-      same (x ∷ ys) (product_member f xs i d left x ys inside (ap (λ n. slice_get (f (get_or xs i d)) (left / n)) (sym is) ∙ here) (ap (λ n. slice_get (product (map f (drop (i + 1) xs))) (left % n)) (sym is) ∙ there))
-      ∙ ap (λ zs. Some zs) (sym (append_assoc done (x ∷ []) ys))
-
-  -- once each list has its member
-  pub member_end : (xs : List X) (i : ℕ) (after left : ℕ) (done : List A) (whole : Option (List A))
-      → length xs ≤ i → after ≡ length (product (map f (drop i xs))) → left < after
-      → ((ys : List A) → slice_get (product (map f (drop i xs))) left ≡ Some ys → whole ≡ Some (done ++ ys)) → whole ≡ Some done
-  member_end xs i after left done whole past places within same =
-      let nothing : drop i xs ≡ [] = drop_all i xs past in
-      let first : left ≡ 0 = omega (arith, within, places, ap (λ l. length (product (map f l))) nothing) in
-      same [] (ap (λ l. slice_get (product (map f l)) left) nothing ∙ ap (λ n. slice_get (product {A = A} []) n) first)
-      ∙ ap (λ zs. Some zs) (append-nil done)
 
 -- where a member of `fronted` comes from
 pub record ComesFrom {A : Type 0} (rest : List (List A)) (xs : List A) (n : ℕ) (zs : List A) : Type 0 where

@@ -1,7 +1,7 @@
 -- Walking on by the number of a walk, statement by statement.
-use Rattle.std.proofs.Common.{◌≡◌, ℕ, zero, suc, ◌+◌, ◌*◌, ◌/◌, ◌%◌, ◌<◌, ◌≤◌, Bool, true, false, List, [], ◌∷◌, ◌++◌, length, map, flat_map, get_or, drop, slice_get, Some, Option, unwrap_or, arith, refl, sym, ap, ◌∙◌, subst, min, max, mul-le-mul, div-lt_iff_lt-mul}
+use Rattle.std.proofs.Common.{◌≡◌, ℕ, zero, suc, ◌+◌, ◌*◌, ◌/◌, ◌%◌, ◌<◌, ◌≤◌, Bool, true, false, List, [], ◌∷◌, ◌++◌, length, map, flat_map, get_or, drop, slice_get, Some, arith, refl, sym, ap, ◌∙◌, subst, min, max, mul-le-mul, div-lt_iff_lt-mul}
 use Rattle.std.proofs.lemmas.List.{length-map}
-use Rattle.std.proofs.lemmas.Option.{slice_get-get_or, slice_get_within}
+use Rattle.std.proofs.lemmas.Option.{slice_get-get_or, slice_get_within, get_or_from_slice_get}
 use Rattle.lit_read.specs.declared.syntax.Stmt.{Stmt}
 use Rattle.lit_read.specs.Syntax.{Statement, Statements, Then, End, Load, Store, Exchange, CompareExchange, If, IsStatementIn, AreStatementsIn}
 use Rattle.lit_read.specs.Litmus.{statement_of, statements_of}
@@ -12,12 +12,7 @@ use Rattle.lit_paths.specs.Internal.Walks.{IsSaid, AreSaid, longest, statement_l
 use Rattle.lit_paths.proofs.Products.{next_places, slice_get_left, slice_get_right}
 use Rattle.lit_paths.proofs.Rising.{slice_get-map-found}
 use Rattle.lit_paths.proofs.Walks.{length-walks_of, length-walks-if, walks_of-some, statement_walks-some}
-use Rattle.lit_paths.proofs.Parts.{statements_left, statements_end}
-
-get_or-from : {A : Type 0} (xs : List A) (n : ℕ) (d x : A) → slice_get xs n ≡ Some x → get_or xs n d ≡ x
-get_or-from {A} xs n d x at =
-    let same : Some (get_or xs n d) ≡ Some x = sym (slice_get-get_or xs n d (slice_get_within xs n x at)) ∙ at in
-    ap (λ (o : Option A). unwrap_or o d) same
+use Rattle.lit_paths.proofs.Parts.{statements_left}
 
 joined-at : (rests firsts : List (List Step)) (i j n : ℕ) (x y : List Step) → n ≡ i * length rests + j → slice_get firsts i ≡ Some x → slice_get rests j ≡ Some y
     → slice_get (flat_map (λ first. map (λ rest. first ++ rest) rests) firsts) n ≡ Some (x ++ y)
@@ -47,7 +42,7 @@ walk_at-then s ss n inside =
     let index : ℕ = n / length (walks_of ss) in
     let place : ℕ = n % length (walks_of ss) in
     let within : place < length (walks_of ss) = omega (arith, some) in
-    get_or-from (walks_of (Then s ss)) n [] (statement_walk_at s index ++ walk_at ss place)
+    get_or_from_slice_get (walks_of (Then s ss)) n (statement_walk_at s index ++ walk_at ss place) []
     (joined-at (walks_of ss) (statement_walks s) index place n (statement_walk_at s index) (walk_at ss place) (omega (arith, some))
     (slice_get-get_or (statement_walks s) index [] (first_index s ss n inside)) (slice_get-get_or (walks_of ss) place [] within))
 
@@ -55,7 +50,7 @@ pub walk_at-then_part : (reg : ℕ) (equal : Bool) (value : ℕ) (body other : S
     → statement_walk_at (If reg equal value body other) n ≡ IfMet reg equal value true ∷ walk_at body n
 walk_at-then_part reg equal value body other n inside =
     let arm : List Step → List Step = λ a. IfMet reg equal value true ∷ a in
-    get_or-from (statement_walks (If reg equal value body other)) n [] (arm (walk_at body n))
+    get_or_from_slice_get (statement_walks (If reg equal value body other)) n (arm (walk_at body n)) []
     (slice_get_left (map arm (walks_of body)) (map (λ a. IfMet reg equal value false ∷ a) (walks_of other)) n (omega (arith, inside, length-map (walks_of body) arm))
     ∙ slice_get-map-found arm (walks_of body) n (walk_at body n) (slice_get-get_or (walks_of body) n [] inside))
 
@@ -63,7 +58,7 @@ pub walk_at-else_part : (reg : ℕ) (equal : Bool) (value : ℕ) (body other : S
     → statement_walk_at (If reg equal value body other) n ≡ IfMet reg equal value false ∷ walk_at other k
 walk_at-else_part reg equal value body other n k is inside =
     let arm : List Step → List Step = λ a. IfMet reg equal value false ∷ a in
-    get_or-from (statement_walks (If reg equal value body other)) n [] (arm (walk_at other k))
+    get_or_from_slice_get (statement_walks (If reg equal value body other)) n (arm (walk_at other k)) []
     (slice_get_right (map (λ a. IfMet reg equal value true ∷ a) (walks_of body)) (map arm (walks_of other)) n k (omega (arith, is, length-map (walks_of body) (λ a. IfMet reg equal value true ∷ a)))
     ∙ slice_get-map-found arm (walks_of other) k (walk_at other k) (slice_get-get_or (walks_of other) k [] inside))
 
@@ -152,18 +147,6 @@ on_way_more owner xs number begun i left later k path new x inside is here walke
       few = omega (arith, lower, here.count, way.few);
       room = omega (arith, short, here.long, way.room);
     }
-
-pub on_way_begin : (owner : ℕ) (xs : List Stmt) (number : ℕ) (begun : PathModel) → number < length (walks_of (statements_of xs)) → IsOnWay owner xs number begun 0 number begun
-on_way_begin owner xs number begun known = record { same = refl; known = known; few = omega arith; room = omega arith }
-
-pub on_way_end : (owner : ℕ) (xs : List Stmt) (number : ℕ) (begun : PathModel) (i left : ℕ) (path : PathModel) → length xs ≤ i → IsOnWay owner xs number begun i left path
-    → path ≡ with_steps owner begun (walk_at (statements_of xs) number)
-on_way_end owner xs number begun i left path past way =
-    let nothing : left_of xs i ≡ End = statements_end xs i past in
-    let known : left < 1 = subst (λ (ss : Statements). left < length (walks_of ss)) nothing way.known in
-    let first : left ≡ 0 = omega (arith, known) in
-    let none : walk_at (left_of xs i) left ≡ [] = ap (λ ss. walk_at ss left) nothing ∙ ap (λ n. walk_at End n) first in
-    ap (λ w. with_steps owner path w) (sym none) ∙ way.same
 
 -- ---- an `if`, by its parts
 -- The statement is an `if` with these parts.

@@ -82,14 +82,14 @@ asked-true false false a b h = twice (a == b) (sym h)
     twice true h = refl
     twice false h = cc
 
+other : (t : Bool) → not t ≡ true → false ≡ t
+other true h = h
+other false h = refl
+
 asked-from : (equal holds : Bool) (a b : ℕ) → compares (asked equal holds) a b ≡ true → holds ≡ compares equal a b
 asked-from true true a b h = sym h
 asked-from false true a b h = sym h
 asked-from true false a b h = other (a == b) h
-  where
-    other : (t : Bool) → not t ≡ true → false ≡ t
-    other true h = h
-    other false h = refl
 asked-from false false a b h = ap not (sym h)
 
 succeeds-true : (succeeds : Bool) (a b : ℕ) → succeeds ≡ (a == b) → compares succeeds a b ≡ true
@@ -99,10 +99,6 @@ succeeds-true false a b h = ap not (sym h)
 succeeds-from : (succeeds : Bool) (a b : ℕ) → compares succeeds a b ≡ true → succeeds ≡ (a == b)
 succeeds-from true a b h = sym h
 succeeds-from false a b h = other (a == b) h
-  where
-    other : (t : Bool) → not t ≡ true → false ≡ t
-    other true h = h
-    other false h = refl
 
 -- a chosen value, before those that follow
 front-value : (owner place : ℕ) (reads : List ℕ) (value : ℕ) (others values : List ℕ) (chosen : List (ℕ × ℕ)) → values ≡ value ∷ others

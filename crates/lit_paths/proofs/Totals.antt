@@ -1,7 +1,7 @@
 -- How many choices the combinations have, one after the other, and which choice has a number.
 use Rattle.std.proofs.Common.{◌≡◌, ℕ, Bool, zero, suc, true, false, drop, ◌+◌, ◌-◌, ◌<◌, ◌≤◌, List, [], ◌∷◌, ◌++◌, length, map, flat_map, take, get_or, slice_get, Some, arith, refl, sym, ap, ◌∙◌, subst, add-one, length-append}
 use Rattle.std.proofs.lemmas.List.{length-drop, length-map, take_all}
-use Rattle.std.proofs.lemmas.Option.{slice_get-get_or, slice_get_within}
+use Rattle.std.proofs.lemmas.Option.{slice_get-get_or, slice_get_within, same_Some}
 use Rattle.lit_read.specs.Syntax.{Litmus}
 use Rattle.lit_paths.specs.declared.event.Event.{Event}
 use Rattle.lit_paths.specs.Event.{event_at, init_event, no_event, does_read, does_write}
@@ -147,8 +147,6 @@ pub few_candidates : (bytes : ℕ) (events : List Event) (read : ByteRead) → A
 few_candidates bytes events read are = omega (arith, few-from bytes events read.read read.byte bytes 0 are (omega arith), are.few_accesses)
 
 -- ---- the choice with a number, by its combination
-choice_is : (a b : Choice) → Some a ≡ Some b → a ≡ b
-choice_is a b e = cc
 
 pub of_combination : (t : Litmus) (c n : ℕ) (sources : List ℕ) → c < length (combinations_of t) → choices_before t c ≤ n → n < choices_before t (c + 1)
     → slice_get (sources_of (events_in t c)) (n - choices_before t c) ≡ Some sources → IsOfCombination t n c
@@ -162,7 +160,7 @@ of_combination t c n sources known low high at =
       sourced = AreSources-sources_of (events_in t c) (n - choices_before t c) sources at;
       on_paths = λ x is chosen.
           runs-on_paths t (combination_at t c) x (combinations_of-known t c (combination_at t c) (slice_get-get_or (combinations_of t) c [] known)) is
-          (ap (λ (k : Choice). k.decisions) (choice_is (choice_on (combination_at t c) sources) (execution_choice x) (sym listed ∙ chosen)));
+          (ap (λ (k : Choice). k.decisions) (same_Some (choice_on (combination_at t c) sources) (execution_choice x) (sym listed ∙ chosen)));
     }
 
 pub has_sources : (t : Litmus) (c n : ℕ) (sources : List ℕ) → c < length (combinations_of t) → choices_before t c ≤ n → n < choices_before t (c + 1)

@@ -1,6 +1,6 @@
 -- The ways to choose the sources of a combination's byte reads, one read more at a time.
 use Rattle.std.proofs.Common.{◌≡◌, ℕ, zero, suc, ◌+◌, ◌*◌, ◌/◌, ◌%◌, ◌<◌, ◌≤◌, List, [], ◌∷◌, ◌++◌, length, map, take, drop, get_or, slice_get, Some, Option, option_map, unwrap_or, arith, refl, sym, ap, ◌∙◌, append_assoc, append-nil, length-append}
-use Rattle.std.proofs.lemmas.List.{map_more, drop_more, drop_all, take_all}
+use Rattle.std.proofs.lemmas.List.{map_more, drop_more, drop_all, take_all, take_more}
 use Rattle.std.proofs.lemmas.Option.{slice_get-get_or, slice_get_within, slice_get-map}
 use Rattle.arrayvec.specs.ArrayVec.{ArrayVec}
 use Rattle.lit_paths.specs.declared.event.Event.{Event}
@@ -99,13 +99,7 @@ member_more xss n i w sources more xs later known here behind picked taken pushe
     let inside : i < length whole = slice_get_within whole i w at in
     let same : Some (get_or whole i 0) ≡ Some w = sym (slice_get-get_or whole i 0 inside) ∙ at in
     let value : get_or whole i 0 ≡ w = ap (λ (o : Option ℕ). unwrap_or o 0) same in
-    pushed ∙ ap (λ (ws : List ℕ). ws ++ w ∷ []) taken ∙ ap (λ v. take i whole ++ v ∷ []) (sym value) ∙ sym (taken_more whole i inside)
-  where
-    taken_more : (xs : List ℕ) (k : ℕ) → k < length xs → take (k + 1) xs ≡ take k xs ++ get_or xs k 0 ∷ []
-    taken_more [] k h = absurd (omega (arith, h))
-    taken_more (x ∷ xs) zero h = refl
-    taken_more (x ∷ xs) (suc k) h =
-        ap (λ m. take m (x ∷ xs)) (let e : suc k + 1 ≡ suc (k + 1) = omega arith in e) ∙ ap (λ ys. x ∷ ys) (taken_more xs k (omega (arith, h)))
+    pushed ∙ ap (λ (ws : List ℕ). ws ++ w ∷ []) taken ∙ ap (λ v. take i whole ++ v ∷ []) (sym value) ∙ sym (take_more whole i 0 inside)
 
 pub member_all : (xss : List (List ℕ)) (n i : ℕ) (sources : List ℕ) → n < length (product xss) → length xss ≤ i → sources ≡ take i (member_at xss n)
     → slice_get (product xss) n ≡ Some sources

@@ -1,8 +1,9 @@
 -- The condition that the marks of a condition ask.
 use Rattle.std.proofs.Common.{◌≡◌, ℕ, zero, suc, ◌+◌, ◌<◌, ◌≤◌, Bool, true, false, cond, leb, ◌&&◌, List, [], ◌∷◌, ◌++◌, Result, Ok, Err, refl, ap, sym, ◌∙◌, arith, append_assoc, add-one, add-zero}
 use Rattle.std.specs.List.{list_all}
-use Rattle.std.proofs.lemmas.Bool.{leb-true, leb-false}
+use Rattle.std.proofs.lemmas.Bool.{leb-true, leb-false, and_left}
 use Rattle.std.proofs.lemmas.List.{append-nil}
+use Rattle.std.proofs.lemmas.List.Folds.{list_all-append}
 use Rattle.lit_read.specs.declared.fault.ReadKind.{ReadKind}
 use Rattle.lit_read.specs.declared.fault.ReadKind.TheVariants.{TooDeep}
 use Rattle.lit_read.specs.declared.limits.TheConstants.{DEPTH_LIMIT}
@@ -13,10 +14,6 @@ use Rattle.lit_read.specs.Internal.Marks.{Mark, Bang, Opens, Closes, Joins, Part
 use Rattle.lit_read.specs.Internal.Built.{Frame, Frames, pushed, negated, all_of, any_of, with_operand, asked, empty_frame, begun, build_step, and_then, build}
 
 -- ---- lists
-
-pub all_joined : {A : Type 0} (p : A → Bool) (xs ys : List A) → list_all p (xs ++ ys) ≡ (list_all p xs && list_all p ys)
-all_joined p [] ys = refl
-all_joined p (x ∷ xs) ys = elim (p x) as (λ b. (b && list_all p (xs ++ ys)) ≡ ((b && list_all p xs) && list_all p ys)) [ true ↦ all_joined p xs ys | false ↦ refl ]
 
 abbrev joined : Conditions → Conditions → Conditions
 joined NoMore ds = ds
@@ -39,10 +36,6 @@ negated_in (suc n) c = ap (λ (x : Condition). Not x) (negated_in n c)
 abbrev shallow : Comparison × ℕ → Bool
 shallow p = leb p.1 DEPTH_LIMIT
 
-and_false : (x y : Bool) → x ≡ false → (x && y) ≡ false
-and_false true y e = absurd cc
-and_false false y e = refl
-
 too_high : (n : ℕ) → DEPTH_LIMIT < n → leb n DEPTH_LIMIT ≡ false
 too_high n lt = by (leb n DEPTH_LIMIT) refl
   where
@@ -59,17 +52,17 @@ low_enough n le = by (leb n DEPTH_LIMIT) refl
 
 mutual
   operand_deep : (o : Operand) (n : ℕ) → DEPTH_LIMIT < n → list_all shallow (operand_depths n o) ≡ false
-  operand_deep (Compared c) n lt = and_false (leb n DEPTH_LIMIT) true (too_high n lt)
+  operand_deep (Compared c) n lt = and_left (leb n DEPTH_LIMIT) true (too_high n lt)
   operand_deep (Negated o) n lt = operand_deep o (n + 1) (omega arith)
   operand_deep (Grouped w) n lt = written_deep w (n + 1) (omega arith)
 
   conjunction_deep : (c : Conjunction) (n : ℕ) → DEPTH_LIMIT < n → list_all shallow (conjunction_depths n c) ≡ false
   conjunction_deep (Lone o) n lt = operand_deep o n lt
-  conjunction_deep (Both o c) n lt = all_joined shallow (operand_depths n o) (conjunction_depths n c) ∙ and_false _ _ (operand_deep o n lt)
+  conjunction_deep (Both o c) n lt = list_all-append shallow (operand_depths n o) (conjunction_depths n c) ∙ and_left _ _ (operand_deep o n lt)
 
   written_deep : (w : Written) (n : ℕ) → DEPTH_LIMIT < n → list_all shallow (written_depths n w) ≡ false
   written_deep (Single c) n lt = conjunction_deep c n lt
-  written_deep (Either c w) n lt = all_joined shallow (conjunction_depths n c) (written_depths n w) ∙ and_false _ _ (conjunction_deep c n lt)
+  written_deep (Either c w) n lt = list_all-append shallow (conjunction_depths n c) (written_depths n w) ∙ and_left _ _ (conjunction_deep c n lt)
 
 -- ---- the frames behind the marks
 
@@ -183,7 +176,7 @@ module _ (agents : List Agent) where
         (joins (frame depth 0 any (pushed all (operand_value agents o))) outer (conjunction_marks c ++ rest)
         ∙ conjunction_builds c depth any (pushed all (operand_value agents o)) outer rest low
         ∙ ap (λ (l : Conditions). cond (list_all shallow (conjunction_depths depth c)) (build agents (inside (frame depth 0 any l) outer) rest) deep) (joined_more all (operand_value agents o) (operand_values agents c)))
-        ∙ sym (ap (λ b. cond b (build agents (inside (frame depth 0 any (joined all (Also (operand_value agents o) (operand_values agents c)))) outer) rest) deep) (all_joined shallow (operand_depths depth o) (conjunction_depths depth c)))
+        ∙ sym (ap (λ b. cond b (build agents (inside (frame depth 0 any (joined all (Also (operand_value agents o) (operand_values agents c)))) outer) rest) deep) (list_all-append shallow (operand_depths depth o) (conjunction_depths depth c)))
 
     written_builds : (w : Written) (depth : ℕ) (any : Conditions) (outer : List Frame) (rest : List Mark) → depth ≤ DEPTH_LIMIT
         → build agents (inside (frame depth 0 any NoMore) outer) (written_marks w ++ rest) ≡ cond (list_all shallow (written_depths depth w)) (build agents (inside (frame depth 0 (any_behind any w) (all_behind w)) outer) rest) deep
@@ -198,7 +191,7 @@ module _ (agents : List Agent) where
         (parts depth any (operand_values agents c) outer (written_marks w ++ rest)
         ∙ ap (λ (x : Condition). build agents (inside (frame depth 0 (pushed any x) NoMore) outer) (written_marks w ++ rest)) (conjunction_is c)
         ∙ written_builds w depth (pushed any (conjunction_value agents c)) outer rest low)
-        ∙ sym (ap (λ b. cond b (build agents (inside (frame depth 0 (any_behind (pushed any (conjunction_value agents c)) w) (all_behind w)) outer) rest) deep) (all_joined shallow (conjunction_depths depth c) (written_depths depth w)))
+        ∙ sym (ap (λ b. cond b (build agents (inside (frame depth 0 (any_behind (pushed any (conjunction_value agents c)) w) (all_behind w)) outer) rest) deep) (list_all-append shallow (conjunction_depths depth c) (written_depths depth w)))
 
   ended : (f : Frame) → build agents (inside f []) [] ≡ Ok (asked f)
   unfolding build

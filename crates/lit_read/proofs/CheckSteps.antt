@@ -6,7 +6,7 @@ use Rattle.std.specs.List.{list_all, list_any}
 use Rattle.std.specs.Str.{bytes_eq}
 use Rattle.std.proofs.lemmas.Bool.{leb-true, eqb-true}
 use Rattle.std.proofs.lemmas.List.{length-reverse}
-use Rattle.std.proofs.lemmas.List.Folds.{list_all-map}
+use Rattle.std.proofs.lemmas.List.Folds.{list_all-map, list_all-append}
 use Rattle.lit_read.specs.declared.draft.Level as raw
 use Rattle.lit_read.specs.declared.forms.marks.Mark as marks
 use Rattle.lit_read.specs.declared.fault.ReadKind.{ReadKind}
@@ -22,7 +22,7 @@ use Rattle.lit_read.specs.Internal.Marks.{Mark, Bang, Opens, Closes, Joins, Part
 use Rattle.lit_read.specs.Internal.Built.{build, begun}
 use Rattle.lit_read.specs.Internal.State.{State, Open, Whole, Level, with_agent, is_known, is_known_mark, are_known, next_step, agent_step, test_of, check_step, IsState}
 use Rattle.lit_read.specs.Internal.Views.{mark_view, mark_views, level_view, agents_view, Fails}
-use Rattle.lit_read.proofs.BuildLemmas.{all_joined, built}
+use Rattle.lit_read.proofs.BuildLemmas.{built}
 use Rattle.lit_read.proofs.StepLemmas.{check_kept}
 
 -- ---- the levels that a vector holds
@@ -54,19 +54,19 @@ module _ (q : Mark → Bool) (p : Comparison → Bool) (bang : q Bang ≡ true) 
     operand_all (Compared c) n = ap (λ (x : Bool). x && true) (compares c)
     operand_all (Negated o) n = true_first (q Bang) (list_all q (operand_marks o)) bang ∙ operand_all o (n + 1)
     operand_all (Grouped w) n =
-        true_first (q Opens) _ opens ∙ all_joined q (written_marks w) (Closes ∷ []) ∙ true_last (list_all q (written_marks w)) (q Closes) closes ∙ written_all w (n + 1)
+        true_first (q Opens) _ opens ∙ list_all-append q (written_marks w) (Closes ∷ []) ∙ true_last (list_all q (written_marks w)) (q Closes) closes ∙ written_all w (n + 1)
 
     conjunction_all : (c : Conjunction) (n : ℕ) → list_all q (conjunction_marks c) ≡ list_all test (conjunction_depths n c)
     conjunction_all (Lone o) n = operand_all o n
     conjunction_all (Both o c) n =
-        all_joined q (operand_marks o) (Joins ∷ conjunction_marks c) ∙ ap (λ (x : Bool). list_all q (operand_marks o) && x) (true_first (q Joins) (list_all q (conjunction_marks c)) joins)
-        ∙ ap (λ (x : Bool). x && list_all q (conjunction_marks c)) (operand_all o n) ∙ ap (λ (x : Bool). list_all test (operand_depths n o) && x) (conjunction_all c n) ∙ sym (all_joined test (operand_depths n o) (conjunction_depths n c))
+        list_all-append q (operand_marks o) (Joins ∷ conjunction_marks c) ∙ ap (λ (x : Bool). list_all q (operand_marks o) && x) (true_first (q Joins) (list_all q (conjunction_marks c)) joins)
+        ∙ ap (λ (x : Bool). x && list_all q (conjunction_marks c)) (operand_all o n) ∙ ap (λ (x : Bool). list_all test (operand_depths n o) && x) (conjunction_all c n) ∙ sym (list_all-append test (operand_depths n o) (conjunction_depths n c))
 
     written_all : (w : Written) (n : ℕ) → list_all q (written_marks w) ≡ list_all test (written_depths n w)
     written_all (Single c) n = conjunction_all c n
     written_all (Either c w) n =
-        all_joined q (conjunction_marks c) (Parts ∷ written_marks w) ∙ ap (λ (x : Bool). list_all q (conjunction_marks c) && x) (true_first (q Parts) (list_all q (written_marks w)) parts)
-        ∙ ap (λ (x : Bool). x && list_all q (written_marks w)) (conjunction_all c n) ∙ ap (λ (x : Bool). list_all test (conjunction_depths n c) && x) (written_all w n) ∙ sym (all_joined test (conjunction_depths n c) (written_depths n w))
+        list_all-append q (conjunction_marks c) (Parts ∷ written_marks w) ∙ ap (λ (x : Bool). list_all q (conjunction_marks c) && x) (true_first (q Parts) (list_all q (written_marks w)) parts)
+        ∙ ap (λ (x : Bool). x && list_all q (written_marks w)) (conjunction_all c n) ∙ ap (λ (x : Bool). list_all test (conjunction_depths n c) && x) (written_all w n) ∙ sym (list_all-append test (conjunction_depths n c) (written_depths n w))
 
   pub all_of_marks : (xs : List marks.Mark) (w : Written) → mark_views xs ≡ written_marks w → list_all (λ m. q (mark_view m)) xs ≡ list_all test (written_depths 0 w)
   all_of_marks xs w is = sym (list_all-map q mark_view xs) ∙ ap (list_all q) is ∙ written_all w 0

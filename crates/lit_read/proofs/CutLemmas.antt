@@ -3,7 +3,7 @@ use Rattle.std.proofs.Common.{◌≡◌, ℕ, suc, ◌+◌, ◌≤◌, Bool, tru
 use Rattle.std.specs.Option.{option_map}
 use Rattle.std.specs.List.{list_all, prefix_len}
 use Rattle.std.specs.Char.{is_ascii_digit}
-use Rattle.std.proofs.lemmas.Bool.{eqb-true, ltb-false, le-ltb}
+use Rattle.std.proofs.lemmas.Bool.{eqb-true, ltb-false, le-ltb, or_parts, and_parts}
 use Rattle.std.proofs.lemmas.Bool.Decides.{nat_tests}
 use Rattle.std.proofs.lemmas.List.{take_at, drop_at, take-append-drop}
 use Rattle.std.proofs.lemmas.List.Folds.{length-prefix_len}
@@ -13,7 +13,6 @@ use Rattle.lit_read.specs.declared.limits.TheConstants.{WORD_LIMIT, DIGIT_LIMIT}
 use Rattle.lit_read.specs.Tokens.{Token, Word, Number, Sign, is_blank, begins_word, is_in_word, begins_with, IsWord, IsNumber, digits_value, has_plain_lead, symbol_text, IsTokenText, CanEndBefore, CutsOff, is_comment, IsTail}
 use Rattle.lit_read.specs.Internal.FirstToken.{pair_of, single_of, or_else, symbol_front, word_front, number_front, token_front, after_blanks}
 use Rattle.lit_read.proofs.TokenLemmas.{run_passes}
-use Rattle.lit_read.proofs.ListLemmas.{both, neither}
 
 -- ---- runs of bytes
 
@@ -142,7 +141,7 @@ IsPair a b s = (symbol_text s ≡ a ∷ b ∷ []) × ((rest : List ℕ) → CanE
 
 pair_case : (a b x y : ℕ) (z s : Symbol) → (eqb a x && eqb b y) ≡ true → Some z ≡ Some s → symbol_text z ≡ x ∷ y ∷ [] → ((rest : List ℕ) → CanEndBefore (Sign z) rest) → IsPair a b s
 pair_case a b x y z s test e text ends =
-    let tests = both (eqb a x) (eqb b y) test in
+    let tests = and_parts (eqb a x) (eqb b y) test in
     let a_is : a ≡ x = eqb-true a x tests.0 in
     let b_is : b ≡ y = eqb-true b y tests.1 in
     let s_is : z ≡ s = cc in
@@ -302,7 +301,7 @@ unfolding number_front
 number_stands bytes t rest e =
     let n = prefix_len is_ascii_digit bytes in
     let g = guarded (ltb DIGIT_LIMIT n || not (has_plain_lead (take n bytes))) (Number (digits_value (take n bytes)), drop n bytes) (t, rest) e in
-    let tests = neither (ltb DIGIT_LIMIT n) (not (has_plain_lead (take n bytes))) g.0 in
+    let tests = or_parts (ltb DIGIT_LIMIT n) (not (has_plain_lead (take n bytes))) g.0 in
     let t_is : Number (digits_value (take n bytes)) ≡ t = ap (λ (p : Token × List ℕ). p.0) g.1 in
     let rest_is : drop n bytes ≡ rest = ap (λ (p : Token × List ℕ). p.1) g.1 in
     let short : length (take n bytes) ≤ DIGIT_LIMIT = rw (length-prefix_len is_ascii_digit bytes) (ltb-false _ _ tests.0) in

@@ -3,16 +3,17 @@ use Rattle.std.proofs.Common.{◌≡◌, ℕ, suc, ◌≤◌, Bool, true, false,
 use Rattle.std.specs.Prelude.{fold}
 use Rattle.std.specs.List.{list_any}
 use Rattle.std.specs.Str.{bytes_eq}
-use Rattle.std.proofs.lemmas.Bool.{eqb-true}
+use Rattle.std.proofs.lemmas.Bool.{eqb-true, or_parts}
 use Rattle.std.proofs.lemmas.List.{append-nil}
+use Rattle.std.proofs.lemmas.List.Sums.{fold-append}
+use Rattle.std.proofs.lemmas.List.Folds.{list_any-append}
 use Rattle.lit_read.specs.Syntax.{Statements, Agent, Litmus, writes}
 use Rattle.lit_read.specs.Forms.{Form, Blank, TestLine, BytesLine, AgentLine, StatementLine, IfLine, ElseLine, EndLine, CheckLine}
 use Rattle.lit_read.specs.Structure.{is_body_line, AreStatements, AreAgents}
 use Rattle.lit_read.specs.Faults.{is_block_line, is_agent_line, is_check_line, is_begun, ends_in_test, open_behind, open_ifs, is_in_then, is_empty, block_of, names_of, line_writes, lines_write, agent_writes, is_misplaced}
 use Rattle.lit_read.specs.Spelling.{AreFormsOf}
 use Rattle.lit_read.specs.Internal.State.{State, Empty, Named, Sized, Open, Whole, Level, with_agent, body_named, IsUnfinished}
-use Rattle.lit_read.proofs.SpellLemmas.{fold-append, any_joined, all_joined, are_body_lines, statements_body, statements_open, any_writes, statements_wrote, or_right_false}
-use Rattle.lit_read.proofs.ListLemmas.{neither}
+use Rattle.lit_read.proofs.SpellLemmas.{all_joined, are_body_lines, statements_body, statements_open, any_writes, statements_wrote, or_right_false}
 
 -- ---- the forms of a draft
 
@@ -80,7 +81,7 @@ any_body p (f ∷ fs) other h = by (is_body_line f) refl h (any_body p fs other)
 any_agents : (p : Form → Bool) (front : List Form) (agents : List Agent) → IsOther p → ((n : List ℕ) → p (AgentLine n) ≡ false) → AreAgents front agents → list_any p front ≡ false
 any_agents p front [] other named h = ap (list_any p) h
 any_agents p front (a ∷ others) other named h =
-    ap (list_any p) h.2 ∙ ap (λ (b : Bool). b || list_any p (h.0 ++ h.1)) (named a.name) ∙ any_joined p h.0 h.1 ∙ ap (λ (b : Bool). b || list_any p h.1) (any_body p h.0 other (statements_body h.0 a.body h.3)) ∙ any_agents p h.1 others other named h.4
+    ap (list_any p) h.2 ∙ ap (λ (b : Bool). b || list_any p (h.0 ++ h.1)) (named a.name) ∙ list_any-append p h.0 h.1 ∙ ap (λ (b : Bool). b || list_any p h.1) (any_body p h.0 other (statements_body h.0 a.body h.3)) ∙ any_agents p h.1 others other named h.4
 
 abbrev is_test_line : Form → Bool
 is_test_line (TestLine n) = true
@@ -121,8 +122,8 @@ lone_end (CheckLine w) = refl
 
 no_end : (f : Form) (fs : List Form) → list_any is_test_line fs ≡ false → 1 ≤ length fs → ends_in_test (f ∷ fs) ≡ false
 no_end f [] none some = absurd (omega arith)
-no_end f (g ∷ []) none some = lone_end g ∙ (neither (is_test_line g) false none).0
-no_end f (g ∷ h ∷ fs) none some = no_end g (h ∷ fs) (neither (is_test_line g) (list_any is_test_line (h ∷ fs)) none).1 (omega arith)
+no_end f (g ∷ []) none some = lone_end g ∙ (or_parts (is_test_line g) false none).0
+no_end f (g ∷ h ∷ fs) none some = no_end g (h ∷ fs) (or_parts (is_test_line g) (list_any is_test_line (h ∷ fs)) none).1 (omega arith)
 
 abbrev pub names : List Agent → List (List ℕ)
 names agents = map (λ a. a.name) agents
@@ -144,10 +145,6 @@ agents_names front rest [] h = ap (λ (l : List Form). names_of (l ++ rest)) h
 agents_names front rest (a ∷ others) h =
     ap (λ (l : List Form). names_of (l ++ rest)) h.2 ∙ ap (λ (l : List Form). a.name ∷ names_of l) (append_assoc h.0 h.1 rest)
     ∙ ap (λ (l : List (List ℕ)). a.name ∷ l) (names_skip h.0 (h.1 ++ rest) (statements_body h.0 a.body h.3) ∙ agents_names h.1 rest others h.4)
-
-names_last : (agents : List Agent) (agent : List ℕ) (body : Statements) → names (with_agent agents agent body) ≡ names agents ++ agent ∷ []
-names_last [] agent body = refl
-names_last (a ∷ others) agent body = ap (λ (l : List (List ℕ)). a.name ∷ l) (names_last others agent body)
 
 pub any_named : (name : List ℕ) (agents : List Agent) → list_any (λ n. bytes_eq name n) (names agents) ≡ list_any (λ a. bytes_eq name a.name) agents
 any_named name [] = refl
@@ -214,17 +211,13 @@ pub record Opened (given : List Form) (bytes : ℕ) (agents : List Agent) (agent
   pub ends : ends_in_test given ≡ false
   pub opens : open_ifs given ≡ flags levels
 
-some_length : (front own : List Form) (f : Form) → 1 ≤ length (front ++ f ∷ own)
-some_length [] own f = omega arith
-some_length (x ∷ front) own f = omega arith
-
 or_true : (x : Bool) → (x || true) ≡ true
 or_true true = refl
 or_true false = refl
 
 no_check : (front own : List Form) (agents : List Agent) (agent : List ℕ) (levels : List Level) (body : Statements) → AreAgents front agents → AreOpen own levels body → list_any is_check_line (front ++ AgentLine agent ∷ own) ≡ false
 no_check front own agents agent levels body a b =
-    any_joined is_check_line front (AgentLine agent ∷ own) ∙ ap (λ (x : Bool). x || list_any is_check_line own) (any_agents is_check_line front agents other_check (λ n. refl) a) ∙ any_body is_check_line own other_check (open_body own levels body b)
+    list_any-append is_check_line front (AgentLine agent ∷ own) ∙ ap (λ (x : Bool). x || list_any is_check_line own) (any_agents is_check_line front agents other_check (λ n. refl) a) ∙ any_body is_check_line own other_check (open_body own levels body b)
 
 opened_is : (name : List ℕ) (bytes : ℕ) (front own : List Form) (agents : List Agent) (agent : List ℕ) (levels : List Level) (body : Statements) → AreAgents front agents → AreOpen own levels body
     → Opened (opening name bytes front agent own) bytes agents agent levels
@@ -232,10 +225,10 @@ opened_is name bytes front own agents agent levels body a b = record {
   block = refl;
   named = agents_names front (AgentLine agent ∷ own) agents a ∙ ap (λ (l : List (List ℕ)). names agents ++ agent ∷ l) (ap names_of (sym (append-nil own)) ∙ names_skip own [] (open_body own levels body b));
   sized = refl;
-  begun = ap (λ (x : Bool). x && not (list_any is_check_line (front ++ AgentLine agent ∷ own))) (any_joined is_agent_line front (AgentLine agent ∷ own) ∙ or_true (list_any is_agent_line front)) ∙ ap not (no_check front own agents agent levels body a b);
+  begun = ap (λ (x : Bool). x && not (list_any is_check_line (front ++ AgentLine agent ∷ own))) (list_any-append is_agent_line front (AgentLine agent ∷ own) ∙ or_true (list_any is_agent_line front)) ∙ ap not (no_check front own agents agent levels body a b);
   unchecked = no_check front own agents agent levels body a b;
   ends = no_end (TestLine name) (BytesLine bytes ∷ (front ++ AgentLine agent ∷ own))
-      (any_joined is_test_line front (AgentLine agent ∷ own) ∙ ap (λ (x : Bool). x || list_any is_test_line own) (any_agents is_test_line front agents other_test (λ n. refl) a) ∙ any_body is_test_line own other_test (open_body own levels body b)) (omega arith);
+      (list_any-append is_test_line front (AgentLine agent ∷ own) ∙ ap (λ (x : Bool). x || list_any is_test_line own) (any_agents is_test_line front agents other_test (λ n. refl) a) ∙ any_body is_test_line own other_test (open_body own levels body b)) (omega arith);
   opens = fold-append open_behind [] front (AgentLine agent ∷ own) ∙ ap (λ (p : List Bool). fold open_behind p own) (agents_open front agents [] a) ∙ open_flags own levels body b;
 }
 
@@ -243,12 +236,12 @@ pub opened : (given : List Form) (name : List ℕ) (bytes : ℕ) (agents : List 
 opened given name bytes agents agent levels body h = subst (λ (l : List Form). Opened l bytes agents agent levels) (sym h.2) (opened_is name bytes h.0 h.1 agents agent levels body h.3 h.4)
 
 checked_is : (given : List Form) (t : Litmus) → AreFormsOf given t → list_any is_check_line given ≡ true
-checked_is given t h = ap (list_any is_check_line) h.parts ∙ any_joined is_check_line h.agents (CheckLine h.check ∷ []) ∙ or_true (list_any is_check_line h.agents)
+checked_is given t h = ap (list_any is_check_line) h.parts ∙ list_any-append is_check_line h.agents (CheckLine h.check ∷ []) ∙ or_true (list_any is_check_line h.agents)
 
 ends_checked : (given : List Form) (t : Litmus) → AreFormsOf given t → ends_in_test given ≡ false
 ends_checked given t h =
     ap ends_in_test h.parts ∙ no_end (TestLine t.name) (BytesLine t.bytes ∷ (h.agents ++ CheckLine h.check ∷ []))
-    (any_joined is_test_line h.agents (CheckLine h.check ∷ []) ∙ ap (λ (x : Bool). x || false) (any_agents is_test_line h.agents t.agents other_test (λ n. refl) h.bodies)) (omega arith)
+    (list_any-append is_test_line h.agents (CheckLine h.check ∷ []) ∙ ap (λ (x : Bool). x || false) (any_agents is_test_line h.agents t.agents other_test (λ n. refl) h.bodies)) (omega arith)
 
 -- ---- where a form can stand
 
@@ -326,9 +319,6 @@ placed_open given m b agents agent levels body (IfLine r q v) h = let o = opened
 placed_open given m b agents agent levels body ElseLine h = let o = opened given m b agents agent levels body h in rw (o.begun, o.opens) refl
 placed_open given m b agents agent levels body EndLine h = let o = opened given m b agents agent levels body h in rw (o.begun, o.opens) (not_not (has_none levels))
 placed_open given m b agents agent levels body (CheckLine w) h = let o = opened given m b agents agent levels body h in rw (o.begun, o.opens) refl
-
-abbrev over : List Form → Bool
-over given = is_begun given
 
 ended_begun : (x : Bool) → (x && false) ≡ false
 ended_begun true = refl

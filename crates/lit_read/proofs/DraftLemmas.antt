@@ -72,8 +72,6 @@ body_absent name (e ∷ es) h = by (bytes_eq name (string_bytes e.0)) h (body_ab
     by true g others = absurd cc
     by false g others = others g
 
--- ---- comparisons
-
 -- ---- agents with different names
 
 last_holds : (P : Agent → Type 0) (agents : List Agent) (a : Agent) → AllByRecursion P (agents ++ a ∷ []) → P a
@@ -138,11 +136,3 @@ place_absent name (e ∷ es) h = by (bytes_eq name (string_bytes e.0)) h (place_
         → (is_some (lookup (λ k. bytes_eq name (string_bytes k)) es) ≡ false → length es ≡ place_of name (agents_view es)) → suc (length es) ≡ cond b 0 (place_of name (agents_view es) + 1)
     by true g others = absurd cc
     by false g others = omega (arith, others g)
-
-pub place_few : (name : List ℕ) (entries : List (String Global × Vec Stmt)) → place_of name (agents_view entries) ≤ length entries
-place_few name [] = omega arith
-place_few name (e ∷ es) = by (bytes_eq name (string_bytes e.0)) (place_few name es)
-  where
-    by : (b : Bool) → place_of name (agents_view es) ≤ length es → cond b 0 (place_of name (agents_view es) + 1) ≤ suc (length es)
-    by true h = omega arith
-    by false h = omega (arith, h)

@@ -49,7 +49,7 @@ onto_whole : (b : ℕ) (ls : List (List ℕ)) → eqb b 10 ≡ false → list_al
 onto_whole b [] e all = rw e refl
 onto_whole b (l ∷ ls) e all = rw e all
 
-onto_some : (b : ℕ) (ls : List (List ℕ)) → 1 ≤ length (onto_first b ls)
+pub onto_some : (b : ℕ) (ls : List (List ℕ)) → 1 ≤ length (onto_first b ls)
 onto_some b [] = omega arith
 onto_some b (l ∷ ls) = omega arith
 

@@ -1,6 +1,7 @@
 -- Facts of each member of a list, and of two truth values.
-use Rattle.std.proofs.Common.{◌≡◌, Bool, true, false, ◌||◌, ◌&&◌, List, [], ◌∷◌, ◌++◌, refl}
+use Rattle.std.proofs.Common.{◌≡◌, Bool, true, List, [], ◌∷◌, ◌++◌, refl}
 use Rattle.std.specs.List.{AllByRecursion, list_all}
+use Rattle.std.proofs.lemmas.Bool.{and_parts}
 
 pub all_both : {A : Type 0} (P : A → Type 0) (xs ys : List A) → AllByRecursion P xs → AllByRecursion P ys → AllByRecursion P (xs ++ ys)
 all_both P [] ys a b = b
@@ -18,17 +19,9 @@ pub all_pass : {A : Type 0} (P : A → Type 0) (q : A → Bool) → ((x : A) →
 all_pass P q f [] a = refl
 all_pass P q f (x ∷ xs) a = rw (f x a.0) (all_pass P q f xs a.1)
 
-pub both : (x y : Bool) → (x && y) ≡ true → (x ≡ true) × (y ≡ true)
-both true y e = (refl, e)
-both false y e = absurd cc
-
-pub neither : (x y : Bool) → (x || y) ≡ false → (x ≡ false) × (y ≡ false)
-neither true y e = absurd cc
-neither false y e = (refl, e)
-
 pub all_passed : {A : Type 0} (P : A → Type 0) (q : A → Bool) → ((x : A) → q x ≡ true → P x) → (xs : List A) → list_all q xs ≡ true → AllByRecursion P xs
 all_passed P q f [] e = tt
-all_passed P q f (x ∷ xs) e = let b = both (q x) (list_all q xs) e in (f x b.0, all_passed P q f xs b.1)
+all_passed P q f (x ∷ xs) e = let b = and_parts (q x) (list_all q xs) e in (f x b.0, all_passed P q f xs b.1)
 
 pub tail_is : {A : Type 0} (x y : A) (xs ys : List A) → x ∷ xs ≡ y ∷ ys → xs ≡ ys
 tail_is x y xs ys e = cc

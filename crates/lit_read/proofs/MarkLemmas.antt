@@ -17,6 +17,7 @@ use Rattle.lit_read.specs.Internal.Marks.{Mark, Bang, Opens, Closes, Joins, Part
 use Rattle.lit_read.proofs.CutLemmas.{pair_parts}
 use Rattle.lit_read.proofs.RowLemmas.{sign_is, row, along_is, register_number_again, relation_again}
 use Rattle.lit_read.proofs.WalkLemmas.{walk, walk-append, walks_whole, whole, condition_told}
+use Rattle.lit_read.proofs.ListLemmas.{all_both}
 
 -- ---- one mark
 
@@ -101,10 +102,6 @@ mutual
 abbrev IsLow : Comparison × ℕ → Type 0
 IsLow p = p.0.reg < REGISTERS
 
-both_all : {A : Type 0} (P : A → Type 0) (xs ys : List A) → AllByRecursion P xs → AllByRecursion P ys → AllByRecursion P (xs ++ ys)
-both_all P [] ys a b = b
-both_all P (x ∷ xs) ys a b = (a.0, both_all P xs ys a.1 b)
-
 front_all : {A : Type 0} (P : A → Type 0) (xs ys : List A) → AllByRecursion P (xs ++ ys) → AllByRecursion P xs
 front_all P [] ys a = tt
 front_all P (x ∷ xs) ys a = (a.0, front_all P xs ys a.1)
@@ -117,17 +114,17 @@ mutual
   operand_low : (o : Operand) (n : ℕ) → AllByRecursion IsLow (operand_depths n o) → AllByRecursion IsMark (operand_marks o)
   operand_low (Compared c) n a = (a.0, tt)
   operand_low (Negated o) n a = (tt, operand_low o (n + 1) a)
-  operand_low (Grouped w) n a = (tt, both_all IsMark (written_marks w) (Closes ∷ []) (written_low w (n + 1) a) (tt, tt))
+  operand_low (Grouped w) n a = (tt, all_both IsMark (written_marks w) (Closes ∷ []) (written_low w (n + 1) a) (tt, tt))
 
   conjunction_low : (c : Conjunction) (n : ℕ) → AllByRecursion IsLow (conjunction_depths n c) → AllByRecursion IsMark (conjunction_marks c)
   conjunction_low (Lone o) n a = operand_low o n a
   conjunction_low (Both o c) n a =
-      both_all IsMark (operand_marks o) (Joins ∷ conjunction_marks c) (operand_low o n (front_all IsLow (operand_depths n o) (conjunction_depths n c) a)) (tt, conjunction_low c n (back_all IsLow (operand_depths n o) (conjunction_depths n c) a))
+      all_both IsMark (operand_marks o) (Joins ∷ conjunction_marks c) (operand_low o n (front_all IsLow (operand_depths n o) (conjunction_depths n c) a)) (tt, conjunction_low c n (back_all IsLow (operand_depths n o) (conjunction_depths n c) a))
 
   pub written_low : (w : Written) (n : ℕ) → AllByRecursion IsLow (written_depths n w) → AllByRecursion IsMark (written_marks w)
   written_low (Single c) n a = conjunction_low c n a
   written_low (Either c w) n a =
-      both_all IsMark (conjunction_marks c) (Parts ∷ written_marks w) (conjunction_low c n (front_all IsLow (conjunction_depths n c) (written_depths n w) a)) (tt, written_low w n (back_all IsLow (conjunction_depths n c) (written_depths n w) a))
+      all_both IsMark (conjunction_marks c) (Parts ∷ written_marks w) (conjunction_low c n (front_all IsLow (conjunction_depths n c) (written_depths n w) a)) (tt, written_low w n (back_all IsLow (conjunction_depths n c) (written_depths n w) a))
 
 mutual
   low_operand : (o : Operand) (n : ℕ) → AllByRecursion IsMark (operand_marks o) → AllByRecursion IsLow (operand_depths n o)
@@ -138,12 +135,12 @@ mutual
   low_conjunction : (c : Conjunction) (n : ℕ) → AllByRecursion IsMark (conjunction_marks c) → AllByRecursion IsLow (conjunction_depths n c)
   low_conjunction (Lone o) n a = low_operand o n a
   low_conjunction (Both o c) n a =
-      both_all IsLow (operand_depths n o) (conjunction_depths n c) (low_operand o n (front_all IsMark (operand_marks o) (Joins ∷ conjunction_marks c) a)) (low_conjunction c n (back_all IsMark (operand_marks o) (Joins ∷ conjunction_marks c) a).1)
+      all_both IsLow (operand_depths n o) (conjunction_depths n c) (low_operand o n (front_all IsMark (operand_marks o) (Joins ∷ conjunction_marks c) a)) (low_conjunction c n (back_all IsMark (operand_marks o) (Joins ∷ conjunction_marks c) a).1)
 
   pub low_written : (w : Written) (n : ℕ) → AllByRecursion IsMark (written_marks w) → AllByRecursion IsLow (written_depths n w)
   low_written (Single c) n a = low_conjunction c n a
   low_written (Either c w) n a =
-      both_all IsLow (conjunction_depths n c) (written_depths n w) (low_conjunction c n (front_all IsMark (conjunction_marks c) (Parts ∷ written_marks w) a)) (low_written w n (back_all IsMark (conjunction_marks c) (Parts ∷ written_marks w) a).1)
+      all_both IsLow (conjunction_depths n c) (written_depths n w) (low_conjunction c n (front_all IsMark (conjunction_marks c) (Parts ∷ written_marks w) a)) (low_written w n (back_all IsMark (conjunction_marks c) (Parts ∷ written_marks w) a).1)
 
 -- ---- the marks so far
 
@@ -171,7 +168,7 @@ marking_goes_on tokens rest after done behind n m b k e step so_far =
     record {
       parts = so_far.parts ∙ ap (λ (l : List Token). flat_map mark_tokens done ++ l) front.0 ∙ sym (append_assoc (flat_map mark_tokens done) (mark_tokens m) after)
           ∙ ap (λ (l : List Token). l ++ after) (sym (tokens-append done (m ∷ []) ∙ ap (λ (l : List Token). flat_map mark_tokens done ++ l) (append-nil (mark_tokens m))));
-      good = both_all IsMark done (m ∷ []) so_far.good (front.1, tt);
+      good = all_both IsMark done (m ∷ []) so_far.good (front.1, tt);
       walked = walk-append false 0 done (m ∷ []) ∙ ap (λ o. o >>= λ p. walk p.0 p.1 (m ∷ [])) so_far.walked ∙ ap (λ o. o >>= λ p. walk p.0 p.1 []) step;
       only = λ ms good is. let old = so_far.only ms good is in by ms old.0 old.1 old.2 old.3;
     }

@@ -3,13 +3,15 @@ use Rattle.std.proofs.Common.{◌≡◌, ℕ, Bool, true, false, not, ◌||◌, 
 use Rattle.std.specs.Prelude.{fold}
 use Rattle.std.specs.List.{list_any, AllByRecursion}
 use Rattle.std.proofs.lemmas.List.{append-nil}
+use Rattle.std.proofs.lemmas.Bool.{and_parts}
+use Rattle.std.proofs.lemmas.List.Sums.{fold-append}
+use Rattle.std.proofs.lemmas.List.Folds.{list_any-append}
 use Rattle.lit_read.specs.Syntax.{Statement, Statements, Load, Store, Exchange, CompareExchange, If, End, Then}
 use Rattle.lit_read.specs.Forms.{Form, Blank, TestLine, BytesLine, AgentLine, StatementLine, IfLine, ElseLine, EndLine, CheckLine, IsForm}
 use Rattle.lit_read.specs.Structure.{is_body_line, IsStatement, AreStatements, AreElse, IsOpenPart, LeaveOpen}
 use Rattle.lit_read.specs.Faults.{is_agent_line, is_check_line, is_begun, open_behind, open_ifs, is_in_then, is_empty, is_misplaced, none_misplaced}
 use Rattle.lit_read.specs.Internal.State.{followed_by}
-use Rattle.lit_read.proofs.ListLemmas.{both}
-use Rattle.lit_read.proofs.SpellLemmas.{fold-append, any_joined, are_body_lines, statement_open, statements_open, statements_added, or_right_false}
+use Rattle.lit_read.proofs.SpellLemmas.{are_body_lines, statement_open, statements_open, statements_added, or_right_false}
 use Rattle.lit_read.proofs.DraftForms.{IsOther, other_check, not_not}
 use Rattle.lit_read.proofs.StepHolds.{access_line, if_lines}
 use Rattle.lit_read.proofs.TestForms.{new_level}
@@ -40,11 +42,11 @@ fits_body o (CheckLine w) h = absurd cc
 
 fit_body : (o : List Bool) (fs : List Form) → all_fit o fs ≡ true → are_body_lines fs ≡ true
 fit_body o [] h = refl
-fit_body o (f ∷ fs) h = let b = both (fits o f) (all_fit (open_behind o f) fs) h in rw (fits_body o f b.0) (fit_body (open_behind o f) fs b.1)
+fit_body o (f ∷ fs) h = let b = and_parts (fits o f) (all_fit (open_behind o f) fs) h in rw (fits_body o f b.0) (fit_body (open_behind o f) fs b.1)
 
 fit_joined : (o : List Bool) (xs ys : List Form) → all_fit o xs ≡ true → all_fit (fold open_behind o xs) ys ≡ true → all_fit o (xs ++ ys) ≡ true
 fit_joined o [] ys a b = b
-fit_joined o (x ∷ xs) ys a b = let c = both (fits o x) (all_fit (open_behind o x) xs) a in rw c.0 (fit_joined (open_behind o x) xs ys c.1 b)
+fit_joined o (x ∷ xs) ys a b = let c = and_parts (fits o x) (all_fit (open_behind o x) xs) a in rw c.0 (fit_joined (open_behind o x) xs ys c.1 b)
 
 -- ---- they are those that are not misplaced
 
@@ -71,7 +73,7 @@ other_agent (AgentLine n) e = absurd cc
 other_agent (CheckLine w) e = refl
 
 any_more : (p : Form → Bool) (given : List Form) (f : Form) → IsOther p → is_body_line f ≡ true → list_any p (given ++ f ∷ []) ≡ list_any p given
-any_more p given f other body = any_joined p given (f ∷ []) ∙ ap (λ (b : Bool). list_any p given || (b || false)) (other f body) ∙ or_right_false (list_any p given)
+any_more p given f other body = list_any-append p given (f ∷ []) ∙ ap (λ (b : Bool). list_any p given || (b || false)) (other f body) ∙ or_right_false (list_any p given)
 
 begun_on : (given : List Form) (f : Form) → is_begun given ≡ true → is_body_line f ≡ true → is_begun (given ++ f ∷ []) ≡ true
 begun_on given f begun body = rw (any_more is_agent_line given f other_agent body, any_more is_check_line given f other_check body) begun
@@ -79,7 +81,7 @@ begun_on given f begun body = rw (any_more is_agent_line given f other_agent bod
 all_placed : (given fs : List Form) → is_begun given ≡ true → are_body_lines fs ≡ true → none_misplaced given fs ≡ all_fit (open_ifs given) fs
 all_placed given [] begun body = refl
 all_placed given (f ∷ fs) begun body =
-    let b = both (is_body_line f) (are_body_lines fs) body in
+    let b = and_parts (is_body_line f) (are_body_lines fs) body in
     ap (λ (x : Bool). x && none_misplaced (given ++ f ∷ []) fs) (placed_is given f begun b.0)
     ∙ ap (λ (x : Bool). fits (open_ifs given) f && x) (all_placed (given ++ f ∷ []) fs (begun_on given f begun b.0) b.1 ∙ ap (λ (o : List Bool). all_fit o fs) (fold-append open_behind [] given (f ∷ [])))
 
@@ -162,7 +164,7 @@ form_left o fs (CheckLine w) h fit is = absurd cc
 forms_left : (o : List Bool) (done fs : List Form) → LeaveOpen o done → all_fit o fs ≡ true → AllByRecursion IsForm fs → LeaveOpen (fold open_behind o fs) (done ++ fs)
 forms_left o done [] h fit are = subst (LeaveOpen o) (sym (append-nil done)) h
 forms_left o done (f ∷ fs) h fit are =
-    let b = both (fits o f) (all_fit (open_behind o f) fs) fit in
+    let b = and_parts (fits o f) (all_fit (open_behind o f) fs) fit in
     subst (LeaveOpen (fold open_behind (open_behind o f) fs)) (append_assoc done (f ∷ []) fs) (forms_left (open_behind o f) (done ++ f ∷ []) fs (form_left o done f h b.0 are.0) b.1 are.1)
 
 -- ---- behind an agent's line

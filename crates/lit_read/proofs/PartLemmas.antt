@@ -2,7 +2,7 @@
 use Rattle.std.proofs.Common.{◌≡◌, ◌≢◌, ℕ, zero, suc, ◌+◌, ◌-◌, ◌<◌, ◌≤◌, Bool, true, false, cond, leb, ◌||◌, List, [], ◌∷◌, ◌++◌, length, get_or, refl, ap, sym, ◌∙◌, arith, true≢false, add-one}
 use Rattle.std.specs.List.{AllByRecursion, list_any, list_all}
 use Rattle.std.specs.Str.{bytes_eq}
-use Rattle.std.proofs.lemmas.Bool.{leb-true}
+use Rattle.std.proofs.lemmas.Bool.{leb-true, and_parts}
 use Rattle.std.proofs.lemmas.Slice.Eq.{bytes_eq-Decides}
 use Rattle.lit_read.specs.declared.limits.TheConstants.{REGISTERS, COMPARED_LIMIT, IF_LIMIT}
 use Rattle.lit_read.specs.Syntax.{fits_window, Statement, Load, Store, Exchange, CompareExchange, If, Statements, End, Then, Agent, Litmus, writes, nesting, statement_nesting, IsStatementIn, AreStatementsIn, IsConditionOn, AreConditionsOn, IsLitmus}
@@ -11,7 +11,7 @@ use Rattle.lit_read.specs.Written.{Comparison, Operand, Compared, Negated, Group
 use Rattle.lit_read.specs.Forms.{IsAccess}
 use Rattle.lit_read.specs.Faults.{has_fitting_literals, stays_in_block, has_small_numbers}
 use Rattle.lit_read.specs.Spelling.{place_of, numbered, operand_value, conjunction_value, written_value, operand_values, conjunction_values}
-use Rattle.lit_read.proofs.ListLemmas.{all_parts, both}
+use Rattle.lit_read.proofs.ListLemmas.{all_parts}
 use Rattle.lit_read.proofs.DepthLemmas.{operands_count, conjunctions_count, shallow_kept}
 use Rattle.lit_read.specs.Internal.State.{followed_by, body_named, is_known, are_known, AreDistinct, IsPart, AreAgentsIn}
 
@@ -29,10 +29,6 @@ all_added P (y ∷ ys) x all last = (all.0, all_added P ys x all.1 last)
 pub all_changed : {A : Type 0} (P : A → Type 0) (xs : List A) (x y : A) → (P x → P y) → AllByRecursion P (xs ++ x ∷ []) → AllByRecursion P (xs ++ y ∷ [])
 all_changed P [] x y f all = (f all.0, tt)
 all_changed P (z ∷ zs) x y f all = (all.0, all_changed P zs x y f all.1)
-
-last_of : {A : Type 0} (P : A → Type 0) (xs : List A) (x : A) → AllByRecursion P (xs ++ x ∷ []) → P x
-last_of P [] x all = all.0
-last_of P (y ∷ ys) x all = last_of P ys x all.1
 
 -- ---- names
 
@@ -82,7 +78,7 @@ statement_in bytes (Load reg window index atomic) is fits within = ((is.0, withi
 statement_in bytes (Store window index value atomic) is fits within = ((within, fits, is), refl)
 statement_in bytes (Exchange reg window index value) is fits within = ((is.0, within, fits, is.1), refl)
 statement_in bytes (CompareExchange reg window index expected value) is fits within =
-    let b = both (fits_window window expected) (fits_window window value) fits in
+    let b = and_parts (fits_window window expected) (fits_window window value) fits in
     ((is.0, within, b.0, b.1, is.1), refl)
 statement_in bytes (If reg equal value body other) is fits within = absurd is
 
@@ -108,8 +104,8 @@ record IsGood (agents : List Agent) (p : Comparison × ℕ) : Type 0 where
 all_good : (agents : List Agent) (ps : List (Comparison × ℕ)) → list_all (λ p. is_known agents p.0) ps ≡ true → list_all (λ p. leb p.0.value COMPARED_LIMIT) ps ≡ true → AllByRecursion (λ p. p.0.reg < REGISTERS) ps → AllByRecursion (IsGood agents) ps
 all_good agents [] known in_range registers = tt
 all_good agents (p ∷ ps) known in_range registers =
-    let k = both (is_known agents p.0) (list_all (λ p. is_known agents p.0) ps) known in
-    let r = both (leb p.0.value COMPARED_LIMIT) (list_all (λ p. leb p.0.value COMPARED_LIMIT) ps) in_range in
+    let k = and_parts (is_known agents p.0) (list_all (λ p. is_known agents p.0) ps) known in
+    let r = and_parts (leb p.0.value COMPARED_LIMIT) (list_all (λ p. leb p.0.value COMPARED_LIMIT) ps) in_range in
     (record { known = k.0; in_range = r.0; register = registers.0 }, all_good agents ps k.1 r.1 registers.1)
 
 module _ (t : Litmus) where

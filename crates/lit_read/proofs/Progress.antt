@@ -18,12 +18,9 @@ use Rattle.lit_read.proofs.DraftForms.{Holds, not_checked, is_checked}
 use Rattle.lit_read.proofs.StepFaults.{Clear, below, Outcome, outcome}
 use Rattle.lit_read.proofs.StepHolds.{step_holds}
 use Rattle.lit_read.proofs.ReadLemmas.{has_words, forms_once, forms_added, blanks_added, checks_left, line_fault_is, made_fault, LineFault, Which, Long, Ended, Line, which, IsOfLine, line_is_fault}
+use Rattle.lit_read.proofs.LineLemmas.{onto_some}
 
 -- ---- lines and numbers
-
-onto_some : (b : ℕ) (ls : List (List ℕ)) → 1 ≤ length (onto_first b ls)
-onto_some b [] = omega arith
-onto_some b (l ∷ ls) = omega arith
 
 pub lines_some : (text : List ℕ) → 1 ≤ length (lines_of text)
 unfolding lines_of

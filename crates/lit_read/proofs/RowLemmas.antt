@@ -3,8 +3,9 @@ use Rattle.std.proofs.Common.{◌≡◌, ℕ, zero, suc, ◌+◌, ◌-◌, ◌<�
 use Rattle.std.specs.Prelude.{codes}
 use Rattle.std.specs.Option.{option_map}
 use Rattle.std.specs.Str.{bytes_eq}
-use Rattle.std.proofs.lemmas.Bool.{eqb-true, ltb-true, leb-true}
+use Rattle.std.proofs.lemmas.Bool.{eqb-true, ltb-true, leb-true, and_parts}
 use Rattle.std.proofs.lemmas.Slice.Eq.{bytes_eq-Decides}
+use Rattle.std.proofs.lemmas.Option.{cond_some}
 use Rattle.lit_read.specs.declared.forms.Form as lines
 use Rattle.lit_read.specs.declared.tokens.symbols.Symbol.{Symbol}
 use Rattle.lit_read.specs.declared.tokens.symbols.Symbol.TheVariants.{Same, Differs, And, Or, Gives, Not, OpenBracket, CloseBracket, OpenParen, CloseParen, OpenBrace, CloseBrace, Comma, Dot}
@@ -17,7 +18,6 @@ use Rattle.lit_read.specs.Internal.FirstToken.{or_else}
 use Rattle.lit_read.specs.Internal.FormOfTokens.{◌>>=◌, symbol_code, after_sign, word_of, number_of, after_word, register_number, register_of, window_named, view_of, relation_of, ended, Item, Symbols, Keyword, Name, Register, View, Amount, Relation, Told, along, front, ToldParts, in_parts}
 use Rattle.lit_read.specs.Internal.Views.{form_view}
 use Rattle.lit_read.proofs.CutLemmas.{pair_parts}
-use Rattle.lit_read.proofs.ListLemmas.{both}
 
 pub ended_view : (ts : List Token) (f : lines.Form) → option_map form_view (ended ts f) ≡ ended ts (form_view f)
 ended_view [] f = refl
@@ -26,10 +26,6 @@ ended_view (t ∷ ts) f = refl
 pub bind_some : {A B : Type 0} (o : Option A) (f : A → Option B) (y : B) → (o >>= f) ≡ Some y → (x : A) × (o ≡ Some x) × (f x ≡ Some y)
 bind_some None f y e = absurd cc
 bind_some (Some x) f y e = (x, refl, e)
-
-passed : {A : Type 0} (t : Bool) (x y : A) → cond t (Some x) None ≡ Some y → (t ≡ true) × (x ≡ y)
-passed true x y e = (refl, cc)
-passed false x y e = absurd cc
 
 -- ---- one symbol
 
@@ -67,7 +63,7 @@ sign_is [] sign rest e = absurd cc
 sign_is (Word w ∷ ts) sign rest e = absurd cc
 sign_is (Number n ∷ ts) sign rest e = absurd cc
 sign_is (Sign s ∷ ts) sign rest e =
-    let p = passed (eqb (symbol_code s) (symbol_code sign)) ts rest e in
+    let p = cond_some (eqb (symbol_code s) (symbol_code sign)) ts rest e in
     let same : s ≡ sign = symbol_same s sign (eqb-true _ _ p.0) in
     let others : ts ≡ rest = p.1 in
     cc
@@ -90,7 +86,7 @@ pub after_word_is : (ts : List Token) (text : List ℕ) (rest : List Token) → 
 unfolding after_word
 after_word_is ts text rest e =
     let a = bind_some (word_of ts) (λ word. cond (bytes_eq word.0 text) (Some word.1) None) rest e in
-    let p = passed (bytes_eq a.0.0 text) a.0.1 rest a.2 in
+    let p = cond_some (bytes_eq a.0.0 text) a.0.1 rest a.2 in
     let same : a.0.0 ≡ text = (bytes_eq-Decides a.0.0 text).0 p.0 in
     let others : a.0.1 ≡ rest = p.1 in
     let first : ts ≡ Word a.0.0 ∷ a.0.1 = word_is ts a.0.0 a.0.1 a.1 in
@@ -102,9 +98,9 @@ register_number_is [] reg e = absurd cc
 register_number_is (a ∷ []) reg e = absurd cc
 register_number_is (a ∷ b ∷ c ∷ w) reg e = absurd cc
 register_number_is (a ∷ b ∷ []) reg e =
-    let p = passed ((eqb a 114 && leb 48 b) && ltb (b - 48) REGISTERS) (b - 48) reg e in
-    let outer = both (eqb a 114 && leb 48 b) (ltb (b - 48) REGISTERS) p.0 in
-    let inner = both (eqb a 114) (leb 48 b) outer.0 in
+    let p = cond_some ((eqb a 114 && leb 48 b) && ltb (b - 48) REGISTERS) (b - 48) reg e in
+    let outer = and_parts (eqb a 114 && leb 48 b) (ltb (b - 48) REGISTERS) p.0 in
+    let inner = and_parts (eqb a 114) (leb 48 b) outer.0 in
     let a_is : a ≡ 114 = eqb-true a 114 inner.0 in
     let low : 48 ≤ b = leb-true 48 b inner.1 in
     let reg_is : b - 48 ≡ reg = p.1 in

@@ -3,6 +3,8 @@ use Rattle.std.proofs.Common.{◌≡◌, ℕ, Bool, true, false, eqb, ◌||◌, 
 use Rattle.std.specs.Prelude.{fold}
 use Rattle.std.specs.List.{list_any, list_all}
 use Rattle.std.proofs.lemmas.List.{append-nil}
+use Rattle.std.proofs.lemmas.List.Sums.{fold-append}
+use Rattle.std.proofs.lemmas.List.Folds.{list_any-append}
 use Rattle.lit_read.specs.Syntax.{Statement, Statements, Load, Store, Exchange, CompareExchange, If, End, Then, statement_writes, writes}
 use Rattle.lit_read.specs.Forms.{Form, EndLine}
 use Rattle.lit_read.specs.Structure.{is_body_line, IsStatement, AreStatements, AreElse}
@@ -10,14 +12,6 @@ use Rattle.lit_read.specs.Faults.{open_behind, line_writes}
 use Rattle.lit_read.specs.Internal.State.{followed_by}
 
 -- ---- lists
-
-pub fold-append : {A B : Type 0} (f : B → A → B) (a : B) (xs ys : List A) → fold f a (xs ++ ys) ≡ fold f (fold f a xs) ys
-fold-append f a [] ys = refl
-fold-append f a (x ∷ xs) ys = fold-append f (f a x) xs ys
-
-pub any_joined : {A : Type 0} (p : A → Bool) (xs ys : List A) → list_any p (xs ++ ys) ≡ (list_any p xs || list_any p ys)
-any_joined p [] ys = refl
-any_joined p (x ∷ xs) ys = elim (p x) as (λ b. (b || list_any p (xs ++ ys)) ≡ ((b || list_any p xs) || list_any p ys)) [ true ↦ refl | false ↦ any_joined p xs ys ]
 
 pub all_joined : {A : Type 0} (p : A → Bool) (xs ys : List A) → list_all p xs ≡ true → list_all p ys ≡ true → list_all p (xs ++ ys) ≡ true
 all_joined p [] ys a b = b
@@ -81,10 +75,6 @@ or_right_false false = refl
 abbrev pub any_writes : ℕ → List Form → Bool
 any_writes reg fs = list_any (line_writes reg) fs
 
-or_assoc : (x y z : Bool) → ((x || y) || z) ≡ (x || (y || z))
-or_assoc true y z = refl
-or_assoc false y z = refl
-
 mutual
   pub statement_wrote : (fs : List Form) (s : Statement) (reg : ℕ) → IsStatement fs s → any_writes reg fs ≡ statement_writes s reg
   statement_wrote fs (Load r w i a) reg h = ap (any_writes reg) h ∙ or_right_false (eqb r reg)
@@ -92,19 +82,19 @@ mutual
   statement_wrote fs (Exchange r w i v) reg h = ap (any_writes reg) h ∙ or_right_false (eqb r reg)
   statement_wrote fs (CompareExchange r w i e v) reg h = ap (any_writes reg) h ∙ or_right_false (eqb r reg)
   statement_wrote fs (If r e v body other) reg h =
-      ap (any_writes reg) h.2 ∙ any_joined (line_writes reg) h.0 (h.1 ++ EndLine ∷ []) ∙ ap (λ (b : Bool). b || any_writes reg (h.1 ++ EndLine ∷ [])) (statements_wrote h.0 body reg h.3)
-      ∙ ap (λ (b : Bool). writes body reg || b) (any_joined (line_writes reg) h.1 (EndLine ∷ []) ∙ or_right_false (any_writes reg h.1) ∙ else_wrote h.1 other reg h.4)
+      ap (any_writes reg) h.2 ∙ list_any-append (line_writes reg) h.0 (h.1 ++ EndLine ∷ []) ∙ ap (λ (b : Bool). b || any_writes reg (h.1 ++ EndLine ∷ [])) (statements_wrote h.0 body reg h.3)
+      ∙ ap (λ (b : Bool). writes body reg || b) (list_any-append (line_writes reg) h.1 (EndLine ∷ []) ∙ or_right_false (any_writes reg h.1) ∙ else_wrote h.1 other reg h.4)
 
   pub statements_wrote : (fs : List Form) (ss : Statements) (reg : ℕ) → AreStatements fs ss → any_writes reg fs ≡ writes ss reg
   statements_wrote fs End reg h = ap (any_writes reg) h
   statements_wrote fs (Then s ss) reg h =
-      ap (any_writes reg) h.2 ∙ any_joined (line_writes reg) h.0 h.1 ∙ ap (λ (b : Bool). b || any_writes reg h.1) (statement_wrote h.0 s reg h.3) ∙ ap (λ (b : Bool). statement_writes s reg || b) (statements_wrote h.1 ss reg h.4)
+      ap (any_writes reg) h.2 ∙ list_any-append (line_writes reg) h.0 h.1 ∙ ap (λ (b : Bool). b || any_writes reg h.1) (statement_wrote h.0 s reg h.3) ∙ ap (λ (b : Bool). statement_writes s reg || b) (statements_wrote h.1 ss reg h.4)
 
   pub else_wrote : (fs : List Form) (ss : Statements) (reg : ℕ) → AreElse fs ss → any_writes reg fs ≡ writes ss reg
   else_wrote fs End reg (inl h) = ap (any_writes reg) h
   else_wrote fs End reg (inr h) = ap (any_writes reg) h
   else_wrote fs (Then s ss) reg h =
-      ap (any_writes reg) h.2 ∙ any_joined (line_writes reg) h.0 h.1 ∙ ap (λ (b : Bool). b || any_writes reg h.1) (statement_wrote h.0 s reg h.3) ∙ ap (λ (b : Bool). statement_writes s reg || b) (statements_wrote h.1 ss reg h.4)
+      ap (any_writes reg) h.2 ∙ list_any-append (line_writes reg) h.0 h.1 ∙ ap (λ (b : Bool). b || any_writes reg h.1) (statement_wrote h.0 s reg h.3) ∙ ap (λ (b : Bool). statement_writes s reg || b) (statements_wrote h.1 ss reg h.4)
 
 -- ---- one statement more
 

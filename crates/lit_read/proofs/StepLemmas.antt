@@ -3,7 +3,7 @@ use Rattle.std.proofs.Common.{◌≡◌, ℕ, zero, suc, ◌+◌, ◌<◌, ◌�
 use Rattle.std.specs.Prelude.{IfSome}
 use Rattle.std.specs.List.{list_any}
 use Rattle.std.specs.Str.{bytes_eq}
-use Rattle.std.proofs.lemmas.Bool.{ltb-false, leb-false}
+use Rattle.std.proofs.lemmas.Bool.{ltb-false, leb-false, or_parts}
 use Rattle.std.proofs.lemmas.List.{length-append}
 use Rattle.lit_read.specs.declared.fault.ReadKind.{ReadKind}
 use Rattle.lit_read.specs.declared.fault.ReadKind.TheVariants.{BlockSize, TooManyAgents, DuplicateAgent, LiteralRange, OutOfBlock, UnknownName, TooDeep}
@@ -16,7 +16,6 @@ use Rattle.lit_read.specs.Faults.{has_fitting_literals, stays_in_block, has_smal
 use Rattle.lit_read.specs.Spelling.{written_value}
 use Rattle.lit_read.specs.Internal.State.{State, Empty, Named, Sized, Open, Whole, Level, followed_by, with_agent, are_known, else_level, else_from, ended_if, test_step, block_step, next_step, agent_step, statement_step, if_step, else_step, end_step, test_of, whole, check_step, step, IsPart, AreAgentsIn, IsState}
 use Rattle.lit_read.proofs.PartLemmas.{all_added, all_changed, distinct_changed, distinct_added, part_followed, statement_in, is_litmus}
-use Rattle.lit_read.proofs.ListLemmas.{neither}
 
 abbrev good : State → Result State ReadKind
 good s = Ok s
@@ -35,7 +34,7 @@ block_kept (Named name) t bytes is_state e = by (eqb bytes 0 || ltb BLOCK_LIMIT 
     by : (b : Bool) → (eqb bytes 0 || ltb BLOCK_LIMIT bytes) ≡ b → cond b (Err BlockSize) (Ok (Sized name bytes)) ≡ Ok t → IsState t
     by true is h = absurd cc
     by false is h =
-        let p = neither (eqb bytes 0) (ltb BLOCK_LIMIT bytes) is in
+        let p = or_parts (eqb bytes 0) (ltb BLOCK_LIMIT bytes) is in
         let some : 1 ≤ bytes = above_zero bytes p.0 in
         subst IsState (good_is (Sized name bytes) t h) (is_state, some, ltb-false _ _ p.1)
 block_kept Empty t bytes is_state e = absurd cc

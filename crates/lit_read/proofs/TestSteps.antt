@@ -1,8 +1,8 @@
 -- The reader goes through the forms of a test without a fault.
-use Rattle.std.proofs.Common.{◌≡◌, ◌≢◌, ℕ, suc, ◌+◌, ◌<◌, ◌≤◌, Bool, true, false, leb, ltb, eqb, ◌&&◌, List, [], ◌∷◌, ◌++◌, length, get_or, Ok, inl, inr, refl, ap, sym, subst, ◌∙◌, append_assoc, arith}
+use Rattle.std.proofs.Common.{◌≡◌, ◌≢◌, ℕ, suc, ◌+◌, ◌<◌, ◌≤◌, Bool, true, false, leb, ltb, eqb, List, [], ◌∷◌, ◌++◌, length, get_or, Ok, inl, inr, refl, ap, sym, subst, ◌∙◌, append_assoc, arith}
 use Rattle.std.specs.List.{list_any}
 use Rattle.std.specs.Str.{bytes_eq}
-use Rattle.std.proofs.lemmas.Bool.{leb-true, le-ltb, eqb-true}
+use Rattle.std.proofs.lemmas.Bool.{leb-true, le-ltb, eqb-true, and_from}
 use Rattle.std.proofs.lemmas.List.{length-append, append-nil}
 use Rattle.lit_read.specs.declared.limits.TheConstants.{BLOCK_LIMIT, AGENT_LIMIT, COMPARED_LIMIT, IF_LIMIT}
 use Rattle.lit_read.specs.Syntax.{fits_window, Statement, Statements, Load, Store, Exchange, CompareExchange, If, End, Then, IsStatementIn, AreStatementsIn, statement_nesting, nesting, Condition, Agent, Litmus, IsLitmus}
@@ -35,10 +35,6 @@ module _ (name : List ℕ) (bytes : ℕ) (agents : List Agent) (agent : List ℕ
   access_step : (s : Statement) (levels : List Level) (body : Statements) → has_fitting_literals s ≡ true → stays_in_block bytes s ≡ true → step (at levels body) (StatementLine s) ≡ Ok (at levels (followed_by body s))
   unfolding step statement_step
   access_step s levels body fits stays = rw (fits, stays) refl
-
-  both_fit : (x y : Bool) → x ≡ true → y ≡ true → (x && y) ≡ true
-  both_fit true y a b = b
-  both_fit false y a b = absurd cc
 
   begin_if : (reg : ℕ) (equal : Bool) (value : ℕ) (levels : List Level) (body : Statements) → value ≤ COMPARED_LIMIT → length levels < IF_LIMIT → step (at levels body) (IfLine reg equal value) ≡ Ok (at (new_level reg equal value body ∷ levels) End)
   unfolding step if_step
@@ -73,7 +69,7 @@ module _ (name : List ℕ) (bytes : ℕ) (agents : List Agent) (agent : List ℕ
     statement_reached fs (Store w i v a) levels body h is deep = rw h (at levels (followed_by body (Store w i v a)), access_step (Store w i v a) levels body is.1 is.0, refl)
     statement_reached fs (Exchange r w i v) levels body h is deep = rw h (at levels (followed_by body (Exchange r w i v)), access_step (Exchange r w i v) levels body is.2 is.1, refl)
     statement_reached fs (CompareExchange r w i e v) levels body h is deep =
-        rw h (at levels (followed_by body (CompareExchange r w i e v)), access_step (CompareExchange r w i e v) levels body (both_fit (fits_window w e) (fits_window w v) is.2 is.3) is.1, refl)
+        rw h (at levels (followed_by body (CompareExchange r w i e v)), access_step (CompareExchange r w i e v) levels body (and_from (fits_window w e) (fits_window w v) is.2 is.3) is.1, refl)
     statement_reached fs (If r e v part other) levels body h is deep =
         let inside = new_level r e v body ∷ levels in
         rw h.2 (

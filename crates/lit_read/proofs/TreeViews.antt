@@ -12,7 +12,7 @@ use Rattle.lit_read.specs.Internal.Views.{conditions_view}
 
 -- ---- a condition of several members
 
-abbrev row_of : Cond → (n : Count) × Row_of-Cond n
+abbrev pub row_of : Cond → (n : Count) × Row_of-Cond n
 row_of (code.Any' shape row) = (_, row)
 row_of (code.All' shape row) = (_, row)
 row_of (code.Not' p c) = (_, end_of-Cond)

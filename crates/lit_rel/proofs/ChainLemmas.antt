@@ -21,9 +21,6 @@ pub record IsClosedBelow (step holds : ℕ → ℕ → Type 0) (k : ℕ) : Type 
   pub steps : (e d : ℕ) → step e d → holds e d
   pub through : (e m d : ℕ) → m < k → holds e m → holds m d → holds e d
 
-pub IsClosedBelow-none : (step : ℕ → ℕ → Type 0) → IsClosedBelow step step 0
-IsClosedBelow-none step = record { sound = λ e d h. ([], h); steps = λ e d h. h; through = λ e m d l p q. absurd (omega arith) }
-
 module _ (step holds more : ℕ → ℕ → Type 0) (k : ℕ) (leads : (e d : ℕ) → more e d ↔ (holds e d ⊎ (holds e k × holds k d))) where
   -- one middle more
   pub IsClosedBelow-more : IsClosedBelow step holds k → IsClosedBelow step more (k + 1)

@@ -15,9 +15,6 @@ pub record SomeBelow {X : Type 0} (P : X → Type 0) (xs : List X) (n : ℕ) : T
   pub has : P item
 
 module _ {X : Type 0} (P : X → Type 0) (xs : List X) where
-  pub EachBelow-none : EachBelow P xs 0
-  EachBelow-none k p h = absurd (omega arith)
-
   pub EachBelow-more : (i : ℕ) (d : X) → i < length xs → EachBelow P xs i → P (get_or xs i d) → EachBelow P xs (i + 1)
   EachBelow-more i d l each here k p h at_place =
       elim (cases_eq k i) [
@@ -32,9 +29,6 @@ module _ {X : Type 0} (P : X → Type 0) (xs : List X) where
   each_from_EachBelow n l each k p at_place =
       let within : k < length xs = slice_get_within xs k p at_place in
       each k p (omega arith) at_place
-
-  pub SomeBelow-none : SomeBelow P xs 0 → ⊥
-  SomeBelow-none h = let l : h.place < 0 = h.below in absurd (omega arith)
 
   pub SomeBelow-more : (i : ℕ) (d : X) → i < length xs → SomeBelow P xs (i + 1) ↔ (SomeBelow P xs i ⊎ P (get_or xs i d))
   SomeBelow-more i d l =
@@ -85,13 +79,6 @@ module _ {X : Type 0} (P : X → Type 0) (xs : List X) where
           | inl first ↦ so_far.1 (inl first)
           | inr some ↦ elim (more.0 some) [ inl before ↦ so_far.1 (inr before) | inr now ↦ absurd (not_here now) ]
         ]),
-      )
-
-  pub SomeBelow-skip : (i : ℕ) (d : X) (old : Type 0) → i < length xs → (old ↔ SomeBelow P xs i) → (P (get_or xs i d) → ⊥) → old ↔ SomeBelow P xs (i + 1)
-  SomeBelow-skip i d old l so_far not_here =
-      let more = SomeBelow-more i d l in (
-        (λ h. more.1 (inl (so_far.0 h))),
-        (λ h. elim (more.0 h) [ inl before ↦ so_far.1 before | inr now ↦ absurd (not_here now) ]),
       )
 
   -- what holds of the next holds of one before

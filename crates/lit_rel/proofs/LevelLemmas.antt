@@ -170,9 +170,6 @@ module _ (events : List Event) (given more : ℕ → ℕ → ℕ → Type 0) (r 
   broken_with same is_result =
       from_anew was result (IsBrokenBy events given) (IsBrokenBy events more) ((IsCoherentRead events (Holds before) r b w → ⊥) ⊎ torn) is_was is_result grows breaks back
     where
-      none : ℕ → ℕ → ℕ → Type 0
-      none r' b' w' = ⊥
-
       held : (e d : ℕ) → Holds before e d ↔ HappensBeforeBy events more e d
       held e d = (λ h. (same e d).0 ((is_before e d).0 h), λ h. (is_before e d).1 ((same e d).1 h))
 

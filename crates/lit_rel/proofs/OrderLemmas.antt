@@ -14,9 +14,10 @@ use Rattle.lit_rel.specs.Internal.Levels.{IsOrder}
 use Rattle.lit_rel.specs.ReadsFrom.{ReadsByteFrom}
 use Rattle.lit_rel.specs.Rows.{Holds, WithPair, rows_len}
 use Rattle.lit_rel.specs.SynchronizesWith.{CanSynchronize}
+use Rattle.lit_paths.proofs.Rising.{slice_get-map-found}
 use Rattle.lit_rel.proofs.EdgeLemmas.{WithPair-same, happens_before-held, happens_before-same, happens_before-with}
 use Rattle.lit_rel.proofs.LevelLemmas.{Holds-decided, ReadsByteFrom-push}
-use Rattle.lit_rel.proofs.SourceLemmas.{map_to, read_place, take_more}
+use Rattle.lit_rel.proofs.SourceLemmas.{read_place, take_more}
 
 module _ (events : List Event) (sources : List ℕ) (byte : SourcedByte) (left : slice_get (byte_reads events) (length sources) ≡ Some (read_of byte)) (before : Rows) (is : IsOrder events sources before) where
   pub given_adds : (r b w : ℕ) → ReadsByteFrom events (sources ++ byte.source ∷ []) r b w ↔ (ReadsByteFrom events sources r b w ⊎ ((r ≡ byte.read) × (b ≡ byte.byte) × (w ≡ byte.source)))
@@ -62,4 +63,4 @@ module _ (events : List Event) (bytes : List SourcedByte) (first : AreFirstReads
   pub next_sources : take i (sources_of bytes) ++ (get_or bytes i d).source ∷ [] ≡ take (i + 1) (sources_of bytes)
   next_sources =
       let next : suc i ≡ i + 1 = omega arith in
-      sym (take_more (sources_of bytes) i (get_or bytes i d).source (map_to (λ (b : SourcedByte). b.source) bytes i (get_or bytes i d) at_place)) ∙ ap (λ (n : ℕ). take n (sources_of bytes)) next
+      sym (take_more (sources_of bytes) i (get_or bytes i d).source (slice_get-map-found (λ (b : SourcedByte). b.source) bytes i (get_or bytes i d) at_place)) ∙ ap (λ (n : ℕ). take n (sources_of bytes)) next

@@ -15,10 +15,11 @@ use Rattle.lit_rel.specs.Growth.{IsGivenWhole}
 use Rattle.lit_rel.specs.Part.{IsNextSource, PartModel, part_events, with_sources}
 use Rattle.lit_rel.specs.Internal.Refused.{AreRefusals, IsRefusedAtLast}
 use Rattle.lit_rel.specs.ReadsFrom.{ReadsByteFrom, value_of}
+use Rattle.lit_paths.proofs.Rising.{slice_get-map-found, slice_get-map-known}
 use Rattle.lit_rel.proofs.GrowthLemmas.{ReadsByteFrom-longer, values_stay}
 use Rattle.lit_rel.proofs.BrokenLemmas.{IsBrokenBy-grows}
 use Rattle.lit_rel.proofs.PlaceLemmas.{place-left, place-push}
-use Rattle.lit_rel.proofs.SourceLemmas.{map_from, map_to, take_from}
+use Rattle.lit_rel.proofs.SourceLemmas.{take_from}
 
 -- places in the second of two lists
 place-right : {X : Type 0} (xs ys : List X) (k : ℕ) → slice_get (xs ++ ys) (length xs + k) ≡ slice_get ys k
@@ -39,7 +40,7 @@ number_here : (n : ℕ) (e : Event) (k : ℕ) (q : ℕ × ℕ) → slice_get (by
 number_here n e k q h = by (does_read e.kind) h
   where
     by : (b : Bool) → slice_get (cond b (map (λ j. (n, e.first + j)) (range_with_len 0 e.size)) []) k ≡ Some q → q.0 ≡ n
-    by true at = let found = map_from {X = ℕ} {Y = ℕ × ℕ} (λ j. (n, e.first + j)) (range_with_len 0 e.size) k q at in ap (λ (p : ℕ × ℕ). p.0) (sym found.2)
+    by true at = let found = slice_get-map-known {A = ℕ} {B = ℕ × ℕ} (λ j. (n, e.first + j)) (range_with_len 0 e.size) k q at in ap (λ (p : ℕ × ℕ). p.0) (sym found.2)
     by false at = absurd (none-some q at)
 
 number_later : (n : ℕ) (es : List Event) (k : ℕ) (q : ℕ × ℕ) → slice_get (byte_reads_from n es) k ≡ Some q → n ≤ q.0
@@ -77,7 +78,7 @@ has_byte_from n (e ∷ es) zero r is l reads some =
     let same : n ≡ r = omega arith in
     let f : ℕ → ℕ × ℕ = λ j. (n, e.first + j) in
     let whole : bytes_read_by n e ≡ map f (range_with_len 0 e.size) = ap (λ (b : Bool). cond b (map f (range_with_len 0 e.size)) []) reads in
-    let at_first : slice_get (bytes_read_by n e) 0 ≡ Some (n, e.first + 0) = ap (λ (xs : List (ℕ × ℕ)). slice_get xs 0) whole ∙ map_to f (range_with_len 0 e.size) 0 0 (first_of_range e.size some) in
+    let at_first : slice_get (bytes_read_by n e) 0 ≡ Some (n, e.first + 0) = ap (λ (xs : List (ℕ × ℕ)). slice_get xs 0) whole ∙ slice_get-map-found f (range_with_len 0 e.size) 0 0 (first_of_range e.size some) in
     (0, e.first + 0, place-left (bytes_read_by n e) (byte_reads_from (n + 1) es) 0 (n, e.first + 0) at_first ∙ ap (λ (x : ℕ). Some (x, e.first + 0)) same)
 has_byte_from n (e ∷ es) (suc k) r is l reads some =
     let found = has_byte_from (n + 1) es k r (omega arith) (omega arith) reads some in
@@ -107,7 +108,7 @@ module _ (part : PartModel) (reads : List ByteRead) (are : map pair_of reads ≡
   IsLast = (here next : ByteRead) → slice_get reads place ≡ Some here → slice_get reads (place + 1) ≡ Some next → next.read ≢ here.read
 
   last : slice_get (byte_reads (part_events part)) place ≡ Some (pair_of (get_or reads place d))
-  last = subst (λ (xs : List (ℕ × ℕ)). slice_get xs place ≡ Some (pair_of (get_or reads place d))) are (map_to pair_of reads place (get_or reads place d) (slice_get-get_or reads place d within))
+  last = subst (λ (xs : List (ℕ × ℕ)). slice_get xs place ≡ Some (pair_of (get_or reads place d))) are (slice_get-map-found pair_of reads place (get_or reads place d) (slice_get-get_or reads place d within))
 
   at_end : place ≡ length part.sources - 1
   at_end = omega arith
@@ -118,7 +119,7 @@ module _ (part : PartModel) (reads : List ByteRead) (are : map pair_of reads ≡
     byte = (get_or reads place d).byte;
     last = ap (slice_get (byte_reads (part_events part))) (sym at_end) ∙ last;
     whole = λ next b' at_next same.
-        let found = map_from pair_of reads (place + 1) (next, b') (ap (λ (xs : List (ℕ × ℕ)). slice_get xs (place + 1)) are ∙ ap (slice_get (byte_reads (part_events part))) count ∙ at_next) in
+        let found = slice_get-map-known pair_of reads (place + 1) (next, b') (ap (λ (xs : List (ℕ × ℕ)). slice_get xs (place + 1)) are ∙ ap (slice_get (byte_reads (part_events part))) count ∙ at_next) in
         is_last (get_or reads place d) found.0 (slice_get-get_or reads place d within) found.1 (ap (λ (q : ℕ × ℕ). q.0) found.2 ∙ same);
     refused = f;
   }
@@ -129,7 +130,7 @@ module _ (part : PartModel) (reads : List ByteRead) (are : map pair_of reads ≡
       let same_read : (get_or reads place d).read ≡ at.read = ap (λ (q : ℕ × ℕ). q.0) same in (
         (λ here next at_here at_next equal.
             let is_here : get_or reads place d ≡ here = same_Some (get_or reads place d) here (sym (slice_get-get_or reads place d within) ∙ at_here) in
-            let place_next : slice_get (byte_reads (part_events part)) (length part.sources) ≡ Some (pair_of next) = ap (slice_get (byte_reads (part_events part))) (sym count) ∙ sym (ap (λ (xs : List (ℕ × ℕ)). slice_get xs (place + 1)) are) ∙ map_to pair_of reads (place + 1) next at_next in
+            let place_next : slice_get (byte_reads (part_events part)) (length part.sources) ≡ Some (pair_of next) = ap (slice_get (byte_reads (part_events part))) (sym count) ∙ sym (ap (λ (xs : List (ℕ × ℕ)). slice_get xs (place + 1)) are) ∙ slice_get-map-found pair_of reads (place + 1) next at_next in
             at.whole next.read next.byte place_next (equal ∙ sym (ap (λ (x : ByteRead). x.read) is_here) ∙ same_read)),
         subst (λ (r : ℕ). HasFalseTestOn part.test part.combination (Some r) (value_of (part_events part) part.sources r)) (sym same_read) at.refused,
       )

@@ -1,10 +1,9 @@
 -- Sets of events as words: after an event is put in, of two sets together, sets of no event, and sets within another.
-use Rattle.std.proofs.Common.{◌≡◌, ◌≢◌, ◌⊎◌, ◌↔◌, ℕ, ◌+◌, ◌-◌, ◌*◌, ◌^◌, ◌/◌, ◌%◌, ◌<◌, ◌≤◌, max, min, List, [], ◌∷◌, get_or, length, bit_and, bit_or, ap, inl, inr, arith, refl, subst, sym, ◌∙◌, w64, suc, zero}
+use Rattle.std.proofs.Common.{◌≡◌, ◌≢◌, ◌⊎◌, ◌↔◌, ℕ, ◌+◌, ◌-◌, ◌*◌, ◌^◌, ◌/◌, ◌%◌, ◌<◌, ◌≤◌, max, min, List, [], ◌∷◌, get_or, bit_and, bit_or, ap, inl, inr, arith, refl, subst, sym, ◌∙◌, w64, suc, zero}
 use Rattle.std.proofs.Math.ListN.{set}
-use Rattle.std.proofs.lemmas.List.{get_or-set_same, get_or-set_other}
 use Rattle.std.specs.Int.RustNames.{bit_xor}
 use Rattle.std.proofs.lemmas.Nat.Bits.{bit_at_or, bit_at_and, bit_at_xor, bit_at-lt, bit_at-suc, bit_at-zero, bit_at_cat_high, bit_at_cat_low, bit_at_lowest, same_from_bits_below, bit_at-trailing_zeros, bit_at_ones, bit_at_ones_above, bit_at_set_same, bit_at_set_other, same_from_bits}
-use Rattle.std.proofs.lemmas.Bool.{cases_eq, cases_order}
+use Rattle.std.proofs.lemmas.Bool.{cases_eq, cases_order, cases_lt}
 use Rattle.std.proofs.lemmas.Nat.{div-add-mod', le_or_l, one_shl, pow_pos}
 use Rattle.std.proofs.Math.Nat.{mod-lt, suc-mul}
 use Rattle.std.specs.Int.{bit_at, trailing_zeros}
@@ -14,6 +13,9 @@ use Rattle.lit_rel.specs.EventSet.{AreWithin, HasEvent, IsSplit, no_events}
 -- bit k of the word is set
 abbrev pub HasBit : ℕ → ℕ → Type 0
 HasBit word k = bit_at word k ≡ 1
+
+not_both : (x : ℕ) → x ≡ 1 → x ≡ 0 → ⊥
+not_both x one none = absurd (omega arith)
 
 one_of_max : (a b : ℕ) → a < 2 → max a b ≡ 1 → (a ≡ 1) ⊎ (b ≡ 1)
 one_of_max a b l e = elim (cases_eq a 1) [ inl h ↦ inl h | inr h ↦ inr (omega arith) ]
@@ -136,9 +138,6 @@ module _ (word t : ℕ) (here : HasBit word t) (none : (k : ℕ) → k < t → H
     (λ h. (HasBit-and word (word - 1) k).1 (h.0, elim (cases_eq_lt k t) [ inl low ↦ absurd (none k low h.0) | inr rest ↦ elim rest [ inl same ↦ absurd (h.1 same) | inr above ↦ less_above k above ∙ h.0 ] ])),
   )
     where
-      not_both : (x : ℕ) → x ≡ 1 → x ≡ 0 → ⊥
-      not_both x one zero_is = absurd (omega arith)
-
       cases_eq_lt : (x y : ℕ) → (x < y) ⊎ ((x ≡ y) ⊎ (y < x))
       cases_eq_lt x y = elim (cases_order x y) [ inl same ↦ inr (inl same) | inr apart ↦ elim apart [ inl less ↦ inl less | inr more ↦ inr (inr more) ] ]
 
@@ -146,10 +145,7 @@ module _ (word t : ℕ) (here : HasBit word t) (none : (k : ℕ) → k < t → H
 pub lowest_bit : (word : ℕ) → word < 2 ^ 64 → (word ≡ 0 → ⊥) → (trailing_zeros w64 word < 64) × HasBit word (trailing_zeros w64 word) × ((k : ℕ) → k < trailing_zeros w64 word → HasBit word k → ⊥)
 lowest_bit word small some =
     let lowest = bit_at-trailing_zeros w64 word (omega arith) small in
-    (lowest.0, lowest.1, λ k below h. one_is_none (bit_at word k) h (lowest.2 k below))
-  where
-    one_is_none : (x : ℕ) → x ≡ 1 → x ≡ 0 → ⊥
-    one_is_none x one none = absurd (omega arith)
+    (lowest.0, lowest.1, λ k below h. not_both (bit_at word k) h (lowest.2 k below))
 
 -- as many ones have the bits below, as the code computes them
 pub HasBit-ones : (count k : ℕ) → count < 64 → HasBit (1 * 2 ^ count % 2 ^ 64 - 1) k ↔ (k < count)
@@ -161,12 +157,6 @@ HasBit-ones count k within =
       ]),
       (λ below. subst (λ (w : ℕ). HasBit (w - 1) k) (sym shifted) (bit_at_ones count k below)),
     )
-  where
-    not_both : (x : ℕ) → x ≡ 1 → x ≡ 0 → ⊥
-    not_both x one zero_is = absurd (omega arith)
-
-    cases_lt : (x y : ℕ) → (x < y) ⊎ (y ≤ x)
-    cases_lt x y = elim (cases_order x y) [ inl same ↦ inr (omega arith) | inr apart ↦ elim apart [ inl less ↦ inl less | inr more ↦ inr (omega arith) ] ]
 
 -- the one word has no bit that the other lacks
 pub within_from_or : (a b k : ℕ) → bit_or a b ≡ b → HasBit a k → HasBit b k
@@ -216,20 +206,6 @@ get_or-empty (s ∷ ss) e (suc k) = get_or-empty ss e.1 k
 pub HasEvent-none : (ss : List EventSet) → AreEmpty ss → (a d : ℕ) → HasEvent (get_or ss a no_events) d → ⊥
 HasEvent-none ss e a d h = HasBit-zero (get_or ss a no_events).bits d (get_or-empty ss e a) h
 
--- the sets of events below n alone: at first, and after a write
+-- the sets of events below n alone, at first
 pub AreWithin-none : (n : ℕ) (ss : List EventSet) → AreEmpty ss → AreWithin n ss
 AreWithin-none n ss e = record { first_known = λ a d h. absurd (HasEvent-none ss e a d h); second_known = λ a d h. absurd (HasEvent-none ss e a d h) }
-
-pub AreWithin-set : (n : ℕ) (ss : List EventSet) (a : ℕ) (s : EventSet) → AreWithin n ss → a < n → a < length ss → ((d : ℕ) → HasEvent s d → d < n) → AreWithin n (set ss a s)
-AreWithin-set n ss a s w below within known = record {
-  first_known = λ x d h. elim (cases_eq x a) [
-    | inl same ↦ subst (λ (k : ℕ). k < n) (sym same) below
-    | inr other ↦ w.first_known x d (subst (λ (t : EventSet). HasEvent t d) (get_or-set_other ss a x s no_events other) h)
-  ];
-  second_known = λ x d h. elim (cases_eq x a) [
-    | inl same ↦
-        let at_a : HasEvent (get_or (set ss a s) a no_events) d = subst (λ (k : ℕ). HasEvent (get_or (set ss a s) k no_events) d) same h in
-        known d (subst (λ (t : EventSet). HasEvent t d) (get_or-set_same ss a s no_events within) at_a)
-    | inr other ↦ w.second_known x d (subst (λ (t : EventSet). HasEvent t d) (get_or-set_other ss a x s no_events other) h)
-  ];
-}

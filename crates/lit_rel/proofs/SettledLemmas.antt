@@ -11,9 +11,9 @@ use Rattle.lit_rel.specs.HappensBefore.{Chain, HappensBefore, StepBy}
 use Rattle.lit_rel.specs.ReadsFrom.{ReadsByteFrom}
 use Rattle.lit_rel.specs.Settled.{HasSettledPast, IsSettled, SettledPastsStay}
 use Rattle.lit_rel.specs.SynchronizesWith.{Synchronizes}
+use Rattle.lit_paths.proofs.Rising.{slice_get-map-found, slice_get-map-known}
 use Rattle.lit_rel.proofs.GrowthLemmas.{grow_with_bytes}
 use Rattle.lit_rel.proofs.PlaceLemmas.{place_from-left}
-use Rattle.lit_rel.proofs.SourceLemmas.{map_from, map_to}
 
 module _ (events : List Event) (sources rest : List ℕ) (given : AreGiven events (sources ++ rest)) where
   -- what synchronizes with a settled event did before
@@ -45,10 +45,10 @@ settled_pasts_stay events sources rest e given past d = (λ h. chain_before even
 -- ---- byte reads as the code has them
 pub read_there : (reads : List ByteRead) (k r b : ℕ) (d : ByteRead) → slice_get (map pair_of reads) k ≡ Some (r, b) → (get_or reads k d).read ≡ r
 read_there reads k r b d at =
-    let found = map_from pair_of reads k (r, b) at in
+    let found = slice_get-map-known pair_of reads k (r, b) at in
     ap (λ (x : ByteRead). x.read) (get_or_from_slice_get reads k found.0 d found.1) ∙ ap (λ (q : ℕ × ℕ). q.0) found.2
 
 pub there_read : (reads : List ByteRead) (k r : ℕ) (d : ByteRead) → k < length reads → (get_or reads k d).read ≡ r → (b : ℕ) × (slice_get (map pair_of reads) k ≡ Some (r, b))
 there_read reads k r d inside is =
     let item = get_or reads k d in
-    (item.byte, map_to pair_of reads k item (slice_get-get_or reads k d inside) ∙ ap (λ (x : ℕ). Some (x, item.byte)) is)
+    (item.byte, slice_get-map-found pair_of reads k item (slice_get-get_or reads k d inside) ∙ ap (λ (x : ℕ). Some (x, item.byte)) is)

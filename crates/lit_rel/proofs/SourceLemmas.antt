@@ -1,5 +1,5 @@
 -- The byte reads that have a source, each against reads-bytes-from, and one more or one less of them.
-use Rattle.std.proofs.Common.{◌≡◌, ℕ, ◌+◌, ◌<◌, ◌≤◌, suc, zero, Some, List, [], ◌∷◌, ◌++◌, length, map, take, get_or, refl, sym, ap, ◌∙◌, subst, arith, true, false, cond, All}
+use Rattle.std.proofs.Common.{◌≡◌, ℕ, ◌+◌, ◌<◌, ◌≤◌, suc, zero, Some, List, [], ◌∷◌, ◌++◌, length, map, take, get_or, sym, ap, ◌∙◌, subst, arith, true, false, cond, All}
 use Rattle.std.proofs.lemmas.List.{length_push, map_push, length-map, length-take-le, take-take}
 use Rattle.std.proofs.lemmas.List.Elements.{All-append, All-map, All-nil}
 use Rattle.std.proofs.lemmas.Option.{none-some, same_Some, slice_get_within, get_or_from_slice_get, slice_get-get_or}
@@ -11,21 +11,11 @@ use Rattle.lit_paths.specs.declared.byte_reads.ByteRead.{ByteRead}
 use Rattle.lit_rel.specs.declared.given.SourcedByte.{SourcedByte}
 use Rattle.lit_rel.specs.Internal.Given.{AreFirstReads, read_of, sources_of}
 use Rattle.lit_rel.specs.ReadsFrom.{ReadsByteFrom}
+use Rattle.lit_paths.proofs.Rising.{slice_get-map-found, slice_get-map-known}
 
 -- what a slice of bytes gives past its end
 abbrev pub no_byte : SourcedByte
 no_byte = record { read = 0; byte = 0; source = 0 }
-
--- places in a list of values
-pub map_to : {X Y : Type 0} (f : X → Y) (xs : List X) (i : ℕ) (x : X) → slice_get xs i ≡ Some x → slice_get (map f xs) i ≡ Some (f x)
-map_to f [] i x h = absurd (none-some x h)
-map_to f (a ∷ xs) zero x h = ap (λ y. Some (f y)) (same_Some a x h)
-map_to f (a ∷ xs) (suc i) x h = map_to f xs i x h
-
-pub map_from : {X Y : Type 0} (f : X → Y) (xs : List X) (i : ℕ) (y : Y) → slice_get (map f xs) i ≡ Some y → (x : X) × (slice_get xs i ≡ Some x) × (f x ≡ y)
-map_from f [] i y h = absurd (none-some y h)
-map_from f (x ∷ xs) zero y h = (x, refl, same_Some (f x) y h)
-map_from f (x ∷ xs) (suc i) y h = map_from f xs i y h
 
 -- places in a front
 pub take_from : {X : Type 0} (n : ℕ) (xs : List X) (i : ℕ) (x : X) → slice_get (take n xs) i ≡ Some x → slice_get xs i ≡ Some x
@@ -38,11 +28,11 @@ module _ (events : List Event) (bytes : List SourcedByte) (first : AreFirstReads
   pub read_place : (i : ℕ) (p : SourcedByte) → slice_get bytes i ≡ Some p → slice_get (byte_reads events) i ≡ Some (read_of p)
   read_place i p h =
       take_from (length bytes) (byte_reads events) i (read_of p)
-      (subst (λ (xs : List (ℕ × ℕ)). slice_get xs i ≡ Some (read_of p)) first (map_to read_of bytes i p h))
+      (subst (λ (xs : List (ℕ × ℕ)). slice_get xs i ≡ Some (read_of p)) first (slice_get-map-found read_of bytes i p h))
 
   -- each byte reads from its source
   pub read_at : (i : ℕ) (p : SourcedByte) → slice_get bytes i ≡ Some p → ReadsByteFrom events (sources_of bytes) p.read p.byte p.source
-  read_at i p h = (i, read_place i p h, map_to (λ (q : SourcedByte). q.source) bytes i p h)
+  read_at i p h = (i, read_place i p h, slice_get-map-found (λ (q : SourcedByte). q.source) bytes i p h)
 
 -- a byte with this read, byte and source
 pub record IsByte (p : SourcedByte) (r b w : ℕ) : Type 0 where
@@ -53,7 +43,7 @@ pub record IsByte (p : SourcedByte) (r b w : ℕ) : Type 0 where
 -- what reads-bytes-from holds of is a byte
 pub byte_at : (events : List Event) (bytes : List SourcedByte) → AreFirstReads events bytes → (r b w : ℕ) → ReadsByteFrom events (sources_of bytes) r b w → (i : ℕ) × (p : SourcedByte) × (slice_get bytes i ≡ Some p) × IsByte p r b w
 byte_at events bytes first r b w (i, hr, hw) =
-    let found = map_from (λ (q : SourcedByte). q.source) bytes i w hw in
+    let found = slice_get-map-known (λ (q : SourcedByte). q.source) bytes i w hw in
     let same : read_of found.0 ≡ (r, b) = same_Some (read_of found.0) (r, b) (sym (read_place events bytes first i found.0 found.1) ∙ hr) in
     (i, found.0, found.1, record { read = ap (λ (q : ℕ × ℕ). q.0) same; byte = ap (λ (q : ℕ × ℕ). q.1) same; source = found.2 })
 
@@ -106,4 +96,4 @@ next_read all reads same n q d h =
     let count : length reads ≡ length all = sym (length-map reads pair_of) ∙ ap length same in
     let below : n < length all = slice_get_within all n q h in
     let within : n < length reads = omega arith in
-    (within, subst (λ (xs : List (ℕ × ℕ)). slice_get xs n ≡ Some (pair_of (get_or reads n d))) same (map_to pair_of reads n (get_or reads n d) (slice_get-get_or reads n d within)))
+    (within, subst (λ (xs : List (ℕ × ℕ)). slice_get xs n ≡ Some (pair_of (get_or reads n d))) same (slice_get-map-found pair_of reads n (get_or reads n d) (slice_get-get_or reads n d within)))

@@ -2,24 +2,17 @@
 use Rattle.std.proofs.Common.{◌≡◌, ◌⊎◌, ◌↔◌, ℕ, ◌<◌, Some, List, [], ◌∷◌, ◌++◌, length, subst, sym, ap, ◌∙◌, inl, inr, refl}
 use Rattle.std.proofs.Math.ListN.{set}
 use Rattle.std.proofs.lemmas.Bool.{cases_eq}
-use Rattle.std.proofs.lemmas.Option.{none-some, same_Some}
+use Rattle.std.proofs.lemmas.Option.{same_Some}
 use Rattle.std.specs.List.{slice_get}
 use Rattle.lit_rel.specs.declared.event_set.EventSet.{EventSet}
 use Rattle.lit_rel.specs.declared.between.Pair.{Pair}
-use Rattle.lit_rel.specs.Between.{IsPairOf, ArePairsOf, Forbids}
+use Rattle.lit_rel.specs.Between.{IsPairOf, Forbids}
 use Rattle.lit_rel.specs.EventSet.{HasEvent, no_events}
 use Rattle.lit_rel.proofs.PlaceLemmas.{place-left, place-middle, place-push, place-set_same, place-set_other}
 
 -- what a slice of pairs gives past its end
 abbrev pub no_pair : Pair
 no_pair = record { source = 0; read = 0; others = no_events }
-
-pub ArePairsOf-nil : (n : ℕ) → ArePairsOf n []
-ArePairsOf-nil n = record {
-  source_known = λ k p h. absurd (none-some p h);
-  read_known = λ k p h. absurd (none-some p h);
-  once = λ j k p q h _ _. absurd (none-some p h);
-}
 
 -- the pairs as they were and as they are after a call, and what the call forbids
 module _ (n w r : ℕ) (pairs more : List Pair) (others : EventSet) (w_known : w < n) (r_known : r < n) where
@@ -74,25 +67,6 @@ module _ (n w r : ℕ) (pairs more : List Pair) (others : EventSet) (w_known : w
           marked = here.3;
         }
 
-    pub ArePairsOf-push : ((k : ℕ) (p : Pair) → slice_get pairs k ≡ Some p → IsPairOf w r p → ⊥) → ArePairsOf n pairs → ArePairsOf n more
-    ArePairsOf-push new are = record {
-      source_known = λ k p h. elim (at_push k p h) [ inl was ↦ are.source_known k p was | inr last ↦ subst (λ (q : Pair). q.source < n) last.1 w_known ];
-      read_known = λ k p h. elim (at_push k p h) [ inl was ↦ are.read_known k p was | inr last ↦ subst (λ (q : Pair). q.read < n) last.1 r_known ];
-      once = λ j k p q hj hk same.
-          elim (at_push j p hj) [
-            | inl was_j ↦
-                elim (at_push k q hk) [
-                  | inl was_k ↦ are.once j k p q was_j was_k same
-                  | inr last_k ↦ absurd (new j p was_j record { source = same.source ∙ sym (ap (λ (x : Pair). x.source) last_k.1); read = same.read ∙ sym (ap (λ (x : Pair). x.read) last_k.1) })
-                ]
-            | inr last_j ↦
-                elim (at_push k q hk) [
-                  | inl was_k ↦ absurd (new k q was_k record { source = sym same.source ∙ sym (ap (λ (x : Pair). x.source) last_j.1); read = sym same.read ∙ sym (ap (λ (x : Pair). x.read) last_j.1) })
-                  | inr last_k ↦ last_j.0 ∙ sym last_k.0
-                ]
-          ];
-    }
-
   -- a pair that was there, now with more events
   module _ (place : ℕ) (old new : Pair) (there : slice_get pairs place ≡ Some old) (is_pair : IsPairOf w r old) (same_source : new.source ≡ old.source) (same_read : new.read ≡ old.read) (written : more ≡ set pairs place new) where
     at_place : slice_get more place ≡ Some new
@@ -110,16 +84,6 @@ module _ (n w r : ℕ) (pairs more : List Pair) (others : EventSet) (w_known : w
               (old, ap (slice_get pairs) same ∙ there, record { source = sym (ap (λ (x : Pair). x.source) is_new) ∙ same_source; read = sym (ap (λ (x : Pair). x.read) is_new) ∙ same_read })
           | inr other ↦ (p, sym (elsewhere k other) ∙ h, record { source = refl; read = refl })
         ]
-
-    pub ArePairsOf-set : ArePairsOf n pairs → ArePairsOf n more
-    ArePairsOf-set are = record {
-      source_known = λ k p h. let q = was k p h in subst (λ (x : ℕ). x < n) (sym q.2.source) (are.source_known k q.0 q.1);
-      read_known = λ k p h. let q = was k p h in subst (λ (x : ℕ). x < n) (sym q.2.read) (are.read_known k q.0 q.1);
-      once = λ j k p q hj hk same.
-          let a = was j p hj in
-          let b = was k q hk in
-          are.once j k a.0 b.0 a.1 b.1 record { source = sym a.2.source ∙ same.source ∙ b.2.source; read = sym a.2.read ∙ same.read ∙ b.2.read };
-    }
 
     module _ (wider : (e : ℕ) → HasEvent new.others e ↔ (HasEvent old.others e ⊎ HasEvent others e)) where
       pub Forbids-set : (x y v : ℕ) → New x y v ↔ (Old x y v ⊎ Added x y v)

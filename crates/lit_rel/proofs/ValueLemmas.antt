@@ -1,7 +1,7 @@
 -- The bytes that a read takes from its sources, from the last to the first, and the number that they compose.
 use Rattle.std.proofs.Common.{◌≡◌, ◌≢◌, ℕ, suc, zero, ◌+◌, ◌-◌, ◌*◌, ◌^◌, ◌<◌, ◌≤◌, ◌==◌, List, [], ◌∷◌, ◌++◌, length, map, filter, drop, get_or, refl, sym, ap, ◌∙◌, subst, arith, Bool, true, false, cond, eq-eqb, length-append, Some}
 use Rattle.std.proofs.lemmas.Bool.Decides.{nat_tests}
-use Rattle.std.proofs.lemmas.List.{drop_more, drop_all, drop-map, length-map}
+use Rattle.std.proofs.lemmas.List.{drop_more, drop-map, length-map}
 use Rattle.std.proofs.lemmas.List.Elements.{filter-append}
 use Rattle.std.proofs.lemmas.List.FromFn.{length-range_with_len}
 use Rattle.std.proofs.Math.Nat.{pow-le-pow_right}
@@ -42,12 +42,7 @@ are_sourced events bytes first = zipped bytes (byte_reads events) (read_place ev
 abbrev pub stored : List Event → ℕ → List SourcedByte → List ℕ
 stored events r bytes = map (λ p. payload_at (event_at events p.1) p.0.1) (filter (λ p. p.0.0 == r) (map sourced bytes))
 
--- one byte more in front, of another read or of this one
-stored-cons_other : (events : List Event) (r : ℕ) (p : SourcedByte) (ps : List SourcedByte) → p.read ≢ r → stored events r (p ∷ ps) ≡ stored events r ps
-stored-cons_other events r p ps other =
-    let no_test : (p.read == r) ≡ false = grind (arith, nat_tests) in
-    ap (λ (b : Bool). map {A = (ℕ × ℕ) × ℕ} {B = ℕ} (λ q. payload_at (event_at events q.1) q.0.1) (cond b (sourced p ∷ filter (λ (q : (ℕ × ℕ) × ℕ). q.0.0 == r) (map sourced ps)) (filter (λ (q : (ℕ × ℕ) × ℕ). q.0.0 == r) (map sourced ps)))) no_test
-
+-- one byte more in front
 stored-cons_same : (events : List Event) (r : ℕ) (p : SourcedByte) (ps : List SourcedByte) → p.read ≡ r → stored events r (p ∷ ps) ≡ payload_at (event_at events p.source) p.byte ∷ stored events r ps
 stored-cons_same events r p ps same =
     let is_test : (p.read == r) ≡ true = eq-eqb p.read r same in
@@ -59,12 +54,6 @@ pub record IsComposed (value : ℕ) (bytes : List ℕ) : Type 0 where
   pub below : value < 256 ^ length bytes
 
 module _ (events : List Event) (r : ℕ) (bytes : List SourcedByte) (place : ℕ) (d : SourcedByte) (within : place < length bytes) where
-  pub IsComposed-other : (value : ℕ) → (get_or bytes place d).read ≢ r → IsComposed value (stored events r (drop (place + 1) bytes)) → IsComposed value (stored events r (drop place bytes))
-  IsComposed-other value other c =
-      let e : stored events r (drop place bytes) ≡ stored events r (drop (place + 1) bytes) =
-      ap (stored events r) (drop_more bytes place d within) ∙ stored-cons_other events r (get_or bytes place d) (drop (place + 1) bytes) other in
-      subst (λ (xs : List ℕ). IsComposed value xs) (sym e) c
-
   pub IsComposed-more : (value byte : ℕ) → (get_or bytes place d).read ≡ r → byte ≡ payload_at (event_at events (get_or bytes place d).source) (get_or bytes place d).byte → byte < 256 → IsComposed value (stored events r (drop (place + 1) bytes)) → IsComposed (256 * value + byte) (stored events r (drop place bytes))
   IsComposed-more value byte same is small c =
       let rest = stored events r (drop (place + 1) bytes) in
@@ -172,10 +161,6 @@ fits_after events r bytes place d value size within same few four c =
     let power : 256 ^ length rest ≤ 256 ^ 3 = pow-le-pow_right {n = 256} (omega arith) three in
     let below : value < 256 ^ length rest = c.below in
     omega arith
-
-pub IsComposed-none : (events : List Event) (r : ℕ) (bytes : List SourcedByte) (n : ℕ) → length bytes ≤ n → IsComposed 0 (stored events r (drop n bytes))
-IsComposed-none events r bytes n h =
-    subst (λ (xs : List SourcedByte). IsComposed 0 (stored events r xs)) (sym (drop_all n bytes h)) (record { is = refl; below = omega arith })
 
 pub value_of-stored : (events : List Event) (r : ℕ) (bytes : List SourcedByte) → AreFirstReads events bytes → composed (stored events r bytes) ≡ value_of events (sources_of bytes) r
 value_of-stored events r bytes first =

@@ -1,21 +1,12 @@
 -- What accesses keep.
 use Rattle.std.proofs.Common.{◌≡◌, ℕ, ◌+◌, ◌≤◌, ◌==◌, Bool, true, false, List, ◌++◌, length, take, drop, refl, arith, length-append, length-drop}
 use Rattle.std.specs.Prelude.{IsTrue, if◌then◌else◌}
-use Rattle.std.proofs.lemmas.Bool.Decides.{nat_tests}
 use Rattle.std.proofs.lemmas.List.{length-take-le}
 use Rattle.lit_read.specs.Syntax.{Window, Uint8, Uint16, Uint32, DataView8, DataView16, DataView32, window_size, is_in_block, Statement, Load, Store, Exchange, CompareExchange, If, IsStatementIn}
 use Rattle.lit_paths.specs.Path.{first_byte, payload_of}
 use Rattle.lit_search.specs.Interleaving.{Contents, after_statement, number_in, with_number}
 use Rattle.lit_search.specs.Internal.Runners.{is_access}
-
--- an access lies in its block
-pub in_block : (bytes : ℕ) (window : Window) (index : ℕ) → IsTrue (is_in_block bytes window index) → first_byte window index + window_size window ≤ bytes
-in_block bytes Uint8 index h = grind (arith, nat_tests)
-in_block bytes Uint16 index h = grind (arith, nat_tests)
-in_block bytes Uint32 index h = grind (arith, nat_tests)
-in_block bytes DataView8 index h = grind (arith, nat_tests)
-in_block bytes DataView16 index h = grind (arith, nat_tests)
-in_block bytes DataView32 index h = grind (arith, nat_tests)
+use Rattle.lit_paths.proofs.EventFacts.{window-in_block}
 
 pub few_bytes : (window : Window) → window_size window ≤ 4
 few_bytes Uint8 = omega arith
@@ -32,11 +23,11 @@ number_keeps block window index value h =
     let size = window_size window in
     omega (
       arith,
-      in_block (length block) window index h,
+      window-in_block (length block) index window h,
       few_bytes window,
       length-append (take first block) (take size (payload_of value) ++ drop (first + size) block),
       length-append (take size (payload_of value)) (drop (first + size) block),
-      length-take-le first block (omega (arith, in_block (length block) window index h)),
+      length-take-le first block (omega (arith, window-in_block (length block) index window h)),
       length-take-le size (payload_of value) (few_bytes window),
       length-drop (first + size) block,
     )

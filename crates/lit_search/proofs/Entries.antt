@@ -11,6 +11,7 @@ use Rattle.std.specs.declared.cmp.Ordering.{Ordering}
 use Rattle.std.specs.declared.cmp.Ordering.TheVariants.{Less, Equal, Greater}
 use Rattle.std.proofs.Common.{rules}
 use Rattle.lit_search.specs.Report.{Entry, example_cmp, outcome_cmp}
+use Rattle.lit_read.proofs.ListLemmas.{all_weaker}
 
 -- entries with rising outcomes
 abbrev pub AreRising : List Entry → Type 0
@@ -95,13 +96,9 @@ pub all_from_each : (P : Entry → Type 0) (xs : List Entry) → ((y : Entry) �
 all_from_each P [] each = tt
 all_from_each P (x ∷ xs) each = (each x (first_stands x xs), all_from_each P xs (λ y s. each y (later_stands x y xs s)))
 
-pub all_map : (P Q : Entry → Type 0) (xs : List Entry) → ((y : Entry) → P y → Q y) → AllByRecursion P xs → AllByRecursion Q xs
-all_map P Q [] f h = tt
-all_map P Q (x ∷ xs) f h = (f x h.0, all_map P Q xs f h.1)
-
 -- what is below the first is below all
 pub below_rising : (e x : Entry) (xs : List Entry) → outcome_cmp e x ≡ Less → AllByRecursion (λ y. outcome_cmp x y ≡ Less) xs → AllByRecursion (λ y. outcome_cmp e y ≡ Less) xs
-below_rising e x xs lt h = all_map _ _ xs (λ y k. nat_list_cmp_total.trans e.outcome x.outcome y.outcome lt k) h
+below_rising e x xs lt h = all_weaker _ _ (λ y k. nat_list_cmp_total.trans e.outcome x.outcome y.outcome lt k) xs h
 
 -- ---- rising lists
 -- an outcome stands once

@@ -38,8 +38,8 @@ use Rattle.lit_search.specs.StandsFor.{IsOn, IsUsed, MakesNoDifference, StandsFo
 use Rattle.lit_search.specs.ValidExecution.{IsValidExecution}
 use Rattle.lit_search.specs.Internal.Held.{part_outcome, read_held, value_held}
 use Rattle.lit_search.specs.Internal.Laws.{Laws}
+use Rattle.lit_paths.proofs.EventLists.{length-init_events}
 use Rattle.lit_search.proofs.CompletionLemmas.{carried, example, example_completes, example_paths, its_events, its_outcome, not_broken}
-use Rattle.lit_search.proofs.HeldLemmas.{length-init_events}
 use Rattle.lit_search.proofs.PassingLemmas.{AreNamed}
 use Rattle.lit_search.proofs.RunLemmas.{maps}
 use Rattle.lit_search.proofs.WantingLemmas.{same_maps}

@@ -12,13 +12,14 @@ use Rattle.lit_paths.specs.Event.{does_read}
 use Rattle.lit_paths.specs.Path.{Step, IsWalk, events_on}
 use Rattle.lit_paths.specs.Run.{AgreesWith, compares}
 use Rattle.lit_paths.proofs.NameSteps.{range_more}
+use Rattle.lit_paths.proofs.PathSteps.{length-slice_set}
 use Rattle.lit_search.specs.Interleaving.{Contents, Moment, Progress, access_or, accessed, after, after_each, after_end, after_statement, after_turn, beginning, ending, found_by, from_access, from_access_in, left_behind, progress_of}
 use Rattle.lit_search.specs.InTurn.{accesses, made_at_end, made_by_each, made_in_turn, makers_of, next_maker}
 use Rattle.lit_search.specs.Internal.Runners.{is_access}
 use Rattle.lit_search.proofs.ActLemmas.{act_agrees, act_block, act_events, act_found, act_owner, act_walked, after_event, event_made, found_before, found_in_turn, is_owned_by, same_agent, step_made}
 use Rattle.lit_search.proofs.CourseLemmas.{agrees_behind, events_behind, lead}
 use Rattle.lit_search.proofs.MakerLemmas.{accesses_from, one_access}
-use Rattle.lit_search.proofs.MomentLemmas.{after_each-more, at_first, length_put}
+use Rattle.lit_search.proofs.MomentLemmas.{after_each-more, at_first}
 use Rattle.lit_search.proofs.NextAccess.{after_from, after_next, size_less, size_of}
 
 -- the events of an agent
@@ -270,7 +271,7 @@ end_future (suc n) m end makers agent inside few later = by (from_access p.regis
         let next = left_behind m agent more c in
         let access : is_access s ≡ true = subst BeginsWithAccess is begins in
         let now = own_progress m agent more c inside in
-        let long : agent < length next.agents = omega (arith, inside, length_put m.agents agent (record { left = more; registers = c.registers })) in
+        let long : agent < length next.agents = omega (arith, inside, length-slice_set m.agents agent (record { left = more; registers = c.registers })) in
         let one_more : accesses p.left (found_by m agent) ≡ suc (accesses (progress_of next agent).left (found_by next agent)) =
         sym (accesses_from p.left (found_by m agent)) ∙ ap (λ (ss : Statements). accesses ss (found_by m agent)) is
         ∙ one_access s more (found_by m agent) access
@@ -294,12 +295,12 @@ each_future step made keeps_all one (a ∷ agents) m end makers known later =
 
 pub turns_future : (agents : List ℕ) (m end : Moment) (makers : List ℕ) → All (λ agent. agent < length m.agents) agents → HasFuture (after_each after_turn m agents) end makers
     → HasFuture m end (made_by_each after_turn made_in_turn m agents ++ makers)
-turns_future = each_future after_turn made_in_turn (λ m agent. length_put m.agents agent _) turn_future
+turns_future = each_future after_turn made_in_turn (λ m agent. length-slice_set m.agents agent _) turn_future
 
 pub ends_future : (agents : List ℕ) (m end : Moment) (makers : List ℕ) → All (λ agent. agent < length m.agents) agents → HasFuture (after_each after_end m agents) end makers
     → HasFuture m end (made_by_each after_end made_at_end m agents ++ makers)
 ends_future =
-    each_future after_end made_at_end (λ m agent. length_put m.agents agent _) (λ m end makers agent inside later. end_future (size_of (progress_of m agent).left + 1) m end makers agent inside (omega arith) later)
+    each_future after_end made_at_end (λ m agent. length-slice_set m.agents agent _) (λ m end makers agent inside later. end_future (size_of (progress_of m agent).left + 1) m end makers agent inside (omega arith) later)
 
 -- ---- the end, where no agent has anything left
 pub no_future : (m : Moment) → ((agent : ℕ) → (progress_of m agent).left ≡ End) → HasFuture m m []
@@ -319,11 +320,11 @@ no_future m none places = record {
 -- ---- a whole interleaving
 kept_all : (m : Moment) (agents : List ℕ) → length (after_each after_end m agents).agents ≡ length m.agents
 kept_all m [] = refl
-kept_all m (a ∷ agents) = kept_all (after_end m a) agents ∙ length_put m.agents a _
+kept_all m (a ∷ agents) = kept_all (after_end m a) agents ∙ length-slice_set m.agents a _
 
 kept_turns : (m : Moment) (agents : List ℕ) → length (after_each after_turn m agents).agents ≡ length m.agents
 kept_turns m [] = refl
-kept_turns m (a ∷ agents) = kept_turns (after_turn m a) agents ∙ length_put m.agents a _
+kept_turns m (a ∷ agents) = kept_turns (after_turn m a) agents ∙ length-slice_set m.agents a _
 
 pub ending_agents : (t : Litmus) (schedule : List ℕ) → length (ending t schedule).agents ≡ length t.agents
 ending_agents t schedule = kept_all (after_each after_turn (beginning t) schedule) (range_with_len 0 (length t.agents)) ∙ kept_turns (beginning t) schedule ∙ length-map t.agents at_first

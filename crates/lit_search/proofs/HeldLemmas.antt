@@ -3,15 +3,13 @@ use Rattle.std.proofs.Common.{◌≡◌, ◌≢◌, ℕ, zero, suc, ◌+◌, ◌
 use Rattle.std.specs.Prelude.{IsTrue, slice_get, slice_index, slice_index_or}
 use Rattle.std.specs.List.{list_all, range_with_len}
 use Rattle.std.proofs.lemmas.Bool.Decides.{nat_tests}
-use Rattle.std.proofs.lemmas.List.{length-map}
 use Rattle.std.proofs.lemmas.List.Folds.{list_all_at}
-use Rattle.std.proofs.lemmas.List.FromFn.{length-range_with_len}
 use Rattle.std.proofs.lemmas.Option.{slice_get_within, get_or_from_slice_get}
 use Rattle.lit_read.specs.declared.limits.TheConstants.{REGISTERS}
 use Rattle.lit_read.specs.Syntax.{Litmus, Window, agent_of}
 use Rattle.lit_paths.specs.declared.event.Event.{Event}
 use Rattle.lit_paths.specs.declared.path.Tested.{Tested}
-use Rattle.lit_paths.specs.Event.{does_read, event_at, init_event, init_events}
+use Rattle.lit_paths.specs.Event.{does_read, event_at}
 use Rattle.lit_paths.specs.Path.{Path, Step, LoadMet, StoreMet, ExchangeMet, CompareExchangeMet, IfMet, events_on, path_on, compare_exchange_event}
 use Rattle.lit_paths.specs.PathModel.{IsReadAt, last_read, tests_on}
 use Rattle.lit_paths.specs.Plan.{IsWalkIn, combination_at, events_in, first_event, path_in, walk_in}
@@ -22,9 +20,6 @@ use Rattle.lit_rel.specs.ReadsFrom.{value_of}
 use Rattle.lit_search.specs.ValidExecution.{read_numbers_from}
 use Rattle.lit_search.specs.Internal.GivenRuns.{HasGivenRun, IsGivenRun, path_at, taken_by}
 use Rattle.lit_search.specs.Internal.Held.{read_held, value_held}
-
-pub length-init_events : (bytes : ℕ) → length (init_events bytes) ≡ bytes
-length-init_events bytes = length-map (range_with_len 0 bytes) init_event ∙ length-range_with_len 0 bytes
 
 -- each read takes one value
 pub length-taken : (value : ℕ → ℕ) (n : ℕ) (es : List Event) → length (map value (read_numbers_from n es)) ≡ length (read_places es)

@@ -3,7 +3,6 @@ use Rattle.std.proofs.Common.{◌≡◌, ℕ, ◌+◌, ◌*◌, ◌-◌, ◌<◌
 use Rattle.std.specs.Prelude.{slice_get, slice_index}
 use Rattle.std.proofs.lemmas.List.{length-take-le, take_all, take_more}
 use Rattle.lit_read.specs.Syntax.{Litmus}
-use Rattle.lit_paths.specs.ByteReads.{byte_reads}
 use Rattle.lit_paths.specs.Numbers.{NumbersChoices, ways_from}
 use Rattle.lit_paths.specs.Plan.{events_in}
 use Rattle.lit_rel.specs.Part.{part_events}
@@ -11,7 +10,7 @@ use Rattle.lit_search.specs.declared.cursor.Cursor.TheInside.{Inside}
 use Rattle.lit_search.specs.Internal.Places.{Stand, candidates_at, low_at, part_at, sources_at, with_places}
 use Rattle.lit_search.specs.Internal.Standing.{IsStanding}
 use Rattle.lit_search.proofs.PlaceLemmas.{length-sources, sources_more}
-use Rattle.lit_search.proofs.StandLemmas.{candidates_here, its_end, known_up, left_up, low_up, reads_here, stand_of, ways_here}
+use Rattle.lit_search.proofs.StandLemmas.{candidates_here, its_end, known_up, low_up, stand_of, ways_here}
 
 split_last : (ws : List ℕ) → 0 < length ws → ws ≡ take (length ws - 1) ws ++ get_or ws (length ws - 1) 0 ∷ []
 split_last ws some =
@@ -45,9 +44,6 @@ module _ (x : Inside) (is : IsStanding x) (s : Stand) (view : stand_of x ≡ s) 
 
   -- by what the combination says of itself
   module _ (entered : Litmus × ℕ) (same : entered ≡ (x.part.test, x.part.combination)) (last : ℕ) (last_is : last ≡ length items - 1) where
-    pub last_inside : last < length (byte_reads (events_in entered.0 entered.1))
-    last_inside = reads_here x entered same last (omega (arith, left_up x is front place split, front_long, last_is))
-
     pub last_known : (list : List ℕ) → list ≡ candidates_at (events_in entered.0 entered.1) last → place < length list
     last_known list listed =
         let here = candidates_here x entered same last list listed ∙ ap (candidates_at (part_events x.part)) (last_is ∙ sym front_long) in

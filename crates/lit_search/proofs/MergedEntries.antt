@@ -181,7 +181,7 @@ pub IsMerge-merged : (a b c : Report) → AreRising a.entries → AreRising b.en
 IsMerge-merged a b c up vp is race = record { entries = AreMerged-merged a.entries b.entries c.entries up vp is; race = race }
 
 -- ---- one entry after the other
-merged-none : (xs : List Entry) → merged xs [] ≡ xs
+pub merged-none : (xs : List Entry) → merged xs [] ≡ xs
 merged-none [] = refl
 merged-none (x ∷ xs) = refl
 

@@ -6,6 +6,7 @@ use Rattle.lit_read.specs.declared.limits.TheConstants.{REGISTERS}
 use Rattle.lit_read.specs.Syntax.{Agent, Litmus, IsLitmus, Statement, Statements, Load, Store, Exchange, CompareExchange, If, End, Then, IsStatementIn, AreStatementsIn}
 use Rattle.lit_paths.specs.Run.{compares}
 use Rattle.lit_search.specs.Interleaving.{Contents, Moment, Progress, accessed, after, after_each, after_end, after_statement, after_turn, beginning, found_by, from_access, left_behind, progress_of}
+use Rattle.lit_paths.proofs.PathSteps.{length-slice_set}
 use Rattle.lit_search.proofs.AccessLemmas.{access_keeps}
 use Rattle.lit_search.proofs.NextAccess.{said_from}
 
@@ -49,15 +50,10 @@ put_one P (q ∷ ps) zero p d all it (suc k) = all (suc k)
 put_one P (q ∷ ps) (suc i) p d all it zero = all zero
 put_one P (q ∷ ps) (suc i) p d all it (suc k) = put_one P ps i p d (λ j. all (suc j)) it k
 
-pub length_put : (ps : List Progress) (i : ℕ) (p : Progress) → length (slice_set ps i p) ≡ length ps
-length_put [] i p = refl
-length_put (q ∷ ps) zero p = refl
-length_put (q ∷ ps) (suc i) p = ap suc (length_put ps i p)
-
 sound_behind : (t : Litmus) (m : Moment) (agent : ℕ) (left : Statements) (c : Contents) → IsSound t m → AreStatementsIn t.bytes left → length c.block ≡ t.bytes → IsSound t (left_behind m agent left c)
 sound_behind t m agent left c s said long = record {
   long = long;
-  one_each = length_put m.agents agent (record { left = left; registers = c.registers }) ∙ s.one_each;
+  one_each = length-slice_set m.agents agent (record { left = left; registers = c.registers }) ∙ s.one_each;
   said = put_one (λ (p : Progress). AreStatementsIn t.bytes p.left) m.agents agent (record { left = left; registers = c.registers }) (record { left = End; registers = [] }) s.said said;
 }
 

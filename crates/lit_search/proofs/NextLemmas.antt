@@ -1,5 +1,5 @@
 -- What is passed over while a cursor goes on.
-use Rattle.std.proofs.Common.{◌≡◌, ◌⊎◌, inl, inr, ℕ, zero, suc, ◌+◌, ◌*◌, ◌-◌, ◌<◌, ◌≤◌, Bool, List, [], ◌∷◌, ◌++◌, length, map, get_or, Some, sym, ap, subst, ◌∙◌, arith, length-append}
+use Rattle.std.proofs.Common.{◌≡◌, ◌⊎◌, inl, inr, ℕ, ◌+◌, ◌*◌, ◌-◌, ◌<◌, ◌≤◌, Bool, List, [], ◌∷◌, ◌++◌, length, map, get_or, Some, sym, ap, subst, ◌∙◌, arith, length-append}
 use Rattle.std.specs.Prelude.{IsTrue, slice_get}
 use Rattle.std.proofs.lemmas.Bool.{cases_lt}
 use Rattle.std.proofs.lemmas.List.{length-map}
@@ -14,6 +14,7 @@ use Rattle.lit_search.specs.Internal.Places.{Stand, behind_at, low_at, part_at, 
 use Rattle.lit_rel.specs.Part.{PartModel}
 use Rattle.lit_search.specs.Internal.Shown.{NoneShow}
 use Rattle.lit_search.specs.Internal.Wanting.{AllKnownAfter}
+use Rattle.lit_rel.proofs.SettledLemmas.{read_there}
 use Rattle.lit_search.proofs.PlaceLemmas.{passed_more, product_le}
 use Rattle.lit_search.proofs.NumberSets.{before_end, not_below, within}
 
@@ -34,10 +35,6 @@ pub none_at_first : (t : Litmus) (Wanted : List ℕ → Type 0) (from low : ℕ)
 none_at_first t Wanted from low le n inside = absurd (omega (arith, not_below from low n inside, before_end from low n inside, le))
 
 -- ---- what is known after some byte reads
-pair_at : (reads : List ByteRead) (i r b : ℕ) (d : ByteRead) → slice_get (map pair_of reads) i ≡ Some (r, b) → (get_or reads i d).read ≡ r
-pair_at [] i r b d at = absurd (let e = at in cc)
-pair_at (x ∷ xs) zero r b d at = let e : (x.read, x.byte) ≡ (r, b) = cc in ap (λ (p : ℕ × ℕ). p.0) e
-pair_at (x ∷ xs) (suc i) r b d at = pair_at xs i r b d at
 
 pub known_first : (reads : List ByteRead) (pairs : List (ℕ × ℕ)) (i r b : ℕ) → map pair_of reads ≡ pairs → slice_get pairs i ≡ Some (r, b) → i < length reads
 known_first reads pairs i r b is at = omega (arith, slice_get_within pairs i (r, b) at, ap (λ (ps : List (ℕ × ℕ)). length ps) is, length-map reads pair_of)
@@ -48,7 +45,7 @@ known_less reads pairs i r b depth d is at less other =
     let decided : (i < depth - 1) ⊎ (depth - 1 ≤ i) = cases_lt i (depth - 1) in
     elim decided [
       | inl below ↦ below
-      | inr above ↦ absurd (other (ap (λ (k : ℕ). (get_or reads k d).read) (let e : depth - 1 ≡ i = omega (arith, less, above) in e) ∙ pair_at reads i r b d (ap (λ (ps : List (ℕ × ℕ)). slice_get ps i) is ∙ at)))
+      | inr above ↦ absurd (other (ap (λ (k : ℕ). (get_or reads k d).read) (let e : depth - 1 ≡ i = omega (arith, less, above) in e) ∙ read_there reads i r b d (ap (λ (ps : List (ℕ × ℕ)). slice_get ps i) is ∙ at)))
     ]
 
 -- one register more

@@ -11,9 +11,9 @@ use Rattle.std.proofs.lemmas.Option.{get_or_from_slice_get, none-some, slice_get
 use Rattle.lit_paths.specs.declared.event.Event.{Event}
 use Rattle.lit_paths.specs.Choice.{events_of}
 use Rattle.lit_paths.specs.Event.{event_at, init_event, init_events, no_event}
+use Rattle.lit_paths.proofs.EventLists.{length-init_events}
 use Rattle.lit_search.proofs.ActLemmas.{is_owned_by, same_agent}
 use Rattle.lit_search.proofs.FutureLemmas.{own_events}
-use Rattle.lit_search.proofs.HeldLemmas.{length-init_events}
 use Rattle.lit_search.proofs.OwnAccesses.{AreAccessesOf, IsAccessOf, access_at}
 use Rattle.lit_search.proofs.TimeLemmas.{IsAct, IsTimeline}
 

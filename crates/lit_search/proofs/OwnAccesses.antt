@@ -5,8 +5,10 @@ use Rattle.std.proofs.lemmas.Option.{none-some}
 use Rattle.lit_read.specs.Syntax.{Window, is_in_block, Statement, Statements, Load, Store, Exchange, CompareExchange, If, End, Then, IsStatementIn, AreStatementsIn}
 use Rattle.lit_paths.specs.declared.event.Event.{Event}
 use Rattle.lit_paths.specs.declared.event.Order3.TheVariants.{Init}
-use Rattle.lit_paths.specs.Path.{Step, IsStatementWalk, IsWalk, compare_exchange_event, events_on, modify_event, order_of, read_event, write_event}
-use Rattle.lit_search.proofs.AccessLemmas.{few_bytes, in_block}
+use Rattle.lit_paths.specs.Path.{Step, IsStatementWalk, IsWalk, compare_exchange_event, events_on, modify_event, read_event, write_event}
+use Rattle.lit_paths.proofs.EventFacts.{window-in_block}
+use Rattle.lit_paths.proofs.Placed.{order-other}
+use Rattle.lit_search.proofs.AccessLemmas.{few_bytes}
 
 -- an access of an agent, at a place in its own order
 pub record IsAccessOf (bytes owner place : ℕ) (e : Event) : Type 0 where
@@ -30,18 +32,15 @@ access_at bytes owner place (x ∷ es) (suc k) e are at =
     subst (λ (p : ℕ). IsAccessOf bytes owner p e) (let s : (place + 1) + k ≡ place + suc k = omega arith in s) (access_at bytes owner (place + 1) es k e are.1 at)
 
 -- ---- one access
-no_init : (atomic : Bool) → order_of atomic ≢ Init
-no_init true = λ e. cc
-no_init false = λ e. cc
 
 read_is : (bytes owner place : ℕ) (window : Window) (index : ℕ) (atomic : Bool) → IsTrue (is_in_block bytes window index) → IsAccessOf bytes owner place (read_event owner place window index atomic)
-read_is bytes owner place window index atomic h = record { owned = refl; placed = refl; accessed = no_init atomic; in_block = in_block bytes window index h; stored = few_bytes window }
+read_is bytes owner place window index atomic h = record { owned = refl; placed = refl; accessed = order-other atomic; in_block = window-in_block bytes index window h; stored = few_bytes window }
 
 write_is : (bytes owner place : ℕ) (window : Window) (index value : ℕ) (atomic : Bool) → IsTrue (is_in_block bytes window index) → IsAccessOf bytes owner place (write_event owner place window index value atomic)
-write_is bytes owner place window index value atomic h = record { owned = refl; placed = refl; accessed = no_init atomic; in_block = in_block bytes window index h; stored = few_bytes window }
+write_is bytes owner place window index value atomic h = record { owned = refl; placed = refl; accessed = order-other atomic; in_block = window-in_block bytes index window h; stored = few_bytes window }
 
 modify_is : (bytes owner place : ℕ) (window : Window) (index value : ℕ) → IsTrue (is_in_block bytes window index) → IsAccessOf bytes owner place (modify_event owner place window index value)
-modify_is bytes owner place window index value h = record { owned = refl; placed = refl; accessed = no_init true; in_block = in_block bytes window index h; stored = few_bytes window }
+modify_is bytes owner place window index value h = record { owned = refl; placed = refl; accessed = order-other true; in_block = window-in_block bytes index window h; stored = few_bytes window }
 
 exchange_is : (bytes owner place : ℕ) (window : Window) (index value : ℕ) (succeeds : Bool) → IsTrue (is_in_block bytes window index) → IsAccessOf bytes owner place (compare_exchange_event owner place window index value succeeds)
 exchange_is bytes owner place window index value true h = modify_is bytes owner place window index value h

@@ -1,7 +1,8 @@
 -- Choices that may be passed over, and what the choice of a complete part shows.
 use Rattle.std.proofs.Common.{◌≡◌, ℕ, zero, suc, ◌+◌, ◌<◌, ◌≤◌, ◌↔◌, Bool, Option, Some, None, List, [], ◌∷◌, ◌++◌, length, map, take, refl, sym, ap, subst, ◌∙◌, arith, append-nil, length-append}
 use Rattle.std.specs.Prelude.{All, IsTrue, slice_get, slice_index}
-use Rattle.std.proofs.lemmas.List.{length-take-le, take_all}
+use Rattle.std.proofs.lemmas.List.{length-take-le, take_all, nil_from_length}
+use Rattle.std.proofs.lemmas.Option.{same_Some}
 use Rattle.lit_read.specs.declared.limits.TheConstants.{REGISTERS}
 use Rattle.lit_read.specs.Syntax.{Litmus}
 use Rattle.lit_paths.specs.declared.event.Event.{Event}
@@ -34,20 +35,13 @@ use Rattle.lit_order.proofs.SameOrders.{order_back}
 use Rattle.lit_search.proofs.PlaceLemmas.{length-sources, numbered, passed_within, placed_take, ways_end, within}
 use Rattle.lit_search.proofs.RunLemmas.{maps}
 
-choice_is : (a b : Choice) → Some a ≡ Some b → a ≡ b
-choice_is a b e = cc
-
 -- the registers of an outcome are registers of agents
 abbrev pub AreNamed : Litmus → Type 0
 AreNamed t = All (λ name. (name.0 < length t.agents) × (name.1 < REGISTERS)) (names_of t)
 
 -- lists of which one begins with the other, as long as it
 pub no_rest : (ws vs rest : List ℕ) → ws ≡ vs ++ rest → length ws ≡ length vs → ws ≡ vs
-no_rest ws vs rest is long = is ∙ ap (λ (rs : List ℕ). vs ++ rs) (none rest (omega (arith, long, ap (λ (us : List ℕ). length us) is, length-append vs rest))) ∙ append-nil vs
-  where
-    none : (rs : List ℕ) → length rs ≡ 0 → rs ≡ []
-    none [] e = refl
-    none (r ∷ rs) e = absurd (omega (arith, e))
+no_rest ws vs rest is long = is ∙ ap (λ (rs : List ℕ). vs ++ rs) (nil_from_length rest (omega (arith, long, ap (λ (us : List ℕ). length us) is, length-append vs rest))) ∙ append-nil vs
 
 -- ---- the choices that begin with a stand's sources
 module _ (laws : Laws) (s : Stand) (entered : IsEntered (part_at s)) (placed : ArePlaces (stand_events s) 0 s.places) (few : length s.places ≤ length (byte_reads (stand_events s))) where
@@ -64,7 +58,7 @@ module _ (laws : Laws) (s : Stand) (entered : IsEntered (part_at s)) (placed : A
   pub completed : (n : ℕ) → low_at s ≤ n → n < behind_at s → (x : Execution) → IsValidExecution s.test x → slice_get (choices_of s.test) n ≡ Some (execution_choice x) → Completes (part_at s) x
   completed n low high x valid chosen =
       let begun : IsBegunBy s.test s.combination (sources_at (stand_events s) 0 s.places) n = (at_numbers n).1 (low, high) in
-      let same : execution_choice x ≡ begun.choice = choice_is (execution_choice x) begun.choice (sym chosen ∙ begun.listed) in
+      let same : execution_choice x ≡ begun.choice = same_Some (execution_choice x) begun.choice (sym chosen ∙ begun.listed) in
       record {
         valid = valid;
         on_paths = (its_choice n low high).on_paths x valid.candidate chosen;
@@ -193,7 +187,7 @@ module _ (laws : Laws) (s : Stand) (entered : IsEntered (part_at s)) (placed : A
   of = its_choice laws s entered placed few low (omega arith) (omega (arith, one))
 
   same_choice : of.choice ≡ begun.choice
-  same_choice = choice_is of.choice begun.choice (sym of.listed ∙ begun.listed)
+  same_choice = same_Some of.choice begun.choice (sym of.listed ∙ begun.listed)
 
   its_sources : begun.choice.sources ≡ part.sources
   its_sources =

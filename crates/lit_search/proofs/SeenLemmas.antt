@@ -12,6 +12,7 @@ use Rattle.lit_search.specs.Internal.Merged.{lesser, merged, merged_from}
 use Rattle.lit_search.specs.Internal.Outcomes.{HasOutcome}
 use Rattle.lit_search.specs.Internal.Shown.{IsNext, NoneShow, ShowsNone}
 use Rattle.lit_search.proofs.NumberSets.{before_end, not_below, within}
+use Rattle.lit_search.proofs.MergedEntries.{merged-none}
 
 -- one of these entries has the outcome
 abbrev Has : List Entry → List ℕ → Type 0
@@ -40,10 +41,6 @@ has_merged [] e outcome (inl o) = absurd (let x = o.is in cc)
 has_merged [] e outcome (inr same) = has_first e [] outcome same
 has_merged (x ∷ xs) e outcome some = by (outcome_cmp x e) refl some (has_merged xs e outcome)
   where
-    ended : (ys : List Entry) → merged ys [] ≡ ys
-    ended [] = refl
-    ended (y ∷ ys) = refl
-
     by : (o : Ordering) → outcome_cmp x e ≡ o → Has (x ∷ xs) outcome ⊎ (e.outcome ≡ outcome) → (Has xs outcome ⊎ (e.outcome ≡ outcome) → Has (merged xs (e ∷ [])) outcome)
         → Has (match_ordering o (x ∷ merged xs (e ∷ [])) (lesser x e ∷ merged xs []) (e ∷ merged_from x xs (merged xs) [])) outcome
     by Less is (inl o) rest = elim (has_split x xs outcome o) [ inl same ↦ has_first x _ outcome same | inr later ↦ has_later x _ outcome (rest (inl later)) ]
@@ -52,7 +49,7 @@ has_merged (x ∷ xs) e outcome some = by (outcome_cmp x e) refl some (has_merge
         let equal : x.outcome ≡ e.outcome = exact_bytes x.outcome e.outcome is in
         elim (has_split x xs outcome o) [
           | inl same ↦ has_first (lesser x e) (merged xs []) outcome (lesser_outcome x e outcome same (sym equal ∙ same))
-          | inr later ↦ has_later (lesser x e) (merged xs []) outcome (subst (λ (ys : List Entry). Has ys outcome) (sym (ended xs)) later)
+          | inr later ↦ has_later (lesser x e) (merged xs []) outcome (subst (λ (ys : List Entry). Has ys outcome) (sym (merged-none xs)) later)
         ]
     by Equal is (inr same) rest = has_first (lesser x e) (merged xs []) outcome (lesser_outcome x e outcome (exact_bytes x.outcome e.outcome is ∙ same) same)
     by Greater is (inl o) rest = has_later e (x ∷ xs) outcome o

@@ -3,11 +3,12 @@ use Rattle.std.proofs.Common.{◌≡◌, ℕ, zero, suc, Bool, true, false, cond
 use Rattle.std.specs.Prelude.{filter, slice_get, slice_index}
 use Rattle.std.specs.List.{enumerate_from}
 use Rattle.std.proofs.lemmas.Option.{slice_get-get_or}
+use Rattle.std.proofs.lemmas.List.{length_push}
 use Rattle.lit_read.specs.Syntax.{Litmus}
 use Rattle.lit_paths.specs.declared.event.Event.{Event}
 use Rattle.lit_paths.specs.declared.limits.TheConstants.{CHOICE_LIMIT}
 use Rattle.lit_paths.specs.ByteReads.{byte_reads, byte_read_at}
-use Rattle.lit_paths.specs.Choice.{combinations_of, is_candidate}
+use Rattle.lit_paths.specs.Choice.{is_candidate}
 use Rattle.lit_paths.specs.Numbers.{NumbersChoices, ways_from}
 use Rattle.lit_paths.specs.Plan.{AreEventsIn, ListsCandidates, choices_before, events_in}
 use Rattle.lit_rel.specs.Part.{IsNextSource, PartModel, part_events, with_sources}
@@ -16,14 +17,6 @@ use Rattle.lit_search.specs.Completion.{IsEntered}
 use Rattle.lit_search.specs.Internal.Places.{ArePlaces, Stand, behind_at, candidates_at, low_at, part_at, passed_at, sources_at, stand_events, with_places}
 use Rattle.lit_search.specs.Internal.Standing.{IsStanding}
 use Rattle.lit_search.proofs.PlaceLemmas.{length-sources, passed_more, placed_front, placed_last, placed_more, sources_more, ways_end, ways_split, within}
-
--- a law on numbers
-abbrev pub AllNumbered : Type 0
-AllNumbered = (t : Litmus) (c : ℕ) → c < length (combinations_of t) → NumbersChoices t c
-
-no_place : (ps : List ℕ) → length ps ≡ 0 → ps ≡ []
-no_place [] none = refl
-no_place (p ∷ ps) none = absurd (omega (arith, none))
 
 -- a byte read has no more candidates than there are events
 few_filtered : (p : ℕ × Event → Bool) (n : ℕ) (es : List Event) → length (map (λ e. e.0) (filter p (enumerate_from n es))) ≤ length es
@@ -38,13 +31,11 @@ few_filtered p n (e ∷ es) = by (p (n, e)) (few_filtered p (n + 1) es)
 pub few_candidates : (events : List Event) (k : ℕ) → length (candidates_at events k) ≤ length events
 few_candidates events k = few_filtered (is_candidate (byte_read_at events k).0 (byte_read_at events k).1) 0 events
 
--- without a source, it has all choices of its combination
-pub behind_none : (t : Litmus) (c : ℕ) (ps : List ℕ) → NumbersChoices t c → length ps ≡ 0
-    → behind_at (record { test = t; combination = c; places = ps }) ≡ choices_before t (c + 1)
-behind_none t c ps numbers none =
-    ap (λ (qs : List ℕ). behind_at (record { test = t; combination = c; places = qs })) (no_place ps none) ∙ omega (arith, numbers.behind)
-
 -- ---- the next one behind its choices
+once_more : (a w : ℕ) → (a + 1) * w ≡ a * w + w
+once_more zero w = omega arith
+once_more (suc a) w = omega (arith, once_more a w)
+
 module _ (t : Litmus) (c : ℕ) (ps : List ℕ) (p : ℕ) where
   abbrev events : List Event
   events = events_in t c
@@ -53,7 +44,7 @@ module _ (t : Litmus) (c : ℕ) (ps : List ℕ) (p : ℕ) where
   at places = record { test = t; combination = c; places = places }
 
   long : length (ps ++ p ∷ []) ≡ length ps + 1
-  long = omega (arith, length-append ps (p ∷ []))
+  long = length_push ps p
 
   last_ways : ways_from events (length (ps ++ p ∷ [])) ≡ ways_from events (length ps + 1)
   last_ways = ap (ways_from events) long
@@ -63,12 +54,8 @@ module _ (t : Litmus) (c : ℕ) (ps : List ℕ) (p : ℕ) where
 
   pub low_next : low_at (at (ps ++ (p + 1) ∷ [])) ≡ behind_at (at (ps ++ p ∷ []))
   low_next =
-      let split : (p + 1) * ways_from events (length ps + 1) ≡ p * ways_from events (length ps + 1) + ways_from events (length ps + 1) = product p (ways_from events (length ps + 1)) in
+      let split : (p + 1) * ways_from events (length ps + 1) ≡ p * ways_from events (length ps + 1) + ways_from events (length ps + 1) = once_more p (ways_from events (length ps + 1)) in
       omega (arith, low_more (p + 1), low_more p, last_ways, split)
-    where
-      product : (a w : ℕ) → (a + 1) * w ≡ a * w + w
-      product zero w = omega arith
-      product (suc a) w = omega (arith, product a w)
 
   pub behind_last : length ps < length (byte_reads events) → p < length (candidates_at events (length ps)) → ¬ (p + 1 < length (candidates_at events (length ps)))
       → behind_at (at ps) ≡ behind_at (at (ps ++ p ∷ []))
@@ -76,11 +63,7 @@ module _ (t : Litmus) (c : ℕ) (ps : List ℕ) (p : ℕ) where
       let count : length (candidates_at events (length ps)) ≡ p + 1 = omega (arith, known, none) in
       let split : ways_from events (length ps) ≡ (p + 1) * ways_from events (length ps + 1) =
       ways_split events (length ps) left ∙ ap (λ (n : ℕ). n * ways_from events (length ps + 1)) count in
-      omega (arith, split, product p (ways_from events (length ps + 1)), low_more p, last_ways)
-    where
-      product : (a w : ℕ) → (a + 1) * w ≡ a * w + w
-      product zero w = omega arith
-      product (suc a) w = omega (arith, product a w)
+      omega (arith, split, once_more p (ways_from events (length ps + 1)), low_more p, last_ways)
 
 -- ---- what a cursor keeps
 abbrev pub stand_of : Inside → Stand

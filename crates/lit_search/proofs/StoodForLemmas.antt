@@ -10,7 +10,7 @@ use Rattle.std.specs.declared.cmp.Ordering.TheVariants.{Less, Equal, Greater}
 use Rattle.std.proofs.lemmas.Bool.{cases_eq, cases_lt}
 use Rattle.std.proofs.lemmas.Cmp.{nat_list_cmp_total}
 use Rattle.std.proofs.lemmas.List.{length-map, length-take-le}
-use Rattle.std.proofs.lemmas.Option.{get_or_from_slice_get, none-some, same_Some, some_pair_parts}
+use Rattle.std.proofs.lemmas.Option.{get_or_from_slice_get, same_Some, some_pair_parts}
 use Rattle.lit_read.specs.Syntax.{Litmus}
 use Rattle.lit_paths.specs.declared.event.Event.{Event}
 use Rattle.lit_paths.specs.declared.event.Order3.TheVariants.{Unordered}
@@ -38,6 +38,7 @@ use Rattle.lit_search.specs.Internal.Passing.{MayPass, NoneFrom, first_places}
 use Rattle.lit_search.specs.Internal.Places.{ArePlaces, Stand, behind_at, candidates_at, low_at, part_at, sources_at, stand_events}
 use Rattle.lit_search.specs.Internal.Shown.{NoneShow, ShowsNone}
 use Rattle.lit_search.specs.Internal.StoodFor.{IsStoodFor}
+use Rattle.lit_rel.proofs.PlaceLemmas.{place-left}
 use Rattle.lit_search.proofs.ExchangeLemmas.{past_stays, same_list, same_lists, stand_in}
 use Rattle.lit_search.proofs.PassingLemmas.{at_numbers, completed, whole_stand}
 use Rattle.lit_search.proofs.PlaceLemmas.{length-sources, placed_take}
@@ -91,11 +92,6 @@ front_kept ws rest zero w few = (set (ws ++ rest) 0 w, refl)
 front_kept [] rest (suc k) w few = absurd (omega (arith, few))
 front_kept (v ∷ ws) rest (suc k) w few = let r = front_kept ws rest k w (omega (arith, few)) in (r.0, ap (λ (vs : List ℕ). v ∷ vs) r.1)
 
-place_left : (xs ys : List ℕ) (k x : ℕ) → slice_get xs k ≡ Some x → slice_get (xs ++ ys) k ≡ Some x
-place_left [] ys k x at = absurd (none-some x at)
-place_left (v ∷ xs) ys zero x at = at
-place_left (v ∷ xs) ys (suc k) x at = place_left xs ys k x at
-
 -- ---- the choices of a stand
 -- a choice with less than n, from a number on, that gives the outcome
 pub record GivesLess (t : Litmus) (since n : ℕ) (outcome : List ℕ) : Type 0 where
@@ -134,7 +130,7 @@ module _ (laws : Laws) (s : Stand) (entered : IsEntered (part_at s)) (placed : A
     no_difference = record {
       is_read = is.none.is_read;
       in_block = is.none.in_block;
-      source = subst (λ (ws : List ℕ). slice_get ws last ≡ Some is.source) (sym goes.begun) (place_left part.sources goes.rest last is.source is.none.source);
+      source = subst (λ (ws : List ℕ). slice_get ws last ≡ Some is.source) (sym goes.begun) (place-left part.sources goes.rest last is.source is.none.source);
       unordered = is.none.unordered;
       first = λ v writes has before. is.none.first v writes has ((past_stays laws part x is.read v goes is.past).0 before);
       stored = is.none.stored;

@@ -2,6 +2,7 @@
 use Rattle.std.proofs.Common.{◌≡◌, ℕ, suc, ◌==◌, ◌&&◌, ◌||◌, Bool, true, false, not, cond, zip, Some, List, [], ◌∷◌, map, refl, sym, ap, ap₂, subst, ◌∙◌, arith, eq-eqb}
 use Rattle.std.specs.Prelude.{IsTrue, slice_get}
 use Rattle.std.proofs.lemmas.Bool.Decides.{nat_tests}
+use Rattle.std.proofs.lemmas.Bool.{or_left, or_right}
 use Rattle.lit_read.specs.Syntax.{All, Also, Any, Condition, Conditions, Is, Litmus, NoMore, Not}
 use Rattle.lit_paths.specs.Outcome.{all_hold, any_holds, asks, holds, meets, names_of, some_asks, value_in}
 use Rattle.lit_search.specs.declared.class.Class.{Class}
@@ -19,12 +20,6 @@ pub goes_by_all : (t : Litmus) (Wanted : List ℕ → Type 0) → GoesBy t (λ n
 goes_by_all t Wanted a b same wanted = subst Wanted (same_maps (names_of t) (λ k name at. same k name at refl)) wanted
 
 -- ---- those that a condition looks at
-or_left : (a b : Bool) → a ≡ true → (a || b) ≡ true
-or_left a b h = ap (λ x. x || b) h
-
-or_right : (a b : Bool) → b ≡ true → (a || b) ≡ true
-or_right true b h = refl
-or_right false b h = h
 
 itself : (agent reg : ℕ) → ((agent == agent) && (reg == reg)) ≡ true
 itself agent reg = ap₂ (λ x y. x && y) (eq-eqb agent agent refl) (eq-eqb reg reg refl)
