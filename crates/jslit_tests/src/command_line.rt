@@ -1,7 +1,7 @@
 //! The program with words on its command line.
 
 use super::calls::answers;
-use super::independent_reads::INDEPENDENT_READS;
+use super::data::independent_reads::INDEPENDENT_READS;
 use super::workers::INDEPENDENT_READS_QUICK;
 use jslit::{Line, line, no_words};
 use std::alloc::AllocGlobal;
@@ -38,27 +38,42 @@ const VALUES_REFUSED: [(&str, &str, &str); 5] = [
     (
         "--workers",
         "0",
-        "error: invalid value '0' for '--workers <N>': 0 is not in 1..=16\n\nFor more information, try '--help'.\n",
+        "error: invalid value '0' for '--workers <N>': 0 is not in 1..=16
+
+For more information, try '--help'.
+",
     ),
     (
         "--workers",
         "17",
-        "error: invalid value '17' for '--workers <N>': 17 is not in 1..=16\n\nFor more information, try '--help'.\n",
+        "error: invalid value '17' for '--workers <N>': 17 is not in 1..=16
+
+For more information, try '--help'.
+",
     ),
     (
         "--workers",
         "two",
-        "error: invalid value 'two' for '--workers <N>': invalid digit found in string\n\nFor more information, try '--help'.\n",
+        "error: invalid value 'two' for '--workers <N>': invalid digit found in string
+
+For more information, try '--help'.
+",
     ),
     (
         "--cut",
         "0",
-        "error: invalid value '0' for '--cut <N>': 0 is not in 1..=281474976710656\n\nFor more information, try '--help'.\n",
+        "error: invalid value '0' for '--cut <N>': 0 is not in 1..=281474976710656
+
+For more information, try '--help'.
+",
     ),
     (
         "--cut",
         "281474976710657",
-        "error: invalid value '281474976710657' for '--cut <N>': 281474976710657 is not in 1..=281474976710656\n\nFor more information, try '--help'.\n",
+        "error: invalid value '281474976710657' for '--cut <N>': 281474976710657 is not in 1..=281474976710656
+
+For more information, try '--help'.
+",
     ),
 ];
 

@@ -3,9 +3,9 @@
 ghost use Rattle.std.specs.Prelude.{◌≤◌, length};
 
 use super::calls::prints;
-use super::paths::PATH_REPORTS;
-use super::reports::{OWN_STORE, REPORTS};
-use super::sizes::SIZE_REPORTS;
+use super::data::paths::PATH_REPORTS;
+use super::data::reports::{OWN_STORE, REPORTS};
+use super::data::sizes::SIZE_REPORTS;
 use lit_read::{ReadKind, read};
 use std::alloc::{AllocGlobal, Global};
 use std::process::Abort;
@@ -115,7 +115,13 @@ const FOURTH_LINES: [(&str, &str); 6] = [
 #[test]
 fn fourth_lines(rt: HostRuntime) -> Result<(), Fail> {
     for (line, printed) in FOURTH_LINES {
-        let mut text = Vec::from_slice(rt.alloc(), b"test t\nbytes 4\nagent A\n")?;
+        let mut text = Vec::from_slice(
+            rt.alloc(),
+            b"test t
+bytes 4
+agent A
+",
+        )?;
         text.extend_from_slice(line.as_bytes())?;
         text.extend_from_slice(b"\ncheck A.r0 == 0\n")?;
         prints(&rt, &text, printed.as_bytes(), 1)?;
@@ -131,7 +137,12 @@ fn text_of(alloc: Global, name: &str, bytes: &str, line: &str) -> Result<Vec<u8>
     text.extend_from_slice(bytes.as_bytes())?;
     text.extend_from_slice(b"\nagent A\n")?;
     text.extend_from_slice(line.as_bytes())?;
-    text.extend_from_slice(b"\nr0 = U8[0]\ncheck A.r0 == 0\n")?;
+    text.extend_from_slice(
+        b"
+r0 = U8[0]
+check A.r0 == 0
+",
+    )?;
     Ok(text)
 }
 
@@ -163,7 +174,13 @@ fn at_a_limit(rt: HostRuntime) -> Result<(), Fail> {
 
 /// A text whose agent opens so many `if`s, one in the other, and whose check has so many `!`.
 fn nested(alloc: Global, ifs: usize, nots: usize) -> Result<Vec<u8>, Fail> {
-    let mut text = Vec::from_slice(alloc, b"test t\nbytes 1\nagent A\n")?;
+    let mut text = Vec::from_slice(
+        alloc,
+        b"test t
+bytes 1
+agent A
+",
+    )?;
     for _ in 0..ifs {
         text.extend_from_slice(b"if r0 == 0 {\n")?;
     }

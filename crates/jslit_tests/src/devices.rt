@@ -1,7 +1,7 @@
 //! Readers and writers that are slow or fail.
 
 use super::calls::ONE_WORKER;
-use super::reports::{OWN_STORE, UNTOUCHED_BYTE};
+use super::data::reports::{OWN_STORE, UNTOUCHED_BYTE};
 use jslit::{Counted, RunFault, program, run};
 use std::alloc::{AllocError, AllocGlobal, Global};
 use std::io;
@@ -128,7 +128,12 @@ fn many_outcomes(alloc: Global) -> Result<String, AllocError> {
             }
         }
     }
-    report.push_str("outcomes 125\nverdict sometimes\ndata race yes\n")?;
+    report.push_str(
+        "outcomes 125
+verdict sometimes
+data race yes
+",
+    )?;
     Ok(report)
 }
 

@@ -9,25 +9,15 @@ mod command_line;
 #[cfg(test)]
 mod cut_texts;
 #[cfg(test)]
+mod data;
+#[cfg(test)]
 mod devices;
-#[cfg(test)]
-mod idle_events;
-#[cfg(test)]
-mod independent_reads;
-#[cfg(test)]
-mod many_choices;
 #[cfg(test)]
 mod many_paths;
 #[cfg(test)]
-mod paths;
-#[cfg(test)]
 mod refusals;
 #[cfg(test)]
-mod reports;
-#[cfg(test)]
 mod schedules;
-#[cfg(test)]
-mod sizes;
 #[cfg(test)]
 mod uneven_devices;
 #[cfg(test)]

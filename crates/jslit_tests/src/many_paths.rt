@@ -1,7 +1,7 @@
 //! As many combinations of paths as a test may have.
 
 use super::calls::{prints, writes_by};
-use super::reports::Reported;
+use super::data::reports::Reported;
 use jslit::Options;
 use std::test::Fail;
 

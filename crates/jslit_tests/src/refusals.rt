@@ -1,7 +1,7 @@
 //! Texts that are refused, each with its printed line.
 
 use super::calls::{prints, writes};
-use super::reports::Reported;
+use super::data::reports::Reported;
 use lit_paths::{ACCESS_LIMIT, COMBINATION_LIMIT};
 use lit_read::{AGENT_LIMIT, BLOCK_LIMIT, TEXT_LIMIT};
 use std::alloc::AllocGlobal;
@@ -27,71 +27,142 @@ check A.r0 == 0 && B.r0 ==\x20
         "refused 3 syntax line 9\n",
     ),
     // second test line
-    ("test t\ntest u\nbytes 4\n", "refused 4 misplaced line 2\n"),
+    (
+        "test t
+test u
+bytes 4
+",
+        "refused 4 misplaced line 2\n",
+    ),
     // block line without test
     ("bytes 4\n", "refused 4 misplaced line 1\n"),
     // second block line
-    ("test t\nbytes 4\nbytes 4\n", "refused 4 misplaced line 3\n"),
+    (
+        "test t
+bytes 4
+bytes 4
+",
+        "refused 4 misplaced line 3\n",
+    ),
     // agent without block
     ("test t\nagent A\n", "refused 4 misplaced line 2\n"),
     // statement without agent
     (
-        "test t\nbytes 4\nr0 = U8[0]\n",
+        "test t
+bytes 4
+r0 = U8[0]
+",
         "refused 4 misplaced line 3\n",
     ),
     // check without agent
     (
-        "test t\nbytes 4\ncheck A.r0 == 0\n",
+        "test t
+bytes 4
+check A.r0 == 0
+",
         "refused 4 misplaced line 3\n",
     ),
     // statement after check
     (
-        "test t\nbytes 4\nagent A\nr0 = U8[0]\ncheck A.r0 == 0\nU8[0] = 1\n",
+        "test t
+bytes 4
+agent A
+r0 = U8[0]
+check A.r0 == 0
+U8[0] = 1
+",
         "refused 4 misplaced line 6\n",
     ),
     // second check
     (
-        "test t\nbytes 4\nagent A\nr0 = U8[0]\ncheck A.r0 == 0\ncheck A.r0 == 0\n",
+        "test t
+bytes 4
+agent A
+r0 = U8[0]
+check A.r0 == 0
+check A.r0 == 0
+",
         "refused 4 misplaced line 6\n",
     ),
     // agent after check
     (
-        "test t\nbytes 4\nagent A\nr0 = U8[0]\ncheck A.r0 == 0\nagent B\n",
+        "test t
+bytes 4
+agent A
+r0 = U8[0]
+check A.r0 == 0
+agent B
+",
         "refused 4 misplaced line 6\n",
     ),
     // block of no byte
     (
-        "test t\nbytes 0\nagent A\nr0 = U8[0]\ncheck A.r0 == 0\n",
+        "test t
+bytes 0
+agent A
+r0 = U8[0]
+check A.r0 == 0
+",
         "refused 5 block_size line 2\n",
     ),
     // agent twice
     (
-        "test t\nbytes 4\nagent A\nagent A\ncheck A.r0 == 0\n",
+        "test t
+bytes 4
+agent A
+agent A
+check A.r0 == 0
+",
         "refused 7 duplicate_agent line 4\n",
     ),
     // byte of 256
     (
-        "test t\nbytes 4\nagent A\nU8[0] = 256\ncheck A.r0 == 0\n",
+        "test t
+bytes 4
+agent A
+U8[0] = 256
+check A.r0 == 0
+",
         "refused 8 literal_range line 4\n",
     ),
     // large byte past the block
     (
-        "test t\nbytes 4\nagent A\nU8[9] = 300\ncheck A.r0 == 0\n",
+        "test t
+bytes 4
+agent A
+U8[9] = 300
+check A.r0 == 0
+",
         "refused 8 literal_range line 4\n",
     ),
     // compared number of 33 bits
     (
-        "test t\nbytes 4\nagent A\nr0 = U8[0]\ncheck A.r0 == 4294967296\n",
+        "test t
+bytes 4
+agent A
+r0 = U8[0]
+check A.r0 == 4294967296
+",
         "refused 8 literal_range line 5\n",
     ),
     // access past the block
     (
-        "test t\nbytes 4\nagent A\nU8[4] = 0\ncheck A.r0 == 0\n",
+        "test t
+bytes 4
+agent A
+U8[4] = 0
+check A.r0 == 0
+",
         "refused 9 out_of_block line 4\n",
     ),
     // register never written
     (
-        "test t\nbytes 4\nagent A\nr1 = U8[0]\ncheck A.r0 == 0\n",
+        "test t
+bytes 4
+agent A
+r1 = U8[0]
+check A.r0 == 0
+",
         "refused 10 unknown_name line 5\n",
     ),
     // no check
@@ -136,7 +207,12 @@ fn one_byte_too_many(rt: HostRuntime) -> Result<(), Fail> {
 
 #[test]
 fn byte_above_ascii(rt: HostRuntime) -> Result<(), Fail> {
-    let text = b"test t\nbytes 4\nagent A\nr0 = U8[0] //\xe9\ncheck A.r0 == 0\n";
+    let text = b"test t
+bytes 4
+agent A
+r0 = U8[0] //\xe9
+check A.r0 == 0
+";
     writes(&rt, text, b"refused 2 not_ascii line 4\n")?;
     prints(&rt, text, b"refused 2 not_ascii line 4\n", 1)
 }
@@ -158,7 +234,12 @@ fn one_agent_too_many(rt: HostRuntime) -> Result<(), Fail> {
 fn larger_block(rt: HostRuntime) -> Result<(), Fail> {
     let bytes = BLOCK_LIMIT + 1;
     let text = format!(in rt.alloc();
-        "test t\nbytes {bytes}\nagent A\nr0 = U8[0]\ncheck A.r0 == 0\n"
+        "test t
+bytes {bytes}
+agent A
+r0 = U8[0]
+check A.r0 == 0
+"
     )?;
     prints(&rt, text.as_bytes(), b"refused 5 block_size line 2\n", 1)
 }
@@ -168,7 +249,13 @@ fn larger_block(rt: HostRuntime) -> Result<(), Fail> {
 fn past_the_largest_block(rt: HostRuntime) -> Result<(), Fail> {
     let element = BLOCK_LIMIT / 4;
     let text = format!(in rt.alloc();
-        "test t\nbytes {BLOCK_LIMIT}\nagent A\nU32[{element}] = 1\nr0 = U8[0]\ncheck A.r0 == 0\n"
+        "test t
+bytes {BLOCK_LIMIT}
+agent A
+U32[{element}] = 1
+r0 = U8[0]
+check A.r0 == 0
+"
     )?;
     prints(&rt, text.as_bytes(), b"refused 9 out_of_block line 4\n", 1)
 }
@@ -192,14 +279,26 @@ fn is_refused(
 
 #[test]
 fn too_much(rt: HostRuntime) -> Result<(), Fail> {
-    let beginning = "test t\nbytes 1\nagent A\n";
+    let beginning = "test t
+bytes 1
+agent A
+";
     let printed = "refused 14 too_many_events\n";
     is_refused(&rt, beginning, "r0 = U8[0]\n", ACCESS_LIMIT + 1, printed)?;
-    let beginning = "test t\nbytes 1\nagent A\nr0 = U8[0]\n";
+    let beginning = "test t
+bytes 1
+agent A
+r0 = U8[0]
+";
     let printed = "refused 13 too_many_paths\n";
     let branches = COMBINATION_LIMIT.trailing_zeros() as usize + 1;
     is_refused(&rt, beginning, "if r0 == 0 {\n}\n", branches, printed)?;
-    let beginning = "test t\nbytes 4\nagent A\nU32[0] = 1\nU32[0] = 2\n";
+    let beginning = "test t
+bytes 4
+agent A
+U32[0] = 1
+U32[0] = 2
+";
     let printed = "refused 15 too_many_choices\n";
     is_refused(&rt, beginning, "r0 = U32[0]\n", 10, printed)
 }

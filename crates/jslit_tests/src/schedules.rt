@@ -14,62 +14,98 @@ const SCHEDULES: [(&str, &str, &str); 14] = [
     (
         STORE_BUFFERING,
         "A,B",
-        "test sb\ninterleaving A.r0=1 B.r0=1\nmeets no\n",
+        "test sb
+interleaving A.r0=1 B.r0=1
+meets no
+",
     ),
     (
         STORE_BUFFERING,
         "A,A",
-        "test sb\ninterleaving A.r0=0 B.r0=1\nmeets no\n",
+        "test sb
+interleaving A.r0=0 B.r0=1
+meets no
+",
     ),
     (
         STORE_BUFFERING,
         "",
-        "test sb\ninterleaving A.r0=0 B.r0=1\nmeets no\n",
+        "test sb
+interleaving A.r0=0 B.r0=1
+meets no
+",
     ),
     (
         STORE_BUFFERING,
         "B,B,B",
-        "test sb\ninterleaving A.r0=1 B.r0=0\nmeets no\n",
+        "test sb
+interleaving A.r0=1 B.r0=0
+meets no
+",
     ),
     (
         VIEWED_READ,
         "A,B,C",
-        "test teardv\ninterleaving C.r0=514\nmeets no\n",
+        "test teardv
+interleaving C.r0=514
+meets no
+",
     ),
     (
         VIEWED_READ,
         "C",
-        "test teardv\ninterleaving C.r0=0\nmeets no\n",
+        "test teardv
+interleaving C.r0=0
+meets no
+",
     ),
     (
         LOAD_BUFFERING,
         "A,B",
-        "test lb\ninterleaving A.r0=0 B.r0=0\nmeets no\n",
+        "test lb
+interleaving A.r0=0 B.r0=0
+meets no
+",
     ),
     (
         LOAD_BUFFERING,
         "B,A",
-        "test lb\ninterleaving A.r0=0 B.r0=0\nmeets no\n",
+        "test lb
+interleaving A.r0=0 B.r0=0
+meets no
+",
     ),
     (
         LOAD_BUFFERING,
         "",
-        "test lb\ninterleaving A.r0=0 B.r0=0\nmeets no\n",
+        "test lb
+interleaving A.r0=0 B.r0=0
+meets no
+",
     ),
     (
         EXCHANGES,
         "",
-        "test exchanges\ninterleaving A.r0=0 A.r1=1 B.r0=7 B.r1=1794 B.r2=1794\nmeets yes\n",
+        "test exchanges
+interleaving A.r0=0 A.r1=1 B.r0=7 B.r1=1794 B.r2=1794
+meets yes
+",
     ),
     (
         EXCHANGES,
         "B,B,B,B",
-        "test exchanges\ninterleaving A.r0=0 A.r1=1 B.r0=0 B.r1=0 B.r2=0\nmeets yes\n",
+        "test exchanges
+interleaving A.r0=0 A.r1=1 B.r0=0 B.r1=0 B.r2=0
+meets yes
+",
     ),
     (
         EXCHANGES,
         "A,B,B,B",
-        "test exchanges\ninterleaving A.r0=0 A.r1=3 B.r0=1 B.r1=258 B.r2=33620740\nmeets yes\n",
+        "test exchanges
+interleaving A.r0=0 A.r1=3 B.r0=1 B.r1=258 B.r2=33620740
+meets yes
+",
     ),
     (STORE_BUFFERING, "A,C", "refused 20 unknown_agent\n"),
     (STORE_BUFFERING, "A,,B", "refused 20 unknown_agent\n"),
@@ -135,10 +171,16 @@ fn prints(
 
 #[test]
 fn schedules_of_the_command_line(rt: HostRuntime) -> Result<(), Fail> {
-    let both = "test sb\ninterleaving A.r0=1 B.r0=1\nmeets no\n";
+    let both = "test sb
+interleaving A.r0=1 B.r0=1
+meets no
+";
     prints(&rt, &["jslit", "--schedule", "A,B"], 0, both, "")?;
     prints(&rt, &["jslit", "--schedule=A,B"], 0, both, "")?;
-    let in_order = "test sb\ninterleaving A.r0=0 B.r0=1\nmeets no\n";
+    let in_order = "test sb
+interleaving A.r0=0 B.r0=1
+meets no
+";
     prints(&rt, &["jslit", "--schedule", ""], 0, in_order, "")?;
     let unknown = "refused 20 unknown_agent\n";
     prints(&rt, &["jslit", "--schedule", "A,C"], 1, unknown, "")
@@ -148,15 +190,30 @@ fn schedules_of_the_command_line(rt: HostRuntime) -> Result<(), Fail> {
 const EXCLUDED: [(&str, &str); 3] = [
     (
         "--quick",
-        "error: the argument '--schedule <TEXT>' cannot be used with '--quick'\n\nUsage: jslit --schedule <TEXT> [FILE]\n\nFor more information, try '--help'.\n",
+        "error: the argument '--schedule <TEXT>' cannot be used with '--quick'
+
+Usage: jslit --schedule <TEXT> [FILE]
+
+For more information, try '--help'.
+",
     ),
     (
         "--workers=1",
-        "error: the argument '--schedule <TEXT>' cannot be used with '--workers <N>'\n\nUsage: jslit --schedule <TEXT> [FILE]\n\nFor more information, try '--help'.\n",
+        "error: the argument '--schedule <TEXT>' cannot be used with '--workers <N>'
+
+Usage: jslit --schedule <TEXT> [FILE]
+
+For more information, try '--help'.
+",
     ),
     (
         "--cut=4096",
-        "error: the argument '--schedule <TEXT>' cannot be used with '--cut <N>'\n\nUsage: jslit --schedule <TEXT> [FILE]\n\nFor more information, try '--help'.\n",
+        "error: the argument '--schedule <TEXT>' cannot be used with '--cut <N>'
+
+Usage: jslit --schedule <TEXT> [FILE]
+
+For more information, try '--help'.
+",
     ),
 ];
 
@@ -178,7 +235,11 @@ fn checked_schedule(rt: HostRuntime) -> Result<(), Fail> {
     assert_eq!(rt; status, 0);
     assert_eq!(rt;
         output.into_inner().as_slice(),
-        b"test sb\ninterleaving A.r0=1 B.r0=0\nmeets no\n".as_slice()
+        b"test sb
+interleaving A.r0=1 B.r0=0
+meets no
+"
+            .as_slice()
     );
     assert!(rt; errors.is_empty());
     Ok(())

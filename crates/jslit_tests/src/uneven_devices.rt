@@ -1,7 +1,7 @@
 //! An input without an end, and devices that are interrupted at a call, or take nothing at one, and would go on after it.
 
 use super::calls::ONE_WORKER;
-use super::reports::OWN_STORE;
+use super::data::reports::OWN_STORE;
 use jslit::{Counted, RunFault, run};
 use lit_read::{ReadFault, ReadKind, TEXT_LIMIT};
 use std::alloc::AllocGlobal;

@@ -1,11 +1,11 @@
 //! Whole reports, by `run` and by the program.
 
 use super::calls::{prints, writes};
-use super::idle_events::{EDGE, LONG, WIDE, WIDER};
-use super::many_choices::COAST;
-use super::paths::PATH_REPORTS;
-use super::reports::REPORTS;
-use super::sizes::SIZE_REPORTS;
+use super::data::idle_events::{EDGE, LONG, WIDE, WIDER};
+use super::data::many_choices::COAST;
+use super::data::paths::PATH_REPORTS;
+use super::data::reports::REPORTS;
+use super::data::sizes::SIZE_REPORTS;
 use std::test::Fail;
 
 #[test]

@@ -1,12 +1,12 @@
 //! Workers, cuttings and the quick report.
 
 use super::calls::writes_by;
-use super::idle_events::{EDGE, LONG, WIDE, WIDER};
-use super::independent_reads::{INDEPENDENT_READS, INDEPENDENT_READS_PLAIN};
-use super::many_choices::COAST;
-use super::paths::{LOAD_BUFFERING, PATH_REPORTS};
-use super::reports::{REPORTS, Reported};
-use super::sizes::SIZE_REPORTS;
+use super::data::idle_events::{EDGE, LONG, WIDE, WIDER};
+use super::data::independent_reads::{INDEPENDENT_READS, INDEPENDENT_READS_PLAIN};
+use super::data::many_choices::COAST;
+use super::data::paths::{LOAD_BUFFERING, PATH_REPORTS};
+use super::data::reports::{REPORTS, Reported};
+use super::data::sizes::SIZE_REPORTS;
 use jslit::Options;
 use lit_paths::{Plan, plan};
 use lit_read::read;

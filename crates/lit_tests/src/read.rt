@@ -141,8 +141,17 @@ fn is_comparison(rt: &impl Abort, cond: &Cond, in_agent: u8, of_reg: u8, is_equa
 
 #[test]
 fn each_form(rt: HostRuntime) {
-    let text =
-        "  test _t1 // a test\r\n\n\tbytes 16 //\nagent A\n//\nr7=U8[15]\nU8 [ 0 ] = 255\nr0 = Atomics . load ( U8 , 3 )\nAtomics.store(U8,4,0)\nagent test\ncheck A.r7!=4294967295";
+    let text = "  test _t1 // a test\r
+
+\tbytes 16 //
+agent A
+//
+r7=U8[15]
+U8 [ 0 ] = 255
+r0 = Atomics . load ( U8 , 3 )
+Atomics.store(U8,4,0)
+agent test
+check A.r7!=4294967295";
     let test = read(rt.alloc(), text.as_bytes()).expect(&rt, "a test");
     assert!(rt; test.name() == "_t1");
     assert_eq!(rt; test.bytes(), 16);
@@ -165,7 +174,15 @@ fn missing_parts(rt: HostRuntime) {
     refused(&rt, b"test t\nbytes 1\n\n", ReadKind::MissingPart, 3);
     refused(
         &rt,
-        b"test sb\nbytes 2\nagent A\nAtomics.store(U8, 0, 1)\nr0 = Atomics.load(U8, 1)\nagent B\nAtomics.store(U8, 1, 1)\nr0 = Atomics.load(U8, 0)\n",
+        b"test sb
+bytes 2
+agent A
+Atomics.store(U8, 0, 1)
+r0 = Atomics.load(U8, 1)
+agent B
+Atomics.store(U8, 1, 1)
+r0 = Atomics.load(U8, 0)
+",
         ReadKind::MissingPart,
         8,
     );

@@ -1,36 +1,58 @@
 //! What schedules come to.
 
 use lit_paths::plan;
-use lit_read::read;
-use lit_search::{interleave, search_range};
+use lit_read::{Test, read};
+use lit_search::{Found, interleave, search_range};
 use lit_texts::{EXCHANGES, LOAD_BUFFERING, STORE_BUFFERING, VIEWED_READ};
 use std::alloc::Global;
 use std::process::Abort;
 use std::test::Fail;
 
+/// The outcome of a schedule of a test's agents is this one.
+fn assert_shown(
+    rt: &impl Abort,
+    alloc: Global,
+    test: &Test,
+    schedule: &[u8],
+    outcome: &[u32],
+) -> Result<(), Fail> {
+    assert!(rt;
+        schedule
+            .iter()
+            .all(|agent| usize::from(*agent) < test.agents())
+    );
+    let shown = interleave(alloc, test, schedule)?;
+    assert_eq!(rt; shown.as_slice(), outcome);
+    Ok(())
+}
+
+/// The report of all choices of a test.
+fn report_of(alloc: Global, test: &Test) -> Result<Found, Fail> {
+    let plan = plan(alloc, test)?;
+    Ok(search_range(alloc, &plan, 0, plan.total())?)
+}
+
+/// Whether this outcome is found.
+fn is_found(found: &Found, outcome: &[u32]) -> bool {
+    let mut is_found = false;
+    for place in 0..found.len() {
+        is_found |= found.outcome(place) == outcome;
+    }
+    is_found
+}
+
 /// The outcome of a schedule is this one, and stands in the report of the test.
-fn assert_outcome<R: Abort>(
-    rt: &R,
+fn assert_outcome(
+    rt: &impl Abort,
     alloc: Global,
     text: &str,
     schedule: &[u8],
     outcome: &[u32],
 ) -> Result<(), Fail> {
     let test = read(alloc, text.as_bytes())?;
-    assert!(rt;
-        schedule
-            .iter()
-            .all(|agent| usize::from(*agent) < test.agents())
-    );
-    let shown = interleave(alloc, &test, schedule)?;
-    assert_eq!(rt; shown.as_slice(), outcome);
-    let plan = plan(alloc, &test)?;
-    let found = search_range(alloc, &plan, 0, plan.total())?;
-    let mut is_reported = false;
-    for place in 0..found.len() {
-        is_reported |= found.outcome(place) == outcome;
-    }
-    assert!(rt; is_reported);
+    assert_shown(rt, alloc, &test, schedule, outcome)?;
+    let found = report_of(alloc, &test)?;
+    assert!(rt; is_found(&found, outcome));
     Ok(())
 }
 

@@ -5,11 +5,12 @@ ghost use Rattle.lit_desk.specs.Desk.{IsPlaceOf};
 ghost use Rattle.lit_paths.specs.Choice.{choices_of};
 ghost use Rattle.lit_share.specs.Pieces.{pieces_of};
 
+use super::found_by_three;
 use lit_desk::{Desk, Place};
 use lit_paths::{Plan, plan};
 use lit_read::read;
 use lit_search::{Found, merge};
-use lit_share::{OpenGate, ShareFault, search, work};
+use lit_share::{OpenGate, ShareFault, work};
 use lit_texts::INDEPENDENT_READS;
 use std::alloc::Global;
 use std::test::Fail;
@@ -163,8 +164,7 @@ fn three_calls_of_one_desk(rt: HostRuntime) -> Result<(), Fail> {
     };
     assert_eq!(rt; drawn, 16);
     assert_eq!(rt; merged.len(), 15);
-    let passes = vec![in rt.alloc(); (), (), ()]?;
-    let found = search(&rt, rt.alloc(), &plan, 1, &OpenGate, passes)?;
+    let found = found_by_three(&rt, &plan)?;
     assert!(rt; is_same(&merged, &found));
     Ok(())
 }

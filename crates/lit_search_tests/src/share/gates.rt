@@ -1,12 +1,15 @@
 //! Gates that hold a worker until others have come: workers run at once, and draw from one desk.
 
-use lit_paths::plan;
+use lit_paths::{Plan, plan};
 use lit_read::read;
-use lit_share::{Gate, quick, search};
+use lit_share::{Gate, Quick, quick, search};
 use lit_texts::{LOAD_BUFFERING, STORE_BUFFERING};
+use std::alloc::AllocGlobal;
+use std::process::Abort;
 use std::sync::atomic::{AtomicBool, AtomicU64, Ordering};
 use std::test::Fail;
 use std::thread;
+use std::thread::Threads;
 
 /// Turns that a worker waits at the most.
 const TURNS: u64 = 10_000_000;
@@ -67,18 +70,71 @@ impl Gate for Holding {
     }
 }
 
+/// That two workers search a test of three outcomes, two choices a piece, while the gate holds one of its two pieces.
+fn searches_halves(
+    rt: &(impl Abort + AllocGlobal + Threads + Sync),
+    plan: &Plan<'_>,
+    gate: &Holding,
+) -> Result<(), Fail> {
+    let passes = vec![in rt.alloc(); 0, 1]?;
+    let found = search(rt, rt.alloc(), plan, 2, gate, passes)?;
+    assert_eq!(rt; found.len(), 3);
+    assert!(rt; gate.let_all_in(0b11));
+    Ok(())
+}
+
+/// The same of a quick search that meets no condition.
+fn asks_halves(
+    rt: &(impl Abort + AllocGlobal + Threads + Sync),
+    plan: &Plan<'_>,
+    gate: &Holding,
+) -> Result<(), Fail> {
+    let passes = vec![in rt.alloc(); 0, 1]?;
+    let quick = quick(rt, rt.alloc(), plan, 2, gate, passes)?;
+    assert!(rt; quick.met.is_none());
+    assert!(rt; gate.let_all_in(0b11));
+    Ok(())
+}
+
 #[test]
 fn gate_holds_first_piece(rt: HostRuntime) -> Result<(), Fail> {
     let test = read(rt.alloc(), STORE_BUFFERING.as_bytes())?;
     let plan = plan(rt.alloc(), &test)?;
-    let gate = Holding::new(0, 0b10);
-    let found = search(&rt, rt.alloc(), &plan, 2, &gate, vec![in rt.alloc(); 0, 1]?)?;
+    searches_halves(&rt, &plan, &Holding::new(0, 0b10))?;
+    asks_halves(&rt, &plan, &Holding::new(0, 0b10))
+}
+
+/// For each of four pieces the others.
+const HELD: [(u64, u64); 4] = [(0, 0b1110), (1, 0b1101), (2, 0b1011), (3, 0b0111)];
+
+/// That two workers search a test of three outcomes and four pieces while the gate holds one of them.
+fn searches_pieces(
+    rt: &(impl Abort + AllocGlobal + Threads + Sync),
+    plan: &Plan<'_>,
+    held: u64,
+    awaited: u64,
+) -> Result<(), Fail> {
+    let gate = Holding::new(held, awaited);
+    let passes = vec![in rt.alloc(); 0, 1]?;
+    let found = search(rt, rt.alloc(), plan, 1, &gate, passes)?;
     assert_eq!(rt; found.len(), 3);
-    assert!(rt; gate.let_all_in(0b11));
-    let gate = Holding::new(0, 0b10);
-    let quick = quick(&rt, rt.alloc(), &plan, 2, &gate, vec![in rt.alloc(); 0, 1]?)?;
+    assert!(rt; gate.let_all_in(0b1111), "held {held}");
+    Ok(())
+}
+
+/// The same of a quick search that finds an outcome that does not meet the condition, and none that does.
+fn asks_pieces(
+    rt: &(impl Abort + AllocGlobal + Threads + Sync),
+    plan: &Plan<'_>,
+    held: u64,
+    awaited: u64,
+) -> Result<(), Fail> {
+    let gate = Holding::new(held, awaited);
+    let passes = vec![in rt.alloc(); 0, 1]?;
+    let quick = quick(rt, rt.alloc(), plan, 1, &gate, passes)?;
     assert!(rt; quick.met.is_none());
-    assert!(rt; gate.let_all_in(0b11));
+    assert!(rt; quick.unmet.is_some());
+    assert!(rt; gate.let_all_in(0b1111), "held {held}");
     Ok(())
 }
 
@@ -86,11 +142,8 @@ fn gate_holds_first_piece(rt: HostRuntime) -> Result<(), Fail> {
 fn gate_drains_desk(rt: HostRuntime) -> Result<(), Fail> {
     let test = read(rt.alloc(), STORE_BUFFERING.as_bytes())?;
     let plan = plan(rt.alloc(), &test)?;
-    for held in [(0, 0b1110), (1, 0b1101), (2, 0b1011), (3, 0b0111)] {
-        let gate = Holding::new(held.0, held.1);
-        let found = search(&rt, rt.alloc(), &plan, 1, &gate, vec![in rt.alloc(); 0, 1]?)?;
-        assert_eq!(rt; found.len(), 3);
-        assert!(rt; gate.let_all_in(0b1111), "held {}", held.0);
+    for (held, awaited) in HELD {
+        searches_pieces(&rt, &plan, held, awaited)?;
     }
     Ok(())
 }
@@ -99,14 +152,20 @@ fn gate_drains_desk(rt: HostRuntime) -> Result<(), Fail> {
 fn gate_drains_desk_of_quick(rt: HostRuntime) -> Result<(), Fail> {
     let test = read(rt.alloc(), STORE_BUFFERING.as_bytes())?;
     let plan = plan(rt.alloc(), &test)?;
-    for held in [(0, 0b1110), (1, 0b1101), (2, 0b1011), (3, 0b0111)] {
-        let gate = Holding::new(held.0, held.1);
-        let quick = quick(&rt, rt.alloc(), &plan, 1, &gate, vec![in rt.alloc(); 0, 1]?)?;
-        assert!(rt; quick.met.is_none());
-        assert!(rt; quick.unmet.is_some());
-        assert!(rt; gate.let_all_in(0b1111), "held {}", held.0);
+    for (held, awaited) in HELD {
+        asks_pieces(&rt, &plan, held, awaited)?;
     }
     Ok(())
+}
+
+/// The answer of a quick search by three workers, a choice a piece.
+fn asked_by_three(
+    rt: &(impl AllocGlobal + Threads + Sync),
+    plan: &Plan<'_>,
+    gate: &Holding,
+) -> Result<Quick, Fail> {
+    let passes = vec![in rt.alloc(); 0, 1, 2]?;
+    Ok(quick(rt, rt.alloc(), plan, 1, gate, passes)?)
 }
 
 #[test]
@@ -114,14 +173,7 @@ fn gate_holds_one_of_three(rt: HostRuntime) -> Result<(), Fail> {
     let test = read(rt.alloc(), LOAD_BUFFERING.as_bytes())?;
     let plan = plan(rt.alloc(), &test)?;
     let gate = Holding::new(0, 0b10);
-    let quick = quick(
-        &rt,
-        rt.alloc(),
-        &plan,
-        1,
-        &gate,
-        vec![in rt.alloc(); 0, 1, 2]?,
-    )?;
+    let quick = asked_by_three(&rt, &plan, &gate)?;
     let (Some(met), Some(unmet)) = (quick.met, quick.unmet) else {
         panic!(rt; "each class has an outcome")
     };

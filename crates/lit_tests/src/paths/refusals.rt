@@ -45,7 +45,14 @@ fn assert_planned(
 #[test]
 fn many_choices(rt: HostRuntime) -> Result<(), Fail> {
     let alloc = rt.alloc();
-    let head = b"test many\nbytes 4\nagent A\nU32[0] = 1\nU32[0] = 2\nU32[0] = 3\nagent B\n";
+    let head = b"test many
+bytes 4
+agent A
+U32[0] = 1
+U32[0] = 2
+U32[0] = 3
+agent B
+";
     let (line, check) = (b"r0 = U32[0]\n", b"check B.r0 == 0\n");
     let reads = CHOICE_LIMIT.trailing_zeros() as usize / 8;
     let fewer = repeated(alloc, head, reads.saturating_sub(1), line, check)?;
@@ -62,7 +69,11 @@ fn many_choices(rt: HostRuntime) -> Result<(), Fail> {
 #[test]
 fn many_paths(rt: HostRuntime) -> Result<(), Fail> {
     let alloc = rt.alloc();
-    let head = b"test ifs\nbytes 1\nagent A\nr0 = U8[0]\n";
+    let head = b"test ifs
+bytes 1
+agent A
+r0 = U8[0]
+";
     let (line, check) = (b"if r0 == 0 {\n}\n", b"check A.r0 == 0\n");
     let branches = COMBINATION_LIMIT.trailing_zeros() as usize;
     let most = repeated(alloc, head, branches, line, check)?;
@@ -81,7 +92,10 @@ fn many_paths(rt: HostRuntime) -> Result<(), Fail> {
 #[test]
 fn many_events(rt: HostRuntime) -> Result<(), Fail> {
     let alloc = rt.alloc();
-    let head = b"test long\nbytes 1\nagent A\n";
+    let head = b"test long
+bytes 1
+agent A
+";
     let (line, check) = (b"r0 = U8[0]\n", b"check A.r0 == 0\n");
     for count in [ACCESS_LIMIT - 1, ACCESS_LIMIT] {
         let few = repeated(alloc, head, count, line, check)?;
@@ -99,7 +113,11 @@ fn many_events(rt: HostRuntime) -> Result<(), Fail> {
 #[test]
 fn first_refusal_decides(rt: HostRuntime) -> Result<(), Fail> {
     let alloc = rt.alloc();
-    let start = b"test both\nbytes 4\nagent A\nr0 = U8[0]\n";
+    let start = b"test both
+bytes 4
+agent A
+r0 = U8[0]
+";
     let (line, check) = (b"r1 = U32[0]\n", b"check A.r0 == 0\n");
     let branches = COMBINATION_LIMIT.trailing_zeros() as usize + 1;
     let ifs = repeated(alloc, start, branches, b"if r0 == 0 {\n}\n", b"")?;

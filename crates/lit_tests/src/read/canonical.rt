@@ -31,16 +31,120 @@ const CANONICAL: [&str; 20] = [
     EQUAL_STORES,
     INDEPENDENT_READS,
     AMONG_IDLE_EVENTS,
-    "test choices\nbytes 4\nagent A\nU32[0] = 1\nU32[0] = 2\nU32[0] = 3\nagent B\nr0 = U32[0]\nr0 = U32[0]\nr0 = U32[0]\nr0 = U32[0]\nr0 = U32[0]\nr0 = U32[0]\ncheck B.r0 == 0\n",
-    "test paths\nbytes 1\nagent A\nr0 = U8[0]\nif r0 == 0 {\n}\nif r0 == 0 {\n}\nif r0 == 0 {\n}\nif r0 == 0 {\n}\nif r0 == 0 {\n}\nif r0 == 0 {\n}\nif r0 == 0 {\n}\nif r0 == 0 {\n}\nif r0 == 0 {\n}\nif r0 == 0 {\n}\nif r0 == 0 {\n}\nif r0 == 0 {\n}\ncheck A.r0 == 0\n",
+    "test choices
+bytes 4
+agent A
+U32[0] = 1
+U32[0] = 2
+U32[0] = 3
+agent B
+r0 = U32[0]
+r0 = U32[0]
+r0 = U32[0]
+r0 = U32[0]
+r0 = U32[0]
+r0 = U32[0]
+check B.r0 == 0
+",
+    "test paths
+bytes 1
+agent A
+r0 = U8[0]
+if r0 == 0 {
+}
+if r0 == 0 {
+}
+if r0 == 0 {
+}
+if r0 == 0 {
+}
+if r0 == 0 {
+}
+if r0 == 0 {
+}
+if r0 == 0 {
+}
+if r0 == 0 {
+}
+if r0 == 0 {
+}
+if r0 == 0 {
+}
+if r0 == 0 {
+}
+if r0 == 0 {
+}
+check A.r0 == 0
+",
 ];
 
 /// A text of each form, with blanks, comments and empty parts that can be left out.
-const UNTIDY: &str =
-    "\n\ttest whole // a name\n\nbytes  16\r\nagent A\n  r0=U8[ 15 ]\nr1 =U16[7]\nr2= U32[3]\nU8 [0]=255\nU16[0]=65535\nU32[0]=4294967295 // the most\nr3=Atomics . load(U16,7)\nAtomics.store( U32,3,5 )\nr4=Atomics.exchange(U8,0,1)\nr5=Atomics.compareExchange(U32,1,4294967295,2)\nr6=DV.getUint8(15)\nr7=DV.getUint16(14,true)\nr0=DV.getUint32(12,true)\nDV.setUint8(15,1)\nDV.setUint16(14,2,true)\nDV.setUint32(12,3,true)\nif r0==1{\nr1=U8[0]\nif r1!=2{\n}else{\n}\n}else{\nU8[1]=1\n}\nif r0==0{\n}else{\n}\nagent B\ncheck(A.r0==1)";
+const UNTIDY: &str = "
+\ttest whole // a name
 
-const TIDY: &str =
-    "test whole\nbytes 16\nagent A\nr0 = U8[15]\nr1 = U16[7]\nr2 = U32[3]\nU8[0] = 255\nU16[0] = 65535\nU32[0] = 4294967295\nr3 = Atomics.load(U16, 7)\nAtomics.store(U32, 3, 5)\nr4 = Atomics.exchange(U8, 0, 1)\nr5 = Atomics.compareExchange(U32, 1, 4294967295, 2)\nr6 = DV.getUint8(15)\nr7 = DV.getUint16(14, true)\nr0 = DV.getUint32(12, true)\nDV.setUint8(15, 1)\nDV.setUint16(14, 2, true)\nDV.setUint32(12, 3, true)\nif r0 == 1 {\nr1 = U8[0]\nif r1 != 2 {\n}\n} else {\nU8[1] = 1\n}\nif r0 == 0 {\n}\nagent B\ncheck A.r0 == 1\n";
+bytes  16\r
+agent A
+  r0=U8[ 15 ]
+r1 =U16[7]
+r2= U32[3]
+U8 [0]=255
+U16[0]=65535
+U32[0]=4294967295 // the most
+r3=Atomics . load(U16,7)
+Atomics.store( U32,3,5 )
+r4=Atomics.exchange(U8,0,1)
+r5=Atomics.compareExchange(U32,1,4294967295,2)
+r6=DV.getUint8(15)
+r7=DV.getUint16(14,true)
+r0=DV.getUint32(12,true)
+DV.setUint8(15,1)
+DV.setUint16(14,2,true)
+DV.setUint32(12,3,true)
+if r0==1{
+r1=U8[0]
+if r1!=2{
+}else{
+}
+}else{
+U8[1]=1
+}
+if r0==0{
+}else{
+}
+agent B
+check(A.r0==1)";
+
+const TIDY: &str = "test whole
+bytes 16
+agent A
+r0 = U8[15]
+r1 = U16[7]
+r2 = U32[3]
+U8[0] = 255
+U16[0] = 65535
+U32[0] = 4294967295
+r3 = Atomics.load(U16, 7)
+Atomics.store(U32, 3, 5)
+r4 = Atomics.exchange(U8, 0, 1)
+r5 = Atomics.compareExchange(U32, 1, 4294967295, 2)
+r6 = DV.getUint8(15)
+r7 = DV.getUint16(14, true)
+r0 = DV.getUint32(12, true)
+DV.setUint8(15, 1)
+DV.setUint16(14, 2, true)
+DV.setUint32(12, 3, true)
+if r0 == 1 {
+r1 = U8[0]
+if r1 != 2 {
+}
+} else {
+U8[1] = 1
+}
+if r0 == 0 {
+}
+agent B
+check A.r0 == 1
+";
 
 /// Conditions, and how they are shown.
 const CONDITIONS: [(&str, &str); 10] = [
@@ -102,7 +206,15 @@ fn is_shown(rt: &(impl Abort + AllocGlobal), text: &[u8], canonical: &[u8]) -> R
 
 /// The small text with this condition.
 fn asking(alloc: Global, condition: &str) -> Result<String, AllocError> {
-    format!(in alloc; "test t\nbytes 2\nagent A\nr0 = U8[0]\nr1 = U8[1]\ncheck {condition}\n")
+    format!(in alloc;
+        "test t
+bytes 2
+agent A
+r0 = U8[0]
+r1 = U8[1]
+check {condition}
+"
+    )
 }
 
 #[test]

@@ -6,8 +6,38 @@ use std::alloc::Global;
 use std::process::Abort;
 use std::test::Fail;
 
-const WHOLE: &str =
-    "test whole\nbytes 16\nagent A\nr0 = U8[15]\nr1 = U16[7]\nr2 = U32[3]\nU8[0] = 255\nU16[0] = 65535\nU32[0] = 4294967295\nr3 = Atomics.load(U16, 7)\nAtomics.store(U32, 3, 5)\nr4 = Atomics.exchange(U8, 0, 1)\nr5 = Atomics.compareExchange(U32, 1, 4294967295, 2)\nr6 = DV.getUint8(15)\nr7 = DV.getUint16(14, true)\nr0 = DV.getUint32(12, true)\nDV.setUint8(15, 1)\nDV.setUint16(14, 2, true)\nDV.setUint32(12, 3, true)\nif r0 == 1 {\nr1 = U8[0]\nif r1 != 2 {\n}\n} else {\nU8[1] = 1\nr2 = U8[2]\n}\nif r0 == 0 {\n} else {\n}\ncheck !(A.r0 == 1 && A.r1 != 2) || (A.r2 == 3 || !!A.r3 == 4) && A.r4 == 5\n";
+const WHOLE: &str = "test whole
+bytes 16
+agent A
+r0 = U8[15]
+r1 = U16[7]
+r2 = U32[3]
+U8[0] = 255
+U16[0] = 65535
+U32[0] = 4294967295
+r3 = Atomics.load(U16, 7)
+Atomics.store(U32, 3, 5)
+r4 = Atomics.exchange(U8, 0, 1)
+r5 = Atomics.compareExchange(U32, 1, 4294967295, 2)
+r6 = DV.getUint8(15)
+r7 = DV.getUint16(14, true)
+r0 = DV.getUint32(12, true)
+DV.setUint8(15, 1)
+DV.setUint16(14, 2, true)
+DV.setUint32(12, 3, true)
+if r0 == 1 {
+r1 = U8[0]
+if r1 != 2 {
+}
+} else {
+U8[1] = 1
+r2 = U8[2]
+}
+if r0 == 0 {
+} else {
+}
+check !(A.r0 == 1 && A.r1 != 2) || (A.r2 == 3 || !!A.r3 == 4) && A.r4 == 5
+";
 
 /// That a statement is an access, told by what it has: register, view, index, expected, value, atomic.
 fn has(
@@ -257,7 +287,17 @@ fn deep_ifs(rt: HostRuntime) -> Result<(), Fail> {
     let eight = nested(
         rt.alloc(),
         8,
-        b"r0 = U8[0]\n}\n}\n}\n}\n}\n}\n}\n}\ncheck A.r0 == 0\n",
+        b"r0 = U8[0]
+}
+}
+}
+}
+}
+}
+}
+}
+check A.r0 == 0
+",
     )?;
     assert!(rt; read(rt.alloc(), &eight).is_ok());
     refused(&rt, &nested(rt.alloc(), 9, b"")?, ReadKind::TooDeep, 12);

@@ -6,7 +6,12 @@ use std::test::Fail;
 
 /// A text with this name, this load again and again, and this end.
 fn loading(alloc: Global, name: &str, load: &str, check: &str) -> Result<String, AllocError> {
-    let mut text = format!(in alloc; "test {name}\nbytes 1\nagent A\n")?;
+    let mut text = format!(in alloc;
+        "test {name}
+bytes 1
+agent A
+"
+    )?;
     for _ in 0..5_954 {
         text.push_str(load)?;
     }

@@ -1,6 +1,4 @@
-//! Collects the outcomes of a litmus test, and prints how many choices and outcomes it has. The text stands on standard
-//! input; the one word is how many pieces the choices are taken in.
-#![tactic(auto)]
+//! Collecting: the outcomes of a litmus test, whose choices are taken in pieces, and no report of them.
 
 ghost use Rattle.std.specs.Prelude.{◌<◌};
 
@@ -8,9 +6,6 @@ use lit_paths::{Plan, plan};
 use lit_read::read;
 use lit_search::{Collector, Found, SearchFault};
 use std::alloc::Global;
-use std::env;
-use std::io;
-use std::io::Read;
 use std::test::Fail;
 
 /// The report of all choices, taken in pieces of this many.
@@ -28,19 +23,9 @@ fn collect(alloc: Global, plan: &Plan<'_>, size: u64) -> Result<Found, SearchFau
     collector.into_found()
 }
 
-/// How many pieces the words ask for: 1 where they do not say.
-fn pieces(rt: &HostRuntime) -> io::Result<u64> {
-    match env::args(rt)?.nth(1) {
-        Some(word) => Ok(word.as_str().parse::<u64>().unwrap_or(1).max(1)),
-        None => Ok(1),
-    }
-}
-
-fn main(rt: HostRuntime) -> Result<(), Fail> {
-    let pieces = pieces(&rt)?;
-    let mut text = Vec::new(rt.alloc());
-    rt.stdin().read_to_end(&mut text)?;
-    let test = read(rt.alloc(), &text)?;
+/// Prints how many choices and outcomes the test of a text has, which are collected in so many pieces.
+pub(super) fn measure(rt: &HostRuntime, text: &[u8], pieces: u64) -> Result<(), Fail> {
+    let test = read(rt.alloc(), text)?;
     let plan = plan(rt.alloc(), &test)?;
     let size = plan
         .total()

@@ -1,24 +1,24 @@
-//! The mean time of one least memory-order by each finder, over executions of one test: in a block of sixteen bytes one
-//! agent stores byte 0 four times, and three agents load it eight times, all through Atomics. And the mean time to find
-//! what is forced, over these and over those of a small test: two agents store one byte each, and two others load both.
-//! It is no part of the product.
-#![tactic(auto)]
+//! Ordering: the mean time of one least memory-order by each finder, over executions of one test: in a block of sixteen
+//! bytes one agent stores byte 0 four times, and three agents load it eight times, all through Atomics. And the mean time to
+//! find what is forced, over these and over those of a small test: two agents store one byte each, and two others load both.
 
 use lit_order::{ForcedFinder, OrderFinder, PlainFinder, forced_precedence};
 use lit_paths::BYTE_READ_LIMIT;
 use lit_rel::{Between, EventSet, Rows};
-use std::alloc::AllocError;
-use std::alloc::Global;
+use std::alloc::{AllocError, Global};
 use std::io;
 use std::time::Instant;
 
 /// The events by number: what makes the block, then the stores, then the loads.
 const EVENTS: usize = 28;
+
 const FIRST_STORE: usize = 16;
+
 const FIRST_LOAD: usize = 20;
 
 /// How many executions are tried, and how often each is asked.
 const TRIED: usize = 65_536;
+
 const TURNS: usize = 64;
 
 /// Puts a pair in, and what it leads through.
@@ -37,7 +37,10 @@ fn unsourced() -> Rows {
         } else {
             close(&mut rows, 0, event);
         }
-        let first_of_agent = event == FIRST_STORE || event == FIRST_LOAD || event == 23 || event == 26;
+        let first_of_agent = event == FIRST_STORE
+            || event == FIRST_LOAD
+            || event == 23
+            || event == 26;
         if event > FIRST_STORE && !first_of_agent {
             close(&mut rows, event - 1, event);
         }
@@ -53,7 +56,11 @@ fn execution(unsourced: &Rows, number: u64) -> (Rows, Between) {
     for load in FIRST_LOAD..EVENTS {
         let digit = (left % 5) as usize;
         left /= 5;
-        let source = if digit == 0 { 0 } else { FIRST_STORE + digit - 1 };
+        let source = if digit == 0 {
+            0
+        } else {
+            FIRST_STORE + digit - 1
+        };
         if digit > 0 {
             close(&mut rows, source, load);
         }
@@ -63,7 +70,9 @@ fn execution(unsourced: &Rows, number: u64) -> (Rows, Between) {
                 others = others.with(store);
             }
         }
-        let room = between.pairs().len() < BYTE_READ_LIMIT && source < between.len() && load < between.len();
+        let room = between.pairs().len() < BYTE_READ_LIMIT
+            && source < between.len()
+            && load < between.len();
         if room {
             between.forbid(source as u8, load as u8, others);
         }
@@ -142,29 +151,55 @@ fn found<F: OrderFinder>(finder: &F, all: &[(Rows, Between)]) -> usize {
 }
 
 /// Prints the mean time of one order.
-fn report<F: OrderFinder>(rt: &HostRuntime, name: &str, finder: &F, all: &[(Rows, Between)]) -> io::Result<()> {
+fn report<F: OrderFinder>(
+    rt: &HostRuntime,
+    name: &str,
+    finder: &F,
+    all: &[(Rows, Between)],
+) -> io::Result<()> {
     let start = Instant::now(rt)?;
     let orders = found(finder, all);
     let spent = start.elapsed(rt)?.as_nanos();
     let asked = all.len().max(1);
-    println!(rt; "{name}: {} ns an answer, {} executions, {} orders", spent / (asked as u128) / (TURNS as u128), asked, orders / TURNS)
+    println!(rt;
+        "{name}: {} ns an answer, {} executions, {} orders",
+        spent / (asked as u128) / (TURNS as u128),
+        asked,
+        orders / TURNS
+    )
 }
 
 /// Prints the mean time to find what is forced.
-fn report_forced(rt: &HostRuntime, name: &str, all: &[(Rows, Between)], turns: usize) -> io::Result<()> {
+fn report_forced(
+    rt: &HostRuntime,
+    name: &str,
+    all: &[(Rows, Between)],
+    turns: usize,
+) -> io::Result<()> {
     let start = Instant::now(rt)?;
     let count = unbroken(all, turns);
     let spent = start.elapsed(rt)?.as_nanos();
     let asked = all.len().max(1);
     let each = turns.max(1);
-    println!(rt; "{name}: {} ns an answer, {} executions, {} of them unbroken", spent / (asked as u128) / (each as u128), asked, count / each)
+    println!(rt;
+        "{name}: {} ns an answer, {} executions, {} of them unbroken",
+        spent / (asked as u128) / (each as u128),
+        asked,
+        count / each
+    )
 }
 
-fn main(rt: HostRuntime) -> io::Result<()> {
+/// Prints the mean times.
+pub(super) fn measure(rt: &HostRuntime) -> io::Result<()> {
     let all = executions(rt.alloc())?;
-    report(&rt, "ForcedFinder", &ForcedFinder, all.as_slice())?;
-    report(&rt, "PlainFinder", &PlainFinder, all.as_slice())?;
-    report_forced(&rt, "forced_precedence", all.as_slice(), TURNS)?;
+    report(rt, "ForcedFinder", &ForcedFinder, all.as_slice())?;
+    report(rt, "PlainFinder", &PlainFinder, all.as_slice())?;
+    report_forced(rt, "forced_precedence", all.as_slice(), TURNS)?;
     let small = small_executions(rt.alloc())?;
-    report_forced(&rt, "forced_precedence of eight events", small.as_slice(), 8_192)
+    report_forced(
+        rt,
+        "forced_precedence of eight events",
+        small.as_slice(),
+        8_192,
+    )
 }

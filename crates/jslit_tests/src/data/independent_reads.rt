@@ -2,7 +2,7 @@
 
 use super::reports::Reported;
 
-pub(super) const INDEPENDENT_READS: Reported = (
+pub(crate) const INDEPENDENT_READS: Reported = (
     lit_texts::INDEPENDENT_READS,
     "test iriw
 outcome C.r0=0 C.r1=0 D.r0=0 D.r1=0
@@ -101,7 +101,7 @@ data race no
 ",
 );
 
-pub(super) const INDEPENDENT_READS_PLAIN: Reported = (
+pub(crate) const INDEPENDENT_READS_PLAIN: Reported = (
     lit_texts::INDEPENDENT_READS_PLAIN,
     "test iriw
 outcome C.r0=0 C.r1=0 D.r0=0 D.r1=0

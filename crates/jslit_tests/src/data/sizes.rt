@@ -118,4 +118,4 @@ data race no
 );
 
 /// Overlapping stores and loads, a typed array load, a DataView load, exchanges of several bytes.
-pub(super) const SIZE_REPORTS: [Reported; 4] = [MIXED_SIZES, TORN_READ, VIEWED_READ, WIDE_EXCHANGE];
+pub(crate) const SIZE_REPORTS: [Reported; 4] = [MIXED_SIZES, TORN_READ, VIEWED_READ, WIDE_EXCHANGE];

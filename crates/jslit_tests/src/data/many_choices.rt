@@ -2,7 +2,7 @@
 
 use super::reports::Reported;
 
-pub(super) const COAST: Reported = (
+pub(crate) const COAST: Reported = (
     "test coast
 bytes 4
 agent A

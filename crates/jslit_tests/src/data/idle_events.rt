@@ -2,7 +2,7 @@
 
 use super::reports::Reported;
 
-pub(super) const WIDE: Reported = (
+pub(crate) const WIDE: Reported = (
     lit_texts::AMONG_IDLE_EVENTS,
     "test wide
 outcome A.r0=0 B.r0=1
@@ -24,7 +24,7 @@ data race no
 );
 
 /// The same with one access more.
-pub(super) const WIDER: Reported = (
+pub(crate) const WIDER: Reported = (
     "test wide
 bytes 16
 agent A
@@ -66,7 +66,7 @@ data race no
 );
 
 /// The last four bytes of the largest block.
-pub(super) const EDGE: Reported = (
+pub(crate) const EDGE: Reported = (
     "test edge
 bytes 32
 agent A
@@ -89,7 +89,7 @@ data race yes
 );
 
 /// As many accesses as a test may have, the last of which reads what the one before it stores.
-pub(super) const LONG: Reported = (
+pub(crate) const LONG: Reported = (
     "test long
 bytes 1
 agent A

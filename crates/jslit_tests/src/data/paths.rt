@@ -2,7 +2,7 @@
 
 use super::reports::Reported;
 
-pub(super) const LOAD_BUFFERING: Reported = (
+pub(crate) const LOAD_BUFFERING: Reported = (
     lit_texts::LOAD_BUFFERING,
     "test lb
 outcome A.r0=0 B.r0=0
@@ -19,7 +19,7 @@ data race yes
 ",
 );
 
-pub(super) const LOAD_BUFFERING_ATOMIC: Reported = (
+pub(crate) const LOAD_BUFFERING_ATOMIC: Reported = (
     lit_texts::LOAD_BUFFERING_ATOMIC,
     "test lb
 outcome A.r0=0 B.r0=0
@@ -32,7 +32,7 @@ data race no
 ",
 );
 
-pub(super) const BOTH_EXCHANGE_FOR_ONE: Reported = (
+pub(crate) const BOTH_EXCHANGE_FOR_ONE: Reported = (
     lit_texts::BOTH_EXCHANGE_FOR_ONE,
     "test cas
 outcome A.r0=0 B.r0=1
@@ -49,7 +49,7 @@ data race no
 ",
 );
 
-pub(super) const FAILED_EXCHANGE: Reported = (
+pub(crate) const FAILED_EXCHANGE: Reported = (
     lit_texts::FAILED_EXCHANGE,
     "test casfail
 outcome A.r0=0 A.r1=0
@@ -70,7 +70,7 @@ data race yes
 ",
 );
 
-pub(super) const SWAPS: Reported = (
+pub(crate) const SWAPS: Reported = (
     lit_texts::SWAPS,
     "test swap
 outcome A.r0=0 B.r0=1
@@ -87,7 +87,7 @@ data race no
 ",
 );
 
-pub(super) const REGISTER_OVERWRITTEN: Reported = (
+pub(crate) const REGISTER_OVERWRITTEN: Reported = (
     "test overwritten
 bytes 1
 agent A
@@ -120,7 +120,7 @@ data race yes
 ",
 );
 
-pub(super) const REGISTER_UNWRITTEN: Reported = (
+pub(crate) const REGISTER_UNWRITTEN: Reported = (
     "test unwritten
 bytes 1
 agent A
@@ -147,7 +147,7 @@ data race yes
 );
 
 // The decision is the same either way, and no statement follows it.
-pub(super) const EMPTY_PARTS: Reported = (
+pub(crate) const EMPTY_PARTS: Reported = (
     "test t
 bytes 1
 agent A
@@ -167,7 +167,7 @@ data race no
 );
 
 // A DataView access of one byte.
-pub(super) const VIEWED_BYTE: Reported = (
+pub(crate) const VIEWED_BYTE: Reported = (
     "test t
 bytes 1
 agent A
@@ -184,7 +184,7 @@ data race no
 ",
 );
 
-pub(super) const PATH_REPORTS: [Reported; 9] = [
+pub(crate) const PATH_REPORTS: [Reported; 9] = [
     LOAD_BUFFERING,
     LOAD_BUFFERING_ATOMIC,
     BOTH_EXCHANGE_FOR_ONE,

@@ -5,7 +5,7 @@ use Rattle.lit_read.specs.Syntax.{Litmus}
 use Rattle.lit_paths.specs.ByteReads.{byte_read_at, byte_reads}
 use Rattle.lit_paths.specs.Plan.{ListsCandidates, events_in}
 use Rattle.lit_rel.specs.Part.{part_events}
-use Rattle.parts.proofs.push_candidate.Goals as goal
+use Rattle.lit_measure.proofs.parts.push_candidate.Goals as goal
 
 pub push-requires : goal.push-requires
 push-requires c =

@@ -1,12 +1,9 @@
-//! Goes over all parts of a litmus test some times: to each byte read it gives each candidate in turn, also where the
-//! part is broken, and takes it back. Prints how many parts are opened, and how many pushes and pops that is in a second.
-//! The text stands on standard input.
-#![tactic(auto)]
+//! Parts: going over all parts of a litmus test some times. Each byte read is given each candidate in turn, also where the
+//! part is broken, and it is taken back.
 
 use lit_paths::{BYTE_READ_LIMIT, Plan, plan};
 use lit_read::read;
 use lit_rel::Part;
-use std::io::Read;
 use std::test::Fail;
 use std::time::Instant;
 
@@ -67,21 +64,26 @@ fn walk_all(plan: &Plan<'_>, count: &mut Count) {
     }
 }
 
-fn main(rt: HostRuntime) -> Result<(), Fail> {
-    let mut text = Vec::new(rt.alloc());
-    rt.stdin().read_to_end(&mut text)?;
-    let test = read(rt.alloc(), &text)?;
+/// Prints how many parts of the test of a text are opened, and how many pushes and pops that is in a second.
+pub(super) fn measure(rt: &HostRuntime, text: &[u8]) -> Result<(), Fail> {
+    let test = read(rt.alloc(), text)?;
     let plan = plan(rt.alloc(), &test)?;
     let mut one = Count::default();
     walk_all(&plan, &mut one);
-    let turns = WANTED.checked_div(one.pushes).unwrap_or(0).saturating_add(1);
+    let turns = WANTED
+        .checked_div(one.pushes)
+        .unwrap_or(0)
+        .saturating_add(1);
     let mut count = Count::default();
-    let start = Instant::now(&rt)?;
+    let start = Instant::now(rt)?;
     for _ in 0..turns {
         walk_all(&plan, &mut count);
     }
-    let spent = start.elapsed(&rt)?.as_nanos().max(1);
+    let spent = start.elapsed(rt)?.as_nanos().max(1);
     let second = u128::from(count.pushes).saturating_mul(1_000_000_000) / spent;
-    println!(rt; "{} parts opened, {} pushes, {} of them broken: {} pushes and pops a second", one.parts, one.pushes, one.broken, second)?;
+    println!(rt;
+        "{} parts opened, {} pushes, {} of them broken: {} pushes and pops a second",
+        one.parts, one.pushes, one.broken, second
+    )?;
     Ok(())
 }

@@ -3,9 +3,9 @@
 use super::independent_reads::{INDEPENDENT_READS, INDEPENDENT_READS_PLAIN};
 
 /// A text and its report.
-pub(super) type Reported = (&'static str, &'static str);
+pub(crate) type Reported = (&'static str, &'static str);
 
-pub(super) const STORE_BUFFERING: Reported = (
+pub(crate) const STORE_BUFFERING: Reported = (
     lit_texts::STORE_BUFFERING,
     "test sb
 outcome A.r0=0 B.r0=1
@@ -26,7 +26,7 @@ data race no
 ",
 );
 
-pub(super) const STORE_BUFFERING_PLAIN: Reported = (
+pub(crate) const STORE_BUFFERING_PLAIN: Reported = (
     lit_texts::STORE_BUFFERING_PLAIN,
     "test sbplain
 outcome A.r0=0 B.r0=0
@@ -51,7 +51,7 @@ data race yes
 ",
 );
 
-pub(super) const MESSAGE_PASSING: Reported = (
+pub(crate) const MESSAGE_PASSING: Reported = (
     lit_texts::MESSAGE_PASSING,
     "test mp
 outcome B.r0=0 B.r1=0
@@ -72,7 +72,7 @@ data race yes
 ",
 );
 
-pub(super) const MESSAGE_PASSING_PLAIN: Reported = (
+pub(crate) const MESSAGE_PASSING_PLAIN: Reported = (
     lit_texts::MESSAGE_PASSING_PLAIN,
     "test mpplain
 outcome B.r0=0 B.r1=0
@@ -97,7 +97,7 @@ data race yes
 ",
 );
 
-pub(super) const READ_READ_COHERENCE_PLAIN: Reported = (
+pub(crate) const READ_READ_COHERENCE_PLAIN: Reported = (
     lit_texts::READ_READ_COHERENCE_PLAIN,
     "test corr
 outcome B.r0=0 B.r1=0
@@ -122,7 +122,7 @@ data race yes
 ",
 );
 
-pub(super) const READ_READ_COHERENCE_ATOMIC: Reported = (
+pub(crate) const READ_READ_COHERENCE_ATOMIC: Reported = (
     lit_texts::READ_READ_COHERENCE_ATOMIC,
     "test corr
 outcome B.r0=0 B.r1=0
@@ -143,7 +143,7 @@ data race no
 ",
 );
 
-pub(super) const OWN_STORE: Reported = (
+pub(crate) const OWN_STORE: Reported = (
     lit_texts::OWN_STORE,
     "test own
 outcome A.r0=1
@@ -155,7 +155,7 @@ data race no
 ",
 );
 
-pub(super) const UNTOUCHED_BYTE: Reported = (
+pub(crate) const UNTOUCHED_BYTE: Reported = (
     lit_texts::UNTOUCHED_BYTE,
     "test still
 outcome A.r0=0
@@ -167,7 +167,7 @@ data race no
 ",
 );
 
-pub(super) const EQUAL_STORES: Reported = (
+pub(crate) const EQUAL_STORES: Reported = (
     lit_texts::EQUAL_STORES,
     "test twin
 outcome C.r0=0
@@ -182,7 +182,7 @@ data race yes
 ",
 );
 
-pub(super) const PUBLICATION: Reported = (
+pub(crate) const PUBLICATION: Reported = (
     lit_texts::PUBLICATION,
     "test pub
 outcome B.r0=0 B.r1=0
@@ -198,7 +198,7 @@ data race no
 ",
 );
 
-pub(super) const MASKED_STORE: Reported = (
+pub(crate) const MASKED_STORE: Reported = (
     lit_texts::MASKED_STORE,
     "test mask
 outcome B.r0=0
@@ -210,7 +210,7 @@ data race yes
 ",
 );
 
-pub(super) const REPORTS: [Reported; 13] = [
+pub(crate) const REPORTS: [Reported; 13] = [
     STORE_BUFFERING,
     STORE_BUFFERING_PLAIN,
     MESSAGE_PASSING,
