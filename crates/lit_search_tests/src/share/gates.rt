@@ -104,7 +104,7 @@ fn gate_holds_first_piece(rt: HostRuntime) -> Result<(), Fail> {
     asks_halves(&rt, &plan, &Holding::new(0, 0b10))
 }
 
-/// For each of four pieces the others.
+/// Each of four pieces, and the other three as a set of bits.
 const HELD: [(u64, u64); 4] = [(0, 0b1110), (1, 0b1101), (2, 0b1011), (3, 0b0111)];
 
 /// That two workers search a test of three outcomes and four pieces while the gate holds one of them.
@@ -142,8 +142,8 @@ fn asks_pieces(
 fn gate_drains_desk(rt: HostRuntime) -> Result<(), Fail> {
     let test = read(rt.alloc(), STORE_BUFFERING.as_bytes())?;
     let plan = plan(rt.alloc(), &test)?;
-    for (held, awaited) in HELD {
-        searches_pieces(&rt, &plan, held, awaited)?;
+    for (held, awaited) in &HELD {
+        searches_pieces(&rt, &plan, *held, *awaited)?;
     }
     Ok(())
 }
@@ -152,8 +152,8 @@ fn gate_drains_desk(rt: HostRuntime) -> Result<(), Fail> {
 fn gate_drains_desk_of_quick(rt: HostRuntime) -> Result<(), Fail> {
     let test = read(rt.alloc(), STORE_BUFFERING.as_bytes())?;
     let plan = plan(rt.alloc(), &test)?;
-    for (held, awaited) in HELD {
-        asks_pieces(&rt, &plan, held, awaited)?;
+    for (held, awaited) in &HELD {
+        asks_pieces(&rt, &plan, *held, *awaited)?;
     }
     Ok(())
 }
