@@ -14,12 +14,15 @@ ghost use Rattle.jslit.specs.Internal.Saying.{HasSaid, IsSaid};
 use crate::command::asked_line::Line;
 use crate::command::words::line;
 use crate::counted::Counted;
-use crate::engine::{Options, run};
+use crate::engine::answering::passes;
+use crate::engine::{Options, run_watched};
 use crate::fault::RunFault;
 use crate::interleaving::run_schedule;
 use crate::page::refusing::{write_plan_fault, write_read_fault, write_unknown_agent};
+use crate::watch::Watch;
 use clap::Error;
 use clap::error::ErrorKind;
+use lit_share::OpenGate;
 use std::alloc::Global;
 use std::convert::AsStr;
 use std::io::{Read, Write};
@@ -44,30 +47,58 @@ pub fn program<'a, T: Threads + Sync + Files, S: AsStr, R: Read, W: Write, E: Wr
     ensures words { result ≡ 2 → output.new ≡ output.old }
     ensures memory { result ≡ 3 → output.new ≡ output.old }
 {
+    program_watched(rt, alloc, words, input, output, errors, &OpenGate)
+}
+
+/// This is `program`, with a watch that follows the run, if the words ask for one.
+pub fn program_watched<
+    'a,
+    T: Threads + Sync + Files,
+    S: AsStr,
+    R: Read,
+    W: Write,
+    E: Write,
+    G: Watch<Pass = ()>,
+>(
+    rt: &T,
+    alloc: Global,
+    words: &'a [S],
+    input: &mut Counted<R>,
+    output: &mut Counted<W>,
+    errors: &mut E,
+    watch: &G,
+) -> u8
+    requires input { failures_of input.old < 2 ^ 64 - 1 }
+    requires output { failures_of output.old < 2 ^ 64 - 1 }
+    ensures status { IsStatus result }
+    ensures words { result ≡ 2 → output.new ≡ output.old }
+    ensures memory { result ≡ 3 → output.new ≡ output.old }
+{
     let line = match line(alloc, words) {
         Ok(line) => line,
         Err(error) => return explain(output, errors, &error),
     };
     let Some(path) = line.file else {
-        return serve(rt, alloc, input, output, errors, &line);
+        return serve(rt, alloc, input, output, errors, &line, watch);
     };
     match fs::open(rt, path) {
         Ok(file) => {
             let mut opened = Counted::new(file);
-            serve(rt, alloc, &mut opened, output, errors, &line)
+            serve(rt, alloc, &mut opened, output, errors, &line, watch)
         }
         Err(_) => say(output, errors, RunFault::InputFailed),
     }
 }
 
 /// Prints what a line asks for of the litmus text of the input. Gives the status.
-fn serve<T: Threads + Sync, R: Read, W: Write, E: Write>(
+fn serve<T: Threads + Sync, R: Read, W: Write, E: Write, G: Watch<Pass = ()>>(
     rt: &T,
     alloc: Global,
     input: &mut Counted<R>,
     output: &mut Counted<W>,
     errors: &mut E,
     line: &Line<'_>,
+    watch: &G,
 ) -> u8
     requires input { failures_of input.old < 2 ^ 64 - 1 }
     requires output { failures_of output.old < 2 ^ 64 - 1 }
@@ -76,7 +107,7 @@ fn serve<T: Threads + Sync, R: Read, W: Write, E: Write>(
 {
     match line.schedule {
         Some(schedule) => check_schedule(alloc, input, output, errors, schedule.as_bytes()),
-        None => check(rt, alloc, input, output, errors, line.options),
+        None => check_watched(rt, alloc, input, output, errors, line.options, watch),
     }
 }
 
@@ -112,7 +143,45 @@ pub fn check<T: Threads + Sync, R: Read, W: Write, E: Write>(
         ⊎ OfToldText (R.remaining (device_of input.old)) (λ text.
         HasBegun options.quick text (W.contents (device_of output.old)) (W.contents (device_of output.new))) }
 {
-    let ran = run(rt, alloc, input, output, options);
+    check_watched(rt, alloc, input, output, errors, options, &OpenGate)
+}
+
+/// This is `check`, with a watch that follows the run.
+pub fn check_watched<T: Threads + Sync, R: Read, W: Write, E: Write, G: Watch<Pass = ()>>(
+    rt: &T,
+    alloc: Global,
+    input: &mut Counted<R>,
+    output: &mut Counted<W>,
+    errors: &mut E,
+    options: Options,
+    watch: &G,
+) -> u8
+    requires input { failures_of input.old < 2 ^ 64 - 1 }
+    requires output { failures_of output.old < 2 ^ 64 - 1 }
+    ensures status { IsCheckStatus result }
+    ensures reported { result ≡ 0 → OfToldText (R.remaining (device_of input.old)) (λ text.
+        HasReported options.quick text (W.contents (device_of output.old)) (W.contents (device_of output.new))) }
+
+    // The output takes the line of the refusal, or a beginning of it where a write failed.
+    ensures refused { result ≡ 1 → OfToldText (R.remaining (device_of input.old)) (λ text.
+        HasRefused text (W.contents (device_of output.old)) (W.contents (device_of output.new)) (failures_of output.old < failures_of output.new)) }
+    ensures memory { result ≡ 3 → output.new ≡ output.old }
+    ensures input_failed { failures_of input.old < failures_of input.new → (result ≡ 4) × (output.new ≡ output.old) }
+
+    // An input or output failed, or flushing the whole report did. The output takes a beginning of the report, or nothing.
+    ensures failed { result ≡ 4 →
+        (failures_of input.old < failures_of input.new)
+        ⊎ (failures_of output.old < failures_of output.new)
+        ⊎ OfToldText (R.remaining (device_of input.old)) (λ text.
+        HasReported options.quick text (W.contents (device_of output.old)) (W.contents (device_of output.new))) }
+    ensures begun { result ≡ 4 → (output.new ≡ output.old)
+        ⊎ OfToldText (R.remaining (device_of input.old)) (λ text.
+        HasBegun options.quick text (W.contents (device_of output.old)) (W.contents (device_of output.new))) }
+{
+    let Ok(passes) = passes(alloc, options.workers) else {
+        return say(output, errors, RunFault::OutOfMemory);
+    };
+    let ran = run_watched(rt, alloc, input, output, options, watch, passes);
     finish(output, errors, ran)
 }
 

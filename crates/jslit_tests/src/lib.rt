@@ -21,6 +21,8 @@ mod schedules;
 #[cfg(test)]
 mod uneven_devices;
 #[cfg(test)]
+mod watched;
+#[cfg(test)]
 mod whole_reports;
 #[cfg(test)]
 mod workers;

@@ -15,11 +15,12 @@ use crate::fault::RunFault;
 use crate::laws::reports_are_complete;
 use crate::page::reporting::{write_quick_report, write_report};
 use crate::verdict::{verdict_from, verdict_on};
+use crate::watch::Watch;
 use lit_paths::{Plan, plan};
 use lit_read::read;
 use lit_search::laws::choices_have_one_outcome;
 use lit_search::{Class, Example, Found, search_range};
-use lit_share::{OpenGate, quick, search};
+use lit_share::{quick, search};
 use std::alloc::{AllocError, Global};
 use std::io::Write;
 use std::thread::Threads;
@@ -42,8 +43,8 @@ fn cut_of(total: u64, options: Options) -> u64
     options.cut.max(total.div_ceil(pieces))
 }
 
-/// A pass for each worker.
-fn passes(alloc: Global, workers: usize) -> Result<Vec<()>, AllocError>
+/// A pass for each worker, of those that carry nothing.
+pub(crate) fn passes(alloc: Global, workers: usize) -> Result<Vec<()>, AllocError>
     ensures { IfOk result (λ passes. length passes.items ≡ workers) }
 {
     let mut passes = Vec::new(alloc);
@@ -52,13 +53,16 @@ fn passes(alloc: Global, workers: usize) -> Result<Vec<()>, AllocError>
 }
 
 /// Searches all choices, and writes the report on them.
-fn report<T: Threads + Sync, W: Write>(
+fn report<T: Threads + Sync, W: Write, G: Watch>(
     rt: &T,
     alloc: Global,
     plan: &Plan<'_>,
     output: &mut Counted<W>,
     options: Options,
+    watch: &G,
+    passes: Vec<G::Pass>,
 ) -> Result<(), RunFault>
+    requires { length passes.items ≡ options.workers }
     ensures written { OnOk result (HasWritten false plan.now (W.contents (device_of output.old)) (W.contents (device_of output.new))) }
     ensures not_failed { OnOk result (failures_of output.new ≡ failures_of output.old) }
     ensures begun { IsErrOf result RunFault.OutputFailed → HasWrittenSome false plan.now (W.contents (device_of output.old)) (W.contents (device_of output.new)) }
@@ -67,8 +71,10 @@ fn report<T: Threads + Sync, W: Write>(
     ensures fault { IfErr result IsOfWriting }
 {
     let cut = cut_of(plan.total(), options);
-    let passes = passes(alloc, options.workers)?;
-    let found = search(rt, alloc, plan, cut, &OpenGate, passes)?;
+    watch.begin(plan.total().div_ceil(cut));
+    let searched = search(rt, alloc, plan, cut, watch, passes);
+    watch.end();
+    let found = searched?;
     let verdict = verdict_on(plan, &found);
     reports_are_complete();
     write_report(output, plan, &found, verdict)
@@ -96,13 +102,16 @@ fn first_found(
 }
 
 /// Searches the first choice of each class, and writes the quick report.
-fn quick_report<T: Threads + Sync, W: Write>(
+fn quick_report<T: Threads + Sync, W: Write, G: Watch>(
     rt: &T,
     alloc: Global,
     plan: &Plan<'_>,
     output: &mut Counted<W>,
     options: Options,
+    watch: &G,
+    passes: Vec<G::Pass>,
 ) -> Result<(), RunFault>
+    requires { length passes.items ≡ options.workers }
     ensures written { OnOk result (HasWritten true plan.now (W.contents (device_of output.old)) (W.contents (device_of output.new))) }
     ensures not_failed { OnOk result (failures_of output.new ≡ failures_of output.old) }
     ensures begun { IsErrOf result RunFault.OutputFailed → HasWrittenSome true plan.now (W.contents (device_of output.old)) (W.contents (device_of output.new)) }
@@ -111,8 +120,10 @@ fn quick_report<T: Threads + Sync, W: Write>(
     ensures fault { IfErr result IsOfWriting }
 {
     let cut = cut_of(plan.total(), options);
-    let passes = passes(alloc, options.workers)?;
-    let first = quick(rt, alloc, plan, cut, &OpenGate, passes)?;
+    watch.begin(plan.total().div_ceil(cut));
+    let asked = quick(rt, alloc, plan, cut, watch, passes);
+    watch.end();
+    let first = asked?;
     let met = first_found(alloc, plan, Class::Met, &first.met)?;
     let unmet = first_found(alloc, plan, Class::Unmet, &first.unmet)?;
     let verdict = verdict_from(met.is_some(), unmet.is_some());
@@ -120,13 +131,16 @@ fn quick_report<T: Threads + Sync, W: Write>(
 }
 
 /// Writes what is answered for a text: the report on the test that it spells. Where there is none, nothing is written.
-pub(crate) fn answer<T: Threads + Sync, W: Write>(
+pub(crate) fn answer<T: Threads + Sync, W: Write, G: Watch>(
     rt: &T,
     alloc: Global,
     text: &[u8],
     output: &mut Counted<W>,
     options: Options,
+    watch: &G,
+    passes: Vec<G::Pass>,
 ) -> Result<(), RunFault>
+    requires { length passes.items ≡ options.workers }
     ensures reported { OnOk result (HasReported options.quick text.now (W.contents (device_of output.old)) (W.contents (device_of output.new))) }
     ensures not_failed { OnOk result (failures_of output.new ≡ failures_of output.old) }
     ensures begun { IsErrOf result RunFault.OutputFailed → HasBegun options.quick text.now (W.contents (device_of output.old)) (W.contents (device_of output.new)) }
@@ -138,7 +152,7 @@ pub(crate) fn answer<T: Threads + Sync, W: Write>(
     let test = read(alloc, text)?;
     let plan = plan(alloc, &test)?;
     if options.quick {
-        return quick_report(rt, alloc, &plan, output, options);
+        return quick_report(rt, alloc, &plan, output, options, watch, passes);
     }
-    report(rt, alloc, &plan, output, options)
+    report(rt, alloc, &plan, output, options, watch, passes)
 }
