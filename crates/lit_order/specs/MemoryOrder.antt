@@ -1,5 +1,5 @@
 -- memory-order (ECMA-262, 2024, 29.7.4), as a list of all events, and the least of several (this project's own).
-use Rattle.std.specs.Prelude.{◌≡◌, ◌≢◌, ℕ, ◌<◌, List, length, Some, slice_get}
+use Rattle.std.specs.Prelude.{◌≡◌, ◌≢◌, ◌↔◌, ℕ, ◌<◌, List, length, Some, slice_get}
 use Rattle.std.specs.Cmp.Lexicographic.{slice_cmp}
 use Rattle.std.specs.Ordering.{nat_cmp}
 use Rattle.std.specs.declared.cmp.Ordering.TheVariants.{Less}
@@ -30,6 +30,10 @@ pub record IsOrderOf (n : ℕ) (before : ℕ → ℕ → Type 0) (forbidden : �
 -- there is one
 abbrev pub HasOrder : ℕ → (ℕ → ℕ → Type 0) → (ℕ → ℕ → ℕ → Type 0) → Type 0
 HasOrder n before forbidden = (order : List ℕ) × IsOrderOf n before forbidden order
+
+-- the orders of one relation are those of another, with the same triples
+abbrev pub HaveSameOrders : ℕ → (ℕ → ℕ → Type 0) → (ℕ → ℕ → Type 0) → (ℕ → ℕ → ℕ → Type 0) → Type 0
+HaveSameOrders n before other forbidden = (order : List ℕ) → IsOrderOf n before forbidden order ↔ IsOrderOf n other forbidden order
 
 -- one of them, of which none is less as a list
 pub record IsLeastOrderOf (n : ℕ) (before : ℕ → ℕ → Type 0) (forbidden : ℕ → ℕ → ℕ → Type 0) (order : List ℕ) : Type 0 where

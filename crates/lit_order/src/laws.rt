@@ -1,11 +1,13 @@
-//! Laws of what is forced.
+//! Laws of what is forced, and of chains.
 
 ghost use Rattle.std.specs.Prelude.{◌≡◌, ◌↔◌, ℕ, List};
 ghost use Rattle.lit_rel.specs.declared.rows.Rows.{Rows};
 ghost use Rattle.lit_rel.specs.Between.{BetweenModel, Forbids};
 ghost use Rattle.lit_rel.specs.Rows.{rows_len, Holds};
-ghost use Rattle.lit_order.specs.Forcing.{IsForced};
-ghost use Rattle.lit_order.specs.MemoryOrder.{StandsBefore, IsOrderOf};
+ghost use Rattle.lit_order.specs.declared.forced.Forced.{Forced};
+ghost use Rattle.lit_order.specs.Forced.{AndPair, IsBefore, Refuses, forced_len};
+ghost use Rattle.lit_order.specs.Forcing.{HasChain, IsForced};
+ghost use Rattle.lit_order.specs.MemoryOrder.{StandsBefore, HaveSameOrders, IsOrderOf};
 
 /// Each order of a relation and forbidden triples keeps what they force. So where an event is forced before itself, no
 /// order is there.
@@ -20,4 +22,11 @@ pub fn forcing_keeps_orders()
     ensures { (before : Rows) (between : BetweenModel) → rows_len before ≡ between.len → (order : List ℕ) →
         IsOrderOf (rows_len before) (Holds before) (Forbids between) order
         ↔ IsOrderOf (rows_len before) (IsForced (Holds before) (Forbids between)) (Forbids between) order }
+{}
+
+/// The orders of chains, with the same triples, are those of the pairs that the chains are of: of a relation, as
+/// `Forced::open` takes it, and of what is before in a `Forced` with one pair more, as `Forced::with` adds it.
+pub fn chains_keep_orders()
+    ensures opened { (before : Rows) (between : BetweenModel) → HaveSameOrders (rows_len before) (Holds before) (HasChain (Holds before)) (Forbids between) }
+    ensures extended { (forced : Forced) (a d : ℕ) → HaveSameOrders (forced_len forced) (AndPair (IsBefore forced) a d) (HasChain (AndPair (IsBefore forced) a d)) (Refuses forced) }
 {}

@@ -195,6 +195,11 @@ module _ (x : Inside) (is : IsEntered x) where
   pub entered_end : x.first + x.total ≡ choices_before t (c + 1)
   entered_end = omega (arith, is.before, is.formed.whole, before_more t c is.known, entered_count)
 
+  pub entered_first : x.first < length (choices_of t)
+  entered_first =
+      let sound = subst (λ (es : List Event). AreEventsIn t.bytes es) is.formed.joined.events is.formed.sound in
+      omega (arith, is.before, some_choice t.bytes (events_in t c) sound, before_more t c is.known, before_le t (c + 1))
+
   entered_at : (n : ℕ) (sources : List ℕ) → slice_get (product lists) (n - x.first) ≡ Some sources → slice_get (sources_of (events_in t c)) (n - choices_before t c) ≡ Some sources
   entered_at n sources at =
       ap (λ (ws : List (List ℕ)). slice_get (product ws) (n - choices_before t c)) (sym entered_lists)

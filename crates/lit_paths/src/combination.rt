@@ -5,7 +5,7 @@ pub(crate) mod joined;
 ghost use Rattle.std.specs.Prelude.{◌≡◌, ℕ, ◌+◌, ◌/◌, ◌%◌, ◌<◌, ◌≤◌, length, map, Some, slice_get};
 ghost use Rattle.lit_paths.specs.declared.limits.TheConstants.{BYTE_READ_LIMIT as READS, CANDIDATE_LIMIT as CANDIDATES, CHOICE_LIMIT, EVENT_LIMIT};
 ghost use Rattle.lit_paths.specs.ByteReads.{byte_reads, byte_read_at, pair_of};
-ghost use Rattle.lit_paths.specs.Choice.{product, AreSources, candidates_of as candidates_among, combinations_of};
+ghost use Rattle.lit_paths.specs.Choice.{product, AreSources, candidates_of as candidates_among, choices_of, combinations_of};
 ghost use Rattle.lit_paths.specs.Numbers.{ways_from};
 ghost use Rattle.lit_paths.specs.declared.byte_reads.ByteRead.{ByteRead as Read};
 ghost use Rattle.lit_paths.specs.Plan.{events_in, choices_before, first_event, path_in, walk_in, AreEventsIn, HasSources, IsOfCombination, IsWalkIn, ListsCandidates};
@@ -228,9 +228,10 @@ impl<'p> Combination<'p> {
         self.formed.ways.later.as_slice()[place]
     }
 
-    /// The number of its first choice.
+    /// The number of its first choice. There is one.
     pub fn first(&self) -> u64
-        ensures { result ≡ choices_before self.now.0 self.now.1 }
+        ensures value { result ≡ choices_before self.now.0 self.now.1 }
+        ensures known { result < length (choices_of self.now.0) }
     {
         self.first
     }

@@ -40,8 +40,8 @@ pub fn combinations_are_walked()
     ensures { (t : Litmus) (c agent : ℕ) → IsLitmus t → c < length (combinations_of t) → agent < length t.agents → IsWalkIn t c agent (walk_in t c agent) }
 {}
 
-/// Of statements that a text can say: there is a run on a path with given values exactly where each test of the path is true of them, and its registers
-/// hold the reads that the path says.
+/// Of statements that a text can say: there is a run on a path with given values exactly where each test of the path is
+/// true of them, and its registers hold the reads that the path says.
 pub fn paths_tell_their_runs()
     ensures { (bytes owner : ℕ) (body : Statements) (steps : List Step) → AreStatementsIn bytes body → IsWalk body steps
         → TellsRuns owner body (path_on owner steps) (path_model owner steps) }

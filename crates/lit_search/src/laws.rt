@@ -18,7 +18,7 @@ pub use completions::{
 pub use schedules::{interleavings_are_reported, interleavings_are_valid, reports_have_an_entry};
 pub use sequential::sequential_executions_are_valid;
 
-/// A set of choices has one report.
+/// A set of choices has one report at most.
 pub fn reports_are_unique()
     ensures { (t : Litmus) (numbers : ℕ → Bool) (a b : Report) → IsReport t numbers a → IsReport t numbers b → a ≡ b }
 {}

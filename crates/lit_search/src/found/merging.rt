@@ -57,8 +57,8 @@ fn is_one_marked(a: &Found, b: &Found) -> bool
 }
 
 /// The outcomes of both, each with the lesser of its examples: by choice, and then by order as a list; and a data race
-/// where either has one. The report of two sets of choices is the merge of theirs. Answers `SearchFault::OutOfMemory` where a growth was refused, and no other
-/// fault.
+/// where either has one. The report of two sets of choices is the merge of theirs. Answers `SearchFault::OutOfMemory`
+/// where a growth was refused, and no other fault.
 pub fn merge(alloc: Global, a: Found, b: Found) -> Result<Found, SearchFault>
     ensures merged { IfOk result (IsMerge a b) }
     ensures reported { IfOk result (λ found. (t : Litmus) (some others : ℕ → Bool) → IsReport t some a → IsReport t others b
