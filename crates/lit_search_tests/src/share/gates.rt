@@ -40,8 +40,8 @@ impl Holding {
         }
     }
 
-    /// Whether these pieces were entered, each once, each worker came with its own pass, and the piece held did not have
-    /// to be let go.
+    /// Whether these pieces were entered, each once, each worker came with its own pass, and the piece held did not
+    /// have to be let go.
     fn let_all_in(&self, pieces: u64) -> bool {
         self.entered.load(Ordering::SeqCst) == pieces
             && self.calls.load(Ordering::SeqCst) == u64::from(pieces.count_ones())
