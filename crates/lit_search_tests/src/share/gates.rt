@@ -21,6 +21,7 @@ struct Holding {
     /// The pieces to wait for, as a set of bits.
     awaited: u64,
     entered: AtomicU64,
+    calls: AtomicU64,
     /// A worker came with the pass of another.
     exchanged: AtomicBool,
     /// The pieces did not come in time.
@@ -33,15 +34,17 @@ impl Holding {
             held,
             awaited,
             entered: AtomicU64::new(0),
+            calls: AtomicU64::new(0),
             exchanged: AtomicBool::new(false),
             gave_up: AtomicBool::new(false),
         }
     }
 
-    /// Whether these pieces were entered, each worker came with its own pass, and the piece held did not have to be let
-    /// go.
+    /// Whether these pieces were entered, each once, each worker came with its own pass, and the piece held did not
+    /// have to be let go.
     fn let_all_in(&self, pieces: u64) -> bool {
         self.entered.load(Ordering::SeqCst) == pieces
+            && self.calls.load(Ordering::SeqCst) == u64::from(pieces.count_ones())
             && !self.exchanged.load(Ordering::SeqCst)
             && !self.gave_up.load(Ordering::SeqCst)
     }
@@ -52,6 +55,7 @@ impl Gate for Holding {
     type Pass = usize;
 
     fn at(&self, pass: &mut usize, worker: usize, piece: u64) {
+        self.calls.fetch_add(1, Ordering::SeqCst);
         if *pass != worker {
             self.exchanged.store(true, Ordering::SeqCst);
         }
