@@ -14,6 +14,7 @@ const QUIET: u64 = 2;
 /// Shows one line that renews itself, once a second at the most and on entering a piece: how many pieces have begun, of
 /// how many, and the seconds gone. Nothing is shown in the first two seconds, and at the end the line is taken away. It is
 /// meant for a terminal: a line is renewed by a carriage return. What can't be written is not shown.
+#[derive(Drop)]
 pub struct Progress<'a, C, E> {
     clock: &'a C,
     began: Option<Instant>,
