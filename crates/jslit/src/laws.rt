@@ -21,7 +21,7 @@ pub fn reports_are_complete()
     choices_are_listed();
 }
 
-/// A text has one report and one quick report: the bytes of its answer are a function of the text.
+/// A text has at most one report and one quick report: the bytes of its answer are a function of the text.
 pub fn answers_are_unique()
     ensures { (quick : Bool) (text answer other : List ℕ) → IsAnswerOn quick text answer → IsAnswerOn quick text other → answer ≡ other }
 {
