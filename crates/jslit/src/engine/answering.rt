@@ -28,25 +28,19 @@ use std::thread::Threads;
 /// How many pieces several workers draw at the most.
 const SHARED_PIECES: u64 = 1_024;
 
-/// How many pieces a worker alone draws at the most: a search is quickest in one, and some tell how far it is.
-const LONE_PIECES: u64 = 64;
-
-/// How many choices a piece of a worker alone has at the least.
-const LONE_CUT: u64 = 1_048_576;
-
-/// How many choices a piece has: those asked for, or more where that would make too many pieces or small ones of a worker
-/// alone.
+/// How many choices a piece has: those asked for, or more where that would make too many pieces. One worker alone needs
+/// no cutting: a search is quickest in one piece.
 fn cut_of(total: u64, options: Options) -> u64
     requires few { total ≤ CHOICE_LIMIT }
     ensures some { 0 < result }
     ensures small { result ≤ CUT_LIMIT }
 {
-    let (pieces, least) = if options.workers == 1 {
-        (LONE_PIECES, LONE_CUT)
+    let pieces = if options.workers == 1 {
+        1
     } else {
-        (SHARED_PIECES, 1)
+        SHARED_PIECES
     };
-    options.cut.max(least).max(total.div_ceil(pieces))
+    options.cut.max(total.div_ceil(pieces))
 }
 
 /// A pass for each worker, of those that carry nothing.
