@@ -64,7 +64,7 @@ impl Gate for Counting {
         }
         self.entered.fetch_add(1u64.wrapping_shl((piece % 16) as u32 * 4), Ordering::SeqCst);
         self.workers
-            .fetch_or(1u64.wrapping_shl(worker as u32), Ordering::SeqCst);
+            .fetch_or(1u64.wrapping_shl((worker % 64) as u32), Ordering::SeqCst);
         for _ in 0..TURNS {
             if self.workers.load(Ordering::SeqCst) & self.awaited == self.awaited {
                 return;
@@ -105,6 +105,7 @@ fn enters(
     for number in 0..options.workers {
         passes.push(number)?;
     }
+    assert_eq!(rt; passes.len(), options.workers);
     let watch = Counting::new(awaited);
     let mut input = Counted::new(INDEPENDENT_READS.0.as_bytes());
     let mut output = Counted::new(Vec::new(alloc));
