@@ -1,5 +1,5 @@
 //! The program jslit: the library's `program` over the standard streams and the words of the command line. Where standard
-//! error is a terminal, a run that goes on for more than two seconds shows there how far it is.
+//! error is a terminal, a run by several workers shows there after two seconds how far it is.
 #![tactic(auto)]
 
 use jslit::{Counted, Progress, no_words, program, program_watched};
