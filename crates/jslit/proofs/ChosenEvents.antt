@@ -95,6 +95,12 @@ events_owned t c lists known =
     subst (λ (p : Path). AllByRecursion (IsOwned (length t.agents)) p.events) is.taken (steps_owned (length t.agents) i 0 is.steps inside))))
 
 -- ---- an entered combination of the test's plan
+pub entered_is : (plan : Litmus) (entered : Litmus × ℕ) → entered.0 ≡ plan → entered ≡ (plan, entered.1)
+entered_is plan entered same = ap (λ (t : Litmus). (t, entered.1)) same
+
+pub of_plan : (plan : Litmus) (n : ℕ) (entered : Litmus × ℕ) → entered.0 ≡ plan → IsOfCombination entered.0 n entered.1 → IsOfCombination plan n entered.1
+of_plan plan n entered same of = let P : Litmus → Type 0 = λ t. IsOfCombination t n entered.1 in subst P same of
+
 module _ (plan test : Litmus) (n c : ℕ) (entered : Litmus × ℕ) (events : List Event) (same : plan ≡ test) (is : entered ≡ (plan, c)) (made : events ≡ events_in entered.0 entered.1) (of : IsOfCombination plan n c) where
   pub entered_events : events ≡ events_in plan c
   entered_events = made ∙ ap (λ (e : Litmus × ℕ). events_in e.0 e.1) is

@@ -1,7 +1,8 @@
 -- What a run comes to that is finished: flushed, or its fault printed.
-use Rattle.std.proofs.Common.{◌≡◌, ◌≢◌, ◌⊎◌, ◌<◌, ◌∙◌, inl, inr, ℕ, List, Option, Ok, Err, OnOk, IfErr, IsErrOf, arith, sym, ap, subst}
+use Rattle.std.proofs.Common.{◌≡◌, ◌≢◌, ◌⊎◌, ◌<◌, ◌≤◌, ◌∙◌, inl, inr, ℕ, List, Option, Ok, Err, OnOk, IfErr, IsErrOf, arith, sym, ap, subst}
 use Rattle.std.specs.declared.result.Result.{Result}
 use Rattle.std.specs.Io.KnownBytes.{Keeps}
+use Rattle.std.proofs.lemmas.Bool.{cases_lt}
 use Rattle.std.proofs.KnownBytes.{Appends-kept}
 use Rattle.jslit.specs.Answer.{HasGrown, HasGrownSome, HasGrownRefusal}
 use Rattle.jslit.specs.Counted.{device_of, failures_of}
@@ -86,3 +87,16 @@ module _ {W : Type 0} (contents : W → Option (List ℕ)) (remaining : Option (
         is_told = some.is_told;
         holds = record { answer = some.holds.answer; on = some.holds.on; begun = rw same some.holds.begun };
       }))
+
+  -- no write failed where the answer is whole
+  pub finished_unfailed : {X : Type 0} (ran : Result X RunFault) → (failures_of old < failures_of mid → IsErrOf ran faults.OutputFailed) → failures_of old ≤ failures_of mid
+      → OnOk ran (failures_of new ≡ failures_of mid) → IfErr ran (IsSaid contents status mid new) → status ≡ 0 → failures_of new ≡ failures_of old
+  finished_unfailed (Ok u) failed count kept said is = elim (cases_lt (failures_of old) (failures_of mid)) [
+    | inl lt ↦
+        let bad : Ok u ≡ Err faults.OutputFailed = failed lt in
+        absurd cc
+    | inr ge ↦
+        let same : failures_of mid ≡ failures_of old = omega arith in
+        kept ∙ same
+  ]
+  finished_unfailed (Err fault) failed count kept said is = absurd (never_zero fault (sym said.status_is ∙ is))

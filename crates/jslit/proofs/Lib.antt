@@ -16,3 +16,5 @@ pub mod OneAnswer
 pub mod NumberFlags
 pub mod Schedules
 pub mod Finishing
+pub mod AskedLines
+pub mod Answered

@@ -73,6 +73,14 @@ HasPut-nothing a = record {
   failed = λ before. record { failed = before; same = refl; known = refl };
 }
 
+-- a text that waits behind what waited
+pub HasPut-waiting : (a : Writing) (waiting text : List ℕ) → waiting ≡ a.waiting ++ text → HasPut a (record { known = a.known; failures = a.failures; waiting = waiting; failed = a.failed }) text
+HasPut-waiting a waiting text is = record {
+  going = λ before after. record { same = refl; front = []; parts = is; appended = Appends-nil a.known };
+  failing = λ before after. absurd cc;
+  failed = λ before. record { failed = before; same = refl; known = refl };
+}
+
 -- the same text, said in another way
 pub HasPut-is : (a b : Writing) (s text : List ℕ) → HasPut a b s → s ≡ text → HasPut a b text
 HasPut-is a b s text p is = subst (λ (w : List ℕ). HasPut a b w) is p

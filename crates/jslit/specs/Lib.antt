@@ -8,4 +8,6 @@ pub mod QuickAnswer
 pub mod Answer
 pub mod Schedule
 pub mod InterleavingAnswer
+pub mod Words
+pub mod ProgramAnswer
 pub mod Internal

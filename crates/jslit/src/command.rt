@@ -3,13 +3,15 @@
 pub(crate) mod asked_line;
 pub(crate) mod words;
 
-ghost use Rattle.std.specs.Prelude.{◌≡◌, ◌≢◌, ◌⊎◌, ◌<◌, ◌^◌, ◌-◌, false, IfErr, OnOk};
+ghost use Rattle.std.specs.Prelude.{◌≡◌, ◌≢◌, ◌⊎◌, ◌<◌, ◌^◌, ◌-◌, false, map, option_map, IfErr, OnOk};
 ghost use Rattle.std.specs.Io.KnownBytes.{Keeps};
 ghost use Rattle.jslit.specs.Answer.{HasReported, HasBegun, HasRefused, IsCheckStatus, IsStatus, status_of};
 ghost use Rattle.jslit.specs.Counted.{device_of, failures_of};
 ghost use Rattle.jslit.specs.Devices.{OfToldText};
 ghost use Rattle.jslit.specs.InterleavingAnswer.{HasInterleaved, HasInterleavedSome, HasRefusedSchedule};
-ghost use Rattle.jslit.specs.Internal.Saying.{HasSaid, IsSaid};
+ghost use Rattle.jslit.specs.ProgramAnswer.{HasAnswered, HasServed};
+ghost use Rattle.jslit.specs.Internal.Saying.{HasSaid, IsExplained, IsSaid};
+ghost use Rattle.clap.specs.Words.{kind_of};
 
 use crate::command::asked_line::Line;
 use crate::command::words::line;
@@ -46,6 +48,7 @@ pub fn program<'a, T: Threads + Sync + Files, S: AsStr, R: Read, W: Write, E: Wr
     ensures status { IsStatus result }
     ensures words { result ≡ 2 → output.new ≡ output.old }
     ensures memory { result ≡ 3 → output.new ≡ output.old }
+    ensures answered { HasAnswered R.remaining W.contents (map S.text words.now) result input.old input.new output.old output.new }
 {
     program_watched(rt, alloc, words, input, output, errors, &OpenGate)
 }
@@ -73,6 +76,7 @@ pub fn program_watched<
     ensures status { IsStatus result }
     ensures words { result ≡ 2 → output.new ≡ output.old }
     ensures memory { result ≡ 3 → output.new ≡ output.old }
+    ensures answered { HasAnswered R.remaining W.contents (map S.text words.now) result input.old input.new output.old output.new }
 {
     let line = match line(alloc, words) {
         Ok(line) => line,
@@ -104,6 +108,8 @@ fn serve<T: Threads + Sync, R: Read, W: Write, E: Write, G: Watch<Pass = ()>>(
     requires output { failures_of output.old < 2 ^ 64 - 1 }
     ensures status { IsCheckStatus result }
     ensures memory { result ≡ 3 → output.new ≡ output.old }
+    ensures served { HasServed W.contents (R.remaining (device_of input.old)) (failures_of input.old < failures_of input.new) line.now.options.quick
+        (option_map (λ text. text.now) line.now.schedule) result output.old output.new }
 {
     match line.schedule {
         Some(schedule) => check_schedule(alloc, input, output, errors, schedule.as_bytes()),
@@ -132,6 +138,8 @@ pub fn check<T: Threads + Sync, R: Read, W: Write, E: Write>(
         HasRefused text (W.contents (device_of output.old)) (W.contents (device_of output.new)) (failures_of output.old < failures_of output.new)) }
     ensures memory { result ≡ 3 → output.new ≡ output.old }
     ensures input_failed { failures_of input.old < failures_of input.new → (result ≡ 4) × (output.new ≡ output.old) }
+
+    ensures unfailed { result ≡ 0 → failures_of output.new ≡ failures_of output.old }
 
     // An input or output failed, or flushing the whole report did. The output takes a beginning of the report, or nothing.
     ensures failed { result ≡ 4 →
@@ -167,6 +175,8 @@ pub fn check_watched<T: Threads + Sync, R: Read, W: Write, E: Write, G: Watch<Pa
         HasRefused text (W.contents (device_of output.old)) (W.contents (device_of output.new)) (failures_of output.old < failures_of output.new)) }
     ensures memory { result ≡ 3 → output.new ≡ output.old }
     ensures input_failed { failures_of input.old < failures_of input.new → (result ≡ 4) × (output.new ≡ output.old) }
+
+    ensures unfailed { result ≡ 0 → failures_of output.new ≡ failures_of output.old }
 
     // An input or output failed, or flushing the whole report did. The output takes a beginning of the report, or nothing.
     ensures failed { result ≡ 4 →
@@ -207,6 +217,8 @@ pub fn check_schedule<R: Read, W: Write, E: Write>(
     ensures memory { result ≡ 3 → output.new ≡ output.old }
     ensures input_failed { failures_of input.old < failures_of input.new → (result ≡ 4) × (output.new ≡ output.old) }
 
+    ensures unfailed { result ≡ 0 → failures_of output.new ≡ failures_of output.old }
+
     // An input or output failed, or flushing the whole answer did. The output takes a beginning of the answer, or nothing.
     ensures failed { result ≡ 4 →
         (failures_of input.old < failures_of input.new)
@@ -228,6 +240,7 @@ fn finish<W: Write, E: Write>(
     ran: Result<(), RunFault>,
 ) -> u8
     requires { IfErr ran (λ fault. status_of fault ≡ 1 → failures_of output.old < 2 ^ 64 - 1) }
+    ensures counted { OnOk ran (failures_of output.new ≡ failures_of output.old) }
     ensures flushed { OnOk ran (((result ≡ 0) ⊎ (result ≡ 4)) × Keeps (W.contents (device_of output.old)) (W.contents (device_of output.new))) }
     ensures said { IfErr ran (IsSaid W.contents result output.old output.new) }
 {
@@ -274,21 +287,23 @@ fn say<W: Write, E: Write>(output: &mut Counted<W>, errors: &mut E, fault: RunFa
     }
 }
 
-/// Prints what `clap` answers to words that ask for no check: the help, or what is wrong with them. Gives the status.
+/// Prints what `clap` answers to words that ask for no run: the help, or what is wrong with them. Gives the status.
 fn explain<W: Write, E: Write>(output: &mut Counted<W>, errors: &mut E, error: &Error) -> u8
-    ensures status { (result ≡ 0) ⊎ (result ≡ 2) ⊎ (result ≡ 3) }
+    ensures status { IsExplained (kind_of error.now) result }
     ensures kept { result ≢ 0 → output.new ≡ output.old }
 {
-    if error.kind() == ErrorKind::OutOfMemory {
-        return say(output, errors, RunFault::OutOfMemory);
+    match error.kind() {
+        ErrorKind::OutOfMemory => say(output, errors, RunFault::OutOfMemory),
+        ErrorKind::DisplayHelp => {
+            let _ = write!(output, "{error}");
+            let _ = output.flush();
+            0
+        }
+        _ => {
+            let _ = write!(errors, "{error}");
+            2
+        }
     }
-    if error.use_stderr() {
-        let _ = write!(errors, "{error}");
-        return 2;
-    }
-    let _ = write!(output, "{error}");
-    let _ = output.flush();
-    0
 }
 
 /// Prints why the words of the command line could not be read, and gives the status: 3 where memory ran out, and else 2,

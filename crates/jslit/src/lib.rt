@@ -3,8 +3,8 @@
 //! `run` reads a litmus text from a reader and writes its report to a writer: its contract is the theorem of this
 //! repository, from the bytes in to the bytes out. `run_schedule` carries a test out step by step, in turns that the caller
 //! names. `program` is the program around both. The definitions stand in specs/: `Answer` (what a run answers for a text),
-//! `InterleavingAnswer`, `Schedule`, `ReportText`, `ChoiceEvents`, `Verdict`, `Devices` and `Counted`; those in
-//! `Internal` serve private contracts alone.
+//! `InterleavingAnswer`, `Schedule`, `ReportText`, `ChoiceEvents`, `Verdict`, `Devices`, `Counted`, `Words` (what the words
+//! of the command line ask for) and `ProgramAnswer`; those in `Internal` serve private contracts alone.
 #![tactic(auto)]
 
 mod command;

@@ -3,7 +3,7 @@
 pub(crate) mod refusing;
 pub(crate) mod reporting;
 
-ghost use Rattle.std.specs.Prelude.{◌≡◌, [], false, IfErr, OnOk, OnErr};
+ghost use Rattle.std.specs.Prelude.{◌≡◌, [], ◌∷◌, false, IfErr, OnOk, OnErr};
 ghost use Rattle.std.specs.Fmt.{decimal};
 ghost use Rattle.std.specs.Io.KnownBytes.{Appends};
 ghost use Rattle.jslit.specs.Counted.{device_of, failures_of, one_more};
@@ -51,16 +51,27 @@ impl Page {
         }
     }
 
+    /// Puts one byte behind what waits. Where there is no room for it, what waits is written first.
+    pub(crate) fn put_byte<W: Write>(&mut self, output: &mut Counted<W>, byte: u8)
+        ensures { HasPut (writing_of W.contents output.old self.old) (writing_of W.contents output.new self.new) (byte ∷ []) }
+    {
+        if self.waiting.try_push(byte).is_ok() {
+            return;
+        }
+        self.flush(output);
+        self.waiting.push(byte);
+    }
+
     /// Puts a number, in decimal digits.
     pub(crate) fn put_number<W: Write>(&mut self, output: &mut Counted<W>, number: u64)
         ensures { HasPut (writing_of W.contents output.old self.old) (writing_of W.contents output.new self.new) (decimal number) }
     {
         if number < 10 {
-            self.put(output, &[b'0' + number as u8]);
+            self.put_byte(output, b'0' + number as u8);
             return;
         }
         self.put_number(output, number / 10);
-        self.put(output, &[b'0' + (number % 10) as u8]);
+        self.put_byte(output, b'0' + (number % 10) as u8);
     }
 
     /// Writes what waits.

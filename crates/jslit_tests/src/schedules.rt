@@ -192,7 +192,7 @@ const EXCLUDED: [(&str, &str); 3] = [
         "--quick",
         "error: the argument '--schedule <TEXT>' cannot be used with '--quick'
 
-Usage: jslit --schedule <TEXT> [FILE]
+Usage: jslit [OPTIONS] [FILE]
 
 For more information, try '--help'.
 ",
@@ -201,7 +201,7 @@ For more information, try '--help'.
         "--workers=1",
         "error: the argument '--schedule <TEXT>' cannot be used with '--workers <N>'
 
-Usage: jslit --schedule <TEXT> [FILE]
+Usage: jslit [OPTIONS] [FILE]
 
 For more information, try '--help'.
 ",
@@ -210,7 +210,7 @@ For more information, try '--help'.
         "--cut=4096",
         "error: the argument '--schedule <TEXT>' cannot be used with '--cut <N>'
 
-Usage: jslit --schedule <TEXT> [FILE]
+Usage: jslit [OPTIONS] [FILE]
 
 For more information, try '--help'.
 ",

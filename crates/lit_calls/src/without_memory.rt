@@ -6,6 +6,8 @@ ghost use Rattle.lit_paths.specs.Choice.{choices_of};
 ghost use Rattle.lit_rel.specs.Rows.{rows_len};
 ghost use Rattle.lit_share.specs.Pieces.{pieces_of};
 
+mod stopping;
+
 use jslit::Counted;
 use lit_desk::{Class2, Desk, Place};
 use lit_order::{Forced, ForcedFinder, OrderFinder, PlainFinder};
@@ -17,6 +19,7 @@ use lit_share::{Gate, OpenGate, hunt};
 use std::alloc::Global;
 use std::io::{Print, Write};
 use std::test::Fail;
+use stopping::stops_where_refused;
 
 /// The size of the two requests between which every request is refused.
 const MARK: usize = 7_654_321;
@@ -358,6 +361,13 @@ fn call_on_desks(rt: &HostRuntime, plan: &Plan<'_>) -> Result<(), Fail> {
     print(rt, &told)
 }
 
+/// Makes a search that is refused at one piece, and prints how it answered.
+fn call_to_stop(rt: &HostRuntime, plan: &Plan<'_>) -> Result<(), Fail> {
+    let (desk, places) = Desk::open(rt.alloc(), plan.total().div_ceil(1), 1)?;
+    let stops = stops_where_refused(rt, plan, desk, places);
+    print(rt, &[("work, refused at one piece", stops)])
+}
+
 /// Makes the other calls, and prints how they answered. The first two tests are load buffering and store buffering, the
 /// others have too many events and too many paths.
 fn call_on_tests(
@@ -378,7 +388,8 @@ fn call_on_tests(
     print(rt, &refused)?;
     print(rt, &lent)?;
     print(rt, &related)?;
-    call_on_desks(rt, &planned)
+    call_on_desks(rt, &planned)?;
+    call_to_stop(rt, &planned)
 }
 
 /// Makes all calls, each while every request for memory is refused, and prints how they answered.

@@ -1,12 +1,14 @@
 pub mod CountLemmas
 pub mod OrderLemmas
+pub mod PartLemmas
 pub mod SameOrders
 pub mod StandingLemmas
 pub mod ForcedLemmas
 pub mod ExtendLemmas
 pub mod ForcingLemmas
+pub mod LevelLemmas
 pub mod LinearLemmas
 pub mod MissingLemmas
 pub mod NarrowLemmas
+pub mod OtherLemmas
 pub mod RowsLemmas
-pub mod TwoWayLemmas

@@ -1,7 +1,7 @@
 -- Notions of the contracts inside this crate: beginnings of orders, and what each event may follow.
 pub mod Beginning
-pub mod Converse
 pub mod Contested
 pub mod Constrained
 pub mod Deciding
+pub mod ForcedLevels
 pub mod Narrowed

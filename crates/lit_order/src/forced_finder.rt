@@ -1,19 +1,20 @@
 //! Memory-orders by what is forced.
 
-ghost use Rattle.std.specs.Prelude.{◌≡◌, ◌⊎◌, ℕ, ◌<◌, ◌≤◌, ◌↔◌, IsTrue};
+ghost use Rattle.std.specs.Prelude.{◌≡◌, ◌⊎◌, ℕ, ◌<◌, ◌≤◌, ◌↔◌, IsTrue, IfNone, IfSome, List};
 ghost use Rattle.arrayvec.specs.ArrayVec.{array_vec_len};
+ghost use Rattle.lit_rel.specs.Between.{Forbids};
 ghost use Rattle.lit_rel.specs.EventSet.{HasEvent};
 ghost use Rattle.lit_rel.specs.Rows.{rows_len, Holds};
 ghost use Rattle.lit_order.specs.Internal.Beginning.{Stands, IsBeginning, HasNoOrder, IsLeastFrom};
 ghost use Rattle.lit_order.specs.Internal.Constrained.{constrained_len, ComesBefore, MayNotStand};
 ghost use Rattle.lit_order.specs.Internal.Narrowed.{IsNarrowed};
+ghost use Rattle.lit_order.specs.MemoryOrder.{IsLeastOrderOf, IsOrderOf};
 
 use crate::constraints::Constraints;
 use crate::forced::has_order;
 use crate::forcing::force;
 use crate::order::{Order, OrderFinder};
-use crate::two_way_rows::TwoWayRows;
-use lit_rel::{Between, EventSet, Rows};
+use lit_rel::{Between, EventSet, Rows, TwoWayRows};
 
 /// Finds first what is forced, and then places the least event that can stand next, again and again: so it seldom has
 /// to try. Only where no event can stand next does it begin anew, and ask at each place what leaves an order.
@@ -26,17 +27,29 @@ impl OrderFinder for ForcedFinder {
         if !force(&mut forced, between) {
             return None;
         }
-        let constraints = Constraints::new(&forced.converse, between);
-        let mut walked = Order::new();
-        if walk(&mut walked, EventSet::new(), &constraints) {
-            return Some(walked);
-        }
-        let mut order = Order::new();
-        if complete(&mut order, EventSet::new(), &forced.rows, &constraints) {
-            Some(order)
-        } else {
-            None
-        }
+        least_of(&forced, between)
+    }
+}
+
+/// The least order of a relation and forbidden triples, both on the same events, or `None` exactly where there is none. It
+/// is quick where the relation has all that the triples force.
+pub(crate) fn least_of(forced: &TwoWayRows, between: &Between) -> Option<Order>
+    requires { rows_len forced.now.rows ≡ between.now.len }
+    ensures found { IfSome result (λ order.
+        IsLeastOrderOf (rows_len forced.now.rows) (Holds forced.now.rows) (Forbids between.now) order.items) }
+    ensures none { IfNone result
+        ((order : List ℕ) → ¬ IsOrderOf (rows_len forced.now.rows) (Holds forced.now.rows) (Forbids between.now) order) }
+{
+    let constraints = Constraints::new(&forced.converse, between);
+    let mut walked = Order::new();
+    if walk(&mut walked, EventSet::new(), &constraints) {
+        return Some(walked);
+    }
+    let mut order = Order::new();
+    if complete(&mut order, EventSet::new(), &forced.rows, &constraints) {
+        Some(order)
+    } else {
+        None
     }
 }
 

@@ -6,8 +6,7 @@ ghost use Rattle.lit_rel.specs.Rows.{rows_len, Holds, IsTransitive};
 ghost use Rattle.lit_order.specs.Forcing.{HasChain, HasCycle, HasForcedCycle, IsForced};
 
 use crate::triple::next_forced;
-use crate::two_way_rows::TwoWayRows;
-use lit_rel::{Between, Rows, close};
+use lit_rel::{Between, Rows, TwoWayRows, close};
 
 /// The least transitive relation that has this one, or `None` exactly where a chain of its pairs leads from an event to
 /// itself.

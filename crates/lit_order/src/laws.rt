@@ -3,11 +3,15 @@
 ghost use Rattle.std.specs.Prelude.{◌≡◌, ◌↔◌, ℕ, List};
 ghost use Rattle.lit_rel.specs.declared.rows.Rows.{Rows};
 ghost use Rattle.lit_rel.specs.Between.{BetweenModel, Forbids};
+ghost use Rattle.lit_rel.specs.Part.{AreFirstSources, PartModel, part_events};
 ghost use Rattle.lit_rel.specs.Rows.{rows_len, Holds};
 ghost use Rattle.lit_order.specs.declared.forced.Forced.{Forced};
 ghost use Rattle.lit_order.specs.Forced.{AndPair, IsBefore, Refuses, forced_len};
 ghost use Rattle.lit_order.specs.Forcing.{HasChain, IsForced};
-ghost use Rattle.lit_order.specs.MemoryOrder.{StandsBefore, HaveSameOrders, IsOrderOf};
+ghost use Rattle.lit_order.specs.MemoryOrder.{StandsBefore, HaveSameOrders, IsMemoryOrder, IsOrderOf};
+ghost use Rattle.lit_order.specs.Refuted.{IsForcedRound};
+
+use lit_rel::laws::byte_reads_are_of_events;
 
 /// Each order of a relation and forbidden triples keeps what they force. So where an event is forced before itself, no
 /// order is there.
@@ -30,3 +34,10 @@ pub fn chains_keep_orders()
     ensures opened { (before : Rows) (between : BetweenModel) → HaveSameOrders (rows_len before) (Holds before) (HasChain (Holds before)) (Forbids between) }
     ensures extended { (forced : Forced) (a d : ℕ) → HaveSameOrders (forced_len forced) (AndPair (IsBefore forced) a d) (HasChain (AndPair (IsBefore forced) a d)) (Refuses forced) }
 {}
+
+/// Where a part forces an event before itself, there is no memory-order of it.
+pub fn forced_rounds_have_no_order()
+    ensures { (part : PartModel) → AreFirstSources part → IsForcedRound part → (order : List ℕ) → ¬ IsMemoryOrder (part_events part) part.sources order }
+{
+    byte_reads_are_of_events();
+}

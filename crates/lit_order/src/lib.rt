@@ -8,15 +8,16 @@
 mod constraints;
 mod forced;
 mod forced_finder;
+mod forced_part;
 mod forcing;
 pub mod laws;
 mod order;
 mod plain_finder;
 mod triple;
-mod two_way_rows;
 
 pub use forced::Forced;
 pub use forced_finder::ForcedFinder;
+pub use forced_part::ForcedPart;
 pub use forcing::forced_precedence;
 pub use order::{Order, OrderFinder};
 pub use plain_finder::PlainFinder;

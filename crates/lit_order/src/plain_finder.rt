@@ -8,8 +8,7 @@ ghost use Rattle.lit_order.specs.Internal.Constrained.{constrained_len, ComesBef
 
 use crate::constraints::Constraints;
 use crate::order::{Order, OrderFinder};
-use crate::two_way_rows::converse_of;
-use lit_rel::{Between, EventSet, Rows};
+use lit_rel::{Between, EventSet, Rows, converse_of};
 
 /// Builds orders event by event, the least event that can stand next first, and goes back where none can be completed.
 #[derive(Clone, Copy, Debug, Default, PartialEq, Eq)]

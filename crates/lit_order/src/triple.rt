@@ -7,8 +7,7 @@ ghost use Rattle.lit_rel.specs.EventSet.{HasEvent};
 ghost use Rattle.lit_rel.specs.Rows.{rows_len, Holds};
 ghost use Rattle.lit_order.specs.Internal.Deciding.{AreDecided, Forces, HasAllForced, HasForced, IsDecided, IsForcedByPair, IsForcedNext, IsOtherOf, IsUndecided};
 
-use crate::two_way_rows::TwoWayRows;
-use lit_rel::{Between, EventSet, Pair, Rows};
+use lit_rel::{Between, EventSet, Pair, Rows, TwoWayRows};
 
 /// A pair of events, the first before the second.
 #[derive(Clone, Copy)]

@@ -15,11 +15,13 @@ pub mod RaceLemmas
 pub mod ReadingLemmas
 pub mod RefusalLemmas
 pub mod RelatingLemmas
+pub mod RestoreLemmas
 pub mod RowLemmas
 pub mod SameRelations
 pub mod SetLemmas
 pub mod SettledLemmas
 pub mod SourceLemmas
 pub mod TripleLemmas
+pub mod TwoWayLemmas
 pub mod ValueLemmas
 pub mod WideLemmas

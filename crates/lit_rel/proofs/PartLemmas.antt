@@ -19,16 +19,18 @@ use Rattle.lit_rel.specs.declared.given.SourcedByte.{SourcedByte}
 use Rattle.lit_rel.specs.declared.part.levels.Level.{Level}
 use Rattle.lit_rel.specs.Coherent.{IsCoherentRead}
 use Rattle.lit_rel.specs.HappensBefore.{HappensBefore, HappensBeforeBy}
+use Rattle.lit_rel.specs.LastPair.{AddsPair}
 use Rattle.lit_rel.specs.Part.{AreFirstSources, IsNextSource, PartModel, part_events, with_sources}
 use Rattle.lit_rel.specs.Internal.Given.{AreFirstReads, IsKnown, Tears, read_of, sources_of}
-use Rattle.lit_rel.specs.Internal.Levels.{IsKept, IsLevel, IsOrder}
+use Rattle.lit_rel.specs.Internal.Levels.{AreRestored, IsKept, IsLevel, IsOrder}
 use Rattle.lit_rel.specs.Internal.Pushed.{HasByteSo, IsChangedByte}
 use Rattle.lit_rel.specs.ReadsFrom.{ReadsByteFrom}
 use Rattle.lit_rel.specs.Rows.{Holds, WithPair}
 use Rattle.lit_rel.specs.SynchronizesWith.{CanSynchronize}
 use Rattle.lit_rel.proofs.LevelLemmas.{HasChangedByte-iff, HasTearing-iff, broken_with, broken_with_pair, now_is_more}
 use Rattle.lit_rel.proofs.OrderLemmas.{given_adds, order_with, same_order}
-use Rattle.lit_rel.proofs.PlaceLemmas.{place-push}
+use Rattle.lit_rel.proofs.PlaceLemmas.{place-middle, place-push}
+use Rattle.lit_rel.proofs.RestoreLemmas.{AreRestored-back, AreRestored-level, AreRestored-order, AreRestored-stays}
 use Rattle.lit_rel.proofs.SourceLemmas.{AreFirstReads-push, AreFirstReads-take, next_read, read_known, take_from}
 
 pub of_part : (P : List Event → List ℕ → Type 0) (events part_events : List Event) (sources part_sources : List ℕ) → events ≡ part_events → sources ≡ part_sources → P events sources → P part_events part_sources
@@ -76,18 +78,28 @@ AreFirstSources-push part byte left candidate are i r b w at_read at_source =
     ]
 
 -- so there is room for it
-pub few_bytes : (part : PartModel) (start now : Rows) (bytes : List SourcedByte) (earlier : List Level) (level : Level) (byte : SourcedByte) → IsKept part start now bytes earlier level → IsNextByte part bytes byte → length bytes < BYTE_READ_LIMIT
-few_bytes part start now bytes earlier level byte k new =
+pub few_bytes : (part : PartModel) (bytes : List SourcedByte) (orders : List Rows) (order : Rows) (earlier : List Level) (level : Level) (byte : SourcedByte) → IsKept part bytes orders order earlier level → IsNextByte part bytes byte → length bytes < BYTE_READ_LIMIT
+few_bytes part bytes orders order earlier level byte k new =
     let below : length bytes < length (byte_reads (part_events part)) = slice_get_within (byte_reads (part_events part)) (length bytes) (read_of byte) new.left in
     let few : length (byte_reads (part_events part)) ≤ BYTE_READ_LIMIT = k.sound.few_reads in
     omega arith
 
+-- what happens-before was, with one level more
+restored_level : (part : PartModel) (bytes : List SourcedByte) (orders : List Rows) (order : Rows) (earlier : List Level) (level : Level) (byte : SourcedByte) → part.sources ≡ sources_of bytes → IsKept part bytes orders order earlier level
+    → AreRestored (part_events part) (part.sources ++ byte.source ∷ []) (earlier ++ level ∷ []) orders order
+restored_level part bytes orders order earlier level byte same k =
+    let count : length part.sources ≡ length bytes = ap length same ∙ length-map bytes (λ (b : SourcedByte). b.source) in
+    let one_each : length earlier ≡ length bytes = k.one_each in
+    let few : length orders ≤ length bytes = k.few in
+    AreRestored-level (part_events part) part.sources earlier orders order k.restored byte.source level (omega arith) (omega arith) k.counted k.ordered
+
 -- one byte more, with what is known then
-pub IsKept-push : (part : PartModel) (start now now' : Rows) (bytes bytes' : List SourcedByte) (earlier earlier' : List Level) (level next : Level) (byte : SourcedByte)
-    → part.sources ≡ sources_of bytes → IsKept part start now bytes earlier level → IsNextByte part bytes byte → bytes' ≡ bytes ++ byte ∷ [] → earlier' ≡ earlier ++ level ∷ []
-    → IsOrder (part_events part) (part.sources ++ byte.source ∷ []) now' → IsLevel (with_sources part (part.sources ++ byte.source ∷ [])) next
-    → IsKept (with_sources part (sources_of bytes')) start now' bytes' earlier' next
-IsKept-push part start now now' bytes bytes' earlier earlier' level next byte same k new pushed pushed_level is_now is_next =
+IsKept-push : (part : PartModel) (bytes bytes' : List SourcedByte) (orders orders' : List Rows) (order order' : Rows) (earlier earlier' : List Level) (level next : Level) (byte : SourcedByte)
+    → part.sources ≡ sources_of bytes → IsKept part bytes orders order earlier level → IsNextByte part bytes byte → bytes' ≡ bytes ++ byte ∷ [] → earlier' ≡ earlier ++ level ∷ []
+    → IsOrder (part_events part) (part.sources ++ byte.source ∷ []) order' → IsLevel (with_sources part (part.sources ++ byte.source ∷ [])) next
+    → length orders' ≤ length orders + 1 → next.pairs ≡ length orders' → AreRestored (part_events part) (part.sources ++ byte.source ∷ []) (earlier ++ level ∷ []) orders' order'
+    → IsKept (with_sources part (sources_of bytes')) bytes' orders' order' earlier' next
+IsKept-push part bytes bytes' orders orders' order order' earlier earlier' level next byte same k new pushed pushed_level is_now is_next one_more is_count is_restored =
     let count : length part.sources ≡ length bytes = ap length same ∙ length-map bytes (λ (b : SourcedByte). b.source) in
     let sources' : sources_of bytes' ≡ part.sources ++ byte.source ∷ [] = ap sources_of pushed ∙ map_push (λ (b : SourcedByte). b.source) bytes byte ∙ ap (λ (xs : List ℕ). xs ++ byte.source ∷ []) (sym same) in
     record {
@@ -96,8 +108,10 @@ IsKept-push part start now now' bytes bytes' earlier earlier' level next byte sa
       known = subst (λ (xs : List SourcedByte). All (IsKnown (length (part_events part))) xs) (sym pushed) (All-push (IsKnown (length (part_events part))) bytes byte k.known (next_known part bytes byte new));
       candidates = subst (λ (xs : List ℕ). AreFirstSources (with_sources part xs)) (sym sources') (AreFirstSources-push part byte (ap (slice_get (byte_reads (part_events part))) count ∙ new.left) new.candidate k.candidates);
       one_each = ap length pushed_level ∙ length_push earlier level ∙ (let e : length earlier ≡ length bytes = k.one_each in omega arith) ∙ sym (length_push bytes byte) ∙ sym (ap length pushed);
-      unsourced = k.unsourced;
-      ordered = subst (λ (xs : List ℕ). IsOrder (part_events part) xs now') (sym sources') is_now;
+      few = (let few : length orders ≤ length bytes = k.few in let longer : length bytes' ≡ length bytes + 1 = ap length pushed ∙ length_push bytes byte in omega arith);
+      counted = is_count;
+      ordered = subst (λ (xs : List ℕ). IsOrder (part_events part) xs order') (sym sources') is_now;
+      restored = subst (λ (xs : List ℕ). AreRestored (part_events part) xs earlier' orders' order') (sym sources') (subst (λ (ls : List Level). AreRestored (part_events part) (part.sources ++ byte.source ∷ []) ls orders' order') (sym pushed_level) is_restored);
       level = subst (λ (xs : List ℕ). IsLevel (with_sources part xs) next) (sym sources') is_next;
       levels = λ n l at_n.
           elim (place-push earlier level n l (sym (ap (λ (xs : List Level). slice_get xs n) pushed_level) ∙ at_n)) [
@@ -114,22 +128,84 @@ IsKept-push part start now now' bytes bytes' earlier earlier' level next byte sa
           ];
     }
 
+-- where the last one adds no pair
+pub IsKept-push_alone : (part : PartModel) (bytes bytes' : List SourcedByte) (orders : List Rows) (order : Rows) (earlier earlier' : List Level) (level next : Level) (byte : SourcedByte)
+    → part.sources ≡ sources_of bytes → IsKept part bytes orders order earlier level → IsNextByte part bytes byte → bytes' ≡ bytes ++ byte ∷ [] → earlier' ≡ earlier ++ level ∷ []
+    → IsOrder (part_events part) (part.sources ++ byte.source ∷ []) order → IsLevel (with_sources part (part.sources ++ byte.source ∷ [])) next → next.pairs ≡ level.pairs
+    → IsKept (with_sources part (sources_of bytes')) bytes' orders order earlier' next
+IsKept-push_alone part bytes bytes' orders order earlier earlier' level next byte same k new pushed pushed_level is_now is_next pairs =
+    IsKept-push part bytes bytes' orders orders order order earlier earlier' level next byte same k new pushed pushed_level is_now is_next (omega arith) (pairs ∙ k.counted) (restored_level part bytes orders order earlier level byte same k)
+
+-- where it adds one
+pub IsKept-push_pair : (part : PartModel) (bytes bytes' : List SourcedByte) (orders orders' : List Rows) (order order' : Rows) (earlier earlier' : List Level) (level next : Level) (byte : SourcedByte)
+    → part.sources ≡ sources_of bytes → IsKept part bytes orders order earlier level → IsNextByte part bytes byte → bytes' ≡ bytes ++ byte ∷ [] → earlier' ≡ earlier ++ level ∷ []
+    → IsOrder (part_events part) (part.sources ++ byte.source ∷ []) order' → IsLevel (with_sources part (part.sources ++ byte.source ∷ [])) next → next.pairs ≡ level.pairs + 1 → orders' ≡ orders ++ order ∷ []
+    → IsKept (with_sources part (sources_of bytes')) bytes' orders' order' earlier' next
+IsKept-push_pair part bytes bytes' orders orders' order order' earlier earlier' level next byte same k new pushed pushed_level is_now is_next pairs added =
+    let longer : length orders' ≡ length orders + 1 = ap length added ∙ length_push orders order in
+    let counted : level.pairs ≡ length orders = k.counted in
+    IsKept-push part bytes bytes' orders orders' order order' earlier earlier' level next byte same k new pushed pushed_level is_now is_next (omega arith) (omega arith)
+    (subst (λ (os : List Rows). AreRestored (part_events part) (part.sources ++ byte.source ∷ []) (earlier ++ level ∷ []) os order') (sym added)
+    (AreRestored-order (part_events part) (part.sources ++ byte.source ∷ []) (earlier ++ level ∷ []) orders order (restored_level part bytes orders order earlier level byte same k) order'))
+
+-- what happens-before was, back at a level
+record IsBackAt (part : PartModel) (bytes' : List SourcedByte) (orders' : List Rows) (order' : Rows) (earlier : List Level) (n : ℕ) (at : Level) : Type 0 where
+  few : length orders' ≤ length bytes'
+  counted : at.pairs ≡ length orders'
+  ordered : IsOrder (part_events part) (take n part.sources) order'
+  restored : AreRestored (part_events part) (take n part.sources) (take n earlier) orders' order'
+
+went_back : (part : PartModel) (bytes bytes' : List SourcedByte) (orders orders' : List Rows) (order order' : Rows) (earlier : List Level) (level : Level) (n : ℕ) (at : Level)
+    → IsKept part bytes orders order earlier level → n + 1 ≡ length bytes → bytes' ≡ take n bytes → slice_get earlier n ≡ Some at
+    → (length orders ≤ at.pairs → (orders' ≡ orders) × (order' ≡ order)) → (at.pairs < length orders → (orders' ≡ take at.pairs orders) × (slice_get orders at.pairs ≡ Some order'))
+    → IsBackAt part bytes' orders' order' earlier n at
+went_back part bytes bytes' orders orders' order order' earlier level n at k count is_bytes at_level stays goes =
+    let few : at.pairs ≤ n = k.restored.few n at at_level in
+    let within : at.pairs ≤ length orders = k.restored.within n at at_level in
+    let shorter : length bytes' ≡ n = ap length is_bytes ∙ length-take-le n bytes (omega arith) in
+    elim (cases_lt at.pairs (length orders)) [
+      | inl past ↦
+          let is = goes past in
+          let long : length orders' ≡ at.pairs = ap length is.0 ∙ length-take-le at.pairs orders (omega arith) in
+          record {
+            few = omega arith;
+            counted = sym long;
+            ordered = k.restored.there n at order' at_level is.1;
+            restored = subst (λ (os : List Rows). AreRestored (part_events part) (take n part.sources) (take n earlier) os order') (sym is.0) (AreRestored-back (part_events part) part.sources earlier orders order k.restored n at at_level order' is.1);
+          }
+      | inr all ↦
+          let is = stays all in
+          let long : length orders' ≡ length orders = ap length is.0 in
+          let same : at.pairs ≡ length orders = omega arith in
+          record {
+            few = omega arith;
+            counted = same ∙ sym long;
+            ordered = subst (λ (o : Rows). IsOrder (part_events part) (take n part.sources) o) (sym is.1) (k.restored.here n at at_level same);
+            restored = subst (λ (os : List Rows). AreRestored (part_events part) (take n part.sources) (take n earlier) os order') (sym is.0)
+                (subst (λ (o : Rows). AreRestored (part_events part) (take n part.sources) (take n earlier) orders o) (sym is.1) (AreRestored-stays (part_events part) part.sources earlier orders order k.restored n at at_level));
+          }
+    ]
+
 -- one byte less
-pub IsKept-pop : (part : PartModel) (start now now' : Rows) (bytes bytes' : List SourcedByte) (earlier earlier' : List Level) (level : Level) (n : ℕ) (d : Level)
-    → part.sources ≡ sources_of bytes → IsKept part start now bytes earlier level → n + 1 ≡ length bytes → bytes' ≡ take n bytes → earlier' ≡ take n earlier
-    → IsOrder (part_events part) (take n part.sources) now'
-    → IsKept (with_sources part (sources_of bytes')) start now' bytes' earlier' (get_or earlier n d)
-IsKept-pop part start now now' bytes bytes' earlier earlier' level n d same k count is_bytes is_earlier is_now =
+pub IsKept-pop : (part : PartModel) (bytes bytes' : List SourcedByte) (orders orders' : List Rows) (order order' : Rows) (earlier earlier' : List Level) (level : Level) (n : ℕ) (d : Level)
+    → part.sources ≡ sources_of bytes → IsKept part bytes orders order earlier level → n + 1 ≡ length bytes → bytes' ≡ take n bytes → earlier' ≡ take n earlier
+    → (length orders ≤ (get_or earlier n d).pairs → (orders' ≡ orders) × (order' ≡ order)) → ((get_or earlier n d).pairs < length orders → (orders' ≡ take (get_or earlier n d).pairs orders) × (slice_get orders (get_or earlier n d).pairs ≡ Some order'))
+    → IsKept (with_sources part (sources_of bytes')) bytes' orders' order' earlier' (get_or earlier n d)
+IsKept-pop part bytes bytes' orders orders' order order' earlier earlier' level n d same k count is_bytes is_earlier stays goes =
     let one_each : length earlier ≡ length bytes = k.one_each in
     let sources' : take n part.sources ≡ sources_of bytes' = ap (take n) same ∙ take-map (λ (b : SourcedByte). b.source) n bytes ∙ sym (ap sources_of is_bytes) in
+    let at_level : slice_get earlier n ≡ Some (get_or earlier n d) = slice_get-get_or earlier n d (omega arith) in
+    let back = went_back part bytes bytes' orders orders' order order' earlier level n (get_or earlier n d) k count is_bytes at_level stays goes in
     record {
       sound = k.sound;
       first_reads = subst (AreFirstReads (part_events part)) (sym is_bytes) (AreFirstReads-take (part_events part) bytes k.first_reads n (omega arith));
       known = subst (λ (xs : List SourcedByte). All (IsKnown (length (part_events part))) xs) (sym is_bytes) (All-take (IsKnown (length (part_events part))) n bytes k.known);
       candidates = subst (λ (xs : List ℕ). AreFirstSources (with_sources part xs)) sources' (λ i r b w at_read at_source. k.candidates i r b w at_read (take_from n part.sources i w at_source));
       one_each = ap length is_earlier ∙ length-take-le n earlier (omega arith) ∙ sym (length-take-le n bytes (omega arith)) ∙ sym (ap length is_bytes);
-      unsourced = k.unsourced;
-      ordered = subst (λ (xs : List ℕ). IsOrder (part_events part) xs now') sources' is_now;
+      few = back.few;
+      counted = back.counted;
+      ordered = subst (λ (xs : List ℕ). IsOrder (part_events part) xs order') sources' back.ordered;
+      restored = subst (λ (xs : List ℕ). AreRestored (part_events part) xs earlier' orders' order') sources' (subst (λ (ls : List Level). AreRestored (part_events part) (take n part.sources) ls orders' order') (sym is_earlier) back.restored);
       level = subst (λ (xs : List ℕ). IsLevel (with_sources part xs) (get_or earlier n d)) sources' (k.levels n (get_or earlier n d) (slice_get-get_or earlier n d (omega arith)));
       levels = λ m l at_m.
           let within : m < n = (let w : m < length earlier' = slice_get_within earlier' m l at_m in let c : length earlier' ≡ n = ap length is_earlier ∙ length-take-le n earlier (omega arith) in omega arith) in
@@ -138,30 +214,27 @@ IsKept-pop part start now now' bytes bytes' earlier earlier' level n d same k co
           subst (λ (xs : List ℕ). IsLevel (with_sources part xs) l) front old;
     }
 
--- happens-before of one byte less, where the last one added no pair
-pub order_before : (part : PartModel) (start now : Rows) (bytes : List SourcedByte) (earlier : List Level) (level : Level) (n : ℕ) → part.sources ≡ sources_of bytes → IsKept part start now bytes earlier level → n + 1 ≡ length bytes → level.adds ≡ false
-    → IsOrder (part_events part) (take n part.sources) now
-order_before part start now bytes earlier level n same k count none =
-    let long : length part.sources ≡ length bytes = ap length same ∙ length-map bytes (λ (b : SourcedByte). b.source) in
-    let less : length part.sources - 1 ≡ n = omega arith in
-    subst (λ (m : ℕ). IsOrder (part_events part) (take m part.sources) now) less record {
-      len = k.ordered.len;
-      pairs = λ e d. (λ h. (k.level.same none e d).1 ((k.ordered.pairs e d).0 h), λ h. (k.ordered.pairs e d).1 ((k.level.same none e d).0 h));
-    }
-
 -- no byte yet
-pub IsKept-open : (part : PartModel) (start : Rows) (bytes : List SourcedByte) (earlier : List Level) (broken : Bool) → part.sources ≡ [] → bytes ≡ [] → earlier ≡ []
+pub IsKept-open : (part : PartModel) (bytes : List SourcedByte) (orders : List Rows) (start : Rows) (earlier : List Level) (broken : Bool) → part.sources ≡ [] → bytes ≡ [] → orders ≡ [] → earlier ≡ []
     → AreEventsIn part.test.bytes (part_events part) → IsOrder (part_events part) [] start → (IsTrue broken ↔ ((e : ℕ) × Holds start e e))
-    → IsKept part start start bytes earlier (record { adds = false; broken = broken })
-IsKept-open part start bytes earlier broken none no_bytes no_levels sound is_start is_broken = record {
+    → IsKept part bytes orders start earlier (record { adds = false; broken = broken; pairs = 0 })
+IsKept-open part bytes orders start earlier broken none no_bytes no_orders no_levels sound is_start is_broken = record {
   sound = sound;
   first_reads = subst (AreFirstReads (part_events part)) (sym no_bytes) refl;
   known = subst (λ (xs : List SourcedByte). All (IsKnown (length (part_events part))) xs) (sym no_bytes) (All-nil (IsKnown (length (part_events part))));
   candidates = λ i r b w at_read at_source. absurd (none-some w (sym (ap (λ (xs : List ℕ). slice_get xs i) none) ∙ at_source));
   one_each = ap length no_levels ∙ sym (ap length no_bytes);
-  unsourced = is_start;
+  few = (let no : length orders ≡ 0 = ap length no_orders in omega arith);
+  counted = sym (ap length no_orders);
   ordered = subst (λ (xs : List ℕ). IsOrder (part_events part) xs start) (sym none) is_start;
-  level = subst (λ (xs : List ℕ). IsLevel (with_sources part xs) (record { adds = false; broken = broken })) (sym none) record {
+  restored = record {
+    few = λ k l at_k. absurd (no_level k l at_k);
+    within = λ k l at_k. absurd (no_level k l at_k);
+    rising = λ j k l m _ _ at_k. absurd (no_level k m at_k);
+    here = λ k l at_k _. absurd (no_level k l at_k);
+    there = λ k l _ at_k _. absurd (no_level k l at_k);
+  };
+  level = subst (λ (xs : List ℕ). IsLevel (with_sources part xs) (record { adds = false; broken = broken; pairs = 0 })) (sym none) record {
     broken = (
       (λ h. let cycle = is_broken.0 h in inl (cycle.0, (is_start.pairs cycle.0 cycle.0).0 cycle.1)),
       (λ h. elim h [
@@ -170,18 +243,25 @@ IsKept-open part start bytes earlier broken none no_bytes no_levels sound is_sta
       ]),
     );
     same = λ _ e d. (λ h. h, λ h. h);
+    more = λ adds. absurd (false≢true adds);
   };
-  levels = λ k l at_k. absurd (none-some l (sym (ap (λ (xs : List Level). slice_get xs k) no_levels) ∙ at_k));
+  levels = λ k l at_k. absurd (no_level k l at_k);
 }
+  where
+    no_level : (k : ℕ) (l : Level) → slice_get earlier k ≡ Some l → ⊥
+    no_level k l at_k = none-some l (sym (ap (λ (xs : List Level). slice_get xs k) no_levels) ∙ at_k)
 
 -- a part with these bytes
 abbrev pub part_of : Litmus → ℕ → List SourcedByte → PartModel
 part_of t c bytes = record { test = t; combination = c; sources = sources_of bytes }
 
 -- what is known of a part with one byte more
-module _ (t : Litmus) (c : ℕ) (start before : Rows) (bytes : List SourcedByte) (earlier : List Level) (level : Level) (byte : SourcedByte) (k : IsKept (part_of t c bytes) start before bytes earlier level) (new : IsNextByte (part_of t c bytes) bytes byte) where
+module _ (t : Litmus) (c : ℕ) (bytes : List SourcedByte) (orders : List Rows) (order : Rows) (earlier : List Level) (level : Level) (byte : SourcedByte) (k : IsKept (part_of t c bytes) bytes orders order earlier level) (new : IsNextByte (part_of t c bytes) bytes byte) where
   abbrev events : List Event
   events = part_events (part_of t c bytes)
+
+  abbrev before : Rows
+  before = order
 
   abbrev given : ℕ → ℕ → ℕ → Type 0
   given = ReadsByteFrom (part_events (part_of t c bytes)) (sources_of bytes)
@@ -195,33 +275,48 @@ module _ (t : Litmus) (c : ℕ) (start before : Rows) (bytes : List SourcedByte)
   adds : (r b w : ℕ) → more r b w ↔ (given r b w ⊎ ((r ≡ byte.read) × (b ≡ byte.byte) × (w ≡ byte.source)))
   adds = given_adds events (sources_of bytes) byte left_of_part before k.ordered
 
+  -- the place of the last
+  last : length (sources_of bytes ++ byte.source ∷ []) - 1 ≡ length (sources_of bytes)
+  last = let long : length (sources_of bytes ++ byte.source ∷ []) ≡ length (sources_of bytes) + 1 = length_push (sources_of bytes) byte.source in omega arith
+
   -- all but the last source
   front : take (length (sources_of bytes ++ byte.source ∷ []) - 1) (sources_of bytes ++ byte.source ∷ []) ≡ sources_of bytes
-  front = (let long : length (sources_of bytes ++ byte.source ∷ []) ≡ length (sources_of bytes) + 1 = length_push (sources_of bytes) byte.source in take_at (sources_of bytes) (byte.source ∷ []) (length (sources_of bytes ++ byte.source ∷ []) - 1) (omega arith))
+  front = take_at (sources_of bytes) (byte.source ∷ []) (length (sources_of bytes ++ byte.source ∷ []) - 1) (sym last)
 
   -- where its pair is no new one
-  pub IsLevel-alone : (result : Bool) → ((CanSynchronize (event_at events byte.source) (event_at events byte.read) × (Holds before byte.source byte.read → ⊥)) → ⊥)
+  pub IsLevel-alone : (result : Bool) (count : ℕ) → ((CanSynchronize (event_at events byte.source) (event_at events byte.read) × (Holds before byte.source byte.read → ⊥)) → ⊥)
       → (IsTrue result ↔ (IsTrue level.broken ⊎ (IsCoherentRead events (Holds before) byte.read byte.byte byte.source → ⊥) ⊎ HasByteSo bytes (Tears events byte)))
-      → IsLevel (with_sources (part_of t c bytes) (sources_of bytes ++ byte.source ∷ [])) (record { adds = false; broken = result })
-  IsLevel-alone result no_pair is_result = record {
+      → IsLevel (with_sources (part_of t c bytes) (sources_of bytes ++ byte.source ∷ [])) (record { adds = false; broken = result; pairs = count })
+  IsLevel-alone result count no_pair is_result = record {
     broken = broken_with events given more byte.read byte.byte byte.source adds before k.ordered.pairs level.broken result (HasByteSo bytes (Tears events byte)) k.level.broken (HasTearing-iff events bytes k.first_reads byte) stays is_result;
-    same = λ _ e d. subst (λ (xs : List ℕ). HappensBefore events xs e d ↔ HappensBefore events (sources_of bytes ++ byte.source ∷ []) e d) (sym front) (stays e d);
+    same = λ _ e d. subst (λ (xs : List ℕ). HappensBefore events (sources_of bytes ++ byte.source ∷ []) e d ↔ HappensBefore events xs e d) (sym front) ((stays e d).1, (stays e d).0);
+    more = λ adds. absurd (false≢true adds);
   }
     where
       stays : (e d : ℕ) → HappensBeforeBy events given e d ↔ HappensBeforeBy events more e d
       stays = same_order events (sources_of bytes) byte left_of_part before k.ordered no_pair
 
   -- where it is
-  pub IsLevel-with_pair : (result : Bool) (now : Rows) → CanSynchronize (event_at events byte.source) (event_at events byte.read) → ((e d : ℕ) → Holds now e d ↔ WithPair (Holds before) byte.source byte.read e d)
+  pub IsLevel-with_pair : (result : Bool) (count : ℕ) (now : Rows) → CanSynchronize (event_at events byte.source) (event_at events byte.read) → (Holds before byte.source byte.read → ⊥) → ((e d : ℕ) → Holds now e d ↔ WithPair (Holds before) byte.source byte.read e d)
       → (IsTrue result ↔ (IsTrue level.broken ⊎ (IsCoherentRead events (Holds now) byte.read byte.byte byte.source → ⊥)
       ⊎ HasByteSo bytes (IsChangedByte events (Holds now) (λ e. Holds before e byte.source ⊎ (e ≡ byte.source)) (λ e. Holds before byte.read e ⊎ (e ≡ byte.read)))
       ⊎ HasByteSo bytes (Tears events byte)))
-      → IsLevel (with_sources (part_of t c bytes) (sources_of bytes ++ byte.source ∷ [])) (record { adds = true; broken = result })
-  IsLevel-with_pair result now can is_now is_result = record {
+      → IsLevel (with_sources (part_of t c bytes) (sources_of bytes ++ byte.source ∷ [])) (record { adds = true; broken = result; pairs = count })
+  IsLevel-with_pair result count now can not_held is_now is_result = record {
     broken = broken_with_pair events given more byte.read byte.byte byte.source adds before k.ordered.pairs level.broken result (HasByteSo bytes (Tears events byte)) k.level.broken (HasTearing-iff events bytes k.first_reads byte) now is_now pairs
         (HasByteSo bytes (IsChangedByte events (Holds now) (λ e. Holds before e byte.source ⊎ (e ≡ byte.source)) (λ e. Holds before byte.read e ⊎ (e ≡ byte.read))))
         (HasChangedByte-iff events bytes k.first_reads more (Holds now) (λ e. Holds before e byte.source ⊎ (e ≡ byte.source)) (λ e. Holds before byte.read e ⊎ (e ≡ byte.read)) is_more) is_result;
     same = λ none. absurd (false≢true (sym none));
+    more = λ _ r b w at_read at_source.
+        let same_read : read_of byte ≡ (r, b) = same_Some (read_of byte) (r, b) (sym left_of_part ∙ ap (slice_get (byte_reads events)) (sym last) ∙ at_read) in
+        let same_source : byte.source ≡ w = same_Some byte.source w (sym (place-middle (sources_of bytes) [] byte.source) ∙ ap (slice_get (sources_of bytes ++ byte.source ∷ [])) (sym last) ∙ at_source) in
+        subst (λ (x : ℕ). AddsPair (with_sources (part_of t c bytes) (sources_of bytes ++ byte.source ∷ [])) x r) same_source
+        (subst (λ (q : ℕ × ℕ). AddsPair (with_sources (part_of t c bytes) (sources_of bytes ++ byte.source ∷ [])) byte.source q.0) same_read (
+          (next_known (part_of t c bytes) bytes byte new).1,
+          (next_known (part_of t c bytes) bytes byte new).0,
+          (λ x y. subst (λ (xs : List ℕ). HappensBefore events (sources_of bytes ++ byte.source ∷ []) x y ↔ WithPair (HappensBefore events xs) byte.source byte.read x y) (sym front) ((pairs x y).1, (pairs x y).0)),
+          (λ held. not_held ((k.ordered.pairs byte.source byte.read).1 (subst (λ (xs : List ℕ). HappensBefore events xs byte.source byte.read) front held))),
+        ));
   }
     where
       pairs : (e d : ℕ) → WithPair (HappensBeforeBy events given) byte.source byte.read e d ↔ HappensBeforeBy events more e d

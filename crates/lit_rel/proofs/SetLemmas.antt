@@ -1,6 +1,5 @@
 -- Sets of events as words: after an event is put in, of two sets together, sets of no event, and sets within another.
 use Rattle.std.proofs.Common.{◌≡◌, ◌≢◌, ◌⊎◌, ◌↔◌, ℕ, ◌+◌, ◌-◌, ◌*◌, ◌^◌, ◌/◌, ◌%◌, ◌<◌, ◌≤◌, max, min, List, [], ◌∷◌, get_or, bit_and, bit_or, ap, inl, inr, arith, refl, subst, sym, ◌∙◌, w64, suc, zero}
-use Rattle.std.proofs.Math.ListN.{set}
 use Rattle.std.specs.Int.RustNames.{bit_xor}
 use Rattle.std.proofs.lemmas.Nat.Bits.{bit_at_or, bit_at_and, bit_at_xor, bit_at-lt, bit_at-suc, bit_at-zero, bit_at_cat_high, bit_at_cat_low, bit_at_lowest, same_from_bits_below, bit_at-trailing_zeros, bit_at_ones, bit_at_ones_above, bit_at_set_same, bit_at_set_other, same_from_bits}
 use Rattle.std.proofs.lemmas.Bool.{cases_eq, cases_order, cases_lt}
@@ -188,6 +187,29 @@ split_less_yet s event others fewer split within =
     let less : others.bits < s.bits = split_less s event others split in
     let at_most : fewer.bits ≤ others.bits = within_le fewer others within in
     omega arith
+
+-- one more event of a set is chosen, or not
+module _ (all is : ℕ → Type 0) (left : EventSet) (event : ℕ) (rest : EventSet) (split : IsSplit left event rest) (there : all event) (old : ℕ → Type 0) where
+  pub chosen_more : (new : ℕ → Type 0) → ((e : ℕ) → old e ↔ (all e × ¬ HasEvent left e × is e)) → is event → ((e : ℕ) → new e ↔ (old e ⊎ (e ≡ event))) → (e : ℕ) → new e ↔ (all e × ¬ HasEvent rest e × is e)
+  chosen_more new so_far chosen put e = (
+    (λ h. elim ((put e).0 h) [
+      | inl was ↦ let kept = (so_far e).0 was in (kept.0, (λ later. kept.1 ((split.rest e).0 later).0), kept.2)
+      | inr same ↦ (subst all (sym same) there, (λ later. ((split.rest e).0 later).1 same), subst is (sym same) chosen)
+    ]),
+    (λ h. elim (cases_eq e event) [
+      | inl same ↦ (put e).1 (inr same)
+      | inr other ↦ (put e).1 (inl ((so_far e).1 (h.0, (λ in_left. h.1 ((split.rest e).1 (in_left, other))), h.2)))
+    ]),
+  )
+
+  pub chosen_skip : ((e : ℕ) → old e ↔ (all e × ¬ HasEvent left e × is e)) → ¬ is event → (e : ℕ) → old e ↔ (all e × ¬ HasEvent rest e × is e)
+  chosen_skip so_far not e = (
+    (λ was. let kept = (so_far e).0 was in (kept.0, (λ later. kept.1 ((split.rest e).0 later).0), kept.2)),
+    (λ h. elim (cases_eq e event) [
+      | inl same ↦ absurd (not (subst is same h.2))
+      | inr other ↦ (so_far e).1 (h.0, (λ in_left. h.1 ((split.rest e).1 (in_left, other))), h.2)
+    ]),
+  )
 
 -- an event is in a set, or not
 pub event_or_not : (s : EventSet) (e : ℕ) → HasEvent s e ⊎ ¬ HasEvent s e

@@ -1,5 +1,6 @@
 pub mod EventSet
 pub mod Rows
+pub mod Converse
 pub mod Between
 pub mod ReadsFrom
 pub mod AgentOrder
@@ -14,5 +15,6 @@ pub mod Settled
 pub mod DataRace
 pub mod Part
 pub mod Broken
+pub mod LastPair
 pub mod WideEvents
 pub mod Internal

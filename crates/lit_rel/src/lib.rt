@@ -19,3 +19,4 @@ pub use given::values::payload_at;
 pub use part::Part;
 pub use rows::Rows;
 pub use rows::closing::close;
+pub use rows::two_way_rows::{TwoWayRows, converse_of};

@@ -2,12 +2,13 @@
 
 pub(crate) mod fixed_steps;
 pub(crate) mod levels;
+pub(crate) mod orders;
 pub(crate) mod races;
 pub(crate) mod refused;
 pub(crate) mod related;
 pub(crate) mod settled;
 
-ghost use Rattle.std.specs.Prelude.{◌≡◌, ◌↔◌, ℕ, ◌-◌, ◌<◌, ◌≤◌, IsTrue, [], ◌∷◌, ◌++◌, length, take};
+ghost use Rattle.std.specs.Prelude.{◌≡◌, ◌↔◌, ℕ, ◌-◌, ◌<◌, ◌≤◌, IsTrue, MatchOption, [], ◌∷◌, ◌++◌, length, take};
 ghost use Rattle.lit_paths.specs.ByteReads.{byte_reads};
 ghost use Rattle.lit_paths.specs.Choice.{AreSources, combinations_of};
 ghost use Rattle.lit_paths.specs.Plan.{AreEventsIn};
@@ -16,6 +17,7 @@ ghost use Rattle.lit_rel.specs.Coherent.{HasCoherentReads};
 ghost use Rattle.lit_rel.specs.DataRace.{HasDataRace};
 ghost use Rattle.lit_rel.specs.Forbidden.{IsForbidden};
 ghost use Rattle.lit_rel.specs.HappensBefore.{HappensBefore};
+ghost use Rattle.lit_rel.specs.LastPair.{AddsNone, AddsPair};
 ghost use Rattle.lit_rel.specs.Part.{AreFirstSources, IsComplete, IsNextSource, part_events, with_sources};
 ghost use Rattle.lit_rel.specs.ReadsFrom.{ReadsFrom, value_of};
 ghost use Rattle.lit_rel.specs.Rows.{Holds, rows_len};
@@ -117,6 +119,15 @@ impl<'p> Part<'p> {
         ensures { IsTrue result ↔ IsBroken self.now }
     {
         self.related.broken() || self.refused
+    }
+
+    /// The pair that the last source adds to happens-before (29.6.6), the source and its read, both by event number:
+    /// `None` where it adds none. There is a source.
+    pub fn last_pair(&self) -> Option<(u8, u8)>
+        requires { 0 < length self.now.sources }
+        ensures { MatchOption result (AddsNone self.now) (λ pair. AddsPair self.now pair.0 pair.1) }
+    {
+        self.related.last_pair()
     }
 
     /// How many sources are given. Each is a candidate of its byte read, so where each byte read has one they are sources

@@ -1,6 +1,7 @@
 //! A relation on the events of a candidate execution, as rows of sets. `given::relations` has the relations of clause 29.
 
 pub(crate) mod closing;
+pub(crate) mod two_way_rows;
 
 ghost use Rattle.std.specs.Prelude.{◌≡◌, ◌⊎◌, ◌↔◌, ℕ, ◌<◌, ◌≤◌, IsTrue};
 ghost use Rattle.lit_paths.specs.declared.limits.TheConstants.{EVENT_LIMIT};

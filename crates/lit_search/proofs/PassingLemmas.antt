@@ -1,5 +1,5 @@
 -- Choices that may be passed over, and what the choice of a complete part shows.
-use Rattle.std.proofs.Common.{◌≡◌, ℕ, zero, suc, ◌+◌, ◌<◌, ◌≤◌, ◌↔◌, Bool, Option, Some, None, List, [], ◌∷◌, ◌++◌, length, map, take, refl, sym, ap, subst, ◌∙◌, arith, append-nil, length-append}
+use Rattle.std.proofs.Common.{◌≡◌, ℕ, zero, suc, ◌+◌, ◌<◌, ◌≤◌, Bool, Option, Some, None, List, [], ◌∷◌, ◌++◌, length, map, take, refl, sym, ap, subst, ◌∙◌, arith, append-nil, length-append}
 use Rattle.std.specs.Prelude.{All, IsTrue, slice_get, slice_index}
 use Rattle.std.proofs.lemmas.List.{length-take-le, take_all, nil_from_length}
 use Rattle.std.proofs.lemmas.Option.{same_Some}
@@ -15,13 +15,10 @@ use Rattle.lit_paths.specs.Path.{Path}
 use Rattle.lit_paths.specs.Plan.{IsOfCombination}
 use Rattle.lit_paths.specs.Run.{run_path}
 use Rattle.lit_rel.specs.Broken.{IsBroken}
-use Rattle.lit_rel.specs.Forbidden.{IsForbidden}
 use Rattle.lit_rel.specs.Growth.{IsGivenWhole, ValuesStay}
-use Rattle.lit_rel.specs.HappensBefore.{HappensBefore}
 use Rattle.lit_rel.specs.Part.{PartModel, part_events, with_sources}
 use Rattle.lit_rel.specs.ReadsFrom.{value_of}
-use Rattle.lit_order.specs.Forcing.{HasForcedCycle, IsForced}
-use Rattle.lit_order.specs.MemoryOrder.{IsLeastMemoryOrder, IsOrderOf, StandsBefore}
+use Rattle.lit_order.specs.MemoryOrder.{IsLeastMemoryOrder, IsMemoryOrder}
 use Rattle.lit_search.specs.Completion.{Completes, IsEntered}
 use Rattle.lit_search.specs.ValidExecution.{IsValidExecution}
 use Rattle.lit_search.specs.Internal.Examined.{IsExample}
@@ -31,7 +28,6 @@ use Rattle.lit_search.specs.Internal.Passing.{HasAll, MayPass, NoneFrom, NoneVal
 use Rattle.lit_search.specs.Internal.Places.{ArePlaces, Stand, behind_at, candidates_at, low_at, part_at, sources_at, stand_events, with_places}
 use Rattle.lit_search.specs.Internal.Wanting.{AllKnownAfter, GoesBy}
 use Rattle.lit_search.proofs.CompletionLemmas.{example, example_completes, example_paths, its_events, its_outcome, order_kept}
-use Rattle.lit_order.proofs.SameOrders.{order_back}
 use Rattle.lit_search.proofs.PlaceLemmas.{length-sources, numbered, passed_within, placed_take, ways_end, within}
 use Rattle.lit_search.proofs.RunLemmas.{maps}
 
@@ -142,25 +138,9 @@ pass_unwanted laws s entered placed few t Wanted asks known same named deep all_
 pub pass_from : (t : Litmus) (Wanted : List ℕ → Type 0) (from : ℕ) (s : Stand) (depth : ℕ) → MayPass t Wanted 0 s depth → MayPass t Wanted from s depth
 pass_from t Wanted from s depth is = record { few = is.few; low = is.low; high = is.high; none = λ n above low high. is.none n (omega arith) low high }
 
--- ---- an event that is forced before itself
-pub no_round : (laws : Laws) (part : PartModel) (n : ℕ) (before : ℕ → ℕ → Type 0) (banned : ℕ → ℕ → ℕ → Type 0) → n ≡ length (part_events part)
-    → ((e d : ℕ) → before e d ↔ HappensBefore (part_events part) part.sources e d) → ((w r v : ℕ) → banned w r v ↔ IsForbidden (part_events part) part.sources w r v)
-    → ((order : List ℕ) → IsOrderOf n before banned order → (a d : ℕ) → IsForced before banned a d → StandsBefore order a d)
-    → HasForcedCycle before banned → (x : Execution) → ¬ Completes part x
-no_round laws part n before banned len pairs triples keep cycle x is =
-    let ordered = is.valid.ordered in
-    let kept = order_kept part x is laws.grow ordered.0 ordered.1 in
-    let here = order_back n (length (part_events part)) before (HappensBefore (part_events part) part.sources) banned (IsForbidden (part_events part) part.sources) len pairs triples ordered.0 kept in
-    let stands = keep ordered.0 here cycle.0 cycle.0 cycle.1 in
-    absurd (omega (arith, stands.earlier, here.complete.once stands.first stands.second cycle.0 stands.first_is stands.second_is))
-
 -- without an order, none goes on
-pub no_order : (laws : Laws) (part : PartModel) (n : ℕ) (before : ℕ → ℕ → Type 0) (banned : ℕ → ℕ → ℕ → Type 0) → n ≡ length (part_events part)
-    → ((e d : ℕ) → before e d ↔ HappensBefore (part_events part) part.sources e d) → ((w r v : ℕ) → banned w r v ↔ IsForbidden (part_events part) part.sources w r v)
-    → ((order : List ℕ) → ¬ IsOrderOf n before banned order) → (x : Execution) → ¬ Completes part x
-no_order laws part n before banned len pairs triples none x is =
-    let ordered = is.valid.ordered in
-    none ordered.0 (order_back n (length (part_events part)) before (HappensBefore (part_events part) part.sources) banned (IsForbidden (part_events part) part.sources) len pairs triples ordered.0 (order_kept part x is laws.grow ordered.0 ordered.1))
+pub no_order : (laws : Laws) (part : PartModel) → ((order : List ℕ) → ¬ IsMemoryOrder (part_events part) part.sources order) → (x : Execution) → ¬ Completes part x
+no_order laws part none x is = let ordered = is.valid.ordered in none ordered.0 (order_kept part x is laws.grow ordered.0 ordered.1)
 
 -- ---- what a choice shows
 module _ (laws : Laws) (s : Stand) (entered : IsEntered (part_at s)) (placed : ArePlaces (stand_events s) 0 s.places) (all : HasAll s) (named : AreNamed s.test)

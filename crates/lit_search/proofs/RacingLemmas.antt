@@ -8,7 +8,7 @@ use Rattle.lit_read.specs.Syntax.{Litmus}
 use Rattle.lit_paths.specs.declared.event.Event.{Event}
 use Rattle.lit_paths.specs.ByteReads.{byte_reads}
 use Rattle.lit_paths.specs.Choice.{AreSources}
-use Rattle.lit_paths.specs.Execution.{Execution, execution_outcome}
+use Rattle.lit_paths.specs.Execution.{execution_outcome}
 use Rattle.lit_paths.specs.Numbers.{ways_from}
 use Rattle.lit_rel.specs.DataRace.{HasDataRace, MayRace}
 use Rattle.lit_rel.specs.Part.{PartModel, part_events}

@@ -31,6 +31,10 @@ few_filtered p n (e ∷ es) = by (p (n, e)) (few_filtered p (n + 1) es)
 pub few_candidates : (events : List Event) (k : ℕ) → length (candidates_at events k) ≤ length events
 few_candidates events k = few_filtered (is_candidate (byte_read_at events k).0 (byte_read_at events k).1) 0 events
 
+-- its part is that of the stand
+pub its_part : (x : Inside) → IsStanding x → (s : Stand) → record { test = x.part.test; combination = x.part.combination; places = x.places.items } ≡ s → x.part ≡ part_at s
+its_part x is s view = ap (λ (ws : List ℕ). with_sources x.part ws) is.given ∙ ap part_at view
+
 -- ---- the next one behind its choices
 once_more : (a w : ℕ) → (a + 1) * w ≡ a * w + w
 once_more zero w = omega arith

@@ -7,15 +7,18 @@ pub(crate) mod standing_in;
 pub(crate) mod used;
 pub(crate) mod wanted;
 
-ghost use Rattle.std.specs.Prelude.{◌≡◌, ◌↔◌, ◌+◌, ◌-◌, ◌<◌, ◌≤◌, Some, IsTrue, IsFalse, [], ◌∷◌, ◌++◌, length, slice_get, take};
+ghost use Rattle.std.specs.Prelude.{◌≡◌, ◌↔◌, ℕ, ◌+◌, ◌-◌, ◌<◌, ◌≤◌, List, Some, IfNone, IfSome, IsTrue, IsFalse, [], ◌∷◌, ◌++◌, length, slice_get, take};
 ghost use Rattle.lit_paths.specs.ByteReads.{byte_reads};
 ghost use Rattle.lit_paths.specs.Choice.{combinations_of};
 ghost use Rattle.lit_paths.specs.declared.limits.TheConstants.{EVENT_LIMIT};
 ghost use Rattle.lit_paths.specs.Plan.{choices_before};
+ghost use Rattle.lit_order.specs.MemoryOrder.{IsLeastMemoryOrder, IsMemoryOrder};
+ghost use Rattle.lit_order.specs.Refuted.{IsRefuted};
 ghost use Rattle.lit_search.specs.Completion.{IsEntered};
 ghost use Rattle.lit_search.specs.Internal.Places.{ArePlaces, behind_at, candidates_at, low_at, part_at, stand_events, with_places};
 
 use arrayvec::ArrayVec;
+use lit_order::{ForcedPart, Order};
 use lit_paths::laws::choices_have_numbers;
 use lit_paths::{BYTE_READ_LIMIT, Plan};
 use lit_rel::Part;
@@ -25,7 +28,7 @@ use std::marker::Model;
 /// so, whose numbers follow one another. A clause sees it as a `Stand`.
 #[derive(Drop)]
 pub(crate) struct Cursor<'p> {
-    part: Part<'p>,
+    part: ForcedPart<'p>,
     /// The place of each source given among the candidates of its byte read.
     places: ArrayVec<u8, BYTE_READ_LIMIT>,
     /// The number of the first choice that begins with these sources.
@@ -54,7 +57,7 @@ impl<'p> Cursor<'p> {
         ensures { result ≡ record { test = plan.now; combination = combination; places = [] } }
     {
         let _test = plan.test();
-        let part = Part::open(plan, combination);
+        let part = ForcedPart::open(plan, combination);
         let low = part.combination().first();
         let end = part.combination().end();
         Cursor {
@@ -84,7 +87,23 @@ impl<'p> Cursor<'p> {
         ensures entered { IsEntered (part_at self.now) }
         ensures placed { ArePlaces (stand_events self.now) 0 self.now.places }
     {
-        &self.part
+        self.part.part()
+    }
+
+    /// Whether no valid execution goes on from its part, as far as the sources given show.
+    pub(crate) fn refuted(&self) -> bool
+        ensures { IsTrue result ↔ IsRefuted (part_at self.now) }
+    {
+        self.part.refuted()
+    }
+
+    /// The least memory-order of its part, or `None` exactly where there is none. The part is not refuted.
+    pub(crate) fn least_order(&self) -> Option<Order>
+        requires { ¬ IsRefuted (part_at self.now) }
+        ensures found { IfSome result (λ order. IsLeastMemoryOrder (stand_events self.now) (part_at self.now).sources order.items) }
+        ensures none { IfNone result ((order : List ℕ) → ¬ IsMemoryOrder (stand_events self.now) (part_at self.now).sources order) }
+    {
+        self.part.least_order()
     }
 
     /// The number of the first choice that begins with its sources.

@@ -1,12 +1,16 @@
 //! The words of the command line.
 
-ghost use Rattle.std.specs.Prelude.{◌≡◌, [], false, IfOk, codes};
+ghost use Rattle.std.specs.Prelude.{◌≡◌, [], false, map, is_some, IfOk, IfErr, codes};
+ghost use Rattle.clap.specs.Words.{HasKind, app_of, found_of, kind_of, rows_of, rule_of};
 ghost use Rattle.jslit.specs.Internal.Command.{IsCommand, ReadsNumber};
+ghost use Rattle.jslit.specs.Words.{bare_flag, faults_of, is_excluded, is_quick as quick_of, jslit_command, names_report, number_flag, valued_flag, IsAsked};
+ghost use Rattle.jslit.specs.Words.{file_argument as file_rule};
 ghost use Rattle.lit_share.specs.declared.limits.TheConstants.{CUT_LIMIT as CUTS, WORKER_LIMIT as WORKERS};
 
 use crate::command::asked_line::Line;
 use crate::engine::Options;
-use clap::{Arg, ArgAction, Command, Error, value_parser};
+use clap::error::ErrorKind;
+use clap::{Arg, ArgAction, ArgMatches, Command, Error, value_parser};
 use lit_share::{CUT_LIMIT, WORKER_LIMIT};
 use std::alloc::{AllocError, Global};
 use std::convert::AsStr;
@@ -35,6 +39,7 @@ fn workers_flag<'a>(alloc: Global) -> Arg<'a>
     ensures reads { ReadsNumber result (codes "workers") 1 WORKERS }
     ensures ungrouped { result.groups.items ≡ [] }
     ensures local { result.global ≡ false }
+    ensures rule { rule_of result ≡ number_flag (codes "workers") WORKERS }
 {
     Arg::new(alloc, "workers")
         .long("workers")
@@ -49,6 +54,7 @@ fn cut_flag<'a>(alloc: Global) -> Arg<'a>
     ensures reads { ReadsNumber result (codes "cut") 1 CUTS }
     ensures ungrouped { result.groups.items ≡ [] }
     ensures local { result.global ≡ false }
+    ensures rule { rule_of result ≡ number_flag (codes "cut") CUTS }
 {
     Arg::new(alloc, "cut")
         .long("cut")
@@ -63,6 +69,7 @@ fn quick_flag<'a>(alloc: Global) -> Arg<'a>
     ensures id { result.id.now ≡ codes "quick" }
     ensures ungrouped { result.groups.items ≡ [] }
     ensures local { result.global ≡ false }
+    ensures rule { rule_of result ≡ bare_flag (codes "quick") }
 {
     Arg::new(alloc, "quick")
         .long("quick")
@@ -70,23 +77,20 @@ fn quick_flag<'a>(alloc: Global) -> Arg<'a>
         .help("Report only the first choice that meets the condition and the first that does not")
 }
 
-/// The flag for a schedule, which stands with no flag for a report.
-fn schedule_flag<'a>(alloc: Global) -> Result<Arg<'a>, AllocError>
-    ensures id { IfOk result (λ flag. flag.id.now ≡ codes "schedule") }
-    ensures ungrouped { IfOk result (λ flag. flag.groups.items ≡ []) }
-    ensures local { IfOk result (λ flag. flag.global ≡ false) }
+/// The flag for a schedule.
+fn schedule_flag<'a>(alloc: Global) -> Arg<'a>
+    ensures id { result.id.now ≡ codes "schedule" }
+    ensures ungrouped { result.groups.items ≡ [] }
+    ensures local { result.global ≡ false }
+    ensures rule { rule_of result ≡ valued_flag (codes "schedule") }
 {
-    let flag = Arg::new(alloc, "schedule")
+    Arg::new(alloc, "schedule")
         .long("schedule")
         .value_name("TEXT")
         .action(ArgAction::Set)
         .help(
             "Carry the test out in turns, by the names of agents, such as A,B,A, and print its outcome",
-        );
-    let no_workers = flag.conflicts_with("workers")?;
-    let no_cut = no_workers.conflicts_with("cut")?;
-    let alone = no_cut.conflicts_with("quick")?;
-    Ok(alone)
+        )
 }
 
 /// The file that holds the text.
@@ -94,6 +98,7 @@ fn file_argument<'a>(alloc: Global) -> Arg<'a>
     ensures id { result.id.now ≡ codes "file" }
     ensures ungrouped { result.groups.items ≡ [] }
     ensures local { result.global ≡ false }
+    ensures rule { rule_of result ≡ file_rule }
 {
     Arg::new(alloc, "file")
         .value_name("FILE")
@@ -103,7 +108,8 @@ fn file_argument<'a>(alloc: Global) -> Arg<'a>
 
 /// The command `jslit`.
 fn command<'a>(alloc: Global) -> Result<Command<'a>, AllocError>
-    ensures { IfOk result IsCommand }
+    ensures numbers { IfOk result IsCommand }
+    ensures whole { IfOk result (λ command. app_of command ≡ jslit_command) }
 {
     let bare = Command::new(alloc, "jslit")
         .about("Prints every outcome that the memory model of ECMAScript allows a litmus test")
@@ -112,22 +118,61 @@ fn command<'a>(alloc: Global) -> Result<Command<'a>, AllocError>
     let with_workers = bare.arg(workers_flag(alloc))?;
     let with_cut = with_workers.arg(cut_flag(alloc))?;
     let with_quick = with_cut.arg(quick_flag(alloc))?;
-    let with_schedule = with_quick.arg(schedule_flag(alloc)?)?;
+    let with_schedule = with_quick.arg(schedule_flag(alloc))?;
     let whole = with_schedule.arg(file_argument(alloc))?;
     Ok(whole)
 }
 
+/// Whether the quick report is asked for.
+fn is_quick(matches: &ArgMatches<'_>) -> bool
+    ensures { result ≡ quick_of (rows_of (found_of matches.now)) }
+{
+    matches.get_str("quick") == Some("true")
+}
+
+/// What is said of the first flag of a report that stands with a schedule.
+fn report_flag(matches: &ArgMatches<'_>) -> Option<&'static str>
+    ensures { is_some result ≡ names_report (rows_of (found_of matches.now)) }
+{
+    if matches.get_str("workers").is_some() {
+        Some("the argument '--schedule <TEXT>' cannot be used with '--workers <N>'")
+    } else if matches.get_str("cut").is_some() {
+        Some("the argument '--schedule <TEXT>' cannot be used with '--cut <N>'")
+    } else if is_quick(matches) {
+        Some("the argument '--schedule <TEXT>' cannot be used with '--quick'")
+    } else {
+        None
+    }
+}
+
+/// What is said where a schedule stands with a flag of a report.
+fn exclusion(matches: &ArgMatches<'_>) -> Option<&'static str>
+    ensures { is_some result ≡ is_excluded (rows_of (found_of matches.now)) }
+{
+    if matches.get_str("schedule").is_some() {
+        report_flag(matches)
+    } else {
+        None
+    }
+}
+
 /// What the words ask for: the program's name, its flags and at most one file. What is no number of workers or choices
-/// within the limits is refused, and so is what is no flag, as `clap` does it.
-pub fn line<'a, S: AsStr>(alloc: Global, words: &'a [S]) -> Result<Line<'a>, Error> {
-    let command = command(alloc)?;
-    let matches = command.try_get_matches_from(words)?;
+/// within the limits is refused, and so are a schedule with a flag of a report, and what is no flag, as `clap` does it.
+pub fn line<'a, S: AsStr>(alloc: Global, words: &'a [S]) -> Result<Line<'a>, Error>
+    ensures asked { IfOk result (IsAsked (map S.text words.entry.now)) }
+    ensures refused { IfErr result (HasKind (faults_of (map S.text words.entry.now))) }
+{
+    let mut command = command(alloc)?;
+    let matches = command.try_get_matches_from_mut(words)?;
+    if let Some(text) = exclusion(&matches) {
+        return Err(command.error(ErrorKind::ArgumentConflict, text)?);
+    }
     let workers = matches.get_one("workers").unwrap_or(USUAL.workers);
     let cut = matches.get_one("cut").unwrap_or(USUAL.cut);
     let options = Options {
         workers,
         cut,
-        quick: matches.get_flag("quick"),
+        quick: is_quick(&matches),
     };
     Ok(Line {
         options,

@@ -1,11 +1,12 @@
 //! The text of a report, put on a page.
 
-ghost use Rattle.std.specs.Prelude.{◌≡◌, ℕ, ◌<◌, ◌≤◌, true, ◌++◌, All, IfSome, OnOk, OnErr, IfErr, length, codes};
+ghost use Rattle.std.specs.Prelude.{◌≡◌, ℕ, ◌+◌, ◌<◌, ◌≤◌, true, ◌++◌, All, IfSome, OnOk, OnErr, IfErr, length, codes};
 ghost use Rattle.std.specs.Io.KnownBytes.{Appends};
 ghost use Rattle.std.specs.List.{flat_map};
 ghost use Rattle.lit_paths.specs.Event.{does_read};
 ghost use Rattle.lit_paths.specs.Choice.{choices_of};
 ghost use Rattle.lit_paths.specs.ByteReads.{byte_reads};
+ghost use Rattle.lit_paths.specs.Plan.{choices_before};
 ghost use Rattle.lit_search.specs.Report.{Gives, HasLeastOrder, IsReport, in_range};
 ghost use Rattle.jslit.specs.Counted.{device_of, failures_of, one_more};
 ghost use Rattle.jslit.specs.Devices.{AppendsBeginning};
@@ -32,12 +33,12 @@ fn put_event<W: Write>(page: &mut Page, output: &mut Counted<W>, test: &Test, ev
     let Some(agent) = event.owner else {
         page.put(output, b" init[");
         page.put_number(output, event.place as u64);
-        page.put(output, b"]");
+        page.put_byte(output, b']');
         return;
     };
-    page.put(output, b" ");
+    page.put_byte(output, b' ');
     page.put(output, test.agent_name(agent as usize).as_bytes());
-    page.put(output, b".");
+    page.put_byte(output, b'.');
     page.put_number(output, event.place as u64);
 }
 
@@ -75,7 +76,7 @@ fn put_source_line<W: Write>(
     page.put(output, b"  from");
     put_event(page, output, test, read);
     put_events(page, output, test, events, sources);
-    page.put(output, b"\n");
+    page.put_byte(output, b'\n');
 }
 
 /// Puts the line of an event that reads, whose sources are the first of these, and gives the others.
@@ -134,11 +135,11 @@ fn put_register<W: Write>(
     requires { name.0 < length test.now.agents }
     ensures { HasPut (writing_of W.contents output.old page.old) (writing_of W.contents output.new page.new) (register_text test.now (name, value)) }
 {
-    page.put(output, b" ");
+    page.put_byte(output, b' ');
     page.put(output, test.agent_name(name.0 as usize).as_bytes());
     page.put(output, b".r");
     page.put_number(output, name.1 as u64);
-    page.put(output, b"=");
+    page.put_byte(output, b'=');
     page.put_number(output, value as u64);
 }
 
@@ -159,7 +160,21 @@ pub(crate) fn put_registers<W: Write>(
     }
 }
 
-/// Puts an outcome and its example, whose combination is entered in place of one that was entered before.
+/// Enters the combination of a choice, unless it is entered.
+fn enter_for<'p>(plan: &'p Plan<'p>, entered: &mut Combination<'p>, choice: u64)
+    requires plan { entered.old.0 ≡ plan.now }
+    requires known { choice < length (choices_of plan.now) }
+    ensures plan { entered.new.0 ≡ plan.now }
+    ensures low { choices_before entered.new.0 entered.new.1 ≤ choice }
+    ensures high { choice < choices_before entered.new.0 (entered.new.1 + 1) }
+{
+    if entered.first() <= choice && choice < entered.end() {
+        return;
+    }
+    plan.reenter(entered, plan.combination(choice));
+}
+
+/// Puts an outcome and its example, whose combination is entered unless it is.
 fn put_entry<'p, W: Write>(
     page: &mut Page,
     output: &mut Counted<W>,
@@ -168,24 +183,26 @@ fn put_entry<'p, W: Write>(
     outcome: &[u32],
     example: &Example,
 )
+    requires plan { combination.old.0 ≡ plan.now }
     requires known { example.now.choice < length (choices_of plan.now) }
     requires gives { Gives plan.now example.now.choice outcome.now }
     requires least_order { HasLeastOrder plan.now example.now.choice example.now.order.items }
-    ensures { HasPut (writing_of W.contents output.old page.old) (writing_of W.contents output.new page.new)
+    ensures plan { combination.new.0 ≡ plan.now }
+    ensures text { HasPut (writing_of W.contents output.old page.old) (writing_of W.contents output.new page.new)
         (entry_text plan.now (record { outcome = outcome.now; choice = example.now.choice; order = example.now.order.items })) }
 {
     combinations_are_listed();
     let test = plan.test();
-    plan.reenter(combination, plan.combination(example.choice));
+    enter_for(plan, combination, example.choice);
     let events = combination.events();
     let sources = combination.sources(example.choice);
     page.put(output, b"outcome");
     put_registers(page, output, test, plan.names(), outcome);
-    page.put(output, b"\n");
+    page.put_byte(output, b'\n');
     put_sources(page, output, test, events, sources.as_slice());
     page.put(output, b"  order");
     put_events(page, output, test, events, example.order.as_slice());
-    page.put(output, b"\n");
+    page.put_byte(output, b'\n');
 }
 
 /// Puts the first line of a report.
@@ -194,7 +211,7 @@ pub(crate) fn put_head<W: Write>(page: &mut Page, output: &mut Counted<W>, test:
 {
     page.put(output, b"test ");
     page.put(output, test.name().as_bytes());
-    page.put(output, b"\n");
+    page.put_byte(output, b'\n');
 }
 
 /// Puts the line of the verdict.
@@ -203,7 +220,7 @@ fn put_verdict<W: Write>(page: &mut Page, output: &mut Counted<W>, verdict: Verd
 {
     page.put(output, b"verdict ");
     page.put(output, verdict.as_str().as_bytes());
-    page.put(output, b"\n");
+    page.put_byte(output, b'\n');
 }
 
 /// The word for whether something is so.
@@ -219,7 +236,7 @@ fn put_race<W: Write>(page: &mut Page, output: &mut Counted<W>, race: bool)
 {
     page.put(output, b"data race ");
     page.put(output, word_for(race));
-    page.put(output, b"\n");
+    page.put_byte(output, b'\n');
 }
 
 /// Puts an outcome and its example for each entry of a report.
@@ -260,7 +277,7 @@ pub(crate) fn write_report<W: Write>(
     put_entries(&mut page, output, plan, found);
     page.put(output, b"outcomes ");
     page.put_number(output, found.len() as u64);
-    page.put(output, b"\n");
+    page.put_byte(output, b'\n');
     put_verdict(&mut page, output, verdict);
     put_race(&mut page, output, found.race());
     page.finish(output)
@@ -283,7 +300,7 @@ fn put_class<W: Write>(
         page.put(output, b" none\n");
         return;
     };
-    page.put(output, b" ");
+    page.put_byte(output, b' ');
     let _some = plan.combinations();
     let mut combination = plan.enter(0);
     put_entry(

@@ -1,12 +1,15 @@
 -- What a part keeps for each number of sources.
-use Rattle.std.specs.Prelude.{◌≡◌, ◌↔◌, ℕ, ◌-◌, false, IsTrue, List, [], length, take, Some, slice_get}
+use Rattle.std.specs.Prelude.{◌≡◌, ◌↔◌, ℕ, ◌-◌, ◌≤◌, true, false, IsTrue, List, length, map, take, Some, slice_get}
 use Rattle.lit_paths.specs.declared.event.Event.{Event}
+use Rattle.lit_paths.specs.ByteReads.{byte_reads}
 use Rattle.lit_paths.specs.Plan.{AreEventsIn}
 use Rattle.lit_rel.specs.declared.rows.Rows.{Rows}
+use Rattle.lit_rel.specs.declared.rows.two_way_rows.TwoWayRows.{TwoWayRows}
 use Rattle.lit_rel.specs.declared.given.SourcedByte.{SourcedByte}
 use Rattle.lit_rel.specs.declared.part.levels.Level.{Level}
 use Rattle.lit_rel.specs.Broken.{HasBrokenRelations}
 use Rattle.lit_rel.specs.HappensBefore.{HappensBefore}
+use Rattle.lit_rel.specs.LastPair.{AddsNone, AddsPair}
 use Rattle.lit_rel.specs.Part.{AreFirstSources, PartModel, part_events, with_sources}
 use Rattle.lit_rel.specs.Internal.Given.{AreFirstReads, AreKnown}
 use Rattle.lit_rel.specs.Rows.{Holds, rows_len}
@@ -16,20 +19,37 @@ pub record IsOrder (events : List Event) (sources : List ℕ) (rows : Rows) : Ty
   pub len : rows_len rows ≡ length events
   pub pairs : (e d : ℕ) → Holds rows e d ↔ HappensBefore events sources e d
 
--- what is known of a part: whether it is broken, and where its last source added no pair to happens-before
+-- what is known of a part: whether it is broken, and whether its last source added a pair to happens-before, which then is
+-- that source and its read
 pub record IsLevel (part : PartModel) (level : Level) : Type 0 where
   pub broken : IsTrue level.broken ↔ HasBrokenRelations part
-  pub same : level.adds ≡ false → (e d : ℕ) → HappensBefore (part_events part) (take (length part.sources - 1) part.sources) e d ↔ HappensBefore (part_events part) part.sources e d
+  pub same : level.adds ≡ false → AddsNone part
+  pub more : level.adds ≡ true → (r b w : ℕ) → slice_get (byte_reads (part_events part)) (length part.sources - 1) ≡ Some (r, b) → slice_get part.sources (length part.sources - 1) ≡ Some w → AddsPair part w r
 
--- what a part keeps: the first byte reads, each with a source that is a candidate, happens-before of none of them and of all, and what is
--- known with all of them and with each lesser number of them
-pub record IsKept (part : PartModel) (start order : Rows) (bytes : List SourcedByte) (earlier : List Level) (last : Level) : Type 0 where
+-- the relations, without their converses
+abbrev pub rows_of : List TwoWayRows → List Rows
+rows_of orders = map (λ o. o.rows) orders
+
+-- happens-before of the sources given, and what it was before each pair was added: for each lesser number of sources, the one
+-- to which as many pairs were added as its level says
+pub record AreRestored (events : List Event) (sources : List ℕ) (earlier : List Level) (orders : List Rows) (order : Rows) : Type 0 where
+  pub few : (k : ℕ) (level : Level) → slice_get earlier k ≡ Some level → level.pairs ≤ k
+  pub within : (k : ℕ) (level : Level) → slice_get earlier k ≡ Some level → level.pairs ≤ length orders
+  pub rising : (j k : ℕ) (l m : Level) → j ≤ k → slice_get earlier j ≡ Some l → slice_get earlier k ≡ Some m → l.pairs ≤ m.pairs
+  pub here : (k : ℕ) (level : Level) → slice_get earlier k ≡ Some level → level.pairs ≡ length orders → IsOrder events (take k sources) order
+  pub there : (k : ℕ) (level : Level) (was : Rows) → slice_get earlier k ≡ Some level → slice_get orders level.pairs ≡ Some was → IsOrder events (take k sources) was
+
+-- what a part keeps: the first byte reads, each with a source that is a candidate, happens-before of all of them and before
+-- each pair that was added, and what is known with all of them and with each lesser number of them
+pub record IsKept (part : PartModel) (bytes : List SourcedByte) (orders : List Rows) (order : Rows) (earlier : List Level) (last : Level) : Type 0 where
   pub sound : AreEventsIn part.test.bytes (part_events part)
   pub first_reads : AreFirstReads (part_events part) bytes
   pub known : AreKnown (part_events part) bytes
   pub candidates : AreFirstSources part
   pub one_each : length earlier ≡ length bytes
-  pub unsourced : IsOrder (part_events part) [] start
+  pub few : length orders ≤ length bytes
+  pub counted : last.pairs ≡ length orders
   pub ordered : IsOrder (part_events part) part.sources order
+  pub restored : AreRestored (part_events part) part.sources earlier orders order
   pub level : IsLevel part last
   pub levels : (k : ℕ) (level : Level) → slice_get earlier k ≡ Some level → IsLevel (with_sources part (take k part.sources)) level

@@ -15,6 +15,7 @@ use crate::given::reads::is_coherent_byte;
 use crate::given::relations::can_synchronize;
 use crate::given::{Given, SourcedByte};
 use crate::rows::Rows;
+use crate::rows::two_way_rows::TwoWayRows;
 use lit_paths::event_at;
 
 /// Whether a new pair can have changed the answer for a byte, by what is ahead of the pair and what is behind it, its
@@ -87,15 +88,15 @@ impl Given<'_> {
         &self,
         was: bool,
         byte: SourcedByte,
-        before: &Rows,
+        before: &TwoWayRows,
         now: &Rows,
     ) -> bool
         requires known { IsKnown (length self.now.events.now) byte }
-        requires len { rows_len before.now ≡ length self.now.events.now }
+        requires len { rows_len before.now.rows ≡ length self.now.events.now }
         ensures { IsTrue result
             ↔ (IsTrue was ⊎ (¬ IsCoherentRead self.now.events.now (Holds now.now) byte.read byte.byte byte.source)
             ⊎ HasByteSo self.now.bytes.now (IsChangedByte self.now.events.now (Holds now.now)
-            (λ e. Holds before.now e byte.source ⊎ (e ≡ byte.source)) (λ e. Holds before.now byte.read e ⊎ (e ≡ byte.read)))
+            (λ e. Holds before.now.rows e byte.source ⊎ (e ≡ byte.source)) (λ e. Holds before.now.rows byte.read e ⊎ (e ≡ byte.read)))
             ⊎ HasByteSo self.now.bytes.now (Tears self.now.events.now byte)) }
     {
         was || !is_coherent_byte(self.events, byte, now)
@@ -104,16 +105,16 @@ impl Given<'_> {
     }
 
     /// Whether some byte whose answer one more byte's new pair can have changed is not coherent any more.
-    fn is_changed_with_pair(&self, byte: SourcedByte, before: &Rows, now: &Rows) -> bool
+    fn is_changed_with_pair(&self, byte: SourcedByte, before: &TwoWayRows, now: &Rows) -> bool
         requires known { IsKnown (length self.now.events.now) byte }
-        requires len { rows_len before.now ≡ length self.now.events.now }
+        requires len { rows_len before.now.rows ≡ length self.now.events.now }
         ensures { IsTrue result
             ↔ HasByteSo self.now.bytes.now (IsChangedByte self.now.events.now (Holds now.now)
-            (λ e. Holds before.now e byte.source ⊎ (e ≡ byte.source)) (λ e. Holds before.now byte.read e ⊎ (e ≡ byte.read))) }
+            (λ e. Holds before.now.rows e byte.source ⊎ (e ≡ byte.source)) (λ e. Holds before.now.rows byte.read e ⊎ (e ≡ byte.read))) }
     {
         let (read, source) = (usize::from(byte.read), usize::from(byte.source));
-        let ahead = before.predecessors(source).with(source);
-        let behind = before.successors(read).with(read);
+        let ahead = before.converse.successors(source).with(source);
+        let behind = before.rows.successors(read).with(read);
         self.is_changed_by(ahead, behind, now)
     }
 }

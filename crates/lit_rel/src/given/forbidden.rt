@@ -5,7 +5,7 @@ ghost use Rattle.lit_paths.specs.declared.limits.TheConstants.{BYTE_READ_LIMIT};
 ghost use Rattle.lit_rel.specs.Between.{Forbids};
 ghost use Rattle.lit_rel.specs.EventSet.{HasEvent};
 ghost use Rattle.lit_rel.specs.Forbidden.{IsAfterSource, IsBeforeRead, IsBetweenSynchronized, IsForbiddenBetween, IsForbiddenTriple};
-ghost use Rattle.lit_rel.specs.Internal.Forbidding.{IsForbidding, RepeatsPair};
+ghost use Rattle.lit_rel.specs.Internal.Forbidding.{AreSeqCstWrites, IsForbidding, IsSeqCstWrite, RepeatsPair};
 ghost use Rattle.lit_rel.specs.Internal.Given.{IsKnown, sources_of};
 ghost use Rattle.lit_rel.specs.ReadsFrom.{ReadsByteFrom};
 ghost use Rattle.lit_rel.specs.Rows.{Holds};
@@ -82,6 +82,15 @@ impl Triple<'_> {
     }
 }
 
+/// Whether an event is a sequentially consistent write.
+fn is_seq_cst_write(events: &[Event], event: usize) -> bool
+    requires { event < length events.now }
+    ensures { IsTrue result ↔ IsSeqCstWrite events.now event }
+{
+    let write = event_at(events, event);
+    write.kind.does_write() && write.is_seq_cst()
+}
+
 impl Given<'_> {
     /// What may not stand between each source and its read, by a relation that orders the events.
     pub(crate) fn between(&self, before: &Rows) -> Between
@@ -90,9 +99,10 @@ impl Given<'_> {
             ↔ IsForbiddenTriple self.now.events.now (ReadsByteFrom self.now.events.now (sources_of self.now.bytes.now)) (Holds before.now) w r v }
     {
         let mut between = Between::new(self.events.len());
+        let writes = self.seq_cst_writes();
         for place in 0..self.bytes.len() {
             if !self.repeats_pair(place) {
-                self.forbid_others(&mut between, self.bytes[place], before);
+                self.forbid_others(&mut between, self.bytes[place], before, writes);
             }
         }
         between
@@ -109,7 +119,14 @@ impl Given<'_> {
     }
 
     /// Forbids what may not stand between a byte's source and its read.
-    fn forbid_others(&self, between: &mut Between, byte: SourcedByte, before: &Rows)
+    fn forbid_others(
+        &self,
+        between: &mut Between,
+        byte: SourcedByte,
+        before: &Rows,
+        writes: EventSet,
+    )
+        requires writes { AreSeqCstWrites self.now.events.now writes }
         requires known { IsKnown (length self.now.events.now) byte }
         requires len { between.old.len ≡ length self.now.events.now }
         requires room { length between.old.pairs < BYTE_READ_LIMIT }
@@ -118,31 +135,49 @@ impl Given<'_> {
         ensures triples { (w r v : ℕ) → Forbids between.new w r v
             ↔ (Forbids between.old w r v ⊎ IsForbidding self.now.events.now (Holds before.now) w r v byte) }
     {
-        let others = self.forbidden(byte, before);
+        let others = self.forbidden(byte, before, writes);
         if !others.is_empty() {
             between.forbid(byte.source, byte.read, others);
         }
     }
 
     /// The events that may not stand between a byte's source and its read.
-    fn forbidden(&self, byte: SourcedByte, before: &Rows) -> EventSet
-        requires { IsKnown (length self.now.events.now) byte }
+    fn forbidden(&self, byte: SourcedByte, before: &Rows, writes: EventSet) -> EventSet
+        requires writes { AreSeqCstWrites self.now.events.now writes }
+        requires known { IsKnown (length self.now.events.now) byte }
         ensures { (v : ℕ) → HasEvent result v
             ↔ ((v < length self.now.events.now) × IsForbiddenBetween self.now.events.now (Holds before.now) byte.source byte.read v) }
     {
+        let source = usize::from(byte.source);
+        let read = usize::from(byte.read);
         let mut others = EventSet::new();
-        for other in 0..self.events.len() {
+        let mut left = writes;
+        while let Some((other, rest)) = left.split_first() {
             let triple = Triple {
                 events: self.events,
                 before,
-                source: usize::from(byte.source),
-                read: usize::from(byte.read),
+                source,
+                read,
                 other,
             };
             if triple.is_forbidden() {
                 others = others.with(other);
             }
+            left = rest;
         }
         others
+    }
+
+    /// The sequentially consistent writes.
+    fn seq_cst_writes(&self) -> EventSet
+        ensures { AreSeqCstWrites self.now.events.now result }
+    {
+        let mut writes = EventSet::new();
+        for event in 0..self.events.len() {
+            if is_seq_cst_write(self.events, event) {
+                writes = writes.with(event);
+            }
+        }
+        writes
     }
 }

@@ -1,8 +1,7 @@
 //! The relations of a candidate execution (ECMA-262, 2024, 29.6), for the sources given so far, as `Rows`.
 
-ghost use Rattle.std.specs.Prelude.{◌≡◌, ◌⊎◌, ◌↔◌, ℕ, ◌≤◌, [], IsTrue, length, take};
+ghost use Rattle.std.specs.Prelude.{◌≡◌, ◌⊎◌, ◌↔◌, ℕ, IsTrue, length};
 ghost use Rattle.lit_rel.specs.Internal.Given.{sources_of};
-ghost use Rattle.lit_rel.specs.Internal.Levels.{IsOrder};
 ghost use Rattle.lit_rel.specs.ReadsFrom.{ReadsFrom};
 ghost use Rattle.lit_rel.specs.Rows.{Holds, rows_len};
 ghost use Rattle.lit_rel.specs.SynchronizesWith.{CanSynchronize, Synchronizes};
@@ -27,22 +26,6 @@ impl Given<'_> {
         let mut rows = Rows::new(self.events.len());
         for byte in self.bytes {
             rows.put(usize::from(byte.read), usize::from(byte.source));
-        }
-        rows
-    }
-
-    /// happens-before (29.6.6) of the first sources, by that of no source.
-    pub(crate) fn order_of_first(&self, count: usize, start: &Rows) -> Rows
-        requires few { count ≤ length self.now.bytes.now }
-        requires start { IsOrder self.now.events.now [] start.now }
-        ensures { IsOrder self.now.events.now (take count (sources_of self.now.bytes.now)) result }
-    {
-        let mut rows = *start;
-        for place in 0..count {
-            let byte = self.bytes[place];
-            if self.adds_pair(byte, &rows) {
-                rows.close_with(usize::from(byte.source), usize::from(byte.read));
-            }
         }
         rows
     }

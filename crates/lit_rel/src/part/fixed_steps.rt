@@ -1,17 +1,27 @@
 //! The steps of happens-before that no source decides (ECMA-262, 2024, 29.6.1 and 29.6.6).
 
-ghost use Rattle.std.specs.Prelude.{◌≡◌, ◌⊎◌, ◌↔◌, ℕ, ◌<◌, ◌≤◌, IsTrue, length};
+ghost use Rattle.std.specs.Prelude.{◌≡◌, ◌⊎◌, ◌↔◌, ℕ, ◌<◌, ◌≤◌, IsTrue, [], length};
 ghost use Rattle.lit_paths.specs.declared.limits.TheConstants.{EVENT_LIMIT};
 ghost use Rattle.lit_rel.specs.AgentOrder.{IsAgentOrdered};
-ghost use Rattle.lit_rel.specs.HappensBefore.{IsMadeBefore};
+ghost use Rattle.lit_rel.specs.HappensBefore.{HappensBefore, IsMadeBefore};
 ghost use Rattle.lit_rel.specs.Internal.Steps.{IsFixedStep};
 ghost use Rattle.lit_rel.specs.Rows.{Holds, rows_len};
 
 use crate::rows::Rows;
+use crate::rows::two_way_rows::TwoWayRows;
 use lit_paths::{Event, Order3, event_at};
 
+/// happens-before where no byte read has a source.
+pub(crate) fn unsourced_order(events: &[Event]) -> TwoWayRows
+    requires { length events.now ≤ EVENT_LIMIT }
+    ensures len { rows_len result.rows ≡ length events.now }
+    ensures pairs { (e d : ℕ) → Holds result.rows e d ↔ HappensBefore events.now [] e d }
+{
+    TwoWayRows::closed(&fixed_steps(events))
+}
+
 /// All of them.
-pub(crate) fn fixed_steps(events: &[Event]) -> Rows
+fn fixed_steps(events: &[Event]) -> Rows
     requires { length events.now ≤ EVENT_LIMIT }
     ensures len { rows_len result ≡ length events.now }
     ensures pairs { (e d : ℕ) → Holds result e d ↔ IsFixedStep events.now e d }

@@ -10,6 +10,8 @@ pub(crate) struct Level {
     pub adds: bool,
     /// Whether the part is broken.
     pub broken: bool,
+    /// How many of them added a pair.
+    pub pairs: usize,
 }
 
 /// What was known with each lesser number of sources, from none on.

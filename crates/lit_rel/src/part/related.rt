@@ -1,6 +1,6 @@
 //! The relations of a combination of paths, with sources for its first byte reads.
 
-ghost use Rattle.std.specs.Prelude.{◌≡◌, ◌↔◌, ℕ, ◌-◌, ◌<◌, ◌≤◌, IsTrue, [], ◌∷◌, ◌++◌, length, take};
+ghost use Rattle.std.specs.Prelude.{◌≡◌, ◌↔◌, ℕ, ◌-◌, ◌<◌, ◌≤◌, IsTrue, MatchOption, [], ◌∷◌, ◌++◌, length, take};
 ghost use Rattle.lit_paths.specs.declared.limits.TheConstants.{BYTE_READ_LIMIT};
 ghost use Rattle.lit_paths.specs.ByteReads.{byte_reads};
 ghost use Rattle.lit_paths.specs.Choice.{combinations_of};
@@ -11,6 +11,7 @@ ghost use Rattle.lit_rel.specs.Coherent.{HasCoherentReads};
 ghost use Rattle.lit_rel.specs.DataRace.{HasDataRace};
 ghost use Rattle.lit_rel.specs.Forbidden.{IsForbidden};
 ghost use Rattle.lit_rel.specs.HappensBefore.{HappensBefore};
+ghost use Rattle.lit_rel.specs.LastPair.{AddsNone, AddsPair};
 ghost use Rattle.lit_rel.specs.Part.{AreFirstSources, IsNextSource, part_events, with_sources};
 ghost use Rattle.lit_rel.specs.ReadsFrom.{ReadsFrom, value_of};
 ghost use Rattle.lit_rel.specs.Rows.{Holds, rows_len};
@@ -19,9 +20,10 @@ ghost use Rattle.lit_rel.specs.TearFree.{HasTearFreeReads};
 
 use crate::between::Between;
 use crate::given::{Given, SourcedByte, SourcedBytes};
+use crate::part::fixed_steps::unsourced_order;
 use crate::part::levels::{Level, Levels};
+use crate::part::orders::Orders;
 use crate::rows::Rows;
-use crate::rows::closing::unsourced_order;
 use lit_paths::{Combination, Plan};
 use std::marker::Model;
 
@@ -31,10 +33,8 @@ use std::marker::Model;
 pub(crate) struct Related<'p> {
     combination: Combination<'p>,
     bytes: SourcedBytes,
-    /// happens-before of no source.
-    start: Rows,
     /// happens-before of the sources given.
-    order: Rows,
+    orders: Orders,
     earlier: Levels,
     level: Level,
 }
@@ -42,7 +42,7 @@ pub(crate) struct Related<'p> {
 impl<'p> Model for Related<'p> {
     ghost use Rattle.lit_rel.specs.Part.{PartModel, coded_part};
     ghost use Rattle.lit_rel.specs.Internal.Given.{sources_of};
-    ghost use Rattle.lit_rel.specs.Internal.Levels.{IsKept};
+    ghost use Rattle.lit_rel.specs.Internal.Levels.{IsKept, rows_of};
 
     ghost Value = { PartModel };
 
@@ -50,7 +50,7 @@ impl<'p> Model for Related<'p> {
 
     ghost view = { λ p. record { test = p.combination.0; combination = p.combination.1; sources = sources_of p.bytes.items } };
 
-    ghost invariant = { λ p. IsKept (record { test = p.combination.0; combination = p.combination.1; sources = sources_of p.bytes.items }) p.start p.order p.bytes.items p.earlier.items p.level };
+    ghost invariant = { λ p. IsKept (record { test = p.combination.0; combination = p.combination.1; sources = sources_of p.bytes.items }) p.bytes.items (rows_of p.orders.earlier.items) p.orders.now.rows p.earlier.items p.level };
 }
 
 impl<'p> Related<'p> {
@@ -63,16 +63,16 @@ impl<'p> Related<'p> {
         ensures sound { AreEventsIn result.test.bytes (part_events result) }
     {
         let start = unsourced_order(combination.events());
-        let broken = start.has_cycle();
+        let broken = start.rows.has_cycle();
         Related {
             combination,
             bytes: SourcedBytes::new(),
-            start,
-            order: start,
+            orders: Orders::new(start),
             earlier: Levels::new(),
             level: Level {
                 adds: false,
                 broken,
+                pairs: 0,
             },
         }
     }
@@ -86,12 +86,13 @@ impl<'p> Related<'p> {
         plan.reenter(&mut self.combination, combination);
         self.bytes.clear();
         self.earlier.clear();
-        self.start = unsourced_order(self.combination.events());
-        self.order = self.start;
+        let start = unsourced_order(self.combination.events());
         self.level = Level {
             adds: false,
-            broken: self.start.has_cycle(),
+            broken: start.rows.has_cycle(),
+            pairs: 0,
         };
+        self.orders.begin(start);
     }
 
     /// Its combination.
@@ -117,17 +118,23 @@ impl<'p> Related<'p> {
             events: self.combination.events(),
             bytes: self.bytes.as_slice(),
         };
-        let level = if given.adds_pair(byte, &self.order) {
-            let mut order = self.order;
+        let level = if given.adds_pair(byte, &self.orders.now.rows) {
+            let mut order = self.orders.now;
             order.close_with(usize::from(byte.source), usize::from(byte.read));
-            let broken = given.is_broken_with_pair(self.level.broken, byte, &self.order, &order);
-            self.order = order;
-            Level { adds: true, broken }
+            let before = &self.orders.now;
+            let broken = given.is_broken_with_pair(self.level.broken, byte, before, &order.rows);
+            self.orders.add(order);
+            Level {
+                adds: true,
+                broken,
+                pairs: self.level.pairs + 1,
+            }
         } else {
-            let broken = given.is_broken_with(self.level.broken, byte, &self.order);
+            let broken = given.is_broken_with(self.level.broken, byte, &self.orders.now.rows);
             Level {
                 adds: false,
                 broken,
+                pairs: self.level.pairs,
             }
         };
         self.earlier.push(self.level);
@@ -141,10 +148,8 @@ impl<'p> Related<'p> {
         ensures { self.new ≡ with_sources self.old (take (length self.old.sources - 1) self.old.sources) }
     {
         let last = self.bytes.len() - 1;
-        if self.level.adds {
-            self.order = self.given().order_of_first(last, &self.start);
-        }
         self.level = self.earlier[last];
+        self.orders.go_back(self.level.pairs);
         self.earlier.pop();
         self.bytes.pop();
     }
@@ -154,6 +159,19 @@ impl<'p> Related<'p> {
         ensures { IsTrue result ↔ HasBrokenRelations self.now }
     {
         self.level.broken
+    }
+
+    /// The pair that the last source adds to happens-before, the source and its read: `None` where it adds none. There
+    /// is a source.
+    pub(crate) fn last_pair(&self) -> Option<(u8, u8)>
+        requires { 0 < length self.now.sources }
+        ensures { MatchOption result (AddsNone self.now) (λ pair. AddsPair self.now pair.0 pair.1) }
+    {
+        if !self.level.adds {
+            return None;
+        }
+        let last = self.bytes[self.bytes.len() - 1];
+        Some((last.source, last.read))
     }
 
     /// How many sources are given. Each is a candidate of its byte read.
@@ -189,7 +207,7 @@ impl<'p> Related<'p> {
         ensures len { rows_len result.now ≡ length (part_events self.now) }
         ensures pairs { (e d : ℕ) → Holds result.now e d ↔ HappensBefore (part_events self.now) self.now.sources e d }
     {
-        &self.order
+        &self.orders.now.rows
     }
 
     /// reads-from (ECMA-262, 2024, 29.6.3), as pairs of a read and a source, of the sources given.

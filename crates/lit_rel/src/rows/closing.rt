@@ -1,25 +1,11 @@
-//! Relations closed under chains, and happens-before of no source.
+//! Relations closed under chains.
 
-ghost use Rattle.std.specs.Prelude.{◌≡◌, ◌⊎◌, ◌↔◌, ℕ, ◌<◌, ◌≤◌, IsTrue, List, [], length};
-ghost use Rattle.lit_paths.specs.declared.limits.TheConstants.{EVENT_LIMIT};
-ghost use Rattle.lit_rel.specs.HappensBefore.{Chain, HappensBefore};
+ghost use Rattle.std.specs.Prelude.{◌≡◌, ◌⊎◌, ◌↔◌, ℕ, ◌<◌, IsTrue, List};
+ghost use Rattle.lit_rel.specs.HappensBefore.{Chain};
 ghost use Rattle.lit_rel.specs.Internal.Closing.{IsCovered};
 ghost use Rattle.lit_rel.specs.Rows.{Holds, IsTransitive, rows_len};
 
-use crate::part::fixed_steps::fixed_steps;
 use crate::rows::Rows;
-use lit_paths::Event;
-
-/// happens-before (ECMA-262, 2024, 29.6.6) where no byte read has a source.
-pub(crate) fn unsourced_order(events: &[Event]) -> Rows
-    requires { length events.now ≤ EVENT_LIMIT }
-    ensures len { rows_len result ≡ length events.now }
-    ensures pairs { (e d : ℕ) → Holds result e d ↔ HappensBefore events.now [] e d }
-{
-    let mut rows = fixed_steps(events);
-    close(&mut rows);
-    rows
-}
 
 /// Makes a relation the least transitive one that contains it.
 pub fn close(rows: &mut Rows)

@@ -5,8 +5,8 @@ use lit_paths::{Plan, plan};
 use lit_read::read;
 use lit_rel::Part;
 use lit_texts::{
-    LOAD_BUFFERING, OWN_STORE, STORE_BUFFERING, STORE_BUFFERING_MIXED, STORE_BUFFERING_PLAIN,
-    TYPED_READ, VIEWED_READ,
+    LOAD_BUFFERING, MESSAGE_PASSING, OWN_STORE, STORE_BUFFERING, STORE_BUFFERING_MIXED,
+    STORE_BUFFERING_PLAIN, TYPED_READ, VIEWED_READ,
 };
 use std::process::Abort;
 use std::test::Fail;
@@ -32,6 +32,36 @@ fn store_buffering_synchronizes(rt: HostRuntime) -> Result<(), Fail> {
     let part = part_of(&plan, combination, 2);
     assert_pairs(&rt, &part.reads_from(), &[(3, 4), (5, 0)]);
     assert_pairs(&rt, &part.synchronizes(), &[(4, 3)]);
+    Ok(())
+}
+
+/// B stores byte 1 (4), which A loads (3); B loads byte 0 from init (0).
+#[test]
+fn a_source_adds_its_pair_or_none(rt: HostRuntime) -> Result<(), Fail> {
+    let test = read(rt.alloc(), STORE_BUFFERING.as_bytes())?;
+    let plan = plan(rt.alloc(), &test)?;
+    assert!(rt; plan.combinations() > 0);
+    let mut part = Part::open(&plan, 0);
+    give(&rt, &mut part, 4);
+    assert_eq!(rt; part.last_pair(), Some((4, 3)));
+    give(&rt, &mut part, 0);
+    assert_eq!(rt; part.last_pair(), None);
+    Ok(())
+}
+
+/// B loads the flag (4) that A stores (3), and then the data that A stored before it.
+#[test]
+fn a_flag_adds_a_pair_and_takes_it_back(rt: HostRuntime) -> Result<(), Fail> {
+    let test = read(rt.alloc(), MESSAGE_PASSING.as_bytes())?;
+    let plan = plan(rt.alloc(), &test)?;
+    assert!(rt; plan.combinations() > 0);
+    let mut part = Part::open(&plan, 0);
+    give(&rt, &mut part, 3);
+    assert_eq!(rt; part.last_pair(), Some((3, 4)));
+    give(&rt, &mut part, 2);
+    assert_eq!(rt; part.last_pair(), None);
+    part.pop();
+    assert_eq!(rt; part.last_pair(), Some((3, 4)));
     Ok(())
 }
 

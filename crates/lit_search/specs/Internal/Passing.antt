@@ -2,7 +2,7 @@
 use Rattle.std.specs.Prelude.{◌≡◌, ℕ, ◌<◌, ◌≤◌, List, length, take}
 use Rattle.lit_read.specs.Syntax.{Litmus}
 use Rattle.lit_paths.specs.ByteReads.{byte_reads}
-use Rattle.lit_rel.specs.Broken.{IsBroken}
+use Rattle.lit_order.specs.Refuted.{IsRefuted}
 use Rattle.lit_search.specs.Report.{Gives}
 use Rattle.lit_search.specs.Internal.Held.{part_outcome}
 use Rattle.lit_search.specs.Internal.Places.{Stand, behind_at, low_at, part_at, stand_events, with_places}
@@ -31,8 +31,8 @@ pub record MayPass (t : Litmus) (Wanted : List ℕ → Type 0) (from : ℕ) (s :
   pub high : behind_at s ≤ behind_at (first_places s depth)
   pub none : NoneFrom t Wanted from (first_places s depth)
 
--- it is not broken, and where each byte read has a source, its outcome is wanted and its number at least this one
+-- it is not refuted, and where each byte read has a source, its outcome is wanted and its number at least this one
 pub record IsOpen (Wanted : List ℕ → Type 0) (from : ℕ) (s : Stand) : Type 0 where
-  pub whole : ¬ IsBroken (part_at s)
+  pub whole : ¬ IsRefuted (part_at s)
   pub wanted : HasAll s → Wanted (part_outcome (part_at s))
   pub behind : from < behind_at s

@@ -3,10 +3,8 @@
 ghost use Rattle.std.specs.Prelude.{◌≡◌, ℕ, ◌+◌, ◌-◌, ◌<◌, ◌≤◌, ◌↔◌, IsTrue, IsFalse, IfNone, IfSome, MatchOption, length};
 ghost use Rattle.lit_paths.specs.ByteReads.{byte_reads};
 ghost use Rattle.lit_paths.specs.Plan.{choices_before};
-ghost use Rattle.lit_paths.specs.Execution.{Execution};
 ghost use Rattle.lit_rel.specs.Broken.{IsBroken};
-ghost use Rattle.lit_rel.specs.Part.{part_events};
-ghost use Rattle.lit_search.specs.Completion.{Completes};
+ghost use Rattle.lit_order.specs.Refuted.{IsRefuted};
 ghost use Rattle.lit_search.specs.Report.{in_range};
 ghost use Rattle.lit_search.specs.Internal.Examined.{IsExample};
 ghost use Rattle.lit_search.specs.Internal.Held.{part_outcome};
@@ -22,25 +20,14 @@ use crate::cursor::standing_in::is_stood_for;
 use crate::cursor::wanted::Wanted;
 use crate::found::{Example, Outcome};
 use crate::laws::completions::laws;
-use lit_order::laws::orders_keep_what_is_forced;
-use lit_order::{ForcedFinder, OrderFinder, forced_precedence};
+use lit_order::laws::forced_rounds_have_no_order;
 use lit_paths::Plan;
-use lit_rel::Part;
 
 /// The outcome of a choice of some valid execution, with the choice and its least memory-order.
 #[derive(Debug, Drop)]
 pub(crate) struct Shown {
     pub outcome: Outcome,
     pub example: Example,
-}
-
-/// Whether some event of a part is forced before itself, so that no valid execution goes on from it.
-fn is_forced_round(part: &Part<'_>) -> bool
-    ensures { IsTrue result → (x : Execution) → ¬ Completes part.now x }
-{
-    laws();
-    orders_keep_what_is_forced();
-    forced_precedence(&part.happens_before(), &part.between()).is_none()
 }
 
 impl Cursor<'_> {
@@ -98,24 +85,19 @@ impl Cursor<'_> {
             (MayPass plan.now (W.IsWanted wanted.now plan.now) from self.now) }
     {
         laws();
+        forced_rounds_have_no_order();
         let part = self.part();
         let depth = part.len();
         if self.behind() <= from {
             return Some(depth);
         }
-        if part.broken() {
+        if self.refuted() {
             return Some(depth);
         }
         if self.has_unwanted(plan, wanted, known) {
             return Some(known);
         }
         if self.is_stood_for(plan, since) {
-            return Some(depth);
-        }
-        if depth == 0 || depth == part.reads() {
-            return None;
-        }
-        if is_forced_round(part) {
             return Some(depth);
         }
         None
@@ -126,7 +108,7 @@ impl Cursor<'_> {
     pub(crate) fn shown(&self, plan: &Plan<'_>) -> Option<Shown>
         requires test { self.now.test ≡ plan.now }
         requires all { HasAll self.now }
-        requires whole { ¬ IsBroken (part_at self.now) }
+        requires whole { ¬ IsRefuted (part_at self.now) }
         ensures none { IfNone result (NoneValid plan.now self.now) }
         ensures shows { IfSome result (λ shown. IsExample plan.now (low_at self.now) (part_outcome (part_at self.now)) shown.example.order.items) }
         ensures outcome { IfSome result (λ shown. shown.outcome.items ≡ part_outcome (part_at self.now)) }
@@ -134,8 +116,7 @@ impl Cursor<'_> {
     {
         laws();
         let part = self.part();
-        let before = part.happens_before();
-        let Some(order) = ForcedFinder.least_order(&before, &part.between()) else {
+        let Some(order) = self.least_order() else {
             return None;
         };
         let outcome = outcome_of(plan, part);

@@ -1,4 +1,4 @@
-use Rattle.std.proofs.Common.{ℕ, refl, sym, subst}
+use Rattle.std.proofs.Common.{refl, sym, subst}
 use Rattle.jslit.specs.Answer.{IsFaultOn}
 use Rattle.jslit.specs.Counted.{failures_of}
 use Rattle.jslit.specs.Internal.Reading.{IsReadFailure}

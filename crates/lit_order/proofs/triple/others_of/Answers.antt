@@ -1,6 +1,6 @@
 use Rattle.std.proofs.Common.{ℕ, ◌≢◌, ◌↔◌, subst}
 use Rattle.lit_rel.specs.EventSet.{HasEvent}
-use Rattle.lit_order.proofs.TwoWayLemmas.{other_than}
+use Rattle.lit_order.proofs.OtherLemmas.{other_than}
 use Rattle.lit_order.proofs.triple.others_of.Goals as goal
 
 pub returns : goal.returns

@@ -1,22 +1,12 @@
-use Rattle.std.proofs.Common.{rules, ◌≡◌, ◌==◌, ℕ, ◌<◌, zero, suc, Bool, true, false, ◌||◌, Some, List, [], ◌∷◌, length, get_or, refl, sym, ap, ◌∙◌, subst, arith, eqb-true, inl, inr}
-use Rattle.std.proofs.lemmas.Bool.{cases_Bool, false≢true}
+use Rattle.std.proofs.Common.{rules, ◌≡◌, ℕ, ◌<◌, length, sym, ap, ◌∙◌, subst, arith}
 use Rattle.std.proofs.lemmas.Option.{slice_get-get_or}
-use Rattle.std.specs.List.{list_any, slice_get}
+use Rattle.std.specs.List.{slice_get}
 use Rattle.lit_read.specs.Syntax.{Litmus}
 use Rattle.lit_paths.specs.ByteReads.{IsCandidate, byte_read_at, byte_reads}
 use Rattle.lit_paths.specs.Plan.{ListsCandidates, events_in}
 use Rattle.lit_rel.specs.Part.{IsNextSource, PartModel, part_events}
+use Rattle.lit_rel_tests.proofs.GivingLemmas.{place_of_any}
 use Rattle.lit_rel_tests.proofs.rel.give.Goals as goal
-
-place_of_any : (xs : List ℕ) (x : ℕ) → list_any (λ y. y == x) xs ≡ true → (k : ℕ) × (slice_get xs k ≡ Some x)
-place_of_any [] x h = absurd (false≢true h)
-place_of_any (y ∷ xs) x h =
-    elim (cases_Bool (y == x)) [
-      | inl same ↦ (0, ap Some (eqb-true y x same))
-      | inr other ↦
-          let rest = place_of_any xs x (sym (ap (λ (b : Bool). b || list_any (λ y. y == x) xs) other) ∙ h) in
-          (suc rest.0, rest.1)
-    ]
 
 pub push-requires : goal.push-requires
 push-requires g c =

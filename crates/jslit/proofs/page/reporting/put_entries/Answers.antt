@@ -1,4 +1,5 @@
-use Rattle.std.proofs.Common.{◌≡◌, ◌<◌, ◌≤◌, length, refl, arith}
+use Rattle.std.proofs.Common.{◌≡◌, ℕ, ◌<◌, ◌≤◌, length, refl, ap, arith}
+use Rattle.lit_read.specs.Syntax.{Litmus}
 use Rattle.lit_paths.specs.Choice.{choices_of}
 use Rattle.lit_search.specs.Report.{Entry, entry_at}
 use Rattle.jslit.proofs.EntryFacts.{entry_in, among_all}
@@ -7,7 +8,7 @@ use Rattle.jslit.proofs.Putting.{puts_end, puts_more, puts_start}
 use Rattle.jslit.proofs.page.reporting.put_entries.Goals as goal
 
 pub loop-place-init : goal.loop-place-init
-loop-place-init g c = puts_start _ _
+loop-place-init g c = record { entered = ap (λ (e : Litmus × ℕ). e.0) c.enter-combination.ensures; so_far = puts_start _ _ }
 
 pub put_entry-requires-clause-known : goal.put_entry-requires-clause-known
 put_entry-requires-clause-known g c =
@@ -29,9 +30,12 @@ loop-place-preserved g c =
     let lt : c.loop-place.place < length c.args.found.now.entries = omega (arith, c.loop-place-test.true, c.len-place-end.ensures) in
     let entry : Entry = record { outcome = c.outcome.result.now; choice = c.example.result.now.choice; order = c.example.result.now.order.items } in
     let is : entry ≡ entry_at c.args.found.now c.loop-place.place = rw (c.outcome.ensures, c.example.ensures.choice, c.example.ensures.order) refl in
-    puts_more _ _ _ _ _ _ _ c.loop-place.invariant c.put_entry.ensures (entries_more c.args.plan.now c.args.found.now c.loop-place.place entry lt is)
+    record {
+      entered = c.put_entry.ensures.plan;
+      so_far = puts_more _ _ _ _ _ _ _ c.loop-place.invariant.so_far c.put_entry.ensures.text (entries_more c.args.plan.now c.args.found.now c.loop-place.place entry lt is);
+    }
 
 pub returns : goal.returns
 returns g c =
     let all : length c.args.found.now.entries ≤ c.loop-place.place = omega (arith, c.loop-place-test.false, c.len-place-end.ensures) in
-    puts_end _ _ _ _ c.loop-place.invariant (entries_end c.args.plan.now c.args.found.now c.loop-place.place all)
+    puts_end _ _ _ _ c.loop-place.invariant.so_far (entries_end c.args.plan.now c.args.found.now c.loop-place.place all)

@@ -5,5 +5,5 @@ use Rattle.jslit.proofs.page.reporting.put_register.Goals as goal
 pub returns : goal.returns
 returns g c =
     HasPut-is _ _ _ _
-    (HasPut-then _ _ _ _ _ (HasPut-then _ _ _ _ _ (HasPut-then _ _ _ _ _ (HasPut-then _ _ _ _ _ (HasPut-then _ _ _ _ _ c.put.ensures c.put-2.ensures) c.put-3.ensures) c.put_number.ensures) c.put-4.ensures) c.put_number-2.ensures)
+    (HasPut-then _ _ _ _ _ (HasPut-then _ _ _ _ _ (HasPut-then _ _ _ _ _ (HasPut-then _ _ _ _ _ (HasPut-then _ _ _ _ _ c.put_byte.ensures c.put.ensures) c.put-2.ensures) c.put_number.ensures) c.put_byte-2.ensures) c.put_number-2.ensures)
     (register_is c.args.test.now c.args.name.0 c.args.name.1 c.args.value _ _ c.agent_name.ensures c.as_bytes.ensures.value)

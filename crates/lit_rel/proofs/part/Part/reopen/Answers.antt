@@ -1,4 +1,4 @@
-use Rattle.std.proofs.Common.{◌≡◌, ◌↔◌, ℕ, ◌<◌, None, length, ap, subst}
+use Rattle.std.proofs.Common.{◌↔◌, ℕ, ◌<◌, None, length, ap, subst}
 use Rattle.std.specs.Bool.{IsTrue}
 use Rattle.lit_read.specs.Syntax.{Litmus}
 use Rattle.lit_paths.specs.Plan.{IsWalkIn, walk_in}

@@ -1,12 +1,9 @@
-use Rattle.std.proofs.Common.{◌≤◌, length, ap, sym, subst, ◌∙◌, arith}
+use Rattle.std.proofs.Common.{◌≤◌, length, ap, sym, subst, ◌∙◌, inl, arith}
 use Rattle.std.proofs.lemmas.Bool.{false≢true}
 use Rattle.lit_paths.specs.ByteReads.{byte_reads}
-use Rattle.lit_paths.specs.Execution.{Execution}
-use Rattle.lit_rel.specs.Broken.{IsBroken}
-use Rattle.lit_rel.specs.Part.{PartModel, part_events}
-use Rattle.lit_search.specs.Completion.{Completes}
-use Rattle.lit_search.specs.Internal.Places.{stand_events}
-use Rattle.lit_search.proofs.CompletionLemmas.{not_broken}
+use Rattle.lit_rel.specs.Part.{AreFirstSources, PartModel, part_events}
+use Rattle.lit_search.specs.Internal.Places.{part_at, stand_events}
+use Rattle.lit_search.proofs.CompletionLemmas.{not_refuted}
 use Rattle.lit_search.proofs.PassingLemmas.{length-part, pass_all, pass_from, pass_less}
 use Rattle.lit_search.proofs.StoodForLemmas.{pass_stood_for}
 use Rattle.lit_search.proofs.cursor.Cursor.passed.Goals as goal
@@ -17,41 +14,23 @@ returns-then-behind-from-clause-passed g c =
     let deep = c.len-depth.ensures.value ∙ length-part s c.part-part.result.now c.part-part.ensures.value in
     pass_less s c.args.plan.now _ c.args.from c.len-depth.result deep (omega (arith, c.if-behind-from.true, c.behind.ensures.value))
 
-pub returns-then-broken-clause-passed : goal.returns-then-broken-clause-passed
-returns-then-broken-clause-passed g c =
+pub returns-then-refuted-clause-passed : goal.returns-then-refuted-clause-passed
+returns-then-refuted-clause-passed g c =
     let s = c.args.self.now in
     let long = length-part s c.part-part.result.now c.part-part.ensures.value in
     let few : length s.places ≤ length (byte_reads (stand_events s)) = omega (arith, long, c.len-depth.ensures.few, c.len-depth.ensures.value, ap (λ (p : PartModel). length (byte_reads (part_events p))) c.part-part.ensures.value) in
-    let broken = subst IsBroken c.part-part.ensures.value (c.broken.ensures.0 c.if-broken.true) in
+    let first = subst AreFirstSources c.part-part.ensures.value c.len-depth.ensures.candidates in
     pass_all c.laws.ensures s c.part-part.ensures.entered c.part-part.ensures.placed few c.args.plan.now _ c.args.from c.len-depth.result c.requires.test (c.len-depth.ensures.value ∙ long)
-    (λ x is. not_broken _ x is c.laws.ensures c.laws.ensures.grow c.laws.ensures.stay c.part-part.ensures.entered broken)
+    (λ x is. not_refuted (part_at s) x is c.laws.ensures c.part-part.ensures.entered (c.forced_rounds_have_no_order.ensures (part_at s) first) (c.refuted.ensures.0 c.if-refuted.true))
 
 pub returns-then-has_unwanted-clause-passed : goal.returns-then-has_unwanted-clause-passed
 returns-then-has_unwanted-clause-passed g c = pass_from c.args.plan.now _ c.args.from c.args.self.now c.args.known (c.has_unwanted.ensures.passed c.if-has_unwanted.true)
-
-pub returns-then-depth-eq0-clause-passed : goal.returns-then-depth-eq0-clause-passed
-returns-then-depth-eq0-clause-passed g c =
-    let s = c.args.self.now in
-    record {
-      whole = λ broken. false≢true (sym c.if-broken.false ∙ c.broken.ensures.1 (subst IsBroken (sym c.part-part.ensures.value) broken));
-      wanted = λ all. c.has_unwanted.ensures.wanted c.if-has_unwanted.false (omega (arith, all, c.requires.few));
-      behind = omega (arith, c.if-behind-from.false, c.behind.ensures.value);
-    }
-
-pub returns-then-is_forced_round-clause-passed : goal.returns-then-is_forced_round-clause-passed
-returns-then-is_forced_round-clause-passed g c =
-    let s = c.args.self.now in
-    let long = length-part s c.part-part.result.now c.part-part.ensures.value in
-    let few : length s.places ≤ length (byte_reads (stand_events s)) = omega (arith, long, c.len-depth.ensures.few, c.len-depth.ensures.value, ap (λ (p : PartModel). length (byte_reads (part_events p))) c.part-part.ensures.value) in
-    let P : PartModel → Type 0 = λ p. (x : Execution) → ¬ Completes p x in
-    pass_all c.laws.ensures s c.part-part.ensures.entered c.part-part.ensures.placed few c.args.plan.now _ c.args.from c.len-depth.result c.requires.test (c.len-depth.ensures.value ∙ long)
-    (subst P c.part-part.ensures.value (c.is_forced_round.ensures c.if-is_forced_round.true))
 
 pub returns-clause-passed : goal.returns-clause-passed
 returns-clause-passed g c =
     let s = c.args.self.now in
     record {
-      whole = λ broken. false≢true (sym c.if-broken.false ∙ c.broken.ensures.1 (subst IsBroken (sym c.part-part.ensures.value) broken));
+      whole = λ is. false≢true (sym c.if-refuted.false ∙ c.refuted.ensures.1 is);
       wanted = λ all. c.has_unwanted.ensures.wanted c.if-has_unwanted.false (omega (arith, all, c.requires.few));
       behind = omega (arith, c.if-behind-from.false, c.behind.ensures.value);
     }
@@ -65,4 +44,4 @@ returns-then-is_stood_for-clause-passed g c =
     (c.len-depth.ensures.value ∙ long) (c.is_stood_for.ensures.0 c.if-is_stood_for.true).1 c.requires.seen
 
 pub is_stood_for-requires-clause-whole : goal.is_stood_for-requires-clause-whole
-is_stood_for-requires-clause-whole g c = λ broken. false≢true (sym c.if-broken.false ∙ c.broken.ensures.1 (subst IsBroken (sym c.part-part.ensures.value) broken))
+is_stood_for-requires-clause-whole g c = λ broken. false≢true (sym c.if-refuted.false ∙ c.refuted.ensures.1 (inl broken))

@@ -7,18 +7,20 @@ use Rattle.lit_paths.specs.Event.{event_at}
 use Rattle.lit_paths.specs.ByteReads.{byte_reads, pair_of}
 use Rattle.lit_paths.specs.declared.limits.TheConstants.{BYTE_READ_LIMIT}
 use Rattle.lit_paths.specs.declared.byte_reads.ByteRead.{ByteRead}
+use Rattle.lit_rel.specs.declared.rows.two_way_rows.TwoWayRows.{TwoWayRows}
 use Rattle.lit_rel.specs.declared.given.SourcedByte.{SourcedByte}
 use Rattle.lit_rel.specs.declared.part.levels.Level.{Level}
 use Rattle.lit_rel.specs.declared.part.related.Related.TheInside.{Inside}
 use Rattle.lit_rel.specs.Coherent.{IsCoherentRead}
 use Rattle.lit_rel.specs.Part.{IsNextSource, PartModel, part_events}
 use Rattle.lit_rel.specs.Internal.Given.{IsKnown, Tears, sources_of}
-use Rattle.lit_rel.specs.Internal.Levels.{IsKept}
+use Rattle.lit_rel.specs.Internal.Levels.{IsKept, IsOrder, rows_of}
 use Rattle.lit_rel.specs.Internal.Pushed.{HasByteSo, IsChangedByte}
 use Rattle.lit_rel.specs.Rows.{Holds, WithPair}
 use Rattle.lit_rel.specs.SynchronizesWith.{CanSynchronize}
 use Rattle.lit_rel.proofs.OrderLemmas.{IsOrder-alone, IsOrder-with_pair}
-use Rattle.lit_rel.proofs.PartLemmas.{few_bytes, IsKept-push, IsLevel-alone, IsLevel-with_pair, IsNextByte, IsNextByte-from, left_of_part, next_known, of_given, part_of}
+use Rattle.lit_rel.proofs.PartLemmas.{few_bytes, IsKept-push_alone, IsKept-push_pair, IsLevel-alone, IsLevel-with_pair, IsNextByte, IsNextByte-from, left_of_part, next_known, of_given, part_of}
+use Rattle.lit_rel.proofs.RestoreLemmas.{rows_pushed}
 use Rattle.lit_rel.proofs.part.related.Related.push.Goals as goal
 use Rattle.lit_rel.proofs.part.related.Related.push.Goals.{then-adds_pair, else-adds_pair}
 
@@ -47,7 +49,7 @@ pub push-requires : goal.push-requires
 push-requires c =
     let inside = c.self.inside in
     let new = next_byte inside c.byte_reads.result.now c.len.result c.args.source c.args.self.now c.self.view_is c.requires c.byte_reads.ensures c.len.ensures.value in
-    let few : length inside.bytes.items < BYTE_READ_LIMIT = few_bytes _ inside.start inside.order inside.bytes.items inside.earlier.items inside.level _ c.self.invariant new in
+    let few : length inside.bytes.items < BYTE_READ_LIMIT = few_bytes _ inside.bytes.items (rows_of inside.orders.earlier.items) inside.orders.now.rows inside.earlier.items inside.level _ c.self.invariant new in
     let one_each : length inside.earlier.items ≡ length inside.bytes.items = c.self.invariant.one_each in
     elim c.if-adds_pair.branch [
       | then-adds_pair w ↦ let e : length c.if-adds_pair.self-inside.earlier.items ≡ length inside.earlier.items = ap (λ (i : Inside). length i.earlier.items) w.self-inside-is in omega arith
@@ -58,7 +60,7 @@ pub push-requires-2 : goal.push-requires-2
 push-requires-2 c =
     let inside = c.self.inside in
     let new = next_byte inside c.byte_reads.result.now c.len.result c.args.source c.args.self.now c.self.view_is c.requires c.byte_reads.ensures c.len.ensures.value in
-    let few : length inside.bytes.items < BYTE_READ_LIMIT = few_bytes _ inside.start inside.order inside.bytes.items inside.earlier.items inside.level _ c.self.invariant new in
+    let few : length inside.bytes.items < BYTE_READ_LIMIT = few_bytes _ inside.bytes.items (rows_of inside.orders.earlier.items) inside.orders.now.rows inside.earlier.items inside.level _ c.self.invariant new in
     elim c.if-adds_pair.branch [
       | then-adds_pair w ↦ let e : length c.if-adds_pair.self-inside.bytes.items ≡ length inside.bytes.items = ap (λ (i : Inside). length i.bytes.items) w.self-inside-is in omega arith
       | else-adds_pair w ↦ let e : length c.if-adds_pair.self-inside.bytes.items ≡ length inside.bytes.items = ap (λ (i : Inside). length i.bytes.items) w.self-inside-is in omega arith
@@ -76,25 +78,29 @@ invariant_of-self c =
     let new : IsNextByte part bytes byte = next_byte inside c.byte_reads.result.now c.len.result c.args.source c.args.self.now c.self.view_is c.requires c.byte_reads.ensures c.len.ensures.value in
     let bytes' = c.push-2.new.self.items in
     let earlier' = c.push.new.self.items in
-    let before = inside.order in
-    let Kept : Inside → Level → Type 0 = λ i l. IsKept (record { test = i.combination.0; combination = i.combination.1; sources = sources_of bytes' }) i.start i.order bytes' earlier' l in
+    let before = inside.orders.now.rows in
+    let left = left_of_part t number bytes (rows_of inside.orders.earlier.items) inside.orders.now.rows inside.earlier.items inside.level byte c.self.invariant new in
+    let Kept : Inside → Level → Type 0 = λ i l. IsKept (record { test = i.combination.0; combination = i.combination.1; sources = sources_of bytes' }) bytes' (rows_of i.orders.earlier.items) i.orders.now.rows earlier' l in
     elim c.if-adds_pair.branch [
       | then-adds_pair w ↦
           let now = w.close_with.new.self in
+          let added = w.add.new.self in
           let broken = w.is_broken_with_pair-broken in
           let pushed : bytes' ≡ bytes ++ byte ∷ [] = c.push-2.ensures.items ∙ ap (λ (i : Inside). i.bytes.items ++ byte ∷ []) w.self-inside-is in
           let pushed_level : earlier' ≡ inside.earlier.items ++ inside.level ∷ [] = c.push.ensures.items ∙ ap (λ (i : Inside). i.earlier.items ++ i.level ∷ []) w.self-inside-is in
           let pair = subst (λ (es : List Event). CanSynchronize (event_at es byte.source) (event_at es byte.read) × (Holds before byte.source byte.read → ⊥)) c.events.ensures.value (w.if-adds_pair.ensures.0 refl) in
-          let closed : (e d : ℕ) → Holds now e d ↔ WithPair (Holds before) byte.source byte.read e d =
-          subst (λ (a : ℕ). (e d : ℕ) → Holds now e d ↔ WithPair (Holds before) a byte.read e d) w.from.ensures (subst (λ (r : ℕ). (e d : ℕ) → Holds now e d ↔ WithPair (Holds before) w.from.result r e d) w.from-then-adds_pair.ensures w.close_with.ensures.pairs) in
+          let closed : (e d : ℕ) → Holds now.rows e d ↔ WithPair (Holds before) byte.source byte.read e d =
+          subst (λ (a : ℕ). (e d : ℕ) → Holds now.rows e d ↔ WithPair (Holds before) a byte.read e d) w.from.ensures (subst (λ (r : ℕ). (e d : ℕ) → Holds now.rows e d ↔ WithPair (Holds before) w.from.result r e d) w.from-then-adds_pair.ensures w.close_with.ensures.pairs) in
           subst (λ (i : Inside). Kept i c.if-adds_pair.level) (sym w.self-inside-is)
-          (subst (λ (l : Level). Kept (record inside { order = now }) l) (sym w.level-is)
-          (IsKept-push part inside.start before now bytes bytes' inside.earlier.items earlier' inside.level (record { adds = true; broken = broken.result }) byte refl c.self.invariant new pushed pushed_level
-          (IsOrder-with_pair (part_events part) (sources_of bytes) byte (left_of_part t number inside.start before bytes inside.earlier.items inside.level byte c.self.invariant new) before c.self.invariant.ordered now pair.0 w.close_with.ensures.len closed)
-          (IsLevel-with_pair t number inside.start before bytes inside.earlier.items inside.level byte c.self.invariant new broken.result now pair.0 closed
-          (of_given (λ es bs. IsTrue broken.result ↔ (IsTrue inside.level.broken ⊎ (IsCoherentRead es (Holds now) byte.read byte.byte byte.source → ⊥)
-          ⊎ HasByteSo bs (IsChangedByte es (Holds now) (λ e. Holds before e byte.source ⊎ (e ≡ byte.source)) (λ e. Holds before byte.read e ⊎ (e ≡ byte.read)))
-          ⊎ HasByteSo bs (Tears es byte))) _ _ _ _ c.events.ensures.value c.as_slice.ensures.value broken.ensures))))
+          (subst (λ (l : Level). Kept (record inside { orders = added }) l) (sym w.level-is)
+          (IsKept-push_pair part bytes bytes' (rows_of inside.orders.earlier.items) (rows_of added.earlier.items) inside.orders.now.rows added.now.rows inside.earlier.items earlier' inside.level (record { adds = true; broken = broken.result; pairs = inside.level.pairs + 1 }) byte refl c.self.invariant new pushed pushed_level
+          (subst (λ (o : TwoWayRows). IsOrder (part_events part) (sources_of bytes ++ byte.source ∷ []) o.rows) (sym w.add.ensures.now)
+          (IsOrder-with_pair (part_events part) (sources_of bytes) byte left before c.self.invariant.ordered now.rows pair.0 w.close_with.ensures.len closed))
+          (IsLevel-with_pair t number bytes (rows_of inside.orders.earlier.items) inside.orders.now.rows inside.earlier.items inside.level byte c.self.invariant new broken.result (inside.level.pairs + 1) now.rows pair.0 pair.1 closed
+          (of_given (λ es bs. IsTrue broken.result ↔ (IsTrue inside.level.broken ⊎ (IsCoherentRead es (Holds now.rows) byte.read byte.byte byte.source → ⊥)
+          ⊎ HasByteSo bs (IsChangedByte es (Holds now.rows) (λ e. Holds before e byte.source ⊎ (e ≡ byte.source)) (λ e. Holds before byte.read e ⊎ (e ≡ byte.read)))
+          ⊎ HasByteSo bs (Tears es byte))) _ _ _ _ c.events.ensures.value c.as_slice.ensures.value broken.ensures))
+          refl (rows_pushed added.earlier.items inside.orders.earlier.items _ w.add.ensures.earlier)))
       | else-adds_pair w ↦
           let broken = w.is_broken_with-broken in
           let pushed : bytes' ≡ bytes ++ byte ∷ [] = c.push-2.ensures.items ∙ ap (λ (i : Inside). i.bytes.items ++ byte ∷ []) w.self-inside-is in
@@ -102,17 +108,18 @@ invariant_of-self c =
           let no_pair : (CanSynchronize (event_at (part_events part) byte.source) (event_at (part_events part) byte.read) × (Holds before byte.source byte.read → ⊥)) → ⊥ = λ both. false≢true (w.if-adds_pair.ensures.1 (subst (λ (es : List Event). CanSynchronize (event_at es byte.source) (event_at es byte.read) × (Holds before byte.source byte.read → ⊥)) (sym c.events.ensures.value) both)) in
           subst (λ (i : Inside). Kept i c.if-adds_pair.level) (sym w.self-inside-is)
           (subst (λ (l : Level). Kept inside l) (sym w.level-is)
-          (IsKept-push part inside.start before before bytes bytes' inside.earlier.items earlier' inside.level (record { adds = false; broken = broken.result }) byte refl c.self.invariant new pushed pushed_level
-          (IsOrder-alone (part_events part) (sources_of bytes) byte (left_of_part t number inside.start before bytes inside.earlier.items inside.level byte c.self.invariant new) before c.self.invariant.ordered no_pair)
-          (IsLevel-alone t number inside.start before bytes inside.earlier.items inside.level byte c.self.invariant new broken.result no_pair
-          (of_given (λ es bs. IsTrue broken.result ↔ (IsTrue inside.level.broken ⊎ (IsCoherentRead es (Holds before) byte.read byte.byte byte.source → ⊥) ⊎ HasByteSo bs (Tears es byte))) _ _ _ _ c.events.ensures.value c.as_slice.ensures.value broken.ensures))))
+          (IsKept-push_alone part bytes bytes' (rows_of inside.orders.earlier.items) inside.orders.now.rows inside.earlier.items earlier' inside.level (record { adds = false; broken = broken.result; pairs = inside.level.pairs }) byte refl c.self.invariant new pushed pushed_level
+          (IsOrder-alone (part_events part) (sources_of bytes) byte left before c.self.invariant.ordered no_pair)
+          (IsLevel-alone t number bytes (rows_of inside.orders.earlier.items) inside.orders.now.rows inside.earlier.items inside.level byte c.self.invariant new broken.result inside.level.pairs no_pair
+          (of_given (λ es bs. IsTrue broken.result ↔ (IsTrue inside.level.broken ⊎ (IsCoherentRead es (Holds before) byte.read byte.byte byte.source → ⊥) ⊎ HasByteSo bs (Tears es byte))) _ _ _ _ c.events.ensures.value c.as_slice.ensures.value broken.ensures))
+          refl))
     ]
 
 pub returns-clause-few : goal.returns-clause-few
 returns-clause-few c =
     let inside = c.self.inside in
     let new = next_byte inside c.byte_reads.result.now c.len.result c.args.source c.args.self.now c.self.view_is c.requires c.byte_reads.ensures c.len.ensures.value in
-    let few : length inside.bytes.items < BYTE_READ_LIMIT = few_bytes _ inside.start inside.order inside.bytes.items inside.earlier.items inside.level _ c.self.invariant new in
+    let few : length inside.bytes.items < BYTE_READ_LIMIT = few_bytes _ inside.bytes.items (rows_of inside.orders.earlier.items) inside.orders.now.rows inside.earlier.items inside.level _ c.self.invariant new in
     let mapped : length (sources_of c.push-2.new.self.items) ≡ length c.push-2.new.self.items = length-map c.push-2.new.self.items (λ (b : SourcedByte). b.source) in
     let longer : length c.push-2.new.self.items ≡ length c.if-adds_pair.self-inside.bytes.items + 1 = c.push-2.ensures.len in
     elim c.if-adds_pair.branch [

@@ -6,4 +6,4 @@ use Rattle.lit_rel.proofs.part.related.Related.rows.Goals as goal
 
 pub returns-clause-pairs : goal.returns-clause-pairs
 returns-clause-pairs c e d =
-    subst (λ (part : PartModel). Holds c.self.inside.order e d ↔ HappensBefore (part_events part) part.sources e d) c.self.view_is (c.self.invariant.ordered.pairs e d)
+    subst (λ (part : PartModel). Holds c.self.inside.orders.now.rows e d ↔ HappensBefore (part_events part) part.sources e d) c.self.view_is (c.self.invariant.ordered.pairs e d)

@@ -1,0 +1,59 @@
+//! A call of `work` whose gate has every request refused from one piece on.
+
+ghost use Rattle.std.specs.Prelude.{◌≡◌, [], ◌∷◌, length};
+ghost use Rattle.lit_desk.specs.Desk.{new_place};
+ghost use Rattle.lit_paths.specs.Choice.{choices_of};
+ghost use Rattle.lit_share.specs.Pieces.{pieces_of};
+
+use super::mark;
+use lit_desk::{Desk, Place};
+use lit_paths::Plan;
+use lit_share::{Gate, ShareFault, work};
+use std::sync::atomic::{AtomicU64, Ordering};
+
+/// The first piece of load buffering that shows an outcome, which is kept; a piece is one choice.
+const KEEPING: u64 = 3;
+
+/// Has every request refused once the piece is entered that would keep an outcome.
+#[derive(Drop)]
+struct Refusing<'r> {
+    rt: &'r HostRuntime,
+    /// How many pieces were entered.
+    entered: AtomicU64,
+}
+
+impl Gate for Refusing<'_> {
+    type Pass = ();
+
+    fn at(&self, _pass: &mut (), _worker: usize, piece: u64) {
+        self.entered.fetch_add(1, Ordering::SeqCst);
+        if piece == KEEPING {
+            mark(self.rt);
+        }
+    }
+}
+
+/// The piece that is entered as memory ends is searched behind the gate, so it is refused. It is the last one drawn, so
+/// the next draw gives the one behind it.
+pub(super) fn stops_where_refused(
+    rt: &HostRuntime,
+    plan: &Plan<'_>,
+    desk: Desk,
+    mut places: Vec<Place>,
+) -> bool
+    requires pieces { desk.pieces ≡ pieces_of (length (choices_of plan.now)) 1 }
+    requires new { places.items ≡ new_place desk ∷ [] }
+{
+    let Some(place) = places.pop() else {
+        return false;
+    };
+    let gate = Refusing {
+        rt,
+        entered: AtomicU64::new(0),
+    };
+    let (mut place, answer) = work(rt.alloc(), plan, 1, &desk, place, &gate, (), 0);
+    mark(rt);
+    matches!(answer, Err(ShareFault::OutOfMemory))
+        && gate.entered.load(Ordering::SeqCst) == KEEPING + 1
+        && desk.draw(&mut place) == Some(KEEPING + 1)
+}
