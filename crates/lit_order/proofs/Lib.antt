@@ -1,3 +1,4 @@
+pub mod BackLevelLemmas
 pub mod CountLemmas
 pub mod OrderLemmas
 pub mod PartLemmas
@@ -6,6 +7,7 @@ pub mod StandingLemmas
 pub mod ForcedLemmas
 pub mod ExtendLemmas
 pub mod ForcingLemmas
+pub mod KeptLevelLemmas
 pub mod LevelLemmas
 pub mod LinearLemmas
 pub mod MissingLemmas

@@ -1,30 +1,25 @@
 -- What parts force, with each number of sources.
-use Rattle.std.proofs.Common.{◌≡◌, ◌↔◌, ℕ, ◌-◌, ◌<◌, Bool, false, true, List, [], ◌∷◌, ◌++◌, ◌+◌, ◌≤◌, get_or, length, take, refl, sym, ap, subst, ◌∙◌, inl, inr, not, arith}
+use Rattle.std.proofs.Common.{◌≡◌, ◌↔◌, ◌⊎◌, ℕ, ◌-◌, Bool, false, true, List, ◌++◌, length, take, refl, sym, subst, ◌∙◌, inl, inr, not}
 use Rattle.std.proofs.lemmas.Bool.{false≢true}
-use Rattle.std.proofs.lemmas.List.{length_push, length-take-le, take-append-drop, take-append-le, take-take, take_at}
-use Rattle.std.proofs.lemmas.Option.{slice_get-get_or, slice_get_within}
-use Rattle.std.specs.Prelude.{IsTrue, drop, slice_get}
+use Rattle.std.proofs.lemmas.List.{take-append-drop}
+use Rattle.std.specs.Prelude.{IsTrue, drop}
 use Rattle.lit_paths.specs.declared.event.Event.{Event}
 use Rattle.lit_rel.specs.Broken.{IsBroken, StaysBroken}
 use Rattle.lit_rel.specs.Forbidden.{IsForbidden}
 use Rattle.lit_rel.specs.Growth.{GrowWithBytes}
 use Rattle.lit_rel.specs.HappensBefore.{HappensBefore}
 use Rattle.lit_rel.specs.InitReads.{AreOfEvents}
-use Rattle.lit_rel.specs.LastPair.{HappensBeforeLast}
-use Rattle.lit_rel.specs.Part.{AreFirstSources, IsNextSource, PartModel, part_events, with_sources}
+use Rattle.lit_rel.specs.LastPair.{AddsNone, HappensBeforeLast}
+use Rattle.lit_rel.specs.Part.{AreFirstSources, PartModel, part_events, with_sources}
 use Rattle.lit_rel.specs.Rows.{Holds, WithPair, rows_len}
-use Rattle.lit_rel.specs.declared.rows.two_way_rows.TwoWayRows.{TwoWayRows}
-use Rattle.lit_paths.specs.declared.limits.TheConstants.{BYTE_READ_LIMIT}
-use Rattle.lit_paths.specs.ByteReads.{byte_reads}
-use Rattle.lit_rel.proofs.PlaceLemmas.{place-push}
 use Rattle.lit_rel.proofs.ReadingLemmas.{write_known}
-use Rattle.lit_rel.proofs.SourceLemmas.{take_from}
-use Rattle.lit_order.specs.declared.forced_part.ForcedLevel.{ForcedLevel}
-use Rattle.lit_order.specs.Forcing.{HasForcedCycle, IsForced, Given}
+use Rattle.lit_order.specs.declared.forced_part.level.ForcedLevel.{ForcedLevel}
+use Rattle.lit_order.specs.Internal.Deciding.{HasAllForced}
+use Rattle.lit_order.specs.Forcing.{HasForcedCycle, IsForced, Given, Through}
 use Rattle.lit_order.specs.Refuted.{IsForcedRound, IsRefuted}
-use Rattle.lit_order.specs.Internal.ForcedLevels.{AreForcedLevels, IsForcedLevel, IsLedOn, ByNone, ByPair}
+use Rattle.lit_order.specs.Internal.ForcedLevels.{HasForcedPairs, IsForcedLevel, IsLedOn, ByNone, ByPair}
 use Rattle.lit_order.proofs.ForcedLemmas.{AreTriplesBelow}
-use Rattle.lit_order.proofs.ForcingLemmas.{with_pair_forced}
+use Rattle.lit_order.proofs.ForcingLemmas.{forced_within, with_pair_forced}
 use Rattle.lit_order.proofs.LevelLemmas.{IsForced-grow}
 
 -- the forbidden triples of a part speak of its events
@@ -40,23 +35,21 @@ abbrev pub Forced : PartModel → ℕ → ℕ → Type 0
 Forced part = IsForced (HappensBefore (part_events part) part.sources) (IsForbidden (part_events part) part.sources)
 
 -- what is found by forcing is what is known of the part
-pub forced_level : (part : PartModel) (rows : TwoWayRows) (before : ℕ → ℕ → Type 0) (banned : ℕ → ℕ → ℕ → Type 0) (result : Bool) → ¬ IsBroken part → rows_len rows.rows ≡ length (part_events part)
-    → ((¬ IsTrue result) ↔ HasForcedCycle before banned) → (IsTrue result → (a d : ℕ) → Holds rows.rows a d ↔ IsForced before banned a d) → ((a d : ℕ) → IsForced before banned a d ↔ Forced part a d)
-    → IsForcedLevel part (record { forced = rows; refuted = not result })
-forced_level part rows before banned true whole len cycle pairs all = record {
+pub forced_level : (part : PartModel) (level : ForcedLevel) (before : ℕ → ℕ → Type 0) (banned : ℕ → ℕ → ℕ → Type 0) (result : Bool) → not result ≡ level.round → ¬ IsBroken part → rows_len level.forced.rows ≡ length (part_events part)
+    → ((¬ IsTrue result) ↔ HasForcedCycle before banned) → (IsTrue result → (a d : ℕ) → Holds level.forced.rows a d ↔ IsForced before banned a d) → ((a d : ℕ) → IsForced before banned a d ↔ Forced part a d)
+    → IsForcedLevel part level
+forced_level part level before banned true straight whole len cycle pairs all = record {
   refuted = (
-    (λ h. absurd (false≢true h)),
-    (λ is. elim is [ inl broken ↦ absurd (whole broken) | inr round ↦ absurd (cycle.1 (round.0, (all round.0 round.0).1 round.1) refl) ]),
+    (λ is. elim is [ inl broken ↦ inl broken | inr round ↦ absurd (cycle.1 (round.0, (all round.0 round.0).1 round.1) refl) ]),
+    (λ h. elim h [ inl broken ↦ inl broken | inr round ↦ absurd (false≢true (straight ∙ round)) ]),
   );
-  len = len;
-  pairs = λ _ a d. ((λ h. (all a d).0 ((pairs refl a d).0 h)), (λ h. (pairs refl a d).1 ((all a d).1 h)));
+  pairs = λ _. record { len = len; pairs = λ a d. ((λ h. (all a d).0 ((pairs refl a d).0 h)), (λ h. (pairs refl a d).1 ((all a d).1 h))) };
 }
-forced_level part rows before banned false whole len cycle pairs all =
+forced_level part level before banned false straight whole len cycle pairs all =
     let found = cycle.0 false≢true in
     let round : IsForcedRound part = (found.0, (all found.0 found.0).0 found.1) in
     record {
-      refuted = ((λ _. inr round), (λ _. refl));
-      len = len;
+      refuted = ((λ _. inr (sym straight)), (λ _. inr round));
       pairs = λ fine. absurd (fine (inr round));
     }
 
@@ -82,20 +75,29 @@ module _ (part : PartModel) (grow : GrowWithBytes) where
   abbrev rest : List ℕ
   rest = drop (length part.sources - 1) part.sources
 
-  whole : front ++ rest ≡ part.sources
-  whole = take-append-drop (length part.sources - 1) part.sources
+  joined : front ++ rest ≡ part.sources
+  joined = take-append-drop (length part.sources - 1) part.sources
 
   before_grows : (e d : ℕ) → HappensBeforeLast part e d → HappensBefore events part.sources e d
-  before_grows e d h = subst (λ (ws : List ℕ). HappensBefore events ws e d) whole ((grow.lists events front rest).happens_before e d h)
+  before_grows e d h = subst (λ (ws : List ℕ). HappensBefore events ws e d) joined ((grow.lists events front rest).happens_before e d h)
 
   triples_grow : (w r v : ℕ) → IsForbidden events front w r v → IsForbidden events part.sources w r v
-  triples_grow w r v f = subst (λ (ws : List ℕ). IsForbidden events ws w r v) whole ((grow.lists events front rest).forbidden w r v f)
+  triples_grow w r v f = subst (λ (ws : List ℕ). IsForbidden events ws w r v) joined ((grow.lists events front rest).forbidden w r v f)
 
   -- what was refuted is
   pub refuted_on : StaysBroken → IsRefuted less → IsRefuted part
-  refuted_on stays (inl broken) = inl (subst (λ (ws : List ℕ). IsBroken (with_sources part ws)) whole (stays less rest broken))
+  refuted_on stays (inl broken) = inl (subst (λ (ws : List ℕ). IsBroken (with_sources part ws)) joined (stays less rest broken))
   refuted_on stays (inr round) =
       inr (round.0, IsForced-grow (HappensBeforeLast part) (HappensBefore events part.sources) (IsForbidden events front) (IsForbidden events part.sources) (λ a d h. Given (before_grows a d h)) triples_grow round.0 round.0 round.1)
+
+  -- where it was refuted, or is broken, what is known stays
+  pub level_stays : StaysBroken → (level : ForcedLevel) → (IsTrue level.round → IsRefuted less) → IsTrue level.round ⊎ IsBroken part → IsForcedLevel part level
+  level_stays stays level round is =
+      let refuted : IsRefuted part = elim is [ inl was ↦ refuted_on stays (round was) | inr broken ↦ inl broken ] in
+      record {
+        refuted = ((λ _. elim is [ inl was ↦ inr was | inr broken ↦ inl broken ]), (λ _. refuted));
+        pairs = λ fine. absurd (fine refuted);
+      }
 
   module _ (rows later : ℕ → ℕ → Type 0) (pairs : (a d : ℕ) → rows a d ↔ Forced less a d) where
     sound : (a d : ℕ) → rows a d → Forced part a d
@@ -125,51 +127,30 @@ module _ (part : PartModel) (grow : GrowWithBytes) where
           (λ h. IsForced-grow (HappensBefore events part.sources) later (IsForbidden events part.sources) (IsForbidden events part.sources) (λ u v p. Given ((led u v).1 (wider a d u v ((with_pair u v).0 p)))) (λ w r v f. f) x y h),
         )
 
--- ---- what is kept, with one source more or less
--- all but the last of sources that one was put behind
-front_of : (ws : List ℕ) (w : ℕ) → take (length (ws ++ w ∷ []) - 1) (ws ++ w ∷ []) ≡ ws
-front_of ws w =
-    let last : length ws ≡ length (ws ++ w ∷ []) - 1 = (let long : length (ws ++ w ∷ []) ≡ length ws + 1 = length_push ws w in omega arith) in
-    take_at ws (w ∷ []) (length (ws ++ w ∷ []) - 1) last
+  -- a part that is not broken was not refuted without its last source, where nothing was forced before itself
+  less_unrefuted : StaysBroken → (level : ForcedLevel) → ¬ IsBroken part → level.round ≡ false → IsForcedLevel less level → ¬ IsRefuted less
+  less_unrefuted stays level whole straight is refuted = elim (is.refuted.0 refuted) [
+    | inl broken ↦ whole (subst (λ (ws : List ℕ). IsBroken (with_sources part ws)) joined (stays less rest broken))
+    | inr round ↦ false≢true (sym straight ∙ round)
+  ]
 
-pub level_before : (part more : PartModel) (w : ℕ) (level : ForcedLevel) → more ≡ with_sources part (part.sources ++ w ∷ []) → IsForcedLevel part level → IsForcedLevel (with_sources more (take (length more.sources - 1) more.sources)) level
-level_before part more w level pushed is =
-    subst (λ (p : PartModel). IsForcedLevel (with_sources p (take (length p.sources - 1) p.sources)) level) (sym pushed)
-    (subst (λ (ws : List ℕ). IsForcedLevel (with_sources part ws) level) (sym (front_of part.sources w)) is)
+  -- what is known without the last source of a part that is not broken, where nothing is forced before itself
+  pub less_fine : StaysBroken → (level : ForcedLevel) → ¬ IsBroken part → level.round ≡ false → IsForcedLevel less level → HasForcedPairs less level
+  less_fine stays level whole straight is = is.pairs (less_unrefuted stays level whole straight is)
 
--- there is room for one more
-pub room_for_level : (part : PartModel) (earlier : List ForcedLevel) (level : ForcedLevel) (w : ℕ) → AreForcedLevels part earlier level → IsNextSource part w → length earlier < BYTE_READ_LIMIT
-room_for_level part earlier level w are next =
-    let within = slice_get_within (byte_reads (part_events part)) (length part.sources) (next.read, next.byte) next.left in
-    omega (arith, within, are.sound.few_reads, are.one_each)
-
-pub AreForcedLevels-push : (part more : PartModel) (earlier earlier' : List ForcedLevel) (was now : ForcedLevel) (w : ℕ) → more ≡ with_sources part (part.sources ++ w ∷ []) → earlier' ≡ earlier ++ was ∷ [] → AreForcedLevels part earlier was → IsForcedLevel more now
-    → AreForcedLevels more earlier' now
-AreForcedLevels-push part more earlier earlier' was now w pushed longer are is_now =
-    subst (λ (p : PartModel). AreForcedLevels p earlier' now) (sym pushed) record {
-      sound = are.sound;
-      one_each = ap length longer ∙ length_push earlier was ∙ ap (λ (n : ℕ). n + 1) are.one_each ∙ sym (length_push part.sources w);
-      at_all = subst (λ (p : PartModel). IsForcedLevel p now) pushed is_now;
-      at_less = λ k level at.
-          elim (place-push earlier was k level (sym (ap (λ (ls : List ForcedLevel). slice_get ls k) longer) ∙ at)) [
-            | inl old ↦
-                let here : k ≤ length part.sources = omega (arith, old.0, are.one_each) in
-                subst (λ (ws : List ℕ). IsForcedLevel (with_sources part ws) level) (sym (take-append-le k part.sources (w ∷ []) here)) (are.at_less k level old.1)
-            | inr new ↦
-                let here : length part.sources ≡ k = sym are.one_each ∙ sym new.0 in
-                subst (λ (ws : List ℕ). IsForcedLevel (with_sources part ws) level) (sym (take_at part.sources (w ∷ []) k here)) (subst (λ (l : ForcedLevel). IsForcedLevel part l) new.1 are.at_all)
-          ];
-    }
-
-pub AreForcedLevels-pop : (part : PartModel) (earlier earlier' : List ForcedLevel) (now : ForcedLevel) (n : ℕ) (d : ForcedLevel) → AreForcedLevels part earlier now → n + 1 ≡ length part.sources → earlier' ≡ take n earlier → AreForcedLevels (with_sources part (take n part.sources)) earlier' (get_or earlier n d)
-AreForcedLevels-pop part earlier earlier' now n d is count is_earlier =
-    let one_each : length earlier ≡ length part.sources = is.one_each in
-    record {
-      sound = is.sound;
-      one_each = ap length is_earlier ∙ length-take-le n earlier (omega arith) ∙ sym (length-take-le n part.sources (omega arith));
-      at_all = is.at_less n (get_or earlier n d) (slice_get-get_or earlier n d (omega arith));
-      at_less = λ m level at_m.
-          let within : m < n = (let w : m < length earlier' = slice_get_within earlier' m level at_m in let c : length earlier' ≡ n = ap length is_earlier ∙ length-take-le n earlier (omega arith) in omega arith) in
-          subst (λ (xs : List ℕ). IsForcedLevel (with_sources part xs) level) (sym (take-take m n part.sources (omega arith)))
-          (is.at_less m level (take_from n earlier m level (sym (ap (λ (xs : List ForcedLevel). slice_get xs m) is_earlier) ∙ at_m)));
-    }
+  -- where its last source adds no pair and its triples force no pair that is not there, what is known stays
+  pub level_same : StaysBroken → (level : ForcedLevel) → ¬ IsBroken part → level.round ≡ false → IsForcedLevel less level → AddsNone part → HasAllForced (Holds level.forced.rows) (IsForbidden events part.sources) → IsForcedLevel part level
+  level_same stays level whole straight is none all =
+      let fine : ¬ IsRefuted less = less_unrefuted stays level whole straight is in
+      let known = is.pairs fine in
+      let rows = Holds level.forced.rows in
+      let to : (a d : ℕ) → rows a d → Forced part a d = sound rows rows known.pairs in
+      let from : (a d : ℕ) → Forced part a d → rows a d =
+      forced_within (HappensBefore events part.sources) (IsForbidden events part.sources) rows (λ a d h. (known.pairs a d).1 (Given ((none a d).0 h))) (λ x y z p q. (known.pairs x z).1 (Through y ((known.pairs x y).0 p) ((known.pairs y z).0 q))) all in
+      record {
+        refuted = (
+          (λ refuted. elim refuted [ inl broken ↦ inl broken | inr round ↦ absurd (fine (inr (round.0, (known.pairs round.0 round.0).0 (from round.0 round.0 round.1)))) ]),
+          (λ h. elim h [ inl broken ↦ inl broken | inr round ↦ absurd (false≢true (sym straight ∙ round)) ]),
+        );
+        pairs = λ _. record { len = known.len; pairs = λ a d. (to a d, from a d) };
+      }

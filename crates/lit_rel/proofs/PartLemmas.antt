@@ -17,12 +17,13 @@ use Rattle.lit_paths.specs.Plan.{AreEventsIn}
 use Rattle.lit_rel.specs.declared.rows.Rows.{Rows}
 use Rattle.lit_rel.specs.declared.given.SourcedByte.{SourcedByte}
 use Rattle.lit_rel.specs.declared.part.levels.Level.{Level}
+use Rattle.lit_rel.specs.declared.part.orders.TheConstants.{ORDERS_KEPT}
 use Rattle.lit_rel.specs.Coherent.{IsCoherentRead}
 use Rattle.lit_rel.specs.HappensBefore.{HappensBefore, HappensBeforeBy}
 use Rattle.lit_rel.specs.LastPair.{AddsPair}
 use Rattle.lit_rel.specs.Part.{AreFirstSources, IsNextSource, PartModel, part_events, with_sources}
 use Rattle.lit_rel.specs.Internal.Given.{AreFirstReads, IsKnown, Tears, read_of, sources_of}
-use Rattle.lit_rel.specs.Internal.Levels.{AreRestored, IsKept, IsLevel, IsOrder}
+use Rattle.lit_rel.specs.Internal.Levels.{AreBack, Stay, Kept, Anew, AreKept, AreRestored, IsKept, IsLevel, IsOrder}
 use Rattle.lit_rel.specs.Internal.Pushed.{HasByteSo, IsChangedByte}
 use Rattle.lit_rel.specs.ReadsFrom.{ReadsByteFrom}
 use Rattle.lit_rel.specs.Rows.{Holds, WithPair}
@@ -30,7 +31,7 @@ use Rattle.lit_rel.specs.SynchronizesWith.{CanSynchronize}
 use Rattle.lit_rel.proofs.LevelLemmas.{HasChangedByte-iff, HasTearing-iff, broken_with, broken_with_pair, now_is_more}
 use Rattle.lit_rel.proofs.OrderLemmas.{given_adds, order_with, same_order}
 use Rattle.lit_rel.proofs.PlaceLemmas.{place-middle, place-push}
-use Rattle.lit_rel.proofs.RestoreLemmas.{AreRestored-back, AreRestored-level, AreRestored-order, AreRestored-stays}
+use Rattle.lit_rel.proofs.RestoreLemmas.{AreRestored-anew, AreRestored-back, AreRestored-full, AreRestored-level, AreRestored-order, AreRestored-stays}
 use Rattle.lit_rel.proofs.SourceLemmas.{AreFirstReads-push, AreFirstReads-take, next_read, read_known, take_from}
 
 pub of_part : (P : List Event → List ℕ → Type 0) (events part_events : List Event) (sources part_sources : List ℕ) → events ≡ part_events → sources ≡ part_sources → P events sources → P part_events part_sources
@@ -86,20 +87,20 @@ few_bytes part bytes orders order earlier level byte k new =
 
 -- what happens-before was, with one level more
 restored_level : (part : PartModel) (bytes : List SourcedByte) (orders : List Rows) (order : Rows) (earlier : List Level) (level : Level) (byte : SourcedByte) → part.sources ≡ sources_of bytes → IsKept part bytes orders order earlier level
-    → AreRestored (part_events part) (part.sources ++ byte.source ∷ []) (earlier ++ level ∷ []) orders order
+    → AreRestored (part_events part) (part.sources ++ byte.source ∷ []) (earlier ++ level ∷ []) orders order level.pairs
 restored_level part bytes orders order earlier level byte same k =
     let count : length part.sources ≡ length bytes = ap length same ∙ length-map bytes (λ (b : SourcedByte). b.source) in
     let one_each : length earlier ≡ length bytes = k.one_each in
-    let few : length orders ≤ length bytes = k.few in
-    AreRestored-level (part_events part) part.sources earlier orders order k.restored byte.source level (omega arith) (omega arith) k.counted k.ordered
+    let few : level.pairs ≤ length bytes = k.few in
+    AreRestored-level (part_events part) part.sources earlier orders order level.pairs k.restored byte.source level (omega arith) (omega arith) refl k.kept.few k.ordered
 
 -- one byte more, with what is known then
 IsKept-push : (part : PartModel) (bytes bytes' : List SourcedByte) (orders orders' : List Rows) (order order' : Rows) (earlier earlier' : List Level) (level next : Level) (byte : SourcedByte)
     → part.sources ≡ sources_of bytes → IsKept part bytes orders order earlier level → IsNextByte part bytes byte → bytes' ≡ bytes ++ byte ∷ [] → earlier' ≡ earlier ++ level ∷ []
     → IsOrder (part_events part) (part.sources ++ byte.source ∷ []) order' → IsLevel (with_sources part (part.sources ++ byte.source ∷ [])) next
-    → length orders' ≤ length orders + 1 → next.pairs ≡ length orders' → AreRestored (part_events part) (part.sources ++ byte.source ∷ []) (earlier ++ level ∷ []) orders' order'
+    → next.pairs ≤ level.pairs + 1 → AreKept (length orders') next.pairs → AreRestored (part_events part) (part.sources ++ byte.source ∷ []) (earlier ++ level ∷ []) orders' order' next.pairs
     → IsKept (with_sources part (sources_of bytes')) bytes' orders' order' earlier' next
-IsKept-push part bytes bytes' orders orders' order order' earlier earlier' level next byte same k new pushed pushed_level is_now is_next one_more is_count is_restored =
+IsKept-push part bytes bytes' orders orders' order order' earlier earlier' level next byte same k new pushed pushed_level is_now is_next one_more kept is_restored =
     let count : length part.sources ≡ length bytes = ap length same ∙ length-map bytes (λ (b : SourcedByte). b.source) in
     let sources' : sources_of bytes' ≡ part.sources ++ byte.source ∷ [] = ap sources_of pushed ∙ map_push (λ (b : SourcedByte). b.source) bytes byte ∙ ap (λ (xs : List ℕ). xs ++ byte.source ∷ []) (sym same) in
     record {
@@ -108,10 +109,10 @@ IsKept-push part bytes bytes' orders orders' order order' earlier earlier' level
       known = subst (λ (xs : List SourcedByte). All (IsKnown (length (part_events part))) xs) (sym pushed) (All-push (IsKnown (length (part_events part))) bytes byte k.known (next_known part bytes byte new));
       candidates = subst (λ (xs : List ℕ). AreFirstSources (with_sources part xs)) (sym sources') (AreFirstSources-push part byte (ap (slice_get (byte_reads (part_events part))) count ∙ new.left) new.candidate k.candidates);
       one_each = ap length pushed_level ∙ length_push earlier level ∙ (let e : length earlier ≡ length bytes = k.one_each in omega arith) ∙ sym (length_push bytes byte) ∙ sym (ap length pushed);
-      few = (let few : length orders ≤ length bytes = k.few in let longer : length bytes' ≡ length bytes + 1 = ap length pushed ∙ length_push bytes byte in omega arith);
-      counted = is_count;
+      few = (let few : level.pairs ≤ length bytes = k.few in let longer : length bytes' ≡ length bytes + 1 = ap length pushed ∙ length_push bytes byte in omega arith);
+      kept = kept;
       ordered = subst (λ (xs : List ℕ). IsOrder (part_events part) xs order') (sym sources') is_now;
-      restored = subst (λ (xs : List ℕ). AreRestored (part_events part) xs earlier' orders' order') (sym sources') (subst (λ (ls : List Level). AreRestored (part_events part) (part.sources ++ byte.source ∷ []) ls orders' order') (sym pushed_level) is_restored);
+      restored = subst (λ (xs : List ℕ). AreRestored (part_events part) xs earlier' orders' order' next.pairs) (sym sources') (subst (λ (ls : List Level). AreRestored (part_events part) (part.sources ++ byte.source ∷ []) ls orders' order' next.pairs) (sym pushed_level) is_restored);
       level = subst (λ (xs : List ℕ). IsLevel (with_sources part xs) next) (sym sources') is_next;
       levels = λ n l at_n.
           elim (place-push earlier level n l (sym (ap (λ (xs : List Level). slice_get xs n) pushed_level) ∙ at_n)) [
@@ -134,78 +135,86 @@ pub IsKept-push_alone : (part : PartModel) (bytes bytes' : List SourcedByte) (or
     → IsOrder (part_events part) (part.sources ++ byte.source ∷ []) order → IsLevel (with_sources part (part.sources ++ byte.source ∷ [])) next → next.pairs ≡ level.pairs
     → IsKept (with_sources part (sources_of bytes')) bytes' orders order earlier' next
 IsKept-push_alone part bytes bytes' orders order earlier earlier' level next byte same k new pushed pushed_level is_now is_next pairs =
-    IsKept-push part bytes bytes' orders orders order order earlier earlier' level next byte same k new pushed pushed_level is_now is_next (omega arith) (pairs ∙ k.counted) (restored_level part bytes orders order earlier level byte same k)
+    IsKept-push part bytes bytes' orders orders order order earlier earlier' level next byte same k new pushed pushed_level is_now is_next (omega arith) (subst (AreKept (length orders)) (sym pairs) k.kept)
+    (subst (AreRestored (part_events part) (part.sources ++ byte.source ∷ []) (earlier ++ level ∷ []) orders order) (sym pairs) (restored_level part bytes orders order earlier level byte same k))
 
 -- where it adds one
 pub IsKept-push_pair : (part : PartModel) (bytes bytes' : List SourcedByte) (orders orders' : List Rows) (order order' : Rows) (earlier earlier' : List Level) (level next : Level) (byte : SourcedByte)
     → part.sources ≡ sources_of bytes → IsKept part bytes orders order earlier level → IsNextByte part bytes byte → bytes' ≡ bytes ++ byte ∷ [] → earlier' ≡ earlier ++ level ∷ []
-    → IsOrder (part_events part) (part.sources ++ byte.source ∷ []) order' → IsLevel (with_sources part (part.sources ++ byte.source ∷ [])) next → next.pairs ≡ level.pairs + 1 → orders' ≡ orders ++ order ∷ []
+    → IsOrder (part_events part) (part.sources ++ byte.source ∷ []) order' → IsLevel (with_sources part (part.sources ++ byte.source ∷ [])) next → next.pairs ≡ level.pairs + 1 → (length orders < ORDERS_KEPT → orders' ≡ orders ++ order ∷ []) → (ORDERS_KEPT ≤ length orders → orders' ≡ orders)
     → IsKept (with_sources part (sources_of bytes')) bytes' orders' order' earlier' next
-IsKept-push_pair part bytes bytes' orders orders' order order' earlier earlier' level next byte same k new pushed pushed_level is_now is_next pairs added =
-    let longer : length orders' ≡ length orders + 1 = ap length added ∙ length_push orders order in
-    let counted : level.pairs ≡ length orders = k.counted in
-    IsKept-push part bytes bytes' orders orders' order order' earlier earlier' level next byte same k new pushed pushed_level is_now is_next (omega arith) (omega arith)
-    (subst (λ (os : List Rows). AreRestored (part_events part) (part.sources ++ byte.source ∷ []) (earlier ++ level ∷ []) os order') (sym added)
-    (AreRestored-order (part_events part) (part.sources ++ byte.source ∷ []) (earlier ++ level ∷ []) orders order (restored_level part bytes orders order earlier level byte same k) order'))
+IsKept-push_pair part bytes bytes' orders orders' order order' earlier earlier' level next byte same k new pushed pushed_level is_now is_next pairs added full =
+    let few : length orders ≤ level.pairs = k.kept.few in
+    let restored = restored_level part bytes orders order earlier level byte same k in
+    IsKept-push part bytes bytes' orders orders' order order' earlier earlier' level next byte same k new pushed pushed_level is_now is_next (omega arith)
+    (elim (cases_lt (length orders) ORDERS_KEPT) [
+      | inl room ↦
+          let longer : length orders' ≡ length orders + 1 = ap length (added room) ∙ length_push orders order in
+          let all : length orders ≡ level.pairs = k.kept.all room in
+          record { few = omega arith; all = λ _. omega arith }
+      | inr none ↦
+          let as_long : length orders' ≡ length orders = ap length (full none) in
+          record { few = omega arith; all = λ room. absurd (omega (arith, room, none, as_long)) }
+    ])
+    (subst (AreRestored (part_events part) (part.sources ++ byte.source ∷ []) (earlier ++ level ∷ []) orders' order') (sym pairs)
+    (elim (cases_lt (length orders) ORDERS_KEPT) [
+      | inl room ↦
+          subst (λ (os : List Rows). AreRestored (part_events part) (part.sources ++ byte.source ∷ []) (earlier ++ level ∷ []) os order' (level.pairs + 1)) (sym (added room))
+          (AreRestored-order (part_events part) (part.sources ++ byte.source ∷ []) (earlier ++ level ∷ []) orders order level.pairs restored order' (k.kept.all room))
+      | inr none ↦
+          subst (λ (os : List Rows). AreRestored (part_events part) (part.sources ++ byte.source ∷ []) (earlier ++ level ∷ []) os order' (level.pairs + 1)) (sym (full none))
+          (AreRestored-full (part_events part) (part.sources ++ byte.source ∷ []) (earlier ++ level ∷ []) orders order level.pairs restored order')
+    ]))
 
 -- what happens-before was, back at a level
-record IsBackAt (part : PartModel) (bytes' : List SourcedByte) (orders' : List Rows) (order' : Rows) (earlier : List Level) (n : ℕ) (at : Level) : Type 0 where
-  few : length orders' ≤ length bytes'
-  counted : at.pairs ≡ length orders'
+record IsBackAt (part : PartModel) (orders' : List Rows) (order' : Rows) (earlier : List Level) (n : ℕ) (at : Level) : Type 0 where
+  kept : AreKept (length orders') at.pairs
   ordered : IsOrder (part_events part) (take n part.sources) order'
-  restored : AreRestored (part_events part) (take n part.sources) (take n earlier) orders' order'
+  restored : AreRestored (part_events part) (take n part.sources) (take n earlier) orders' order' at.pairs
 
-went_back : (part : PartModel) (bytes bytes' : List SourcedByte) (orders orders' : List Rows) (order order' : Rows) (earlier : List Level) (level : Level) (n : ℕ) (at : Level)
-    → IsKept part bytes orders order earlier level → n + 1 ≡ length bytes → bytes' ≡ take n bytes → slice_get earlier n ≡ Some at
-    → (length orders ≤ at.pairs → (orders' ≡ orders) × (order' ≡ order)) → (at.pairs < length orders → (orders' ≡ take at.pairs orders) × (slice_get orders at.pairs ≡ Some order'))
-    → IsBackAt part bytes' orders' order' earlier n at
-went_back part bytes bytes' orders orders' order order' earlier level n at k count is_bytes at_level stays goes =
-    let few : at.pairs ≤ n = k.restored.few n at at_level in
-    let within : at.pairs ≤ length orders = k.restored.within n at at_level in
-    let shorter : length bytes' ≡ n = ap length is_bytes ∙ length-take-le n bytes (omega arith) in
-    elim (cases_lt at.pairs (length orders)) [
-      | inl past ↦
-          let is = goes past in
-          let long : length orders' ≡ at.pairs = ap length is.0 ∙ length-take-le at.pairs orders (omega arith) in
-          record {
-            few = omega arith;
-            counted = sym long;
-            ordered = k.restored.there n at order' at_level is.1;
-            restored = subst (λ (os : List Rows). AreRestored (part_events part) (take n part.sources) (take n earlier) os order') (sym is.0) (AreRestored-back (part_events part) part.sources earlier orders order k.restored n at at_level order' is.1);
-          }
-      | inr all ↦
-          let is = stays all in
-          let long : length orders' ≡ length orders = ap length is.0 in
-          let same : at.pairs ≡ length orders = omega arith in
-          record {
-            few = omega arith;
-            counted = same ∙ sym long;
-            ordered = subst (λ (o : Rows). IsOrder (part_events part) (take n part.sources) o) (sym is.1) (k.restored.here n at at_level same);
-            restored = subst (λ (os : List Rows). AreRestored (part_events part) (take n part.sources) (take n earlier) os order') (sym is.0)
-                (subst (λ (o : Rows). AreRestored (part_events part) (take n part.sources) (take n earlier) orders o) (sym is.1) (AreRestored-stays (part_events part) part.sources earlier orders order k.restored n at at_level));
-          }
-    ]
+went_back : (part : PartModel) (bytes : List SourcedByte) (orders orders' : List Rows) (order order' : Rows) (earlier : List Level) (level : Level) (n : ℕ) (at : Level)
+    → IsKept part bytes orders order earlier level → slice_get earlier n ≡ Some at → AreBack (part_events part) (take n part.sources) orders orders' order order' at.pairs level.pairs → IsBackAt part orders' order' earlier n at
+went_back part bytes orders orders' order order' earlier level n at k at_level (Stay same same_orders same_order) = record {
+  kept = subst (λ (os : List Rows). AreKept (length os) at.pairs) (sym same_orders) (subst (AreKept (length orders)) (sym same) k.kept);
+  ordered = subst (λ (o : Rows). IsOrder (part_events part) (take n part.sources) o) (sym same_order) (k.restored.here n at at_level same);
+  restored = subst (λ (os : List Rows). AreRestored (part_events part) (take n part.sources) (take n earlier) os order' at.pairs) (sym same_orders)
+      (subst (λ (o : Rows). AreRestored (part_events part) (take n part.sources) (take n earlier) orders o at.pairs) (sym same_order) (AreRestored-stays (part_events part) part.sources earlier orders order level.pairs k.restored n at at_level same));
+}
+went_back part bytes orders orders' order order' earlier level n at k at_level (Kept past front is) =
+    let long : length orders' ≡ at.pairs = ap length front ∙ length-take-le at.pairs orders (omega arith) in
+    record {
+      kept = record { few = omega arith; all = λ _. long };
+      ordered = k.restored.there n at order' at_level is;
+      restored = subst (λ (os : List Rows). AreRestored (part_events part) (take n part.sources) (take n earlier) os order' at.pairs) (sym front) (AreRestored-back (part_events part) part.sources earlier orders order level.pairs k.restored n at at_level order' is);
+    }
+went_back part bytes orders orders' order order' earlier level n at k at_level (Anew less none same is) =
+    let as_long : length orders' ≡ length orders = ap length same in
+    record {
+      kept = record { few = omega arith; all = λ room. (let all : length orders ≡ level.pairs = k.kept.all (omega (arith, room, as_long)) in absurd (omega arith)) };
+      ordered = is;
+      restored = subst (λ (os : List Rows). AreRestored (part_events part) (take n part.sources) (take n earlier) os order' at.pairs) (sym same) (AreRestored-anew (part_events part) part.sources earlier orders order level.pairs k.restored n at at_level order' is);
+    }
 
 -- one byte less
 pub IsKept-pop : (part : PartModel) (bytes bytes' : List SourcedByte) (orders orders' : List Rows) (order order' : Rows) (earlier earlier' : List Level) (level : Level) (n : ℕ) (d : Level)
     → part.sources ≡ sources_of bytes → IsKept part bytes orders order earlier level → n + 1 ≡ length bytes → bytes' ≡ take n bytes → earlier' ≡ take n earlier
-    → (length orders ≤ (get_or earlier n d).pairs → (orders' ≡ orders) × (order' ≡ order)) → ((get_or earlier n d).pairs < length orders → (orders' ≡ take (get_or earlier n d).pairs orders) × (slice_get orders (get_or earlier n d).pairs ≡ Some order'))
+    → AreBack (part_events part) (take n part.sources) orders orders' order order' (get_or earlier n d).pairs level.pairs
     → IsKept (with_sources part (sources_of bytes')) bytes' orders' order' earlier' (get_or earlier n d)
-IsKept-pop part bytes bytes' orders orders' order order' earlier earlier' level n d same k count is_bytes is_earlier stays goes =
+IsKept-pop part bytes bytes' orders orders' order order' earlier earlier' level n d same k count is_bytes is_earlier went =
     let one_each : length earlier ≡ length bytes = k.one_each in
     let sources' : take n part.sources ≡ sources_of bytes' = ap (take n) same ∙ take-map (λ (b : SourcedByte). b.source) n bytes ∙ sym (ap sources_of is_bytes) in
     let at_level : slice_get earlier n ≡ Some (get_or earlier n d) = slice_get-get_or earlier n d (omega arith) in
-    let back = went_back part bytes bytes' orders orders' order order' earlier level n (get_or earlier n d) k count is_bytes at_level stays goes in
+    let back = went_back part bytes orders orders' order order' earlier level n (get_or earlier n d) k at_level went in
     record {
       sound = k.sound;
       first_reads = subst (AreFirstReads (part_events part)) (sym is_bytes) (AreFirstReads-take (part_events part) bytes k.first_reads n (omega arith));
       known = subst (λ (xs : List SourcedByte). All (IsKnown (length (part_events part))) xs) (sym is_bytes) (All-take (IsKnown (length (part_events part))) n bytes k.known);
       candidates = subst (λ (xs : List ℕ). AreFirstSources (with_sources part xs)) sources' (λ i r b w at_read at_source. k.candidates i r b w at_read (take_from n part.sources i w at_source));
       one_each = ap length is_earlier ∙ length-take-le n earlier (omega arith) ∙ sym (length-take-le n bytes (omega arith)) ∙ sym (ap length is_bytes);
-      few = back.few;
-      counted = back.counted;
+      few = (let shorter : length bytes' ≡ n = ap length is_bytes ∙ length-take-le n bytes (omega arith) in let few : (get_or earlier n d).pairs ≤ n = k.restored.few n (get_or earlier n d) at_level in omega arith);
+      kept = back.kept;
       ordered = subst (λ (xs : List ℕ). IsOrder (part_events part) xs order') sources' back.ordered;
-      restored = subst (λ (xs : List ℕ). AreRestored (part_events part) xs earlier' orders' order') sources' (subst (λ (ls : List Level). AreRestored (part_events part) (take n part.sources) ls orders' order') (sym is_earlier) back.restored);
+      restored = subst (λ (xs : List ℕ). AreRestored (part_events part) xs earlier' orders' order' (get_or earlier n d).pairs) sources' (subst (λ (ls : List Level). AreRestored (part_events part) (take n part.sources) ls orders' order' (get_or earlier n d).pairs) (sym is_earlier) back.restored);
       level = subst (λ (xs : List ℕ). IsLevel (with_sources part xs) (get_or earlier n d)) sources' (k.levels n (get_or earlier n d) (slice_get-get_or earlier n d (omega arith)));
       levels = λ m l at_m.
           let within : m < n = (let w : m < length earlier' = slice_get_within earlier' m l at_m in let c : length earlier' ≡ n = ap length is_earlier ∙ length-take-le n earlier (omega arith) in omega arith) in
@@ -224,13 +233,14 @@ IsKept-open part bytes orders start earlier broken none no_bytes no_orders no_le
   known = subst (λ (xs : List SourcedByte). All (IsKnown (length (part_events part))) xs) (sym no_bytes) (All-nil (IsKnown (length (part_events part))));
   candidates = λ i r b w at_read at_source. absurd (none-some w (sym (ap (λ (xs : List ℕ). slice_get xs i) none) ∙ at_source));
   one_each = ap length no_levels ∙ sym (ap length no_bytes);
-  few = (let no : length orders ≡ 0 = ap length no_orders in omega arith);
-  counted = sym (ap length no_orders);
+  few = omega arith;
+  kept = (let no : length orders ≡ 0 = ap length no_orders in record { few = omega arith; all = λ _. no });
   ordered = subst (λ (xs : List ℕ). IsOrder (part_events part) xs start) (sym none) is_start;
   restored = record {
     few = λ k l at_k. absurd (no_level k l at_k);
     within = λ k l at_k. absurd (no_level k l at_k);
     rising = λ j k l m _ _ at_k. absurd (no_level k m at_k);
+    same = λ j k l m _ _ at_k _ _. absurd (no_level k m at_k);
     here = λ k l at_k _. absurd (no_level k l at_k);
     there = λ k l _ at_k _. absurd (no_level k l at_k);
   };

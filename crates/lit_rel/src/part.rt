@@ -28,6 +28,7 @@ use crate::between::Between;
 use crate::part::refused::{has_false_test, is_refused_with};
 use crate::part::related::Related;
 use crate::rows::Rows;
+use crate::rows::two_way_rows::TwoWayRows;
 use arrayvec::ArrayVec;
 use lit_paths::{BYTE_READ_LIMIT, Combination, Plan};
 use std::marker::Model;
@@ -169,7 +170,15 @@ impl<'p> Part<'p> {
         ensures len { rows_len result ≡ length (part_events self.now) }
         ensures pairs { (e d : ℕ) → Holds result e d ↔ HappensBefore (part_events self.now) self.now.sources e d }
     {
-        *self.related.rows()
+        self.related.order().rows
+    }
+
+    /// happens-before (29.6.6) of the sources given, and its converse.
+    pub fn order(&self) -> &TwoWayRows
+        ensures len { rows_len result.now.rows ≡ length (part_events self.now) }
+        ensures pairs { (e d : ℕ) → Holds result.now.rows e d ↔ HappensBefore (part_events self.now) self.now.sources e d }
+    {
+        self.related.order()
     }
 
     /// Whether the reads are coherent (29.7.2), as far as sources are given.

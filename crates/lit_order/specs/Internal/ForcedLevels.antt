@@ -1,29 +1,61 @@
 -- What a part forces with each number of sources.
-use Rattle.std.specs.Prelude.{◌≡◌, ◌↔◌, ℕ, IsTrue, List, length, take, Some, slice_get}
+use Rattle.std.specs.Prelude.{◌≡◌, ◌↔◌, ◌⊎◌, ℕ, ◌-◌, ◌<◌, ◌≤◌, false, IsTrue, List, ◌∷◌, ◌++◌, [], length, take, Some, slice_get}
 use Rattle.lit_paths.specs.Plan.{AreEventsIn}
+use Rattle.lit_rel.specs.Between.{BetweenModel, Forbids}
+use Rattle.lit_rel.specs.Broken.{IsBroken}
 use Rattle.lit_rel.specs.Forbidden.{IsForbidden}
 use Rattle.lit_rel.specs.HappensBefore.{HappensBefore}
 use Rattle.lit_rel.specs.LastPair.{AddsNone, AddsPair}
 use Rattle.lit_rel.specs.Part.{PartModel, part_events, with_sources}
 use Rattle.lit_rel.specs.Rows.{Holds, WithPair, rows_len}
-use Rattle.lit_order.specs.declared.forced_part.ForcedLevel.{ForcedLevel}
+use Rattle.lit_order.specs.declared.forced_part.level.ForcedLevel.{ForcedLevel}
 use Rattle.lit_order.specs.Forcing.{IsForced}
 use Rattle.lit_order.specs.Refuted.{IsRefuted}
 
--- whether a part is refuted, and where it isn't, the pairs that it forces
-pub record IsForcedLevel (part : PartModel) (level : ForcedLevel) : Type 0 where
-  pub refuted : IsTrue level.refuted ↔ IsRefuted part
+-- a part without its last source
+abbrev pub less_of : PartModel → PartModel
+less_of part = with_sources part (take (length part.sources - 1) part.sources)
+
+-- a part with its first sources alone
+abbrev pub first_of : PartModel → ℕ → PartModel
+first_of part k = with_sources part (take k part.sources)
+
+-- its forbidden triples
+pub record AreForbidden (part : PartModel) (between : BetweenModel) : Type 0 where
+  pub len : length (part_events part) ≡ between.len
+  pub triples : (w r v : ℕ) → Forbids between w r v ↔ IsForbidden (part_events part) part.sources w r v
+
+-- the pairs that it forces
+pub record HasForcedPairs (part : PartModel) (level : ForcedLevel) : Type 0 where
   pub len : rows_len level.forced.rows ≡ length (part_events part)
-  pub pairs : ¬ IsRefuted part → (a d : ℕ) → Holds level.forced.rows a d ↔ IsForced (HappensBefore (part_events part) part.sources) (IsForbidden (part_events part) part.sources) a d
+  pub pairs : (a d : ℕ) → Holds level.forced.rows a d ↔ IsForced (HappensBefore (part_events part) part.sources) (IsForbidden (part_events part) part.sources) a d
+
+-- whether it is refuted, and where it isn't, the pairs that it forces
+pub record IsForcedLevel (part : PartModel) (level : ForcedLevel) : Type 0 where
+  pub refuted : IsRefuted part ↔ (IsBroken part ⊎ IsTrue level.round)
+  pub pairs : ¬ IsRefuted part → HasForcedPairs part level
 
 -- the relation that follows has what the last source of a part adds to happens-before, and what leads through it
 pub data IsLedOn (part : PartModel) (before after : ℕ → ℕ → Type 0) : Type 0 where
   ByNone : AddsNone part → ((x y : ℕ) → after x y ↔ before x y) → IsLedOn part before after
   ByPair : (a d : ℕ) → AddsPair part a d → ((x y : ℕ) → after x y ↔ WithPair before a d x y) → IsLedOn part before after
 
--- what is forced with all its sources, and with each lesser number of them
-pub record AreForcedLevels (part : PartModel) (earlier : List ForcedLevel) (last : ForcedLevel) : Type 0 where
+-- what is forced with as many sources as it says, so many at the most
+abbrev pub IsOfFirst : PartModel → ForcedLevel → ℕ → Type 0
+IsOfFirst part level most = (k : ℕ) → level.least ≤ k → k ≤ most → IsForcedLevel (first_of part k) level
+
+-- what is forced with all sources, or nothing of them; and what is kept of less
+pub record AreForcedLevels (part : PartModel) (earlier : List ForcedLevel) (now : ForcedLevel) : Type 0 where
   pub sound : AreEventsIn part.test.bytes (part_events part)
-  pub one_each : length earlier ≡ length part.sources
-  pub at_all : IsForcedLevel part last
-  pub at_less : (k : ℕ) (level : ForcedLevel) → slice_get earlier k ≡ Some level → IsForcedLevel (with_sources part (take k part.sources)) level
+  pub here : IsOfFirst part now (length part.sources)
+  pub below : (k : ℕ) → k < now.least → k ≤ length part.sources → IsRefuted (first_of part k) → IsBroken (first_of part k)
+  pub straight : length part.sources < now.least → now.round ≡ false
+  pub kept : (i : ℕ) (level : ForcedLevel) → slice_get earlier i ≡ Some level → IsOfFirst part level level.most
+  pub ordered : (i : ℕ) (level : ForcedLevel) → slice_get earlier i ≡ Some level → level.least ≤ level.most
+  pub rising : (i j : ℕ) (level more : ForcedLevel) → i < j → slice_get earlier i ≡ Some level → slice_get earlier j ≡ Some more → level.most < more.least
+  pub lower : (i : ℕ) (level : ForcedLevel) → slice_get earlier i ≡ Some level → level.most < now.least
+  pub apart : length part.sources < now.least → (i : ℕ) (level : ForcedLevel) → slice_get earlier i ≡ Some level → level.most < length part.sources
+
+-- so with one source more
+abbrev pub WereForcedLevels : PartModel → List ForcedLevel → ForcedLevel → Type 0
+WereForcedLevels part earlier now = (w : ℕ) × AreForcedLevels (with_sources part (part.sources ++ w ∷ [])) earlier now

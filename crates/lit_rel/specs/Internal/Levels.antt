@@ -1,5 +1,5 @@
 -- What a part keeps for each number of sources.
-use Rattle.std.specs.Prelude.{◌≡◌, ◌↔◌, ℕ, ◌-◌, ◌≤◌, true, false, IsTrue, List, length, map, take, Some, slice_get}
+use Rattle.std.specs.Prelude.{◌≡◌, ◌↔◌, ℕ, ◌-◌, ◌<◌, ◌≤◌, true, false, IsTrue, List, length, map, take, Some, slice_get}
 use Rattle.lit_paths.specs.declared.event.Event.{Event}
 use Rattle.lit_paths.specs.ByteReads.{byte_reads}
 use Rattle.lit_paths.specs.Plan.{AreEventsIn}
@@ -7,6 +7,7 @@ use Rattle.lit_rel.specs.declared.rows.Rows.{Rows}
 use Rattle.lit_rel.specs.declared.rows.two_way_rows.TwoWayRows.{TwoWayRows}
 use Rattle.lit_rel.specs.declared.given.SourcedByte.{SourcedByte}
 use Rattle.lit_rel.specs.declared.part.levels.Level.{Level}
+use Rattle.lit_rel.specs.declared.part.orders.TheConstants.{ORDERS_KEPT}
 use Rattle.lit_rel.specs.Broken.{HasBrokenRelations}
 use Rattle.lit_rel.specs.HappensBefore.{HappensBefore}
 use Rattle.lit_rel.specs.LastPair.{AddsNone, AddsPair}
@@ -30,26 +31,39 @@ pub record IsLevel (part : PartModel) (level : Level) : Type 0 where
 abbrev pub rows_of : List TwoWayRows → List Rows
 rows_of orders = map (λ o. o.rows) orders
 
--- happens-before of the sources given, and what it was before each pair was added: for each lesser number of sources, the one
--- to which as many pairs were added as its level says
-pub record AreRestored (events : List Event) (sources : List ℕ) (earlier : List Level) (orders : List Rows) (order : Rows) : Type 0 where
+-- happens-before of the sources given, to which so many pairs were added, and what it was before some of them: for each lesser
+-- number of sources, the one to which as many pairs were added as its level says, where it is kept
+pub record AreRestored (events : List Event) (sources : List ℕ) (earlier : List Level) (orders : List Rows) (order : Rows) (pairs : ℕ) : Type 0 where
   pub few : (k : ℕ) (level : Level) → slice_get earlier k ≡ Some level → level.pairs ≤ k
-  pub within : (k : ℕ) (level : Level) → slice_get earlier k ≡ Some level → level.pairs ≤ length orders
+  pub within : (k : ℕ) (level : Level) → slice_get earlier k ≡ Some level → level.pairs ≤ pairs
   pub rising : (j k : ℕ) (l m : Level) → j ≤ k → slice_get earlier j ≡ Some l → slice_get earlier k ≡ Some m → l.pairs ≤ m.pairs
-  pub here : (k : ℕ) (level : Level) → slice_get earlier k ≡ Some level → level.pairs ≡ length orders → IsOrder events (take k sources) order
+  pub same : (j k : ℕ) (l m : Level) (rows : Rows) → slice_get earlier j ≡ Some l → slice_get earlier k ≡ Some m → l.pairs ≡ m.pairs → IsOrder events (take k sources) rows → IsOrder events (take j sources) rows
+  pub here : (k : ℕ) (level : Level) → slice_get earlier k ≡ Some level → level.pairs ≡ pairs → IsOrder events (take k sources) order
   pub there : (k : ℕ) (level : Level) (was : Rows) → slice_get earlier k ≡ Some level → slice_get orders level.pairs ≡ Some was → IsOrder events (take k sources) was
 
+-- the relations on the way back to these sources: those that are there, where no pair is taken back; one that was kept; or one
+-- found anew
+pub data AreBack (events : List Event) (sources : List ℕ) (orders orders' : List Rows) (order order' : Rows) (pairs added : ℕ) : Type 0 where
+  Stay : pairs ≡ added → orders' ≡ orders → order' ≡ order → AreBack events sources orders orders' order order' pairs added
+  Kept : pairs < length orders → orders' ≡ take pairs orders → slice_get orders pairs ≡ Some order' → AreBack events sources orders orders' order order' pairs added
+  Anew : pairs < added → length orders ≤ pairs → orders' ≡ orders → IsOrder events sources order' → AreBack events sources orders orders' order order' pairs added
+
+-- one is kept for each of the pairs that were added, as long as there is room
+pub record AreKept (kept pairs : ℕ) : Type 0 where
+  pub few : kept ≤ pairs
+  pub all : kept < ORDERS_KEPT → kept ≡ pairs
+
 -- what a part keeps: the first byte reads, each with a source that is a candidate, happens-before of all of them and before
--- each pair that was added, and what is known with all of them and with each lesser number of them
+-- the first pairs that were added, and what is known with all of them and with each lesser number of them
 pub record IsKept (part : PartModel) (bytes : List SourcedByte) (orders : List Rows) (order : Rows) (earlier : List Level) (last : Level) : Type 0 where
   pub sound : AreEventsIn part.test.bytes (part_events part)
   pub first_reads : AreFirstReads (part_events part) bytes
   pub known : AreKnown (part_events part) bytes
   pub candidates : AreFirstSources part
   pub one_each : length earlier ≡ length bytes
-  pub few : length orders ≤ length bytes
-  pub counted : last.pairs ≡ length orders
+  pub few : last.pairs ≤ length bytes
+  pub kept : AreKept (length orders) last.pairs
   pub ordered : IsOrder (part_events part) part.sources order
-  pub restored : AreRestored (part_events part) part.sources earlier orders order
+  pub restored : AreRestored (part_events part) part.sources earlier orders order last.pairs
   pub level : IsLevel part last
   pub levels : (k : ℕ) (level : Level) → slice_get earlier k ≡ Some level → IsLevel (with_sources part (take k part.sources)) level

@@ -1,13 +1,16 @@
 //! The relations of a candidate execution (ECMA-262, 2024, 29.6), for the sources given so far, as `Rows`.
 
-ghost use Rattle.std.specs.Prelude.{◌≡◌, ◌⊎◌, ◌↔◌, ℕ, IsTrue, length};
+ghost use Rattle.std.specs.Prelude.{◌≡◌, ◌⊎◌, ◌↔◌, ℕ, ◌≤◌, IsTrue, length, take};
 ghost use Rattle.lit_rel.specs.Internal.Given.{sources_of};
+ghost use Rattle.lit_rel.specs.Internal.Levels.{IsOrder};
 ghost use Rattle.lit_rel.specs.ReadsFrom.{ReadsFrom};
 ghost use Rattle.lit_rel.specs.Rows.{Holds, rows_len};
 ghost use Rattle.lit_rel.specs.SynchronizesWith.{CanSynchronize, Synchronizes};
 
 use crate::given::Given;
+use crate::part::fixed_steps::unsourced_order;
 use crate::rows::Rows;
+use crate::rows::two_way_rows::TwoWayRows;
 use lit_paths::{Event, event_at};
 
 /// Whether a source and its read synchronize.
@@ -28,6 +31,21 @@ impl Given<'_> {
             rows.put(usize::from(byte.read), usize::from(byte.source));
         }
         rows
+    }
+
+    /// happens-before (29.6.6) of the first sources.
+    pub(crate) fn order_of_first(&self, count: usize) -> TwoWayRows
+        requires { count ≤ length self.now.bytes.now }
+        ensures { IsOrder self.now.events.now (take count (sources_of self.now.bytes.now)) result.rows }
+    {
+        let mut order = unsourced_order(self.events);
+        for place in 0..count {
+            let byte = self.bytes[place];
+            if self.adds_pair(byte, &order.rows) {
+                order.close_with(usize::from(byte.source), usize::from(byte.read));
+            }
+        }
+        order
     }
 
     /// The rows with synchronizes-with (29.6.5) put in, as pairs of a write and a read.

@@ -1,17 +1,22 @@
 //! happens-before (ECMA-262, 2024, 29.6.6) of the sources given, and what it was before.
 
-ghost use Rattle.std.specs.Prelude.{◌≡◌, ◌<◌, ◌≤◌, [], ◌∷◌, ◌++◌, Some, length, slice_get, take};
-ghost use Rattle.lit_paths.specs.declared.limits.TheConstants.{BYTE_READ_LIMIT as READS};
+ghost use Rattle.std.specs.Prelude.{◌≡◌, ◌<◌, ◌≤◌, [], ◌∷◌, ◌++◌, length, take};
+ghost use Rattle.lit_rel.specs.declared.part.orders.TheConstants.{ORDERS_KEPT};
+ghost use Rattle.lit_rel.specs.Internal.Given.{sources_of};
+ghost use Rattle.lit_rel.specs.Internal.Levels.{AreBack, rows_of};
 
+use crate::given::Given;
 use crate::rows::two_way_rows::TwoWayRows;
 use arrayvec::ArrayVec;
-use lit_paths::BYTE_READ_LIMIT;
 
-/// A relation, and what it was before each pair that was added.
+/// How many earlier relations are kept at the most. Few parts add more pairs, and what is not kept is found anew.
+pub(crate) const ORDERS_KEPT: usize = 12;
+
+/// A relation, and what it was before each of the first pairs that were added.
 #[derive(Drop)]
 pub(crate) struct Orders {
     pub now: TwoWayRows,
-    pub earlier: ArrayVec<TwoWayRows, BYTE_READ_LIMIT>,
+    pub earlier: ArrayVec<TwoWayRows, ORDERS_KEPT>,
 }
 
 impl Orders {
@@ -35,26 +40,34 @@ impl Orders {
         self.earlier.clear();
     }
 
-    /// Takes the relation with one more pair in place of the one that is there, which is kept. There is room for
-    /// `BYTE_READ_LIMIT`.
+    /// Takes the relation with one more pair in place of the one that is there, which is kept where there is room.
     pub(crate) fn add(&mut self, next: TwoWayRows)
-        requires { length self.old.earlier.items < READS }
         ensures now { self.new.now ≡ next }
-        ensures earlier { self.new.earlier.items ≡ self.old.earlier.items ++ self.old.now ∷ [] }
+        ensures kept { length self.old.earlier.items < ORDERS_KEPT → self.new.earlier.items ≡ self.old.earlier.items ++ self.old.now ∷ [] }
+        ensures full { ORDERS_KEPT ≤ length self.old.earlier.items → self.new.earlier.items ≡ self.old.earlier.items }
     {
-        self.earlier.push(self.now);
+        if self.earlier.len() < ORDERS_KEPT {
+            self.earlier.push(self.now);
+        }
         self.now = next;
     }
 
-    /// Goes back to the relation to which so many pairs were added; where no more were, it stays.
-    pub(crate) fn go_back(&mut self, pairs: usize)
-        ensures stays { length self.old.earlier.items ≤ pairs → self.new ≡ self.old }
-        ensures back { pairs < length self.old.earlier.items
-            → (self.new.earlier.items ≡ take pairs self.old.earlier.items) × (slice_get self.old.earlier.items pairs ≡ Some self.new.now) }
+    /// Goes back to the relation of the first sources, so many, to which so many of the pairs were added: it stays where
+    /// all were, and is found anew where it was not kept.
+    pub(crate) fn go_back(&mut self, given: &Given<'_>, count: usize, pairs: usize, added: usize)
+        requires count { count ≤ length given.now.bytes.now }
+        requires pairs { pairs ≤ added }
+        ensures { AreBack given.now.events.now (take count (sources_of given.now.bytes.now)) (rows_of self.old.earlier.items) (rows_of self.new.earlier.items)
+            self.old.now.rows self.new.now.rows pairs added }
     {
+        if pairs == added {
+            return;
+        }
         if let Some(order) = self.earlier.as_slice().get(pairs) {
             self.now = *order;
             self.earlier.truncate(pairs);
+            return;
         }
+        self.now = given.order_of_first(count);
     }
 }

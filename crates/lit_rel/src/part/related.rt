@@ -24,6 +24,7 @@ use crate::part::fixed_steps::unsourced_order;
 use crate::part::levels::{Level, Levels};
 use crate::part::orders::Orders;
 use crate::rows::Rows;
+use crate::rows::two_way_rows::TwoWayRows;
 use lit_paths::{Combination, Plan};
 use std::marker::Model;
 
@@ -148,8 +149,14 @@ impl<'p> Related<'p> {
         ensures { self.new ≡ with_sources self.old (take (length self.old.sources - 1) self.old.sources) }
     {
         let last = self.bytes.len() - 1;
-        self.level = self.earlier[last];
-        self.orders.go_back(self.level.pairs);
+        let level = self.earlier[last];
+        let given = Given {
+            events: self.combination.events(),
+            bytes: self.bytes.as_slice(),
+        };
+        self.orders
+            .go_back(&given, last, level.pairs, self.level.pairs);
+        self.level = level;
         self.earlier.pop();
         self.bytes.pop();
     }
@@ -202,12 +209,12 @@ impl<'p> Related<'p> {
         }
     }
 
-    /// happens-before (29.6.6) of the sources given.
-    pub(crate) fn rows(&self) -> &Rows
-        ensures len { rows_len result.now ≡ length (part_events self.now) }
-        ensures pairs { (e d : ℕ) → Holds result.now e d ↔ HappensBefore (part_events self.now) self.now.sources e d }
+    /// happens-before (29.6.6) of the sources given, and its converse.
+    pub(crate) fn order(&self) -> &TwoWayRows
+        ensures len { rows_len result.now.rows ≡ length (part_events self.now) }
+        ensures pairs { (e d : ℕ) → Holds result.now.rows e d ↔ HappensBefore (part_events self.now) self.now.sources e d }
     {
-        &self.orders.now.rows
+        &self.orders.now
     }
 
     /// reads-from (ECMA-262, 2024, 29.6.3), as pairs of a read and a source, of the sources given.
@@ -231,7 +238,7 @@ impl<'p> Related<'p> {
     pub(crate) fn coherent(&self) -> bool
         ensures { IsTrue result ↔ HasCoherentReads (part_events self.now) self.now.sources }
     {
-        self.given().is_coherent(self.rows())
+        self.given().is_coherent(&self.order().rows)
     }
 
     /// Whether the reads are tear free (29.7.3), as far as sources are given.
@@ -246,14 +253,14 @@ impl<'p> Related<'p> {
         ensures len { result.len ≡ length (part_events self.now) }
         ensures triples { (w r v : ℕ) → Forbids result w r v ↔ IsForbidden (part_events self.now) self.now.sources w r v }
     {
-        self.given().between(self.rows())
+        self.given().between(&self.order().rows)
     }
 
     /// Whether two events are in a data race (29.9), by the sources given.
     pub(crate) fn race(&self) -> bool
         ensures { IsTrue result ↔ HasDataRace (part_events self.now) self.now.sources }
     {
-        self.given().has_data_race(self.rows())
+        self.given().has_data_race(&self.order().rows)
     }
 
     /// The value of a read (29.5.4 and 29.5.5), by its event number, of the bytes that have a source.

@@ -12,6 +12,6 @@ use Rattle.lit_rel.proofs.part.related.Related.between.Goals as goal
 pub returns-clause-triples : goal.returns-clause-triples
 returns-clause-triples c w r v =
     let part = c.args.self.now in
-    let by = of_part (λ events sources. Forbids c.between.result w r v ↔ IsForbiddenTriple events (ReadsByteFrom events sources) (Holds c.rows.result.now) w r v) _ _ _ _ c.given.ensures.events c.given.ensures.sources (c.between.ensures.triples w r v) in
-    let same = IsForbiddenTriple-same (part_events part) (ReadsByteFrom (part_events part) part.sources) (Holds c.rows.result.now) (HappensBefore (part_events part) part.sources) c.rows.ensures.pairs w r v in
+    let by = of_part (λ events sources. Forbids c.between.result w r v ↔ IsForbiddenTriple events (ReadsByteFrom events sources) (Holds c.order.result.now.rows) w r v) _ _ _ _ c.given.ensures.events c.given.ensures.sources (c.between.ensures.triples w r v) in
+    let same = IsForbiddenTriple-same (part_events part) (ReadsByteFrom (part_events part) part.sources) (Holds c.order.result.now.rows) (HappensBefore (part_events part) part.sources) c.order.ensures.pairs w r v in
     (λ h. same.0 (by.0 h), λ f. by.1 (same.1 f))

@@ -1,4 +1,4 @@
-use Rattle.std.proofs.Common.{◌≡◌, ◌↔◌, ◌⊎◌, ◌+◌, ◌<◌, ℕ, List, [], ◌∷◌, ◌++◌, length, map, get_or, true, false, refl, sym, ap, ◌∙◌, subst, arith}
+use Rattle.std.proofs.Common.{◌≡◌, ◌↔◌, ◌⊎◌, ◌+◌, ◌<◌, ◌≤◌, ℕ, List, [], ◌∷◌, ◌++◌, length, map, get_or, true, false, refl, sym, ap, ◌∙◌, subst, arith}
 use Rattle.std.proofs.lemmas.Bool.{false≢true}
 use Rattle.std.proofs.lemmas.List.{length-map}
 use Rattle.std.specs.Bool.{IsTrue}
@@ -10,6 +10,7 @@ use Rattle.lit_paths.specs.declared.byte_reads.ByteRead.{ByteRead}
 use Rattle.lit_rel.specs.declared.rows.two_way_rows.TwoWayRows.{TwoWayRows}
 use Rattle.lit_rel.specs.declared.given.SourcedByte.{SourcedByte}
 use Rattle.lit_rel.specs.declared.part.levels.Level.{Level}
+use Rattle.lit_rel.specs.declared.part.orders.TheConstants.{ORDERS_KEPT}
 use Rattle.lit_rel.specs.declared.part.related.Related.TheInside.{Inside}
 use Rattle.lit_rel.specs.Coherent.{IsCoherentRead}
 use Rattle.lit_rel.specs.Part.{IsNextSource, PartModel, part_events}
@@ -100,7 +101,9 @@ invariant_of-self c =
           (of_given (λ es bs. IsTrue broken.result ↔ (IsTrue inside.level.broken ⊎ (IsCoherentRead es (Holds now.rows) byte.read byte.byte byte.source → ⊥)
           ⊎ HasByteSo bs (IsChangedByte es (Holds now.rows) (λ e. Holds before e byte.source ⊎ (e ≡ byte.source)) (λ e. Holds before byte.read e ⊎ (e ≡ byte.read)))
           ⊎ HasByteSo bs (Tears es byte))) _ _ _ _ c.events.ensures.value c.as_slice.ensures.value broken.ensures))
-          refl (rows_pushed added.earlier.items inside.orders.earlier.items _ w.add.ensures.earlier)))
+          refl
+          (λ room. rows_pushed added.earlier.items inside.orders.earlier.items _ (w.add.ensures.kept (subst (λ (n : ℕ). n < ORDERS_KEPT) (length-map inside.orders.earlier.items (λ (o : TwoWayRows). o.rows)) room)))
+          (λ none. ap rows_of (w.add.ensures.full (subst (λ (n : ℕ). ORDERS_KEPT ≤ n) (length-map inside.orders.earlier.items (λ (o : TwoWayRows). o.rows)) none)))))
       | else-adds_pair w ↦
           let broken = w.is_broken_with-broken in
           let pushed : bytes' ≡ bytes ++ byte ∷ [] = c.push-2.ensures.items ∙ ap (λ (i : Inside). i.bytes.items ++ byte ∷ []) w.self-inside-is in

@@ -13,9 +13,9 @@ pub returns : goal.returns
 returns c =
     let part = c.args.self.now in
     let events = part_events part in
-    let rows = Holds c.rows.result.now in
+    let rows = Holds c.order.result.now.rows in
     let reads = ReadsFrom events part.sources in
     let by = of_part (λ events sources. IsTrue c.has_data_race.result ↔ HasDataRaceOf events rows (ReadsFrom events sources)) _ _ _ _ c.given.ensures.events c.given.ensures.sources c.has_data_race.ensures in (
-      (λ h. HasDataRaceOf-wider events rows (HappensBefore events part.sources) reads reads (λ e d. (c.rows.ensures.pairs e d).1) (λ r w there. there) (by.0 h)),
-      (λ race. by.1 (HasDataRaceOf-wider events (HappensBefore events part.sources) rows reads reads (λ e d. (c.rows.ensures.pairs e d).0) (λ r w there. there) race)),
+      (λ h. HasDataRaceOf-wider events rows (HappensBefore events part.sources) reads reads (λ e d. (c.order.ensures.pairs e d).1) (λ r w there. there) (by.0 h)),
+      (λ race. by.1 (HasDataRaceOf-wider events (HappensBefore events part.sources) rows reads reads (λ e d. (c.order.ensures.pairs e d).0) (λ r w there. there) race)),
     )

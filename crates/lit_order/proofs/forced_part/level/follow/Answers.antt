@@ -1,7 +1,7 @@
 use Rattle.std.proofs.Common.{◌↔◌, ℕ, subst}
 use Rattle.lit_rel.specs.Rows.{Holds, WithPair}
 use Rattle.lit_order.specs.Internal.ForcedLevels.{ByPair}
-use Rattle.lit_order.proofs.forced_part.follow.Goals as goal
+use Rattle.lit_order.proofs.forced_part.level.follow.Goals as goal
 
 pub returns-in-Some-clause-led : goal.returns-in-Some-clause-led
 returns-in-Some-clause-led c =

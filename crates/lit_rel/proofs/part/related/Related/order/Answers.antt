@@ -2,7 +2,7 @@ use Rattle.std.proofs.Common.{◌↔◌, subst}
 use Rattle.lit_rel.specs.HappensBefore.{HappensBefore}
 use Rattle.lit_rel.specs.Part.{PartModel, part_events}
 use Rattle.lit_rel.specs.Rows.{Holds}
-use Rattle.lit_rel.proofs.part.related.Related.rows.Goals as goal
+use Rattle.lit_rel.proofs.part.related.Related.order.Goals as goal
 
 pub returns-clause-pairs : goal.returns-clause-pairs
 returns-clause-pairs c e d =

@@ -1,0 +1,100 @@
+//! What is known of what the first sources of a combination force.
+
+ghost use Rattle.std.specs.Prelude.{◌≡◌, ◌<◌, ◌≤◌, [], ◌∷◌, ◌++◌, false, length};
+ghost use Rattle.lit_order.specs.declared.forced_part.levels.TheConstants.{LEVELS_KEPT};
+ghost use Rattle.lit_order.specs.Internal.ForcedLevels.{AreForcedLevels, WereForcedLevels, less_of};
+
+use crate::forced_part::level::ForcedLevel;
+use arrayvec::ArrayVec;
+use lit_rel::Part;
+use lit_rel::laws::{broken_parts_stay_broken, relations_grow_with_bytes};
+
+/// How many earlier levels are kept at the most. Few parts force more that often, and what is not kept is found anew.
+pub(crate) const LEVELS_KEPT: usize = 12;
+
+/// What a part forces, and what it forced with less sources, as far as that is kept.
+#[derive(Drop)]
+pub(crate) struct Levels {
+    pub earlier: ArrayVec<ForcedLevel, LEVELS_KEPT>,
+    /// That of the part. Where the part has less sources than its least number, it says nothing.
+    pub now: ForcedLevel,
+}
+
+impl Levels {
+    /// Nothing is known of a part with no source.
+    pub(crate) fn new() -> Self
+        ensures earlier { result.earlier.items ≡ [] }
+        ensures least { result.now.least ≡ 1 }
+        ensures straight { result.now.round ≡ false }
+    {
+        Levels {
+            earlier: ArrayVec::new(),
+            now: ForcedLevel {
+                least: 1,
+                ..ForcedLevel::default()
+            },
+        }
+    }
+
+    /// Makes it `new()`, in place.
+    pub(crate) fn clear(&mut self)
+        ensures earlier { self.new.earlier.items ≡ [] }
+        ensures least { self.new.now.least ≡ 1 }
+        ensures straight { self.new.now.round ≡ false }
+    {
+        self.earlier.clear();
+        self.now.least = 1;
+        self.now.round = false;
+    }
+
+    /// Goes on to a part, from what was known without its last source.
+    pub(crate) fn go_on(&mut self, part: &Part<'_>)
+        requires some { 0 < length part.now.sources }
+        requires levels { AreForcedLevels (less_of part.now) self.old.earlier.items self.old.now }
+        ensures { AreForcedLevels part.now self.new.earlier.items self.new.now }
+    {
+        broken_parts_stay_broken();
+        relations_grow_with_bytes();
+        if self.now.round || part.broken() {
+            return;
+        }
+        let between = part.between();
+        if part.len() <= self.now.least {
+            self.now.begin(part, &between);
+        } else if !self.now.goes_for(part, &between) {
+            self.keep(part.len() - 1);
+            self.now.go_on(part, &between);
+        }
+    }
+
+    /// Keeps what is known for so many sources at the most, where there is room.
+    fn keep(&mut self, most: usize)
+        ensures now { self.new.now ≡ record { forced = self.old.now.forced; round = self.old.now.round; least = self.old.now.least; most = most } }
+        ensures kept { length self.old.earlier.items < LEVELS_KEPT → self.new.earlier.items ≡ self.old.earlier.items ++ self.new.now ∷ [] }
+        ensures full { LEVELS_KEPT ≤ length self.old.earlier.items → self.new.earlier.items ≡ self.old.earlier.items }
+    {
+        self.now.most = most;
+        if self.earlier.len() < LEVELS_KEPT {
+            self.earlier.push(self.now);
+        }
+    }
+
+    /// Goes back to a part, from what was known with one source more.
+    pub(crate) fn go_back(&mut self, part: &Part<'_>)
+        requires { WereForcedLevels part.now self.old.earlier.items self.old.now }
+        ensures { AreForcedLevels part.now self.new.earlier.items self.new.now }
+    {
+        let depth = part.len();
+        if self.now.least <= depth {
+            return;
+        }
+        let kept = self.earlier.len();
+        if kept > 0 && self.earlier[kept - 1].most == depth {
+            self.now = self.earlier[kept - 1];
+            self.earlier.pop();
+        } else {
+            self.now.round = false;
+            self.now.least = depth + 1;
+        }
+    }
+}
