@@ -2,6 +2,7 @@
 
 pub(crate) mod breaks;
 pub(crate) mod forbidden;
+pub(crate) mod peers;
 pub(crate) mod races;
 pub(crate) mod reads;
 pub(crate) mod relations;

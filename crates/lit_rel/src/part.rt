@@ -25,6 +25,7 @@ ghost use Rattle.lit_rel.specs.SynchronizesWith.{Synchronizes};
 ghost use Rattle.lit_rel.specs.TearFree.{HasTearFreeReads};
 
 use crate::between::Between;
+use crate::given::peers::peers_of;
 use crate::part::refused::{has_false_test, is_refused_with};
 use crate::part::related::Related;
 use crate::rows::Rows;
@@ -41,11 +42,13 @@ pub struct Part<'p> {
     /// Whether a test was false with each lesser number of sources.
     earlier: ArrayVec<bool, BYTE_READ_LIMIT>,
     refused: bool,
+    /// The sequentially consistent writes that have the range of each event.
+    peers: Rows,
 }
 
 impl<'p> Model for Part<'p> {
     ghost use Rattle.lit_rel.specs.Part.{PartModel, coded_part};
-    ghost use Rattle.lit_rel.specs.Internal.Refused.{AreRefusals};
+    ghost use Rattle.lit_rel.specs.Internal.PartKept.{IsPartKept};
 
     ghost Value = { PartModel };
 
@@ -53,7 +56,7 @@ impl<'p> Model for Part<'p> {
 
     ghost view = { λ p. p.related };
 
-    ghost invariant = { λ p. AreRefusals p.related p.earlier.items p.refused };
+    ghost invariant = { λ p. IsPartKept p.related p.earlier.items p.refused p.peers };
 }
 
 impl<'p> Part<'p> {
@@ -67,10 +70,12 @@ impl<'p> Part<'p> {
     {
         let combination = plan.enter(combination);
         let refused = has_false_test(&combination, None, 0);
+        let peers = peers_of(combination.events());
         Part {
             related: Related::open(combination),
             earlier: ArrayVec::new(),
             refused,
+            peers,
         }
     }
 
@@ -83,7 +88,9 @@ impl<'p> Part<'p> {
     {
         self.related.reopen(plan, combination);
         self.earlier.clear();
-        self.refused = has_false_test(self.related.combination(), None, 0);
+        let combination = self.related.combination();
+        self.refused = has_false_test(combination, None, 0);
+        self.peers = peers_of(combination.events());
     }
 
     /// Its combination.
@@ -200,7 +207,7 @@ impl<'p> Part<'p> {
         ensures len { result.len ≡ length (part_events self.now) }
         ensures triples { (w r v : ℕ) → Forbids result w r v ↔ IsForbidden (part_events self.now) self.now.sources w r v }
     {
-        self.related.between()
+        self.related.between(&self.peers)
     }
 
     /// Whether two events are in a data race (29.9), by the sources given.

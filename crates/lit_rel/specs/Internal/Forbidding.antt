@@ -1,10 +1,6 @@
 -- What a byte forbids, and which bytes forbid nothing new.
-use Rattle.std.specs.Prelude.{◌≡◌, ◌↔◌, ℕ, ◌-◌, ◌<◌, IsTrue, List, length, slice_index_or}
+use Rattle.std.specs.Prelude.{◌≡◌, ℕ, ◌-◌, ◌<◌, List, length, slice_index_or}
 use Rattle.lit_paths.specs.declared.event.Event.{Event}
-use Rattle.lit_paths.specs.declared.event.Order3.TheVariants.{SeqCst}
-use Rattle.lit_paths.specs.Event.{does_write, event_at}
-use Rattle.lit_rel.specs.declared.event_set.EventSet.{EventSet}
-use Rattle.lit_rel.specs.EventSet.{HasEvent}
 use Rattle.lit_rel.specs.declared.given.SourcedByte.{SourcedByte}
 use Rattle.lit_rel.specs.Forbidden.{IsForbiddenBetween}
 
@@ -14,16 +10,6 @@ pub record IsForbidding (events : List Event) (before : ℕ → ℕ → Type 0) 
   pub read : r ≡ p.read
   pub known : v < length events
   pub between : IsForbiddenBetween events before p.source p.read v
-
--- a sequentially consistent write, by its number
-pub record IsSeqCstWrite (events : List Event) (v : ℕ) : Type 0 where
-  pub known : v < length events
-  pub writes : IsTrue (does_write (event_at events v).kind)
-  pub ordered : (event_at events v).order ≡ SeqCst
-
--- all of them
-abbrev pub AreSeqCstWrites : List Event → EventSet → Type 0
-AreSeqCstWrites events set = (v : ℕ) → HasEvent set v ↔ IsSeqCstWrite events v
 
 -- the byte at a place of the list
 abbrev pub byte_at_place : List SourcedByte → ℕ → SourcedByte

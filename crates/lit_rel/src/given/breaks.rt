@@ -58,9 +58,10 @@ impl Given<'_> {
     }
 
     /// Whether some byte whose answer a new pair can have changed is not coherent by a relation.
-    fn is_changed_by(&self, ahead: EventSet, behind: EventSet, before: &Rows) -> bool
+    fn is_changed_by(&self, ahead: EventSet, behind: EventSet, before: &TwoWayRows) -> bool
+        requires { rows_len before.now.rows ≡ length self.now.events.now }
         ensures { IsTrue result
-            ↔ HasByteSo self.now.bytes.now (IsChangedByte self.now.events.now (Holds before.now) (HasEvent ahead) (HasEvent behind)) }
+            ↔ HasByteSo self.now.bytes.now (IsChangedByte self.now.events.now (Holds before.now.rows) (HasEvent ahead) (HasEvent behind)) }
     {
         for byte in self.bytes {
             if can_change(*byte, ahead, behind) && !is_coherent_byte(self.events, *byte, before) {
@@ -72,10 +73,11 @@ impl Given<'_> {
 
     /// Whether a part is broken with one byte more, where happens-before stays as it was: it was broken, or the byte is
     /// not coherent, or tears its read.
-    pub(crate) fn is_broken_with(&self, was: bool, byte: SourcedByte, before: &Rows) -> bool
-        requires { IsKnown (length self.now.events.now) byte }
+    pub(crate) fn is_broken_with(&self, was: bool, byte: SourcedByte, before: &TwoWayRows) -> bool
+        requires known { IsKnown (length self.now.events.now) byte }
+        requires len { rows_len before.now.rows ≡ length self.now.events.now }
         ensures { IsTrue result
-            ↔ (IsTrue was ⊎ (¬ IsCoherentRead self.now.events.now (Holds before.now) byte.read byte.byte byte.source)
+            ↔ (IsTrue was ⊎ (¬ IsCoherentRead self.now.events.now (Holds before.now.rows) byte.read byte.byte byte.source)
             ⊎ HasByteSo self.now.bytes.now (Tears self.now.events.now byte)) }
     {
         was || !is_coherent_byte(self.events, byte, before) || self.is_torn_by(byte)
@@ -89,13 +91,14 @@ impl Given<'_> {
         was: bool,
         byte: SourcedByte,
         before: &TwoWayRows,
-        now: &Rows,
+        now: &TwoWayRows,
     ) -> bool
         requires known { IsKnown (length self.now.events.now) byte }
         requires len { rows_len before.now.rows ≡ length self.now.events.now }
+        requires as_long { rows_len now.now.rows ≡ length self.now.events.now }
         ensures { IsTrue result
-            ↔ (IsTrue was ⊎ (¬ IsCoherentRead self.now.events.now (Holds now.now) byte.read byte.byte byte.source)
-            ⊎ HasByteSo self.now.bytes.now (IsChangedByte self.now.events.now (Holds now.now)
+            ↔ (IsTrue was ⊎ (¬ IsCoherentRead self.now.events.now (Holds now.now.rows) byte.read byte.byte byte.source)
+            ⊎ HasByteSo self.now.bytes.now (IsChangedByte self.now.events.now (Holds now.now.rows)
             (λ e. Holds before.now.rows e byte.source ⊎ (e ≡ byte.source)) (λ e. Holds before.now.rows byte.read e ⊎ (e ≡ byte.read)))
             ⊎ HasByteSo self.now.bytes.now (Tears self.now.events.now byte)) }
     {
@@ -105,11 +108,12 @@ impl Given<'_> {
     }
 
     /// Whether some byte whose answer one more byte's new pair can have changed is not coherent any more.
-    fn is_changed_with_pair(&self, byte: SourcedByte, before: &TwoWayRows, now: &Rows) -> bool
+    fn is_changed_with_pair(&self, byte: SourcedByte, before: &TwoWayRows, now: &TwoWayRows) -> bool
         requires known { IsKnown (length self.now.events.now) byte }
         requires len { rows_len before.now.rows ≡ length self.now.events.now }
+        requires as_long { rows_len now.now.rows ≡ length self.now.events.now }
         ensures { IsTrue result
-            ↔ HasByteSo self.now.bytes.now (IsChangedByte self.now.events.now (Holds now.now)
+            ↔ HasByteSo self.now.bytes.now (IsChangedByte self.now.events.now (Holds now.now.rows)
             (λ e. Holds before.now.rows e byte.source ⊎ (e ≡ byte.source)) (λ e. Holds before.now.rows byte.read e ⊎ (e ≡ byte.read))) }
     {
         let (read, source) = (usize::from(byte.read), usize::from(byte.source));

@@ -5,104 +5,33 @@ ghost use Rattle.lit_paths.specs.declared.limits.TheConstants.{BYTE_READ_LIMIT};
 ghost use Rattle.lit_rel.specs.Between.{Forbids};
 ghost use Rattle.lit_rel.specs.EventSet.{HasEvent};
 ghost use Rattle.lit_rel.specs.Forbidden.{IsAfterSource, IsBeforeRead, IsBetweenSynchronized, IsForbiddenBetween, IsForbiddenTriple};
-ghost use Rattle.lit_rel.specs.Internal.Forbidding.{AreSeqCstWrites, IsForbidding, IsSeqCstWrite, RepeatsPair};
+ghost use Rattle.lit_rel.specs.Internal.Forbidding.{IsForbidding, RepeatsPair};
 ghost use Rattle.lit_rel.specs.Internal.Given.{IsKnown, sources_of};
+ghost use Rattle.lit_rel.specs.Internal.Peers.{ArePeers, IsSeqCstWrite};
 ghost use Rattle.lit_rel.specs.ReadsFrom.{ReadsByteFrom};
-ghost use Rattle.lit_rel.specs.Rows.{Holds};
+ghost use Rattle.lit_rel.specs.Rows.{Holds, rows_len};
 
 use crate::between::Between;
 use crate::event_set::EventSet;
 use crate::given::relations::can_synchronize;
 use crate::given::{Given, SourcedByte};
 use crate::rows::Rows;
-use lit_paths::{Event, event_at};
-
-/// A source, its read and another event, by their numbers, and a relation that orders the events.
-#[derive(Clone, Copy)]
-struct Triple<'a> {
-    events: &'a [Event],
-    before: &'a Rows,
-    source: usize,
-    read: usize,
-    other: usize,
-    ghost source_known: { source < length events.now },
-    ghost read_known: { read < length events.now },
-    ghost other_known: { other < length events.now },
-}
-
-impl Triple<'_> {
-    /// Whether the other event is a sequentially consistent write, neither the source nor the read, in one of the
-    /// patterns.
-    fn is_forbidden(&self) -> bool
-        ensures { IsTrue result
-            ↔ IsForbiddenBetween self.now.events.now (Holds self.now.before.now) self.now.source self.now.read self.now.other }
-    {
-        let event = event_at(self.events, self.other);
-        self.other != self.source
-            && self.other != self.read
-            && event.kind.does_write()
-            && event.is_seq_cst()
-            && (self.is_between_synchronized() || self.is_after_source() || self.is_before_read())
-    }
-
-    /// Whether the source and the read synchronize, and the other event has their range.
-    fn is_between_synchronized(&self) -> bool
-        ensures { IsTrue result ↔ IsBetweenSynchronized self.now.events.now self.now.source self.now.read self.now.other }
-    {
-        let source = event_at(self.events, self.source);
-        let read = event_at(self.events, self.read);
-        let other = event_at(self.events, self.other);
-        can_synchronize(source, read) && other.has_same_range(read)
-    }
-
-    /// Whether a sequentially consistent source and an event with its range happen before the read.
-    fn is_after_source(&self) -> bool
-        ensures { IsTrue result
-            ↔ IsAfterSource self.now.events.now (Holds self.now.before.now) self.now.source self.now.read self.now.other }
-    {
-        let source = event_at(self.events, self.source);
-        let other = event_at(self.events, self.other);
-        self.before.has_pair(self.source, self.read)
-            && self.before.has_pair(self.other, self.read)
-            && source.is_seq_cst()
-            && source.has_same_range(other)
-    }
-
-    /// Whether the source happens before a sequentially consistent read and an event with the read's range.
-    fn is_before_read(&self) -> bool
-        ensures { IsTrue result
-            ↔ IsBeforeRead self.now.events.now (Holds self.now.before.now) self.now.source self.now.read self.now.other }
-    {
-        let read = event_at(self.events, self.read);
-        let other = event_at(self.events, self.other);
-        self.before.has_pair(self.source, self.read)
-            && self.before.has_pair(self.source, self.other)
-            && read.is_seq_cst()
-            && other.has_same_range(read)
-    }
-}
-
-/// Whether an event is a sequentially consistent write.
-fn is_seq_cst_write(events: &[Event], event: usize) -> bool
-    requires { event < length events.now }
-    ensures { IsTrue result ↔ IsSeqCstWrite events.now event }
-{
-    let write = event_at(events, event);
-    write.kind.does_write() && write.is_seq_cst()
-}
+use crate::rows::two_way_rows::TwoWayRows;
+use lit_paths::event_at;
 
 impl Given<'_> {
     /// What may not stand between each source and its read, by a relation that orders the events.
-    pub(crate) fn between(&self, before: &Rows) -> Between
+    pub(crate) fn between(&self, before: &TwoWayRows, peers: &Rows) -> Between
+        requires len { rows_len before.now.rows ≡ length self.now.events.now }
+        requires peers { ArePeers self.now.events.now peers.now }
         ensures len { result.len ≡ length self.now.events.now }
         ensures triples { (w r v : ℕ) → Forbids result w r v
-            ↔ IsForbiddenTriple self.now.events.now (ReadsByteFrom self.now.events.now (sources_of self.now.bytes.now)) (Holds before.now) w r v }
+            ↔ IsForbiddenTriple self.now.events.now (ReadsByteFrom self.now.events.now (sources_of self.now.bytes.now)) (Holds before.now.rows) w r v }
     {
         let mut between = Between::new(self.events.len());
-        let writes = self.seq_cst_writes();
         for place in 0..self.bytes.len() {
             if !self.repeats_pair(place) {
-                self.forbid_others(&mut between, self.bytes[place], before, writes);
+                self.forbid_others(&mut between, self.bytes[place], before, peers);
             }
         }
         between
@@ -123,61 +52,101 @@ impl Given<'_> {
         &self,
         between: &mut Between,
         byte: SourcedByte,
-        before: &Rows,
-        writes: EventSet,
+        before: &TwoWayRows,
+        peers: &Rows,
     )
-        requires writes { AreSeqCstWrites self.now.events.now writes }
+        requires rows { rows_len before.now.rows ≡ length self.now.events.now }
+        requires peers { ArePeers self.now.events.now peers.now }
         requires known { IsKnown (length self.now.events.now) byte }
         requires len { between.old.len ≡ length self.now.events.now }
         requires room { length between.old.pairs < BYTE_READ_LIMIT }
         ensures len { between.new.len ≡ between.old.len }
         ensures count { length between.new.pairs ≤ length between.old.pairs + 1 }
         ensures triples { (w r v : ℕ) → Forbids between.new w r v
-            ↔ (Forbids between.old w r v ⊎ IsForbidding self.now.events.now (Holds before.now) w r v byte) }
+            ↔ (Forbids between.old w r v ⊎ IsForbidding self.now.events.now (Holds before.now.rows) w r v byte) }
     {
-        let others = self.forbidden(byte, before, writes);
+        let others = self.forbidden(byte, before, peers);
         if !others.is_empty() {
             between.forbid(byte.source, byte.read, others);
         }
     }
 
-    /// The events that may not stand between a byte's source and its read.
-    fn forbidden(&self, byte: SourcedByte, before: &Rows, writes: EventSet) -> EventSet
-        requires writes { AreSeqCstWrites self.now.events.now writes }
+    /// The events that may not stand between a byte's source and its read: the sequentially consistent writes in one of
+    /// the patterns, but for these two.
+    fn forbidden(&self, byte: SourcedByte, before: &TwoWayRows, peers: &Rows) -> EventSet
+        requires rows { rows_len before.now.rows ≡ length self.now.events.now }
+        requires peers { ArePeers self.now.events.now peers.now }
         requires known { IsKnown (length self.now.events.now) byte }
         ensures { (v : ℕ) → HasEvent result v
-            ↔ ((v < length self.now.events.now) × IsForbiddenBetween self.now.events.now (Holds before.now) byte.source byte.read v) }
+            ↔ ((v < length self.now.events.now) × IsForbiddenBetween self.now.events.now (Holds before.now.rows) byte.source byte.read v) }
     {
-        let source = usize::from(byte.source);
-        let read = usize::from(byte.read);
-        let mut others = EventSet::new();
-        let mut left = writes;
-        while let Some((other, rest)) = left.split_first() {
-            let triple = Triple {
-                events: self.events,
-                before,
-                source,
-                read,
-                other,
-            };
-            if triple.is_forbidden() {
-                others = others.with(other);
-            }
-            left = rest;
+        let (source, read) = (usize::from(byte.source), usize::from(byte.read));
+        let mut others = self.between_synchronized(source, read, peers);
+        if before.rows.holds(source, read) {
+            others = others.union(self.after_source(source, read, before, peers));
+            others = others.union(self.before_read(source, read, before, peers));
         }
-        others
+        others.difference(EventSet::new().with(source).with(read))
     }
 
-    /// The sequentially consistent writes.
-    fn seq_cst_writes(&self) -> EventSet
-        ensures { AreSeqCstWrites self.now.events.now result }
+    /// The sequentially consistent writes that have the range of a read that its source can synchronize with.
+    fn between_synchronized(&self, source: usize, read: usize, peers: &Rows) -> EventSet
+        requires peers { ArePeers self.now.events.now peers.now }
+        requires source { source < length self.now.events.now }
+        requires read { read < length self.now.events.now }
+        ensures { (v : ℕ) → HasEvent result v
+            ↔ (IsSeqCstWrite self.now.events.now v × IsBetweenSynchronized self.now.events.now source read v) }
     {
-        let mut writes = EventSet::new();
-        for event in 0..self.events.len() {
-            if is_seq_cst_write(self.events, event) {
-                writes = writes.with(event);
-            }
+        if can_synchronize(event_at(self.events, source), event_at(self.events, read)) {
+            peers.successors(read)
+        } else {
+            EventSet::new()
         }
-        writes
+    }
+
+    /// The sequentially consistent writes before a read that have the range of its source, where that is sequentially
+    /// consistent. The source is before the read.
+    fn after_source(
+        &self,
+        source: usize,
+        read: usize,
+        before: &TwoWayRows,
+        peers: &Rows,
+    ) -> EventSet
+        requires peers { ArePeers self.now.events.now peers.now }
+        requires rows { rows_len before.now.rows ≡ length self.now.events.now }
+        requires source { source < length self.now.events.now }
+        requires read { read < length self.now.events.now }
+        requires ordered { Holds before.now.rows source read }
+        ensures { (v : ℕ) → HasEvent result v
+            ↔ (IsSeqCstWrite self.now.events.now v × IsAfterSource self.now.events.now (Holds before.now.rows) source read v) }
+    {
+        if event_at(self.events, source).is_seq_cst() {
+            peers
+                .successors(source)
+                .intersection(before.converse.successors(read))
+        } else {
+            EventSet::new()
+        }
+    }
+
+    /// The sequentially consistent writes after a source that have the range of its read, where that is sequentially
+    /// consistent. The source is before the read.
+    fn before_read(&self, source: usize, read: usize, before: &TwoWayRows, peers: &Rows) -> EventSet
+        requires peers { ArePeers self.now.events.now peers.now }
+        requires rows { rows_len before.now.rows ≡ length self.now.events.now }
+        requires source { source < length self.now.events.now }
+        requires read { read < length self.now.events.now }
+        requires ordered { Holds before.now.rows source read }
+        ensures { (v : ℕ) → HasEvent result v
+            ↔ (IsSeqCstWrite self.now.events.now v × IsBeforeRead self.now.events.now (Holds before.now.rows) source read v) }
+    {
+        if event_at(self.events, read).is_seq_cst() {
+            peers
+                .successors(read)
+                .intersection(before.rows.successors(source))
+        } else {
+            EventSet::new()
+        }
     }
 }

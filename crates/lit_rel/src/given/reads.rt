@@ -1,16 +1,16 @@
 //! What valid executions ask of reads (ECMA-262, 2024, 29.7).
 
 ghost use Rattle.std.specs.Prelude.{◌≡◌, ◌↔◌, ℕ, ◌<◌, IsTrue, Some, slice_get, length};
-ghost use Rattle.lit_paths.specs.Event.{event_at};
+ghost use Rattle.lit_paths.specs.Event.{HasByte, does_write, event_at};
 ghost use Rattle.lit_rel.specs.declared.given.SourcedByte.{SourcedByte as Sourced};
-ghost use Rattle.lit_rel.specs.Coherent.{AreCoherentReads, Hides, IsCoherentRead};
+ghost use Rattle.lit_rel.specs.Coherent.{AreCoherentReads, IsCoherentRead};
 ghost use Rattle.lit_rel.specs.Internal.Given.{IsKnown, Tears, sources_of};
 ghost use Rattle.lit_rel.specs.ReadsFrom.{ReadsByteFrom};
-ghost use Rattle.lit_rel.specs.Rows.{Holds};
+ghost use Rattle.lit_rel.specs.Rows.{Holds, rows_len};
 ghost use Rattle.lit_rel.specs.TearFree.{CanReadWhole, HasTearFreeReads};
 
 use crate::given::{Given, SourcedByte};
-use crate::rows::Rows;
+use crate::rows::two_way_rows::TwoWayRows;
 use lit_paths::{Event, event_at};
 
 /// Whether neither a read nor its source may tear, and their ranges are equal.
@@ -20,37 +20,39 @@ fn can_read_whole(read: &Event, source: &Event) -> bool
     read.no_tear && source.no_tear && read.has_same_range(source)
 }
 
-/// Whether an event writes a byte after its source and before its read.
-fn hides(events: &[Event], byte: SourcedByte, other: usize, before: &Rows) -> bool
-    requires { other < length events.now }
-    ensures { IsTrue result ↔ Hides events.now (Holds before.now) byte.read byte.byte byte.source other }
+/// Whether an event writes a byte.
+fn writes(event: &Event, byte: u8) -> bool
+    ensures { IsTrue result ↔ (IsTrue (does_write event.now.kind) × HasByte event.now byte) }
 {
-    let event = event_at(events, other);
-    before.has_pair(usize::from(byte.source), other)
-        && before.has_pair(other, usize::from(byte.read))
-        && event.kind.does_write()
-        && event.has_byte(byte.byte)
+    event.kind.does_write() && event.has_byte(byte)
 }
 
 /// Whether a byte is read from no later event, and no write hides its source.
-pub(crate) fn is_coherent_byte(events: &[Event], byte: SourcedByte, before: &Rows) -> bool
-    ensures { IsTrue result ↔ IsCoherentRead events.now (Holds before.now) byte.read byte.byte byte.source }
+pub(crate) fn is_coherent_byte(events: &[Event], byte: SourcedByte, before: &TwoWayRows) -> bool
+    requires known { IsKnown (length events.now) byte }
+    requires len { rows_len before.now.rows ≡ length events.now }
+    ensures { IsTrue result ↔ IsCoherentRead events.now (Holds before.now.rows) byte.read byte.byte byte.source }
 {
-    if before.has_pair(usize::from(byte.read), usize::from(byte.source)) {
+    let (read, source) = (usize::from(byte.read), usize::from(byte.source));
+    if before.rows.holds(read, source) {
         return false;
     }
-    for other in 0..events.len() {
-        if hides(events, byte, other, before) {
+    let after_source = before.rows.successors(source);
+    let mut left = after_source.intersection(before.converse.successors(read));
+    while let Some((other, rest)) = left.split_first() {
+        if writes(event_at(events, other), byte.byte) {
             return false;
         }
+        left = rest;
     }
     true
 }
 
 impl Given<'_> {
     /// Coherent reads (29.7.2), by a relation that orders the events.
-    pub(crate) fn is_coherent(&self, before: &Rows) -> bool
-        ensures { IsTrue result ↔ AreCoherentReads self.now.events.now (ReadsByteFrom self.now.events.now (sources_of self.now.bytes.now)) (Holds before.now) }
+    pub(crate) fn is_coherent(&self, before: &TwoWayRows) -> bool
+        requires { rows_len before.now.rows ≡ length self.now.events.now }
+        ensures { IsTrue result ↔ AreCoherentReads self.now.events.now (ReadsByteFrom self.now.events.now (sources_of self.now.bytes.now)) (Holds before.now.rows) }
     {
         for byte in self.bytes {
             if !is_coherent_byte(self.events, *byte, before) {

@@ -57,6 +57,7 @@ impl<'p> Model for Related<'p> {
 impl<'p> Related<'p> {
     ghost use Rattle.lit_rel.specs.Broken.{HasBrokenRelations};
     ghost use Rattle.lit_rel.specs.Internal.Given.{sources_of};
+    ghost use Rattle.lit_rel.specs.Internal.Peers.{ArePeers};
 
     /// A combination. No byte read has a source yet.
     pub(crate) fn open(combination: Combination<'p>) -> Self
@@ -123,7 +124,7 @@ impl<'p> Related<'p> {
             let mut order = self.orders.now;
             order.close_with(usize::from(byte.source), usize::from(byte.read));
             let before = &self.orders.now;
-            let broken = given.is_broken_with_pair(self.level.broken, byte, before, &order.rows);
+            let broken = given.is_broken_with_pair(self.level.broken, byte, before, &order);
             self.orders.add(order);
             Level {
                 adds: true,
@@ -131,7 +132,7 @@ impl<'p> Related<'p> {
                 pairs: self.level.pairs + 1,
             }
         } else {
-            let broken = given.is_broken_with(self.level.broken, byte, &self.orders.now.rows);
+            let broken = given.is_broken_with(self.level.broken, byte, &self.orders.now);
             Level {
                 adds: false,
                 broken,
@@ -238,7 +239,7 @@ impl<'p> Related<'p> {
     pub(crate) fn coherent(&self) -> bool
         ensures { IsTrue result ↔ HasCoherentReads (part_events self.now) self.now.sources }
     {
-        self.given().is_coherent(&self.order().rows)
+        self.given().is_coherent(self.order())
     }
 
     /// Whether the reads are tear free (29.7.3), as far as sources are given.
@@ -249,11 +250,12 @@ impl<'p> Related<'p> {
     }
 
     /// What may not stand between each source given and its read in the order of memory (29.7.4).
-    pub(crate) fn between(&self) -> Between
+    pub(crate) fn between(&self, peers: &Rows) -> Between
+        requires { ArePeers (part_events self.now) peers.now }
         ensures len { result.len ≡ length (part_events self.now) }
         ensures triples { (w r v : ℕ) → Forbids result w r v ↔ IsForbidden (part_events self.now) self.now.sources w r v }
     {
-        self.given().between(&self.order().rows)
+        self.given().between(self.order(), peers)
     }
 
     /// Whether two events are in a data race (29.9), by the sources given.

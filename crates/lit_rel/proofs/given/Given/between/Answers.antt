@@ -14,7 +14,7 @@ loop-place-preserved c =
     let events = c.args.self.now.events.now in
     let bytes = c.args.self.now.bytes.now in
     let i = c.loop-place.place in
-    let before = Holds c.args.before.now in
+    let before = Holds c.args.before.now.rows in
     let old = c.loop-place.between in
     let Kept : BetweenModel → Type 0 = λ between. record {
       len : between.len ≡ length events;
@@ -36,6 +36,6 @@ loop-place-preserved c =
 
 pub returns-clause-triples : goal.returns-clause-triples
 returns-clause-triples c w r v =
-    let iff = IsForbiddenTriple-iff c.args.self.now.events.now c.args.self.now.bytes.now c.loop-place.place c.args.self.now.first_reads c.loop-place-test.false (Holds c.args.before.now) w r v in
+    let iff = IsForbiddenTriple-iff c.args.self.now.events.now c.args.self.now.bytes.now c.loop-place.place c.args.self.now.first_reads c.loop-place-test.false (Holds c.args.before.now.rows) w r v in
     let kept = c.loop-place.invariant.triples w r v in
     (λ x. iff.0 (kept.0 x), λ x. kept.1 (iff.1 x))

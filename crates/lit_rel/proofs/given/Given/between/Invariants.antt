@@ -10,5 +10,5 @@ abbrev pub invariant-loop-place : goal.invariant-loop-place
 invariant-loop-place l = record {
   len : l.between.len ≡ length l.self.events.now;
   count : length l.between.pairs ≤ l.place;
-  triples : (w r v : ℕ) → Forbids l.between w r v ↔ SomeBelow {X = SourcedByte} (IsForbidding l.self.events.now (Holds l.before) w r v) l.self.bytes.now l.place;
+  triples : (w r v : ℕ) → Forbids l.between w r v ↔ SomeBelow {X = SourcedByte} (IsForbidding l.self.events.now (Holds l.before.rows) w r v) l.self.bytes.now l.place;
 }

@@ -1,50 +1,75 @@
-use Rattle.std.proofs.Common.{ℕ, refl, subst, sym}
+use Rattle.std.proofs.Common.{◌≡◌, ◌⊎◌, ◌↔◌, ℕ, sym, subst, ◌∙◌, inl, inr}
 use Rattle.std.proofs.lemmas.Bool.{false≢true}
+use Rattle.lit_rel.specs.declared.event_set.EventSet.{EventSet}
 use Rattle.lit_rel.specs.EventSet.{HasEvent}
-use Rattle.lit_rel.specs.Forbidden.{IsForbiddenBetween}
+use Rattle.lit_rel.specs.Forbidden.{IsAfterSource, IsBeforeRead, IsBetweenSynchronized}
+use Rattle.lit_rel.specs.Internal.Peers.{IsSeqCstWrite}
 use Rattle.lit_rel.specs.Rows.{Holds}
-use Rattle.lit_rel.proofs.SetLemmas.{chosen_more, chosen_skip, split_less}
 use Rattle.lit_rel.proofs.given.Given.forbidden.Goals as goal
-
-pub loop-other-init : goal.loop-other-init
-loop-other-init c = record {
-  within = λ v h. h;
-  others = λ v. ((λ h. absurd (c.new-others.ensures.empty v h)), (λ h. absurd (h.1 h.0)));
-}
-
-pub loop-other-preserved-then-is_forbidden : goal.loop-other-preserved-then-is_forbidden
-loop-other-preserved-then-is_forbidden c =
-    let Is : ℕ → ℕ → ℕ → Type 0 = λ w r v. IsForbiddenBetween c.args.self.now.events.now (Holds c.args.before.now) w r v in
-    let read = c.args.byte.read in
-    let other = c.in-Some.other in
-    let split = c.in-Some.ensures in
-    record {
-      within = λ v h. c.loop-other.invariant.within v ((split.rest v).0 h).0;
-      others = chosen_more (HasEvent c.args.writes) (Is c.args.byte.source read) c.loop-other.left other c.in-Some.rest split (c.loop-other.invariant.within other split.there) (HasEvent c.loop-other.others) (HasEvent c.with-others.result) c.loop-other.invariant.others
-          (subst (λ (x : ℕ). Is x read other) c.from-source.ensures (subst (λ (x : ℕ). Is c.from-source.result x other) c.from-read.ensures (c.if-is_forbidden.ensures.0 refl))) c.with-others.ensures;
-    }
-
-pub loop-other-preserved : goal.loop-other-preserved
-loop-other-preserved c =
-    let Is : ℕ → ℕ → ℕ → Type 0 = λ w r v. IsForbiddenBetween c.args.self.now.events.now (Holds c.args.before.now) w r v in
-    let source = c.args.byte.source in
-    let other = c.in-Some.other in
-    let split = c.in-Some.ensures in
-    record {
-      within = λ v h. c.loop-other.invariant.within v ((split.rest v).0 h).0;
-      others = chosen_skip (HasEvent c.args.writes) (Is source c.args.byte.read) c.loop-other.left other c.in-Some.rest split (c.loop-other.invariant.within other split.there) (HasEvent c.loop-other.others) c.loop-other.invariant.others
-          (λ is. false≢true (c.if-is_forbidden.ensures.1 (subst (λ (x : ℕ). Is x c.from-read.result other) (sym c.from-source.ensures) (subst (λ (x : ℕ). Is source x other) (sym c.from-read.ensures) is))));
-    }
-
-pub loop-other-smaller-then-is_forbidden : goal.loop-other-smaller-then-is_forbidden
-loop-other-smaller-then-is_forbidden c = split_less c.loop-other.left c.in-Some.other c.in-Some.rest c.in-Some.ensures
-
-pub loop-other-smaller : goal.loop-other-smaller
-loop-other-smaller c = split_less c.loop-other.left c.in-Some.other c.in-Some.rest c.in-Some.ensures
+use Rattle.lit_rel.proofs.given.Given.forbidden.Goals.{then-holds, else-holds}
 
 pub returns : goal.returns
 returns c v =
-    let kept = c.loop-other.invariant.others v in (
-      (λ h. let is = kept.0 h in (((c.requires.writes v).0 is.0).known, is.2)),
-      (λ h. kept.1 ((c.requires.writes v).1 (record { known = h.0; writes = h.1.writes; ordered = h.1.ordered }), c.in_default.ensures v, h.1)),
+    let events = c.args.self.now.events.now in
+    let before = Holds c.args.before.now.rows in
+    let source = c.from-source.result in
+    let read = c.from-read.result in
+    let is_source = c.from-source.ensures in
+    let is_read = c.from-read.ensures in
+    let Pattern : ℕ → ℕ → Type 0 = λ w r. IsBetweenSynchronized events w r v ⊎ IsAfterSource events before w r v ⊎ IsBeforeRead events before w r v in
+    let others : HasEvent c.if-holds.others v ↔ (IsSeqCstWrite events v × Pattern source read) =
+    elim c.if-holds.branch [
+      | then-holds w ↦
+          subst (λ (s : EventSet). HasEvent s v ↔ (IsSeqCstWrite events v × Pattern source read)) (sym w.others-is) (
+            (λ h. elim ((w.union-others-then-holds.ensures v).0 h) [
+              | inl first ↦ elim ((w.union-others.ensures v).0 first) [
+                | inl one ↦ let is = (c.between_synchronized-others.ensures v).0 one in (is.0, inl is.1)
+                | inr two ↦ let is = (w.after_source.ensures v).0 two in (is.0, inr (inl is.1))
+              ]
+              | inr three ↦ let is = (w.before_read.ensures v).0 three in (is.0, inr (inr is.1))
+            ]),
+            (λ h. (w.union-others-then-holds.ensures v).1 (elim h.1 [
+              | inl one ↦ inl ((w.union-others.ensures v).1 (inl ((c.between_synchronized-others.ensures v).1 (h.0, one))))
+              | inr rest ↦ elim rest [
+                | inl two ↦ inl ((w.union-others.ensures v).1 (inr ((w.after_source.ensures v).1 (h.0, two))))
+                | inr three ↦ inr ((w.before_read.ensures v).1 (h.0, three))
+              ]
+            ])),
+          )
+      | else-holds w ↦
+          let apart : before source read → ⊥ = λ held. false≢true (w.if-holds.ensures.1 held) in
+          subst (λ (s : EventSet). HasEvent s v ↔ (IsSeqCstWrite events v × Pattern source read)) (sym w.others-is) (
+            (λ h. let is = (c.between_synchronized-others.ensures v).0 h in (is.0, inl is.1)),
+            (λ h. elim h.1 [
+              | inl one ↦ (c.between_synchronized-others.ensures v).1 (h.0, one)
+              | inr rest ↦ absurd (elim rest [ inl two ↦ apart two.source_before | inr three ↦ apart three.source_before ])
+            ]),
+          )
+    ] in
+    let these : HasEvent c.with-2.result v ↔ ((v ≡ source) ⊎ (v ≡ read)) = (
+      (λ h. elim ((c.with-2.ensures v).0 h) [
+        | inl first ↦ elim ((c.with.ensures v).0 first) [ inl none ↦ absurd (c.new.ensures.empty v none) | inr same ↦ inl same ]
+        | inr same ↦ inr same
+      ]),
+      (λ h. (c.with-2.ensures v).1 (elim h [ inl same ↦ inl ((c.with.ensures v).1 (inr same)) | inr same ↦ inr same ])),
+    ) in (
+      (λ h.
+          let both = (c.difference.ensures v).0 h in
+          let is = others.0 both.0 in (
+            is.0.known,
+            record {
+              not_source = λ same. both.1 (these.1 (inl (same ∙ sym is_source)));
+              not_read = λ same. both.1 (these.1 (inr (same ∙ sym is_read)));
+              writes = is.0.writes;
+              ordered = is.0.ordered;
+              pattern = subst (λ (n : ℕ). Pattern n c.args.byte.read) is_source (subst (Pattern source) is_read is.1);
+            },
+          )),
+      (λ h. (c.difference.ensures v).1 (
+        others.1 (
+          record { known = h.0; writes = h.1.writes; ordered = h.1.ordered },
+          subst (λ (n : ℕ). Pattern n read) (sym is_source) (subst (Pattern c.args.byte.source) (sym is_read) h.1.pattern),
+        ),
+        (λ one. elim (these.0 one) [ inl same ↦ h.1.not_source (same ∙ is_source) | inr same ↦ h.1.not_read (same ∙ is_read) ]),
+      )),
     )

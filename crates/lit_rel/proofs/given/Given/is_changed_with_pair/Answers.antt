@@ -16,5 +16,5 @@ returns c =
     let behind : (e : ℕ) → HasEvent c.with-behind.result e ↔ (before c.args.byte.read e ⊎ (e ≡ c.args.byte.read)) =
     subst (λ (x : ℕ). (e : ℕ) → HasEvent c.with-behind.result e ↔ (before x e ⊎ (e ≡ x))) c.from-read.ensures
     (behind_is (HasEvent c.with-behind.result) (HasEvent c.successors-2.result) (before c.from-read.result) c.from-read.result c.with-behind.ensures c.successors-2.ensures) in
-    let same = changed-same c.args.self.now.events.now c.args.self.now.bytes.now (Holds c.args.now.now) (HasEvent c.with-ahead.result) (λ e. before e c.args.byte.source ⊎ (e ≡ c.args.byte.source)) (HasEvent c.with-behind.result) (λ e. before c.args.byte.read e ⊎ (e ≡ c.args.byte.read)) ahead behind in
+    let same = changed-same c.args.self.now.events.now c.args.self.now.bytes.now (Holds c.args.now.now.rows) (HasEvent c.with-ahead.result) (λ e. before e c.args.byte.source ⊎ (e ≡ c.args.byte.source)) (HasEvent c.with-behind.result) (λ e. before c.args.byte.read e ⊎ (e ≡ c.args.byte.read)) ahead behind in
     (λ h. same.0 (c.is_changed_by.ensures.0 h), λ h. c.is_changed_by.ensures.1 (same.1 h))

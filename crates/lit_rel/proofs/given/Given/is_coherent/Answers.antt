@@ -14,16 +14,16 @@ returns-then-not-is_coherent_byte c =
     let bytes = c.args.self.now.bytes.now in (
       (λ h. absurd (false≢true h)),
       (λ has. c.if-not-is_coherent_byte.ensures.1
-          (coherent_at c.args.self.now.events.now bytes c.args.self.now.first_reads (Holds c.args.before.now) has c.loop-byte.byte-index (get_or bytes c.loop-byte.byte-index no_byte) (slice_get-get_or bytes c.loop-byte.byte-index no_byte c.loop-byte-test.true))),
+          (coherent_at c.args.self.now.events.now bytes c.args.self.now.first_reads (Holds c.args.before.now.rows) has c.loop-byte.byte-index (get_or bytes c.loop-byte.byte-index no_byte) (slice_get-get_or bytes c.loop-byte.byte-index no_byte c.loop-byte-test.true))),
     )
 
 pub loop-byte-preserved : goal.loop-byte-preserved
 loop-byte-preserved c =
-    EachBelow-more {X = SourcedByte} (λ p. IsCoherentRead c.args.self.now.events.now (Holds c.args.before.now) p.read p.byte p.source) c.args.self.now.bytes.now c.loop-byte.byte-index no_byte c.loop-byte-test.true c.loop-byte.invariant (c.if-not-is_coherent_byte.ensures.0 refl)
+    EachBelow-more {X = SourcedByte} (λ p. IsCoherentRead c.args.self.now.events.now (Holds c.args.before.now.rows) p.read p.byte p.source) c.args.self.now.bytes.now c.loop-byte.byte-index no_byte c.loop-byte-test.true c.loop-byte.invariant (c.if-not-is_coherent_byte.ensures.0 refl)
 
 pub returns : goal.returns
 returns c = (
-  (λ _. AreCoherentReads-from_each c.args.self.now.events.now c.args.self.now.bytes.now c.args.self.now.first_reads (Holds c.args.before.now)
-      (each_from_EachBelow {X = SourcedByte} (λ p. IsCoherentRead c.args.self.now.events.now (Holds c.args.before.now) p.read p.byte p.source) c.args.self.now.bytes.now c.loop-byte.byte-index c.loop-byte-test.false c.loop-byte.invariant)),
+  (λ _. AreCoherentReads-from_each c.args.self.now.events.now c.args.self.now.bytes.now c.args.self.now.first_reads (Holds c.args.before.now.rows)
+      (each_from_EachBelow {X = SourcedByte} (λ p. IsCoherentRead c.args.self.now.events.now (Holds c.args.before.now.rows) p.read p.byte p.source) c.args.self.now.bytes.now c.loop-byte.byte-index c.loop-byte-test.false c.loop-byte.invariant)),
   (λ _. refl),
 )

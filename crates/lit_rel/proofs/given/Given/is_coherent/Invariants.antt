@@ -5,4 +5,4 @@ use Rattle.lit_rel.proofs.EachLemmas.{EachBelow}
 use Rattle.lit_rel.proofs.given.Given.is_coherent.Given as goal
 
 abbrev pub invariant-loop-byte : goal.invariant-loop-byte
-invariant-loop-byte l = EachBelow {X = SourcedByte} (λ p. IsCoherentRead l.self.events.now (Holds l.before) p.read p.byte p.source) l.byte-items l.byte-index
+invariant-loop-byte l = EachBelow {X = SourcedByte} (λ p. IsCoherentRead l.self.events.now (Holds l.before.rows) p.read p.byte p.source) l.byte-items l.byte-index

@@ -9,6 +9,6 @@ pub returns-else-broken : goal.returns-else-broken
 returns-else-broken c =
     let inside = c.self.inside in
     subst (λ (part : PartModel). IsTrue inside.refused ↔ IsBroken part) c.self.view_is (
-      (λ h. inr (c.self.invariant.at_all.0 h)),
-      (λ h. elim h [ inl broken ↦ absurd (false≢true (c.if-broken.ensures.1 broken)) | inr f ↦ c.self.invariant.at_all.1 f ]),
+      (λ h. inr (c.self.invariant.refusals.at_all.0 h)),
+      (λ h. elim h [ inl broken ↦ absurd (false≢true (c.if-broken.ensures.1 broken)) | inr f ↦ c.self.invariant.refusals.at_all.1 f ]),
     )

@@ -1,15 +1,20 @@
-use Rattle.std.proofs.Common.{◌↔◌, ℕ, ◌<◌, None, length, ap, subst}
+use Rattle.std.proofs.Common.{◌↔◌, ℕ, ◌<◌, None, List, length, ap, ◌∙◌, subst}
 use Rattle.std.specs.Bool.{IsTrue}
 use Rattle.lit_read.specs.Syntax.{Litmus}
-use Rattle.lit_paths.specs.Plan.{IsWalkIn, walk_in}
+use Rattle.lit_paths.specs.declared.event.Event.{Event}
+use Rattle.lit_paths.specs.Plan.{events_in, IsWalkIn, walk_in}
 use Rattle.lit_rel.specs.Broken.{HasFalseTestOn}
 use Rattle.lit_rel.specs.Part.{PartModel}
+use Rattle.lit_rel.specs.Internal.Peers.{ArePeers}
 use Rattle.lit_rel.proofs.RefusalLemmas.{AreRefusals-open}
 use Rattle.lit_rel.proofs.part.Part.reopen.Goals as goal
 
 pub invariant_of-self : goal.invariant_of-self
 invariant_of-self c =
     let refused = c.has_false_test-self-inside in
-    AreRefusals-open c.reopen.new.self c.clear.new.self.items refused.result (ap (λ (part : PartModel). part.sources) c.reopen.ensures.value) c.clear.ensures c.reopen.ensures.sound
-    (subst (λ (p : Litmus × ℕ). IsTrue refused.result ↔ HasFalseTestOn p.0 p.1 None 0) c.combination.ensures refused.ensures.value)
-    (subst (λ (p : Litmus × ℕ). (IsTrue refused.result → ⊥) → (agent : ℕ) → agent < length p.0.agents → IsWalkIn p.0 p.1 agent (walk_in p.0 p.1 agent)) c.combination.ensures refused.ensures.walks)
+    record {
+      refusals = AreRefusals-open c.reopen.new.self c.clear.new.self.items refused.result (ap (λ (part : PartModel). part.sources) c.reopen.ensures.value) c.clear.ensures c.reopen.ensures.sound
+          (subst (λ (p : Litmus × ℕ). IsTrue refused.result ↔ HasFalseTestOn p.0 p.1 None 0) c.combination-combination.ensures refused.ensures.value)
+          (subst (λ (p : Litmus × ℕ). (IsTrue refused.result → ⊥) → (agent : ℕ) → agent < length p.0.agents → IsWalkIn p.0 p.1 agent (walk_in p.0 p.1 agent)) c.combination-combination.ensures refused.ensures.walks);
+      peers = subst (λ (es : List Event). ArePeers es c.peers_of-self-inside.result) (c.events.ensures.value ∙ ap (λ (p : Litmus × ℕ). events_in p.0 p.1) c.combination-combination.ensures) c.peers_of-self-inside.ensures;
+    }

@@ -39,8 +39,8 @@ adds_pair-requires c =
     let byte : SourcedByte = record { read = (get_or c.byte_reads.result.now c.len.result no_read).read; byte = (get_or c.byte_reads.result.now c.len.result no_read).byte; source = c.args.source } in
     subst (λ (es : List Event). IsKnown (length es) byte) (sym c.events.ensures.value) (next_known _ _ byte new)
 
-pub is_broken_with-broken-requires : goal.is_broken_with-broken-requires
-is_broken_with-broken-requires c =
+pub is_broken_with-broken-requires-clause-known : goal.is_broken_with-broken-requires-clause-known
+is_broken_with-broken-requires-clause-known c =
     let new = next_byte c.self.inside c.byte_reads.result.now c.len.result c.args.source c.args.self.now c.self.view_is c.requires c.byte_reads.ensures c.len.ensures.value in
     let no_read : ByteRead = record { read = 0; byte = 0 } in
     let byte : SourcedByte = record { read = (get_or c.byte_reads.result.now c.len.result no_read).read; byte = (get_or c.byte_reads.result.now c.len.result no_read).byte; source = c.args.source } in

@@ -1,0 +1,46 @@
+//! The sequentially consistent writes with the range of an event.
+
+ghost use Rattle.std.specs.Prelude.{◌≡◌, ◌⊎◌, ◌↔◌, ℕ, ◌<◌, ◌≤◌, IsTrue, length};
+ghost use Rattle.lit_paths.specs.declared.limits.TheConstants.{EVENT_LIMIT};
+ghost use Rattle.lit_rel.specs.Internal.Peers.{ArePeers, IsPeer, IsSeqCstWrite};
+ghost use Rattle.lit_rel.specs.Rows.{Holds, rows_len};
+
+use crate::rows::Rows;
+use lit_paths::{Event, event_at};
+
+/// Whether an event is a sequentially consistent write.
+fn is_seq_cst_write(events: &[Event], event: usize) -> bool
+    requires { event < length events.now }
+    ensures { IsTrue result ↔ IsSeqCstWrite events.now event }
+{
+    let write = event_at(events, event);
+    write.kind.does_write() && write.is_seq_cst()
+}
+
+/// Lets each event lead to a write where it has the write's range.
+fn put_peer(peers: &mut Rows, events: &[Event], write: usize)
+    requires len { rows_len peers.old ≡ length events.now }
+    requires write { IsSeqCstWrite events.now write }
+    ensures len { rows_len peers.new ≡ rows_len peers.old }
+    ensures pairs { (e v : ℕ) → Holds peers.new e v ↔ (Holds peers.old e v ⊎ ((v ≡ write) × IsPeer events.now e v)) }
+{
+    for event in 0..events.len() {
+        if event_at(events, write).has_same_range(event_at(events, event)) {
+            peers.put(event, write);
+        }
+    }
+}
+
+/// The sequentially consistent writes that have the range of each event.
+pub(crate) fn peers_of(events: &[Event]) -> Rows
+    requires { length events.now ≤ EVENT_LIMIT }
+    ensures { ArePeers events.now result }
+{
+    let mut peers = Rows::new(events.len());
+    for write in 0..events.len() {
+        if is_seq_cst_write(events, write) {
+            put_peer(&mut peers, events, write);
+        }
+    }
+    peers
+}
