@@ -55,9 +55,6 @@ IsForcedLevel-most part level most is = record { refuted = is.refuted; pairs = �
 
 -- ---- one source more
 module _ (part : PartModel) (some : 0 < length part.sources) (earlier : List ForcedLevel) (was : ForcedLevel) (are : AreForcedLevels (less_of part) earlier was) where
-  n : ℕ
-  n = length part.sources - 1
-
   pub shorter : length (less_of part).sources ≡ length part.sources - 1
   shorter = length-take-le (length part.sources - 1) part.sources (omega (arith, some))
 

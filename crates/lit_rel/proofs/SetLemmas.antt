@@ -188,29 +188,6 @@ split_less_yet s event others fewer split within =
     let at_most : fewer.bits ≤ others.bits = within_le fewer others within in
     omega arith
 
--- one more event of a set is chosen, or not
-module _ (all is : ℕ → Type 0) (left : EventSet) (event : ℕ) (rest : EventSet) (split : IsSplit left event rest) (there : all event) (old : ℕ → Type 0) where
-  pub chosen_more : (new : ℕ → Type 0) → ((e : ℕ) → old e ↔ (all e × ¬ HasEvent left e × is e)) → is event → ((e : ℕ) → new e ↔ (old e ⊎ (e ≡ event))) → (e : ℕ) → new e ↔ (all e × ¬ HasEvent rest e × is e)
-  chosen_more new so_far chosen put e = (
-    (λ h. elim ((put e).0 h) [
-      | inl was ↦ let kept = (so_far e).0 was in (kept.0, (λ later. kept.1 ((split.rest e).0 later).0), kept.2)
-      | inr same ↦ (subst all (sym same) there, (λ later. ((split.rest e).0 later).1 same), subst is (sym same) chosen)
-    ]),
-    (λ h. elim (cases_eq e event) [
-      | inl same ↦ (put e).1 (inr same)
-      | inr other ↦ (put e).1 (inl ((so_far e).1 (h.0, (λ in_left. h.1 ((split.rest e).1 (in_left, other))), h.2)))
-    ]),
-  )
-
-  pub chosen_skip : ((e : ℕ) → old e ↔ (all e × ¬ HasEvent left e × is e)) → ¬ is event → (e : ℕ) → old e ↔ (all e × ¬ HasEvent rest e × is e)
-  chosen_skip so_far not e = (
-    (λ was. let kept = (so_far e).0 was in (kept.0, (λ later. kept.1 ((split.rest e).0 later).0), kept.2)),
-    (λ h. elim (cases_eq e event) [
-      | inl same ↦ absurd (not (subst is same h.2))
-      | inr other ↦ (so_far e).1 (h.0, (λ in_left. h.1 ((split.rest e).1 (in_left, other))), h.2)
-    ]),
-  )
-
 -- an event is in a set, or not
 pub event_or_not : (s : EventSet) (e : ℕ) → HasEvent s e ⊎ ¬ HasEvent s e
 event_or_not s e = elim (cases_eq (bit_at s.bits e) 1) [ inl in_set ↦ inl in_set | inr not_in ↦ inr not_in ]
