@@ -3,6 +3,7 @@ use Rattle.std.proofs.Common.{◌≡◌, ℕ, Bool, ◌+◌, ◌<◌, ◌≤◌,
 use Rattle.std.specs.List.{flat_map}
 use Rattle.std.proofs.lemmas.List.{drop_more, drop_all, get_or_default}
 use Rattle.std.specs.Fmt.{decimal}
+use Rattle.std.proofs.lemmas.Fmt.{decimal_digit}
 use Rattle.lit_read.specs.Syntax.{Litmus, agent_of}
 use Rattle.lit_paths.specs.declared.event.Event.{Event}
 use Rattle.lit_paths.specs.Event.{no_event}
@@ -13,16 +14,21 @@ use Rattle.jslit.specs.ReportText.{class_text, entry_text, event_name, from_line
 use Rattle.jslit.specs.declared.verdict.Verdict.{Verdict}
 use Rattle.jslit.specs.Internal.FirstEntry.{entry_of_option}
 
+-- a blank, an agent's name, what stands behind it, and a number
+pub name_is : (agent behind number : List ℕ) → ((codes " " ++ agent) ++ behind) ++ number ≡ codes " " ++ agent ++ behind ++ number
+name_is agent behind number = simp append_assoc
+
+-- the same of a name of one byte and one digit
+pub short_name_is : (agent behind : List ℕ) (number d : ℕ) → length agent ≡ 1 → number < 10 → 32 ∷ get_or agent 0 d ∷ (behind ++ (48 + number) ∷ []) ≡ codes " " ++ agent ++ behind ++ decimal number
+short_name_is [] behind number d one small = absurd cc
+short_name_is (x ∷ []) behind number d one small = rw (decimal_digit number small) refl
+short_name_is (x ∷ y ∷ ys) behind number d one small = absurd (let e = one in cc)
+
 -- the name of an agent's access
 pub access_name : (t : Litmus) (e : Event) (agent : ℕ) (name bytes : List ℕ) → e.owner ≡ Some agent → name ≡ (agent_of t agent).name → bytes ≡ name
-    → ((codes " " ++ bytes) ++ codes ".") ++ decimal e.place ≡ codes " " ++ event_name t e
+    → codes " " ++ bytes ++ codes "." ++ decimal e.place ≡ codes " " ++ event_name t e
 access_name t e agent name bytes owner is same =
-    ap (λ (w : List ℕ). ((codes " " ++ w) ++ codes ".") ++ decimal e.place) (same ∙ is)
-    ∙ joined (agent_of t agent).name (decimal e.place)
-    ∙ ap (λ (o : Option ℕ). codes " " ++ owned_name t o e.place) (sym owner)
-  where
-    joined : (n d : List ℕ) → ((codes " " ++ n) ++ codes ".") ++ d ≡ codes " " ++ (n ++ codes "." ++ d)
-    joined n d = simp append_assoc
+    ap (λ (w : List ℕ). codes " " ++ w ++ codes "." ++ decimal e.place) (same ∙ is) ∙ ap (λ (o : Option ℕ). codes " " ++ owned_name t o e.place) (sym owner)
 
 -- the name of an event that makes a byte
 pub init_name : (t : Litmus) (e : Event) → ((agent : ℕ) → e.owner ≡ Some agent → ⊥) → (codes " init[" ++ decimal e.place) ++ codes "]" ≡ codes " " ++ event_name t e
@@ -34,11 +40,11 @@ init_name t e none = by e.owner none
 
 -- a register with its value
 pub register_is : (t : Litmus) (agent register value : ℕ) (name bytes : List ℕ) → name ≡ (agent_of t agent).name → bytes ≡ name
-    → ((((codes " " ++ bytes) ++ codes ".r") ++ decimal register) ++ codes "=") ++ decimal value ≡ register_text t ((agent, register), value)
+    → ((codes " " ++ bytes ++ codes ".r" ++ decimal register) ++ codes "=") ++ decimal value ≡ register_text t ((agent, register), value)
 register_is t agent register value name bytes is same =
-    ap (λ (w : List ℕ). ((((codes " " ++ w) ++ codes ".r") ++ decimal register) ++ codes "=") ++ decimal value) (same ∙ is) ∙ joined (agent_of t agent).name (decimal register) (decimal value)
+    ap (λ (w : List ℕ). ((codes " " ++ w ++ codes ".r" ++ decimal register) ++ codes "=") ++ decimal value) (same ∙ is) ∙ joined (agent_of t agent).name (decimal register) (decimal value)
   where
-    joined : (n r v : List ℕ) → ((((codes " " ++ n) ++ codes ".r") ++ r) ++ codes "=") ++ v ≡ codes " " ++ n ++ codes ".r" ++ r ++ codes "=" ++ v
+    joined : (n r v : List ℕ) → ((codes " " ++ n ++ codes ".r" ++ r) ++ codes "=") ++ v ≡ codes " " ++ n ++ codes ".r" ++ r ++ codes "=" ++ v
     joined n r v = simp append_assoc
 
 -- the names of events, one after the other

@@ -1,6 +1,7 @@
 //! The text of a report, put on a page.
 
 ghost use Rattle.std.specs.Prelude.{◌≡◌, ℕ, ◌+◌, ◌<◌, ◌≤◌, true, ◌++◌, All, IfSome, OnOk, OnErr, IfErr, length, codes};
+ghost use Rattle.std.specs.Fmt.{decimal};
 ghost use Rattle.std.specs.Io.KnownBytes.{Appends};
 ghost use Rattle.std.specs.List.{flat_map};
 ghost use Rattle.lit_paths.specs.Event.{does_read};
@@ -25,6 +26,20 @@ use lit_read::Test;
 use lit_search::{Example, Found};
 use std::io::Write;
 
+/// Puts a blank and the name of an access, by its agent's name and its place. A short one is put at once.
+fn put_access<W: Write>(page: &mut Page, output: &mut Counted<W>, agent: &[u8], place: u8)
+    ensures { HasPut (writing_of W.contents output.old page.old) (writing_of W.contents output.new page.new) (codes " " ++ agent.now ++ codes "." ++ decimal place) }
+{
+    if agent.len() == 1 && place < 10 {
+        page.put(output, &[b' ', agent[0], b'.', b'0' + place]);
+        return;
+    }
+    page.put_byte(output, b' ');
+    page.put(output, agent);
+    page.put_byte(output, b'.');
+    page.put_number(output, place as u64);
+}
+
 /// Puts a blank and the name of an event: of a byte of the block, or of an agent's access.
 fn put_event<W: Write>(page: &mut Page, output: &mut Counted<W>, test: &Test, event: &Event)
     requires { IfSome event.now.owner (λ agent. agent < length test.now.agents) }
@@ -36,10 +51,12 @@ fn put_event<W: Write>(page: &mut Page, output: &mut Counted<W>, test: &Test, ev
         page.put_byte(output, b']');
         return;
     };
-    page.put_byte(output, b' ');
-    page.put(output, test.agent_name(agent as usize).as_bytes());
-    page.put_byte(output, b'.');
-    page.put_number(output, event.place as u64);
+    put_access(
+        page,
+        output,
+        test.agent_name(agent as usize).as_bytes(),
+        event.place,
+    );
 }
 
 /// Puts a blank and the name of each of these events, by their numbers.
@@ -124,6 +141,20 @@ fn put_sources<W: Write>(
     }
 }
 
+/// Puts a blank and the name of a register, by its agent's name and its number. A short one is put at once.
+fn put_register_name<W: Write>(page: &mut Page, output: &mut Counted<W>, agent: &[u8], register: u8)
+    ensures { HasPut (writing_of W.contents output.old page.old) (writing_of W.contents output.new page.new) (codes " " ++ agent.now ++ codes ".r" ++ decimal register) }
+{
+    if agent.len() == 1 && register < 10 {
+        page.put(output, &[b' ', agent[0], b'.', b'r', b'0' + register]);
+        return;
+    }
+    page.put_byte(output, b' ');
+    page.put(output, agent);
+    page.put(output, b".r");
+    page.put_number(output, register as u64);
+}
+
 /// Puts a register of an outcome, named by agent and register, with its value.
 fn put_register<W: Write>(
     page: &mut Page,
@@ -135,10 +166,12 @@ fn put_register<W: Write>(
     requires { name.0 < length test.now.agents }
     ensures { HasPut (writing_of W.contents output.old page.old) (writing_of W.contents output.new page.new) (register_text test.now (name, value)) }
 {
-    page.put_byte(output, b' ');
-    page.put(output, test.agent_name(name.0 as usize).as_bytes());
-    page.put(output, b".r");
-    page.put_number(output, name.1 as u64);
+    put_register_name(
+        page,
+        output,
+        test.agent_name(name.0 as usize).as_bytes(),
+        name.1,
+    );
     page.put_byte(output, b'=');
     page.put_number(output, value as u64);
 }

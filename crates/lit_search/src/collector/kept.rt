@@ -8,17 +8,19 @@ ghost use Rattle.lit_search.specs.Report.{outcome_cmp};
 use crate::cursor::passing::Shown;
 use crate::cursor::wanted::Wanted;
 use crate::found::{Entry, Example};
+use indexmap::IndexMap;
 use lit_paths::Plan;
 use std::alloc::{AllocError, Global};
 use std::boxed::{Box, BoxedSlice};
-use std::collections::BTreeMap;
+use std::cmp::Ordering;
 use std::marker::Model;
 
-/// Outcomes, each with its example. A clause sees it as a list of entries.
+/// Outcomes, each with its example, in the order in which they were kept. A clause sees it as a list of entries that rises by
+/// outcome.
 #[derive(Drop)]
 pub(crate) struct Kept {
     alloc: Global,
-    examples: BTreeMap<BoxedSlice<u32>, Box<Example>>,
+    examples: IndexMap<BoxedSlice<u32>, Box<Example>>,
 }
 
 impl Model for Kept {
@@ -42,7 +44,7 @@ impl Kept {
     {
         Kept {
             alloc,
-            examples: BTreeMap::new(alloc),
+            examples: IndexMap::new(alloc),
         }
     }
 
@@ -75,6 +77,11 @@ impl Kept {
         for (outcome, example) in examples {
             entries.push(Entry { outcome, example })?;
         }
+        entries.sort_unstable_by(
+            |a: &Entry, b: &Entry| -> Ordering
+                ensures { result ≡ outcome_cmp (entry_of a.now) (entry_of b.now) }
+            { a.outcome.cmp(&b.outcome) },
+        );
         Ok(entries)
     }
 }

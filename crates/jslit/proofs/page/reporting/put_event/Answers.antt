@@ -7,6 +7,4 @@ returns-in_default g c =
     HasPut-is _ _ _ _ (HasPut-then _ _ _ _ _ (HasPut-then _ _ _ _ _ c.put.ensures c.put_number.ensures) c.put_byte.ensures) (init_name c.args.test.now c.args.event.now c.in_default.not-Some)
 
 pub returns : goal.returns
-returns g c =
-    HasPut-is _ _ _ _ (HasPut-then _ _ _ _ _ (HasPut-then _ _ _ _ _ (HasPut-then _ _ _ _ _ c.put_byte-2.ensures c.put-2.ensures) c.put_byte-3.ensures) c.put_number-2.ensures)
-    (access_name c.args.test.now c.args.event.now c.in-Some.agent _ _ c.in-Some.is c.agent_name.ensures c.as_bytes.ensures.value)
+returns g c = HasPut-is _ _ _ _ c.put_access.ensures (access_name c.args.test.now c.args.event.now c.in-Some.agent _ _ c.in-Some.is c.agent_name.ensures c.as_bytes.ensures.value)

@@ -4,6 +4,5 @@ use Rattle.jslit.proofs.page.reporting.put_register.Goals as goal
 
 pub returns : goal.returns
 returns g c =
-    HasPut-is _ _ _ _
-    (HasPut-then _ _ _ _ _ (HasPut-then _ _ _ _ _ (HasPut-then _ _ _ _ _ (HasPut-then _ _ _ _ _ (HasPut-then _ _ _ _ _ c.put_byte.ensures c.put.ensures) c.put-2.ensures) c.put_number.ensures) c.put_byte-2.ensures) c.put_number-2.ensures)
+    HasPut-is _ _ _ _ (HasPut-then _ _ _ _ _ (HasPut-then _ _ _ _ _ c.put_register_name.ensures c.put_byte.ensures) c.put_number.ensures)
     (register_is c.args.test.now c.args.name.0 c.args.name.1 c.args.value _ _ c.agent_name.ensures c.as_bytes.ensures.value)
