@@ -21,6 +21,7 @@ use crate::laws::completions::laws;
 use lit_paths::Plan;
 use lit_rel::Part;
 use std::alloc::{AllocError, Global};
+use std::boxed::Box;
 use std::marker::Model;
 
 /// Marks a data race of a part.
@@ -112,21 +113,28 @@ fn is_marked_with<'p>(
 }
 
 /// Has a cursor there, if there is none, on the combination of a choice.
-fn open_first<'p>(cursor: &mut Option<Cursor<'p>>, plan: &'p Plan<'p>, choice: u64)
+fn open_first<'p>(
+    alloc: Global,
+    cursor: &mut Option<Box<Cursor<'p>>>,
+    plan: &'p Plan<'p>,
+    choice: u64,
+) -> Result<(), AllocError>
     requires { choice < length (choices_of plan.now) }
-    ensures { IsTrue (is_some cursor.new) }
+    ensures { OnOk result (IsTrue (is_some cursor.new)) }
 {
     if cursor.is_none() {
-        *cursor = Some(Cursor::open(plan, plan.combination(choice)));
+        *cursor = Some(Box::new(alloc, Cursor::open(plan, plan.combination(choice)))?);
     }
+    Ok(())
 }
 
 /// The report of the choices of a plan taken so far. A clause sees it as a `Collected`.
 #[derive(Drop)]
 pub struct Collector<'p> {
+    alloc: Global,
     plan: &'p Plan<'p>,
     /// What goes through each range; `None` before the first.
-    cursor: Option<Cursor<'p>>,
+    cursor: Option<Box<Cursor<'p>>>,
     kept: Kept,
     /// Whether a choice taken has a data race.
     race: bool,
@@ -162,6 +170,7 @@ impl<'p> Collector<'p> {
         ensures end { result.end ≡ 0 }
     {
         Collector {
+            alloc,
             plan,
             cursor: None,
             kept: Kept::new(alloc),
@@ -177,6 +186,13 @@ impl<'p> Collector<'p> {
         ensures { result ≡ self.now.end }
     {
         self.end
+    }
+
+    /// How many choices its plan has.
+    pub fn total(&self) -> u64
+        ensures { result ≡ length (choices_of self.now.test) }
+    {
+        self.plan.total()
     }
 
     /// Goes to the choice with number `from`, which is at least its end.
@@ -203,7 +219,7 @@ impl<'p> Collector<'p> {
     {
         let plan = self.plan;
         let from = self.end;
-        open_first(&mut self.cursor, plan, from);
+        open_first(self.alloc, &mut self.cursor, plan, from)?;
         let Some(cursor) = &mut self.cursor else {
             unreachable!()
         };
@@ -217,7 +233,7 @@ impl<'p> Collector<'p> {
     }
 
     /// Takes the choices with numbers from `from` up to and without `to` besides those taken so far, which have lesser
-    /// numbers: `from` is at least `end()` and at most `to`, and `to` at most the plan's `total()`. Answers
+    /// numbers: `from` is at least `end()` and at most `to`, and `to` at most `total()`. Answers
     /// `SearchFault::OutOfMemory` where a growth was refused, and no other fault; such a collector can only be dropped.
     pub fn take(&mut self, from: u64, to: u64) -> Result<(), SearchFault>
         requires follows { self.old.end ≤ from }

@@ -89,12 +89,11 @@ fn merged(alloc: Global, found: Found, other: Found) -> Result<Found, Fail> {
 fn take_range(
     rt: &impl Abort,
     collector: &mut Collector<'_>,
-    plan: &Plan<'_>,
     from: u64,
     to: u64,
 ) -> Result<(), Fail> {
     assert!(rt; collector.end() <= from);
-    assert!(rt; from <= to && to <= plan.total());
+    assert!(rt; from <= to && to <= collector.total());
     Ok(collector.take(from, to)?)
 }
 
@@ -276,9 +275,9 @@ fn collector_of_several_ranges(rt: HostRuntime) -> Result<(), Fail> {
     let plan = plan(rt.alloc(), &test)?;
     assert_eq!(rt; plan.total(), 9);
     let mut collector = Collector::new(rt.alloc(), &plan);
-    take_range(&rt, &mut collector, &plan, 0, 2)?;
-    take_range(&rt, &mut collector, &plan, 2, 2)?;
-    take_range(&rt, &mut collector, &plan, 5, 9)?;
+    take_range(&rt, &mut collector, 0, 2)?;
+    take_range(&rt, &mut collector, 2, 2)?;
+    take_range(&rt, &mut collector, 5, 9)?;
     assert_eq!(rt; collector.end(), 9);
     let found = collector.into_found()?;
     assert_only(&rt, &found, &[0, 0], 8);

@@ -113,7 +113,7 @@ fn is_marked_before(
 ) -> Result<bool, Fail> {
     let mut collector = Collector::new(alloc, &*plan);
     for choice in 0..end {
-        take_range(rt, &mut collector, plan, choice, choice + 1)?;
+        take_range(rt, &mut collector, choice, choice + 1)?;
     }
     Ok(collector.into_found()?.race())
 }
