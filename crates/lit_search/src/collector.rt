@@ -138,9 +138,9 @@ pub struct Collector<'p> {
     kept: Kept,
     /// Whether a choice taken has a data race.
     race: bool,
-    /// The first of the choices that were taken in a row, up to the last one.
+    /// Each choice from this one up to `end` was taken.
     row: u64,
-    /// The first of the last choices taken in a row of which none belongs to a valid execution, where `race` is not marked.
+    /// Where `race` is not marked, no choice from this one up to `end` belongs to a valid execution.
     barren: u64,
     end: u64,
 }

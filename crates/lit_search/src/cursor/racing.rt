@@ -34,9 +34,9 @@ impl Wanted for All {
 
 impl Cursor<'_> {
     /// Whether a choice with a number from `from` up to and without `to` belongs to a valid execution with a data race.
-    /// The cursor stands at the beginning of such a range of its combination. No choice from `barren` up to `from` belongs
-    /// to a valid execution, so that one for which an init event stands doesn't either where the other choice is one of
-    /// these. Where there is no data race, `barren` then says so of the choices up to `to`.
+    /// The cursor stands at the beginning of such a range of its combination. No choice from `barren` up to `from`
+    /// belongs to a valid execution, so that one for which an init event stands doesn't either where the other choice is
+    /// one of these. Where there is no data race, `barren` then says so of the choices up to `to`.
     fn has_race(&mut self, plan: &Plan<'_>, barren: &mut u64, from: u64, to: u64) -> bool
         requires test { self.old.test ≡ plan.now }
         requires low { low_at self.old ≤ from }
