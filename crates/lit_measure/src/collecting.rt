@@ -13,11 +13,11 @@ fn collect(alloc: Global, plan: &Plan<'_>, size: u64) -> Result<Found, SearchFau
     requires { 0 < size }
 {
     let total = plan.total();
-    let mut collector = Collector::new(alloc);
+    let mut collector = Collector::new(alloc, &*plan);
     let mut from = 0;
     while from < total {
         let end = from.saturating_add(size).min(total);
-        collector.take(plan, from, end)?;
+        collector.take(from, end)?;
         from = end;
     }
     collector.into_found()

@@ -10,7 +10,7 @@ use Rattle.lit_read.specs.Syntax.{Litmus}
 use Rattle.lit_search.specs.declared.class.Class.{Class}
 use Rattle.lit_search.specs.Class.{GivesClass, HasNoneOf, IsFirstOf, is_of_class}
 use Rattle.lit_search.specs.Collected.{Collected, HasTaken}
-use Rattle.lit_search.specs.Report.{Entry, HasRaceIn, in_either, in_range}
+use Rattle.lit_search.specs.Report.{Entry, HasRaceIn, IsReport, in_either, in_range}
 use Rattle.lit_search.specs.Internal.Examined.{IsExample}
 use Rattle.lit_search.specs.Internal.Merged.{merged}
 use Rattle.lit_search.specs.Internal.Outcomes.{HasOutcome}
@@ -19,7 +19,7 @@ use Rattle.lit_search.specs.Internal.Taking.{KeepsRange, MarksRaces}
 use Rattle.lit_search.proofs.Entries.{cmp, differs}
 use Rattle.lit_search.proofs.MergedEntries.{AreMerged-merged}
 use Rattle.lit_search.proofs.NumberSets.{before_end, either_cases, in_other, in_some, not_below, same_test, within}
-use Rattle.lit_search.proofs.RacingLemmas.{marked_more}
+use Rattle.lit_search.proofs.RacingLemmas.{marked_more, marks_none}
 use Rattle.lit_search.proofs.Reports.{AreEntries-merged, AreEntries-one, AreEntries-passed, AreEntries-same}
 
 -- ---- an outcome is kept, or it is not
@@ -119,19 +119,28 @@ module _ (t : Litmus) where
   keeps_next from to r new e next is =
       keeps_joined from e.choice (e.choice + 1) r r new next.after (omega arith) (keeps_passed from e.choice r next.none_before) (keeps_one e.choice r new e refl next.shown.example is)
 
-  pub taken_more : (from to : ℕ) (taken : ℕ → Bool) (kept : Bool) (old new : Collected) → old.end ≤ from → from ≤ to → new.end ≡ to → KeepsRange t from to old.report.entries new.report.entries
-      → MarksRaces t from to old.report.race kept → IsTrue new.report.race ↔ (IsTrue kept ⊎ HasRaceIn t (in_range from to)) → HasTaken t taken old → HasTaken t (in_either taken (in_range from to)) new
-  taken_more from to taken kept old new follows order end keeps marks is h = record {
-    below = λ n p. by n (either_cases (taken n) (in_range from to n) p);
-    reported = record {
-      listed = keeps taken (λ n p. omega (arith, h.below n p, follows)) h.reported.listed;
-      marked = marked_more t from to taken old.report.race kept new.report.race marks is h.reported.marked;
-    };
-  }
+  pub taken_more : (from to : ℕ) (taken : ℕ → Bool) (kept : Bool) (old new : Collected) → old.test ≡ t → new.test ≡ t → old.end ≤ from → from ≤ to → new.end ≡ to → KeepsRange t from to old.report.entries new.report.entries
+      → MarksRaces t from to old.report.race kept → IsTrue new.report.race ↔ (IsTrue kept ⊎ HasRaceIn t (in_range from to)) → HasTaken taken old → HasTaken (in_either taken (in_range from to)) new
+  taken_more from to taken kept old new old_test new_test follows order end keeps marks is h =
+      let before : IsReport t taken old.report = subst (λ (u : Litmus). IsReport u taken old.report) old_test h.reported in
+      record {
+        below = λ n p. by n (either_cases (taken n) (in_range from to n) p);
+        reported = subst (λ (u : Litmus). IsReport u (in_either taken (in_range from to)) new.report) (sym new_test) (record {
+          listed = keeps taken (λ n p. omega (arith, h.below n p, follows)) before.listed;
+          marked = marked_more t from to taken old.report.race kept new.report.race marks is before.marked;
+        });
+      }
     where
       by : (n : ℕ) → IsTrue (taken n) ⊎ IsTrue (in_range from to n) → n < new.end
       by n (inl p) = omega (arith, h.below n p, follows, order, end)
       by n (inr q) = omega (arith, before_end from to n q, end)
+
+-- no more choices
+pub taken_none : (from to : ℕ) (taken : ℕ → Bool) (c : Collected) → c.end ≡ from → to ≡ from → HasTaken taken c → HasTaken (in_either taken (in_range from to)) c
+taken_none from to taken c end same h =
+    subst (λ (n : ℕ). HasTaken (in_either taken (in_range from n)) c) (sym same)
+    (taken_more c.test from from taken c.report.race c c refl refl (omega (arith, end)) (omega arith) end (keeps_none c.test from c.report.entries) (marks_none c.test from from c.report.race)
+    ((λ p. inl p), (λ some. elim some [ inl p ↦ p | inr race ↦ absurd (omega (arith, not_below from from race.0 race.1, before_end from from race.0 race.1)) ])) h)
 
 -- ---- the first of a class
 module _ (t : Litmus) (class : Class) (from next end : ℕ) (none : HasNoneOf t class (in_range from next)) where

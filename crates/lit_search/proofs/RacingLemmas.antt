@@ -19,7 +19,7 @@ use Rattle.lit_search.specs.Internal.Laws.{Laws}
 use Rattle.lit_search.specs.Internal.Passing.{HasAll, MayPass, first_places}
 use Rattle.lit_search.specs.Internal.Places.{ArePlaces, Stand, behind_at, low_at, part_at, stand_events}
 use Rattle.lit_search.specs.Internal.Shown.{IsNext}
-use Rattle.lit_search.specs.Internal.Taking.{MarksRaces}
+use Rattle.lit_search.specs.Internal.Taking.{AreBarren, MarksRaces}
 use Rattle.lit_search.proofs.CompletionLemmas.{carried, its_events}
 use Rattle.lit_search.proofs.NumberSets.{before_end, not_below, within}
 use Rattle.lit_search.proofs.PassingLemmas.{completed, no_rest, whole_stand}
@@ -98,9 +98,18 @@ apart_race laws s entered placed few t from depth test deep apart none =
     subst (λ (u : Stand). NoneRace t (in_range from (behind_at u))) (sym same)
     (race_on t from (low_at s) (behind_at s) (low_at s) none (omega arith) (λ n above low high g. none_race laws s entered placed few apart n low high (subst (λ (u : Litmus). GivesRace u n) (sym test) g)))
 
--- what is passed over from a number on is so from a greater one on
-pub pass_later : {t : Litmus} {Wanted : List ℕ → Type 0} {from later : ℕ} {s : Stand} {depth : ℕ} → from ≤ later → MayPass t Wanted from s depth → MayPass t Wanted later s depth
-pass_later more may = record { few = may.few; low = may.low; high = may.high; none = λ n above low high. may.none n (omega (arith, more, above)) low high }
+-- what was barren from a number on, and what is passed over
+pub passed_since : (t : Litmus) (from barren : ℕ) (s : Stand) (depth : ℕ) → AreBarren t (in_range barren from) → AreBarren t (in_range barren (low_at s)) → MayPass t (λ _. Unit {0}) from s depth
+    → AreBarren t (in_range barren (behind_at (first_places s depth)))
+passed_since t from barren s depth earlier none may n inside =
+    elim (cases_lt n (low_at s)) [
+      | inl less ↦ none n (within barren (low_at s) n (not_below barren _ n inside) less)
+      | inr more ↦
+          elim (cases_lt n from) [
+            | inl less ↦ earlier n (within barren from n (not_below barren _ n inside) less)
+            | inr later ↦ may.none n later (omega (arith, more, may.low)) (before_end barren _ n inside)
+          ]
+    ]
 
 -- ---- what is answered
 pub none_found : (t : Litmus) (numbers : ℕ → Bool) → NoneRace t numbers → IsTrue false ↔ HasRaceIn t numbers
@@ -129,6 +138,11 @@ marked_before old is = ((λ p. inl p), (λ h. is))
 
 pub marked_now : {X : Type 0} (old new : Bool) → IsFalse old → IsTrue new ↔ X → IsTrue new ↔ (IsTrue old ⊎ X)
 marked_now old new unmarked is = ((λ p. inr (is.0 p)), (λ h. elim h [ inl p ↦ absurd (false≢true (sym unmarked ∙ p)) | inr x ↦ is.1 x ]))
+
+-- what is not marked was not
+pub still_unmarked : (old new : Bool) → (IsTrue old → IsTrue new) → IsFalse new → IsFalse old
+still_unmarked true new stays none = absurd (false≢true (sym none ∙ stays refl))
+still_unmarked false new stays none = refl
 
 pub marks_none : (t : Litmus) (from to : ℕ) (mark : Bool) → MarksRaces t from to mark mark
 marks_none t from to mark = record { stays = λ p. p; comes = λ p. inl p }

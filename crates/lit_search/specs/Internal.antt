@@ -9,6 +9,7 @@ pub mod Taking
 pub mod Held
 pub mod Places
 pub mod Standing
+pub mod Collecting
 pub mod Laws
 pub mod Wanting
 pub mod Passing

@@ -2,14 +2,14 @@
 
 pub(crate) mod kept;
 
-ghost use Rattle.std.specs.Prelude.{◌≡◌, ◌↔◌, ◌⊎◌, ℕ, ◌+◌, ◌≤◌, Bool, IsTrue, length, OnOk};
+ghost use Rattle.std.specs.Prelude.{◌≡◌, ◌↔◌, ◌⊎◌, ℕ, ◌+◌, ◌<◌, ◌≤◌, Bool, IsFalse, IsTrue, is_some, length, OnOk};
 ghost use Rattle.lit_paths.specs.Choice.{choices_of};
 ghost use Rattle.lit_paths.specs.Plan.{choices_before};
 ghost use Rattle.lit_rel.specs.DataRace.{HasDataRace};
 ghost use Rattle.lit_rel.specs.Part.{part_events};
 ghost use Rattle.lit_search.specs.Report.{HasRaceIn, in_range};
 ghost use Rattle.lit_search.specs.Internal.Places.{low_at};
-ghost use Rattle.lit_search.specs.Internal.Taking.{KeepsRange, MarksRaces};
+ghost use Rattle.lit_search.specs.Internal.Taking.{AreBarren, AreKept, KeepsRange, MarksRaces};
 
 use crate::collector::kept::Kept;
 use crate::cursor::Cursor;
@@ -21,6 +21,7 @@ use crate::laws::completions::laws;
 use lit_paths::Plan;
 use lit_rel::Part;
 use std::alloc::{AllocError, Global};
+use std::boxed::Box;
 use std::marker::Model;
 
 /// Marks a data race of a part.
@@ -33,12 +34,13 @@ fn mark_race(race: &mut bool, part: &Part<'_>)
 }
 
 /// Keeps what the choices from `from` up to and without `to` show, all on one combination, and marks a data race of what
-/// is kept.
+/// is kept. What the choices from `since` on show is kept up to `from`, and then up to `to`.
 fn keep_on(
     kept: &mut Kept,
     race: &mut bool,
     plan: &Plan<'_>,
     cursor: &mut Cursor<'_>,
+    since: u64,
     from: u64,
     to: u64,
 ) -> Result<(), AllocError>
@@ -46,13 +48,15 @@ fn keep_on(
     requires stands { low_at cursor.old ≤ from }
     requires order { from ≤ to }
     requires high { to ≤ choices_before plan.now (cursor.old.combination + 1) }
+    requires seen { AreKept plan.now kept.old (in_range since from) }
     ensures keeps { OnOk result (KeepsRange plan.now from to kept.old kept.new) }
     ensures marks { OnOk result (MarksRaces plan.now from to race.old race.new) }
+    ensures seen { OnOk result (AreKept plan.now kept.new (in_range since to)) }
 {
     laws();
     let known = known_after(plan, cursor.part(), kept);
     let mut next = from;
-    while let Some(shown) = cursor.next(plan, kept, known, from, next, to) {
+    while let Some(shown) = cursor.next(plan, kept, known, since, next, to) {
         next = shown.example.choice + 1;
         mark_race(race, cursor.part());
         kept.keep(shown)?;
@@ -60,75 +64,119 @@ fn keep_on(
     Ok(())
 }
 
-/// Keeps what the choices from `from` up to and without `to` show, and marks a data race of what is kept.
-fn keep_range(
+/// Keeps what the choices from `from` up to and without `to` show, and marks a data race of what is kept, by a cursor
+/// that stood anywhere. What the choices from `since` on show is kept up to `from`, and then up to `to`.
+fn keep_range<'p>(
     kept: &mut Kept,
     race: &mut bool,
-    plan: &Plan<'_>,
+    plan: &'p Plan<'p>,
+    cursor: &mut Cursor<'p>,
+    since: u64,
     from: u64,
     to: u64,
 ) -> Result<(), AllocError>
     requires order { from ≤ to }
     requires known { to ≤ length (choices_of plan.now) }
+    requires seen { AreKept plan.now kept.old (in_range since from) }
     ensures keeps { OnOk result (KeepsRange plan.now from to kept.old kept.new) }
     ensures marks { OnOk result (MarksRaces plan.now from to race.old race.new) }
+    ensures seen { OnOk result (AreKept plan.now kept.new (in_range since to)) }
 {
-    if from == to {
-        return Ok(());
-    }
-    let mut cursor = Cursor::open(&*plan, plan.combination(from));
     let mut next = from;
     while next < to {
+        cursor.reopen(plan, plan.combination(next));
         let end = cursor.end().min(to);
-        keep_on(kept, race, plan, &mut cursor, next, end)?;
+        keep_on(kept, race, plan, cursor, since, next, end)?;
         next = end;
-        if next < to {
-            cursor.reopen(&*plan, plan.combination(next));
-        }
     }
     Ok(())
 }
 
-/// Whether it was marked, or a choice with a number from `from` up to and without `to` has a data race.
-fn is_marked_with(race: bool, plan: &Plan<'_>, from: u64, to: u64) -> bool
+/// Whether it was marked, or a choice with a number from `from` up to and without `to` has a data race, by a cursor that
+/// stood anywhere. No choice from `barren` up to `from` belongs to a valid execution, if none was marked, and where it is
+/// not marked now, none from the new `barren` up to `to`.
+fn is_marked_with<'p>(
+    race: bool,
+    plan: &'p Plan<'p>,
+    cursor: &mut Cursor<'p>,
+    barren: &mut u64,
+    from: u64,
+    to: u64,
+) -> bool
     requires order { from ≤ to }
     requires known { to ≤ length (choices_of plan.now) }
-    ensures { IsTrue result ↔ (IsTrue race ⊎ HasRaceIn plan.now (in_range from to)) }
+    requires barren { IsFalse race → AreBarren plan.now (in_range barren.old from) }
+    ensures marked { IsTrue result ↔ (IsTrue race ⊎ HasRaceIn plan.now (in_range from to)) }
+    ensures barren { IsFalse result → AreBarren plan.now (in_range barren.new to) }
 {
-    race || has_race_in(plan, from, to)
+    race || has_race_in(plan, cursor, barren, from, to)
 }
 
-/// The report of the choices taken so far. A clause sees it as a `Collected`.
+/// Has a cursor there, if there is none, on the combination of a choice.
+fn open_first<'p>(
+    alloc: Global,
+    cursor: &mut Option<Box<Cursor<'p>>>,
+    plan: &'p Plan<'p>,
+    choice: u64,
+) -> Result<(), AllocError>
+    requires { choice < length (choices_of plan.now) }
+    ensures { OnOk result (IsTrue (is_some cursor.new)) }
+{
+    if cursor.is_none() {
+        *cursor = Some(Box::new(alloc, Cursor::open(plan, plan.combination(choice)))?);
+    }
+    Ok(())
+}
+
+/// The report of the choices of a plan taken so far. A clause sees it as a `Collected`.
 #[derive(Drop)]
-pub struct Collector {
+pub struct Collector<'p> {
+    alloc: Global,
+    plan: &'p Plan<'p>,
+    /// What goes through each range; `None` before the first.
+    cursor: Option<Box<Cursor<'p>>>,
     kept: Kept,
     /// Whether a choice taken has a data race.
     race: bool,
+    /// Each choice from this one up to `end` was taken.
+    row: u64,
+    /// Where `race` is not marked, no choice from this one up to `end` belongs to a valid execution.
+    barren: u64,
     end: u64,
 }
 
-impl Model for Collector {
-    ghost use Rattle.lit_search.specs.Collected.{Collected};
+impl<'p> Model for Collector<'p> {
+    ghost use Rattle.lit_search.specs.Collected.{Collected, coded_collected};
+    ghost use Rattle.lit_search.specs.Internal.Collecting.{IsCollecting};
 
     ghost Value = { Collected };
 
-    ghost view = { λ c. record { end = c.end; report = record { entries = c.kept; race = c.race } } };
+    ghost coded = { coded_collected };
+
+    ghost view = { λ c. record { test = c.plan.now; end = c.end; report = record { entries = c.kept; race = c.race } } };
+
+    ghost invariant = { IsCollecting };
 }
 
-impl Collector {
+impl<'p> Collector<'p> {
     ghost use Rattle.std.specs.Prelude.{IfOk};
-    ghost use Rattle.lit_read.specs.Syntax.{Litmus};
     ghost use Rattle.lit_search.specs.Collected.{HasTaken};
     ghost use Rattle.lit_search.specs.Report.{in_either, in_none};
 
     /// A collector that has taken nothing.
-    pub fn new(alloc: Global) -> Self
-        ensures taken { (t : Litmus) → HasTaken t in_none result }
+    pub fn new(alloc: Global, plan: &'p Plan<'p>) -> Self
+        ensures test { result.test ≡ plan.now }
+        ensures taken { HasTaken in_none result }
         ensures end { result.end ≡ 0 }
     {
         Collector {
+            alloc,
+            plan,
+            cursor: None,
             kept: Kept::new(alloc),
             race: false,
+            row: 0,
+            barren: 0,
             end: 0,
         }
     }
@@ -140,30 +188,75 @@ impl Collector {
         self.end
     }
 
-    /// Takes the choices of a plan with numbers from `from` up to and without `to` besides those taken so far, which are
-    /// of the same test and have lesser numbers: `from` is at least `end()` and at most `to`, and `to` at most
-    /// `plan.total()`. Answers `SearchFault::OutOfMemory` where a growth was refused, and no other fault; such a
-    /// collector can only be dropped.
-    pub fn take(&mut self, plan: &Plan<'_>, from: u64, to: u64) -> Result<(), SearchFault>
-        requires follows { self.old.end ≤ from }
-        requires order { from ≤ to }
-        requires known { to ≤ length (choices_of plan.now) }
-        ensures taken { OnOk result ((taken : ℕ → Bool) → HasTaken plan.now taken self.old
-            → HasTaken plan.now (in_either taken (in_range from to)) self.new) }
+    /// How many choices its plan has.
+    pub fn total(&self) -> u64
+        ensures { result ≡ length (choices_of self.now.test) }
+    {
+        self.plan.total()
+    }
+
+    /// Goes to the choice with number `from`, which is at least its end.
+    fn go_to(&mut self, from: u64)
+        requires { self.old.end ≤ from }
+        ensures test { self.new.test ≡ self.old.test }
+        ensures taken { (taken : ℕ → Bool) → HasTaken taken self.old → HasTaken taken self.new }
+        ensures end { self.new.end ≡ from }
+    {
+        if self.end < from {
+            (self.row, self.barren) = (from, from);
+            self.end = from;
+        }
+    }
+
+    /// Takes the choices from its end up to and without `to`, which is greater.
+    fn go_on(&mut self, to: u64) -> Result<(), SearchFault>
+        requires more { self.old.end < to }
+        requires known { to ≤ length (choices_of self.old.test) }
+        ensures test { OnOk result (self.new.test ≡ self.old.test) }
+        ensures taken { OnOk result ((taken : ℕ → Bool) → HasTaken taken self.old
+            → HasTaken (in_either taken (in_range self.old.end to)) self.new) }
         ensures end { OnOk result (self.new.end ≡ to) }
     {
-        keep_range(&mut self.kept, &mut self.race, plan, from, to)?;
-        self.race = is_marked_with(self.race, plan, from, to);
+        let plan = self.plan;
+        let from = self.end;
+        open_first(self.alloc, &mut self.cursor, plan, from)?;
+        let Some(cursor) = &mut self.cursor else {
+            unreachable!()
+        };
+        let (row, mut barren) = (self.row, self.barren);
+        (self.row, self.barren) = (from, from);
+        keep_range(&mut self.kept, &mut self.race, plan, cursor, row, from, to)?;
+        self.race = is_marked_with(self.race, plan, cursor, &mut barren, from, to);
+        (self.row, self.barren) = (row, barren);
         self.end = to;
+        Ok(())
+    }
+
+    /// Takes the choices with numbers from `from` up to and without `to` besides those taken so far, which have lesser
+    /// numbers: `from` is at least `end()` and at most `to`, and `to` at most `total()`. Answers
+    /// `SearchFault::OutOfMemory` where a growth was refused, and no other fault; such a collector can only be dropped.
+    pub fn take(&mut self, from: u64, to: u64) -> Result<(), SearchFault>
+        requires follows { self.old.end ≤ from }
+        requires order { from ≤ to }
+        requires known { to ≤ length (choices_of self.old.test) }
+        ensures test { OnOk result (self.new.test ≡ self.old.test) }
+        ensures taken { OnOk result ((taken : ℕ → Bool) → HasTaken taken self.old
+            → HasTaken (in_either taken (in_range from to)) self.new) }
+        ensures end { OnOk result (self.new.end ≡ to) }
+    {
+        self.go_to(from);
+        if from < to {
+            self.go_on(to)?;
+        }
         Ok(())
     }
 
     /// The report of the choices taken. Answers `SearchFault::OutOfMemory` where a growth was refused, and no other
     /// fault.
     pub fn into_found(self) -> Result<Found, SearchFault>
-        ensures { IfOk result (λ found. found ≡ self.report) }
+        ensures { IfOk result (λ found. found ≡ self.entry.report) }
     {
-        let Collector { kept, race, end: _ } = self;
+        let Collector { kept, race, .. } = self;
         Ok(Found::from_rising(kept.into_entries()?, race))
     }
 }

@@ -26,8 +26,8 @@ pub fn search_range(
     requires known { to ≤ length (choices_of plan.now) }
     ensures { IfOk result (IsReport plan.now (in_range from to)) }
 {
-    let mut collector = Collector::new(alloc);
-    collector.take(plan, from, to)?;
+    let mut collector = Collector::new(alloc, &*plan);
+    collector.take(from, to)?;
     collector.into_found()
 }
 

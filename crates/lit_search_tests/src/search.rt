@@ -88,14 +88,13 @@ fn merged(alloc: Global, found: Found, other: Found) -> Result<Found, Fail> {
 /// Has a range of choices collected, which has to follow on those collected before and to lie within those of the plan.
 fn take_range(
     rt: &impl Abort,
-    collector: &mut Collector,
-    plan: &Plan<'_>,
+    collector: &mut Collector<'_>,
     from: u64,
     to: u64,
 ) -> Result<(), Fail> {
     assert!(rt; collector.end() <= from);
-    assert!(rt; from <= to && to <= plan.total());
-    Ok(collector.take(plan, from, to)?)
+    assert!(rt; from <= to && to <= collector.total());
+    Ok(collector.take(from, to)?)
 }
 
 /// A range of a test's choices has its report, by all choices of valid executions.
@@ -275,10 +274,10 @@ fn collector_of_several_ranges(rt: HostRuntime) -> Result<(), Fail> {
     let test = read(rt.alloc(), LOAD_BUFFERING.as_bytes())?;
     let plan = plan(rt.alloc(), &test)?;
     assert_eq!(rt; plan.total(), 9);
-    let mut collector = Collector::new(rt.alloc());
-    take_range(&rt, &mut collector, &plan, 0, 2)?;
-    take_range(&rt, &mut collector, &plan, 2, 2)?;
-    take_range(&rt, &mut collector, &plan, 5, 9)?;
+    let mut collector = Collector::new(rt.alloc(), &plan);
+    take_range(&rt, &mut collector, 0, 2)?;
+    take_range(&rt, &mut collector, 2, 2)?;
+    take_range(&rt, &mut collector, 5, 9)?;
     assert_eq!(rt; collector.end(), 9);
     let found = collector.into_found()?;
     assert_only(&rt, &found, &[0, 0], 8);

@@ -83,21 +83,21 @@ fn search_all<R: Threads + Sync, P: Send + Drop, G: Gate<Pass = P>>(
 /// The places of all workers, and their answers merged.
 fn merged<P: Drop>(
     alloc: Global,
-    _plan: &Plan<'_>,
+    plan: &Plan<'_>,
     _cut: u64,
     _desk: &Desk,
     mut workers: Vec<Searcher<P>>,
 ) -> Result<(Vec<Place>, Found), ShareFault>
     requires some { 0 < length workers.items }
-    requires ended { All (HasSearched _plan.now _cut _desk.now) workers.items }
+    requires ended { All (HasSearched plan.now _cut _desk.now) workers.items }
     ensures own { IfOk result (λ r. All (IsPlaceOf _desk.now) r.0.items) }
     ensures done { IfOk result (λ r. All IsDone r.0.items) }
     ensures count { IfOk result (λ r. length r.0.items ≡ length workers.items) }
     ensures some { IfOk result (λ r. 0 < length r.0.items) }
-    ensures reported { IfOk result (λ r. IsReport _plan.now (in_pieces (length (choices_of _plan.now)) _cut (all_draws r.0.items)) r.1) }
+    ensures reported { IfOk result (λ r. IsReport plan.now (in_pieces (length (choices_of plan.now)) _cut (all_draws r.0.items)) r.1) }
 {
     let mut places = Vec::with_capacity(alloc, workers.len())?;
-    let mut found = Collector::new(alloc).into_found()?;
+    let mut found = Collector::new(alloc, &*plan).into_found()?;
     while let Some(worker) = workers.pop() {
         let Worker::Ended(place, answer) = worker else {
             unreachable!()

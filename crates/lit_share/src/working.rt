@@ -40,11 +40,11 @@ pub fn work<G: Gate>(
     ensures done { OnOk result.1 (IsDone result.0) }
     ensures reported { IfOk result.1 (IsReport plan.now (in_pieces (length (choices_of plan.now)) cut (drawn_since place result.0))) }
 {
-    let mut collector = Collector::new(alloc);
+    let mut collector = Collector::new(alloc, &*plan);
     while let Some(number) = desk.draw(&mut place) {
         gate.at(&mut pass, worker, number);
         let piece = piece(plan.total(), cut, number);
-        if let Err(fault) = collector.take(plan, piece.start, piece.end) {
+        if let Err(fault) = collector.take(piece.start, piece.end) {
             return (place, Err(fault.into()));
         }
     }

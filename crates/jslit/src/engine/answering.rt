@@ -28,17 +28,20 @@ use std::thread::Threads;
 /// How many pieces several workers draw at the most.
 const SHARED_PIECES: u64 = 1_024;
 
-/// How many choices a piece has: those asked for, or more where that would make too many pieces. One worker alone needs
-/// no cutting: a search is quickest in one piece.
+/// How many pieces a worker alone draws at the most: it needs no cutting but to tell how far it is.
+const OWN_PIECES: u64 = 64;
+
+/// How many choices a piece has: those asked for, or more where that would make too many pieces. The quick search of one
+/// worker is not cut: it begins each piece anew.
 fn cut_of(total: u64, options: Options) -> u64
     requires few { total ≤ CHOICE_LIMIT }
     ensures some { 0 < result }
     ensures small { result ≤ CUT_LIMIT }
 {
-    let pieces = if options.workers == 1 {
-        1
-    } else {
-        SHARED_PIECES
+    let pieces = match (options.workers, options.quick) {
+        (1, true) => 1,
+        (1, false) => OWN_PIECES,
+        _ => SHARED_PIECES,
     };
     options.cut.max(total.div_ceil(pieces))
 }

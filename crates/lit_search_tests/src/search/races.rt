@@ -111,9 +111,9 @@ fn is_marked_before(
     plan: &Plan<'_>,
     end: u64,
 ) -> Result<bool, Fail> {
-    let mut collector = Collector::new(alloc);
+    let mut collector = Collector::new(alloc, &*plan);
     for choice in 0..end {
-        take_range(rt, &mut collector, plan, choice, choice + 1)?;
+        take_range(rt, &mut collector, choice, choice + 1)?;
     }
     Ok(collector.into_found()?.race())
 }

@@ -5,7 +5,7 @@ use Rattle.lit_rel.specs.Part.{PartModel, part_events}
 use Rattle.lit_search.specs.Internal.Shown.{shown_entry}
 use Rattle.lit_search.specs.Internal.Outcomes.{HasOutcome}
 use Rattle.lit_search.proofs.Keeping.{keeps_none, keeps_joined, keeps_next, keeps_passed}
-use Rattle.lit_search.proofs.NextLemmas.{known_as, known_at, none_at_first, same_reads}
+use Rattle.lit_search.proofs.NextLemmas.{known_as, known_at, same_reads, seen_on}
 use Rattle.lit_search.proofs.RacingLemmas.{marks_joined, marks_next, marks_none}
 use Rattle.lit_search.proofs.SeenLemmas.{seen_next}
 use Rattle.lit_search.proofs.collector.keep_on.Goals as goal
@@ -15,7 +15,7 @@ loop-next-init c = record {
   after = omega arith;
   before = c.requires.order;
   stands = c.requires.stands;
-  seen = none_at_first c.args.plan.now (λ outcome. ¬ HasOutcome c.args.kept.now outcome) c.args.from c.args.from (omega arith);
+  seen = c.requires.seen;
   keeps = keeps_none c.args.plan.now c.args.from c.args.kept.now;
   marks = marks_none c.args.plan.now c.args.from c.args.from c.args.race.now;
   test = c.requires.test;
@@ -49,7 +49,7 @@ loop-next-preserved c =
       after = omega (arith, c.loop-next.invariant.after, is.after);
       before = omega (arith, is.before);
       stands = omega (arith, c.in-Some.ensures.stands);
-      seen = seen_next c.args.plan.now c.args.from c.loop-next.next c.args.to c.loop-next.kept c.keep.new.self e c.loop-next.invariant.seen is c.in_ok-keep.ensures.ok;
+      seen = seen_next c.args.plan.now c.args.since c.loop-next.next c.args.to c.loop-next.kept c.keep.new.self e c.loop-next.invariant.seen is c.in_ok-keep.ensures.ok;
       keeps = keeps_joined c.args.plan.now c.args.from c.loop-next.next _ c.args.kept.now c.loop-next.kept c.keep.new.self c.loop-next.invariant.after (omega (arith, is.after)) c.loop-next.invariant.keeps
           (keeps_next c.args.plan.now c.loop-next.next c.args.to c.loop-next.kept c.keep.new.self e is c.in_ok-keep.ensures.ok);
       marks = marks_joined c.args.plan.now c.args.from c.loop-next.next _ c.args.race.now c.loop-next.race c.mark_race.new.race c.loop-next.invariant.after (omega (arith, is.after)) c.loop-next.invariant.marks
@@ -67,3 +67,6 @@ pub returns-clause-keeps : goal.returns-clause-keeps
 returns-clause-keeps c =
     keeps_joined c.args.plan.now c.args.from c.loop-next.next c.args.to c.args.kept.now c.loop-next.kept c.loop-next.kept c.loop-next.invariant.after c.loop-next.invariant.before c.loop-next.invariant.keeps
     (keeps_passed c.args.plan.now c.loop-next.next c.args.to c.loop-next.kept c.in_default.ensures.shows)
+
+pub returns-clause-seen : goal.returns-clause-seen
+returns-clause-seen c = seen_on c.args.plan.now (λ outcome. ¬ HasOutcome c.loop-next.kept outcome) c.args.since c.loop-next.next c.args.to c.loop-next.invariant.seen c.in_default.ensures.shows

@@ -1,9 +1,7 @@
 use Rattle.std.proofs.Common.{◌≡◌, ◌-◌, ◌≤◌}
 use Rattle.lit_search.specs.Report.{in_range}
-use Rattle.lit_search.specs.Internal.Outcomes.{HasOutcome}
 use Rattle.lit_search.specs.Internal.Places.{low_at}
-use Rattle.lit_search.specs.Internal.Shown.{NoneShow}
-use Rattle.lit_search.specs.Internal.Taking.{KeepsRange, MarksRaces}
+use Rattle.lit_search.specs.Internal.Taking.{AreKept, KeepsRange, MarksRaces}
 use Rattle.lit_search.proofs.collector.keep_on.Given as goal
 
 abbrev pub invariant-loop-next : goal.invariant-loop-next
@@ -11,7 +9,7 @@ invariant-loop-next l = record {
   after : l.from ≤ l.next;
   before : l.next ≤ l.to;
   stands : low_at l.cursor ≤ l.next;
-  seen : NoneShow l.plan (λ outcome. ¬ HasOutcome l.kept outcome) (in_range l.from l.next);
+  seen : AreKept l.plan l.kept (in_range l.since l.next);
   keeps : KeepsRange l.plan l.from l.next l.fn.kept l.kept;
   marks : MarksRaces l.plan l.from l.next l.fn.race l.race;
   test : l.cursor.test ≡ l.plan;

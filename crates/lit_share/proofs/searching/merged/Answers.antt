@@ -4,6 +4,7 @@ use Rattle.std.proofs.lemmas.Grind.{flat_map-append}
 use Rattle.std.proofs.lemmas.List.{append-nil}
 use Rattle.std.proofs.lemmas.List.Elements.{All-nil, All-push, All-pop}
 use Rattle.lit_desk.specs.Desk.{PlaceLists, IsPlaceOf, IsDone, all_draws, draws_of}
+use Rattle.lit_read.specs.Syntax.{Litmus}
 use Rattle.lit_paths.specs.Choice.{choices_of}
 use Rattle.lit_search.specs.Report.{Report, IsReport, in_none}
 use Rattle.lit_share.specs.Pieces.{in_pieces}
@@ -14,9 +15,9 @@ use Rattle.lit_share.proofs.searching.merged.Goals as goal
 
 pub loop-worker-init : goal.loop-worker-init
 loop-worker-init g c =
-    let t = c.args._plan.now in
+    let t = c.args.plan.now in
     let empty : c.in_ok-places.places.items ≡ [] = c.in_ok-places.ensures.items in
-    let reported : IsReport t in_none c.in_ok-found.found = subst (λ (r : Report). IsReport t in_none r) (sym c.in_ok-found.ensures) (c.new.ensures.taken t).reported in record {
+    let reported : IsReport t in_none c.in_ok-found.found = subst (λ (r : Report). IsReport t in_none r) (sym c.in_ok-found.ensures) (subst (λ (u : Litmus). IsReport u in_none c.new.result.report) c.new.ensures.test c.new.ensures.taken.reported) in record {
       left = c.requires.ended;
       own = subst (λ (ps : List PlaceLists). All (IsPlaceOf c.args._desk.now) ps) (sym empty) (All-nil (IsPlaceOf c.args._desk.now));
       done = subst (λ (ps : List PlaceLists). All IsDone ps) (sym empty) (All-nil IsDone);
@@ -26,12 +27,12 @@ loop-worker-init g c =
 
 pub unreachable-requires : goal.unreachable-requires
 unreachable-requires g c =
-    let popped = All-pop (HasSearched c.args._plan.now c.args._cut c.args._desk.now) c.loop-worker.workers.items c.pop.new.self.items c.pop.result c.pop.ensures.items c.loop-worker.invariant.left in
-    searched_ended c.args._plan.now c.args._cut c.args._desk.now c.in-Some.worker (rw c.in-Some.is at popped.1) c.in_default-worker.not-Ended
+    let popped = All-pop (HasSearched c.args.plan.now c.args._cut c.args._desk.now) c.loop-worker.workers.items c.pop.new.self.items c.pop.result c.pop.ensures.items c.loop-worker.invariant.left in
+    searched_ended c.args.plan.now c.args._cut c.args._desk.now c.in-Some.worker (rw c.in-Some.is at popped.1) c.in_default-worker.not-Ended
 
 pub loop-worker-preserved : goal.loop-worker-preserved
 loop-worker-preserved g c =
-    let t = c.args._plan.now in
+    let t = c.args.plan.now in
     let total = length (choices_of t) in
     let inv = c.loop-worker.invariant in
     let place = c.in-Ended.place in

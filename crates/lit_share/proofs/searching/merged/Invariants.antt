@@ -9,11 +9,11 @@ use Rattle.lit_share.proofs.searching.merged.Given as goal
 
 abbrev pub invariant-loop-worker : goal.invariant-loop-worker
 invariant-loop-worker g l = record {
-  left : All (HasSearched l.fn._plan l.fn._cut l.fn._desk) l.workers.items;
+  left : All (HasSearched l.fn.plan l.fn._cut l.fn._desk) l.workers.items;
   own : All (IsPlaceOf l.fn._desk) l.places.items;
   done : All IsDone l.places.items;
   count : length l.places.items + length l.workers.items ≡ length l.fn.workers.items;
-  reported : IsReport l.fn._plan (in_pieces (length (choices_of l.fn._plan)) l.fn._cut (all_draws l.places.items)) l.found;
+  reported : IsReport l.fn.plan (in_pieces (length (choices_of l.fn.plan)) l.fn._cut (all_draws l.places.items)) l.found;
 }
 
 abbrev pub decreases-loop-worker : goal.decreases-loop-worker

@@ -1,6 +1,7 @@
 use Rattle.std.proofs.Common.{◌≡◌, ◌+◌, ◌++◌, List, ℕ, [], ◌∷◌, Bool, length, refl, sym, ap, subst, ◌∙◌, arith}
 use Rattle.std.proofs.Math.Seq.{drop-length}
 use Rattle.lit_desk.specs.Desk.{draws_of, told_by, seen_by}
+use Rattle.lit_read.specs.Syntax.{Litmus}
 use Rattle.lit_search.specs.Report.{in_either}
 use Rattle.lit_paths.specs.Choice.{choices_of}
 use Rattle.lit_search.specs.Collected.{HasTaken}
@@ -15,11 +16,12 @@ pub loop-number-init : goal.loop-number-init
 loop-number-init g c =
     let t = c.args.plan.now in
     let total = length (choices_of t) in
-    let none : HasTaken t (in_pieces total c.args.cut []) c.new-collector.result = c.new-collector.ensures.taken t in record {
+    let none : HasTaken (in_pieces total c.args.cut []) c.new-collector.result = c.new-collector.ensures.taken in record {
       own = c.requires.place;
       drew = since_none (draws_of c.args.place);
       only = record { told = λ class. refl; seen = λ class. refl };
-      taken = subst (λ (ds : List ℕ). HasTaken t (in_pieces total c.args.cut ds) c.new-collector.result) (sym (drop-length (draws_of c.args.place))) none;
+      test = c.new-collector.ensures.test;
+      taken = subst (λ (ds : List ℕ). HasTaken (in_pieces total c.args.cut ds) c.new-collector.result) (sym (drop-length (draws_of c.args.place))) none;
       follows = omega (arith, c.new-collector.ensures.end);
     }
 
@@ -27,6 +29,9 @@ pub take-requires-clause-follows : goal.take-requires-clause-follows
 take-requires-clause-follows g c =
     let behind = start_behind c.args.cut (above (draws_of c.loop-number.place)) c.in-Some.number (above_least (draws_of c.loop-number.place) c.in-Some.number c.in-Some.ensures.above) in
     omega (arith, behind, c.loop-number.invariant.follows, c.piece-piece.ensures.start)
+
+pub take-requires-clause-known : goal.take-requires-clause-known
+take-requires-clause-known g c = omega (arith, c.piece-piece.ensures.below, c.total.ensures.value, ap (λ (t : Litmus). length (choices_of t)) c.loop-number.invariant.test)
 
 pub loop-number-smaller : goal.loop-number-smaller
 loop-number-smaller g c =
@@ -54,8 +59,9 @@ loop-number-preserved g c =
         told = λ class. ap (told_by class) c.in-Some.ensures.taken ∙ told_ticket class c.loop-number.place n ∙ inv.only.told class;
         seen = λ class. ap (seen_by class) c.in-Some.ensures.taken ∙ seen_ticket class c.loop-number.place n ∙ inv.only.seen class;
       };
+      test = c.in_default-take.ensures.test ∙ inv.test;
       taken =
-          subst (λ (xs : List ℕ). HasTaken t (in_pieces total cut xs) c.take.new.self) (sym after)
-          (subst (λ (numbers : ℕ → Bool). HasTaken t numbers c.take.new.self) (pieces_more total cut drawn n) (subst (λ (r : ℕ → Bool). HasTaken t (in_either (in_pieces total cut drawn) r) c.take.new.self) (same_piece total c.total.result cut n c.piece-piece.result.start c.piece-piece.result.end c.total.ensures.value piece.start piece.end) took));
+          subst (λ (xs : List ℕ). HasTaken (in_pieces total cut xs) c.take.new.self) (sym after)
+          (subst (λ (numbers : ℕ → Bool). HasTaken numbers c.take.new.self) (pieces_more total cut drawn n) (subst (λ (r : ℕ → Bool). HasTaken (in_either (in_pieces total cut drawn) r) c.take.new.self) (same_piece total c.total.result cut n c.piece-piece.result.start c.piece-piece.result.end c.total.ensures.value piece.start piece.end) took));
       follows = omega (arith, c.in_default-take.ensures.end, piece.end, start_behind cut (n + 1) (above (draws_of c.draw.new.place)) (omega (arith, ap above joins, above_last ds n)));
     }

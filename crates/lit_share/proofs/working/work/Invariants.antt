@@ -1,4 +1,4 @@
-use Rattle.std.proofs.Common.{◌≤◌, ◌*◌, ◌-◌, length}
+use Rattle.std.proofs.Common.{◌≡◌, ◌≤◌, ◌*◌, ◌-◌, length}
 use Rattle.lit_desk.specs.Desk.{IsPlaceOf, draws_of}
 use Rattle.lit_paths.specs.Choice.{choices_of}
 use Rattle.lit_search.specs.Collected.{HasTaken}
@@ -12,7 +12,8 @@ invariant-loop-number g l = record {
   own : IsPlaceOf l.desk l.place;
   drew : DrewOn l.fn.place l.place;
   only : OnlyDrew l.fn.place l.place;
-  taken : HasTaken l.plan (in_pieces (length (choices_of l.plan)) l.cut (drawn_since l.fn.place l.place)) l.collector;
+  test : l.collector.test ≡ l.plan;
+  taken : HasTaken (in_pieces (length (choices_of l.plan)) l.cut (drawn_since l.fn.place l.place)) l.collector;
   follows : l.collector.end ≤ above (draws_of l.place) * l.cut;
 }
 

@@ -1,12 +1,13 @@
-use Rattle.std.proofs.Common.{◌≤◌, refl, subst, sym}
-use Rattle.lit_search.specs.Collected.{Collected, HasTaken}
-use Rattle.lit_search.proofs.Keeping.{taken_more}
+use Rattle.std.proofs.Common.{ℕ, subst, arith}
+use Rattle.lit_search.specs.Collected.{HasTaken}
+use Rattle.lit_search.specs.Report.{in_either, in_range}
+use Rattle.lit_search.proofs.Keeping.{taken_none}
 use Rattle.lit_search.proofs.collector.Collector.take.Goals as goal
 
-pub returns-clause-taken : goal.returns-clause-taken
-returns-clause-taken c taken h =
-    let Follows : Collected → Type 0 = λ x. x.end ≤ c.args.from in
-    let x = c.self.inside in
-    taken_more c.args.plan.now c.args.from c.args.to taken c.keep_range.new.race (record { end = x.end; report = record { entries = x.kept; race = x.race } })
-    (record { end = c.args.to; report = record { entries = c.keep_range.new.kept; race = c.is_marked_with-self-inside.result } })
-    (subst Follows (sym c.self.view_is) c.requires.follows) c.requires.order refl c.in_ok-keep_range.ensures.keeps c.in_ok-keep_range.ensures.marks c.is_marked_with-self-inside.ensures (subst (HasTaken c.args.plan.now taken) (sym c.self.view_is) h)
+pub returns-in_ok-go_on-clause-taken : goal.returns-in_ok-go_on-clause-taken
+returns-in_ok-go_on-clause-taken c taken h =
+    subst (λ (n : ℕ). HasTaken (in_either taken (in_range n c.args.to)) c.go_on.new.self) c.go_to.ensures.end (c.in_ok-go_on.ensures.taken taken (c.go_to.ensures.taken taken h))
+
+pub returns-else-from-to-clause-taken : goal.returns-else-from-to-clause-taken
+returns-else-from-to-clause-taken c taken h =
+    taken_none c.args.from c.args.to taken c.go_to.new.self c.go_to.ensures.end (omega (arith, c.requires.order, c.if-from-to.false)) (c.go_to.ensures.taken taken h)

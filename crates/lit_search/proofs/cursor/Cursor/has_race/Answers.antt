@@ -10,11 +10,11 @@ use Rattle.lit_search.specs.Internal.Held.{part_outcome}
 use Rattle.lit_search.specs.Internal.Passing.{HasAll, first_places}
 use Rattle.lit_search.specs.Internal.Places.{Stand, behind_at, low_at, part_at, stand_events}
 use Rattle.lit_search.specs.Internal.Shown.{NoneShow}
-use Rattle.lit_search.proofs.NextLemmas.{long_entered, low_entered, none_at_first, passed_on, same_reads, smaller_enter, smaller_leave}
+use Rattle.lit_search.proofs.NextLemmas.{long_entered, low_entered, none_at_first, none_up_to, same_reads, smaller_enter, smaller_leave}
 use Rattle.lit_search.proofs.NumberSets.{within}
 use Rattle.lit_search.proofs.PassingLemmas.{length-part, pass_invalid, whole_stand}
 use Rattle.lit_search.proofs.PlaceLemmas.{length-sources, ways_end}
-use Rattle.lit_search.proofs.RacingLemmas.{NoneRace, apart_race, complete_race, none_found, one_found, pass_later, passed_race, race_at_first, race_here, race_up_to}
+use Rattle.lit_search.proofs.RacingLemmas.{NoneRace, apart_race, complete_race, none_found, one_found, passed_race, passed_since, race_at_first, race_here, race_up_to}
 use Rattle.lit_search.proofs.cursor.Cursor.has_race.Goals as goal
 
 -- no outcome is left out
@@ -25,9 +25,9 @@ pub loop-self-init : goal.loop-self-init
 loop-self-init c = record {
   test = c.requires.test;
   combination = refl;
-  after = omega arith;
   none = race_at_first c.args.plan.now c.args.from (low_at c.args.self.now) c.requires.low;
-  barren = none_at_first c.args.plan.now All c.args.from (low_at c.args.self.now) c.requires.low;
+  barren = none_up_to c.args.plan.now All c.args.barren.now (low_at c.args.self.now) c.args.from c.requires.low c.requires.barren;
+  earlier = c.requires.barren;
 }
 
 pub passed-requires-clause-test : goal.passed-requires-clause-test
@@ -46,8 +46,8 @@ passed-requires-clause-few c =
 pub passed-requires-clause-seen : goal.passed-requires-clause-seen
 passed-requires-clause-seen c = c.loop-self.invariant.barren
 
-pub returns-then-not-leave : goal.returns-then-not-leave
-returns-then-not-leave c =
+pub returns-then-not-leave-clause-race : goal.returns-then-not-leave-clause-race
+returns-then-not-leave-clause-race c =
     let t = c.args.plan.now in
     let s = c.loop-self.self in
     let may = c.in-Some.ensures.passed in
@@ -55,6 +55,14 @@ returns-then-not-leave c =
     none_found t (in_range c.args.from c.args.to)
     (race_up_to t c.args.from c.args.to _ (omega (arith, c.requires.high, end, ap (λ (u : Litmus). choices_before u (s.combination + 1)) c.loop-self.invariant.test, ap (λ (k : ℕ). choices_before t (k + 1)) c.loop-self.invariant.combination))
     (passed_race t c.args.from s c.in-Some.less may c.loop-self.invariant.none))
+
+pub returns-then-not-leave-clause-barren : goal.returns-then-not-leave-clause-barren
+returns-then-not-leave-clause-barren c none =
+    let t = c.args.plan.now in
+    let s = c.loop-self.self in
+    let end : choices_before s.test (s.combination + 1) ≡ behind_at (first_places s c.in-Some.less) = c.leave.ensures.last c.if-not-leave.true in
+    none_up_to t All c.loop-self.barren c.args.to _ (omega (arith, c.requires.high, end, ap (λ (u : Litmus). choices_before u (s.combination + 1)) c.loop-self.invariant.test, ap (λ (k : ℕ). choices_before t (k + 1)) c.loop-self.invariant.combination))
+    (passed_since t c.args.from c.loop-self.barren s c.in-Some.less c.loop-self.invariant.earlier c.loop-self.invariant.barren c.in-Some.ensures.passed)
 
 pub loop-self-smaller-else-not-leave : goal.loop-self-smaller-else-not-leave
 loop-self-smaller-else-not-leave c =
@@ -78,16 +86,16 @@ loop-self-preserved-else-not-leave c =
     record {
       test = c.leave.ensures.test ∙ c.loop-self.invariant.test;
       combination = c.leave.ensures.combination ∙ c.loop-self.invariant.combination;
-      after = c.loop-self.invariant.after;
       none = subst (λ (n : ℕ). NoneRace t (in_range c.args.from n)) (sym next) (passed_race t c.args.from s c.in-Some.less may c.loop-self.invariant.none);
-      barren = subst (λ (n : ℕ). NoneShow t All (in_range c.loop-self.barren n)) (sym next) (passed_on t All c.loop-self.barren (low_at s) s c.in-Some.less c.loop-self.invariant.barren may.low (pass_later c.loop-self.invariant.after may));
+      barren = subst (λ (n : ℕ). NoneShow t All (in_range c.loop-self.barren n)) (sym next) (passed_since t c.args.from c.loop-self.barren s c.in-Some.less c.loop-self.invariant.earlier c.loop-self.invariant.barren may);
+      earlier = c.loop-self.invariant.earlier;
     }
 
 pub leave-requires-then-not-may_race : goal.leave-requires-then-not-may_race
 leave-requires-then-not-may_race c = omega (arith, c.len-depth.ensures.value, length-part c.loop-self.self c.part-in-loop-self.result.now c.part-in-loop-self.ensures.value)
 
-pub returns-then-not-leave-2 : goal.returns-then-not-leave-2
-returns-then-not-leave-2 c =
+pub returns-then-not-leave-2-clause-race : goal.returns-then-not-leave-2-clause-race
+returns-then-not-leave-2-clause-race c =
     let t = c.args.plan.now in
     let s = c.loop-self.self in
     let part = c.part-in-loop-self.ensures.value in
@@ -99,6 +107,9 @@ returns-then-not-leave-2 c =
     none_found t (in_range c.args.from c.args.to)
     (race_up_to t c.args.from c.args.to _ (omega (arith, c.requires.high, end, ap (λ (u : Litmus). choices_before u (s.combination + 1)) c.loop-self.invariant.test, ap (λ (k : ℕ). choices_before t (k + 1)) c.loop-self.invariant.combination))
     (apart_race c.laws.ensures s c.part-in-loop-self.ensures.entered c.part-in-loop-self.ensures.placed few t c.args.from c.len-depth.result c.loop-self.invariant.test (c.len-depth.ensures.value ∙ long) apart c.loop-self.invariant.none))
+
+pub returns-then-not-leave-2-clause-barren : goal.returns-then-not-leave-2-clause-barren
+returns-then-not-leave-2-clause-barren c none = none_at_first c.args.plan.now All c.args.to c.args.to (omega arith)
 
 pub loop-self-smaller-then-not-may_race : goal.loop-self-smaller-then-not-may_race
 loop-self-smaller-then-not-may_race c =
@@ -129,10 +140,10 @@ loop-self-preserved-then-not-may_race c =
     record {
       test = c.leave-then-not-may_race.ensures.test ∙ c.loop-self.invariant.test;
       combination = c.leave-then-not-may_race.ensures.combination ∙ c.loop-self.invariant.combination;
-      after = omega (arith, c.low-barren.ensures, next, ap behind_at (ap (first_places s) deep ∙ whole_stand s), c.in_default.ensures.passed.behind);
       none = subst (λ (n : ℕ). NoneRace t (in_range c.args.from n)) (sym next)
           (apart_race c.laws.ensures s c.part-in-loop-self.ensures.entered c.part-in-loop-self.ensures.placed few t c.args.from c.len-depth.result c.loop-self.invariant.test deep apart c.loop-self.invariant.none);
-      barren = none_at_first t All c.low-barren.result (low_at new) (omega (arith, c.low-barren.ensures));
+      barren = none_at_first t All c.low-then-not-may_race.result (low_at new) (omega (arith, c.low-then-not-may_race.ensures));
+      earlier = none_at_first t All c.low-then-not-may_race.result c.args.from (omega (arith, c.low-then-not-may_race.ensures, next, ap behind_at (ap (first_places s) deep ∙ whole_stand s), c.in_default.ensures.passed.behind));
     }
 
 pub enter-requires : goal.enter-requires
@@ -181,9 +192,9 @@ loop-self-preserved-then-depth-reads c =
     record {
       test = ap (λ (u : Stand). u.test) c.enter.ensures ∙ c.loop-self.invariant.test;
       combination = ap (λ (u : Stand). u.combination) c.enter.ensures ∙ c.loop-self.invariant.combination;
-      after = c.loop-self.invariant.after;
       none = subst (λ (n : ℕ). NoneRace t (in_range c.args.from n)) (sym low) c.loop-self.invariant.none;
       barren = subst (λ (n : ℕ). NoneShow t All (in_range c.loop-self.barren n)) (sym low) c.loop-self.invariant.barren;
+      earlier = c.loop-self.invariant.earlier;
     }
 
 pub shown-requires-clause-test : goal.shown-requires-clause-test
@@ -205,8 +216,8 @@ shown-requires-clause-all c =
       same_reads first c.args.plan.now first.combination s c.requires.test refl c.loop-self.invariant.test c.loop-self.invariant.combination,
     )
 
-pub returns-in-Some-shown : goal.returns-in-Some-shown
-returns-in-Some-shown c =
+pub returns-in-Some-shown-clause-race : goal.returns-in-Some-shown-clause-race
+returns-in-Some-shown-clause-race c =
     let t = c.args.plan.now in
     let first = c.args.self.now in
     let s = c.loop-self.self in
@@ -232,11 +243,14 @@ returns-in-Some-shown c =
     one_found t (in_range c.args.from c.args.to)
     (low_at s, within c.args.from c.args.to (low_at s) (omega (arith, c.in_default.ensures.passed.behind, one)) (omega (arith, c.loop-self-test.true, c.low.ensures)), subst (λ (u : Litmus). GivesRace u (low_at s)) c.loop-self.invariant.test race)
 
+pub returns-in-Some-shown-clause-barren : goal.returns-in-Some-shown-clause-barren
+returns-in-Some-shown-clause-barren c none = absurd (false≢true (sym none))
+
 pub leave-requires-in_default-shown : goal.leave-requires-in_default-shown
 leave-requires-in_default-shown c = omega (arith, c.len-depth.ensures.value, length-part c.loop-self.self c.part-in-loop-self.result.now c.part-in-loop-self.ensures.value)
 
-pub returns-then-not-leave-3 : goal.returns-then-not-leave-3
-returns-then-not-leave-3 c =
+pub returns-then-not-leave-3-clause-race : goal.returns-then-not-leave-3-clause-race
+returns-then-not-leave-3-clause-race c =
     let t = c.args.plan.now in
     let s = c.loop-self.self in
     let deep = c.len-depth.ensures.value ∙ length-part s c.part-in-loop-self.result.now c.part-in-loop-self.ensures.value in
@@ -245,6 +259,16 @@ returns-then-not-leave-3 c =
     none_found t (in_range c.args.from c.args.to)
     (race_up_to t c.args.from c.args.to _ (omega (arith, c.requires.high, end, ap (λ (u : Litmus). choices_before u (s.combination + 1)) c.loop-self.invariant.test, ap (λ (k : ℕ). choices_before t (k + 1)) c.loop-self.invariant.combination))
     (passed_race t c.args.from s c.len-depth.result may c.loop-self.invariant.none))
+
+pub returns-then-not-leave-3-clause-barren : goal.returns-then-not-leave-3-clause-barren
+returns-then-not-leave-3-clause-barren c none =
+    let t = c.args.plan.now in
+    let s = c.loop-self.self in
+    let deep = c.len-depth.ensures.value ∙ length-part s c.part-in-loop-self.result.now c.part-in-loop-self.ensures.value in
+    let may = pass_invalid s t All c.args.from c.len-depth.result deep c.in_default-shown.ensures.none in
+    let end : choices_before s.test (s.combination + 1) ≡ behind_at (first_places s c.len-depth.result) = c.leave-in_default-shown.ensures.last c.if-not-leave-3.true in
+    none_up_to t All c.loop-self.barren c.args.to _ (omega (arith, c.requires.high, end, ap (λ (u : Litmus). choices_before u (s.combination + 1)) c.loop-self.invariant.test, ap (λ (k : ℕ). choices_before t (k + 1)) c.loop-self.invariant.combination))
+    (passed_since t c.args.from c.loop-self.barren s c.len-depth.result c.loop-self.invariant.earlier c.loop-self.invariant.barren may)
 
 pub loop-self-smaller : goal.loop-self-smaller
 loop-self-smaller c =
@@ -271,12 +295,16 @@ loop-self-preserved c =
     record {
       test = c.leave-in_default-shown.ensures.test ∙ c.loop-self.invariant.test;
       combination = c.leave-in_default-shown.ensures.combination ∙ c.loop-self.invariant.combination;
-      after = c.loop-self.invariant.after;
       none = subst (λ (n : ℕ). NoneRace t (in_range c.args.from n)) (sym next) (passed_race t c.args.from s c.len-depth.result may c.loop-self.invariant.none);
-      barren = subst (λ (n : ℕ). NoneShow t All (in_range c.loop-self.barren n)) (sym next) (passed_on t All c.loop-self.barren (low_at s) s c.len-depth.result c.loop-self.invariant.barren may.low (pass_later c.loop-self.invariant.after may));
+      barren = subst (λ (n : ℕ). NoneShow t All (in_range c.loop-self.barren n)) (sym next) (passed_since t c.args.from c.loop-self.barren s c.len-depth.result c.loop-self.invariant.earlier c.loop-self.invariant.barren may);
+      earlier = c.loop-self.invariant.earlier;
     }
 
-pub returns : goal.returns
-returns c =
+pub returns-clause-race : goal.returns-clause-race
+returns-clause-race c =
     none_found c.args.plan.now (in_range c.args.from c.args.to)
     (race_up_to c.args.plan.now c.args.from c.args.to (low_at c.loop-self.self) (omega (arith, c.loop-self-test.false, c.low.ensures)) c.loop-self.invariant.none)
+
+pub returns-clause-barren : goal.returns-clause-barren
+returns-clause-barren c none =
+    none_up_to c.args.plan.now All c.loop-self.barren c.args.to (low_at c.loop-self.self) (omega (arith, c.loop-self-test.false, c.low.ensures)) c.loop-self.invariant.barren

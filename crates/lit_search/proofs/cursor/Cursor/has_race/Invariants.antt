@@ -2,7 +2,7 @@ use Rattle.std.proofs.Common.{◌≡◌, ◌≤◌, ◌+◌, ◌*◌, ◌-◌, l
 use Rattle.lit_paths.specs.ByteReads.{byte_reads}
 use Rattle.lit_search.specs.Report.{in_range}
 use Rattle.lit_search.specs.Internal.Places.{low_at, stand_events}
-use Rattle.lit_search.specs.Internal.Shown.{NoneShow}
+use Rattle.lit_search.specs.Internal.Taking.{AreBarren}
 use Rattle.lit_search.proofs.RacingLemmas.{NoneRace}
 use Rattle.lit_search.proofs.cursor.Cursor.has_race.Given as goal
 
@@ -10,9 +10,9 @@ abbrev pub invariant-loop-self : goal.invariant-loop-self
 invariant-loop-self l = record {
   test : l.self.test ≡ l.plan;
   combination : l.self.combination ≡ l.fn.self.combination;
-  after : l.from ≤ l.barren;
   none : NoneRace l.plan (in_range l.from (low_at l.self));
-  barren : NoneShow l.plan (λ _. Unit {0}) (in_range l.barren (low_at l.self));
+  barren : AreBarren l.plan (in_range l.barren (low_at l.self));
+  earlier : AreBarren l.plan (in_range l.barren l.from);
 }
 
 abbrev pub decreases-loop-self : goal.decreases-loop-self

@@ -1,7 +1,6 @@
-use Rattle.std.proofs.Common.{◌≡◌, ◌+◌, ◌-◌, ◌<◌, ◌≤◌}
-use Rattle.lit_paths.specs.Plan.{choices_before}
+use Rattle.std.proofs.Common.{◌-◌, ◌≤◌}
 use Rattle.lit_search.specs.Report.{in_range}
-use Rattle.lit_search.specs.Internal.Places.{low_at}
+use Rattle.lit_search.specs.Internal.Taking.{AreBarren}
 use Rattle.lit_search.proofs.RacingLemmas.{NoneRace}
 use Rattle.lit_search.proofs.cursor.racing.has_race_in.Given as goal
 
@@ -9,10 +8,8 @@ abbrev pub invariant-loop-next : goal.invariant-loop-next
 invariant-loop-next l = record {
   after : l.from ≤ l.next;
   before : l.next ≤ l.to;
-  same : l.next < l.to → l.cursor.test ≡ l.plan;
-  low : l.next < l.to → low_at l.cursor ≤ l.next;
-  high : l.next < l.to → l.next < choices_before l.plan (l.cursor.combination + 1);
   none : NoneRace l.plan (in_range l.from l.next);
+  barren : AreBarren l.plan (in_range l.barren l.next);
 }
 
 abbrev pub decreases-loop-next : goal.decreases-loop-next
