@@ -9,6 +9,7 @@ pub mod GrowthLemmas
 pub mod InitReadLemmas
 pub mod LevelLemmas
 pub mod OrderLemmas
+pub mod OtherSourceLemmas
 pub mod PartLemmas
 pub mod PlaceLemmas
 pub mod RaceLemmas

@@ -85,7 +85,7 @@ has_byte_from n (e ∷ es) (suc k) r is l reads some =
     (length (bytes_read_by n e) + found.0, found.1, place-right (bytes_read_by n e) (byte_reads_from (n + 1) es) found.0 ∙ found.2)
 
 -- where the byte read behind the last one given is of another read, that read is given whole
-whole_from_last : (events : List Event) (sources : List ℕ) (k r b : ℕ) → length sources ≡ k + 1 → slice_get (byte_reads events) k ≡ Some (r, b) → ((next b' : ℕ) → slice_get (byte_reads events) (k + 1) ≡ Some (next, b') → next ≢ r) → IsGivenWhole events sources r
+pub whole_from_last : (events : List Event) (sources : List ℕ) (k r b : ℕ) → length sources ≡ k + 1 → slice_get (byte_reads events) k ≡ Some (r, b) → ((next b' : ℕ) → slice_get (byte_reads events) (k + 1) ≡ Some (next, b') → next ≢ r) → IsGivenWhole events sources r
 whole_from_last events sources k r b count here last i b' at_i =
     elim (cases_lt i (length sources)) [
       | inl within ↦ within

@@ -1,17 +1,14 @@
 -- What becomes of the relations where the event that made a byte takes the place of the byte's source (this project's
 -- own).
-use Rattle.std.specs.Prelude.{◌≡◌, ◌≢◌, ◌⊎◌, ◌↔◌, ℕ, ◌<◌, IsTrue, List, length, Some, slice_get, slice_set}
+use Rattle.std.specs.Prelude.{◌≡◌, ◌≢◌, ◌⊎◌, ℕ, ◌<◌, IsTrue, List, length, Some, slice_get, slice_set}
 use Rattle.lit_paths.specs.declared.event.Event.{Event}
 use Rattle.lit_paths.specs.declared.event.Order3.TheVariants.{Unordered}
 use Rattle.lit_paths.specs.ByteReads.{byte_reads}
 use Rattle.lit_paths.specs.Choice.{AreSources}
 use Rattle.lit_paths.specs.Event.{HasByte, does_read, does_write, event_at, init_event, payload_at}
-use Rattle.lit_rel.specs.Coherent.{HasCoherentReads}
-use Rattle.lit_rel.specs.Forbidden.{IsForbidden}
 use Rattle.lit_rel.specs.HappensBefore.{HappensBefore}
+use Rattle.lit_rel.specs.OtherSources.{StaysAllowed}
 use Rattle.lit_rel.specs.ReadsFrom.{value_of}
-use Rattle.lit_rel.specs.SynchronizesWith.{Synchronizes}
-use Rattle.lit_rel.specs.TearFree.{HasTearFreeReads}
 
 -- The k-th byte read is byte b of read r, which is unordered; event i made that byte, and no other event that writes it
 -- happens before r.
@@ -26,17 +23,7 @@ pub record CanReadInit (events : List Event) (sources : List ℕ) (k r b i : ℕ
 abbrev pub with_source : List ℕ → ℕ → ℕ → List ℕ
 with_source sources k w = slice_set sources k w
 
--- Synchronizes-with and happens-before are the same with other sources, no further triple is forbidden, and the reads
--- are coherent and tear free where they were.
-pub record StaysAllowed (events : List Event) (sources others : List ℕ) : Type 0 where
-  pub sourced : AreSources events others
-  pub synchronizes : (w r : ℕ) → Synchronizes events others w r ↔ Synchronizes events sources w r
-  pub happens_before : (e d : ℕ) → HappensBefore events others e d ↔ HappensBefore events sources e d
-  pub forbidden : (w r v : ℕ) → IsForbidden events others w r v → IsForbidden events sources w r v
-  pub coherent : HasCoherentReads events sources → HasCoherentReads events others
-  pub tear_free : HasTearFreeReads events sources → HasTearFreeReads events others
-
--- it is so where no event happens before itself and the event that made a byte takes its source's place
+-- all that is allowed stays so where no event happens before itself and the event that made a byte takes its source's place
 abbrev pub InitTakesPlace : Type 0
 InitTakesPlace = (events : List Event) (sources : List ℕ) (k r b i : ℕ) → AreSources events sources → ((e : ℕ) → ¬ HappensBefore events sources e e) → CanReadInit events sources k r b i
     → StaysAllowed events sources (with_source sources k i)

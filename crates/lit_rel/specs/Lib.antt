@@ -10,6 +10,7 @@ pub mod Coherent
 pub mod TearFree
 pub mod Forbidden
 pub mod Growth
+pub mod OtherSources
 pub mod InitReads
 pub mod Settled
 pub mod DataRace
