@@ -1,4 +1,4 @@
--- The event that made a byte in the place of a source that makes no difference.
+-- Other sources for a read that are as good, such as the event that made a byte.
 use Rattle.std.proofs.Common.{◌≡◌, ◌≢◌, ◌⊎◌, inl, inr, ℕ, zero, suc, ◌+◌, ◌-◌, ◌<◌, ◌≤◌, ◌↔◌, Option, Some, None, List, [], ◌∷◌, ◌++◌, length, map, refl, sym, ap, subst, ◌∙◌, arith, append-nil, length-append}
 use Rattle.std.proofs.Math.ListN.{get_or-append, set}
 use Rattle.std.specs.Prelude.{All, IsFalse, filter, slice_get, slice_index}
@@ -18,7 +18,7 @@ use Rattle.lit_paths.specs.declared.event.Event.{Event}
 use Rattle.lit_paths.specs.ByteReads.{byte_reads}
 use Rattle.lit_paths.specs.Choice.{AreSources, choice_cmp}
 use Rattle.lit_paths.specs.Event.{HasByte, event_at, init_event, init_events, no_event, payload_at}
-use Rattle.lit_paths.specs.Execution.{Execution, execution_choice, execution_events, execution_outcome}
+use Rattle.lit_paths.specs.Execution.{Execution, execution_choice, execution_events}
 use Rattle.lit_paths.specs.Outcome.{names_from, names_in, names_of}
 use Rattle.lit_paths.specs.Path.{Path}
 use Rattle.lit_paths.specs.Plan.{combination_at, events_in}
@@ -27,18 +27,21 @@ use Rattle.lit_rel.specs.Broken.{HasFalseTestOn, IsBroken}
 use Rattle.lit_rel.specs.Coherent.{HasCoherentReads}
 use Rattle.lit_rel.specs.Growth.{IsGivenWhole}
 use Rattle.lit_rel.specs.HappensBefore.{HappensBefore}
-use Rattle.lit_rel.specs.InitReads.{CanReadInit, StaysAllowed, with_source}
+use Rattle.lit_rel.specs.InitReads.{CanReadInit, with_source}
+use Rattle.lit_rel.specs.OtherSources.{StaysAllowed}
 use Rattle.lit_rel.specs.Part.{PartModel, part_events, with_sources}
 use Rattle.lit_rel.specs.ReadsFrom.{value_of}
 use Rattle.lit_rel.specs.Settled.{HasSettledPast}
 use Rattle.lit_rel.specs.TearFree.{HasTearFreeReads}
 use Rattle.lit_order.specs.MemoryOrder.{IsMemoryOrder}
 use Rattle.lit_search.specs.Completion.{Completes, IsEntered}
-use Rattle.lit_search.specs.StandsFor.{IsOn, IsUsed, MakesNoDifference, StandsFor}
+use Rattle.lit_search.specs.StandsFor.{AreAsGood, HasOneWith, HasStandIn, IsHeld, IsOn, IsUsed, MakesNoDifference, StandsWith}
 use Rattle.lit_search.specs.ValidExecution.{IsValidExecution}
 use Rattle.lit_search.specs.Internal.Held.{part_outcome, read_held, value_held}
 use Rattle.lit_search.specs.Internal.Laws.{Laws}
 use Rattle.lit_paths.proofs.EventLists.{length-init_events}
+use Rattle.lit_rel.proofs.InitReadLemmas.{can_take}
+use Rattle.lit_rel.proofs.OtherSourceLemmas.{others_take_place, values_stay_with_others}
 use Rattle.lit_search.proofs.CompletionLemmas.{carried, example, example_completes, example_paths, its_events, its_outcome, not_broken}
 use Rattle.lit_search.proofs.PassingLemmas.{AreNamed}
 use Rattle.lit_search.proofs.RunLemmas.{maps}
@@ -111,22 +114,15 @@ equal_is_not_greater : (o : Ordering) → o ≡ Equal → IsFalse (is_gt o)
 equal_is_not_greater o is = ap is_gt is
 
 -- ---- the exchange
-module _ (laws : Laws) (t : Litmus) (c : ℕ) (x : Execution) (k r b s : ℕ) (litmus : IsLitmus t) (on : IsOn t c x) (valid : IsValidExecution t x)
-    (no_difference : MakesNoDifference t c x.sources k r b s) where
+module _ (laws : Laws) (t : Litmus) (c : ℕ) (x : Execution) (litmus : IsLitmus t) (on : IsOn t c x) (valid : IsValidExecution t x) where
   abbrev part : PartModel
   part = record { test = t; combination = c; sources = x.sources }
-
-  abbrev others : List ℕ
-  others = with_source x.sources k b
 
   abbrev events : List Event
   events = events_in t c
 
   entered : IsEntered part
   entered = record { litmus = litmus; known = on.known }
-
-  other_entered : IsEntered (with_sources part others)
-  other_entered = record { litmus = litmus; known = on.known }
 
   completes : Completes part x
   completes = record { valid = valid; on_paths = on.on_paths; rest = []; begun = sym (append-nil x.sources) }
@@ -137,124 +133,159 @@ module _ (laws : Laws) (t : Litmus) (c : ℕ) (x : Execution) (k r b s : ℕ) (l
   sourced : AreSources events x.sources
   sourced = here (λ es. AreSources es x.sources) valid.candidate.sourced
 
-  no_cycle : (e : ℕ) → ¬ HappensBefore events x.sources e e
-  no_cycle = here (λ es. (e : ℕ) → ¬ HappensBefore es x.sources e e) valid.no_cycle
-
-  is_init : event_at events b ≡ init_event b
-  is_init = init_there t.bytes b (flat_map (λ es. es) (map (λ path. path.events) (combination_at t c))) no_difference.in_block
-
-  inside : b < length events
-  inside =
-      omega (
-        arith,
-        no_difference.in_block,
-        length-init_events t.bytes,
-        length-append (init_events t.bytes) (flat_map (λ es. es) (map (λ path. path.events) (combination_at t c))),
-      )
-
-  can : CanReadInit events x.sources k r b b
-  can = record { is_read = no_difference.is_read; known = inside; makes = is_init; unordered = no_difference.unordered; first = no_difference.first }
-
-  stays : StaysAllowed events x.sources others
-  stays = laws.init events x.sources k r b b sourced no_cycle can
-
-  -- ---- values
-  init_stores : payload_at (event_at events b) b ≡ 0
-  init_stores = ap (λ (e : Event). payload_at e b) is_init ∙ ap (λ (j : ℕ). slice_index (0 ∷ 0 ∷ 0 ∷ 0 ∷ []) j) (let e : b - b ≡ 0 = omega arith in e)
-
-  -- what is asked of a read stays
-  value_same : (q : ℕ) → (q ≡ r → IsUsed t c r) → value_of events others q ≡ value_of events x.sources q
-  value_same q used = laws.values events x.sources k r b s b q no_difference.is_read no_difference.source (by no_difference.stored (cases_eq q r))
-    where
-      by : (payload_at (event_at events s) b ≡ 0) ⊎ ¬ IsUsed t c r → (q ≡ r) ⊎ (q ≡ r → ⊥) → (q ≢ r) ⊎ (payload_at (event_at events b) b ≡ payload_at (event_at events s) b)
-      by (inl stores) decided = inr (init_stores ∙ sym stores)
-      by (inr unused) (inl same) = absurd (unused (used same))
-      by (inr unused) (inr other) = inl other
-
-  held_same : (place : Option ℕ) → (place ≡ Some r → IsUsed t c r) → value_held (with_sources part others) place ≡ value_held part place
-  held_same None used = refl
-  held_same (Some q) used = value_same q (λ same. used (ap Some same))
-
-  outcome_same : part_outcome (with_sources part others) ≡ part_outcome part
-  outcome_same =
-      same_maps (names_of t) (λ place name at.
-      held_same (read_held t c name) (λ is. inl (record { agent = name.0; reg = name.1; place = place; named = at; holds = is })))
-
-  -- ---- the part is not broken
   whole : ¬ IsBroken part
   whole = not_broken part x completes laws laws.grow laws.stay entered
 
   all_given : (ws : List ℕ) → AreSources events ws → (q : ℕ) → IsGivenWhole events ws q
   all_given ws are q i c' at = omega (arith, slice_get_within (byte_reads events) i (q, c') at, are.one_each)
 
-  coherent : HasCoherentReads events others
-  coherent = stays.coherent (here (λ es. HasCoherentReads es x.sources) valid.coherent_reads)
+  -- other sources that are as good for a read
+  module _ (others : List ℕ) (r : ℕ) (good : AreAsGood t c x.sources others r) where
+    other_entered : IsEntered (with_sources part others)
+    other_entered = record { litmus = litmus; known = on.known }
 
-  tear_free : HasTearFreeReads events others
-  tear_free = stays.tear_free (here (λ es. HasTearFreeReads es x.sources) valid.tear_free_reads)
+    stays : StaysAllowed events x.sources others
+    stays = others_take_place events x.sources others r good.can
 
-  other_whole : ¬ IsBroken (with_sources part others)
-  other_whole (inl (inl cycle)) = no_cycle cycle.0 ((stays.happens_before cycle.0 cycle.0).0 cycle.1)
-  other_whole (inl (inr (inl bad))) = bad.incoherent (coherent bad.read bad.byte bad.source bad.is_given)
-  other_whole (inl (inr (inr torn))) = torn.two_sources (tear_free torn.read torn.source torn.other torn.first torn.second)
-  other_whole (inr (inl bad)) = whole (inr (inl bad))
-  other_whole (inr (inr (q, given, bad))) =
-      let value : value_of events others q ≡ value_of events x.sources q = value_same q (λ same. inr (record { agent = bad.agent; known = bad.known; place = bad.place; test = bad.test; at_place = bad.at_place; asks = bad.asks ∙ ap Some same })) in
-      whole (inr (inr (q, all_given x.sources sourced q, subst (λ (v : ℕ). HasFalseTestOn t c (Some q) v) value bad)))
+    -- ---- values
+    value_same : (q : ℕ) → q ≢ r → value_of events others q ≡ value_of events x.sources q
+    value_same q other = values_stay_with_others events x.sources others r q (good.can.sourced.one_each ∙ sym sourced.one_each) good.can.elsewhere other
 
-  -- ---- its execution
-  order_same : (order : List ℕ) → IsMemoryOrder events x.sources order → IsMemoryOrder events others order
-  order_same order is = record {
-    complete = is.complete;
-    keeps = λ a d before. is.keeps a d ((stays.happens_before a d).0 before);
-    avoids = λ w q v banned. is.avoids w q v (stays.forbidden w q v banned);
-  }
+    held_same : (place : Option ℕ) → (place ≡ Some r → IsHeld t c r) → value_held (with_sources part others) place ≡ value_held part place
+    held_same None held = refl
+    held_same (Some q) held =
+        elim (cases_eq q r) [
+          | inl same ↦ ap (value_of events others) same ∙ good.held (held (ap Some same)) ∙ sym (ap (value_of events x.sources) same)
+          | inr other ↦ value_same q other
+        ]
 
-  abbrev y : Execution
-  y = example (with_sources part others) other_entered laws stays.sourced other_whole
+    outcome_same : part_outcome (with_sources part others) ≡ part_outcome part
+    outcome_same =
+        same_maps (names_of t) (λ place name at. held_same (read_held t c name) (λ is. record { agent = name.0; reg = name.1; place = place; named = at; holds = is }))
 
-  y_completes : Completes (with_sources part others) y
-  y_completes = example_completes (with_sources part others) other_entered laws stays.sourced other_whole valid.ordered.0 (order_same valid.ordered.0 (here (λ es. IsMemoryOrder es x.sources valid.ordered.0) valid.ordered.1))
+    -- ---- the part is not broken
+    no_cycle : (e : ℕ) → ¬ HappensBefore events x.sources e e
+    no_cycle = here (λ es. (e : ℕ) → ¬ HappensBefore es x.sources e e) valid.no_cycle
 
-  same_paths : map run_path y.runs ≡ map run_path x.runs
-  same_paths = example_paths (with_sources part others) other_entered laws stays.sourced other_whole ∙ sym on.on_paths
+    coherent : HasCoherentReads events others
+    coherent = stays.coherent (here (λ es. HasCoherentReads es x.sources) valid.coherent_reads)
 
-  same_decisions : map (λ run. run.decisions) y.runs ≡ map (λ run. run.decisions) x.runs
-  same_decisions = sym (maps run_path (λ (path : Path). path.decisions) y.runs) ∙ ap (map (λ (path : Path). path.decisions)) same_paths ∙ maps run_path (λ (path : Path). path.decisions) x.runs
+    tear_free : HasTearFreeReads events others
+    tear_free = stays.tear_free (here (λ es. HasTearFreeReads es x.sources) valid.tear_free_reads)
 
-  choices_by : choice_cmp (execution_choice y) (execution_choice x) ≡ slice_cmp nat_cmp others x.sources
-  choices_by =
-      ap (λ (ds : List (List ℕ)). ordering_then (slice_cmp (slice_cmp nat_cmp) ds (map (λ run. run.decisions) x.runs)) (slice_cmp nat_cmp others x.sources)) same_decisions
-      ∙ ap (λ (o : Ordering). ordering_then o (slice_cmp nat_cmp others x.sources)) (same_lists (map (λ run. run.decisions) x.runs))
+    other_whole : ¬ IsBroken (with_sources part others)
+    other_whole (inl (inl cycle)) = no_cycle cycle.0 ((stays.happens_before cycle.0 cycle.0).0 cycle.1)
+    other_whole (inl (inr (inl bad))) = bad.incoherent (coherent bad.read bad.byte bad.source bad.is_given)
+    other_whole (inl (inr (inr torn))) = torn.two_sources (tear_free torn.read torn.source torn.other torn.first torn.second)
+    other_whole (inr (inl bad)) = whole (inr (inl bad))
+    other_whole (inr (inr (q, given, bad))) =
+        elim (cases_eq q r) [
+          | inl same ↦ good.tested (subst (λ (p : ℕ). HasFalseTestOn t c (Some p) (value_of events others p)) same bad)
+          | inr other ↦ whole (inr (inr (q, all_given x.sources sourced q, subst (λ (v : ℕ). HasFalseTestOn t c (Some q) v) (value_same q other) bad)))
+        ]
 
-  less : s ≢ b → choice_cmp (execution_choice y) (execution_choice x) ≡ Less
-  less other =
-      choices_by
-      ∙ set_less x.sources k s b no_difference.source
-      (init_least t.bytes b s (flat_map (λ es. es) (map (λ path. path.events) (combination_at t c))) no_difference.in_block (sourced.each k r b s no_difference.is_read no_difference.source).in_range other)
+    -- ---- its execution
+    order_same : (order : List ℕ) → IsMemoryOrder events x.sources order → IsMemoryOrder events others order
+    order_same order is = record {
+      complete = is.complete;
+      keeps = λ a d before. is.keeps a d ((stays.happens_before a d).0 before);
+      avoids = λ w q v banned. is.avoids w q v (stays.forbidden w q v banned);
+    }
 
-  equal : b ≡ s → choice_cmp (execution_choice y) (execution_choice x) ≡ Equal
-  equal same = choices_by ∙ ap (λ (ws : List ℕ). slice_cmp nat_cmp ws x.sources) (set_same x.sources k s b no_difference.source same) ∙ same_list x.sources
+    abbrev y : Execution
+    y = example (with_sources part others) other_entered laws stays.sourced other_whole
 
-  outcomes : execution_outcome t y ≡ execution_outcome t x
-  outcomes = its_outcome (with_sources part others) y y_completes laws other_entered (all_named t) ∙ outcome_same ∙ sym (its_outcome part x completes laws entered (all_named t))
+    y_completes : Completes (with_sources part others) y
+    y_completes = example_completes (with_sources part others) other_entered laws stays.sourced other_whole valid.ordered.0 (order_same valid.ordered.0 (here (λ es. IsMemoryOrder es x.sources valid.ordered.0) valid.ordered.1))
 
-  stands_for : StandsFor t k b s x y
-  stands_for = record {
-    valid = y_completes.valid;
-    on_paths = same_paths;
-    sources = refl;
-    outcome = outcomes;
-    orders = λ order is. subst (λ (es : List Event). IsMemoryOrder es others order) (sym (its_events (with_sources part others) y y_completes)) (order_same order (here (λ es. IsMemoryOrder es x.sources order) is));
-    not_greater = elim (cases_eq b s) [
-      | inl same ↦ equal_is_not_greater _ (equal same)
-      | inr other ↦ less_is_not_greater _ (less (λ same. other (sym same)))
-    ];
-    less = less;
-  }
+    same_paths : map run_path y.runs ≡ map run_path x.runs
+    same_paths = example_paths (with_sources part others) other_entered laws stays.sourced other_whole ∙ sym on.on_paths
 
-pub stand_in : (laws : Laws) (t : Litmus) (c : ℕ) (x : Execution) (k r b s : ℕ) → IsLitmus t → IsOn t c x → IsValidExecution t x → MakesNoDifference t c x.sources k r b s → (y : Execution) × StandsFor t k b s x y
-stand_in laws t c x k r b s litmus on valid no_difference = (y laws t c x k r b s litmus on valid no_difference, stands_for laws t c x k r b s litmus on valid no_difference)
+    same_decisions : map (λ run. run.decisions) y.runs ≡ map (λ run. run.decisions) x.runs
+    same_decisions = sym (maps run_path (λ (path : Path). path.decisions) y.runs) ∙ ap (map (λ (path : Path). path.decisions)) same_paths ∙ maps run_path (λ (path : Path). path.decisions) x.runs
+
+    stands_with : StandsWith t others x y
+    stands_with = record {
+      valid = y_completes.valid;
+      on_paths = same_paths;
+      sources = refl;
+      outcome = its_outcome (with_sources part others) y y_completes laws other_entered (all_named t) ∙ outcome_same ∙ sym (its_outcome part x completes laws entered (all_named t));
+      orders = λ order is. subst (λ (es : List Event). IsMemoryOrder es others order) (sym (its_events (with_sources part others) y y_completes)) (order_same order (here (λ es. IsMemoryOrder es x.sources order) is));
+      choice = ap (λ (ds : List (List ℕ)). ordering_then (slice_cmp (slice_cmp nat_cmp) ds (map (λ run. run.decisions) x.runs)) (slice_cmp nat_cmp others x.sources)) same_decisions
+          ∙ ap (λ (o : Ordering). ordering_then o (slice_cmp nat_cmp others x.sources)) (same_lists (map (λ run. run.decisions) x.runs));
+    }
+
+  -- the event that made a byte, where that makes no difference
+  module _ (k r b s : ℕ) (no_difference : MakesNoDifference t c x.sources k r b s) where
+    is_init : event_at events b ≡ init_event b
+    is_init = init_there t.bytes b (flat_map (λ es. es) (map (λ path. path.events) (combination_at t c))) no_difference.in_block
+
+    inside : b < length events
+    inside =
+        omega (
+          arith,
+          no_difference.in_block,
+          length-init_events t.bytes,
+          length-append (init_events t.bytes) (flat_map (λ es. es) (map (λ path. path.events) (combination_at t c))),
+        )
+
+    can : CanReadInit events x.sources k r b b
+    can = record { is_read = no_difference.is_read; known = inside; makes = is_init; unordered = no_difference.unordered; first = no_difference.first }
+
+    init_stores : payload_at (event_at events b) b ≡ 0
+    init_stores = ap (λ (e : Event). payload_at e b) is_init ∙ ap (λ (j : ℕ). slice_index (0 ∷ 0 ∷ 0 ∷ 0 ∷ []) j) (let e : b - b ≡ 0 = omega arith in e)
+
+    -- what is asked of the read stays
+    used_same : IsUsed t c r → value_of events (with_source x.sources k b) r ≡ value_of events x.sources r
+    used_same used = laws.values events x.sources k r b s b r no_difference.is_read no_difference.source (inr (by no_difference.stored))
+      where
+        by : (payload_at (event_at events s) b ≡ 0) ⊎ ¬ IsUsed t c r → payload_at (event_at events b) b ≡ payload_at (event_at events s) b
+        by (inl stores) = init_stores ∙ sym stores
+        by (inr unused) = absurd (unused used)
+
+    as_good : AreAsGood t c x.sources (with_source x.sources k b) r
+    as_good = record {
+      can = can_take events x.sources k r b b sourced (here (λ es. (e : ℕ) → ¬ HappensBefore es x.sources e e) valid.no_cycle) can;
+      held = λ held. used_same (inl held);
+      tested = λ bad.
+          let used : IsUsed t c r = inr (record { agent = bad.agent; known = bad.known; place = bad.place; test = bad.test; at_place = bad.at_place; asks = bad.asks }) in
+          whole (inr (inr (r, all_given x.sources sourced r, subst (λ (v : ℕ). HasFalseTestOn t c (Some r) v) (used_same used) bad)));
+    }
+
+    with_init : StandsWith t (with_source x.sources k b) x (y (with_source x.sources k b) r as_good)
+    with_init = stands_with (with_source x.sources k b) r as_good
+
+    less : s ≢ b → choice_cmp (execution_choice (y (with_source x.sources k b) r as_good)) (execution_choice x) ≡ Less
+    less other =
+        with_init.choice
+        ∙ set_less x.sources k s b no_difference.source
+        (init_least t.bytes b s (flat_map (λ es. es) (map (λ path. path.events) (combination_at t c))) no_difference.in_block (sourced.each k r b s no_difference.is_read no_difference.source).in_range other)
+
+    equal : b ≡ s → choice_cmp (execution_choice (y (with_source x.sources k b) r as_good)) (execution_choice x) ≡ Equal
+    equal same = with_init.choice ∙ ap (λ (ws : List ℕ). slice_cmp nat_cmp ws x.sources) (set_same x.sources k s b no_difference.source same) ∙ same_list x.sources
+
+    init_stands : HasStandIn t k b s x
+    init_stands = (
+      y (with_source x.sources k b) r as_good,
+      record {
+        valid = with_init.valid;
+        on_paths = with_init.on_paths;
+        sources = with_init.sources;
+        outcome = with_init.outcome;
+        orders = with_init.orders;
+        not_greater = elim (cases_eq b s) [
+          | inl same ↦ equal_is_not_greater _ (equal same)
+          | inr other ↦ less_is_not_greater _ (less (λ same. other (sym same)))
+        ];
+        less = less;
+      },
+    )
+
+pub stand_in : (laws : Laws) (t : Litmus) (c : ℕ) (x : Execution) (k r b s : ℕ) → IsLitmus t → IsOn t c x → IsValidExecution t x → MakesNoDifference t c x.sources k r b s → HasStandIn t k b s x
+stand_in laws t c x k r b s litmus on valid no_difference = init_stands laws t c x litmus on valid k r b s no_difference
+
+pub others_stand : (laws : Laws) (t : Litmus) (c : ℕ) (x : Execution) (others : List ℕ) (r : ℕ) → IsLitmus t → IsOn t c x → IsValidExecution t x → AreAsGood t c x.sources others r → HasOneWith t others x
+others_stand laws t c x others r litmus on valid good = (y laws t c x litmus on valid others r good, stands_with laws t c x litmus on valid others r good)
 
 -- ---- settled pasts
 pub past_stays : (laws : Laws) (part : PartModel) (x : Execution) (e d : ℕ) → Completes part x → HasSettledPast (part_events part) part.sources e

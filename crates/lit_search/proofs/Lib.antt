@@ -9,6 +9,7 @@ pub mod WantingLemmas
 pub mod PassingLemmas
 pub mod ExchangeLemmas
 pub mod StoodForLemmas
+pub mod OtherLemmas
 pub mod NextLemmas
 pub mod NumberSets
 pub mod Entries

@@ -31,7 +31,7 @@ abbrev pub NoneRace : Litmus → (ℕ → Bool) → Type 0
 NoneRace t numbers = (n : ℕ) → IsTrue (numbers n) → ¬ GivesRace t n
 
 -- a valid execution with a data race is one with its outcome
-race_gives : (t : Litmus) (n : ℕ) (g : GivesRace t n) → Gives t n (execution_outcome t g.execution)
+pub race_gives : (t : Litmus) (n : ℕ) (g : GivesRace t n) → Gives t n (execution_outcome t g.execution)
 race_gives t n g = record { execution = g.execution; valid = g.valid; chosen = g.chosen; result = refl }
 
 -- where each byte read has a source, a data race that may be is one

@@ -3,12 +3,12 @@ use Rattle.std.proofs.Common.{◌≡◌, ℕ, zero, suc, Bool, true, false, cond
 use Rattle.std.specs.Prelude.{filter, slice_get, slice_index}
 use Rattle.std.specs.List.{enumerate_from}
 use Rattle.std.proofs.lemmas.Option.{slice_get-get_or}
-use Rattle.std.proofs.lemmas.List.{length_push}
+use Rattle.std.proofs.lemmas.List.{length_push, nil_from_length}
 use Rattle.lit_read.specs.Syntax.{Litmus}
 use Rattle.lit_paths.specs.declared.event.Event.{Event}
 use Rattle.lit_paths.specs.declared.limits.TheConstants.{CHOICE_LIMIT}
 use Rattle.lit_paths.specs.ByteReads.{byte_reads, byte_read_at}
-use Rattle.lit_paths.specs.Choice.{is_candidate}
+use Rattle.lit_paths.specs.Choice.{combinations_of, is_candidate}
 use Rattle.lit_paths.specs.Numbers.{NumbersChoices, ways_from}
 use Rattle.lit_paths.specs.Plan.{AreEventsIn, ListsCandidates, choices_before, events_in}
 use Rattle.lit_rel.specs.Part.{IsNextSource, PartModel, part_events, with_sources}
@@ -268,6 +268,17 @@ module _ (now new : Stand) (p : ℕ) (more : now ≡ with_places new (new.places
   pub left_last : length new.places < length (byte_reads (stand_events new)) → p < length (candidates_at (stand_events new) (length new.places))
       → ¬ (p + 1 < length (candidates_at (stand_events new) (length new.places))) → behind_at new ≡ behind_at now
   left_last left known none = behind_last new.test new.combination new.places p left known none ∙ sym (ap behind_at more)
+
+-- with no source they are all of the combination
+pub behind_all : (x : Inside) → IsStanding x → (s : Stand) → stand_of x ≡ s → ((t : Litmus) (c : ℕ) → c < length (combinations_of t) → NumbersChoices t c) → length s.places ≤ 0 → behind_at s ≡ choices_before s.test (s.combination + 1)
+behind_all x is s view numbers none =
+    subst (λ (u : Stand). behind_at u ≡ choices_before u.test (u.combination + 1)) view
+    (here x.places.items (nil_from_length x.places.items (omega (arith, none, ap (λ (u : Stand). length u.places) view))))
+  where
+    here : (ps : List ℕ) → ps ≡ [] → behind_at (record { test = x.part.test; combination = x.part.combination; places = ps }) ≡ choices_before x.part.test (x.part.combination + 1)
+    here ps empty =
+        ap (λ (qs : List ℕ). behind_at (record { test = x.part.test; combination = x.part.combination; places = qs })) empty
+        ∙ omega (arith, (numbers x.part.test x.part.combination is.entered.known).behind)
 
 -- ---- how many choices it has
 module _ (x : Inside) (is : IsStanding x) (s : Stand) (view : stand_of x ≡ s) where

@@ -82,7 +82,7 @@ less_number t lists n m a b at_n at_m less =
     ]
 
 -- ---- sources
-sources_take : (events : List Event) (k : ℕ) (ps : List ℕ) (d : ℕ) → take d (sources_at events k ps) ≡ sources_at events k (take d ps)
+pub sources_take : (events : List Event) (k : ℕ) (ps : List ℕ) (d : ℕ) → take d (sources_at events k ps) ≡ sources_at events k (take d ps)
 sources_take events k ps zero = refl
 sources_take events k [] (suc d) = refl
 sources_take events k (p ∷ ps) (suc d) = ap (λ (ws : List ℕ). slice_index (candidates_at events k) p ∷ ws) (sources_take events (k + 1) ps d)
@@ -258,21 +258,35 @@ read_there [] k d inside = absurd (omega (arith, inside))
 read_there (x ∷ reads) zero d inside = refl
 read_there (x ∷ reads) (suc k) d inside = read_there reads k d (omega (arith, inside))
 
-pub at_last : (laws : Laws) (p : PartModel) (e : Litmus × ℕ) → e ≡ (p.test, p.combination) → (events : List Event) → events ≡ events_in e.0 e.1 → AreEventsIn e.0.bytes events → (reads : List ByteRead)
-    → map pair_of reads ≡ byte_reads (events_in e.0 e.1) → (n : ℕ) → n ≡ length p.sources → 0 < length p.sources → n ≤ length (byte_reads (part_events p)) → AreFirstSources p → (s : ℕ) (d : ByteRead)
-    → slice_get p.sources (length p.sources - 1) ≡ Some s → AtLast p (get_or reads (n - 1) d).read (get_or reads (n - 1) d).byte s
-at_last laws p e same events events_are sound reads reads_are n n_is some few firsts s d last =
-    let all : map pair_of reads ≡ byte_reads (part_events p) = reads_are ∙ ap (λ (x : Litmus × ℕ). byte_reads (events_in x.0 x.1)) same in
+-- the last byte read with a source
+pub record LastRead (p : PartModel) (r b : ℕ) : Type 0 where
+  pub is_read : slice_get (byte_reads (part_events p)) (length p.sources - 1) ≡ Some (r, b)
+  pub known : r < length (part_events p)
+
+pub its_reads : (p : PartModel) (e : Litmus × ℕ) → e ≡ (p.test, p.combination) → (reads : List ByteRead) → map pair_of reads ≡ byte_reads (events_in e.0 e.1) → map pair_of reads ≡ byte_reads (part_events p)
+its_reads p e same reads reads_are = reads_are ∙ ap (λ (x : Litmus × ℕ). byte_reads (events_in x.0 x.1)) same
+
+pub last_read : (laws : Laws) (p : PartModel) (reads : List ByteRead) → map pair_of reads ≡ byte_reads (part_events p) → (n : ℕ) → n ≡ length p.sources → 0 < length p.sources
+    → n ≤ length (byte_reads (part_events p)) → (d : ByteRead) → LastRead p (get_or reads (n - 1) d).read (get_or reads (n - 1) d).byte
+last_read laws p reads all n n_is some few d =
     let inside : n - 1 < length reads = omega (arith, few, some, n_is, ap (λ (ps : List (ℕ × ℕ)). length ps) all, length-map reads pair_of) in
     let item = get_or reads (n - 1) d in
     let here : slice_get (byte_reads (part_events p)) (length p.sources - 1) ≡ Some (item.read, item.byte) =
     ap (λ (ps : List (ℕ × ℕ)). slice_get ps (length p.sources - 1)) (sym all) ∙ ap (λ (k : ℕ). slice_get (map pair_of reads) (k - 1)) (sym n_is) ∙ read_there reads (n - 1) d inside in
+    record { is_read = here; known = (laws.of_events (part_events p)).known (length p.sources - 1) item.read item.byte here }
+
+pub at_last : (laws : Laws) (p : PartModel) (e : Litmus × ℕ) → e ≡ (p.test, p.combination) → (events : List Event) → events ≡ events_in e.0 e.1 → AreEventsIn e.0.bytes events → (reads : List ByteRead)
+    → map pair_of reads ≡ byte_reads (events_in e.0 e.1) → (n : ℕ) → n ≡ length p.sources → 0 < length p.sources → n ≤ length (byte_reads (part_events p)) → AreFirstSources p → (s : ℕ) (d : ByteRead)
+    → slice_get p.sources (length p.sources - 1) ≡ Some s → AtLast p (get_or reads (n - 1) d).read (get_or reads (n - 1) d).byte s
+at_last laws p e same events events_are sound reads reads_are n n_is some few firsts s d last =
+    let here = last_read laws p reads (its_reads p e same reads reads_are) n n_is some few d in
+    let item = get_or reads (n - 1) d in
     record {
-      is_read = here;
+      is_read = here.is_read;
       is_last = last;
       sound = subst (λ (x : Litmus × ℕ). AreEventsIn x.0.bytes (events_in x.0 x.1)) same (subst (λ (es : List Event). AreEventsIn e.0.bytes es) events_are sound);
-      candidate = firsts (length p.sources - 1) item.read item.byte s here last;
-      known = (laws.of_events (part_events p)).known (length p.sources - 1) item.read item.byte here;
+      candidate = firsts (length p.sources - 1) item.read item.byte s here.is_read last;
+      known = here.known;
     }
 
 -- its candidates

@@ -14,4 +14,5 @@ pub mod Laws
 pub mod Wanting
 pub mod Passing
 pub mod StoodFor
+pub mod Others
 pub mod Runners

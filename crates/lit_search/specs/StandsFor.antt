@@ -1,7 +1,8 @@
--- Bytes that make no difference (this project's own): executions that differ in the source of one byte, which one of
--- them reads from the event that made it.
+-- Sources that make no difference (this project's own): executions that differ in the sources of one read, as in that of one
+-- byte, which one of them reads from the event that made it.
 use Rattle.std.specs.Prelude.{◌≡◌, ◌≢◌, ◌⊎◌, ℕ, ◌<◌, IsFalse, IsTrue, Some, None, List, length, map, slice_get, slice_index_or}
-use Rattle.std.specs.Ordering.{is_gt}
+use Rattle.std.specs.Cmp.Lexicographic.{slice_cmp}
+use Rattle.std.specs.Ordering.{is_gt, nat_cmp}
 use Rattle.std.specs.declared.cmp.Ordering.TheVariants.{Less}
 use Rattle.lit_read.specs.Syntax.{Litmus}
 use Rattle.lit_paths.specs.declared.event.Order3.TheVariants.{Unordered}
@@ -13,9 +14,11 @@ use Rattle.lit_paths.specs.Execution.{Execution, execution_choice, execution_eve
 use Rattle.lit_paths.specs.Outcome.{names_of}
 use Rattle.lit_paths.specs.Plan.{combination_at, events_in, first_event, path_in}
 use Rattle.lit_paths.specs.Run.{run_path}
-use Rattle.lit_rel.specs.Broken.{number_on}
+use Rattle.lit_rel.specs.Broken.{HasFalseTestOn, number_on}
 use Rattle.lit_rel.specs.HappensBefore.{HappensBefore}
 use Rattle.lit_rel.specs.InitReads.{with_source}
+use Rattle.lit_rel.specs.OtherSources.{CanTakeOthers}
+use Rattle.lit_rel.specs.ReadsFrom.{value_of}
 use Rattle.lit_order.specs.MemoryOrder.{IsMemoryOrder}
 use Rattle.lit_search.specs.ValidExecution.{IsValidExecution}
 
@@ -57,6 +60,27 @@ pub record MakesNoDifference (t : Litmus) (c : ℕ) (sources : List ℕ) (k r b 
 pub record IsOn (t : Litmus) (c : ℕ) (x : Execution) : Type 0 where
   pub known : c < length (combinations_of t)
   pub on_paths : map run_path x.runs ≡ combination_at t c
+
+-- Other sources for read r are as good: it can take them, and composes the same value where a register holds it at the end,
+-- and one of which each test on it is true.
+pub record AreAsGood (t : Litmus) (c : ℕ) (sources others : List ℕ) (r : ℕ) : Type 0 where
+  pub can : CanTakeOthers (events_in t c) sources others r
+  pub held : IsHeld t c r → value_of (events_in t c) others r ≡ value_of (events_in t c) sources r
+  pub tested : ¬ HasFalseTestOn t c (Some r) (value_of (events_in t c) others r)
+
+-- Execution y is x with other sources. It is valid, on the same paths, with the same outcome, and each memory-order of x is
+-- one of y. Their choices compare as their sources do.
+pub record StandsWith (t : Litmus) (others : List ℕ) (x y : Execution) : Type 0 where
+  pub valid : IsValidExecution t y
+  pub on_paths : map run_path y.runs ≡ map run_path x.runs
+  pub sources : y.sources ≡ others
+  pub outcome : execution_outcome t y ≡ execution_outcome t x
+  pub orders : (order : List ℕ) → IsMemoryOrder (execution_events t x) x.sources order → IsMemoryOrder (execution_events t y) y.sources order
+  pub choice : choice_cmp (execution_choice y) (execution_choice x) ≡ slice_cmp nat_cmp others x.sources
+
+-- there is such an execution
+abbrev pub HasOneWith : Litmus → List ℕ → Execution → Type 0
+HasOneWith t others x = (y : Execution) × StandsWith t others x y
 
 -- Execution y is x with event b in place of source s of the k-th byte read. It is valid, on the same paths, with the same
 -- outcome, and each memory-order of x is one of y. Its choice is not greater, and less where s is another event.

@@ -3,6 +3,7 @@
 pub(crate) mod held;
 pub(crate) mod passing;
 pub(crate) mod racing;
+pub(crate) mod standing_for_others;
 pub(crate) mod standing_in;
 pub(crate) mod used;
 pub(crate) mod wanted;
@@ -15,6 +16,8 @@ ghost use Rattle.lit_paths.specs.Plan.{choices_before};
 ghost use Rattle.lit_order.specs.MemoryOrder.{IsLeastMemoryOrder, IsMemoryOrder};
 ghost use Rattle.lit_order.specs.Refuted.{IsRefuted};
 ghost use Rattle.lit_search.specs.Completion.{IsEntered};
+ghost use Rattle.lit_search.specs.Internal.Others.{AddsNothing};
+ghost use Rattle.lit_search.specs.Internal.Passing.{first_places};
 ghost use Rattle.lit_search.specs.Internal.Places.{ArePlaces, behind_at, candidates_at, low_at, part_at, stand_events, with_places};
 
 use arrayvec::ArrayVec;
@@ -219,23 +222,42 @@ impl<'p> Cursor<'p> {
         }
     }
 
-    /// Leaves the choices that begin with the first `depth` sources, of those given, and goes to the next one behind
-    /// them, with as few sources as tell it from these. Answers `false` where they were the combination's last.
-    pub(crate) fn leave(&mut self, depth: usize) -> bool
-        requires { depth ≤ length self.old.places }
+    /// Goes back to where a read is not begun yet whose sources stand for all others, as long as there is one: what the
+    /// choices that begin with the sources left show, those of the stand showed.
+    fn widen(&mut self, plan: &Plan<'_>, since: u64)
+        requires test { self.old.test ≡ plan.now }
+        ensures few { length self.new.places ≤ length self.old.places }
+        ensures value { self.new ≡ with_places self.old (take (length self.new.places) self.old.places) }
+        ensures wider { behind_at self.old ≤ behind_at self.new }
+        ensures nothing { AddsNothing plan.now since (behind_at self.old) (behind_at self.new) }
+    {
+        while let Some(depth) = self.stands_for_others(plan, since) {
+            self.back(depth);
+        }
+    }
+
+    /// Leaves the choices that begin with the first `depth` sources, of those given, and goes on to one behind them, with as
+    /// few sources as tell it from these: the next one, or one behind choices that show nothing but what those from `since`
+    /// up to these do. Answers `false` where there is none on the combination.
+    pub(crate) fn leave(&mut self, plan: &Plan<'_>, depth: usize, since: u64) -> bool
+        requires test { self.old.test ≡ plan.now }
+        requires depth { depth ≤ length self.old.places }
         ensures test { self.new.test ≡ self.old.test }
         ensures combination { self.new.combination ≡ self.old.combination }
-        ensures next { IsTrue result → low_at self.new ≡ behind_at (with_places self.old (take depth self.old.places)) }
-        ensures last { IsFalse result → choices_before self.old.test (self.old.combination + 1) ≡ behind_at (with_places self.old (take depth self.old.places)) }
+        ensures next { IsTrue result → behind_at (first_places self.old depth) ≤ low_at self.new }
+        ensures nothing { IsTrue result → AddsNothing plan.now since (behind_at (first_places self.old depth)) (low_at self.new) }
+        ensures last { IsFalse result → AddsNothing plan.now since (behind_at (first_places self.old depth)) (choices_before plan.now (self.old.combination + 1)) }
     {
         choices_have_numbers();
         self.back(depth);
+        self.widen(plan, since);
         while self.places.len() > 0 {
             let next = usize::from(self.up()) + 1;
             if self.has_candidate(next) {
                 self.down(next as u8);
                 return true;
             }
+            self.widen(plan, since);
         }
         false
     }

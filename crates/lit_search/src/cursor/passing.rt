@@ -154,7 +154,7 @@ impl Cursor<'_> {
         laws();
         while self.low() < to {
             if let Some(depth) = self.passed(plan, wanted, known, since, from) {
-                if !self.leave(depth) {
+                if !self.leave(plan, depth, since) {
                     return None;
                 }
             } else if self.part().len() < self.part().reads() {
@@ -163,7 +163,7 @@ impl Cursor<'_> {
                 return Some(shown);
             } else {
                 let depth = self.part().len();
-                if !self.leave(depth) {
+                if !self.leave(plan, depth, since) {
                     return None;
                 }
             }

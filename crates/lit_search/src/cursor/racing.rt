@@ -35,8 +35,8 @@ impl Wanted for All {
 impl Cursor<'_> {
     /// Whether a choice with a number from `from` up to and without `to` belongs to a valid execution with a data race.
     /// The cursor stands at the beginning of such a range of its combination. No choice from `barren` up to `from`
-    /// belongs to a valid execution, so that one for which an init event stands doesn't either where the other choice is
-    /// one of these. Where there is no data race, `barren` then says so of the choices up to `to`.
+    /// belongs to a valid execution, so that one for which others stand doesn't either where these are of such choices.
+    /// Where there is no data race, `barren` then says so of the choices up to `to`.
     fn has_race(&mut self, plan: &Plan<'_>, barren: &mut u64, from: u64, to: u64) -> bool
         requires test { self.old.test ≡ plan.now }
         requires low { low_at self.old ≤ from }
@@ -50,11 +50,12 @@ impl Cursor<'_> {
         while self.low() < to {
             let depth = self.part().len();
             if let Some(less) = self.passed(plan, &All, reads, *barren, from) {
-                if !self.leave(less) {
+                if !self.leave(plan, less, *barren) {
                     return false;
                 }
             } else if !self.part().may_race() {
-                if !self.leave(depth) {
+                let behind = self.behind();
+                if !self.leave(plan, depth, behind) {
                     *barren = to;
                     return false;
                 }
@@ -63,7 +64,7 @@ impl Cursor<'_> {
                 self.enter();
             } else if let Some(_shown) = self.shown(plan) {
                 return true;
-            } else if !self.leave(depth) {
+            } else if !self.leave(plan, depth, *barren) {
                 return false;
             }
         }

@@ -9,7 +9,7 @@ use lit_paths::{Combination, Plan, Tested};
 use lit_rel::Part;
 
 /// Whether a register of the outcome holds a read's value at the end, by the read's number.
-fn is_held(plan: &Plan<'_>, part: &Part<'_>, read: u8) -> bool
+pub(crate) fn is_held(plan: &Plan<'_>, part: &Part<'_>, read: u8) -> bool
     requires { part.now.test ≡ plan.now }
     ensures { IsTrue result ↔ IsHeld part.now.test part.now.combination read }
 {

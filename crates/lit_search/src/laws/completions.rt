@@ -11,7 +11,7 @@ ghost use Rattle.lit_rel.specs.Settled.{HasSettledPast};
 ghost use Rattle.lit_order.specs.MemoryOrder.{IsMemoryOrder};
 ghost use Rattle.lit_search.specs.Completion.{Completes, HasCompletion, IsEntered};
 ghost use Rattle.lit_search.specs.Internal.Laws.{Laws};
-ghost use Rattle.lit_search.specs.StandsFor.{HasStandIn, IsOn, MakesNoDifference};
+ghost use Rattle.lit_search.specs.StandsFor.{AreAsGood, HasOneWith, HasStandIn, IsOn, MakesNoDifference};
 ghost use Rattle.lit_search.specs.ValidExecution.{IsValidExecution};
 
 use lit_paths::laws::{
@@ -75,6 +75,15 @@ pub fn whole_parts_are_decided_by_orders()
 pub fn init_stands_for_sources()
     ensures { (t : Litmus) (c : ℕ) (x : Execution) (k r b s : ℕ) → IsLitmus t → IsOn t c x → IsValidExecution t x
         → MakesNoDifference t c x.sources k r b s → HasStandIn t k b s x }
+{
+    laws();
+}
+
+/// In a valid execution, other sources for a read stand for those that it has, where they are as good. They give a valid
+/// execution on the same paths, with the same outcome.
+pub fn others_stand_for_sources()
+    ensures { (t : Litmus) (c : ℕ) (x : Execution) (others : List ℕ) (r : ℕ) → IsLitmus t → IsOn t c x → IsValidExecution t x
+        → AreAsGood t c x.sources others r → HasOneWith t others x }
 {
     laws();
 }

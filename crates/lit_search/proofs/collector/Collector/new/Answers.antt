@@ -1,5 +1,4 @@
 use Rattle.std.proofs.Common.{false, true, ◌≡◌, refl}
-use Rattle.lit_search.proofs.NextLemmas.{none_at_first}
 use Rattle.lit_search.proofs.Reports.{IsReport-none}
 use Rattle.lit_search.proofs.collector.Collector.new.Goals as goal
 

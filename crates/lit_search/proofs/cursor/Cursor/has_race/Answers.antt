@@ -12,6 +12,7 @@ use Rattle.lit_search.specs.Internal.Places.{Stand, behind_at, low_at, part_at, 
 use Rattle.lit_search.specs.Internal.Shown.{NoneShow}
 use Rattle.lit_search.proofs.NextLemmas.{long_entered, low_entered, none_at_first, none_up_to, same_reads, smaller_enter, smaller_leave}
 use Rattle.lit_search.proofs.NumberSets.{within}
+use Rattle.lit_search.proofs.OtherLemmas.{barren_on, barren_past, race_left}
 use Rattle.lit_search.proofs.PassingLemmas.{length-part, pass_invalid, whole_stand}
 use Rattle.lit_search.proofs.PlaceLemmas.{length-sources, ways_end}
 use Rattle.lit_search.proofs.RacingLemmas.{NoneRace, apart_race, complete_race, none_found, one_found, passed_race, passed_since, race_at_first, race_here, race_up_to}
@@ -51,25 +52,25 @@ returns-then-not-leave-clause-race c =
     let t = c.args.plan.now in
     let s = c.loop-self.self in
     let may = c.in-Some.ensures.passed in
-    let end : choices_before s.test (s.combination + 1) ≡ behind_at (first_places s c.in-Some.less) = c.leave.ensures.last c.if-not-leave.true in
+    let barren = passed_since t c.args.from c.loop-self.barren s c.in-Some.less c.loop-self.invariant.earlier c.loop-self.invariant.barren may in
     none_found t (in_range c.args.from c.args.to)
-    (race_up_to t c.args.from c.args.to _ (omega (arith, c.requires.high, end, ap (λ (u : Litmus). choices_before u (s.combination + 1)) c.loop-self.invariant.test, ap (λ (k : ℕ). choices_before t (k + 1)) c.loop-self.invariant.combination))
-    (passed_race t c.args.from s c.in-Some.less may c.loop-self.invariant.none))
+    (race_up_to t c.args.from c.args.to _ (omega (arith, c.requires.high, ap (λ (k : ℕ). choices_before t (k + 1)) c.loop-self.invariant.combination))
+    (race_left t c.args.from c.loop-self.barren (behind_at (first_places s c.in-Some.less)) (choices_before t (s.combination + 1)) (passed_race t c.args.from s c.in-Some.less may c.loop-self.invariant.none) barren (c.leave.ensures.last c.if-not-leave.true)))
 
 pub returns-then-not-leave-clause-barren : goal.returns-then-not-leave-clause-barren
 returns-then-not-leave-clause-barren c none =
     let t = c.args.plan.now in
     let s = c.loop-self.self in
-    let end : choices_before s.test (s.combination + 1) ≡ behind_at (first_places s c.in-Some.less) = c.leave.ensures.last c.if-not-leave.true in
-    none_up_to t All c.loop-self.barren c.args.to _ (omega (arith, c.requires.high, end, ap (λ (u : Litmus). choices_before u (s.combination + 1)) c.loop-self.invariant.test, ap (λ (k : ℕ). choices_before t (k + 1)) c.loop-self.invariant.combination))
-    (passed_since t c.args.from c.loop-self.barren s c.in-Some.less c.loop-self.invariant.earlier c.loop-self.invariant.barren c.in-Some.ensures.passed)
+    let barren = passed_since t c.args.from c.loop-self.barren s c.in-Some.less c.loop-self.invariant.earlier c.loop-self.invariant.barren c.in-Some.ensures.passed in
+    none_up_to t All c.loop-self.barren c.args.to _ (omega (arith, c.requires.high, ap (λ (k : ℕ). choices_before t (k + 1)) c.loop-self.invariant.combination))
+    (barren_on t c.loop-self.barren (behind_at (first_places s c.in-Some.less)) (choices_before t (s.combination + 1)) barren (c.leave.ensures.last c.if-not-leave.true))
 
 pub loop-self-smaller-else-not-leave : goal.loop-self-smaller-else-not-leave
 loop-self-smaller-else-not-leave c =
     let s = c.loop-self.self in
     let new = c.leave.new.self in
     let may = c.in-Some.ensures.passed in
-    let next : low_at new ≡ behind_at (first_places s c.in-Some.less) = c.leave.ensures.next c.if-not-leave.false in
+    let next : behind_at (first_places s c.in-Some.less) ≤ low_at new = c.leave.ensures.next c.if-not-leave.false in
     let reads = same_reads s s.test s.combination new refl refl c.leave.ensures.test c.leave.ensures.combination in
     omega (
       arith,
@@ -82,17 +83,21 @@ loop-self-preserved-else-not-leave c =
     let t = c.args.plan.now in
     let s = c.loop-self.self in
     let may = c.in-Some.ensures.passed in
-    let next : low_at c.leave.new.self ≡ behind_at (first_places s c.in-Some.less) = c.leave.ensures.next c.if-not-leave.false in
+    let barren = passed_since t c.args.from c.loop-self.barren s c.in-Some.less c.loop-self.invariant.earlier c.loop-self.invariant.barren may in
+    let adds = c.leave.ensures.nothing c.if-not-leave.false in
     record {
       test = c.leave.ensures.test ∙ c.loop-self.invariant.test;
       combination = c.leave.ensures.combination ∙ c.loop-self.invariant.combination;
-      none = subst (λ (n : ℕ). NoneRace t (in_range c.args.from n)) (sym next) (passed_race t c.args.from s c.in-Some.less may c.loop-self.invariant.none);
-      barren = subst (λ (n : ℕ). NoneShow t All (in_range c.loop-self.barren n)) (sym next) (passed_since t c.args.from c.loop-self.barren s c.in-Some.less c.loop-self.invariant.earlier c.loop-self.invariant.barren may);
+      none = race_left t c.args.from c.loop-self.barren (behind_at (first_places s c.in-Some.less)) (low_at c.leave.new.self) (passed_race t c.args.from s c.in-Some.less may c.loop-self.invariant.none) barren adds;
+      barren = barren_on t c.loop-self.barren (behind_at (first_places s c.in-Some.less)) (low_at c.leave.new.self) barren adds;
       earlier = c.loop-self.invariant.earlier;
     }
 
 pub leave-requires-then-not-may_race : goal.leave-requires-then-not-may_race
-leave-requires-then-not-may_race c = omega (arith, c.len-depth.ensures.value, length-part c.loop-self.self c.part-in-loop-self.result.now c.part-in-loop-self.ensures.value)
+leave-requires-then-not-may_race c = record {
+  test = c.loop-self.invariant.test;
+  depth = omega (arith, c.len-depth.ensures.value, length-part c.loop-self.self c.part-in-loop-self.result.now c.part-in-loop-self.ensures.value);
+}
 
 pub returns-then-not-leave-2-clause-race : goal.returns-then-not-leave-2-clause-race
 returns-then-not-leave-2-clause-race c =
@@ -103,10 +108,12 @@ returns-then-not-leave-2-clause-race c =
     let few : length s.places ≤ length (byte_reads (stand_events s)) = omega (arith, long, c.len-depth.ensures.few, c.len-depth.ensures.value, ap (λ (p : PartModel). length (byte_reads (part_events p))) part) in
     let apart : ¬ MayRace (stand_events s) (part_at s).sources =
     λ may. false≢true (sym c.if-not-may_race.true ∙ c.may_race.ensures.1 (subst (λ (p : PartModel). MayRace (part_events p) p.sources) (sym c.part-in_default.ensures.value) may)) in
-    let end : choices_before s.test (s.combination + 1) ≡ behind_at (first_places s c.len-depth.result) = c.leave-then-not-may_race.ensures.last c.if-not-leave-2.true in
+    let same : behind_at (first_places s c.len-depth.result) ≡ behind_at s = ap behind_at (ap (first_places s) (c.len-depth.ensures.value ∙ long) ∙ whole_stand s) in
     none_found t (in_range c.args.from c.args.to)
-    (race_up_to t c.args.from c.args.to _ (omega (arith, c.requires.high, end, ap (λ (u : Litmus). choices_before u (s.combination + 1)) c.loop-self.invariant.test, ap (λ (k : ℕ). choices_before t (k + 1)) c.loop-self.invariant.combination))
-    (apart_race c.laws.ensures s c.part-in-loop-self.ensures.entered c.part-in-loop-self.ensures.placed few t c.args.from c.len-depth.result c.loop-self.invariant.test (c.len-depth.ensures.value ∙ long) apart c.loop-self.invariant.none))
+    (race_up_to t c.args.from c.args.to _ (omega (arith, c.requires.high, ap (λ (k : ℕ). choices_before t (k + 1)) c.loop-self.invariant.combination))
+    (race_left t c.args.from c.behind-behind.result (behind_at (first_places s c.len-depth.result)) (choices_before t (s.combination + 1))
+    (apart_race c.laws.ensures s c.part-in-loop-self.ensures.entered c.part-in-loop-self.ensures.placed few t c.args.from c.len-depth.result c.loop-self.invariant.test (c.len-depth.ensures.value ∙ long) apart c.loop-self.invariant.none)
+    (barren_past t c.behind-behind.result (behind_at (first_places s c.len-depth.result)) (omega (arith, same, c.behind-behind.ensures.value))) (c.leave-then-not-may_race.ensures.last c.if-not-leave-2.true)))
 
 pub returns-then-not-leave-2-clause-barren : goal.returns-then-not-leave-2-clause-barren
 returns-then-not-leave-2-clause-barren c none = none_at_first c.args.plan.now All c.args.to c.args.to (omega arith)
@@ -117,7 +124,7 @@ loop-self-smaller-then-not-may_race c =
     let new = c.leave-then-not-may_race.new.self in
     let deep = c.len-depth.ensures.value ∙ length-part s c.part-in-loop-self.result.now c.part-in-loop-self.ensures.value in
     let same = ap behind_at (ap (first_places s) deep ∙ whole_stand s) in
-    let next : low_at new ≡ behind_at (first_places s c.len-depth.result) = c.leave-then-not-may_race.ensures.next c.if-not-leave-2.false in
+    let next : behind_at (first_places s c.len-depth.result) ≤ low_at new = c.leave-then-not-may_race.ensures.next c.if-not-leave-2.false in
     let reads = same_reads s s.test s.combination new refl refl c.leave-then-not-may_race.ensures.test c.leave-then-not-may_race.ensures.combination in
     omega (
       arith,
@@ -136,12 +143,14 @@ loop-self-preserved-then-not-may_race c =
     let few : length s.places ≤ length (byte_reads (stand_events s)) = omega (arith, long, c.len-depth.ensures.few, c.len-depth.ensures.value, ap (λ (p : PartModel). length (byte_reads (part_events p))) part) in
     let apart : ¬ MayRace (stand_events s) (part_at s).sources =
     λ may. false≢true (sym c.if-not-may_race.true ∙ c.may_race.ensures.1 (subst (λ (p : PartModel). MayRace (part_events p) p.sources) (sym c.part-in_default.ensures.value) may)) in
-    let next : low_at new ≡ behind_at (first_places s c.len-depth.result) = c.leave-then-not-may_race.ensures.next c.if-not-leave-2.false in
+    let next : behind_at (first_places s c.len-depth.result) ≤ low_at new = c.leave-then-not-may_race.ensures.next c.if-not-leave-2.false in
+    let same : behind_at (first_places s c.len-depth.result) ≡ behind_at s = ap behind_at (ap (first_places s) deep ∙ whole_stand s) in
     record {
       test = c.leave-then-not-may_race.ensures.test ∙ c.loop-self.invariant.test;
       combination = c.leave-then-not-may_race.ensures.combination ∙ c.loop-self.invariant.combination;
-      none = subst (λ (n : ℕ). NoneRace t (in_range c.args.from n)) (sym next)
-          (apart_race c.laws.ensures s c.part-in-loop-self.ensures.entered c.part-in-loop-self.ensures.placed few t c.args.from c.len-depth.result c.loop-self.invariant.test deep apart c.loop-self.invariant.none);
+      none = race_left t c.args.from c.behind-behind.result (behind_at (first_places s c.len-depth.result)) (low_at new)
+          (apart_race c.laws.ensures s c.part-in-loop-self.ensures.entered c.part-in-loop-self.ensures.placed few t c.args.from c.len-depth.result c.loop-self.invariant.test deep apart c.loop-self.invariant.none)
+          (barren_past t c.behind-behind.result (behind_at (first_places s c.len-depth.result)) (omega (arith, same, c.behind-behind.ensures.value))) (c.leave-then-not-may_race.ensures.nothing c.if-not-leave-2.false);
       barren = none_at_first t All c.low-then-not-may_race.result (low_at new) (omega (arith, c.low-then-not-may_race.ensures));
       earlier = none_at_first t All c.low-then-not-may_race.result c.args.from (omega (arith, c.low-then-not-may_race.ensures, next, ap behind_at (ap (first_places s) deep ∙ whole_stand s), c.in_default.ensures.passed.behind));
     }
@@ -247,7 +256,10 @@ pub returns-in-Some-shown-clause-barren : goal.returns-in-Some-shown-clause-barr
 returns-in-Some-shown-clause-barren c none = absurd (false≢true (sym none))
 
 pub leave-requires-in_default-shown : goal.leave-requires-in_default-shown
-leave-requires-in_default-shown c = omega (arith, c.len-depth.ensures.value, length-part c.loop-self.self c.part-in-loop-self.result.now c.part-in-loop-self.ensures.value)
+leave-requires-in_default-shown c = record {
+  test = c.loop-self.invariant.test;
+  depth = omega (arith, c.len-depth.ensures.value, length-part c.loop-self.self c.part-in-loop-self.result.now c.part-in-loop-self.ensures.value);
+}
 
 pub returns-then-not-leave-3-clause-race : goal.returns-then-not-leave-3-clause-race
 returns-then-not-leave-3-clause-race c =
@@ -255,10 +267,11 @@ returns-then-not-leave-3-clause-race c =
     let s = c.loop-self.self in
     let deep = c.len-depth.ensures.value ∙ length-part s c.part-in-loop-self.result.now c.part-in-loop-self.ensures.value in
     let may = pass_invalid s t All c.args.from c.len-depth.result deep c.in_default-shown.ensures.none in
-    let end : choices_before s.test (s.combination + 1) ≡ behind_at (first_places s c.len-depth.result) = c.leave-in_default-shown.ensures.last c.if-not-leave-3.true in
+    let barren = passed_since t c.args.from c.loop-self.barren s c.len-depth.result c.loop-self.invariant.earlier c.loop-self.invariant.barren may in
     none_found t (in_range c.args.from c.args.to)
-    (race_up_to t c.args.from c.args.to _ (omega (arith, c.requires.high, end, ap (λ (u : Litmus). choices_before u (s.combination + 1)) c.loop-self.invariant.test, ap (λ (k : ℕ). choices_before t (k + 1)) c.loop-self.invariant.combination))
-    (passed_race t c.args.from s c.len-depth.result may c.loop-self.invariant.none))
+    (race_up_to t c.args.from c.args.to _ (omega (arith, c.requires.high, ap (λ (k : ℕ). choices_before t (k + 1)) c.loop-self.invariant.combination))
+    (race_left t c.args.from c.loop-self.barren (behind_at (first_places s c.len-depth.result)) (choices_before t (s.combination + 1)) (passed_race t c.args.from s c.len-depth.result may c.loop-self.invariant.none) barren
+    (c.leave-in_default-shown.ensures.last c.if-not-leave-3.true)))
 
 pub returns-then-not-leave-3-clause-barren : goal.returns-then-not-leave-3-clause-barren
 returns-then-not-leave-3-clause-barren c none =
@@ -266,9 +279,9 @@ returns-then-not-leave-3-clause-barren c none =
     let s = c.loop-self.self in
     let deep = c.len-depth.ensures.value ∙ length-part s c.part-in-loop-self.result.now c.part-in-loop-self.ensures.value in
     let may = pass_invalid s t All c.args.from c.len-depth.result deep c.in_default-shown.ensures.none in
-    let end : choices_before s.test (s.combination + 1) ≡ behind_at (first_places s c.len-depth.result) = c.leave-in_default-shown.ensures.last c.if-not-leave-3.true in
-    none_up_to t All c.loop-self.barren c.args.to _ (omega (arith, c.requires.high, end, ap (λ (u : Litmus). choices_before u (s.combination + 1)) c.loop-self.invariant.test, ap (λ (k : ℕ). choices_before t (k + 1)) c.loop-self.invariant.combination))
-    (passed_since t c.args.from c.loop-self.barren s c.len-depth.result c.loop-self.invariant.earlier c.loop-self.invariant.barren may)
+    none_up_to t All c.loop-self.barren c.args.to _ (omega (arith, c.requires.high, ap (λ (k : ℕ). choices_before t (k + 1)) c.loop-self.invariant.combination))
+    (barren_on t c.loop-self.barren (behind_at (first_places s c.len-depth.result)) (choices_before t (s.combination + 1))
+    (passed_since t c.args.from c.loop-self.barren s c.len-depth.result c.loop-self.invariant.earlier c.loop-self.invariant.barren may) (c.leave-in_default-shown.ensures.last c.if-not-leave-3.true))
 
 pub loop-self-smaller : goal.loop-self-smaller
 loop-self-smaller c =
@@ -276,7 +289,7 @@ loop-self-smaller c =
     let new = c.leave-in_default-shown.new.self in
     let deep = c.len-depth.ensures.value ∙ length-part s c.part-in-loop-self.result.now c.part-in-loop-self.ensures.value in
     let same = ap behind_at (ap (first_places s) deep ∙ whole_stand s) in
-    let next : low_at new ≡ behind_at (first_places s c.len-depth.result) = c.leave-in_default-shown.ensures.next c.if-not-leave-3.false in
+    let next : behind_at (first_places s c.len-depth.result) ≤ low_at new = c.leave-in_default-shown.ensures.next c.if-not-leave-3.false in
     let reads = same_reads s s.test s.combination new refl refl c.leave-in_default-shown.ensures.test c.leave-in_default-shown.ensures.combination in
     omega (
       arith,
@@ -291,12 +304,13 @@ loop-self-preserved c =
     let new = c.leave-in_default-shown.new.self in
     let deep = c.len-depth.ensures.value ∙ length-part s c.part-in-loop-self.result.now c.part-in-loop-self.ensures.value in
     let may = pass_invalid s t All c.args.from c.len-depth.result deep c.in_default-shown.ensures.none in
-    let next : low_at new ≡ behind_at (first_places s c.len-depth.result) = c.leave-in_default-shown.ensures.next c.if-not-leave-3.false in
+    let barren = passed_since t c.args.from c.loop-self.barren s c.len-depth.result c.loop-self.invariant.earlier c.loop-self.invariant.barren may in
+    let adds = c.leave-in_default-shown.ensures.nothing c.if-not-leave-3.false in
     record {
       test = c.leave-in_default-shown.ensures.test ∙ c.loop-self.invariant.test;
       combination = c.leave-in_default-shown.ensures.combination ∙ c.loop-self.invariant.combination;
-      none = subst (λ (n : ℕ). NoneRace t (in_range c.args.from n)) (sym next) (passed_race t c.args.from s c.len-depth.result may c.loop-self.invariant.none);
-      barren = subst (λ (n : ℕ). NoneShow t All (in_range c.loop-self.barren n)) (sym next) (passed_since t c.args.from c.loop-self.barren s c.len-depth.result c.loop-self.invariant.earlier c.loop-self.invariant.barren may);
+      none = race_left t c.args.from c.loop-self.barren (behind_at (first_places s c.len-depth.result)) (low_at new) (passed_race t c.args.from s c.len-depth.result may c.loop-self.invariant.none) barren adds;
+      barren = barren_on t c.loop-self.barren (behind_at (first_places s c.len-depth.result)) (low_at new) barren adds;
       earlier = c.loop-self.invariant.earlier;
     }
 

@@ -1,4 +1,4 @@
-use Rattle.std.proofs.Common.{◌≡◌, ◌≤◌, ◌+◌, ◌*◌, ◌-◌, length}
+use Rattle.std.proofs.Common.{◌≡◌, ◌+◌, ◌*◌, ◌-◌, length}
 use Rattle.lit_paths.specs.ByteReads.{byte_reads}
 use Rattle.lit_search.specs.Report.{in_range}
 use Rattle.lit_search.specs.Internal.Places.{low_at, stand_events}

@@ -1,5 +1,4 @@
-use Rattle.std.proofs.Common.{◌≡◌, ℕ, ◌+◌, ◌-◌, ◌*◌, ◌<◌, List, length, refl, ap, sym, subst, ◌∙◌, arith}
-use Rattle.lit_read.specs.Syntax.{Litmus}
+use Rattle.std.proofs.Common.{◌≡◌, ℕ, ◌+◌, ◌-◌, ◌*◌, ◌<◌, ◌≤◌, List, length, refl, ap, sym, subst, ◌∙◌, arith}
 use Rattle.lit_paths.specs.ByteReads.{byte_reads}
 use Rattle.lit_paths.specs.Plan.{choices_before}
 use Rattle.lit_rel.specs.Part.{PartModel, part_events}
@@ -11,6 +10,7 @@ use Rattle.lit_search.specs.Internal.Shown.{IsShown, NoneShow, shown_entry}
 use Rattle.lit_search.specs.Internal.Examined.{IsExample}
 use Rattle.lit_search.proofs.Keeping.{next_shown}
 use Rattle.lit_search.proofs.NextLemmas.{long_entered, low_entered, none_at_first, none_up_to, passed_on, same_reads, seen_on, smaller_enter, smaller_leave}
+use Rattle.lit_search.proofs.OtherLemmas.{shows_on}
 use Rattle.lit_search.proofs.PassingLemmas.{length-part, pass_invalid}
 use Rattle.lit_search.proofs.PlaceLemmas.{ways_end}
 use Rattle.lit_search.proofs.cursor.Cursor.next.Goals as goal
@@ -25,15 +25,15 @@ returns-then-not-leave-clause-shows g c =
     let s = c.loop-self.self in
     let may = c.in-Some.ensures.passed in
     let more = passed_on t Wanted c.args.from (low_at s) s c.in-Some.depth c.loop-self.invariant.none may.low may in
-    let end : choices_before s.test (s.combination + 1) ≡ behind_at (first_places s c.in-Some.depth) = c.leave.ensures.last c.if-not-leave.true in
-    none_up_to t Wanted c.args.from c.args.to _ (omega (arith, c.requires.high, end, ap (λ (u : Litmus). choices_before u (s.combination + 1)) c.loop-self.invariant.test, ap (λ (k : ℕ). choices_before t (k + 1)) c.loop-self.invariant.combination)) more
+    let all = shows_on t Wanted c.args.since c.args.from (behind_at (first_places s c.in-Some.depth)) (choices_before t (s.combination + 1)) c.requires.seen more (c.leave.ensures.last c.if-not-leave.true) in
+    none_up_to t Wanted c.args.from c.args.to _ (omega (arith, c.requires.high, ap (λ (k : ℕ). choices_before t (k + 1)) c.loop-self.invariant.combination)) all
 
 pub loop-self-smaller-else-not-leave : goal.loop-self-smaller-else-not-leave
 loop-self-smaller-else-not-leave g c =
     let s = c.loop-self.self in
     let new = c.leave.new.self in
     let may = c.in-Some.ensures.passed in
-    let next : low_at new ≡ behind_at (first_places s c.in-Some.depth) = c.leave.ensures.next c.if-not-leave.false in
+    let next : behind_at (first_places s c.in-Some.depth) ≤ low_at new = c.leave.ensures.next c.if-not-leave.false in
     let reads = same_reads s s.test s.combination new refl refl c.leave.ensures.test c.leave.ensures.combination in
     omega (
       arith,
@@ -47,11 +47,11 @@ loop-self-preserved-else-not-leave g c =
     let Wanted = g.W.Wanted.IsWanted c.args.wanted.now t in
     let s = c.loop-self.self in
     let may = c.in-Some.ensures.passed in
-    let next : low_at c.leave.new.self ≡ behind_at (first_places s c.in-Some.depth) = c.leave.ensures.next c.if-not-leave.false in
     record {
       test = c.leave.ensures.test ∙ c.loop-self.invariant.test;
       combination = c.leave.ensures.combination ∙ c.loop-self.invariant.combination;
-      none = subst (λ (n : ℕ). NoneShow t Wanted (in_range c.args.from n)) (sym next) (passed_on t Wanted c.args.from (low_at s) s c.in-Some.depth c.loop-self.invariant.none may.low may);
+      none = shows_on t Wanted c.args.since c.args.from (behind_at (first_places s c.in-Some.depth)) (low_at c.leave.new.self) c.requires.seen
+          (passed_on t Wanted c.args.from (low_at s) s c.in-Some.depth c.loop-self.invariant.none may.low may) (c.leave.ensures.nothing c.if-not-leave.false);
     }
 
 pub enter-requires : goal.enter-requires
@@ -149,7 +149,10 @@ returns-in-Some-shown-clause-all g c =
     )
 
 pub leave-requires-in_default-shown : goal.leave-requires-in_default-shown
-leave-requires-in_default-shown g c = omega (arith, c.len-depth.ensures.value, length-part c.loop-self.self c.part-in_default-shown.result.now c.part-in_default-shown.ensures.value)
+leave-requires-in_default-shown g c = record {
+  test = c.loop-self.invariant.test;
+  depth = omega (arith, c.len-depth.ensures.value, length-part c.loop-self.self c.part-in_default-shown.result.now c.part-in_default-shown.ensures.value);
+}
 
 pub returns-then-not-leave-2-clause-shows : goal.returns-then-not-leave-2-clause-shows
 returns-then-not-leave-2-clause-shows g c =
@@ -159,8 +162,8 @@ returns-then-not-leave-2-clause-shows g c =
     let deep = c.len-depth.ensures.value ∙ length-part s c.part-in_default-shown.result.now c.part-in_default-shown.ensures.value in
     let may = pass_invalid s t Wanted c.args.from c.len-depth.result deep c.in_default-shown.ensures.none in
     let more = passed_on t Wanted c.args.from (low_at s) s c.len-depth.result c.loop-self.invariant.none may.low may in
-    let end : choices_before s.test (s.combination + 1) ≡ behind_at (first_places s c.len-depth.result) = c.leave-in_default-shown.ensures.last c.if-not-leave-2.true in
-    none_up_to t Wanted c.args.from c.args.to _ (omega (arith, c.requires.high, end, ap (λ (u : Litmus). choices_before u (s.combination + 1)) c.loop-self.invariant.test, ap (λ (k : ℕ). choices_before t (k + 1)) c.loop-self.invariant.combination)) more
+    let all = shows_on t Wanted c.args.since c.args.from (behind_at (first_places s c.len-depth.result)) (choices_before t (s.combination + 1)) c.requires.seen more (c.leave-in_default-shown.ensures.last c.if-not-leave-2.true) in
+    none_up_to t Wanted c.args.from c.args.to _ (omega (arith, c.requires.high, ap (λ (k : ℕ). choices_before t (k + 1)) c.loop-self.invariant.combination)) all
 
 pub loop-self-smaller : goal.loop-self-smaller
 loop-self-smaller g c =
@@ -170,7 +173,7 @@ loop-self-smaller g c =
     let new = c.leave-in_default-shown.new.self in
     let deep = c.len-depth.ensures.value ∙ length-part s c.part-in_default-shown.result.now c.part-in_default-shown.ensures.value in
     let may = pass_invalid s t Wanted c.args.from c.len-depth.result deep c.in_default-shown.ensures.none in
-    let next : low_at new ≡ behind_at (first_places s c.len-depth.result) = c.leave-in_default-shown.ensures.next c.if-not-leave-2.false in
+    let next : behind_at (first_places s c.len-depth.result) ≤ low_at new = c.leave-in_default-shown.ensures.next c.if-not-leave-2.false in
     let reads = same_reads s s.test s.combination new refl refl c.leave-in_default-shown.ensures.test c.leave-in_default-shown.ensures.combination in
     omega (
       arith,
@@ -185,11 +188,11 @@ loop-self-preserved g c =
     let s = c.loop-self.self in
     let deep = c.len-depth.ensures.value ∙ length-part s c.part-in_default-shown.result.now c.part-in_default-shown.ensures.value in
     let may = pass_invalid s t Wanted c.args.from c.len-depth.result deep c.in_default-shown.ensures.none in
-    let next : low_at c.leave-in_default-shown.new.self ≡ behind_at (first_places s c.len-depth.result) = c.leave-in_default-shown.ensures.next c.if-not-leave-2.false in
     record {
       test = c.leave-in_default-shown.ensures.test ∙ c.loop-self.invariant.test;
       combination = c.leave-in_default-shown.ensures.combination ∙ c.loop-self.invariant.combination;
-      none = subst (λ (n : ℕ). NoneShow t Wanted (in_range c.args.from n)) (sym next) (passed_on t Wanted c.args.from (low_at s) s c.len-depth.result c.loop-self.invariant.none may.low may);
+      none = shows_on t Wanted c.args.since c.args.from (behind_at (first_places s c.len-depth.result)) (low_at c.leave-in_default-shown.new.self) c.requires.seen
+          (passed_on t Wanted c.args.from (low_at s) s c.len-depth.result c.loop-self.invariant.none may.low may) (c.leave-in_default-shown.ensures.nothing c.if-not-leave-2.false);
     }
 
 pub returns-clause-shows : goal.returns-clause-shows
