@@ -2,7 +2,7 @@
 
 ghost use Rattle.std.specs.Prelude.{◌≡◌, ◌≢◌, ◌⊎◌, ◌↔◌, ℕ, ◌+◌, ◌<◌, false, Some, IsTrue, length, slice_get};
 ghost use Rattle.lit_paths.specs.declared.byte_reads.ByteRead.{ByteRead as Read};
-ghost use Rattle.lit_paths.specs.Plan.{IsWalkIn, walk_in};
+ghost use Rattle.lit_paths.specs.Plan.{IsWalkIn, first_event, path_in, walk_in};
 ghost use Rattle.lit_paths.specs.Run.{compares};
 ghost use Rattle.lit_rel.specs.Broken.{HasFalseTestOn, number_on as number_asked};
 ghost use Rattle.lit_rel.specs.Part.{part_events};
@@ -59,6 +59,36 @@ pub(crate) fn has_false_test(
     false
 }
 
+/// Whether some test of an agent's path asks about a read, and is false of the value. Only where the read is an event of
+/// the path are its tests gone over.
+fn path_has_false(combination: &Combination<'_>, agent: usize, read: u8, value: u32) -> bool
+    requires { agent < length combination.now.0.agents }
+    ensures { IsTrue result
+        ↔ HasFalse (path_in combination.now.0 combination.now.1 agent).tests (first_event combination.now.0 combination.now.1 agent) (Some read) value }
+{
+    let first = combination.first_event(agent);
+    if read < first {
+        return false;
+    }
+    let path = combination.path(agent);
+    if usize::from(first) + path.events().len() <= usize::from(read) {
+        return false;
+    }
+    has_false(path.tests(), first, Some(usize::from(read)), value)
+}
+
+/// Whether some test of a path of the combination asks about a read, and is false of the value.
+fn has_false_test_of(combination: &Combination<'_>, read: u8, value: u32) -> bool
+    ensures { IsTrue result ↔ HasFalseTestOn combination.now.0 combination.now.1 (Some read) value }
+{
+    for agent in 0..combination.test().agents() {
+        if path_has_false(combination, agent, read, value) {
+            return true;
+        }
+    }
+    false
+}
+
 /// Whether the byte read at a place is the last of its read.
 fn is_last_of_read(reads: &[ByteRead], place: usize) -> bool
     requires { place < length reads.now }
@@ -76,7 +106,7 @@ fn is_read_refused(part: &Related<'_>, read: u8) -> bool
         ↔ HasFalseTestOn part.now.test part.now.combination (Some read) (value_of (part_events part.now) part.now.sources read) }
 {
     let value = part.value(read);
-    has_false_test(part.combination(), Some(usize::from(read)), value)
+    has_false_test_of(part.combination(), read, value)
 }
 
 /// Whether a test is false with one source more, the last one given: one was, or the read whose last byte it is makes
