@@ -19,6 +19,7 @@ ghost use Rattle.lit_rel.specs.SynchronizesWith.{Synchronizes};
 ghost use Rattle.lit_rel.specs.TearFree.{HasTearFreeReads};
 
 use crate::between::Between;
+use crate::given::breaks::Sides;
 use crate::given::{Given, SourcedByte, SourcedBytes};
 use crate::part::fixed_steps::unsourced_order;
 use crate::part::levels::{Level, Levels};
@@ -121,11 +122,11 @@ impl<'p> Related<'p> {
             bytes: self.bytes.as_slice(),
         };
         let level = if given.adds_pair(byte, &self.orders.now.rows) {
-            let mut order = self.orders.now;
-            order.close_with(usize::from(byte.source), usize::from(byte.read));
-            let before = &self.orders.now;
-            let broken = given.is_broken_with_pair(self.level.broken, byte, before, &order);
-            self.orders.add(order);
+            let sides = Sides::around(byte, &self.orders.now);
+            self.orders
+                .add(usize::from(byte.source), usize::from(byte.read));
+            let order = &self.orders.now;
+            let broken = given.is_broken_with_pair(self.level.broken, byte, sides, order);
             Level {
                 adds: true,
                 broken,
