@@ -207,7 +207,17 @@ impl<'p> Part<'p> {
         ensures len { result.len ≡ length (part_events self.now) }
         ensures triples { (w r v : ℕ) → Forbids result w r v ↔ IsForbidden (part_events self.now) self.now.sources w r v }
     {
-        self.related.between(&self.peers)
+        let mut between = Between::new(0);
+        self.put_between(&mut between);
+        between
+    }
+
+    /// Makes what is there `between()`.
+    pub fn put_between(&self, between: &mut Between)
+        ensures len { between.new.len ≡ length (part_events self.now) }
+        ensures triples { (w r v : ℕ) → Forbids between.new w r v ↔ IsForbidden (part_events self.now) self.now.sources w r v }
+    {
+        self.related.put_between(between, &self.peers);
     }
 
     /// Whether two events are in a data race (29.9), by the sources given.

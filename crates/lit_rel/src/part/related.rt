@@ -250,13 +250,13 @@ impl<'p> Related<'p> {
         self.given().is_tear_free()
     }
 
-    /// What may not stand between each source given and its read in the order of memory (29.7.4).
-    pub(crate) fn between(&self, peers: &Rows) -> Between
+    /// Makes what is there what may not stand between each source given and its read in the order of memory (29.7.4).
+    pub(crate) fn put_between(&self, between: &mut Between, peers: &Rows)
         requires { ArePeers (part_events self.now) peers.now }
-        ensures len { result.len ≡ length (part_events self.now) }
-        ensures triples { (w r v : ℕ) → Forbids result w r v ↔ IsForbidden (part_events self.now) self.now.sources w r v }
+        ensures len { between.new.len ≡ length (part_events self.now) }
+        ensures triples { (w r v : ℕ) → Forbids between.new w r v ↔ IsForbidden (part_events self.now) self.now.sources w r v }
     {
-        self.given().between(self.order(), peers)
+        self.given().put_between(between, self.order(), peers);
     }
 
     /// Whether two events are in a data race (29.9), by the sources given.
