@@ -70,6 +70,9 @@ impl Given<'_> {
         requires { IsKnown (length self.now.events.now) byte }
         ensures { IsTrue result ↔ HasByteSo self.now.bytes.now (Tears self.now.events.now byte) }
     {
+        if !self.reads_whole(byte) {
+            return false;
+        }
         for other in self.bytes {
             if self.tears(byte, *other) {
                 return true;

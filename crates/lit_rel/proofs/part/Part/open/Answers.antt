@@ -20,4 +20,5 @@ invariant_of-result c =
           (subst (λ (p : PartModel). IsTrue refused.result ↔ HasFalseTestOn p.test p.combination None 0) (sym is) refused.ensures.value)
           (subst (λ (p : PartModel). (IsTrue refused.result → ⊥) → (agent : ℕ) → agent < length p.test.agents → IsWalkIn p.test p.combination agent (walk_in p.test p.combination agent)) (sym is) refused.ensures.walks);
       peers = subst (λ (es : List Event). ArePeers es c.peers_of-peers.result) (c.events.ensures.value ∙ ap part_events (sym is)) c.peers_of-peers.ensures;
+      none = c.is_empty-peerless.ensures.0;
     }

@@ -24,4 +24,5 @@ invariant_of-self c =
           (subst (λ (xs : List Bool). AreRefusals (with_sources part (take n part.sources)) c.pop.new.self.items (get_or xs n false)) (sym c.deref.ensures.0)
           (AreRefusals-pop part inside.earlier.items c.pop.new.self.items inside.refused n false c.self.invariant.refusals count (c.pop.ensures.rest ∙ ap (λ k. take k inside.earlier.items) front')));
       peers = subst (λ (p : PartModel). ArePeers (part_events p) inside.peers) (sym popped) c.self.invariant.peers;
+      none = c.self.invariant.none;
     }

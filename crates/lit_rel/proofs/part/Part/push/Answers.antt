@@ -28,4 +28,5 @@ invariant_of-self c =
           (AreRefusals-push part inside.earlier.items c.push-2.new.self.items inside.refused c.is_refused_with-self-inside.result c.args.source next c.self.invariant.refusals c.push-2.ensures.items
           (subst (λ (p : PartModel). IsTrue c.is_refused_with-self-inside.result ↔ (IsTrue inside.refused ⊎ IsRefusedAtLast p)) c.push.ensures.value c.is_refused_with-self-inside.ensures));
       peers = subst (λ (p : PartModel). ArePeers (part_events p) inside.peers) (sym c.push.ensures.value) c.self.invariant.peers;
+      none = c.self.invariant.none;
     }

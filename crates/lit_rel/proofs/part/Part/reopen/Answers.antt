@@ -19,4 +19,5 @@ invariant_of-self c =
           (subst (λ (p : Litmus × ℕ). IsTrue refused.result ↔ HasFalseTestOn p.0 p.1 None 0) c.combination-combination.ensures refused.ensures.value)
           (subst (λ (p : Litmus × ℕ). (IsTrue refused.result → ⊥) → (agent : ℕ) → agent < length p.0.agents → IsWalkIn p.0 p.1 agent (walk_in p.0 p.1 agent)) c.combination-combination.ensures refused.ensures.walks);
       peers = subst (λ (es : List Event). ArePeers es c.peers_of-self-inside.result) (c.events.ensures.value ∙ ap (λ (p : Litmus × ℕ). events_in p.0 p.1) c.combination-combination.ensures) c.peers_of-self-inside.ensures;
+      none = c.is_empty-self-inside.ensures.0;
     }
