@@ -2,10 +2,14 @@
 use Rattle.std.proofs.Common.{◌↔◌, ℕ, ◌+◌, ◌-◌, ◌<◌, ◌≤◌, List, length, get_or, sym, ◌∙◌, subst, arith}
 use Rattle.std.proofs.lemmas.Option.{slice_get-get_or}
 use Rattle.lit_paths.specs.declared.event.Event.{Event}
+use Rattle.lit_paths.specs.Event.{HasSameRange, event_at}
+use Rattle.lit_rel.specs.declared.rows.Rows.{Rows}
 use Rattle.lit_rel.specs.declared.given.SourcedByte.{SourcedByte}
 use Rattle.lit_rel.specs.Forbidden.{IsForbiddenBetween, IsForbiddenTriple}
 use Rattle.lit_rel.specs.Internal.Forbidding.{IsForbidding, RepeatsPair}
 use Rattle.lit_rel.specs.Internal.Given.{AreFirstReads, sources_of}
+use Rattle.lit_rel.specs.Internal.Peers.{ArePeers}
+use Rattle.lit_rel.specs.Rows.{Holds}
 use Rattle.lit_rel.specs.ReadsFrom.{ReadsByteFrom, ReadsFrom}
 use Rattle.lit_rel.proofs.EachLemmas.{SomeBelow, SomeBelow-again, SomeBelow-all}
 use Rattle.lit_rel.proofs.ReadingLemmas.{write_known}
@@ -30,6 +34,20 @@ IsForbiddenTriple-iff events bytes n first all before w r v = (
         between = subst (λ (x : ℕ). IsForbiddenBetween events before x p.read v) (sym found.3.source) (subst (λ (x : ℕ). IsForbiddenBetween events before w x v) (sym found.3.read) f.between);
       }),
 )
+
+HasSameRange-refl : (e : Event) → HasSameRange e e
+unfolding HasSameRange
+HasSameRange-refl e b = (λ h. h, λ h. h)
+
+-- where no event has a sequentially consistent write of its range, there is none, and nothing is forbidden
+pub none_forbidden : (events : List Event) (peers : Rows) → ArePeers events peers → ((e v : ℕ) → Holds peers e v → ⊥) → (given : ℕ → ℕ → ℕ → Type 0) (before : ℕ → ℕ → Type 0) (w r v : ℕ) → IsForbiddenTriple events given before w r v → ⊥
+none_forbidden events peers are none given before w r v f =
+    let known = write_known events v f.between.writes in
+    none v v ((are.pairs v v).1 record {
+      known = known;
+      write = record { known = known; writes = f.between.writes; ordered = f.between.ordered };
+      same_range = HasSameRange-refl (event_at events v);
+    })
 
 -- a byte that repeats the pair of the one before forbids nothing more
 pub forbidden-again : (events : List Event) (before : ℕ → ℕ → Type 0) (w r v : ℕ) (bytes : List SourcedByte) (i : ℕ) (old : Type 0) → i < length bytes → (old ↔ SomeBelow (IsForbidding events before w r v) bytes i) → RepeatsPair bytes i → old ↔ SomeBelow (IsForbidding events before w r v) bytes (i + 1)

@@ -5,15 +5,17 @@ use Rattle.std.proofs.lemmas.List.{length-append, length_push, length-take-le, t
 use Rattle.std.proofs.lemmas.Option.{none-some, same_Some, slice_get_within, slice_get-get_or}
 use Rattle.std.specs.Bool.{IsTrue}
 use Rattle.std.specs.List.{range_with_len, slice_get}
+use Rattle.lit_read.specs.Syntax.{Litmus}
 use Rattle.lit_paths.specs.declared.event.Event.{Event}
 use Rattle.lit_paths.specs.declared.byte_reads.ByteRead.{ByteRead}
 use Rattle.lit_paths.specs.ByteReads.{byte_reads, byte_reads_from, bytes_read_by, pair_of}
 use Rattle.lit_paths.specs.Event.{does_read, event_at, no_event}
-use Rattle.lit_paths.specs.Plan.{AreEventsIn, IsWalkIn, first_event, walk_in}
+use Rattle.lit_paths.specs.Path.{CompareExchangeMet, ExchangeMet, IfMet, LoadMet, Step, StoreMet, events_on}
+use Rattle.lit_paths.specs.Plan.{AreEventsIn, IsWalkIn, events_in, first_event, path_in, walk_in}
 use Rattle.lit_rel.specs.Broken.{HasFalseTest, HasFalseTestOn, StaysBroken, number_on}
 use Rattle.lit_rel.specs.Growth.{IsGivenWhole}
 use Rattle.lit_rel.specs.Part.{IsNextSource, PartModel, part_events, with_sources}
-use Rattle.lit_rel.specs.Internal.Refused.{AreRefusals, IsRefusedAtLast}
+use Rattle.lit_rel.specs.Internal.Refused.{AreRefusals, Asks, IsRefusedAtLast}
 use Rattle.lit_rel.specs.ReadsFrom.{ReadsByteFrom, value_of}
 use Rattle.lit_paths.proofs.Rising.{slice_get-map-found, slice_get-map-known}
 use Rattle.lit_rel.proofs.GrowthLemmas.{ReadsByteFrom-longer, values_stay}
@@ -216,6 +218,33 @@ AreRefusals-pop part earlier earlier' now n d is count is_earlier =
           subst (λ (xs : List ℕ). IsTrue refused ↔ HasFalseTest (with_sources part xs)) (sym (take-take m n part.sources (omega arith)))
           (is.at_less m refused (take_from n earlier m refused (sym (ap (λ (xs : List Bool). slice_get xs m) is_earlier) ∙ at_m)));
     }
+
+-- the events of an agent's path are its own
+owned_on : (owner place : ℕ) (steps : List Step) (k : ℕ) → k < length (events_on owner place steps) → (event_at (events_on owner place steps) k).owner ≡ Some owner
+owned_on owner place [] k h = absurd (omega arith)
+owned_on owner place (LoadMet reg window index atomic ∷ steps) zero h = refl
+owned_on owner place (LoadMet reg window index atomic ∷ steps) (suc k) h = owned_on owner (place + 1) steps k (omega arith)
+owned_on owner place (StoreMet window index value atomic ∷ steps) zero h = refl
+owned_on owner place (StoreMet window index value atomic ∷ steps) (suc k) h = owned_on owner (place + 1) steps k (omega arith)
+owned_on owner place (ExchangeMet reg window index value ∷ steps) zero h = refl
+owned_on owner place (ExchangeMet reg window index value ∷ steps) (suc k) h = owned_on owner (place + 1) steps k (omega arith)
+owned_on owner place (CompareExchangeMet reg window index expected value true ∷ steps) zero h = refl
+owned_on owner place (CompareExchangeMet reg window index expected value true ∷ steps) (suc k) h = owned_on owner (place + 1) steps k (omega arith)
+owned_on owner place (CompareExchangeMet reg window index expected value false ∷ steps) zero h = refl
+owned_on owner place (CompareExchangeMet reg window index expected value false ∷ steps) (suc k) h = owned_on owner (place + 1) steps k (omega arith)
+owned_on owner place (IfMet reg equal value holds ∷ steps) k h = owned_on owner place steps k h
+
+-- the place that a test asks about, where it asks about an event
+asked_place : (first event : ℕ) (on : Option ℕ) → number_on first on ≡ Some event → (place : ℕ) × (on ≡ Some place) × (first + place ≡ event)
+asked_place first event None h = absurd (none-some event h)
+asked_place first event (Some place) h = (place, refl, same_Some (first + place) event h)
+
+-- a test asks about an event of its own agent
+pub owner_asked : (t : Litmus) (c agent event : ℕ) → IsWalkIn t c agent (walk_in t c agent) → Asks (path_in t c agent).tests (first_event t c agent) (Some event) → (event_at (events_in t c) event).owner ≡ Some agent
+owner_asked t c agent event walk asks =
+    let found = asked_place (first_event t c agent) event asks.test.on asks.asks in
+    let within = (walk.tests_reads asks.place found.0 asks.test asks.at_place found.1).0 in
+    subst (λ (e : ℕ). (event_at (events_in t c) e).owner ≡ Some agent) found.2 (ap (λ (e : Event). e.owner) (walk.numbered found.0 within) ∙ owned_on agent 0 (walk_in t c agent) found.0 within)
 
 -- no source yet
 pub AreRefusals-open : (part : PartModel) (earlier : List Bool) (now : Bool) → part.sources ≡ [] → earlier ≡ [] → AreEventsIn part.test.bytes (part_events part)

@@ -72,6 +72,15 @@ impl Between {
         }
     }
 
+    /// Makes it `new(len)`, in place.
+    pub fn begin(&mut self, len: usize)
+        requires { len ≤ EVENT_LIMIT }
+        ensures { self.new ≡ record { len = len; pairs = [] } }
+    {
+        self.len = len;
+        self.pairs.clear();
+    }
+
     /// How many events there are.
     pub fn len(&self) -> usize
         ensures value { result ≡ self.now.len }

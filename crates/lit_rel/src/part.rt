@@ -44,6 +44,8 @@ pub struct Part<'p> {
     refused: bool,
     /// The sequentially consistent writes that have the range of each event.
     peers: Rows,
+    /// Whether there is none.
+    peerless: bool,
 }
 
 impl<'p> Model for Part<'p> {
@@ -56,7 +58,7 @@ impl<'p> Model for Part<'p> {
 
     ghost view = { λ p. p.related };
 
-    ghost invariant = { λ p. IsPartKept p.related p.earlier.items p.refused p.peers };
+    ghost invariant = { λ p. IsPartKept p.related p.earlier.items p.refused p.peers p.peerless };
 }
 
 impl<'p> Part<'p> {
@@ -71,11 +73,13 @@ impl<'p> Part<'p> {
         let combination = plan.enter(combination);
         let refused = has_false_test(&combination, None, 0);
         let peers = peers_of(combination.events());
+        let peerless = peers.is_empty();
         Part {
             related: Related::open(combination),
             earlier: ArrayVec::new(),
             refused,
             peers,
+            peerless,
         }
     }
 
@@ -91,6 +95,7 @@ impl<'p> Part<'p> {
         let combination = self.related.combination();
         self.refused = has_false_test(combination, None, 0);
         self.peers = peers_of(combination.events());
+        self.peerless = self.peers.is_empty();
     }
 
     /// Its combination.
@@ -207,7 +212,21 @@ impl<'p> Part<'p> {
         ensures len { result.len ≡ length (part_events self.now) }
         ensures triples { (w r v : ℕ) → Forbids result w r v ↔ IsForbidden (part_events self.now) self.now.sources w r v }
     {
-        self.related.between(&self.peers)
+        let mut between = Between::new(0);
+        self.put_between(&mut between);
+        between
+    }
+
+    /// Makes what is there `between()`.
+    pub fn put_between(&self, between: &mut Between)
+        ensures len { between.new.len ≡ length (part_events self.now) }
+        ensures triples { (w r v : ℕ) → Forbids between.new w r v ↔ IsForbidden (part_events self.now) self.now.sources w r v }
+    {
+        if self.peerless {
+            between.begin(self.combination().events().len());
+            return;
+        }
+        self.related.put_between(between, &self.peers);
     }
 
     /// Whether two events are in a data race (29.9), by the sources given.

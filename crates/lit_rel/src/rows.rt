@@ -140,6 +140,18 @@ impl Rows {
         }
     }
 
+    /// Whether it holds of no pair.
+    pub(crate) fn is_empty(&self) -> bool
+        ensures { IsTrue result ↔ ((a d : ℕ) → ¬ Holds self.now a d) }
+    {
+        for event in 0..self.len {
+            if !self.successors(event).is_empty() {
+                return false;
+            }
+        }
+        true
+    }
+
     /// Whether it holds of some event and itself.
     pub(crate) fn has_cycle(&self) -> bool
         ensures { IsTrue result ↔ ((e : ℕ) × Holds self.now e e) }

@@ -6,8 +6,8 @@ ghost use Rattle.lit_order.specs.Internal.ForcedLevels.{AreForcedLevels, WereFor
 
 use crate::forced_part::level::ForcedLevel;
 use arrayvec::ArrayVec;
-use lit_rel::Part;
 use lit_rel::laws::{broken_parts_stay_broken, relations_grow_with_bytes};
+use lit_rel::{Between, Part};
 
 /// How many earlier levels are kept at the most. Few parts force more that often, and what is not kept is found anew.
 pub(crate) const LEVELS_KEPT: usize = 12;
@@ -18,6 +18,8 @@ pub(crate) struct Levels {
     pub earlier: ArrayVec<ForcedLevel, LEVELS_KEPT>,
     /// That of the part. Where the part has less sources than its least number, it says nothing.
     pub now: ForcedLevel,
+    /// What the part forbids, as far as it was asked for.
+    between: Between,
 }
 
 impl Levels {
@@ -33,6 +35,7 @@ impl Levels {
                 least: 1,
                 ..ForcedLevel::default()
             },
+            between: Between::new(0),
         }
     }
 
@@ -58,17 +61,18 @@ impl Levels {
         if self.now.round || part.broken() {
             return;
         }
-        let between = part.between();
+        part.put_between(&mut self.between);
         if part.len() <= self.now.least {
-            self.now.begin(part, &between);
-        } else if !self.now.goes_for(part, &between) {
+            self.now.begin(part, &self.between);
+        } else if !self.now.goes_for(part, &self.between) {
             self.keep(part.len() - 1);
-            self.now.go_on(part, &between);
+            self.now.go_on(part, &self.between);
         }
     }
 
     /// Keeps what is known for so many sources at the most, where there is room.
     fn keep(&mut self, most: usize)
+        ensures between { self.new.between ≡ self.old.between }
         ensures now { self.new.now ≡ record { forced = self.old.now.forced; round = self.old.now.round; least = self.old.now.least; most = most } }
         ensures kept { length self.old.earlier.items < LEVELS_KEPT → self.new.earlier.items ≡ self.old.earlier.items ++ self.new.now ∷ [] }
         ensures full { LEVELS_KEPT ≤ length self.old.earlier.items → self.new.earlier.items ≡ self.old.earlier.items }

@@ -15,6 +15,13 @@ pub record HasFalse (tests : List Tested) (first : ℕ) (asked : Option ℕ) (va
   pub asks : number_on first test.on ≡ asked
   pub is_false : compares test.equal value test.value ≡ false
 
+-- some test of such a path asks about the event
+pub record Asks (tests : List Tested) (first : ℕ) (asked : Option ℕ) : Type 0 where
+  pub place : ℕ
+  pub test : Tested
+  pub at_place : slice_get tests place ≡ Some test
+  pub asks : number_on first test.on ≡ asked
+
 -- the last source given is of the last byte of a read, and some test on that read is false of its value
 pub record IsRefusedAtLast (part : PartModel) : Type 0 where
   pub read : ℕ

@@ -1,6 +1,6 @@
 //! What one byte more breaks (ECMA-262, 2024, 29.7.2 and 29.7.3), of a part that was not broken.
 
-ghost use Rattle.std.specs.Prelude.{◌≡◌, ◌⊎◌, ◌↔◌, ◌<◌, IsTrue, length};
+ghost use Rattle.std.specs.Prelude.{◌≡◌, ◌⊎◌, ◌↔◌, ℕ, ◌<◌, IsTrue, length};
 ghost use Rattle.lit_paths.specs.declared.limits.TheConstants.{EVENT_LIMIT};
 ghost use Rattle.lit_paths.specs.Event.{event_at};
 ghost use Rattle.lit_rel.specs.Coherent.{IsCoherentRead};
@@ -18,17 +18,38 @@ use crate::rows::Rows;
 use crate::rows::two_way_rows::TwoWayRows;
 use lit_paths::event_at;
 
-/// Whether a new pair can have changed the answer for a byte, by what is ahead of the pair and what is behind it, its
-/// ends among them.
-fn can_change(byte: SourcedByte, ahead: EventSet, behind: EventSet) -> bool
+/// What is ahead of a new pair of happens-before, and what is behind it, its ends among them.
+#[derive(Clone, Copy)]
+pub(crate) struct Sides {
+    pub ahead: EventSet,
+    pub behind: EventSet,
+}
+
+impl Sides {
+    /// Those of a byte's source and its read, in what happens-before is without this pair.
+    pub(crate) fn around(byte: SourcedByte, before: &TwoWayRows) -> Self
+        requires read { byte.read < rows_len before.now.rows }
+        requires source { byte.source < rows_len before.now.rows }
+        ensures ahead { (e : ℕ) → HasEvent result.ahead e ↔ (Holds before.now.rows e byte.source ⊎ (e ≡ byte.source)) }
+        ensures behind { (e : ℕ) → HasEvent result.behind e ↔ (Holds before.now.rows byte.read e ⊎ (e ≡ byte.read)) }
+    {
+        let (read, source) = (usize::from(byte.read), usize::from(byte.source));
+        let ahead = before.converse.successors(source).with(source);
+        let behind = before.rows.successors(read).with(read);
+        Sides { ahead, behind }
+    }
+}
+
+/// Whether a new pair can have changed the answer for a byte, by the pair's sides.
+fn can_change(byte: SourcedByte, sides: Sides) -> bool
     requires read { byte.read < EVENT_LIMIT }
     requires source { byte.source < EVENT_LIMIT }
-    ensures { IsTrue result ↔ CanChange (HasEvent ahead) (HasEvent behind) byte.read byte.source }
+    ensures { IsTrue result ↔ CanChange (HasEvent sides.ahead) (HasEvent sides.behind) byte.read byte.source }
 {
     let (read, source) = (usize::from(byte.read), usize::from(byte.source));
-    ahead.contains(source)
-        || behind.contains(read)
-        || (ahead.contains(read) && behind.contains(source))
+    sides.ahead.contains(source)
+        || sides.behind.contains(read)
+        || (sides.ahead.contains(read) && sides.behind.contains(source))
 }
 
 impl Given<'_> {
@@ -49,6 +70,9 @@ impl Given<'_> {
         requires { IsKnown (length self.now.events.now) byte }
         ensures { IsTrue result ↔ HasByteSo self.now.bytes.now (Tears self.now.events.now byte) }
     {
+        if !self.reads_whole(byte) {
+            return false;
+        }
         for other in self.bytes {
             if self.tears(byte, *other) {
                 return true;
@@ -58,13 +82,13 @@ impl Given<'_> {
     }
 
     /// Whether some byte whose answer a new pair can have changed is not coherent by a relation.
-    fn is_changed_by(&self, ahead: EventSet, behind: EventSet, before: &TwoWayRows) -> bool
+    fn is_changed_by(&self, sides: Sides, before: &TwoWayRows) -> bool
         requires { rows_len before.now.rows ≡ length self.now.events.now }
         ensures { IsTrue result
-            ↔ HasByteSo self.now.bytes.now (IsChangedByte self.now.events.now (Holds before.now.rows) (HasEvent ahead) (HasEvent behind)) }
+            ↔ HasByteSo self.now.bytes.now (IsChangedByte self.now.events.now (Holds before.now.rows) (HasEvent sides.ahead) (HasEvent sides.behind)) }
     {
         for byte in self.bytes {
-            if can_change(*byte, ahead, behind) && !is_coherent_byte(self.events, *byte, before) {
+            if can_change(*byte, sides) && !is_coherent_byte(self.events, *byte, before) {
                 return true;
             }
         }
@@ -83,42 +107,25 @@ impl Given<'_> {
         was || !is_coherent_byte(self.events, byte, before) || self.is_torn_by(byte)
     }
 
-    /// Whether a part is broken with one byte more, where its source and its read are a new pair of happens-before,
-    /// from what that was to what it is now: it was broken, or the byte or one whose answer can have changed is not
-    /// coherent, or the byte tears its read.
+    /// Whether a part is broken with one byte more, where its source and its read are a new pair of happens-before, by
+    /// the pair's sides and what happens-before is now: it was broken, or the byte or one whose answer can have changed is
+    /// not coherent, or the byte tears its read.
     pub(crate) fn is_broken_with_pair(
         &self,
         was: bool,
         byte: SourcedByte,
-        before: &TwoWayRows,
+        sides: Sides,
         now: &TwoWayRows,
     ) -> bool
         requires known { IsKnown (length self.now.events.now) byte }
-        requires len { rows_len before.now.rows ≡ length self.now.events.now }
-        requires as_long { rows_len now.now.rows ≡ length self.now.events.now }
+        requires len { rows_len now.now.rows ≡ length self.now.events.now }
         ensures { IsTrue result
             ↔ (IsTrue was ⊎ (¬ IsCoherentRead self.now.events.now (Holds now.now.rows) byte.read byte.byte byte.source)
-            ⊎ HasByteSo self.now.bytes.now (IsChangedByte self.now.events.now (Holds now.now.rows)
-            (λ e. Holds before.now.rows e byte.source ⊎ (e ≡ byte.source)) (λ e. Holds before.now.rows byte.read e ⊎ (e ≡ byte.read)))
+            ⊎ HasByteSo self.now.bytes.now (IsChangedByte self.now.events.now (Holds now.now.rows) (HasEvent sides.ahead) (HasEvent sides.behind))
             ⊎ HasByteSo self.now.bytes.now (Tears self.now.events.now byte)) }
     {
         was || !is_coherent_byte(self.events, byte, now)
-            || self.is_changed_with_pair(byte, before, now)
+            || self.is_changed_by(sides, now)
             || self.is_torn_by(byte)
-    }
-
-    /// Whether some byte whose answer one more byte's new pair can have changed is not coherent any more.
-    fn is_changed_with_pair(&self, byte: SourcedByte, before: &TwoWayRows, now: &TwoWayRows) -> bool
-        requires known { IsKnown (length self.now.events.now) byte }
-        requires len { rows_len before.now.rows ≡ length self.now.events.now }
-        requires as_long { rows_len now.now.rows ≡ length self.now.events.now }
-        ensures { IsTrue result
-            ↔ HasByteSo self.now.bytes.now (IsChangedByte self.now.events.now (Holds now.now.rows)
-            (λ e. Holds before.now.rows e byte.source ⊎ (e ≡ byte.source)) (λ e. Holds before.now.rows byte.read e ⊎ (e ≡ byte.read))) }
-    {
-        let (read, source) = (usize::from(byte.read), usize::from(byte.source));
-        let ahead = before.converse.successors(source).with(source);
-        let behind = before.rows.successors(read).with(read);
-        self.is_changed_by(ahead, behind, now)
     }
 }

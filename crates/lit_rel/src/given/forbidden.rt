@@ -20,21 +20,20 @@ use crate::rows::two_way_rows::TwoWayRows;
 use lit_paths::event_at;
 
 impl Given<'_> {
-    /// What may not stand between each source and its read, by a relation that orders the events.
-    pub(crate) fn between(&self, before: &TwoWayRows, peers: &Rows) -> Between
+    /// Makes what is there what may not stand between each source and its read, by a relation that orders the events.
+    pub(crate) fn put_between(&self, between: &mut Between, before: &TwoWayRows, peers: &Rows)
         requires len { rows_len before.now.rows ≡ length self.now.events.now }
         requires peers { ArePeers self.now.events.now peers.now }
-        ensures len { result.len ≡ length self.now.events.now }
-        ensures triples { (w r v : ℕ) → Forbids result w r v
+        ensures len { between.new.len ≡ length self.now.events.now }
+        ensures triples { (w r v : ℕ) → Forbids between.new w r v
             ↔ IsForbiddenTriple self.now.events.now (ReadsByteFrom self.now.events.now (sources_of self.now.bytes.now)) (Holds before.now.rows) w r v }
     {
-        let mut between = Between::new(self.events.len());
+        between.begin(self.events.len());
         for place in 0..self.bytes.len() {
             if !self.repeats_pair(place) {
-                self.forbid_others(&mut between, self.bytes[place], before, peers);
+                self.forbid_others(between, self.bytes[place], before, peers);
             }
         }
-        between
     }
 
     /// Whether the byte before has the same source and read. A read has its bytes one after the other.

@@ -87,7 +87,7 @@ impl Given<'_> {
     }
 
     /// Whether neither a byte's read nor its source may tear, and their ranges are equal.
-    fn reads_whole(&self, byte: SourcedByte) -> bool
+    pub(crate) fn reads_whole(&self, byte: SourcedByte) -> bool
         requires { IsKnown (length self.now.events.now) byte }
         ensures { IsTrue result
             ↔ CanReadWhole (event_at self.now.events.now byte.read) (event_at self.now.events.now byte.source) }

@@ -1,9 +1,10 @@
 //! happens-before (ECMA-262, 2024, 29.6.6) of the sources given, and what it was before.
 
-ghost use Rattle.std.specs.Prelude.{◌≡◌, ◌<◌, ◌≤◌, [], ◌∷◌, ◌++◌, length, take};
+ghost use Rattle.std.specs.Prelude.{◌≡◌, ◌↔◌, ℕ, ◌<◌, ◌≤◌, [], ◌∷◌, ◌++◌, length, take};
 ghost use Rattle.lit_rel.specs.declared.part.orders.TheConstants.{ORDERS_KEPT};
 ghost use Rattle.lit_rel.specs.Internal.Given.{sources_of};
 ghost use Rattle.lit_rel.specs.Internal.Levels.{AreBack, rows_of};
+ghost use Rattle.lit_rel.specs.Rows.{Holds, WithPair, rows_len};
 
 use crate::given::Given;
 use crate::rows::two_way_rows::TwoWayRows;
@@ -40,16 +41,20 @@ impl Orders {
         self.earlier.clear();
     }
 
-    /// Takes the relation with one more pair in place of the one that is there, which is kept where there is room.
-    pub(crate) fn add(&mut self, next: TwoWayRows)
-        ensures now { self.new.now ≡ next }
+    /// Puts a pair in, both numbers below the length, and with it what it leads through. What the relation was is kept
+    /// where there is room.
+    pub(crate) fn add(&mut self, a: usize, d: usize)
+        requires first { a < rows_len self.old.now.rows }
+        requires second { d < rows_len self.old.now.rows }
+        ensures len { rows_len self.new.now.rows ≡ rows_len self.old.now.rows }
+        ensures pairs { (x y : ℕ) → Holds self.new.now.rows x y ↔ WithPair (Holds self.old.now.rows) a d x y }
         ensures kept { length self.old.earlier.items < ORDERS_KEPT → self.new.earlier.items ≡ self.old.earlier.items ++ self.old.now ∷ [] }
         ensures full { ORDERS_KEPT ≤ length self.old.earlier.items → self.new.earlier.items ≡ self.old.earlier.items }
     {
         if self.earlier.len() < ORDERS_KEPT {
             self.earlier.push(self.now);
         }
-        self.now = next;
+        self.now.close_with(a, d);
     }
 
     /// Goes back to the relation of the first sources, so many, to which so many of the pairs were added: it stays where

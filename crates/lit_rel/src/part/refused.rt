@@ -2,15 +2,18 @@
 
 ghost use Rattle.std.specs.Prelude.{◌≡◌, ◌≢◌, ◌⊎◌, ◌↔◌, ℕ, ◌+◌, ◌<◌, false, Some, IsTrue, length, slice_get};
 ghost use Rattle.lit_paths.specs.declared.byte_reads.ByteRead.{ByteRead as Read};
-ghost use Rattle.lit_paths.specs.Plan.{IsWalkIn, walk_in};
+ghost use Rattle.lit_paths.specs.Choice.{combinations_of};
+ghost use Rattle.lit_paths.specs.Event.{event_at};
+ghost use Rattle.lit_paths.specs.Plan.{IsWalkIn, first_event, path_in, walk_in};
 ghost use Rattle.lit_paths.specs.Run.{compares};
 ghost use Rattle.lit_rel.specs.Broken.{HasFalseTestOn, number_on as number_asked};
 ghost use Rattle.lit_rel.specs.Part.{part_events};
-ghost use Rattle.lit_rel.specs.Internal.Refused.{HasFalse, IsRefusedAtLast};
+ghost use Rattle.lit_rel.specs.Internal.Refused.{Asks, HasFalse, IsRefusedAtLast};
 ghost use Rattle.lit_rel.specs.ReadsFrom.{value_of};
 
 use crate::part::related::Related;
-use lit_paths::{ByteRead, Combination, Tested};
+use lit_paths::laws::combinations_are_walked;
+use lit_paths::{ByteRead, Combination, Event, Tested};
 
 /// The number of the event that a test asks about, on a path whose first event has this number; `None` for a register
 /// that was not written.
@@ -59,6 +62,28 @@ pub(crate) fn has_false_test(
     false
 }
 
+/// Whether some test asks about the event.
+fn asks(tests: &[Tested], first: u8, asked: Option<usize>) -> bool
+    ensures { IsTrue result ↔ Asks tests.now first asked }
+{
+    for test in tests {
+        if number_on(*test, first) == asked {
+            return true;
+        }
+    }
+    false
+}
+
+/// The agent of an event, by the event's number: `None` where there is no such event, or it makes a byte.
+fn owner_of(events: &[Event], event: u8) -> Option<u8>
+    ensures { result ≡ (event_at events.now event).owner }
+{
+    match events.get(usize::from(event)) {
+        Some(found) => found.owner,
+        None => None,
+    }
+}
+
 /// Whether the byte read at a place is the last of its read.
 fn is_last_of_read(reads: &[ByteRead], place: usize) -> bool
     requires { place < length reads.now }
@@ -70,19 +95,43 @@ fn is_last_of_read(reads: &[ByteRead], place: usize) -> bool
     }
 }
 
-/// Whether some test of a path of the part asks about a read, and is false of its value.
+/// Whether some test of an agent's path asks about a read, and is false of its value.
+fn is_refused_by(part: &Related<'_>, agent: usize, read: u8) -> bool
+    requires { agent < length part.now.test.agents }
+    ensures { IsTrue result
+        ↔ HasFalse (path_in part.now.test part.now.combination agent).tests (first_event part.now.test part.now.combination agent)
+        (Some read) (value_of (part_events part.now) part.now.sources read) }
+{
+    let tests = part.combination().path(agent).tests();
+    let first = part.combination().first_event(agent);
+    let asked = Some(usize::from(read));
+    asks(tests, first, asked) && has_false(tests, first, asked, part.value(read))
+}
+
+/// Whether some test of a path of the part asks about a read, and is false of its value. Only the path of the agent that
+/// reads can have one.
 fn is_read_refused(part: &Related<'_>, read: u8) -> bool
+    requires { part.now.combination < length (combinations_of part.now.test) }
     ensures { IsTrue result
         ↔ HasFalseTestOn part.now.test part.now.combination (Some read) (value_of (part_events part.now) part.now.sources read) }
 {
-    let value = part.value(read);
-    has_false_test(part.combination(), Some(usize::from(read)), value)
+    combinations_are_walked();
+    let agents = part.combination().test().agents();
+    let Some(owner) = owner_of(part.combination().events(), read) else {
+        return false;
+    };
+    let agent = usize::from(owner);
+    if agents <= agent {
+        return false;
+    }
+    is_refused_by(part, agent, read)
 }
 
 /// Whether a test is false with one source more, the last one given: one was, or the read whose last byte it is makes
 /// one so.
 pub(crate) fn is_refused_with(was: bool, part: &Related<'_>) -> bool
-    requires { 0 < length part.now.sources }
+    requires some { 0 < length part.now.sources }
+    requires known { part.now.combination < length (combinations_of part.now.test) }
     ensures { IsTrue result ↔ (IsTrue was ⊎ IsRefusedAtLast part.now) }
 {
     let reads = part.combination().byte_reads();

@@ -19,6 +19,7 @@ ghost use Rattle.lit_rel.specs.SynchronizesWith.{Synchronizes};
 ghost use Rattle.lit_rel.specs.TearFree.{HasTearFreeReads};
 
 use crate::between::Between;
+use crate::given::breaks::Sides;
 use crate::given::{Given, SourcedByte, SourcedBytes};
 use crate::part::fixed_steps::unsourced_order;
 use crate::part::levels::{Level, Levels};
@@ -121,11 +122,11 @@ impl<'p> Related<'p> {
             bytes: self.bytes.as_slice(),
         };
         let level = if given.adds_pair(byte, &self.orders.now.rows) {
-            let mut order = self.orders.now;
-            order.close_with(usize::from(byte.source), usize::from(byte.read));
-            let before = &self.orders.now;
-            let broken = given.is_broken_with_pair(self.level.broken, byte, before, &order);
-            self.orders.add(order);
+            let sides = Sides::around(byte, &self.orders.now);
+            self.orders
+                .add(usize::from(byte.source), usize::from(byte.read));
+            let order = &self.orders.now;
+            let broken = given.is_broken_with_pair(self.level.broken, byte, sides, order);
             Level {
                 adds: true,
                 broken,
@@ -249,13 +250,13 @@ impl<'p> Related<'p> {
         self.given().is_tear_free()
     }
 
-    /// What may not stand between each source given and its read in the order of memory (29.7.4).
-    pub(crate) fn between(&self, peers: &Rows) -> Between
+    /// Makes what is there what may not stand between each source given and its read in the order of memory (29.7.4).
+    pub(crate) fn put_between(&self, between: &mut Between, peers: &Rows)
         requires { ArePeers (part_events self.now) peers.now }
-        ensures len { result.len ≡ length (part_events self.now) }
-        ensures triples { (w r v : ℕ) → Forbids result w r v ↔ IsForbidden (part_events self.now) self.now.sources w r v }
+        ensures len { between.new.len ≡ length (part_events self.now) }
+        ensures triples { (w r v : ℕ) → Forbids between.new w r v ↔ IsForbidden (part_events self.now) self.now.sources w r v }
     {
-        self.given().between(self.order(), peers)
+        self.given().put_between(between, self.order(), peers);
     }
 
     /// Whether two events are in a data race (29.9), by the sources given.

@@ -1,4 +1,5 @@
 use Rattle.std.proofs.Common.{◌≡◌, ◌+◌, ◌-◌, ◌<◌, Bool, false, List, length, take, get_or, arith, ap, sym, ◌∙◌, subst}
+use Rattle.lit_paths.specs.Choice.{combinations_of}
 use Rattle.lit_rel.specs.Part.{PartModel, part_events, with_sources}
 use Rattle.lit_rel.specs.Internal.Peers.{ArePeers}
 use Rattle.lit_rel.specs.Internal.Refused.{AreRefusals}
@@ -18,8 +19,10 @@ invariant_of-self c =
     let front' : length inside.earlier.items - 1 ≡ n = omega arith in
     let popped : c.pop-2.new.self ≡ with_sources part (take n part.sources) = c.pop-2.ensures ∙ ap (λ k. with_sources part (take k part.sources)) front in
     record {
+      known = subst (λ (p : PartModel). p.combination < length (combinations_of p.test)) (sym popped) c.self.invariant.known;
       refusals = subst (λ (p : PartModel). AreRefusals p c.pop.new.self.items (get_or c.deref.result.now n false)) (sym popped)
           (subst (λ (xs : List Bool). AreRefusals (with_sources part (take n part.sources)) c.pop.new.self.items (get_or xs n false)) (sym c.deref.ensures.0)
           (AreRefusals-pop part inside.earlier.items c.pop.new.self.items inside.refused n false c.self.invariant.refusals count (c.pop.ensures.rest ∙ ap (λ k. take k inside.earlier.items) front')));
       peers = subst (λ (p : PartModel). ArePeers (part_events p) inside.peers) (sym popped) c.self.invariant.peers;
+      none = c.self.invariant.none;
     }

@@ -1,7 +1,8 @@
-use Rattle.std.proofs.Common.{◌≡◌, ◌↔◌, ◌⊎◌, ◌+◌, ◌≤◌, length, arith, ap, sym, ◌∙◌, subst}
+use Rattle.std.proofs.Common.{◌≡◌, ◌↔◌, ◌⊎◌, ◌+◌, ◌<◌, ◌≤◌, length, arith, ap, sym, ◌∙◌, subst}
 use Rattle.std.proofs.lemmas.List.{length_push}
 use Rattle.std.specs.Bool.{IsTrue}
 use Rattle.lit_paths.specs.declared.limits.TheConstants.{BYTE_READ_LIMIT}
+use Rattle.lit_paths.specs.Choice.{combinations_of}
 use Rattle.lit_rel.specs.Part.{IsNextSource, PartModel, part_events}
 use Rattle.lit_rel.specs.Internal.Peers.{ArePeers}
 use Rattle.lit_rel.specs.Internal.Refused.{AreRefusals, IsRefusedAtLast}
@@ -22,8 +23,10 @@ invariant_of-self c =
     let part = inside.related in
     let next = subst (λ (p : PartModel). IsNextSource p c.args.source) (sym c.self.view_is) c.requires in
     record {
+      known = subst (λ (p : PartModel). p.combination < length (combinations_of p.test)) (sym c.push.ensures.value) c.self.invariant.known;
       refusals = subst (λ (p : PartModel). AreRefusals p c.push-2.new.self.items c.is_refused_with-self-inside.result) (sym c.push.ensures.value)
           (AreRefusals-push part inside.earlier.items c.push-2.new.self.items inside.refused c.is_refused_with-self-inside.result c.args.source next c.self.invariant.refusals c.push-2.ensures.items
           (subst (λ (p : PartModel). IsTrue c.is_refused_with-self-inside.result ↔ (IsTrue inside.refused ⊎ IsRefusedAtLast p)) c.push.ensures.value c.is_refused_with-self-inside.ensures));
       peers = subst (λ (p : PartModel). ArePeers (part_events p) inside.peers) (sym c.push.ensures.value) c.self.invariant.peers;
+      none = c.self.invariant.none;
     }

@@ -3,7 +3,7 @@ use Rattle.std.proofs.lemmas.Bool.{cases_lt, false≢true}
 use Rattle.lit_rel.specs.Part.{PartModel}
 use Rattle.lit_order.specs.declared.forced_part.level.ForcedLevel.{ForcedLevel}
 use Rattle.lit_order.specs.declared.forced_part.levels.TheConstants.{LEVELS_KEPT}
-use Rattle.lit_order.specs.Internal.ForcedLevels.{AreForcedLevels, IsForcedLevel, less_of}
+use Rattle.lit_order.specs.Internal.ForcedLevels.{AreForbidden, AreForcedLevels, IsForcedLevel, less_of}
 use Rattle.lit_order.proofs.KeptLevelLemmas.{AreForcedLevels-alone, AreForcedLevels-begin, AreForcedLevels-on, AreForcedLevels-stay, IsForcedLevel-most, known_less, shorter}
 use Rattle.lit_order.proofs.PartLemmas.{level_stays}
 use Rattle.lit_order.proofs.forced_part.levels.Levels.go_on.Goals as goal
@@ -47,6 +47,13 @@ go_on-requires-clause-level c =
     subst (IsForcedLevel (less_of part)) (sym c.keep.ensures.now)
     (IsForcedLevel-most (less_of part) was (c.len-then-not-goes_for.result - 1)
     (known_less part c.requires.some earlier was c.requires.levels (known_before part c.requires.some was c.len.result c.len.ensures.value c.if-len-self.false (shorter part c.requires.some earlier was c.requires.levels))))
+
+pub go_on-requires-clause-between : goal.go_on-requires-clause-between
+go_on-requires-clause-between c =
+    subst (AreForbidden c.args.part.now) (sym c.keep.ensures.between) record {
+      len = sym c.put_between.ensures.len;
+      triples = c.put_between.ensures.triples;
+    }
 
 pub go_on-requires-clause-straight : goal.go_on-requires-clause-straight
 go_on-requires-clause-straight c = subst (λ (l : ForcedLevel). IsFalse l.round) (sym c.keep.ensures.now) c.if-self.false

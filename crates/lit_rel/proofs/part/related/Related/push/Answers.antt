@@ -1,4 +1,4 @@
-use Rattle.std.proofs.Common.{◌≡◌, ◌↔◌, ◌⊎◌, ◌+◌, ◌<◌, ◌≤◌, ℕ, List, [], ◌∷◌, ◌++◌, length, map, get_or, true, false, refl, sym, ap, ◌∙◌, subst, arith}
+use Rattle.std.proofs.Common.{◌≡◌, ◌↔◌, ◌⊎◌, ◌+◌, ◌<◌, ◌≤◌, ℕ, List, [], ◌∷◌, ◌++◌, length, map, get_or, true, false, refl, sym, ap, ◌∙◌, subst, arith, inl, inr}
 use Rattle.std.proofs.lemmas.Bool.{false≢true}
 use Rattle.std.proofs.lemmas.List.{length-map}
 use Rattle.std.specs.Bool.{IsTrue}
@@ -13,12 +13,14 @@ use Rattle.lit_rel.specs.declared.part.levels.Level.{Level}
 use Rattle.lit_rel.specs.declared.part.orders.TheConstants.{ORDERS_KEPT}
 use Rattle.lit_rel.specs.declared.part.related.Related.TheInside.{Inside}
 use Rattle.lit_rel.specs.Coherent.{IsCoherentRead}
+use Rattle.lit_rel.specs.EventSet.{HasEvent}
 use Rattle.lit_rel.specs.Part.{IsNextSource, PartModel, part_events}
 use Rattle.lit_rel.specs.Internal.Given.{IsKnown, Tears, sources_of}
 use Rattle.lit_rel.specs.Internal.Levels.{IsKept, IsOrder, rows_of}
 use Rattle.lit_rel.specs.Internal.Pushed.{HasByteSo, IsChangedByte}
 use Rattle.lit_rel.specs.Rows.{Holds, WithPair}
 use Rattle.lit_rel.specs.SynchronizesWith.{CanSynchronize}
+use Rattle.lit_rel.proofs.LevelLemmas.{changed-same}
 use Rattle.lit_rel.proofs.OrderLemmas.{IsOrder-alone, IsOrder-with_pair}
 use Rattle.lit_rel.proofs.PartLemmas.{few_bytes, IsKept-push_alone, IsKept-push_pair, IsLevel-alone, IsLevel-with_pair, IsNextByte, IsNextByte-from, left_of_part, next_known, of_given, part_of}
 use Rattle.lit_rel.proofs.RestoreLemmas.{rows_pushed}
@@ -84,23 +86,27 @@ invariant_of-self c =
     let Kept : Inside → Level → Type 0 = λ i l. IsKept (record { test = i.combination.0; combination = i.combination.1; sources = sources_of bytes' }) bytes' (rows_of i.orders.earlier.items) i.orders.now.rows earlier' l in
     elim c.if-adds_pair.branch [
       | then-adds_pair w ↦
-          let now = w.close_with.new.self in
           let added = w.add.new.self in
+          let now = added.now in
+          let sides = w.around-sides.result in
           let broken = w.is_broken_with_pair-broken in
           let pushed : bytes' ≡ bytes ++ byte ∷ [] = c.push-2.ensures.items ∙ ap (λ (i : Inside). i.bytes.items ++ byte ∷ []) w.self-inside-is in
           let pushed_level : earlier' ≡ inside.earlier.items ++ inside.level ∷ [] = c.push.ensures.items ∙ ap (λ (i : Inside). i.earlier.items ++ i.level ∷ []) w.self-inside-is in
           let pair = subst (λ (es : List Event). CanSynchronize (event_at es byte.source) (event_at es byte.read) × (Holds before byte.source byte.read → ⊥)) c.events.ensures.value (w.if-adds_pair.ensures.0 refl) in
           let closed : (e d : ℕ) → Holds now.rows e d ↔ WithPair (Holds before) byte.source byte.read e d =
-          subst (λ (a : ℕ). (e d : ℕ) → Holds now.rows e d ↔ WithPair (Holds before) a byte.read e d) w.from.ensures (subst (λ (r : ℕ). (e d : ℕ) → Holds now.rows e d ↔ WithPair (Holds before) w.from.result r e d) w.from-then-adds_pair.ensures w.close_with.ensures.pairs) in
+          subst (λ (a : ℕ). (e d : ℕ) → Holds now.rows e d ↔ WithPair (Holds before) a byte.read e d) w.from.ensures (subst (λ (r : ℕ). (e d : ℕ) → Holds now.rows e d ↔ WithPair (Holds before) w.from.result r e d) w.from-then-adds_pair.ensures w.add.ensures.pairs) in
+          let changed = changed-same c.events.result.now c.as_slice.result.now (Holds now.rows) (HasEvent sides.ahead) (λ e. Holds before e byte.source ⊎ (e ≡ byte.source)) (HasEvent sides.behind) (λ e. Holds before byte.read e ⊎ (e ≡ byte.read)) w.around-sides.ensures.ahead w.around-sides.ensures.behind in
           subst (λ (i : Inside). Kept i c.if-adds_pair.level) (sym w.self-inside-is)
           (subst (λ (l : Level). Kept (record inside { orders = added }) l) (sym w.level-is)
-          (IsKept-push_pair part bytes bytes' (rows_of inside.orders.earlier.items) (rows_of added.earlier.items) inside.orders.now.rows added.now.rows inside.earlier.items earlier' inside.level (record { adds = true; broken = broken.result; pairs = inside.level.pairs + 1 }) byte refl c.self.invariant new pushed pushed_level
-          (subst (λ (o : TwoWayRows). IsOrder (part_events part) (sources_of bytes ++ byte.source ∷ []) o.rows) (sym w.add.ensures.now)
-          (IsOrder-with_pair (part_events part) (sources_of bytes) byte left before c.self.invariant.ordered now.rows pair.0 w.close_with.ensures.len closed))
+          (IsKept-push_pair part bytes bytes' (rows_of inside.orders.earlier.items) (rows_of added.earlier.items) inside.orders.now.rows now.rows inside.earlier.items earlier' inside.level (record { adds = true; broken = broken.result; pairs = inside.level.pairs + 1 }) byte refl c.self.invariant new pushed pushed_level
+          (IsOrder-with_pair (part_events part) (sources_of bytes) byte left before c.self.invariant.ordered now.rows pair.0 w.add.ensures.len closed)
           (IsLevel-with_pair t number bytes (rows_of inside.orders.earlier.items) inside.orders.now.rows inside.earlier.items inside.level byte c.self.invariant new broken.result (inside.level.pairs + 1) now.rows pair.0 pair.1 closed
           (of_given (λ es bs. IsTrue broken.result ↔ (IsTrue inside.level.broken ⊎ (IsCoherentRead es (Holds now.rows) byte.read byte.byte byte.source → ⊥)
           ⊎ HasByteSo bs (IsChangedByte es (Holds now.rows) (λ e. Holds before e byte.source ⊎ (e ≡ byte.source)) (λ e. Holds before byte.read e ⊎ (e ≡ byte.read)))
-          ⊎ HasByteSo bs (Tears es byte))) _ _ _ _ c.events.ensures.value c.as_slice.ensures.value broken.ensures))
+          ⊎ HasByteSo bs (Tears es byte))) _ _ _ _ c.events.ensures.value c.as_slice.ensures.value (
+            (λ h. elim (broken.ensures.0 h) [ inl was ↦ inl was | inr rest ↦ inr (elim rest [ inl bad ↦ inl bad | inr more ↦ inr (elim more [ inl ch ↦ inl (changed.0 ch) | inr torn ↦ inr torn ]) ]) ]),
+            (λ h. broken.ensures.1 (elim h [ inl was ↦ inl was | inr rest ↦ inr (elim rest [ inl bad ↦ inl bad | inr more ↦ inr (elim more [ inl ch ↦ inl (changed.1 ch) | inr torn ↦ inr torn ]) ]) ])),
+          )))
           refl
           (λ room. rows_pushed added.earlier.items inside.orders.earlier.items _ (w.add.ensures.kept (subst (λ (n : ℕ). n < ORDERS_KEPT) (length-map inside.orders.earlier.items (λ (o : TwoWayRows). o.rows)) room)))
           (λ none. ap rows_of (w.add.ensures.full (subst (λ (n : ℕ). ORDERS_KEPT ≤ n) (length-map inside.orders.earlier.items (λ (o : TwoWayRows). o.rows)) none)))))

@@ -6,8 +6,8 @@ use Rattle.lit_rel.specs.Rows.{Holds}
 use Rattle.lit_rel.proofs.EachLemmas.{SomeBelow, SomeBelow-put}
 use Rattle.lit_rel.proofs.ForbiddenLemmas.{IsForbiddenTriple-iff, forbidden-again}
 use Rattle.lit_rel.proofs.SourceLemmas.{no_byte}
-use Rattle.lit_rel.proofs.given.Given.between.Goals as goal
-use Rattle.lit_rel.proofs.given.Given.between.Goals.{then-not-repeats_pair, else-not-repeats_pair}
+use Rattle.lit_rel.proofs.given.Given.put_between.Goals as goal
+use Rattle.lit_rel.proofs.given.Given.put_between.Goals.{then-not-repeats_pair, else-not-repeats_pair}
 
 pub loop-place-preserved : goal.loop-place-preserved
 loop-place-preserved c =

@@ -4,7 +4,7 @@ use Rattle.lit_rel.specs.Between.{Forbids}
 use Rattle.lit_rel.specs.Internal.Forbidding.{IsForbidding}
 use Rattle.lit_rel.specs.Rows.{Holds}
 use Rattle.lit_rel.proofs.EachLemmas.{SomeBelow}
-use Rattle.lit_rel.proofs.given.Given.between.Given as goal
+use Rattle.lit_rel.proofs.given.Given.put_between.Given as goal
 
 abbrev pub invariant-loop-place : goal.invariant-loop-place
 invariant-loop-place l = record {

@@ -1,8 +1,0 @@
-use Rattle.std.proofs.Common.{◌↔◌, subst}
-use Rattle.lit_rel.specs.Between.{Forbids}
-use Rattle.lit_rel.specs.Forbidden.{IsForbidden}
-use Rattle.lit_rel.specs.Part.{PartModel, part_events}
-use Rattle.lit_rel.proofs.part.Part.between.Goals as goal
-
-pub returns-clause-triples : goal.returns-clause-triples
-returns-clause-triples c w r v = subst (λ (part : PartModel). Forbids c.between.result w r v ↔ IsForbidden (part_events part) part.sources w r v) c.self.view_is (c.between.ensures.triples w r v)
