@@ -1,5 +1,5 @@
 -- The texts of single lines, as they are put together.
-use Rattle.std.proofs.Common.{◌≡◌, ℕ, Bool, ◌+◌, ◌<◌, ◌≤◌, Option, Some, None, List, [], ◌∷◌, ◌++◌, length, drop, get_or, codes, refl, sym, ap, ◌∙◌, append_assoc}
+use Rattle.std.proofs.Common.{◌≡◌, ℕ, Bool, ◌+◌, ◌<◌, ◌≤◌, Option, Some, None, List, [], ◌∷◌, ◌++◌, length, take, drop, get_or, codes, refl, sym, ap, ◌∙◌, append_assoc}
 use Rattle.std.specs.List.{flat_map}
 use Rattle.std.proofs.lemmas.List.{drop_more, drop_all, get_or_default}
 use Rattle.std.specs.Fmt.{decimal}
@@ -13,6 +13,8 @@ use Rattle.jslit.specs.ChoiceEvents.{choice_at, choice_events}
 use Rattle.jslit.specs.ReportText.{class_text, entry_text, event_name, from_lines, interleaving_text, line, names_text, owned_name, quick_text, register_text, registers_text, report_text, verdict_text, yes_or_no}
 use Rattle.jslit.specs.declared.verdict.Verdict.{Verdict}
 use Rattle.jslit.specs.Internal.FirstEntry.{entry_of_option}
+use Rattle.jslit.specs.Internal.Sharing.{outcome_text, order_line}
+use Rattle.jslit.proofs.Registers.{registers_split}
 
 -- a blank, an agent's name, what stands behind it, and a number
 pub name_is : (agent behind number : List ℕ) → ((codes " " ++ agent) ++ behind) ++ number ≡ codes " " ++ agent ++ behind ++ number
@@ -66,23 +68,24 @@ entries_more t report i entry lt is =
 pub entries_end : (t : Litmus) (report : Report) (i : ℕ) → length report.entries ≤ i → flat_map (entry_text t) (drop i report.entries) ≡ []
 entries_end t report i le = ap (flat_map (entry_text t)) (drop_all i report.entries le)
 
+-- an outcome from its first values and the others
+pub outcome_is : (t : Litmus) (names : List (ℕ × ℕ)) (values : List ℕ) (n : ℕ) → (outcome_text t names (take n values) ++ registers_text t (drop n names) (drop n values)) ++ codes "\n" ≡ line (outcome_text t names values)
+outcome_is t names values n =
+    ap (λ (w : List ℕ). w ++ codes "\n") (append_assoc (codes "outcome") (registers_text t names (take n values)) (registers_text t (drop n names) (drop n values)) ∙ ap (λ (w : List ℕ). codes "outcome" ++ w) (registers_split t names values n))
+
 -- an entry from its parts
 pub entry_is : (t test : Litmus) (names : List (ℕ × ℕ)) (events : List Event) (sources order : List ℕ) (entry : Entry)
     → test ≡ t → names ≡ names_of t → events ≡ choice_events t (choice_at t entry.choice) → sources ≡ (choice_at t entry.choice).sources → order ≡ entry.order
-    → (((((codes "outcome" ++ registers_text test names entry.outcome) ++ codes "\n") ++ from_lines test events sources) ++ codes "  order") ++ names_text test events order) ++ codes "\n" ≡ entry_text t entry
+    → (line (outcome_text test names entry.outcome) ++ from_lines test events sources) ++ order_line test events order ≡ entry_text t entry
 entry_is t test names events sources order entry same named evented sourced ordered =
     ap (λ (u : Litmus). text u names events sources order) same
     ∙ ap (λ (ns : List (ℕ × ℕ)). text t ns events sources order) named
     ∙ ap (λ (es : List Event). text t (names_of t) es sources order) evented
     ∙ ap (λ (ws : List ℕ). text t (names_of t) (choice_events t (choice_at t entry.choice)) ws order) sourced
     ∙ ap (λ (ns : List ℕ). text t (names_of t) (choice_events t (choice_at t entry.choice)) (choice_at t entry.choice).sources ns) ordered
-    ∙ joined (codes "outcome") _ _ (codes "  order") _
   where
     text : Litmus → List (ℕ × ℕ) → List Event → List ℕ → List ℕ → List ℕ
-    text u ns es ws os = (((((codes "outcome" ++ registers_text u ns entry.outcome) ++ codes "\n") ++ from_lines u es ws) ++ codes "  order") ++ names_text u es os) ++ codes "\n"
-
-    joined : (a r f w n : List ℕ) → (((((a ++ r) ++ codes "\n") ++ f) ++ w) ++ n) ++ codes "\n" ≡ line (a ++ r) ++ f ++ line (w ++ n)
-    joined a r f w n = simp append_assoc
+    text u ns es ws os = (line (outcome_text u ns entry.outcome) ++ from_lines u es ws) ++ order_line u es os
 
 -- what is said of a class
 pub class_none : (t : Litmus) (word : List ℕ) (first : Option Report) → ((report : Report) → first ≡ Some report → ⊥) → word ++ codes " none\n" ≡ class_text t word (entry_of_option first)

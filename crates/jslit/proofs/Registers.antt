@@ -1,6 +1,6 @@
 -- The registers of an outcome, one after the other.
-use Rattle.std.proofs.Common.{◌≡◌, ℕ, ◌+◌, ◌<◌, ◌≤◌, List, [], ◌∷◌, ◌++◌, length, drop, get_or, refl, ap, ◌∙◌}
-use Rattle.std.proofs.lemmas.List.{drop_more, drop_all}
+use Rattle.std.proofs.Common.{◌≡◌, ℕ, zero, suc, ◌+◌, ◌<◌, ◌≤◌, List, [], ◌∷◌, ◌++◌, length, take, drop, get_or, ◌-◌, refl, ap, ◌∙◌, append_assoc, arith}
+use Rattle.std.proofs.lemmas.List.{drop_more, drop_all, take_all, length-drop}
 use Rattle.lit_read.specs.Syntax.{Litmus}
 use Rattle.jslit.specs.ReportText.{register_text, registers_text}
 
@@ -16,3 +16,16 @@ none_left t (n ∷ names) = refl
 
 pub registers_end : (t : Litmus) (names : List (ℕ × ℕ)) (values : List ℕ) (i : ℕ) → length values ≤ i → registers_text t (drop i names) (drop i values) ≡ []
 registers_end t names values i le = ap (λ (ys : List ℕ). registers_text t (drop i names) ys) (drop_all i values le) ∙ none_left t (drop i names)
+
+-- the first registers and the others
+pub registers_split : (t : Litmus) (names : List (ℕ × ℕ)) (values : List ℕ) (n : ℕ) → registers_text t names (take n values) ++ registers_text t (drop n names) (drop n values) ≡ registers_text t names values
+registers_split t names values zero = ap (λ (w : List ℕ). w ++ registers_text t names values) (none_left t names)
+registers_split t [] values (suc n) = refl
+registers_split t (x ∷ names) [] (suc n) = none_left t (drop n names)
+registers_split t (x ∷ names) (v ∷ values) (suc n) =
+    append_assoc (register_text t (x, v)) (registers_text t names (take n values)) (registers_text t (drop n names) (drop n values))
+    ∙ ap (λ (w : List ℕ). register_text t (x, v) ++ w) (registers_split t names values n)
+
+-- a list behind a place, cut at its end
+pub all_behind : {A : Type 0} (xs : List A) (n : ℕ) → take (length xs - n) (drop n xs) ≡ drop n xs
+all_behind xs n = take_all (length xs - n) (drop n xs) (omega (arith, length-drop n xs))

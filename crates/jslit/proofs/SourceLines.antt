@@ -2,7 +2,7 @@
 use Rattle.std.proofs.Common.{◌≡◌, ◌≢◌, ℕ, zero, suc, ◌+◌, ◌<◌, ◌≤◌, Bool, true, false, cond, eqb, List, [], ◌∷◌, ◌++◌, length, map, filter, take, drop, get_or, refl, sym, ap, ◌∙◌, arith, append_assoc, ne_eqb, eq-eqb}
 use Rattle.std.specs.Prelude.{All}
 use Rattle.std.specs.List.{AllByRecursion, flat_map, zip, range_with_len}
-use Rattle.std.proofs.lemmas.List.{append-nil, length-append, length-take, length-drop, at_drop_more}
+use Rattle.std.proofs.lemmas.List.{append-nil, length-append, length-take, length-drop, at_drop_more, take-append-drop, take-append-le, drop-append-le}
 use Rattle.std.proofs.lemmas.List.Elements.{filter-append, All-drop}
 use Rattle.lit_read.specs.Syntax.{Litmus}
 use Rattle.lit_paths.specs.declared.event.Event.{Event}
@@ -10,12 +10,7 @@ use Rattle.lit_paths.specs.Event.{does_read, event_at}
 use Rattle.lit_paths.specs.ByteReads.{bytes_read_by, byte_reads_from, byte_reads}
 use Rattle.lit_search.specs.ValidExecution.{read_numbers_from}
 use Rattle.jslit.specs.ReportText.{source_line, from_lines}
-use Rattle.jslit.specs.Internal.ReadLine.{read_line, rest_after}
-
--- the lines of the reads among these events, where the sources are those of their bytes
-abbrev pub lines_from : Litmus → List Event → List Event → List ℕ → List ℕ
-lines_from t events [] sources = []
-lines_from t events (e ∷ es) sources = read_line t events e sources ++ lines_from t events es (rest_after e sources)
+use Rattle.jslit.specs.Internal.ReadLine.{read_line, rest_after, lines_from}
 
 abbrev Pair : Type 0
 Pair = (ℕ × ℕ) × ℕ
@@ -159,11 +154,11 @@ module _ (t : Litmus) (events : List Event) where
       step n e es ws (before ++ zip (byte_reads_from n (e ∷ es)) ws) (does_read e.kind) refl at (λ reads. own_sources n e es ws before reads lower long) tail
 
   -- the lines of all reads, one event after the other
-  pub from_lines-is : (ws : List ℕ) → length ws ≡ length (byte_reads events) → from_lines t events ws ≡ lines_from t events events ws
+  from_lines-is : (ws : List ℕ) → length ws ≡ length (byte_reads events) → from_lines t events ws ≡ lines_from t events events ws
   from_lines-is ws long = lines_are 0 events ws [] refl tt long
 
-  pub lines_more : (i : ℕ) (d : Event) (ws : List ℕ) → i < length events → lines_from t events (drop i events) ws ≡ read_line t events (get_or events i d) ws ++ lines_from t events (drop (i + 1) events) (rest_after (get_or events i d) ws)
-  lines_more i d ws lt = at_drop_more (λ (es : List Event). lines_from t events es ws) events i d lt
+  pub lines_more : (part : List Event) (i : ℕ) (d : Event) (ws : List ℕ) → i < length part → lines_from t events (drop i part) ws ≡ read_line t events (get_or part i d) ws ++ lines_from t events (drop (i + 1) part) (rest_after (get_or part i d) ws)
+  lines_more part i d ws lt = at_drop_more (λ (es : List Event). lines_from t events es ws) part i d lt
 
 -- how many sources are left
 by_kind : (n : ℕ) (e : Event) (ws : List ℕ) (rest : List (ℕ × ℕ)) (b : Bool) → does_read e.kind ≡ b → length ws ≡ length (bytes_read_by n e ++ rest) → length (cond b (drop e.size ws) ws) ≡ length rest
@@ -187,3 +182,59 @@ known_by n size ws false h = h
 
 pub known_after : (n : ℕ) (e : Event) (ws : List ℕ) → All (λ w. w < n) ws → All (λ w. w < n) (rest_after e ws)
 known_after n e ws h = known_by n e.size ws (does_read e.kind) h
+
+-- ---- the lines of a part of the events, and those of the others
+length_by : (n m : ℕ) (e : Event) (b : Bool) → does_read e.kind ≡ b → length (bytes_read_by n e) ≡ length (bytes_read_by m e)
+length_by n m e true is = length-read_by n e is ∙ sym (length-read_by m e is)
+length_by n m e false is = let first : length (bytes_read_by n e) ≡ 0 = rw is refl in let second : length (bytes_read_by m e) ≡ 0 = rw is refl in first ∙ sym second
+
+length_from : (n m : ℕ) (es : List Event) → length (byte_reads_from n es) ≡ length (byte_reads_from m es)
+length_from n m [] = refl
+length_from n m (e ∷ es) =
+    omega (arith, length-append (bytes_read_by n e) (byte_reads_from (n + 1) es), length-append (bytes_read_by m e) (byte_reads_from (m + 1) es), length_by n m e (does_read e.kind) refl, length_from (n + 1) (m + 1) es)
+
+length_both : (n : ℕ) (es fs : List Event) → length (byte_reads_from n (es ++ fs)) ≡ length (byte_reads_from n es) + length (byte_reads_from n fs)
+length_both n [] fs = omega arith
+length_both n (e ∷ es) fs =
+    omega (arith, length-append (bytes_read_by n e) (byte_reads_from (n + 1) (es ++ fs)), length-append (bytes_read_by n e) (byte_reads_from (n + 1) es), length_both (n + 1) es fs, length_from (n + 1) n fs)
+
+-- a part of the events and the others have as many bytes as all
+pub length_parts : (events : List Event) (k : ℕ) → length (byte_reads events) ≡ length (byte_reads (take k events)) + length (byte_reads (drop k events))
+length_parts events k = ap (λ (es : List Event). length (byte_reads es)) (sym (take-append-drop k events)) ∙ length_both 0 (take k events) (drop k events)
+
+pub length_behind : (events : List Event) (k : ℕ) → length (byte_reads_from k (drop k events)) ≡ length (byte_reads (drop k events))
+length_behind events k = length_from k 0 (drop k events)
+
+-- the last event that reads, and those behind it
+pub last_size : (events : List Event) (i : ℕ) (d : Event) → i < length events → length (byte_reads_from (i + 1) (drop (i + 1) events)) ≡ 0 → does_read (get_or events i d).kind ≡ true → (get_or events i d).size ≡ length (byte_reads_from i (drop i events))
+last_size events i d lt none reads =
+    let e = get_or events i d in
+    omega (arith, none, ap length (at_drop_more (byte_reads_from i) events i d lt), length-append (bytes_read_by i e) (byte_reads_from (i + 1) (drop (i + 1) events)), length-read_by i e reads)
+
+module _ (t : Litmus) (events : List Event) where
+  line_split : (e : Event) (es : List Event) (ws us later more : List ℕ) (b : Bool) → (b ≡ true → e.size ≤ length ws)
+      → lines_from t events es (cond b (drop e.size ws) ws ++ us) ≡ later ++ more
+      → cond b (source_line t events e (take e.size (ws ++ us))) [] ++ lines_from t events es (cond b (drop e.size (ws ++ us)) (ws ++ us)) ≡ (cond b (source_line t events e (take e.size ws)) [] ++ later) ++ more
+  line_split e es ws us later more true fit behind =
+      ap (λ (own : List ℕ). source_line t events e own ++ lines_from t events es (drop e.size (ws ++ us))) (take-append-le e.size ws us (fit refl))
+      ∙ ap (λ (rest : List ℕ). source_line t events e (take e.size ws) ++ lines_from t events es rest) (drop-append-le e.size ws us (fit refl))
+      ∙ ap (λ (w : List ℕ). source_line t events e (take e.size ws) ++ w) behind
+      ∙ sym (append_assoc (source_line t events e (take e.size ws)) later more)
+  line_split e es ws us later more false fit behind = behind
+
+  lines_split : (n : ℕ) (es fs : List Event) (ws us : List ℕ) → length ws ≡ length (byte_reads_from n es) → lines_from t events (es ++ fs) (ws ++ us) ≡ lines_from t events es ws ++ lines_from t events fs us
+  lines_split n [] fs [] us long = refl
+  lines_split n [] fs (w ∷ ws) us long = absurd (omega (arith, long))
+  lines_split n (e ∷ es) fs ws us long =
+      line_split e (es ++ fs) ws us (lines_from t events es (rest_after e ws)) (lines_from t events fs us) (does_read e.kind)
+      (λ reads. omega (arith, long, length-append (bytes_read_by n e) (byte_reads_from (n + 1) es), length-read_by n e reads))
+      (lines_split (n + 1) es fs (rest_after e ws) us (by_kind n e ws (byte_reads_from (n + 1) es) (does_read e.kind) refl long))
+
+  -- the lines of a part, and of the others
+  pub lines_parts : (ws : List ℕ) (k m : ℕ) → length ws ≡ length (byte_reads events) → length (take m ws) ≡ length (byte_reads (take k events))
+      → lines_from t events (take k events) (take m ws) ++ lines_from t events (drop k events) (drop m ws) ≡ from_lines t events ws
+  lines_parts ws k m long cut =
+      sym (lines_split 0 (take k events) (drop k events) (take m ws) (drop m ws) cut)
+      ∙ ap (λ (es : List Event). lines_from t events es (take m ws ++ drop m ws)) (take-append-drop k events)
+      ∙ ap (λ (us : List ℕ). lines_from t events events us) (take-append-drop m ws)
+      ∙ sym (from_lines-is t events ws long)

@@ -4,6 +4,8 @@ pub mod Reading
 pub mod FirstEntry
 pub mod Answering
 pub mod ReadLine
+pub mod Keeping
+pub mod Sharing
 pub mod Writing
 pub mod Command
 pub mod Saying

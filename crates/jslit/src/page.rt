@@ -1,7 +1,9 @@
 //! Text on its way to a writer.
 
+pub(crate) mod keeping;
 pub(crate) mod refusing;
 pub(crate) mod reporting;
+pub(crate) mod sharing;
 
 ghost use Rattle.std.specs.Prelude.{◌≡◌, [], ◌∷◌, false, IfErr, OnOk, OnErr};
 ghost use Rattle.std.specs.Fmt.{decimal};

@@ -7,23 +7,22 @@ ghost use Rattle.std.specs.List.{flat_map};
 ghost use Rattle.lit_paths.specs.Event.{does_read};
 ghost use Rattle.lit_paths.specs.Choice.{choices_of};
 ghost use Rattle.lit_paths.specs.ByteReads.{byte_reads};
-ghost use Rattle.lit_paths.specs.Plan.{choices_before};
-ghost use Rattle.lit_search.specs.Report.{Gives, HasLeastOrder, IsReport, in_range};
+ghost use Rattle.lit_search.specs.Report.{IsReport, in_range};
 ghost use Rattle.jslit.specs.Counted.{device_of, failures_of, one_more};
 ghost use Rattle.jslit.specs.Devices.{AppendsBeginning};
-ghost use Rattle.jslit.specs.ReportText.{line, verdict_text, event_name, names_text, source_line, from_lines, register_text, registers_text, entry_text, class_text, report_text, quick_text, yes_or_no};
+ghost use Rattle.jslit.specs.ReportText.{line, verdict_text, event_name, names_text, source_line, register_text, registers_text, entry_text, class_text, report_text, quick_text, yes_or_no};
 ghost use Rattle.jslit.specs.Internal.FirstEntry.{IsOnlyEntry, entry_of_option};
-ghost use Rattle.jslit.specs.Internal.ReadLine.{read_line, rest_after};
+ghost use Rattle.jslit.specs.Internal.ReadLine.{read_line, rest_after, lines_from};
 ghost use Rattle.jslit.specs.Internal.Writing.{HasPut, writing_of};
 
 use crate::counted::Counted;
 use crate::fault::RunFault;
 use crate::page::Page;
+use crate::page::sharing::{Shared, put_entry};
 use crate::verdict::Verdict;
-use lit_paths::laws::combinations_are_listed;
-use lit_paths::{Combination, Event, Kind, Plan};
+use lit_paths::{Event, Kind, Plan};
 use lit_read::Test;
-use lit_search::{Example, Found};
+use lit_search::Found;
 use std::io::Write;
 
 /// Puts a blank and the name of an access, by its agent's name and its place. A short one is put at once.
@@ -60,7 +59,7 @@ fn put_event<W: Write>(page: &mut Page, output: &mut Counted<W>, test: &Test, ev
 }
 
 /// Puts a blank and the name of each of these events, by their numbers.
-fn put_events<W: Write>(
+pub(crate) fn put_events<W: Write>(
     page: &mut Page,
     output: &mut Counted<W>,
     test: &Test,
@@ -122,21 +121,23 @@ fn put_read<'s, W: Write>(
     }
 }
 
-/// Puts a line for each read, with the sources of its bytes.
-fn put_sources<W: Write>(
+/// Puts a line for each read among a part of the events, with the sources of its bytes.
+pub(crate) fn put_sources<W: Write>(
     page: &mut Page,
     output: &mut Counted<W>,
     test: &Test,
     events: &[Event],
+    part: &[Event],
     sources: &[u8],
 )
     requires owned { All (λ e. IfSome e.owner (λ agent. agent < length test.now.agents)) events.now }
+    requires part { All (λ e. IfSome e.owner (λ agent. agent < length test.now.agents)) part.now }
     requires known { All (λ n. n < length events.now) sources.now }
-    requires one_each { length sources.now ≡ length (byte_reads events.now) }
-    ensures { HasPut (writing_of W.contents output.old page.old) (writing_of W.contents output.new page.new) (from_lines test.now events.now sources.now) }
+    requires one_each { length sources.now ≡ length (byte_reads part.now) }
+    ensures { HasPut (writing_of W.contents output.old page.old) (writing_of W.contents output.new page.new) (lines_from test.now events.now part.now sources.now) }
 {
     let mut rest = sources;
-    for event in events {
+    for event in part {
         rest = put_read(page, output, test, events, event, rest);
     }
 }
@@ -176,7 +177,7 @@ fn put_register<W: Write>(
     page.put_number(output, value as u64);
 }
 
-/// Puts the registers of an outcome with their values.
+/// Puts the first registers of an outcome, one for each of these values, with the values.
 pub(crate) fn put_registers<W: Write>(
     page: &mut Page,
     output: &mut Counted<W>,
@@ -185,57 +186,12 @@ pub(crate) fn put_registers<W: Write>(
     values: &[u32],
 )
     requires known { All (λ name. name.0 < length test.now.agents) names.now }
-    requires one_each { length values.now ≡ length names.now }
+    requires named { length values.now ≤ length names.now }
     ensures { HasPut (writing_of W.contents output.old page.old) (writing_of W.contents output.new page.new) (registers_text test.now names.now values.now) }
 {
     for (place, value) in values.iter().enumerate() {
         put_register(page, output, test, names[place], *value);
     }
-}
-
-/// Enters the combination of a choice, unless it is entered.
-fn enter_for<'p>(plan: &'p Plan<'p>, entered: &mut Combination<'p>, choice: u64)
-    requires plan { entered.old.0 ≡ plan.now }
-    requires known { choice < length (choices_of plan.now) }
-    ensures plan { entered.new.0 ≡ plan.now }
-    ensures low { choices_before entered.new.0 entered.new.1 ≤ choice }
-    ensures high { choice < choices_before entered.new.0 (entered.new.1 + 1) }
-{
-    if entered.first() <= choice && choice < entered.end() {
-        return;
-    }
-    plan.reenter(entered, plan.combination(choice));
-}
-
-/// Puts an outcome and its example, whose combination is entered unless it is.
-fn put_entry<'p, W: Write>(
-    page: &mut Page,
-    output: &mut Counted<W>,
-    plan: &'p Plan<'p>,
-    combination: &mut Combination<'p>,
-    outcome: &[u32],
-    example: &Example,
-)
-    requires plan { combination.old.0 ≡ plan.now }
-    requires known { example.now.choice < length (choices_of plan.now) }
-    requires gives { Gives plan.now example.now.choice outcome.now }
-    requires least_order { HasLeastOrder plan.now example.now.choice example.now.order.items }
-    ensures plan { combination.new.0 ≡ plan.now }
-    ensures text { HasPut (writing_of W.contents output.old page.old) (writing_of W.contents output.new page.new)
-        (entry_text plan.now (record { outcome = outcome.now; choice = example.now.choice; order = example.now.order.items })) }
-{
-    combinations_are_listed();
-    let test = plan.test();
-    enter_for(plan, combination, example.choice);
-    let events = combination.events();
-    let sources = combination.sources(example.choice);
-    page.put(output, b"outcome");
-    put_registers(page, output, test, plan.names(), outcome);
-    page.put_byte(output, b'\n');
-    put_sources(page, output, test, events, sources.as_slice());
-    page.put(output, b"  order");
-    put_events(page, output, test, events, example.order.as_slice());
-    page.put_byte(output, b'\n');
 }
 
 /// Puts the first line of a report.
@@ -279,6 +235,7 @@ fn put_entries<W: Write>(page: &mut Page, output: &mut Counted<W>, plan: &Plan<'
 {
     let _some = plan.combinations();
     let mut combination = plan.enter(0);
+    let mut shared = Shared::new();
     for place in 0..found.len() {
         put_entry(
             page,
@@ -287,6 +244,7 @@ fn put_entries<W: Write>(page: &mut Page, output: &mut Counted<W>, plan: &Plan<'
             &mut combination,
             found.outcome(place),
             found.example(place),
+            &mut shared,
         );
     }
 }
@@ -343,6 +301,7 @@ fn put_class<W: Write>(
         &mut combination,
         found.outcome(0),
         found.example(0),
+        &mut Shared::new(),
     );
 }
 

@@ -11,6 +11,9 @@ returns-in_default g c = HasPut-is _ _ _ _ (HasPut-then _ _ _ _ _ c.put.ensures 
 pub put_entry-requires-clause-plan : goal.put_entry-requires-clause-plan
 put_entry-requires-clause-plan g c = ap (λ (e : Litmus × ℕ). e.0) c.enter-combination.ensures
 
+pub put_entry-requires-clause-shared : goal.put_entry-requires-clause-shared
+put_entry-requires-clause-shared g c = c.new.ensures _ _
+
 pub returns : goal.returns
 returns g c =
     let entry : Entry = record { outcome = c.outcome.result.now; choice = c.example.result.now.choice; order = c.example.result.now.order.items } in

@@ -8,7 +8,7 @@ use Rattle.jslit.proofs.Putting.{puts_end, puts_more, puts_start}
 use Rattle.jslit.proofs.page.reporting.put_entries.Goals as goal
 
 pub loop-place-init : goal.loop-place-init
-loop-place-init g c = record { entered = ap (λ (e : Litmus × ℕ). e.0) c.enter-combination.ensures; so_far = puts_start _ _ }
+loop-place-init g c = record { entered = ap (λ (e : Litmus × ℕ). e.0) c.enter-combination.ensures; shared = c.new-shared.ensures _ _; so_far = puts_start _ _ }
 
 pub put_entry-requires-clause-known : goal.put_entry-requires-clause-known
 put_entry-requires-clause-known g c =
@@ -25,6 +25,9 @@ put_entry-requires-clause-least_order g c =
     let lt : c.loop-place.place < length c.args.found.now.entries = omega (arith, c.loop-place-test.true, c.len-place-end.ensures) in
     rw (c.example.ensures.choice, c.example.ensures.order) (entry_in c.args.plan.now _ c.args.found.now c.loop-place.place c.requires.report lt).least_order
 
+pub put_entry-requires-clause-shared : goal.put_entry-requires-clause-shared
+put_entry-requires-clause-shared g c = c.loop-place.invariant.shared
+
 pub loop-place-preserved : goal.loop-place-preserved
 loop-place-preserved g c =
     let lt : c.loop-place.place < length c.args.found.now.entries = omega (arith, c.loop-place-test.true, c.len-place-end.ensures) in
@@ -32,6 +35,7 @@ loop-place-preserved g c =
     let is : entry ≡ entry_at c.args.found.now c.loop-place.place = rw (c.outcome.ensures, c.example.ensures.choice, c.example.ensures.order) refl in
     record {
       entered = c.put_entry.ensures.plan;
+      shared = c.put_entry.ensures.shared;
       so_far = puts_more _ _ _ _ _ _ _ c.loop-place.invariant.so_far c.put_entry.ensures.text (entries_more c.args.plan.now c.args.found.now c.loop-place.place entry lt is);
     }
 

@@ -1,5 +1,5 @@
 use Rattle.std.proofs.Common.{refl}
-use Rattle.jslit.proofs.page.reporting.enter_for.Goals as goal
+use Rattle.jslit.proofs.page.sharing.enter_for.Goals as goal
 
 pub returns-clause-plan : goal.returns-clause-plan
 returns-clause-plan c = rw c.reenter.ensures refl

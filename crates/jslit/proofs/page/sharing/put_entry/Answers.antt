@@ -6,24 +6,24 @@ use Rattle.jslit.proofs.ChosenEvents.{executed, entered_events, entered_owned, e
 use Rattle.jslit.proofs.EntryFacts.{length-outcome, order_known, sources_known}
 use Rattle.jslit.proofs.Lines.{entry_is}
 use Rattle.jslit.proofs.Putting.{HasPut-then, HasPut-is}
-use Rattle.jslit.proofs.page.reporting.put_entry.Goals as goal
+use Rattle.jslit.proofs.page.sharing.put_entry.Goals as goal
 
-pub put_registers-requires-clause-one_each : goal.put_registers-requires-clause-one_each
-put_registers-requires-clause-one_each g c = rw c.names.ensures.value (length-outcome c.args.plan.now c.args.example.now.choice c.args.outcome.now c.requires.gives)
+pub put_outcome-requires-clause-one_each : goal.put_outcome-requires-clause-one_each
+put_outcome-requires-clause-one_each g c = rw c.names.ensures.value (length-outcome c.args.plan.now c.args.example.now.choice c.args.outcome.now c.requires.gives)
 
-pub put_sources-requires-clause-owned : goal.put_sources-requires-clause-owned
-put_sources-requires-clause-owned g c =
+pub put_lines-requires-clause-owned : goal.put_lines-requires-clause-owned
+put_lines-requires-clause-owned g c =
     rw c.test-test.ensures.value (entered_owned c.args.plan.now c.args.plan.now c.args.example.now.choice c.enter_for.new.entered.1 c.enter_for.new.entered c.events-events.result.now refl (entered_is c.args.plan.now c.enter_for.new.entered c.enter_for.ensures.plan) c.events-events.ensures.value (of_plan c.args.plan.now c.args.example.now.choice c.enter_for.new.entered c.enter_for.ensures.plan c.sources-sources.ensures.of) (c.combinations_are_listed.ensures c.args.plan.now))
 
-pub put_sources-requires-clause-known : goal.put_sources-requires-clause-known
-put_sources-requires-clause-known g c = rw (c.as_slice.ensures.value, c.events-events.ensures.value) (sources_known _ _ c.sources-sources.ensures.sourced)
+pub put_lines-requires-clause-known : goal.put_lines-requires-clause-known
+put_lines-requires-clause-known g c = rw (c.as_slice.ensures.value, c.events-events.ensures.value) (sources_known _ _ c.sources-sources.ensures.sourced)
 
-pub put_events-requires-clause-owned : goal.put_events-requires-clause-owned
-put_events-requires-clause-owned g c =
+pub put_kept_order-requires-clause-owned : goal.put_kept_order-requires-clause-owned
+put_kept_order-requires-clause-owned g c =
     rw c.test-test.ensures.value (entered_owned c.args.plan.now c.args.plan.now c.args.example.now.choice c.enter_for.new.entered.1 c.enter_for.new.entered c.events-events.result.now refl (entered_is c.args.plan.now c.enter_for.new.entered c.enter_for.ensures.plan) c.events-events.ensures.value (of_plan c.args.plan.now c.args.example.now.choice c.enter_for.new.entered c.enter_for.ensures.plan c.sources-sources.ensures.of) (c.combinations_are_listed.ensures c.args.plan.now))
 
-pub put_events-requires-clause-known : goal.put_events-requires-clause-known
-put_events-requires-clause-known g c =
+pub put_kept_order-requires-clause-known : goal.put_kept_order-requires-clause-known
+put_kept_order-requires-clause-known g c =
     rw (c.as_slice-2.ensures.value, entered_events c.args.plan.now c.args.plan.now c.args.example.now.choice c.enter_for.new.entered.1 c.enter_for.new.entered c.events-events.result.now refl (entered_is c.args.plan.now c.enter_for.new.entered c.enter_for.ensures.plan) c.events-events.ensures.value (of_plan c.args.plan.now c.args.example.now.choice c.enter_for.new.entered c.enter_for.ensures.plan c.sources-sources.ensures.of))
     (order_known c.args.plan.now c.args.example.now.choice c.args.outcome.now c.args.example.now.order.items _ c.requires.gives c.requires.least_order (executed c.args.plan.now c.args.example.now.choice c.enter_for.new.entered.1 (of_plan c.args.plan.now c.args.example.now.choice c.enter_for.new.entered c.enter_for.ensures.plan c.sources-sources.ensures.of)))
 
@@ -37,6 +37,5 @@ returns-clause-text g c =
     entered_choice t t c.args.example.now.choice c.enter_for.new.entered.1 c.enter_for.new.entered c.events-events.result.now refl (entered_is c.args.plan.now c.enter_for.new.entered c.enter_for.ensures.plan) c.events-events.ensures.value (of_plan c.args.plan.now c.args.example.now.choice c.enter_for.new.entered c.enter_for.ensures.plan c.sources-sources.ensures.of) (c.combinations_are_listed.ensures t) in
     let sources : c.as_slice.result.now ≡ choice.sources =
     entered_sources t t c.args.example.now.choice c.enter_for.new.entered.1 c.enter_for.new.entered c.events-events.result.now refl (entered_is c.args.plan.now c.enter_for.new.entered c.enter_for.ensures.plan) c.events-events.ensures.value (of_plan c.args.plan.now c.args.example.now.choice c.enter_for.new.entered c.enter_for.ensures.plan c.sources-sources.ensures.of) c.sources-sources.result.items c.as_slice.result.now c.sources-sources.ensures.listed c.as_slice.ensures.value in
-    HasPut-is _ _ _ _
-    (HasPut-then _ _ _ _ _ (HasPut-then _ _ _ _ _ (HasPut-then _ _ _ _ _ (HasPut-then _ _ _ _ _ (HasPut-then _ _ _ _ _ (HasPut-then _ _ _ _ _ c.put.ensures c.put_registers.ensures) c.put_byte.ensures) c.put_sources.ensures) c.put-2.ensures) c.put_events.ensures) c.put_byte-2.ensures)
+    HasPut-is _ _ _ _ (HasPut-then _ _ _ _ _ (HasPut-then _ _ _ _ _ c.put_outcome.ensures.text c.put_lines.ensures.text) c.put_kept_order.ensures.text)
     (entry_is t c.test-test.result.now c.names.result.now c.events-events.result.now c.as_slice.result.now c.as_slice-2.result.now entry c.test-test.ensures.value names events sources c.as_slice-2.ensures.value)

@@ -1,0 +1,394 @@
+//! An entry of a report, put on a page: what it shares with the entry before is kept, and not made again.
+
+ghost use Rattle.std.specs.Prelude.{◌≡◌, ℕ, ◌+◌, ◌<◌, ◌≤◌, All, IfSome, length, take, drop};
+ghost use Rattle.lit_paths.specs.ByteReads.{byte_reads, byte_reads_from};
+ghost use Rattle.lit_paths.specs.Choice.{choices_of};
+ghost use Rattle.lit_paths.specs.Outcome.{names_of};
+ghost use Rattle.lit_paths.specs.Plan.{choices_before, events_in};
+ghost use Rattle.lit_paths.specs.declared.limits.TheConstants.{BYTE_READ_LIMIT};
+ghost use Rattle.lit_search.specs.Report.{Gives, HasLeastOrder};
+ghost use Rattle.jslit.specs.ReportText.{line, registers_text, from_lines, entry_text};
+ghost use Rattle.jslit.specs.Internal.ReadLine.{lines_from};
+ghost use Rattle.jslit.specs.Internal.Sharing.{HoldsOutcome, HoldsLines, HoldsOrder, IsShared, outcome_text, order_line};
+ghost use Rattle.jslit.specs.Internal.Writing.{HasPut, writing_of};
+
+use crate::counted::Counted;
+use crate::page::Page;
+use crate::page::keeping::Kept;
+use crate::page::reporting::{put_events, put_registers, put_sources};
+use lit_paths::laws::combinations_are_listed;
+use lit_paths::{Combination, Event, Plan, Sources};
+use lit_read::Test;
+use lit_search::Example;
+use std::io::Write;
+
+/// The line of an outcome up to its last register, with the values that stand there.
+#[derive(Drop)]
+pub(crate) struct KeptOutcome<'f> {
+    values: &'f [u32],
+    text: Kept,
+}
+
+/// The lines of the reads among the first events, so many, with their sources.
+#[derive(Drop)]
+pub(crate) struct KeptLines {
+    part: usize,
+    sources: Sources,
+    text: Kept,
+}
+
+/// The line of an order.
+#[derive(Drop)]
+pub(crate) struct KeptOrder<'f> {
+    order: &'f [u8],
+    text: Kept,
+}
+
+/// The text that an entry can share with the one before.
+#[derive(Drop)]
+pub(crate) struct Shared<'f> {
+    outcome: KeptOutcome<'f>,
+    lines: KeptLines,
+    order: KeptOrder<'f>,
+}
+
+impl<'f> Shared<'f> {
+    ghost use Rattle.lit_read.specs.Syntax.{Litmus};
+    ghost use Rattle.lit_paths.specs.declared.event.Event.{Event as OfEvent};
+    ghost use Rattle.std.specs.Prelude.{List};
+
+    /// No text yet.
+    pub(crate) fn new() -> Self
+        ensures { (t : Litmus) (events : List OfEvent) → IsShared t events result }
+    {
+        Shared {
+            outcome: KeptOutcome {
+                values: &[],
+                text: Kept::new(),
+            },
+            lines: KeptLines {
+                part: 0,
+                sources: Sources::new(),
+                text: Kept::new(),
+            },
+            order: KeptOrder {
+                order: &[],
+                text: Kept::new(),
+            },
+        }
+    }
+}
+
+/// Puts the line of an outcome up to the last of these values.
+fn put_values<W: Write>(
+    page: &mut Page,
+    output: &mut Counted<W>,
+    test: &Test,
+    names: &[(u8, u8)],
+    values: &[u32],
+)
+    requires known { All (λ name. name.0 < length test.now.agents) names.now }
+    requires named { length values.now ≤ length names.now }
+    ensures { HasPut (writing_of W.contents output.old page.old) (writing_of W.contents output.new page.new) (outcome_text test.now names.now values.now) }
+{
+    page.put(output, b"outcome");
+    put_registers(page, output, test, names, values);
+}
+
+/// Keeps the line of an outcome up to the last of these values, unless it is too long. It is made anew unless it is kept.
+fn keep_values<'f>(kept: &mut KeptOutcome<'f>, test: &Test, names: &[(u8, u8)], values: &'f [u32])
+    requires known { All (λ name. name.0 < length test.now.agents) names.now }
+    requires named { length values.now ≤ length names.now }
+    requires kept { HoldsOutcome test.now names.now kept.old }
+    ensures kept { HoldsOutcome test.now names.now kept.new }
+    ensures values { kept.new.values.now ≡ values.now }
+{
+    if kept.text.is_kept() && kept.values == values {
+        return;
+    }
+    kept.values = values;
+    kept.text.begin();
+    put_values(
+        &mut kept.text.page,
+        &mut kept.text.nowhere,
+        test,
+        names,
+        values,
+    );
+}
+
+/// Puts the line of an outcome up to the last of these values, as it is kept.
+fn put_kept_values<'f, W: Write>(
+    page: &mut Page,
+    output: &mut Counted<W>,
+    test: &Test,
+    names: &[(u8, u8)],
+    values: &'f [u32],
+    kept: &mut KeptOutcome<'f>,
+)
+    requires known { All (λ name. name.0 < length test.now.agents) names.now }
+    requires named { length values.now ≤ length names.now }
+    requires kept { HoldsOutcome test.now names.now kept.old }
+    ensures kept { HoldsOutcome test.now names.now kept.new }
+    ensures text { HasPut (writing_of W.contents output.old page.old) (writing_of W.contents output.new page.new) (outcome_text test.now names.now values.now) }
+{
+    keep_values(kept, test, names, values);
+    if kept.text.is_kept() {
+        page.put(output, kept.text.text());
+        return;
+    }
+    put_values(page, output, test, names, values);
+}
+
+/// Puts the line of an outcome, of which all but the last value is mostly that of the outcome before.
+fn put_outcome<'f, W: Write>(
+    page: &mut Page,
+    output: &mut Counted<W>,
+    test: &Test,
+    names: &[(u8, u8)],
+    outcome: &'f [u32],
+    kept: &mut KeptOutcome<'f>,
+)
+    requires known { All (λ name. name.0 < length test.now.agents) names.now }
+    requires one_each { length outcome.now ≡ length names.now }
+    requires kept { HoldsOutcome test.now names.now kept.old }
+    ensures kept { HoldsOutcome test.now names.now kept.new }
+    ensures text { HasPut (writing_of W.contents output.old page.old) (writing_of W.contents output.new page.new) (line (outcome_text test.now names.now outcome.now)) }
+{
+    let count = outcome.len().saturating_sub(1);
+    let (values, last) = outcome.split_at(count);
+    put_kept_values(page, output, test, names, values, kept);
+    put_registers(page, output, test, &names[count..], last);
+    page.put_byte(output, b'\n');
+}
+
+/// How many events stand before the last that reads, and how many bytes that one has. Without one, no event and no byte.
+fn last_read(events: &[Event]) -> (usize, usize)
+    ensures known { result.0 ≤ length events.now }
+    ensures size { result.1 ≡ length (byte_reads_from result.0 (drop result.0 events.now)) }
+{
+    let mut place = events.len();
+    while place > 0 {
+        place -= 1;
+        if events[place].kind.does_read() {
+            return (place, events[place].size as usize);
+        }
+    }
+    (0, 0)
+}
+
+/// Keeps the lines of the reads among the first events, so many, unless they are too long. They are made anew unless they
+/// are kept.
+fn keep_lines(kept: &mut KeptLines, test: &Test, events: &[Event], part: usize, sources: &[u8])
+    requires owned { All (λ e. IfSome e.owner (λ agent. agent < length test.now.agents)) events.now }
+    requires known { All (λ n. n < length events.now) sources.now }
+    requires part { part ≤ length events.now }
+    requires one_each { length sources.now ≡ length (byte_reads (take part events.now)) }
+    requires few { length sources.now ≤ BYTE_READ_LIMIT }
+    requires kept { HoldsLines test.now events.now kept.old }
+    ensures kept { HoldsLines test.now events.now kept.new }
+    ensures part { kept.new.part ≡ part }
+    ensures sources { kept.new.sources.items ≡ sources.now }
+{
+    if kept.text.is_kept() && kept.part == part && kept.sources.as_slice() == sources {
+        return;
+    }
+    kept.part = part;
+    kept.sources.clear();
+    let _ = kept.sources.try_extend_from_slice(sources);
+    kept.text.begin();
+    put_sources(
+        &mut kept.text.page,
+        &mut kept.text.nowhere,
+        test,
+        events,
+        &events[..part],
+        sources,
+    );
+}
+
+/// Puts the lines of the reads among the first events, so many, as they are kept.
+fn put_kept_lines<W: Write>(
+    page: &mut Page,
+    output: &mut Counted<W>,
+    test: &Test,
+    events: &[Event],
+    part: usize,
+    sources: &[u8],
+    kept: &mut KeptLines,
+)
+    requires owned { All (λ e. IfSome e.owner (λ agent. agent < length test.now.agents)) events.now }
+    requires known { All (λ n. n < length events.now) sources.now }
+    requires part { part ≤ length events.now }
+    requires one_each { length sources.now ≡ length (byte_reads (take part events.now)) }
+    requires few { length sources.now ≤ BYTE_READ_LIMIT }
+    requires kept { HoldsLines test.now events.now kept.old }
+    ensures kept { HoldsLines test.now events.now kept.new }
+    ensures text { HasPut (writing_of W.contents output.old page.old) (writing_of W.contents output.new page.new) (lines_from test.now events.now (take part events.now) sources.now) }
+{
+    keep_lines(kept, test, events, part, sources);
+    if kept.text.is_kept() {
+        page.put(output, kept.text.text());
+        return;
+    }
+    put_sources(page, output, test, events, &events[..part], sources);
+}
+
+/// Puts a line for each read, with the sources of its bytes. All but the last are mostly those of the entry before.
+fn put_lines<W: Write>(
+    page: &mut Page,
+    output: &mut Counted<W>,
+    test: &Test,
+    events: &[Event],
+    sources: &[u8],
+    kept: &mut KeptLines,
+)
+    requires owned { All (λ e. IfSome e.owner (λ agent. agent < length test.now.agents)) events.now }
+    requires known { All (λ n. n < length events.now) sources.now }
+    requires one_each { length sources.now ≡ length (byte_reads events.now) }
+    requires few { length sources.now ≤ BYTE_READ_LIMIT }
+    requires kept { HoldsLines test.now events.now kept.old }
+    ensures kept { HoldsLines test.now events.now kept.new }
+    ensures text { HasPut (writing_of W.contents output.old page.old) (writing_of W.contents output.new page.new) (from_lines test.now events.now sources.now) }
+{
+    let (part, size) = last_read(events);
+    let (own, rest) = sources.split_at(sources.len() - size);
+    put_kept_lines(page, output, test, events, part, own, kept);
+    put_sources(page, output, test, events, &events[part..], rest);
+}
+
+/// Puts the line of an order.
+fn put_order<W: Write>(
+    page: &mut Page,
+    output: &mut Counted<W>,
+    test: &Test,
+    events: &[Event],
+    order: &[u8],
+)
+    requires owned { All (λ e. IfSome e.owner (λ agent. agent < length test.now.agents)) events.now }
+    requires known { All (λ n. n < length events.now) order.now }
+    ensures { HasPut (writing_of W.contents output.old page.old) (writing_of W.contents output.new page.new) (order_line test.now events.now order.now) }
+{
+    page.put(output, b"  order");
+    put_events(page, output, test, events, order);
+    page.put_byte(output, b'\n');
+}
+
+/// Keeps the line of an order, unless it is too long. It is made anew unless it is kept.
+fn keep_order<'f>(kept: &mut KeptOrder<'f>, test: &Test, events: &[Event], order: &'f [u8])
+    requires owned { All (λ e. IfSome e.owner (λ agent. agent < length test.now.agents)) events.now }
+    requires known { All (λ n. n < length events.now) order.now }
+    requires kept { HoldsOrder test.now events.now kept.old }
+    ensures kept { HoldsOrder test.now events.now kept.new }
+    ensures order { kept.new.order.now ≡ order.now }
+{
+    if kept.text.is_kept() && kept.order == order {
+        return;
+    }
+    kept.order = order;
+    kept.text.begin();
+    put_order(
+        &mut kept.text.page,
+        &mut kept.text.nowhere,
+        test,
+        events,
+        order,
+    );
+}
+
+/// Puts the line of an order, as it is kept: it is mostly that of the entry before.
+fn put_kept_order<'f, W: Write>(
+    page: &mut Page,
+    output: &mut Counted<W>,
+    test: &Test,
+    events: &[Event],
+    order: &'f [u8],
+    kept: &mut KeptOrder<'f>,
+)
+    requires owned { All (λ e. IfSome e.owner (λ agent. agent < length test.now.agents)) events.now }
+    requires known { All (λ n. n < length events.now) order.now }
+    requires kept { HoldsOrder test.now events.now kept.old }
+    ensures kept { HoldsOrder test.now events.now kept.new }
+    ensures text { HasPut (writing_of W.contents output.old page.old) (writing_of W.contents output.new page.new) (order_line test.now events.now order.now) }
+{
+    keep_order(kept, test, events, order);
+    if kept.text.is_kept() {
+        page.put(output, kept.text.text());
+        return;
+    }
+    put_order(page, output, test, events, order);
+}
+
+/// Enters the combination of a choice, unless it is entered. What is kept of other events is let go.
+fn enter_for<'p>(
+    plan: &'p Plan<'p>,
+    entered: &mut Combination<'p>,
+    choice: u64,
+    shared: &mut Shared<'_>,
+)
+    requires plan { entered.old.0 ≡ plan.now }
+    requires known { choice < length (choices_of plan.now) }
+    requires shared { IsShared plan.now (events_in entered.old.0 entered.old.1) shared.old }
+    ensures plan { entered.new.0 ≡ plan.now }
+    ensures low { choices_before entered.new.0 entered.new.1 ≤ choice }
+    ensures high { choice < choices_before entered.new.0 (entered.new.1 + 1) }
+    ensures shared { IsShared plan.now (events_in entered.new.0 entered.new.1) shared.new }
+{
+    if entered.first() <= choice && choice < entered.end() {
+        return;
+    }
+    plan.reenter(entered, plan.combination(choice));
+    shared.lines.text.forget();
+    shared.order.text.forget();
+}
+
+/// Puts an outcome and its example, whose combination is entered unless it is.
+pub(crate) fn put_entry<'p, 'f, W: Write>(
+    page: &mut Page,
+    output: &mut Counted<W>,
+    plan: &'p Plan<'p>,
+    combination: &mut Combination<'p>,
+    outcome: &'f [u32],
+    example: &'f Example,
+    shared: &mut Shared<'f>,
+)
+    requires plan { combination.old.0 ≡ plan.now }
+    requires known { example.now.choice < length (choices_of plan.now) }
+    requires gives { Gives plan.now example.now.choice outcome.now }
+    requires least_order { HasLeastOrder plan.now example.now.choice example.now.order.items }
+    requires shared { IsShared plan.now (events_in combination.old.0 combination.old.1) shared.old }
+    ensures plan { combination.new.0 ≡ plan.now }
+    ensures shared { IsShared plan.now (events_in combination.new.0 combination.new.1) shared.new }
+    ensures text { HasPut (writing_of W.contents output.old page.old) (writing_of W.contents output.new page.new)
+        (entry_text plan.now (record { outcome = outcome.now; choice = example.now.choice; order = example.now.order.items })) }
+{
+    combinations_are_listed();
+    let test = plan.test();
+    enter_for(plan, combination, example.choice, shared);
+    let events = combination.events();
+    let sources = combination.sources(example.choice);
+    put_outcome(
+        page,
+        output,
+        test,
+        plan.names(),
+        outcome,
+        &mut shared.outcome,
+    );
+    put_lines(
+        page,
+        output,
+        test,
+        events,
+        sources.as_slice(),
+        &mut shared.lines,
+    );
+    put_kept_order(
+        page,
+        output,
+        test,
+        events,
+        example.order.as_slice(),
+        &mut shared.order,
+    );
+}
