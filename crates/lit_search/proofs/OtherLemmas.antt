@@ -287,9 +287,6 @@ adds_on t since from mid to one two n outcome low high g =
           ])
     ]
 
-pub adds_none : (t : Litmus) (since from to : ℕ) → to ≤ from → AddsNothing t since from to
-adds_none t since from to none n outcome low high g = absurd (omega (arith, none, low, high))
-
 -- where none shows what is wanted, none of those does that show nothing else
 pub shows_on : (t : Litmus) (Wanted : List ℕ → Type 0) (since from mid to : ℕ) → NoneShow t Wanted (in_range since from) → NoneShow t Wanted (in_range from mid) → AddsNothing t since mid to → NoneShow t Wanted (in_range from to)
 shows_on t Wanted since from mid to seen none adds n inside outcome g wanted =

@@ -16,7 +16,7 @@ use Rattle.lit_rel.specs.Coherent.{IsCoherentRead}
 use Rattle.lit_rel.specs.EventSet.{HasEvent}
 use Rattle.lit_rel.specs.Part.{IsNextSource, PartModel, part_events}
 use Rattle.lit_rel.specs.Internal.Given.{IsKnown, Tears, sources_of}
-use Rattle.lit_rel.specs.Internal.Levels.{IsKept, IsOrder, rows_of}
+use Rattle.lit_rel.specs.Internal.Levels.{IsKept, rows_of}
 use Rattle.lit_rel.specs.Internal.Pushed.{HasByteSo, IsChangedByte}
 use Rattle.lit_rel.specs.Rows.{Holds, WithPair}
 use Rattle.lit_rel.specs.SynchronizesWith.{CanSynchronize}
