@@ -13,6 +13,7 @@ use Rattle.lit_rel.proofs.EdgeLemmas.{HappensBeforeBy-transitive}
 use Rattle.lit_rel.proofs.PlaceLemmas.{place-push}
 use Rattle.lit_rel.proofs.SourceLemmas.{take_more}
 use Rattle.lit_rel.specs.ReadsFrom.{ReadsByteFrom}
+use Rattle.lit_rel.specs.Rows.{Holds, rows_len}
 use Rattle.lit_order.specs.declared.forced_part.level.ForcedLevel.{ForcedLevel}
 use Rattle.lit_order.specs.Forcing.{IsForced, Given, Through, AfterRead, BeforeSource}
 use Rattle.lit_order.specs.Refuted.{IsRefuted}
@@ -34,19 +35,29 @@ unsourced_refuted part none (inr round) = inl (inl (round.0, unsourced_forced pa
 no_entry : (levels : List ForcedLevel) → levels ≡ [] → (i : ℕ) (level : ForcedLevel) → slice_get levels i ≡ Some level → ⊥
 no_entry levels none i level at = none-some level (sym (ap (λ (ls : List ForcedLevel). slice_get ls i) none) ∙ at)
 
-pub AreForcedLevels-open : (part : PartModel) (earlier : List ForcedLevel) (now : ForcedLevel) → AreEventsIn part.test.bytes (part_events part) → part.sources ≡ [] → earlier ≡ [] → now.least ≡ 1 → now.round ≡ false → AreForcedLevels part earlier now
-AreForcedLevels-open part earlier now sound none no_levels least straight =
+pub unsourced_level : (part : PartModel) → part.sources ≡ [] → (level : ForcedLevel) → rows_len level.forced.rows ≡ length (part_events part)
+    → ((a d : ℕ) → Holds level.forced.rows a d ↔ HappensBefore (part_events part) part.sources a d) → ¬ IsTrue level.round → IsForcedLevel part level
+unsourced_level part none level len pairs straight = record {
+  refuted = (
+    (λ is. inl (unsourced_refuted part none is)),
+    (λ is. elim is [ inl broken ↦ inl broken | inr round ↦ absurd (straight round) ]),
+  );
+  pairs = λ _. record { len = len; pairs = λ a d. (λ h. Given ((pairs a d).0 h), λ f. (pairs a d).1 (unsourced_forced part none a d f)) };
+}
+
+pub AreForcedLevels-open : (part : PartModel) (earlier : List ForcedLevel) (now : ForcedLevel) → AreEventsIn part.test.bytes (part_events part) → part.sources ≡ [] → earlier ≡ [] → now.least ≡ 0 → IsForcedLevel part now → AreForcedLevels part earlier now
+AreForcedLevels-open part earlier now sound none no_levels least level =
     let no : length part.sources ≡ 0 = ap length none in
     record {
       sound = sound;
-      here = λ k low high. absurd (omega arith);
-      below = λ k _ _. unsourced_refuted (first_of part k) (take_all k part.sources (omega (arith, no)) ∙ none);
-      straight = λ _. straight;
-      kept = λ i level at. absurd (no_entry earlier no_levels i level at);
-      ordered = λ i level at. absurd (no_entry earlier no_levels i level at);
-      rising = λ i j level more _ at _. absurd (no_entry earlier no_levels i level at);
-      lower = λ i level at. absurd (no_entry earlier no_levels i level at);
-      apart = λ _ i level at. absurd (no_entry earlier no_levels i level at);
+      here = λ k low high. subst (λ (p : PartModel). IsForcedLevel p now) (ap (with_sources part) (sym (take_all k part.sources (omega (arith, no))))) level;
+      below = λ k under _. absurd (omega (arith, under, least));
+      straight = λ under. absurd (omega (arith, under, least));
+      kept = λ i other at. absurd (no_entry earlier no_levels i other at);
+      ordered = λ i other at. absurd (no_entry earlier no_levels i other at);
+      rising = λ i j other more _ at _. absurd (no_entry earlier no_levels i other at);
+      lower = λ i other at. absurd (no_entry earlier no_levels i other at);
+      apart = λ _ i other at. absurd (no_entry earlier no_levels i other at);
     }
 
 -- up to which number of sources a level goes does not matter to a part

@@ -8,6 +8,7 @@ pub mod ForcedLemmas
 pub mod ExtendLemmas
 pub mod ForcingLemmas
 pub mod KeptLevelLemmas
+pub mod LeftOutLemmas
 pub mod LevelLemmas
 pub mod LinearLemmas
 pub mod MissingLemmas

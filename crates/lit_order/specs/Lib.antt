@@ -1,5 +1,6 @@
 pub mod MemoryOrder
 pub mod Forcing
 pub mod Forced
+pub mod LeftOut
 pub mod Refuted
 pub mod Internal

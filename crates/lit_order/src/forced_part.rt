@@ -1,20 +1,23 @@
 //! Parts of choices, with what they force.
 
+pub(crate) mod leaving_out;
 pub(crate) mod level;
 pub(crate) mod levels;
 
-ghost use Rattle.std.specs.Prelude.{◌≡◌, ◌↔◌, ℕ, ◌-◌, ◌<◌, IfNone, IfSome, IsTrue, List, [], ◌∷◌, ◌++◌, length, take};
+ghost use Rattle.std.specs.Prelude.{◌≡◌, ◌⊎◌, ◌↔◌, ℕ, ◌-◌, ◌<◌, IfNone, IfSome, IsTrue, List, [], ◌∷◌, ◌++◌, length, take};
 ghost use Rattle.lit_paths.specs.ByteReads.{byte_reads};
 ghost use Rattle.lit_paths.specs.Choice.{combinations_of};
 ghost use Rattle.lit_paths.specs.Plan.{AreEventsIn};
 ghost use Rattle.lit_rel.specs.Part.{IsNextSource, part_events, with_sources};
+ghost use Rattle.lit_order.specs.LeftOut.{LeavesOut};
 ghost use Rattle.lit_order.specs.Refuted.{IsRefuted};
 ghost use Rattle.lit_order.specs.MemoryOrder.{IsLeastMemoryOrder, IsMemoryOrder};
 
+use crate::forced_part::leaving_out::is_forced_apart;
 use crate::forced_part::level::ForcedLevel;
 use crate::forced_part::levels::Levels;
 use crate::order::Order;
-use lit_paths::{Combination, Plan};
+use lit_paths::{ByteRead, Combination, Plan};
 use lit_rel::Part;
 use std::marker::Model;
 
@@ -45,10 +48,9 @@ impl<'p> ForcedPart<'p> {
         ensures value { result ≡ record { test = plan.now; combination = combination; sources = [] } }
         ensures sound { AreEventsIn result.test.bytes (part_events result) }
     {
-        ForcedPart {
-            part: Part::open(plan, combination),
-            levels: Levels::new(),
-        }
+        let part = Part::open(plan, combination);
+        let levels = Levels::new(&part);
+        ForcedPart { part, levels }
     }
 
     /// Opens a combination of a plan's test, by its number, below `combinations`, in place of the part that is there. This
@@ -59,7 +61,7 @@ impl<'p> ForcedPart<'p> {
         ensures sound { AreEventsIn self.new.test.bytes (part_events self.new) }
     {
         self.part.reopen(plan, combination);
-        self.levels.clear();
+        self.levels.begin(&self.part);
     }
 
     /// The part.
@@ -107,6 +109,26 @@ impl<'p> ForcedPart<'p> {
         ensures { IsTrue result ↔ IsRefuted self.now }
     {
         self.part.broken() || self.levels.now.round
+    }
+
+    /// Whether no valid execution that goes on from the part has this source for a byte that is read, as far as the sources
+    /// given show: the part is refuted, the byte would not be coherent (ECMA-262, 2024, 29.7.2), or what the part forces
+    /// has the read before a source that it would synchronize with, or between the two what may not stand there. The read
+    /// and the source are by event number.
+    pub fn leaves_out(&self, at: ByteRead, source: u8) -> bool
+        requires read { at.read < length (part_events self.now) }
+        requires source { source < length (part_events self.now) }
+        ensures { IsTrue result ↔ (IsRefuted self.now ⊎ LeavesOut self.now at.read at.byte source) }
+    {
+        if self.refuted() || !self.part.is_coherent_with(at, source) {
+            return true;
+        }
+        if self.levels.now.least <= self.part.len() {
+            return is_forced_apart(&self.part, &self.levels.now, source, at.read);
+        }
+        let mut level = ForcedLevel::default();
+        level.begin(&self.part, &self.part.between());
+        is_forced_apart(&self.part, &level, source, at.read)
     }
 
     /// The least memory-order (ECMA-262, 2024, 29.7.4) of the sources given, or `None` exactly where there is none. The part

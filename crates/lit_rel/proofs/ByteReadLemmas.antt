@@ -16,7 +16,7 @@ in_joined (a ∷ xs) ys zero x at = inl (0, at)
 in_joined (a ∷ xs) ys (suc k) x at = elim (in_joined xs ys k x at) [ inl here ↦ inl (suc here.0, here.1) | inr there ↦ inr there ]
 
 -- the k-th of the bytes from one on
-range_at : (n first low count k : ℕ) (q : ℕ × ℕ) → slice_get (map (λ j. (n, first + j)) (range_with_len low count)) k ≡ Some q → (k < count) × (q ≡ (n, first + (low + k)))
+pub range_at : (n first low count k : ℕ) (q : ℕ × ℕ) → slice_get (map (λ j. (n, first + j)) (range_with_len low count)) k ≡ Some q → (k < count) × (q ≡ (n, first + (low + k)))
 range_at n first low zero k q at = absurd (none-some q at)
 range_at n first low (suc count) zero q at = (omega arith, sym (same_Some (n, first + low) q at) ∙ ap (λ (j : ℕ). (n, first + j)) (let e : low ≡ low + 0 = omega arith in e))
 range_at n first low (suc count) (suc k) q at =

@@ -40,14 +40,17 @@ unfolding HasSameRange
 HasSameRange-refl e b = (λ h. h, λ h. h)
 
 -- where no event has a sequentially consistent write of its range, there is none, and nothing is forbidden
-pub none_forbidden : (events : List Event) (peers : Rows) → ArePeers events peers → ((e v : ℕ) → Holds peers e v → ⊥) → (given : ℕ → ℕ → ℕ → Type 0) (before : ℕ → ℕ → Type 0) (w r v : ℕ) → IsForbiddenTriple events given before w r v → ⊥
-none_forbidden events peers are none given before w r v f =
-    let known = write_known events v f.between.writes in
+pub none_between : (events : List Event) (peers : Rows) → ArePeers events peers → ((e v : ℕ) → Holds peers e v → ⊥) → (before : ℕ → ℕ → Type 0) (w r v : ℕ) → IsForbiddenBetween events before w r v → ⊥
+none_between events peers are none before w r v b =
+    let known = write_known events v b.writes in
     none v v ((are.pairs v v).1 record {
       known = known;
-      write = record { known = known; writes = f.between.writes; ordered = f.between.ordered };
+      write = record { known = known; writes = b.writes; ordered = b.ordered };
       same_range = HasSameRange-refl (event_at events v);
     })
+
+pub none_forbidden : (events : List Event) (peers : Rows) → ArePeers events peers → ((e v : ℕ) → Holds peers e v → ⊥) → (given : ℕ → ℕ → ℕ → Type 0) (before : ℕ → ℕ → Type 0) (w r v : ℕ) → IsForbiddenTriple events given before w r v → ⊥
+none_forbidden events peers are none given before w r v f = none_between events peers are none before w r v f.between
 
 -- a byte that repeats the pair of the one before forbids nothing more
 pub forbidden-again : (events : List Event) (before : ℕ → ℕ → Type 0) (w r v : ℕ) (bytes : List SourcedByte) (i : ℕ) (old : Type 0) → i < length bytes → (old ↔ SomeBelow (IsForbidding events before w r v) bytes i) → RepeatsPair bytes i → old ↔ SomeBelow (IsForbidding events before w r v) bytes (i + 1)

@@ -10,6 +10,7 @@ pub mod InitReadLemmas
 pub mod LevelLemmas
 pub mod OrderLemmas
 pub mod OtherSourceLemmas
+pub mod OwnByteLemmas
 pub mod PartLemmas
 pub mod PlaceLemmas
 pub mod RaceLemmas
@@ -22,6 +23,7 @@ pub mod SameRelations
 pub mod SetLemmas
 pub mod SettledLemmas
 pub mod SourceLemmas
+pub mod TestedByteLemmas
 pub mod TripleLemmas
 pub mod TwoWayLemmas
 pub mod ValueLemmas

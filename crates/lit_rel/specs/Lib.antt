@@ -16,6 +16,7 @@ pub mod Settled
 pub mod DataRace
 pub mod Part
 pub mod Broken
+pub mod TestedBytes
 pub mod LastPair
 pub mod WideEvents
 pub mod Internal

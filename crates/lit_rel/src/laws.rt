@@ -3,6 +3,7 @@
 mod growth;
 mod init_reads;
 mod other_sources;
+mod tested_bytes;
 mod wide_events;
 
 pub use growth::{
@@ -11,6 +12,7 @@ pub use growth::{
 };
 pub use init_reads::{byte_reads_are_of_events, init_takes_place, values_keep_place};
 pub use other_sources::{order_stays_with_others, others_take_place, values_stay_with_others};
+pub use tested_bytes::refused_bytes_make_tests_false;
 pub use wide_events::{
     mixed_sizes_never_synchronize, never_reads_itself, typed_load_mixes_with_init_only,
     viewed_load_mixes,

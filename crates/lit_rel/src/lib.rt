@@ -15,6 +15,7 @@ mod rows;
 
 pub use between::{Between, Pair};
 pub use event_set::EventSet;
+pub use given::relations::can_synchronize;
 pub use given::values::payload_at;
 pub use part::Part;
 pub use rows::Rows;

@@ -1,12 +1,14 @@
 //! A combination of paths, with sources for its first byte reads.
 
 pub(crate) mod fixed_steps;
+pub(crate) mod foreseen;
 pub(crate) mod levels;
 pub(crate) mod orders;
 pub(crate) mod races;
 pub(crate) mod refused;
 pub(crate) mod related;
 pub(crate) mod settled;
+pub(crate) mod tested_bytes;
 
 ghost use Rattle.std.specs.Prelude.{◌≡◌, ◌↔◌, ℕ, ◌-◌, ◌<◌, ◌≤◌, IsTrue, MatchOption, [], ◌∷◌, ◌++◌, length, take};
 ghost use Rattle.lit_paths.specs.ByteReads.{byte_reads};

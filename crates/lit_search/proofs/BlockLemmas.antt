@@ -1,18 +1,18 @@
 -- The block in the course of the turns: each byte holds what its last writer stored, and so a read finds what its
 -- sources store.
-use Rattle.std.proofs.Common.{◌≡◌, ◌≢◌, ◌⊎◌, inl, inr, ℕ, zero, suc, ◌+◌, ◌-◌, ◌<◌, ◌≤◌, ◌==◌, Bool, true, false, Some, List, [], ◌∷◌, ◌++◌, length, map, take, drop, get_or, zip, filter, refl, sym, ap, ap₂, ◌∙◌, arith, append-nil, length-append, length-drop}
+use Rattle.std.proofs.Common.{◌≡◌, ◌⊎◌, inl, inr, ℕ, zero, suc, ◌+◌, ◌-◌, ◌<◌, ◌≤◌, ◌==◌, Bool, true, false, Some, List, [], ◌∷◌, ◌++◌, length, map, take, drop, get_or, zip, filter, refl, sym, ap, ap₂, ◌∙◌, arith, length-append, length-drop}
 use Rattle.std.specs.Prelude.{◌&&◌, if◌then◌else◌, nat_le, nat_lt, replicate, slice_get, slice_index}
 use Rattle.std.specs.List.{range_with_len}
-use Rattle.std.proofs.lemmas.Bool.{and_from, cases_lt, eq-eqb, le-leb, lt-ltb}
+use Rattle.std.proofs.lemmas.Bool.{and_from, cases_lt, le-leb, lt-ltb}
 use Rattle.std.proofs.lemmas.Bool.Decides.{nat_tests}
 use Rattle.std.proofs.lemmas.List.{get_or-append_right, get_or-drop, get_or-take, get_or_append_left, length-take-le, same_lists}
-use Rattle.std.proofs.lemmas.List.Elements.{filter-append}
 use Rattle.std.proofs.lemmas.List.FromFn.{get_or-map-range_with_len, length-map-range_with_len}
-use Rattle.std.proofs.lemmas.Option.{none-some, slice_get-get_or}
+use Rattle.std.proofs.lemmas.Option.{slice_get-get_or}
 use Rattle.lit_paths.specs.declared.event.Event.{Event}
-use Rattle.lit_paths.specs.ByteReads.{byte_reads, byte_reads_from, bytes_read_by}
+use Rattle.lit_paths.specs.ByteReads.{byte_reads}
 use Rattle.lit_paths.specs.Event.{does_read, does_write, event_at, no_event, payload_at}
 use Rattle.lit_rel.specs.ReadsFrom.{composed, value_of}
+use Rattle.lit_rel.proofs.OwnByteLemmas.{only_its}
 use Rattle.lit_search.proofs.ActLemmas.{after_event, found_at}
 use Rattle.lit_search.proofs.MomentLemmas.{long_zeros}
 use Rattle.lit_search.proofs.RunLemmas.{maps}
@@ -98,53 +98,6 @@ filter_zip g f r (q ∷ rs) = by (q.0 == r) (filter_zip g f r rs)
         ≡ map (λ (q : ℕ × ℕ). g (q, f q)) (if t then q ∷ filter {X = ℕ × ℕ} (λ q. q.0 == r) rs else filter {X = ℕ × ℕ} (λ q. q.0 == r) rs)
     by true e = ap (λ (xs : List ℕ). g (q, f q) ∷ xs) e
     by false e = e
-
-abbrev only : ℕ → List (ℕ × ℕ) → List (ℕ × ℕ)
-only r qs = filter {X = ℕ × ℕ} (λ q. q.0 == r) qs
-
-all_kept : (r first : ℕ) (ks : List ℕ) → only r (map (λ k. (r, first + k)) ks) ≡ map (λ k. (r, first + k)) ks
-all_kept r first [] = refl
-all_kept r first (k ∷ ks) =
-    ap (λ (t : Bool). if t then (r, first + k) ∷ only r (map (λ k. (r, first + k)) ks) else only r (map (λ k. (r, first + k)) ks)) (eq-eqb r r refl)
-    ∙ ap (λ (qs : List (ℕ × ℕ)). (r, first + k) ∷ qs) (all_kept r first ks)
-
-none_kept : (r n first : ℕ) (ks : List ℕ) → n ≢ r → only r (map (λ k. (n, first + k)) ks) ≡ []
-none_kept r n first [] other = refl
-none_kept r n first (k ∷ ks) other =
-    let no : (n == r) ≡ false = grind (arith, nat_tests) in
-    ap (λ (t : Bool). if t then (n, first + k) ∷ only r (map (λ k. (n, first + k)) ks) else only r (map (λ k. (n, first + k)) ks)) no ∙ none_kept r n first ks other
-
-own_kept : (r : ℕ) (e : Event) → only r (bytes_read_by r e) ≡ bytes_read_by r e
-own_kept r e = by (does_read e.kind)
-  where
-    by : (t : Bool) → only r (if t then map (λ k. (r, e.first + k)) (range_with_len 0 e.size) else []) ≡ (if t then map (λ k. (r, e.first + k)) (range_with_len 0 e.size) else [])
-    by true = all_kept r e.first (range_with_len 0 e.size)
-    by false = refl
-
-other_dropped : (r n : ℕ) (e : Event) → n ≢ r → only r (bytes_read_by n e) ≡ []
-other_dropped r n e other = by (does_read e.kind)
-  where
-    by : (t : Bool) → only r (if t then map (λ k. (n, e.first + k)) (range_with_len 0 e.size) else []) ≡ []
-    by true = none_kept r n e.first (range_with_len 0 e.size) other
-    by false = refl
-
-later_dropped : (r n : ℕ) (es : List Event) → r < n → only r (byte_reads_from n es) ≡ []
-later_dropped r n [] lt = refl
-later_dropped r n (e ∷ es) lt =
-    filter-append (λ (q : ℕ × ℕ). q.0 == r) (bytes_read_by n e) (byte_reads_from (n + 1) es)
-    ∙ ap₂ (λ (xs ys : List (ℕ × ℕ)). xs ++ ys) (other_dropped r n e (λ same. absurd (omega (arith, same, lt)))) (later_dropped r (n + 1) es (omega (arith, lt)))
-
-only_its : (r n k : ℕ) (es : List Event) (e : Event) → n + k ≡ r → slice_get es k ≡ Some e → only r (byte_reads_from n es) ≡ bytes_read_by r e
-only_its r n k [] e sum at = absurd (none-some e at)
-only_its r n zero (x ∷ es) e sum at =
-    let here : x ≡ e = cc in
-    let same : n ≡ r = omega (arith, sum) in
-    filter-append (λ (q : ℕ × ℕ). q.0 == r) (bytes_read_by n x) (byte_reads_from (n + 1) es)
-    ∙ ap₂ (λ (xs ys : List (ℕ × ℕ)). xs ++ ys) (ap (λ (m : ℕ). only r (bytes_read_by m x)) same ∙ own_kept r x ∙ ap (bytes_read_by r) here) (later_dropped r (n + 1) es (omega (arith, same)))
-    ∙ append-nil (bytes_read_by r e)
-only_its r n (suc k) (x ∷ es) e sum at =
-    filter-append (λ (q : ℕ × ℕ). q.0 == r) (bytes_read_by n x) (byte_reads_from (n + 1) es)
-    ∙ ap₂ (λ (xs ys : List (ℕ × ℕ)). xs ++ ys) (other_dropped r n x (λ same. absurd (omega (arith, same, sum)))) (only_its r (n + 1) k es e (omega (arith, sum)) at)
 
 -- ---- bytes from one on
 bytes_from : (block : List ℕ) (first size : ℕ) (h : ℕ → ℕ) → first + size ≤ length block → ((k : ℕ) → k < size → slice_index block (first + k) ≡ h k)

@@ -8,6 +8,7 @@ pub mod Kept
 pub mod Taking
 pub mod Held
 pub mod Places
+pub mod LeftOut
 pub mod Standing
 pub mod Collecting
 pub mod Laws

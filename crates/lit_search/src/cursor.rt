@@ -1,6 +1,7 @@
 //! Going through the choices of a combination, source by source.
 
 pub(crate) mod held;
+pub(crate) mod leaving_out;
 pub(crate) mod passing;
 pub(crate) mod racing;
 pub(crate) mod standing_for_others;
@@ -12,10 +13,11 @@ ghost use Rattle.std.specs.Prelude.{◌≡◌, ◌↔◌, ℕ, ◌+◌, ◌-◌,
 ghost use Rattle.lit_paths.specs.ByteReads.{byte_reads};
 ghost use Rattle.lit_paths.specs.Choice.{combinations_of};
 ghost use Rattle.lit_paths.specs.declared.limits.TheConstants.{EVENT_LIMIT};
-ghost use Rattle.lit_paths.specs.Plan.{choices_before};
+ghost use Rattle.lit_paths.specs.Plan.{AreEventsIn, choices_before};
 ghost use Rattle.lit_order.specs.MemoryOrder.{IsLeastMemoryOrder, IsMemoryOrder};
 ghost use Rattle.lit_order.specs.Refuted.{IsRefuted};
 ghost use Rattle.lit_search.specs.Completion.{IsEntered};
+ghost use Rattle.lit_search.specs.Internal.LeftOut.{HasGoneOn};
 ghost use Rattle.lit_search.specs.Internal.Others.{AddsNothing};
 ghost use Rattle.lit_search.specs.Internal.Passing.{first_places};
 ghost use Rattle.lit_search.specs.Internal.Places.{ArePlaces, behind_at, candidates_at, low_at, part_at, stand_events, with_places};
@@ -89,6 +91,7 @@ impl<'p> Cursor<'p> {
         ensures value { result.now ≡ part_at self.now }
         ensures entered { IsEntered (part_at self.now) }
         ensures placed { ArePlaces (stand_events self.now) 0 self.now.places }
+        ensures sound { AreEventsIn self.now.test.bytes (stand_events self.now) }
     {
         self.part.part()
     }
@@ -158,17 +161,6 @@ impl<'p> Cursor<'p> {
         self.low - u64::from(place) * self.part.combination().ways_after(last)
     }
 
-    /// Whether the next byte read has a candidate with this place among its candidates. A byte read is left.
-    fn has_candidate(&self, place: usize) -> bool
-        requires { length self.now.places < length (byte_reads (stand_events self.now)) }
-        ensures value { IsTrue result ↔ (place < length (candidates_at (stand_events self.now) (length self.now.places))) }
-        ensures few { IsTrue result → place < EVENT_LIMIT }
-        ensures some { 1 ≤ length (candidates_at (stand_events self.now) (length self.now.places)) }
-    {
-        let depth = self.places.len();
-        place < self.part.combination().candidates(depth).len()
-    }
-
     /// Gives the next byte read the candidate with a place among its candidates. A byte read is left.
     fn down(&mut self, place: u8)
         requires left { length self.old.places < length (byte_reads (stand_events self.old)) }
@@ -185,13 +177,24 @@ impl<'p> Cursor<'p> {
         self.low += passed;
     }
 
-    /// Gives the next byte read its first candidate. A byte read is left.
-    pub(crate) fn enter(&mut self)
-        requires { length self.old.places < length (byte_reads (stand_events self.old)) }
-        ensures { self.new ≡ with_places self.old (self.old.places ++ 0 ∷ []) }
+    /// Gives the next byte read its first candidate that is not left out, and where each is, leaves the choices of the
+    /// stand: those passed over show nothing but what those from `since` up to these do. Answers `false` where there is
+    /// none behind them on the combination. A byte read is left.
+    pub(crate) fn enter(&mut self, plan: &Plan<'_>, since: u64) -> bool
+        requires test { self.old.test ≡ plan.now }
+        requires left { length self.old.places < length (byte_reads (stand_events self.old)) }
+        ensures test { self.new.test ≡ self.old.test }
+        ensures combination { self.new.combination ≡ self.old.combination }
+        ensures next { IsTrue result → HasGoneOn self.old self.new }
+        ensures nothing { IsTrue result → AddsNothing plan.now since (low_at self.old) (low_at self.new) }
+        ensures last { IsFalse result → AddsNothing plan.now since (low_at self.old) (choices_before plan.now (self.old.combination + 1)) }
     {
-        let _first = self.has_candidate(0);
-        self.down(0);
+        if let Some(place) = self.next_place(0) {
+            self.down(place);
+            return true;
+        }
+        let depth = self.places.len();
+        self.leave(plan, depth, since)
     }
 
     /// Takes the last source back, and gives its place among its candidates. There is one.
@@ -253,8 +256,8 @@ impl<'p> Cursor<'p> {
         self.widen(plan, since);
         while self.places.len() > 0 {
             let next = usize::from(self.up()) + 1;
-            if self.has_candidate(next) {
-                self.down(next as u8);
+            if let Some(place) = self.next_place(next) {
+                self.down(place);
                 return true;
             }
             self.widen(plan, since);

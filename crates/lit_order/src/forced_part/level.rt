@@ -1,6 +1,6 @@
 //! What parts force.
 
-ghost use Rattle.std.specs.Prelude.{◌≡◌, ℕ, ◌<◌, IfNone, IfSome, IsTrue, IsFalse, List, length};
+ghost use Rattle.std.specs.Prelude.{◌≡◌, ℕ, ◌<◌, IfNone, IfSome, IsTrue, IsFalse, List, [], length};
 ghost use Rattle.lit_rel.specs.Broken.{IsBroken};
 ghost use Rattle.lit_rel.specs.Part.{part_events};
 ghost use Rattle.lit_rel.specs.Rows.{Holds, IsTransitive, rows_len};
@@ -29,6 +29,17 @@ pub(crate) struct ForcedLevel {
 }
 
 impl ForcedLevel {
+    /// Makes it what a part with no source forces: its happens-before.
+    pub(crate) fn open(&mut self, part: &Part<'_>)
+        requires { part.now.sources ≡ [] }
+        ensures level { IsForcedLevel part.now self.new }
+        ensures least { self.new.least ≡ 0 }
+    {
+        self.forced = *part.order();
+        self.round = false;
+        self.least = 0;
+    }
+
     /// Makes it what a part forces, by its happens-before. The part is not broken.
     pub(crate) fn begin(&mut self, part: &Part<'_>, between: &Between)
         requires whole { ¬ IsBroken part.now }

@@ -1,8 +1,8 @@
 //! What is known of what the first sources of a combination force.
 
-ghost use Rattle.std.specs.Prelude.{◌≡◌, ◌<◌, ◌≤◌, [], ◌∷◌, ◌++◌, false, length};
+ghost use Rattle.std.specs.Prelude.{◌≡◌, ◌<◌, ◌≤◌, [], ◌∷◌, ◌++◌, length};
 ghost use Rattle.lit_order.specs.declared.forced_part.levels.TheConstants.{LEVELS_KEPT};
-ghost use Rattle.lit_order.specs.Internal.ForcedLevels.{AreForcedLevels, WereForcedLevels, less_of};
+ghost use Rattle.lit_order.specs.Internal.ForcedLevels.{AreForcedLevels, IsForcedLevel, WereForcedLevels, less_of};
 
 use crate::forced_part::level::ForcedLevel;
 use arrayvec::ArrayVec;
@@ -23,31 +23,31 @@ pub(crate) struct Levels {
 }
 
 impl Levels {
-    /// Nothing is known of a part with no source.
-    pub(crate) fn new() -> Self
+    /// What a part with no source forces.
+    pub(crate) fn new(part: &Part<'_>) -> Self
+        requires { part.now.sources ≡ [] }
         ensures earlier { result.earlier.items ≡ [] }
-        ensures least { result.now.least ≡ 1 }
-        ensures straight { result.now.round ≡ false }
+        ensures level { IsForcedLevel part.now result.now }
+        ensures least { result.now.least ≡ 0 }
     {
+        let mut now = ForcedLevel::default();
+        now.open(part);
         Levels {
             earlier: ArrayVec::new(),
-            now: ForcedLevel {
-                least: 1,
-                ..ForcedLevel::default()
-            },
+            now,
             between: Between::new(0),
         }
     }
 
-    /// Makes it `new()`, in place.
-    pub(crate) fn clear(&mut self)
+    /// Makes it `new(part)`, in place.
+    pub(crate) fn begin(&mut self, part: &Part<'_>)
+        requires { part.now.sources ≡ [] }
         ensures earlier { self.new.earlier.items ≡ [] }
-        ensures least { self.new.now.least ≡ 1 }
-        ensures straight { self.new.now.round ≡ false }
+        ensures level { IsForcedLevel part.now self.new.now }
+        ensures least { self.new.now.least ≡ 0 }
     {
         self.earlier.clear();
-        self.now.least = 1;
-        self.now.round = false;
+        self.now.open(part);
     }
 
     /// Goes on to a part, from what was known without its last source.

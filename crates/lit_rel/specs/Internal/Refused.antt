@@ -1,11 +1,13 @@
 -- Whether tests are false, with each number of sources.
 use Rattle.std.specs.Prelude.{◌≡◌, ◌≢◌, ◌↔◌, ℕ, ◌-◌, Bool, false, IsTrue, Option, List, length, take, Some, slice_get}
+use Rattle.lit_paths.specs.declared.event.Event.{Event}
 use Rattle.lit_paths.specs.declared.path.Tested.{Tested}
 use Rattle.lit_paths.specs.ByteReads.{byte_reads}
 use Rattle.lit_paths.specs.Run.{compares}
 use Rattle.lit_rel.specs.Broken.{HasFalseTest, HasFalseTestOn, number_on}
 use Rattle.lit_rel.specs.Part.{PartModel, part_events, with_sources}
 use Rattle.lit_rel.specs.ReadsFrom.{value_of}
+use Rattle.lit_rel.specs.TestedBytes.{IsFalseOfByte}
 
 -- some test of a path whose first event has this number asks about the event, and is false of the value
 pub record HasFalse (tests : List Tested) (first : ℕ) (asked : Option ℕ) (value : ℕ) : Type 0 where
@@ -21,6 +23,14 @@ pub record Asks (tests : List Tested) (first : ℕ) (asked : Option ℕ) : Type 
   pub test : Tested
   pub at_place : slice_get tests place ≡ Some test
   pub asks : number_on first test.on ≡ asked
+
+-- some test of such a path asks about read r, which is event e, and is false whatever r reads, if byte b of it is x
+pub record HasFalseByte (tests : List Tested) (first r : ℕ) (e : Event) (b x : ℕ) : Type 0 where
+  pub place : ℕ
+  pub test : Tested
+  pub at_place : slice_get tests place ≡ Some test
+  pub asks : number_on first test.on ≡ Some r
+  pub is_false : IsFalseOfByte e b x test
 
 -- the last source given is of the last byte of a read, and some test on that read is false of its value
 pub record IsRefusedAtLast (part : PartModel) : Type 0 where

@@ -72,7 +72,7 @@ impl Given<'_> {
 
     /// The events that may not stand between a byte's source and its read: the sequentially consistent writes in one of
     /// the patterns, but for these two.
-    fn forbidden(&self, byte: SourcedByte, before: &TwoWayRows, peers: &Rows) -> EventSet
+    pub(crate) fn forbidden(&self, byte: SourcedByte, before: &TwoWayRows, peers: &Rows) -> EventSet
         requires rows { rows_len before.now.rows ≡ length self.now.events.now }
         requires peers { ArePeers self.now.events.now peers.now }
         requires known { IsKnown (length self.now.events.now) byte }

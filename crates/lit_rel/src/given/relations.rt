@@ -13,8 +13,8 @@ use crate::rows::Rows;
 use crate::rows::two_way_rows::TwoWayRows;
 use lit_paths::{Event, event_at};
 
-/// Whether a source and its read synchronize.
-pub(crate) fn can_synchronize(source: &Event, read: &Event) -> bool
+/// Whether a source and its read synchronize (29.6.5): both are sequentially consistent, and their ranges are equal.
+pub fn can_synchronize(source: &Event, read: &Event) -> bool
     ensures { IsTrue result ↔ CanSynchronize source.now read.now }
 {
     source.is_seq_cst() && read.is_seq_cst() && source.has_same_range(read)

@@ -1,6 +1,6 @@
 //! The values that are read (ECMA-262, 2024, 29.5.4 and 29.5.5).
 
-ghost use Rattle.std.specs.Prelude.{◌≡◌, ◌≤◌};
+ghost use Rattle.std.specs.Prelude.{◌≡◌, ◌-◌, ◌≤◌, slice_index};
 ghost use Rattle.lit_paths.specs.Event.{event_at, payload_at};
 ghost use Rattle.lit_rel.specs.Internal.Given.{sources_of};
 ghost use Rattle.lit_rel.specs.ReadsFrom.{value_of};
@@ -8,12 +8,20 @@ ghost use Rattle.lit_rel.specs.ReadsFrom.{value_of};
 use crate::given::Given;
 use lit_paths::{Event, event_at};
 
+/// The one of some bytes, of which the first is for byte `first` of the block, that is for this byte of it: 0 where there
+/// is none.
+pub(crate) fn byte_from(bytes: [u8; 4], first: u8, byte: u8) -> u8
+    ensures { result ≡ slice_index bytes (byte - first) }
+{
+    let offset = usize::from(byte.saturating_sub(first));
+    bytes.get(offset).copied().unwrap_or(0)
+}
+
 /// The byte that an event stores at a byte of its range, from the block's start.
 pub fn payload_at(event: &Event, byte: u8) -> u8
     ensures { result ≡ payload_at event.now byte }
 {
-    let offset = usize::from(byte.saturating_sub(event.first));
-    event.payload.get(offset).copied().unwrap_or(0)
+    byte_from(event.payload, event.first, byte)
 }
 
 impl Given<'_> {

@@ -17,7 +17,7 @@ use lit_paths::{ByteRead, Combination, Event, Tested};
 
 /// The number of the event that a test asks about, on a path whose first event has this number; `None` for a register
 /// that was not written.
-fn number_on(test: Tested, first: u8) -> Option<usize>
+pub(crate) fn number_on(test: Tested, first: u8) -> Option<usize>
     ensures { result ≡ number_asked first test.on }
 {
     test.on.map(|place| usize::from(first) + usize::from(place))
@@ -84,6 +84,24 @@ fn owner_of(events: &[Event], event: u8) -> Option<u8>
     }
 }
 
+/// The agent of the only path of a combination that can ask about an event: the one whose event it is. `None` where no
+/// path can.
+pub(crate) fn asking_agent(combination: &Combination<'_>, event: u8) -> Option<usize>
+    requires { combination.now.1 < length (combinations_of combination.now.0) }
+    ensures known { (agent : ℕ) → result ≡ Some agent → agent < length combination.now.0.agents }
+    ensures only { (agent : ℕ) → agent < length combination.now.0.agents
+        → Asks (path_in combination.now.0 combination.now.1 agent).tests (first_event combination.now.0 combination.now.1 agent) (Some event)
+        → result ≡ Some agent }
+{
+    combinations_are_walked();
+    let agents = combination.test().agents();
+    let agent = usize::from(owner_of(combination.events(), event)?);
+    if agents <= agent {
+        return None;
+    }
+    Some(agent)
+}
+
 /// Whether the byte read at a place is the last of its read.
 fn is_last_of_read(reads: &[ByteRead], place: usize) -> bool
     requires { place < length reads.now }
@@ -108,22 +126,15 @@ fn is_refused_by(part: &Related<'_>, agent: usize, read: u8) -> bool
     asks(tests, first, asked) && has_false(tests, first, asked, part.value(read))
 }
 
-/// Whether some test of a path of the part asks about a read, and is false of its value. Only the path of the agent that
-/// reads can have one.
+/// Whether some test of a path of the part asks about a read, and is false of its value.
 fn is_read_refused(part: &Related<'_>, read: u8) -> bool
     requires { part.now.combination < length (combinations_of part.now.test) }
     ensures { IsTrue result
         ↔ HasFalseTestOn part.now.test part.now.combination (Some read) (value_of (part_events part.now) part.now.sources read) }
 {
-    combinations_are_walked();
-    let agents = part.combination().test().agents();
-    let Some(owner) = owner_of(part.combination().events(), read) else {
+    let Some(agent) = asking_agent(part.combination(), read) else {
         return false;
     };
-    let agent = usize::from(owner);
-    if agents <= agent {
-        return false;
-    }
     is_refused_by(part, agent, read)
 }
 

@@ -7,9 +7,10 @@ ghost use Rattle.lit_paths.specs.Choice.{combinations_of};
 ghost use Rattle.lit_paths.specs.Event.{event_at};
 ghost use Rattle.lit_paths.specs.Plan.{AreEventsIn};
 ghost use Rattle.lit_rel.specs.Between.{Forbids};
-ghost use Rattle.lit_rel.specs.Coherent.{HasCoherentReads};
+ghost use Rattle.lit_rel.specs.Coherent.{HasCoherentReads, IsCoherentRead};
 ghost use Rattle.lit_rel.specs.DataRace.{HasDataRace};
-ghost use Rattle.lit_rel.specs.Forbidden.{IsForbidden};
+ghost use Rattle.lit_rel.specs.EventSet.{HasEvent};
+ghost use Rattle.lit_rel.specs.Forbidden.{IsForbidden, IsForbiddenBetween};
 ghost use Rattle.lit_rel.specs.HappensBefore.{HappensBefore};
 ghost use Rattle.lit_rel.specs.LastPair.{AddsNone, AddsPair};
 ghost use Rattle.lit_rel.specs.Part.{AreFirstSources, IsNextSource, part_events, with_sources};
@@ -19,14 +20,16 @@ ghost use Rattle.lit_rel.specs.SynchronizesWith.{Synchronizes};
 ghost use Rattle.lit_rel.specs.TearFree.{HasTearFreeReads};
 
 use crate::between::Between;
+use crate::event_set::EventSet;
 use crate::given::breaks::Sides;
+use crate::given::reads::is_coherent_byte;
 use crate::given::{Given, SourcedByte, SourcedBytes};
 use crate::part::fixed_steps::unsourced_order;
 use crate::part::levels::{Level, Levels};
 use crate::part::orders::Orders;
 use crate::rows::Rows;
 use crate::rows::two_way_rows::TwoWayRows;
-use lit_paths::{Combination, Plan};
+use lit_paths::{ByteRead, Combination, Plan};
 use std::marker::Model;
 
 /// A combination of a test's paths, with sources for its first byte reads, their happens-before, and whether its
@@ -257,6 +260,37 @@ impl<'p> Related<'p> {
         ensures triples { (w r v : ℕ) → Forbids between.new w r v ↔ IsForbidden (part_events self.now) self.now.sources w r v }
     {
         self.given().put_between(between, self.order(), peers);
+    }
+
+    /// Whether a byte that is read would be coherent (29.7.2) with a source, by happens-before of the sources given.
+    pub(crate) fn is_coherent_with(&self, at: ByteRead, source: u8) -> bool
+        requires read { at.read < length (part_events self.now) }
+        requires source { source < length (part_events self.now) }
+        ensures { IsTrue result ↔ IsCoherentRead (part_events self.now) (HappensBefore (part_events self.now) self.now.sources) at.read at.byte source }
+    {
+        let byte = SourcedByte {
+            read: at.read,
+            byte: at.byte,
+            source,
+        };
+        is_coherent_byte(self.given().events, byte, self.order())
+    }
+
+    /// What may not stand between a source and a read in the order of memory (29.7.4), if the read has that source, by
+    /// happens-before of the sources given.
+    pub(crate) fn others_between(&self, source: u8, read: u8, peers: &Rows) -> EventSet
+        requires peers { ArePeers (part_events self.now) peers.now }
+        requires source { source < length (part_events self.now) }
+        requires read { read < length (part_events self.now) }
+        ensures { (v : ℕ) → HasEvent result v
+            ↔ ((v < length (part_events self.now)) × IsForbiddenBetween (part_events self.now) (HappensBefore (part_events self.now) self.now.sources) source read v) }
+    {
+        let byte = SourcedByte {
+            read,
+            byte: 0,
+            source,
+        };
+        self.given().forbidden(byte, self.order(), peers)
     }
 
     /// Whether two events are in a data race (29.9), by the sources given.

@@ -20,8 +20,9 @@ use crate::cursor::standing_in::is_stood_for;
 use crate::cursor::wanted::Wanted;
 use crate::found::{Example, Outcome};
 use crate::laws::completions::laws;
-use lit_order::laws::forced_rounds_have_no_order;
+use lit_order::laws::{forced_rounds_have_no_order, left_out_sources_are_none};
 use lit_paths::Plan;
+use lit_rel::laws::refused_bytes_make_tests_false;
 
 /// The outcome of a choice of some valid execution, with the choice and its least memory-order.
 #[derive(Debug, Drop)]
@@ -86,12 +87,17 @@ impl Cursor<'_> {
     {
         laws();
         forced_rounds_have_no_order();
+        left_out_sources_are_none();
+        refused_bytes_make_tests_false();
         let part = self.part();
         let depth = part.len();
         if self.behind() <= from {
             return Some(depth);
         }
         if self.refuted() {
+            return Some(depth);
+        }
+        if self.has_none_left() {
             return Some(depth);
         }
         if self.has_unwanted(plan, wanted, known) {
@@ -158,7 +164,9 @@ impl Cursor<'_> {
                     return None;
                 }
             } else if self.part().len() < self.part().reads() {
-                self.enter();
+                if !self.enter(plan, since) {
+                    return None;
+                }
             } else if let Some(shown) = self.shown(plan) {
                 return Some(shown);
             } else {

@@ -61,7 +61,9 @@ impl Cursor<'_> {
                 }
                 *barren = self.low();
             } else if depth < reads {
-                self.enter();
+                if !self.enter(plan, *barren) {
+                    return false;
+                }
             } else if let Some(_shown) = self.shown(plan) {
                 return true;
             } else if !self.leave(plan, depth, *barren) {

@@ -44,7 +44,7 @@ fn some_asks(tests: &[Tested], first: u8, read: u8) -> bool
 }
 
 /// Whether a test of a path of the combination is on a read, by the read's number.
-fn is_tested(combination: &Combination<'_>, read: u8) -> bool
+pub(crate) fn is_tested(combination: &Combination<'_>, read: u8) -> bool
     ensures { IsTrue result ↔ IsTested combination.now.0 combination.now.1 read }
 {
     for agent in 0..combination.test().agents() {

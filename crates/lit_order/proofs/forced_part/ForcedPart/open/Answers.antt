@@ -5,4 +5,4 @@ use Rattle.lit_order.proofs.forced_part.ForcedPart.open.Goals as goal
 
 pub invariant_of-result : goal.invariant_of-result
 invariant_of-result c =
-    AreForcedLevels-open c.«open».result c.new.result.earlier.items c.new.result.now c.«open».ensures.sound (ap (λ (p : PartModel). p.sources) c.«open».ensures.value) c.new.ensures.earlier c.new.ensures.least c.new.ensures.straight
+    AreForcedLevels-open c.open-part.result c.new-levels.result.earlier.items c.new-levels.result.now c.open-part.ensures.sound (ap (λ (p : PartModel). p.sources) c.open-part.ensures.value) c.new-levels.ensures.earlier c.new-levels.ensures.least c.new-levels.ensures.level

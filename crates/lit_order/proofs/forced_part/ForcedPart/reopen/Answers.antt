@@ -5,4 +5,4 @@ use Rattle.lit_order.proofs.forced_part.ForcedPart.reopen.Goals as goal
 
 pub invariant_of-self : goal.invariant_of-self
 invariant_of-self c =
-    AreForcedLevels-open c.reopen.new.self c.clear.new.self.earlier.items c.clear.new.self.now c.reopen.ensures.sound (ap (λ (p : PartModel). p.sources) c.reopen.ensures.value) c.clear.ensures.earlier c.clear.ensures.least c.clear.ensures.straight
+    AreForcedLevels-open c.reopen.new.self c.begin.new.self.earlier.items c.begin.new.self.now c.reopen.ensures.sound (ap (λ (p : PartModel). p.sources) c.reopen.ensures.value) c.begin.ensures.earlier c.begin.ensures.least c.begin.ensures.level

@@ -1,9 +1,9 @@
-use Rattle.std.proofs.Common.{ℕ, ◌<◌, List, length, ap, ◌∙◌, arith}
+use Rattle.std.proofs.Common.{ℕ, ◌<◌, List, length, ap, arith}
 use Rattle.lit_read.specs.Syntax.{Litmus}
 use Rattle.lit_paths.specs.ByteReads.{byte_reads}
 use Rattle.lit_paths.specs.Plan.{events_in}
 use Rattle.lit_rel.specs.Part.{part_events}
-use Rattle.lit_search.specs.Internal.Places.{Stand, candidates_at, stand_events}
+use Rattle.lit_search.specs.Internal.Places.{Stand, stand_events}
 use Rattle.lit_search.proofs.NumberSets.{lt_test}
 use Rattle.lit_search.proofs.StandLemmas.{candidates_here, few_candidates}
 use Rattle.lit_search.proofs.cursor.Cursor.has_candidate.Goals as goal
@@ -13,25 +13,13 @@ candidates-requires c =
     omega (
       arith,
       c.requires,
-      c.len-depth.ensures,
       ap (λ (e : Litmus × ℕ). length (byte_reads (events_in e.0 e.1))) c.combination.ensures,
       ap (λ (s : Stand). length (byte_reads (stand_events s))) c.self.view_is,
-      ap (λ (s : Stand). length s.places) c.self.view_is,
     )
 
 pub returns-clause-few : goal.returns-clause-few
 returns-clause-few c is =
     let x = c.self.inside in
-    let list = candidates_here x _ c.combination.ensures c.len-depth.result c.candidates.result.now c.candidates.ensures.value in
+    let list = candidates_here x _ c.combination.ensures c.args.depth c.candidates.result.now c.candidates.ensures.value in
     let less : c.args.place < length c.candidates.result.now = lt_test c.args.place (length c.candidates.result.now) is in
-    omega (arith, less, ap (λ (ws : List ℕ). length ws) list, few_candidates (part_events x.part) c.len-depth.result, c.self.invariant.sound.few)
-
-pub returns-clause-some : goal.returns-clause-some
-returns-clause-some c =
-    let list = candidates_here c.self.inside _ c.combination.ensures c.len-depth.result c.candidates.result.now c.candidates.ensures.value in
-    omega (
-      arith,
-      c.candidates.ensures.some,
-      ap (λ (ws : List ℕ). length ws) (list ∙ ap (candidates_at (part_events c.self.inside.part)) c.len-depth.ensures.value),
-      ap (λ (s : Stand). length (candidates_at (stand_events s) (length s.places))) c.self.view_is,
-    )
+    omega (arith, less, ap (λ (ws : List ℕ). length ws) list, few_candidates (part_events x.part) c.args.depth, c.self.invariant.sound.few)

@@ -8,14 +8,14 @@ use Rattle.lit_rel.specs.Part.{PartModel, part_events}
 use Rattle.lit_search.specs.Report.{Gives, GivesRace, in_range}
 use Rattle.lit_search.specs.Internal.Held.{part_outcome}
 use Rattle.lit_search.specs.Internal.Passing.{HasAll, first_places}
-use Rattle.lit_search.specs.Internal.Places.{Stand, behind_at, low_at, part_at, stand_events}
-use Rattle.lit_search.specs.Internal.Shown.{NoneShow}
-use Rattle.lit_search.proofs.NextLemmas.{long_entered, low_entered, none_at_first, none_up_to, same_reads, smaller_enter, smaller_leave}
+use Rattle.lit_search.specs.Internal.Places.{behind_at, low_at, part_at, stand_events}
+use Rattle.lit_search.proofs.LeftOutLemmas.{smaller_gone}
+use Rattle.lit_search.proofs.NextLemmas.{none_at_first, none_up_to, same_reads, smaller_leave}
 use Rattle.lit_search.proofs.NumberSets.{within}
 use Rattle.lit_search.proofs.OtherLemmas.{barren_on, barren_past, race_left}
 use Rattle.lit_search.proofs.PassingLemmas.{length-part, pass_invalid, whole_stand}
 use Rattle.lit_search.proofs.PlaceLemmas.{length-sources, ways_end}
-use Rattle.lit_search.proofs.RacingLemmas.{NoneRace, apart_race, complete_race, none_found, one_found, passed_race, passed_since, race_at_first, race_here, race_up_to}
+use Rattle.lit_search.proofs.RacingLemmas.{apart_race, complete_race, none_found, one_found, passed_race, passed_since, race_at_first, race_here, race_up_to}
 use Rattle.lit_search.proofs.cursor.Cursor.has_race.Goals as goal
 
 -- no outcome is left out
@@ -155,8 +155,11 @@ loop-self-preserved-then-not-may_race c =
       earlier = none_at_first t All c.low-then-not-may_race.result c.args.from (omega (arith, c.low-then-not-may_race.ensures, next, ap behind_at (ap (first_places s) deep ∙ whole_stand s), c.in_default.ensures.passed.behind));
     }
 
-pub enter-requires : goal.enter-requires
-enter-requires c =
+pub enter-requires-clause-test : goal.enter-requires-clause-test
+enter-requires-clause-test c = c.loop-self.invariant.test
+
+pub enter-requires-clause-left : goal.enter-requires-clause-left
+enter-requires-clause-left c =
     let first = c.args.self.now in
     let s = c.loop-self.self in
     omega (
@@ -169,8 +172,23 @@ enter-requires c =
       same_reads first c.args.plan.now first.combination s c.requires.test refl c.loop-self.invariant.test c.loop-self.invariant.combination,
     )
 
-pub loop-self-smaller-then-depth-reads : goal.loop-self-smaller-then-depth-reads
-loop-self-smaller-then-depth-reads c =
+pub returns-then-not-enter-clause-race : goal.returns-then-not-enter-clause-race
+returns-then-not-enter-clause-race c =
+    let t = c.args.plan.now in
+    let s = c.loop-self.self in
+    none_found t (in_range c.args.from c.args.to)
+    (race_up_to t c.args.from c.args.to _ (omega (arith, c.requires.high, ap (λ (k : ℕ). choices_before t (k + 1)) c.loop-self.invariant.combination))
+    (race_left t c.args.from c.loop-self.barren (low_at s) (choices_before t (s.combination + 1)) c.loop-self.invariant.none c.loop-self.invariant.barren (c.enter.ensures.last c.if-not-enter.true)))
+
+pub returns-then-not-enter-clause-barren : goal.returns-then-not-enter-clause-barren
+returns-then-not-enter-clause-barren c none =
+    let t = c.args.plan.now in
+    let s = c.loop-self.self in
+    none_up_to t All c.loop-self.barren c.args.to _ (omega (arith, c.requires.high, ap (λ (k : ℕ). choices_before t (k + 1)) c.loop-self.invariant.combination))
+    (barren_on t c.loop-self.barren (low_at s) (choices_before t (s.combination + 1)) c.loop-self.invariant.barren (c.enter.ensures.last c.if-not-enter.true))
+
+pub loop-self-smaller-else-not-enter : goal.loop-self-smaller-else-not-enter
+loop-self-smaller-else-not-enter c =
     let first = c.args.self.now in
     let s = c.loop-self.self in
     let new = c.enter.new.self in
@@ -184,25 +202,24 @@ loop-self-smaller-then-depth-reads c =
       ap (λ (p : PartModel). length (byte_reads (part_events p))) c.part.ensures.value,
       same_reads first c.args.plan.now first.combination s c.requires.test refl c.loop-self.invariant.test c.loop-self.invariant.combination,
     ) in
-    let long : length new.places ≡ length s.places + 1 = ap (λ (u : Stand). length u.places) c.enter.ensures ∙ long_entered s in
-    let low : low_at new ≡ low_at s = ap low_at c.enter.ensures ∙ low_entered s in
+    let reads = same_reads s s.test s.combination new refl refl c.enter.ensures.test c.enter.ensures.combination in
     omega (
       arith,
-      smaller_enter c.args.to (low_at s) (length (byte_reads (stand_events s))) (length s.places) (length new.places) long left,
-      ap (λ (l : ℕ). (c.args.to - l) * (length (byte_reads (stand_events s)) + 1)) low,
-      ap (λ (u : Stand). (c.args.to - low_at new) * (length (byte_reads (stand_events u)) + 1) + (length (byte_reads (stand_events u)) - length new.places)) c.enter.ensures,
+      smaller_gone c.args.to (length (byte_reads (stand_events s))) s new (c.enter.ensures.next c.if-not-enter.false) c.in_default.ensures.some (omega (arith, c.loop-self-test.true, c.low.ensures)) left,
+      ap (λ (r : ℕ). (c.args.to - low_at new) * (r + 1) + (r - length new.places)) reads,
     )
 
-pub loop-self-preserved-then-depth-reads : goal.loop-self-preserved-then-depth-reads
-loop-self-preserved-then-depth-reads c =
+pub loop-self-preserved-else-not-enter : goal.loop-self-preserved-else-not-enter
+loop-self-preserved-else-not-enter c =
     let t = c.args.plan.now in
     let s = c.loop-self.self in
-    let low : low_at c.enter.new.self ≡ low_at s = ap low_at c.enter.ensures ∙ low_entered s in
+    let new = c.enter.new.self in
+    let adds = c.enter.ensures.nothing c.if-not-enter.false in
     record {
-      test = ap (λ (u : Stand). u.test) c.enter.ensures ∙ c.loop-self.invariant.test;
-      combination = ap (λ (u : Stand). u.combination) c.enter.ensures ∙ c.loop-self.invariant.combination;
-      none = subst (λ (n : ℕ). NoneRace t (in_range c.args.from n)) (sym low) c.loop-self.invariant.none;
-      barren = subst (λ (n : ℕ). NoneShow t All (in_range c.loop-self.barren n)) (sym low) c.loop-self.invariant.barren;
+      test = c.enter.ensures.test ∙ c.loop-self.invariant.test;
+      combination = c.enter.ensures.combination ∙ c.loop-self.invariant.combination;
+      none = race_left t c.args.from c.loop-self.barren (low_at s) (low_at new) c.loop-self.invariant.none c.loop-self.invariant.barren adds;
+      barren = barren_on t c.loop-self.barren (low_at s) (low_at new) c.loop-self.invariant.barren adds;
       earlier = c.loop-self.invariant.earlier;
     }
 

@@ -2,14 +2,14 @@ use Rattle.std.proofs.Common.{◌≡◌, ℕ, ◌+◌, ◌-◌, ◌*◌, ◌<◌
 use Rattle.lit_paths.specs.ByteReads.{byte_reads}
 use Rattle.lit_paths.specs.Plan.{choices_before}
 use Rattle.lit_rel.specs.Part.{PartModel, part_events}
-use Rattle.lit_search.specs.Report.{in_range}
 use Rattle.lit_search.specs.Internal.Held.{part_outcome}
 use Rattle.lit_search.specs.Internal.Passing.{HasAll, first_places}
-use Rattle.lit_search.specs.Internal.Places.{Stand, behind_at, low_at, part_at, stand_events}
-use Rattle.lit_search.specs.Internal.Shown.{IsShown, NoneShow, shown_entry}
+use Rattle.lit_search.specs.Internal.Places.{behind_at, low_at, part_at, stand_events}
+use Rattle.lit_search.specs.Internal.Shown.{IsShown, shown_entry}
 use Rattle.lit_search.specs.Internal.Examined.{IsExample}
 use Rattle.lit_search.proofs.Keeping.{next_shown}
-use Rattle.lit_search.proofs.NextLemmas.{long_entered, low_entered, none_at_first, none_up_to, passed_on, same_reads, seen_on, smaller_enter, smaller_leave}
+use Rattle.lit_search.proofs.LeftOutLemmas.{smaller_gone}
+use Rattle.lit_search.proofs.NextLemmas.{none_at_first, none_up_to, passed_on, same_reads, seen_on, smaller_leave}
 use Rattle.lit_search.proofs.OtherLemmas.{shows_on}
 use Rattle.lit_search.proofs.PassingLemmas.{length-part, pass_invalid}
 use Rattle.lit_search.proofs.PlaceLemmas.{ways_end}
@@ -54,8 +54,8 @@ loop-self-preserved-else-not-leave g c =
           (passed_on t Wanted c.args.from (low_at s) s c.in-Some.depth c.loop-self.invariant.none may.low may) (c.leave.ensures.nothing c.if-not-leave.false);
     }
 
-pub enter-requires : goal.enter-requires
-enter-requires g c =
+pub enter-requires-clause-left : goal.enter-requires-clause-left
+enter-requires-clause-left g c =
     let s = c.loop-self.self in
     omega (
       arith,
@@ -66,31 +66,43 @@ enter-requires g c =
       ap (λ (p : PartModel). length (byte_reads (part_events p))) c.part-in_default.ensures.value,
     )
 
-pub loop-self-smaller-then-len-reads : goal.loop-self-smaller-then-len-reads
-loop-self-smaller-then-len-reads g c =
-    let s = c.loop-self.self in
-    let new = c.enter.new.self in
-    let left : length s.places < length (byte_reads (stand_events s)) =
-    omega (arith, c.if-len-reads.true, c.len.ensures.value, c.reads.ensures, length-part s c.part.result.now c.part.ensures.value, ap (λ (p : PartModel). length (byte_reads (part_events p))) c.part-in_default.ensures.value) in
-    let long : length new.places ≡ length s.places + 1 = ap (λ (u : Stand). length u.places) c.enter.ensures ∙ long_entered s in
-    let low : low_at new ≡ low_at s = ap low_at c.enter.ensures ∙ low_entered s in
-    omega (
-      arith,
-      smaller_enter c.args.to (low_at s) (length (byte_reads (stand_events s))) (length s.places) (length new.places) long left,
-      ap (λ (l : ℕ). (c.args.to - l) * (length (byte_reads (stand_events s)) + 1)) low,
-      ap (λ (u : Stand). (c.args.to - low_at new) * (length (byte_reads (stand_events u)) + 1) + (length (byte_reads (stand_events u)) - length new.places)) c.enter.ensures,
-    )
-
-pub loop-self-preserved-then-len-reads : goal.loop-self-preserved-then-len-reads
-loop-self-preserved-then-len-reads g c =
+pub returns-then-not-enter-clause-shows : goal.returns-then-not-enter-clause-shows
+returns-then-not-enter-clause-shows g c =
     let t = c.args.plan.now in
     let Wanted = g.W.Wanted.IsWanted c.args.wanted.now t in
     let s = c.loop-self.self in
-    let low : low_at c.enter.new.self ≡ low_at s = ap low_at c.enter.ensures ∙ low_entered s in
+    none_up_to t Wanted c.args.from c.args.to _ (omega (arith, c.requires.high, ap (λ (k : ℕ). choices_before t (k + 1)) c.loop-self.invariant.combination))
+    (shows_on t Wanted c.args.since c.args.from (low_at s) (choices_before t (s.combination + 1)) c.requires.seen c.loop-self.invariant.none (c.enter.ensures.last c.if-not-enter.true))
+
+pub loop-self-smaller-else-not-enter : goal.loop-self-smaller-else-not-enter
+loop-self-smaller-else-not-enter g c =
+    let s = c.loop-self.self in
+    let new = c.enter.new.self in
+    let left : length s.places < length (byte_reads (stand_events s)) =
+    omega (
+      arith,
+      c.if-len-reads.true,
+      c.len.ensures.value,
+      c.reads.ensures,
+      length-part s c.part.result.now c.part.ensures.value,
+      ap (λ (p : PartModel). length (byte_reads (part_events p))) c.part-in_default.ensures.value,
+    ) in
+    let reads = same_reads s s.test s.combination new refl refl c.enter.ensures.test c.enter.ensures.combination in
+    omega (
+      arith,
+      smaller_gone c.args.to (length (byte_reads (stand_events s))) s new (c.enter.ensures.next c.if-not-enter.false) c.in_default.ensures.some (omega (arith, c.loop-self-test.true, c.low.ensures)) left,
+      ap (λ (r : ℕ). (c.args.to - low_at new) * (r + 1) + (r - length new.places)) reads,
+    )
+
+pub loop-self-preserved-else-not-enter : goal.loop-self-preserved-else-not-enter
+loop-self-preserved-else-not-enter g c =
+    let t = c.args.plan.now in
+    let Wanted = g.W.Wanted.IsWanted c.args.wanted.now t in
+    let s = c.loop-self.self in
     record {
-      test = ap (λ (u : Stand). u.test) c.enter.ensures ∙ c.loop-self.invariant.test;
-      combination = ap (λ (u : Stand). u.combination) c.enter.ensures ∙ c.loop-self.invariant.combination;
-      none = subst (λ (n : ℕ). NoneShow t Wanted (in_range c.args.from n)) (sym low) c.loop-self.invariant.none;
+      test = c.enter.ensures.test ∙ c.loop-self.invariant.test;
+      combination = c.enter.ensures.combination ∙ c.loop-self.invariant.combination;
+      none = shows_on t Wanted c.args.since c.args.from (low_at s) (low_at c.enter.new.self) c.requires.seen c.loop-self.invariant.none (c.enter.ensures.nothing c.if-not-enter.false);
     }
 
 pub shown-requires-clause-all : goal.shown-requires-clause-all

@@ -4,6 +4,7 @@ use Rattle.lit_paths.specs.ByteReads.{byte_reads}
 use Rattle.lit_rel.specs.Part.{AreFirstSources, PartModel, part_events}
 use Rattle.lit_search.specs.Internal.Places.{part_at, stand_events}
 use Rattle.lit_search.proofs.CompletionLemmas.{not_refuted}
+use Rattle.lit_search.proofs.LeftOutLemmas.{none_goes_on}
 use Rattle.lit_search.proofs.PassingLemmas.{length-part, pass_all, pass_from, pass_less}
 use Rattle.lit_search.proofs.StoodForLemmas.{pass_stood_for}
 use Rattle.lit_search.proofs.cursor.Cursor.passed.Goals as goal
@@ -22,6 +23,15 @@ returns-then-refuted-clause-passed g c =
     let first = subst AreFirstSources c.part-part.ensures.value c.len-depth.ensures.candidates in
     pass_all c.laws.ensures s c.part-part.ensures.entered c.part-part.ensures.placed few c.args.plan.now _ c.args.from c.len-depth.result c.requires.test (c.len-depth.ensures.value ∙ long)
     (λ x is. not_refuted (part_at s) x is c.laws.ensures c.part-part.ensures.entered (c.forced_rounds_have_no_order.ensures (part_at s) first) (c.refuted.ensures.0 c.if-refuted.true))
+
+pub returns-then-has_none_left-clause-passed : goal.returns-then-has_none_left-clause-passed
+returns-then-has_none_left-clause-passed g c =
+    let s = c.args.self.now in
+    let long = length-part s c.part-part.result.now c.part-part.ensures.value in
+    let few : length s.places ≤ length (byte_reads (stand_events s)) = omega (arith, long, c.len-depth.ensures.few, c.len-depth.ensures.value, ap (λ (p : PartModel). length (byte_reads (part_events p))) c.part-part.ensures.value) in
+    let first = subst AreFirstSources c.part-part.ensures.value c.len-depth.ensures.candidates in
+    pass_all c.laws.ensures s c.part-part.ensures.entered c.part-part.ensures.placed few c.args.plan.now _ c.args.from c.len-depth.result c.requires.test (c.len-depth.ensures.value ∙ long)
+    (none_goes_on c.laws.ensures c.left_out_sources_are_none.ensures c.refused_bytes_make_tests_false.ensures c.forced_rounds_have_no_order.ensures s c.part-part.ensures.entered c.part-part.ensures.sound first (c.has_none_left.ensures.0 c.if-has_none_left.true))
 
 pub returns-then-has_unwanted-clause-passed : goal.returns-then-has_unwanted-clause-passed
 returns-then-has_unwanted-clause-passed g c = pass_from c.args.plan.now _ c.args.from c.args.self.now c.args.known (c.has_unwanted.ensures.passed c.if-has_unwanted.true)
