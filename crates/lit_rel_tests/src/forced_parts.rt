@@ -36,6 +36,31 @@ fn take_back(rt: &impl Abort, part: &mut ForcedPart<'_>) {
     part.pop();
 }
 
+/// Whether the part, which has six events, leaves this source of the next byte read out.
+fn is_left_out(rt: &impl Abort, part: &ForcedPart<'_>, source: u8) -> bool {
+    let combination = part.combination();
+    let place = part.part().len();
+    assert!(rt; place < combination.byte_reads().len());
+    let next = combination.byte_reads()[place];
+    assert!(rt; usize::from(next.read) < combination.events().len());
+    assert!(rt; usize::from(source) < combination.events().len());
+    part.leaves_out(next, source)
+}
+
+/// Where A's load reads what made the block, B's may not: that is known before it is given.
+#[test]
+fn store_buffering_leaves_init_out(rt: HostRuntime) -> Result<(), Fail> {
+    let test = read(rt.alloc(), STORE_BUFFERING.as_bytes())?;
+    let plan = plan(rt.alloc(), &test)?;
+    assert!(rt; plan.combinations() > 0);
+    let mut part = ForcedPart::open(&plan, 0);
+    assert!(rt; !is_left_out(&rt, &part, 1));
+    give(&rt, &mut part, 1);
+    assert!(rt; is_left_out(&rt, &part, 0));
+    assert!(rt; !is_left_out(&rt, &part, 2));
+    Ok(())
+}
+
 /// Where both loads of store buffering read what made the block, the triples force A's store before itself; with any other
 /// sources there is an order. What was forced comes back with the sources.
 #[test]

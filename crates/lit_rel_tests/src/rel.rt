@@ -2,6 +2,7 @@
 
 mod between;
 mod broken;
+mod foreseen;
 mod parts;
 mod races;
 mod sets;

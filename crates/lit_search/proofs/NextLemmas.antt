@@ -1,5 +1,5 @@
 -- What is passed over while a cursor goes on.
-use Rattle.std.proofs.Common.{◌≡◌, ◌⊎◌, inl, inr, ℕ, ◌+◌, ◌*◌, ◌-◌, ◌<◌, ◌≤◌, Bool, List, [], ◌∷◌, ◌++◌, length, map, get_or, Some, sym, ap, subst, ◌∙◌, arith, length-append}
+use Rattle.std.proofs.Common.{◌≡◌, ◌⊎◌, inl, inr, ℕ, ◌+◌, ◌*◌, ◌-◌, ◌<◌, ◌≤◌, Bool, List, [], ◌∷◌, ◌++◌, length, map, get_or, Some, sym, ap, subst, ◌∙◌, arith}
 use Rattle.std.specs.Prelude.{IsTrue, slice_get}
 use Rattle.std.proofs.lemmas.Bool.{cases_lt}
 use Rattle.std.proofs.lemmas.List.{length-map}
@@ -75,9 +75,6 @@ smaller_enter to low reads k k' more inside = omega (arith, more, inside)
 -- with the first candidate, the choices begin at the same one
 pub low_entered : (s : Stand) → low_at (with_places s (s.places ++ 0 ∷ [])) ≡ low_at s
 low_entered s = omega (arith, passed_more (stand_events s) 0 s.places 0)
-
-pub long_entered : (s : Stand) → length (s.places ++ 0 ∷ []) ≡ length s.places + 1
-long_entered s = omega (arith, length-append s.places (0 ∷ []))
 
 -- as many byte reads
 pub same_reads : (s : Stand) (t : Litmus) (c : ℕ) (new : Stand) → s.test ≡ t → s.combination ≡ c → new.test ≡ t → new.combination ≡ c

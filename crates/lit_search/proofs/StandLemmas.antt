@@ -61,14 +61,6 @@ module _ (t : Litmus) (c : ℕ) (ps : List ℕ) (p : ℕ) where
       let split : (p + 1) * ways_from events (length ps + 1) ≡ p * ways_from events (length ps + 1) + ways_from events (length ps + 1) = once_more p (ways_from events (length ps + 1)) in
       omega (arith, low_more (p + 1), low_more p, last_ways, split)
 
-  pub behind_last : length ps < length (byte_reads events) → p < length (candidates_at events (length ps)) → ¬ (p + 1 < length (candidates_at events (length ps)))
-      → behind_at (at ps) ≡ behind_at (at (ps ++ p ∷ []))
-  behind_last left known none =
-      let count : length (candidates_at events (length ps)) ≡ p + 1 = omega (arith, known, none) in
-      let split : ways_from events (length ps) ≡ (p + 1) * ways_from events (length ps + 1) =
-      ways_split events (length ps) left ∙ ap (λ (n : ℕ). n * ways_from events (length ps + 1)) count in
-      omega (arith, split, once_more p (ways_from events (length ps + 1)), low_more p, last_ways)
-
 -- ---- what a cursor keeps
 abbrev pub stand_of : Inside → Stand
 stand_of x = record { test = x.part.test; combination = x.part.combination; places = x.places.items }
@@ -260,14 +252,10 @@ back_more first now new p depth begun more deep =
     }
 
 -- ---- leaving
--- behind the choices of its sources comes the next candidate of the last one, and else what is behind without it
+-- behind the choices of its sources comes the next candidate of the last one
 module _ (now new : Stand) (p : ℕ) (more : now ≡ with_places new (new.places ++ p ∷ [])) where
   pub left_next : (next : Stand) → next ≡ with_places new (new.places ++ (p + 1) ∷ []) → low_at next ≡ behind_at now
   left_next next is = ap low_at is ∙ low_next new.test new.combination new.places p ∙ sym (ap behind_at more)
-
-  pub left_last : length new.places < length (byte_reads (stand_events new)) → p < length (candidates_at (stand_events new) (length new.places))
-      → ¬ (p + 1 < length (candidates_at (stand_events new) (length new.places))) → behind_at new ≡ behind_at now
-  left_last left known none = behind_last new.test new.combination new.places p left known none ∙ sym (ap behind_at more)
 
 -- with no source they are all of the combination
 pub behind_all : (x : Inside) → IsStanding x → (s : Stand) → stand_of x ≡ s → ((t : Litmus) (c : ℕ) → c < length (combinations_of t) → NumbersChoices t c) → length s.places ≤ 0 → behind_at s ≡ choices_before s.test (s.combination + 1)
