@@ -1,6 +1,7 @@
 pub mod PlaceLemmas
 pub mod StandLemmas
 pub mod LastLemmas
+pub mod ForeseenLemmas
 pub mod LeftOutLemmas
 pub mod HeldLemmas
 pub mod Takings

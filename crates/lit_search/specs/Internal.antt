@@ -17,3 +17,4 @@ pub mod Passing
 pub mod StoodFor
 pub mod Others
 pub mod Runners
+pub mod Foreseeing

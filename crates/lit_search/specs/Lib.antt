@@ -1,5 +1,6 @@
 pub mod ValidExecution
 pub mod Completion
+pub mod Foreseen
 pub mod StandsFor
 pub mod Report
 pub mod Merge

@@ -12,8 +12,9 @@ ghost use Rattle.lit_search.specs.Report.{Report, Gives, IsReport};
 
 use crate::laws::completions::laws;
 pub use completions::{
-    broken_parts_have_no_completion, init_stands_for_sources, orders_of_completions_keep_parts,
-    others_stand_for_sources, settled_pasts_are_final, whole_parts_are_decided_by_orders,
+    broken_parts_have_no_completion, executions_take_what_can_stand, init_stands_for_sources,
+    orders_of_completions_keep_parts, others_stand_for_sources, settled_pasts_are_final,
+    whole_parts_are_decided_by_orders,
 };
 pub use schedules::{interleavings_are_reported, interleavings_are_valid, reports_have_an_entry};
 pub use sequential::sequential_executions_are_valid;

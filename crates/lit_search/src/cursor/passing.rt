@@ -100,6 +100,9 @@ impl Cursor<'_> {
         if self.has_none_left() {
             return Some(depth);
         }
+        if self.foresees_none() {
+            return Some(depth);
+        }
         if self.has_unwanted(plan, wanted, known) {
             return Some(known);
         }

@@ -4,24 +4,31 @@ ghost use Rattle.std.specs.Prelude.{◌↔◌, ℕ, List};
 ghost use Rattle.lit_read.specs.Syntax.{IsLitmus, Litmus};
 ghost use Rattle.lit_paths.specs.Choice.{AreSources};
 ghost use Rattle.lit_paths.specs.Execution.{Execution, execution_events};
+ghost use Rattle.lit_paths.specs.Plan.{AreEventsIn};
+ghost use Rattle.lit_rel.specs.declared.rows.Rows.{Rows};
+ghost use Rattle.lit_rel.specs.Between.{BetweenModel, Forbids};
 ghost use Rattle.lit_rel.specs.Broken.{IsBroken};
 ghost use Rattle.lit_rel.specs.HappensBefore.{HappensBefore};
 ghost use Rattle.lit_rel.specs.Part.{PartModel, part_events};
+ghost use Rattle.lit_rel.specs.ReadsFrom.{ReadsByteFrom};
+ghost use Rattle.lit_rel.specs.Rows.{Holds};
 ghost use Rattle.lit_rel.specs.Settled.{HasSettledPast};
 ghost use Rattle.lit_order.specs.MemoryOrder.{IsMemoryOrder};
 ghost use Rattle.lit_search.specs.Completion.{Completes, HasCompletion, IsEntered};
+ghost use Rattle.lit_search.specs.Foreseen.{AreKept, IsOut};
 ghost use Rattle.lit_search.specs.Internal.Laws.{Laws};
 ghost use Rattle.lit_search.specs.StandsFor.{AreAsGood, HasOneWith, HasStandIn, IsOn, MakesNoDifference};
 ghost use Rattle.lit_search.specs.ValidExecution.{IsValidExecution};
 
+use lit_order::laws::forced_rounds_have_no_order;
 use lit_paths::laws::{
     candidate_executions_have_choices, choices_are_listed, choices_are_on_combinations,
     choices_have_numbers, combinations_are_listed, combinations_are_walked, paths_tell_their_runs,
     runs_choose_for_each_read,
 };
 use lit_rel::laws::{
-    byte_reads_are_of_events, init_takes_place, races_are_foreseen, relations_grow_with_bytes,
-    settled_pasts_stay, values_keep_place, values_stay,
+    byte_reads_are_of_events, init_takes_place, races_are_foreseen, refused_bytes_make_tests_false,
+    relations_grow_with_bytes, settled_pasts_stay, values_keep_place, values_stay,
 };
 
 /// The laws of the crates below.
@@ -95,4 +102,16 @@ pub fn settled_pasts_are_final()
         → HappensBefore (execution_events part.test x) x.sources d e ↔ HappensBefore (part_events part) part.sources d e }
 {
     laws();
+}
+
+/// A valid execution that goes on from a part has for each byte a source that can still stand there, by the part and by
+/// pairs and triples of events that each memory-order of each such execution keeps.
+pub fn executions_take_what_can_stand()
+    ensures { (part : PartModel) (before : Rows) (between : BetweenModel) (x : Execution) (r b w : ℕ) → IsEntered part
+        → AreEventsIn part.test.bytes (part_events part) → AreKept part (Holds before) (Forbids between) → Completes part x
+        → ReadsByteFrom (part_events part) x.sources r b w → ¬ IsOut part (Holds before) r b w }
+{
+    laws();
+    refused_bytes_make_tests_false();
+    forced_rounds_have_no_order();
 }

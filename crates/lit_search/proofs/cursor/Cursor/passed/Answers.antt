@@ -33,6 +33,13 @@ returns-then-has_none_left-clause-passed g c =
     pass_all c.laws.ensures s c.part-part.ensures.entered c.part-part.ensures.placed few c.args.plan.now _ c.args.from c.len-depth.result c.requires.test (c.len-depth.ensures.value ∙ long)
     (none_goes_on c.laws.ensures c.left_out_sources_are_none.ensures c.refused_bytes_make_tests_false.ensures c.forced_rounds_have_no_order.ensures s c.part-part.ensures.entered c.part-part.ensures.sound first (c.has_none_left.ensures.0 c.if-has_none_left.true))
 
+pub returns-then-foresees_none-clause-passed : goal.returns-then-foresees_none-clause-passed
+returns-then-foresees_none-clause-passed g c =
+    let s = c.args.self.now in
+    let long = length-part s c.part-part.result.now c.part-part.ensures.value in
+    let few : length s.places ≤ length (byte_reads (stand_events s)) = omega (arith, long, c.len-depth.ensures.few, c.len-depth.ensures.value, ap (λ (p : PartModel). length (byte_reads (part_events p))) c.part-part.ensures.value) in
+    pass_all c.laws.ensures s c.part-part.ensures.entered c.part-part.ensures.placed few c.args.plan.now _ c.args.from c.len-depth.result c.requires.test (c.len-depth.ensures.value ∙ long) (c.foresees_none.ensures c.if-foresees_none.true)
+
 pub returns-then-has_unwanted-clause-passed : goal.returns-then-has_unwanted-clause-passed
 returns-then-has_unwanted-clause-passed g c = pass_from c.args.plan.now _ c.args.from c.args.self.now c.args.known (c.has_unwanted.ensures.passed c.if-has_unwanted.true)
 

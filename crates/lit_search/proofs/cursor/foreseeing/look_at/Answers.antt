@@ -1,0 +1,48 @@
+use Rattle.std.proofs.Common.{Bool, List, Option, length, sym, ap, subst, arith}
+use Rattle.std.specs.Prelude.{IfNone}
+use Rattle.lit_paths.specs.declared.byte_reads.ByteRead.{ByteRead}
+use Rattle.lit_paths.specs.declared.event.Event.{Event}
+use Rattle.lit_rel.specs.Between.{Forbids}
+use Rattle.lit_rel.specs.Part.{part_events}
+use Rattle.lit_rel.specs.Rows.{Holds}
+use Rattle.lit_search.specs.Internal.Foreseeing.{GoesNowhere}
+use Rattle.lit_search.proofs.ForeseenLemmas.{events_here, its_event, lists_of, none_left, one_left, read_here, sound_here}
+use Rattle.lit_search.proofs.cursor.foreseeing.look_at.Goals as goal
+
+abbrev no_read : ByteRead
+no_read = record { read = 0; byte = 0 }
+
+pub event_at-requires : goal.event_at-requires
+event_at-requires c =
+    let p = c.args.part.now in
+    let inside = its_event p _ c.combination-combination.ensures c.byte_reads.result.now c.byte_reads.ensures no_read c.args.number c.requires.known (c.laws.ensures.of_events (part_events p)) in
+    omega (arith, inside, c.from.ensures, ap (λ (es : List Event). length es) (events_here p _ c.combination-combination.ensures c.events-events.result.now c.events-events.ensures.value))
+
+pub first_possible-requires-clause-known : goal.first_possible-requires-clause-known
+first_possible-requires-clause-known c k w at =
+    ((lists_of c.args.part.now _ c.combination-combination.ensures c.byte_reads.result.now c.byte_reads.ensures no_read c.args.number c.requires.known c.candidates-candidates.result.now c.candidates-candidates.ensures.lists).only k w at).known
+
+pub is_only-requires-clause-known : goal.is_only-requires-clause-known
+is_only-requires-clause-known c k w at =
+    ((lists_of c.args.part.now _ c.combination-combination.ensures c.byte_reads.result.now c.byte_reads.ensures no_read c.args.number c.requires.known c.candidates-candidates.result.now c.candidates-candidates.ensures.lists).only k w at).known
+
+pub returns-in_err-source-clause-none : goal.returns-in_err-source-clause-none
+returns-in_err-source-clause-none c =
+    let p = c.args.part.now in
+    let same = c.combination-combination.ensures in
+    let reads = c.byte_reads.result.now in
+    let all = c.byte_reads.ensures in
+    subst (λ (o : Option Bool). IfNone o (GoesNowhere p)) (sym c.from_residual.ensures)
+    (none_left p c.laws.ensures c.refused_bytes_make_tests_false.ensures c.forced_rounds_have_no_order.ensures c.requires.entered (sound_here p _ same c.events-events.result.now c.events-events.ensures.value c.events-events.ensures.sound)
+    (Holds c.args.before.now) (Forbids c.args.between.now) c.requires.foreseen.kept c.args.number _ _ (read_here p _ same reads all no_read c.args.number c.requires.known) c.candidates-candidates.result.now
+    (lists_of p _ same reads all no_read c.args.number c.requires.known c.candidates-candidates.result.now c.candidates-candidates.ensures.lists) c.in_err-source.ensures.none)
+
+pub put_source-requires-clause-always : goal.put_source-requires-clause-always
+put_source-requires-clause-always c =
+    let p = c.args.part.now in
+    let same = c.combination-combination.ensures in
+    let reads = c.byte_reads.result.now in
+    let all = c.byte_reads.ensures in
+    one_left p c.laws.ensures c.refused_bytes_make_tests_false.ensures c.forced_rounds_have_no_order.ensures c.requires.entered (sound_here p _ same c.events-events.result.now c.events-events.ensures.value c.events-events.ensures.sound)
+    (Holds c.args.before.now) (Forbids c.args.between.now) c.requires.foreseen.kept c.args.number _ _ (read_here p _ same reads all no_read c.args.number c.requires.known) c.candidates-candidates.result.now
+    (lists_of p _ same reads all no_read c.args.number c.requires.known c.candidates-candidates.result.now c.candidates-candidates.ensures.lists) c.in_ok-source.source (c.is_only.ensures c.if-not-is_only.false)

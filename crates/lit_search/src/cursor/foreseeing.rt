@@ -1,0 +1,249 @@
+//! Looking ahead at what can still stand.
+//!
+//! A byte read for which one source is left has it in each valid execution that goes on from a part, so each memory-order
+//! keeps what this source brings, wherever the byte read stands. That may leave other byte reads one source, or none.
+
+ghost use Rattle.std.specs.Prelude.{◌≡◌, ◌≢◌, ◌↔◌, ◌⊎◌, ℕ, ◌<◌, ◌≤◌, IfNone, IfSome, IsFalse, IsTrue, OnSome, Some, length, slice_get};
+ghost use Rattle.lit_paths.specs.ByteReads.{byte_read_at, byte_reads};
+ghost use Rattle.lit_paths.specs.Choice.{candidates_of};
+ghost use Rattle.lit_paths.specs.Execution.{Execution};
+ghost use Rattle.lit_rel.specs.Between.{Forbids};
+ghost use Rattle.lit_rel.specs.Part.{PartModel, part_events};
+ghost use Rattle.lit_rel.specs.Rows.{Holds, rows_len};
+ghost use Rattle.lit_search.specs.Completion.{Completes, IsEntered};
+ghost use Rattle.lit_search.specs.Foreseen.{IsApart, IsOut};
+ghost use Rattle.lit_search.specs.Internal.Places.{part_at};
+ghost use Rattle.lit_search.specs.Internal.Foreseeing.{GoesNowhere, IsAlwaysSource, IsForeseen, MaySynchronize};
+
+use crate::cursor::Cursor;
+use crate::laws::completions::laws;
+use lit_order::forced_precedence;
+use lit_order::laws::{
+    forced_rounds_have_no_order, forcing_keeps_orders, orders_keep_what_is_forced,
+};
+use lit_paths::{BYTE_READ_LIMIT, ByteRead, event_at};
+use lit_rel::laws::refused_bytes_make_tests_false;
+use lit_rel::{Between, EventSet, Part, Rows, can_synchronize};
+
+/// Whether a source would synchronize with its read, before which it never stands, or something always stands between the
+/// two that may not stand there.
+fn is_apart(part: &Part<'_>, before: &Rows, source: u8, read: u8) -> bool
+    requires source { source < length (part_events part.now) }
+    requires read { read < length (part_events part.now) }
+    requires len { rows_len before.now ≡ length (part_events part.now) }
+    ensures { IsTrue result ↔ IsApart part.now (Holds before.now) source read }
+{
+    let (w, r) = (usize::from(source), usize::from(read));
+    let events = part.combination().events();
+    if before.holds(r, w) && can_synchronize(event_at(events, w), event_at(events, r)) {
+        return true;
+    }
+    let others = part.others_between(source, read);
+    let after_source = others.intersection(before.successors(w));
+    let between = after_source.intersection(before.predecessors(r));
+    between.split_first().is_some()
+}
+
+/// Whether a candidate can't be the source of a byte read.
+fn is_out(part: &Part<'_>, before: &Rows, at: ByteRead, source: u8) -> bool
+    requires source { source < length (part_events part.now) }
+    requires read { at.read < length (part_events part.now) }
+    requires len { rows_len before.now ≡ length (part_events part.now) }
+    ensures { IsTrue result ↔ IsOut part.now (Holds before.now) at.read at.byte source }
+{
+    part.tests_refuse(at, source)
+        || !part.is_coherent_with(at, source)
+        || is_apart(part, before, source, at.read)
+}
+
+/// The first of the candidates of a byte read that can be its source; `None` where none can.
+fn first_possible(part: &Part<'_>, before: &Rows, at: ByteRead, candidates: &[u8]) -> Option<u8>
+    requires known { (k c : ℕ) → slice_get candidates.now k ≡ Some c → c < length (part_events part.now) }
+    requires read { at.read < length (part_events part.now) }
+    requires len { rows_len before.now ≡ length (part_events part.now) }
+    ensures known { IfSome result (λ source. source < length (part_events part.now)) }
+    ensures none { IfNone result ((k c : ℕ) → slice_get candidates.now k ≡ Some c → IsOut part.now (Holds before.now) at.read at.byte c) }
+{
+    for candidate in candidates {
+        if !is_out(part, before, at, *candidate) {
+            return Some(*candidate);
+        }
+    }
+    None
+}
+
+/// Whether no candidate of a byte read but this one can be its source.
+fn is_only(part: &Part<'_>, before: &Rows, at: ByteRead, candidates: &[u8], source: u8) -> bool
+    requires known { (k c : ℕ) → slice_get candidates.now k ≡ Some c → c < length (part_events part.now) }
+    requires read { at.read < length (part_events part.now) }
+    requires len { rows_len before.now ≡ length (part_events part.now) }
+    ensures { IsTrue result → (k c : ℕ) → slice_get candidates.now k ≡ Some c → c ≢ source → IsOut part.now (Holds before.now) at.read at.byte c }
+{
+    for candidate in candidates {
+        if *candidate != source && !is_out(part, before, at, *candidate) {
+            return false;
+        }
+    }
+    true
+}
+
+/// Makes of what each memory-order keeps all that this forces. Answers `false` where that has an event before itself: then
+/// no valid execution goes on from the part.
+fn close(_part: &Part<'_>, before: &mut Rows, between: &Between) -> bool
+    requires { IsForeseen _part.now before.old between.now }
+    ensures foreseen { IsTrue result → IsForeseen _part.now before.new between.now }
+    ensures none { IsFalse result → GoesNowhere _part.now }
+{
+    forcing_keeps_orders();
+    orders_keep_what_is_forced();
+    let Some(forced) = forced_precedence(before, between) else {
+        return false;
+    };
+    *before = forced;
+    true
+}
+
+/// Puts in the pair of a source and its read, both by event number, if they can synchronize.
+fn put_pair(part: &Part<'_>, before: &mut Rows, source: u8, read: u8)
+    requires source { source < length (part_events part.now) }
+    requires read { read < length (part_events part.now) }
+    requires len { rows_len before.old ≡ length (part_events part.now) }
+    ensures len { rows_len before.new ≡ rows_len before.old }
+    ensures pairs { (a d : ℕ) → Holds before.new a d ↔ (Holds before.old a d ⊎ ((a ≡ source) × (d ≡ read) × MaySynchronize part.now source read)) }
+{
+    let events = part.combination().events();
+    let (w, r) = (usize::from(source), usize::from(read));
+    if can_synchronize(event_at(events, w), event_at(events, r)) {
+        before.put(w, r);
+    }
+}
+
+/// Puts in what a source brings that a read always has, both by event number: their pair, and what may not stand between
+/// them, where there is room for it.
+fn put_source(part: &Part<'_>, before: &mut Rows, between: &mut Between, source: u8, read: u8)
+    requires source { source < length (part_events part.now) }
+    requires read { read < length (part_events part.now) }
+    requires foreseen { IsForeseen part.now before.old between.old }
+    requires always { IsAlwaysSource part.now source read }
+    ensures { IsForeseen part.now before.new between.new }
+{
+    laws();
+    put_pair(part, before, source, read);
+    if between.pairs().len() < BYTE_READ_LIMIT {
+        between.forbid(source, read, part.others_between(source, read));
+    }
+}
+
+/// Looks at a byte read, by its number: where it is sequentially consistent and has one source left, what this brings is
+/// put in. Says whether it is; `None` where no valid execution goes on from the part.
+fn look_at(part: &Part<'_>, before: &mut Rows, between: &mut Between, number: usize) -> Option<bool>
+    requires known { number < length (byte_reads (part_events part.now)) }
+    requires entered { IsEntered part.now }
+    requires foreseen { IsForeseen part.now before.old between.old }
+    ensures foreseen { OnSome result (IsForeseen part.now before.new between.new) }
+    ensures none { IfNone result (GoesNowhere part.now) }
+{
+    laws();
+    refused_bytes_make_tests_false();
+    forced_rounds_have_no_order();
+    let combination = part.combination();
+    let events = combination.events();
+    let at = combination.byte_reads()[number];
+    if !event_at(events, usize::from(at.read)).is_seq_cst() {
+        return Some(false);
+    }
+    let candidates = combination.candidates(number);
+    let source = first_possible(part, before, at, candidates)?;
+    if !is_only(part, before, at, candidates, source) {
+        return Some(false);
+    }
+    put_source(part, before, between, source, at.read);
+    if close(part, before, between) {
+        Some(true)
+    } else {
+        None
+    }
+}
+
+/// Looks at a byte read, by its number, unless one of its read was found to have one source left.
+fn look_once(
+    part: &Part<'_>,
+    before: &mut Rows,
+    between: &mut Between,
+    done: &mut EventSet,
+    number: usize,
+) -> Option<bool>
+    requires known { number < length (byte_reads (part_events part.now)) }
+    requires entered { IsEntered part.now }
+    requires foreseen { IsForeseen part.now before.old between.old }
+    ensures foreseen { OnSome result (IsForeseen part.now before.new between.new) }
+    ensures none { IfNone result (GoesNowhere part.now) }
+{
+    laws();
+    let read = usize::from(part.combination().byte_reads()[number].read);
+    if done.contains(read) {
+        return Some(false);
+    }
+    let is_new = look_at(part, before, between, number)?;
+    if is_new {
+        *done = done.with(read);
+    }
+    Some(is_new)
+}
+
+/// Looks at each byte read without a source. Says whether one more has one source left now; `None` where no valid execution
+/// goes on from the part.
+fn look_on(
+    part: &Part<'_>,
+    before: &mut Rows,
+    between: &mut Between,
+    done: &mut EventSet,
+) -> Option<bool>
+    requires entered { IsEntered part.now }
+    requires foreseen { IsForeseen part.now before.old between.old }
+    ensures foreseen { OnSome result (IsForeseen part.now before.new between.new) }
+    ensures none { IfNone result (GoesNowhere part.now) }
+{
+    let mut further = false;
+    for number in part.len()..part.reads() {
+        if look_once(part, before, between, done, number)? {
+            further = true;
+        }
+    }
+    Some(further)
+}
+
+/// Whether no valid execution goes on from a part, as far as what can still stand shows.
+fn goes_nowhere(part: &Part<'_>) -> bool
+    requires { IsEntered part.now }
+    ensures { IsTrue result → GoesNowhere part.now }
+{
+    laws();
+    let mut between = part.between();
+    let mut before = part.happens_before();
+    if !close(part, &mut before, &between) {
+        return true;
+    }
+    let mut done = EventSet::new();
+    for _turn in 0..part.reads() {
+        match look_on(part, &mut before, &mut between, &mut done) {
+            None => return true,
+            Some(further) => {
+                if !further {
+                    return false;
+                }
+            }
+        }
+    }
+    false
+}
+
+impl Cursor<'_> {
+    /// Whether no valid execution is on its combination, as far as what can still stand shows before a source is given.
+    pub(crate) fn foresees_none(&self) -> bool
+        ensures { IsTrue result → GoesNowhere (part_at self.now) }
+    {
+        let part = self.part();
+        part.len() == 0 && goes_nowhere(part)
+    }
+}
