@@ -7,6 +7,7 @@ pub mod StandingLemmas
 pub mod ForcedLemmas
 pub mod ExtendLemmas
 pub mod ForcingLemmas
+pub mod KeptBetweenLemmas
 pub mod KeptLevelLemmas
 pub mod LeftOutLemmas
 pub mod LevelLemmas

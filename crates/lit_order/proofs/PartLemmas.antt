@@ -15,9 +15,9 @@ use Rattle.lit_rel.specs.Rows.{Holds, WithPair, rows_len}
 use Rattle.lit_rel.proofs.ReadingLemmas.{write_known}
 use Rattle.lit_order.specs.declared.forced_part.level.ForcedLevel.{ForcedLevel}
 use Rattle.lit_order.specs.Internal.Deciding.{HasAllForced}
-use Rattle.lit_order.specs.Forcing.{HasForcedCycle, IsForced, Given, Through}
+use Rattle.lit_order.specs.Forcing.{HasForcedCycle, IsForced, Given, Through, AfterRead, BeforeSource}
 use Rattle.lit_order.specs.Refuted.{IsForcedRound, IsRefuted}
-use Rattle.lit_order.specs.Internal.ForcedLevels.{HasForcedPairs, IsForcedLevel, IsLedOn, ByNone, ByPair}
+use Rattle.lit_order.specs.Internal.ForcedLevels.{ForbidsNone, HasForcedPairs, IsForcedLevel, IsLedOn, ByNone, ByPair}
 use Rattle.lit_order.proofs.ForcedLemmas.{AreTriplesBelow}
 use Rattle.lit_order.proofs.ForcingLemmas.{forced_within, with_pair_forced}
 use Rattle.lit_order.proofs.LevelLemmas.{IsForced-grow}
@@ -81,7 +81,7 @@ module _ (part : PartModel) (grow : GrowWithBytes) where
   before_grows : (e d : ℕ) → HappensBeforeLast part e d → HappensBefore events part.sources e d
   before_grows e d h = subst (λ (ws : List ℕ). HappensBefore events ws e d) joined ((grow.lists events front rest).happens_before e d h)
 
-  triples_grow : (w r v : ℕ) → IsForbidden events front w r v → IsForbidden events part.sources w r v
+  pub triples_grow : (w r v : ℕ) → IsForbidden events front w r v → IsForbidden events part.sources w r v
   triples_grow w r v f = subst (λ (ws : List ℕ). IsForbidden events ws w r v) joined ((grow.lists events front rest).forbidden w r v f)
 
   -- what was refuted is
@@ -154,3 +154,13 @@ module _ (part : PartModel) (grow : GrowWithBytes) where
         );
         pairs = λ _. record { len = known.len; pairs = λ a d. (to a d, from a d) };
       }
+
+  -- where its last source adds no pair and forbids nothing, what is known stays
+  pub level_unforced : StaysBroken → (level : ForcedLevel) → ¬ IsBroken part → level.round ≡ false → IsForcedLevel less level → AddsNone part → ForbidsNone part → IsForcedLevel part level
+  level_unforced stays level whole straight is none free =
+      let known = less_fine stays level whole straight is in
+      level_same stays level whole straight is none
+      (λ w r v f. record {
+        after = λ not_source not_read p. (known.pairs r v).1 (AfterRead w (free w r v f) not_source not_read ((known.pairs w v).0 p));
+        earlier = λ not_source not_read p. (known.pairs v w).1 (BeforeSource r (free w r v f) not_source not_read ((known.pairs v r).0 p));
+      })

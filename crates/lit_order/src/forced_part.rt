@@ -1,5 +1,6 @@
 //! Parts of choices, with what they force.
 
+pub(crate) mod kept_between;
 pub(crate) mod leaving_out;
 pub(crate) mod level;
 pub(crate) mod levels;
@@ -14,7 +15,7 @@ ghost use Rattle.lit_order.specs.Refuted.{IsRefuted};
 ghost use Rattle.lit_order.specs.MemoryOrder.{IsLeastMemoryOrder, IsMemoryOrder};
 
 use crate::forced_part::leaving_out::is_forced_apart;
-use crate::forced_part::level::ForcedLevel;
+use crate::forced_part::level::{ForcedLevel, least_order_anew};
 use crate::forced_part::levels::Levels;
 use crate::order::Order;
 use lit_paths::{ByteRead, Combination, Plan};
@@ -30,7 +31,7 @@ pub struct ForcedPart<'p> {
 
 impl<'p> Model for ForcedPart<'p> {
     ghost use Rattle.lit_rel.specs.Part.{PartModel, coded_part};
-    ghost use Rattle.lit_order.specs.Internal.ForcedLevels.{AreForcedLevels};
+    ghost use Rattle.lit_order.specs.Internal.ForcedLevels.{AreForcedLevels, IsKeptBetween};
 
     ghost Value = { PartModel };
 
@@ -38,7 +39,7 @@ impl<'p> Model for ForcedPart<'p> {
 
     ghost view = { λ p. p.part };
 
-    ghost invariant = { λ p. AreForcedLevels p.part p.levels.earlier.items p.levels.now };
+    ghost invariant = { λ p. AreForcedLevels p.part p.levels.earlier.items p.levels.now × IsKeptBetween p.part p.levels.forbidden };
 }
 
 impl<'p> ForcedPart<'p> {
@@ -91,7 +92,7 @@ impl<'p> ForcedPart<'p> {
         ensures { self.new ≡ with_sources self.old (self.old.sources ++ source ∷ []) }
     {
         self.part.push(source);
-        self.levels.go_on(&self.part);
+        self.levels.go_on(&self.part, source);
     }
 
     /// Takes the last source back. There is one.
@@ -138,12 +139,12 @@ impl<'p> ForcedPart<'p> {
         ensures found { IfSome result (λ order. IsLeastMemoryOrder (part_events self.now) self.now.sources order.items) }
         ensures none { IfNone result ((order : List ℕ) → ¬ IsMemoryOrder (part_events self.now) self.now.sources order) }
     {
-        let between = self.part.between();
-        if self.levels.now.least <= self.part.len() {
-            return self.levels.now.least_order(&self.part, &between);
+        if self.levels.now.least <= self.part.len() && self.levels.forbidden.goes_for(&self.part) {
+            return self
+                .levels
+                .now
+                .least_order(&self.part, &self.levels.forbidden.between);
         }
-        let mut level = ForcedLevel::default();
-        level.begin(&self.part, &between);
-        level.least_order(&self.part, &between)
+        least_order_anew(&self.part)
     }
 }

@@ -8,6 +8,7 @@ use Rattle.lit_rel.specs.HappensBefore.{HappensBefore}
 use Rattle.lit_rel.specs.LastPair.{AddsNone, AddsPair}
 use Rattle.lit_rel.specs.Part.{PartModel, part_events, with_sources}
 use Rattle.lit_rel.specs.Rows.{Holds, WithPair, rows_len}
+use Rattle.lit_order.specs.declared.forced_part.kept_between.KeptBetween.{KeptBetween}
 use Rattle.lit_order.specs.declared.forced_part.level.ForcedLevel.{ForcedLevel}
 use Rattle.lit_order.specs.Forcing.{IsForced}
 use Rattle.lit_order.specs.Refuted.{IsRefuted}
@@ -24,6 +25,14 @@ first_of part k = with_sources part (take k part.sources)
 pub record AreForbidden (part : PartModel) (between : BetweenModel) : Type 0 where
   pub len : length (part_events part) ≡ between.len
   pub triples : (w r v : ℕ) → Forbids between w r v ↔ IsForbidden (part_events part) part.sources w r v
+
+-- what is forbidden with as many sources as it says, of those that there are
+abbrev pub IsKeptBetween : PartModel → KeptBetween → Type 0
+IsKeptBetween part kept = (k : ℕ) → kept.least ≤ k → k ≤ kept.most → k ≤ length part.sources → AreForbidden (first_of part k) kept.between
+
+-- its last source forbids nothing that is not forbidden without it
+abbrev pub ForbidsNone : PartModel → Type 0
+ForbidsNone part = (w r v : ℕ) → IsForbidden (part_events part) part.sources w r v → IsForbidden (part_events part) (less_of part).sources w r v
 
 -- the pairs that it forces
 pub record HasForcedPairs (part : PartModel) (level : ForcedLevel) : Type 0 where

@@ -95,6 +95,19 @@ impl ForcedLevel {
     }
 }
 
+/// The least memory-order of a part, from what it forces, found anew, or `None` exactly where there is none. The part is not
+/// refuted.
+pub(crate) fn least_order_anew(part: &Part<'_>) -> Option<Order>
+    requires { ¬ IsRefuted part.now }
+    ensures found { IfSome result (λ order. IsLeastMemoryOrder (part_events part.now) part.now.sources order.items) }
+    ensures none { IfNone result ((order : List ℕ) → ¬ IsMemoryOrder (part_events part.now) part.now.sources order) }
+{
+    let between = part.between();
+    let mut level = ForcedLevel::default();
+    level.begin(part, &between);
+    level.least_order(part, &between)
+}
+
 /// Puts in the pair that the last source of a part adds to happens-before, and with it what it leads through.
 fn follow(forced: &mut TwoWayRows, part: &Part<'_>)
     requires some { 0 < length part.now.sources }

@@ -1,13 +1,14 @@
 //! What is known of what the first sources of a combination force.
 
-ghost use Rattle.std.specs.Prelude.{◌≡◌, ◌<◌, ◌≤◌, [], ◌∷◌, ◌++◌, length};
+ghost use Rattle.std.specs.Prelude.{◌≡◌, ◌-◌, ◌<◌, ◌≤◌, Some, [], ◌∷◌, ◌++◌, length, slice_get};
 ghost use Rattle.lit_order.specs.declared.forced_part.levels.TheConstants.{LEVELS_KEPT};
-ghost use Rattle.lit_order.specs.Internal.ForcedLevels.{AreForcedLevels, IsForcedLevel, WereForcedLevels, less_of};
+ghost use Rattle.lit_order.specs.Internal.ForcedLevels.{AreForcedLevels, IsForcedLevel, IsKeptBetween, WereForcedLevels, less_of};
 
+use crate::forced_part::kept_between::KeptBetween;
 use crate::forced_part::level::ForcedLevel;
 use arrayvec::ArrayVec;
+use lit_rel::Part;
 use lit_rel::laws::{broken_parts_stay_broken, relations_grow_with_bytes};
-use lit_rel::{Between, Part};
 
 /// How many earlier levels are kept at the most. Few parts force more that often, and what is not kept is found anew.
 pub(crate) const LEVELS_KEPT: usize = 12;
@@ -18,8 +19,8 @@ pub(crate) struct Levels {
     pub earlier: ArrayVec<ForcedLevel, LEVELS_KEPT>,
     /// That of the part. Where the part has less sources than its least number, it says nothing.
     pub now: ForcedLevel,
-    /// What the part forbids, as far as it was asked for.
-    between: Between,
+    /// What the part forbids, as far as that is known.
+    pub forbidden: KeptBetween,
 }
 
 impl Levels {
@@ -29,13 +30,14 @@ impl Levels {
         ensures earlier { result.earlier.items ≡ [] }
         ensures level { IsForcedLevel part.now result.now }
         ensures least { result.now.least ≡ 0 }
+        ensures forbidden { result.forbidden.most < result.forbidden.least }
     {
         let mut now = ForcedLevel::default();
         now.open(part);
         Levels {
             earlier: ArrayVec::new(),
             now,
-            between: Between::new(0),
+            forbidden: KeptBetween::new(),
         }
     }
 
@@ -45,34 +47,41 @@ impl Levels {
         ensures earlier { self.new.earlier.items ≡ [] }
         ensures level { IsForcedLevel part.now self.new.now }
         ensures least { self.new.now.least ≡ 0 }
+        ensures forbidden { self.new.forbidden.most < self.new.forbidden.least }
     {
         self.earlier.clear();
         self.now.open(part);
+        self.forbidden.forget();
     }
 
     /// Goes on to a part, from what was known without its last source.
-    pub(crate) fn go_on(&mut self, part: &Part<'_>)
+    pub(crate) fn go_on(&mut self, part: &Part<'_>, source: u8)
         requires some { 0 < length part.now.sources }
+        requires last { slice_get part.now.sources (length part.now.sources - 1) ≡ Some source }
         requires levels { AreForcedLevels (less_of part.now) self.old.earlier.items self.old.now }
-        ensures { AreForcedLevels part.now self.new.earlier.items self.new.now }
+        requires forbidden { IsKeptBetween (less_of part.now) self.old.forbidden }
+        ensures levels { AreForcedLevels part.now self.new.earlier.items self.new.now }
+        ensures forbidden { IsKeptBetween part.now self.new.forbidden }
     {
         broken_parts_stay_broken();
         relations_grow_with_bytes();
         if self.now.round || part.broken() {
+            self.forbidden.pass(part);
             return;
         }
-        part.put_between(&mut self.between);
+        let same = self.forbidden.gains_nothing(part, source);
+        self.forbidden.go_on(part, same);
         if part.len() <= self.now.least {
-            self.now.begin(part, &self.between);
-        } else if !self.now.goes_for(part, &self.between) {
+            self.now.begin(part, &self.forbidden.between);
+        } else if !same && !self.now.goes_for(part, &self.forbidden.between) {
             self.keep(part.len() - 1);
-            self.now.go_on(part, &self.between);
+            self.now.go_on(part, &self.forbidden.between);
         }
     }
 
     /// Keeps what is known for so many sources at the most, where there is room.
     fn keep(&mut self, most: usize)
-        ensures between { self.new.between ≡ self.old.between }
+        ensures forbidden { self.new.forbidden ≡ self.old.forbidden }
         ensures now { self.new.now ≡ record { forced = self.old.now.forced; round = self.old.now.round; least = self.old.now.least; most = most } }
         ensures kept { length self.old.earlier.items < LEVELS_KEPT → self.new.earlier.items ≡ self.old.earlier.items ++ self.new.now ∷ [] }
         ensures full { LEVELS_KEPT ≤ length self.old.earlier.items → self.new.earlier.items ≡ self.old.earlier.items }
@@ -86,7 +95,8 @@ impl Levels {
     /// Goes back to a part, from what was known with one source more.
     pub(crate) fn go_back(&mut self, part: &Part<'_>)
         requires { WereForcedLevels part.now self.old.earlier.items self.old.now }
-        ensures { AreForcedLevels part.now self.new.earlier.items self.new.now }
+        ensures levels { AreForcedLevels part.now self.new.earlier.items self.new.now }
+        ensures forbidden { self.new.forbidden ≡ self.old.forbidden }
     {
         let depth = part.len();
         if self.now.least <= depth {

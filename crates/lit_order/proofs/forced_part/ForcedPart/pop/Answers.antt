@@ -1,6 +1,7 @@
-use Rattle.std.proofs.Common.{◌-◌, ◌<◌, ℕ, List, [], ◌∷◌, ◌++◌, get_or, length, sym, subst}
+use Rattle.std.proofs.Common.{◌-◌, ◌<◌, ℕ, List, [], ◌∷◌, ◌++◌, get_or, length, sym, subst, arith}
 use Rattle.lit_rel.specs.Part.{PartModel, with_sources}
-use Rattle.lit_order.specs.Internal.ForcedLevels.{AreForcedLevels}
+use Rattle.lit_order.specs.Internal.ForcedLevels.{AreForcedLevels, IsKeptBetween}
+use Rattle.lit_order.proofs.KeptBetweenLemmas.{IsKeptBetween-back}
 use Rattle.lit_order.proofs.KeptLevelLemmas.{with_last}
 use Rattle.lit_order.proofs.forced_part.ForcedPart.pop.Goals as goal
 
@@ -13,5 +14,14 @@ go_back-requires c =
     let some : 0 < length part.sources = subst (λ (p : PartModel). 0 < length p.sources) (sym c.self.view_is) c.requires in (
       last,
       subst (λ (p : PartModel). AreForcedLevels (with_sources p (p.sources ++ last ∷ [])) earlier inside.levels.now) (sym c.pop.ensures)
-          (subst (λ (ws : List ℕ). AreForcedLevels (with_sources part ws) earlier inside.levels.now) (sym (with_last part.sources some)) c.self.invariant),
+          (subst (λ (ws : List ℕ). AreForcedLevels (with_sources part ws) earlier inside.levels.now) (sym (with_last part.sources some)) c.self.invariant.0),
+    )
+
+pub invariant_of-self : goal.invariant_of-self
+invariant_of-self c =
+    let inside = c.self.inside in
+    let part = inside.part in (
+      c.go_back.ensures.levels,
+      subst (IsKeptBetween c.pop.new.self) (sym c.go_back.ensures.forbidden)
+          (subst (λ (p : PartModel). IsKeptBetween p inside.levels.forbidden) (sym c.pop.ensures) (IsKeptBetween-back part (length part.sources - 1) (omega arith) inside.levels.forbidden c.self.invariant.1)),
     )

@@ -1,6 +1,6 @@
 use Rattle.std.proofs.Common.{ℕ, List, sym, subst}
 use Rattle.lit_rel.specs.Part.{PartModel, with_sources}
-use Rattle.lit_order.specs.Internal.ForcedLevels.{AreForcedLevels, less_of}
+use Rattle.lit_order.specs.Internal.ForcedLevels.{AreForcedLevels, IsKeptBetween, less_of}
 use Rattle.lit_order.proofs.KeptLevelLemmas.{front_of}
 use Rattle.lit_order.proofs.forced_part.ForcedPart.push.Goals as goal
 
@@ -9,4 +9,10 @@ go_on-requires-clause-levels c =
     let inside = c.self.inside in
     let earlier = inside.levels.earlier.items in
     subst (λ (p : PartModel). AreForcedLevels (less_of p) earlier inside.levels.now) (sym c.push.ensures)
-    (subst (λ (ws : List ℕ). AreForcedLevels (with_sources inside.part ws) earlier inside.levels.now) (sym (front_of inside.part.sources c.args.source)) c.self.invariant)
+    (subst (λ (ws : List ℕ). AreForcedLevels (with_sources inside.part ws) earlier inside.levels.now) (sym (front_of inside.part.sources c.args.source)) c.self.invariant.0)
+
+pub go_on-requires-clause-forbidden : goal.go_on-requires-clause-forbidden
+go_on-requires-clause-forbidden c =
+    let inside = c.self.inside in
+    subst (λ (p : PartModel). IsKeptBetween (less_of p) inside.levels.forbidden) (sym c.push.ensures)
+    (subst (λ (ws : List ℕ). IsKeptBetween (with_sources inside.part ws) inside.levels.forbidden) (sym (front_of inside.part.sources c.args.source)) c.self.invariant.1)

@@ -1,13 +1,7 @@
-use Rattle.std.proofs.Common.{◌≡◌, ◌∙◌, Option, None, Some, false, not, sym, ap}
-use Rattle.std.proofs.lemmas.Bool.{false≢true}
-use Rattle.std.specs.Option.{MatchOption, is_some}
+use Rattle.std.proofs.Common.{◌∙◌, not, ap}
+use Rattle.lit_order.proofs.LevelLemmas.{of_none}
 use Rattle.lit_order.proofs.PartLemmas.{level_same, less_fine}
 use Rattle.lit_order.proofs.forced_part.level.ForcedLevel.goes_for.Goals as goal
-
--- what holds where there is none
-of_none : {X N : Type 0} (P : X → Type 0) (o : Option X) → is_some o ≡ false → MatchOption o N P → N
-of_none P None _ h = h
-of_none P (Some x) some _ = absurd (false≢true (sym some))
 
 pub next_forced-requires : goal.next_forced-requires
 next_forced-requires c =

@@ -7,13 +7,13 @@ use Rattle.lit_order.proofs.BackLevelLemmas.{AreForcedLevels-back, AreForcedLeve
 use Rattle.lit_order.proofs.forced_part.levels.Levels.go_back.Goals as goal
 use Rattle.lit_order.proofs.forced_part.levels.Levels.go_back.Goals.{else-kept-gt0-via-then-kept-gt0+else-deref-kept, else-kept-gt0-via-else-kept-gt0}
 
-pub returns-then-self-depth : goal.returns-then-self-depth
-returns-then-self-depth c =
+pub returns-then-self-depth-clause-levels : goal.returns-then-self-depth-clause-levels
+returns-then-self-depth-clause-levels c =
     let was = c.args.self.now.now in
     AreForcedLevels-back c.args.part.now c.args.self.now.earlier.items was c.requires.0 c.requires.1 (omega (arith, c.if-self-depth.true, c.len-depth.ensures.value))
 
-pub returns-then-deref-kept : goal.returns-then-deref-kept
-returns-then-deref-kept c =
+pub returns-then-deref-kept-clause-levels : goal.returns-then-deref-kept-clause-levels
+returns-then-deref-kept-clause-levels c =
     let part = c.args.part.now in
     let was = c.args.self.now.now in
     let earlier = c.args.self.now.earlier.items in
@@ -28,8 +28,8 @@ returns-then-deref-kept c =
     (AreForcedLevels-restore part earlier was c.requires.0 c.requires.1 (omega (arith, c.if-self-depth.false, c.len-depth.ensures.value)) m level count at_level
     (sym (ap (λ (l : ForcedLevel). l.most) same) ∙ c.if-deref-kept.true ∙ c.len-depth.ensures.value))
 
-pub returns-else-kept-gt0 : goal.returns-else-kept-gt0
-returns-else-kept-gt0 c =
+pub returns-else-kept-gt0-clause-levels : goal.returns-else-kept-gt0-clause-levels
+returns-else-kept-gt0-clause-levels c =
     let part = c.args.part.now in
     let was = c.args.self.now.now in
     let earlier = c.args.self.now.earlier.items in
