@@ -10,7 +10,7 @@ use Rattle.lit_rel.specs.SynchronizesWith.{CanSynchronize}
 use Rattle.lit_order.specs.Forcing.{IsForced}
 use Rattle.lit_order.specs.MemoryOrder.{IsMemoryOrder}
 
--- a comes before d in each memory-order of the part
+-- what the part forces has a before d
 abbrev pub ForcesPair : PartModel → ℕ → ℕ → Type 0
 ForcesPair part = IsForced (HappensBefore (part_events part) part.sources) (IsForbidden (part_events part) part.sources)
 

@@ -1,4 +1,4 @@
--- Candidates of the next byte read that the sources given leave out.
+-- Candidates of a byte read that the sources given leave out.
 use Rattle.std.specs.Prelude.{◌≡◌, ◌⊎◌, ℕ, ◌+◌, ◌<◌, ◌≤◌, [], ◌∷◌, ◌++◌, length, slice_index}
 use Rattle.lit_paths.specs.declared.event.Order3.TheVariants.{SeqCst}
 use Rattle.lit_paths.specs.ByteReads.{byte_read_at, byte_reads}

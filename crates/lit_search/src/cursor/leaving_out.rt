@@ -123,7 +123,7 @@ impl Cursor<'_> {
         self.first_left(depth, 0).is_none()
     }
 
-    /// Whether it is so of some byte read without a source.
+    /// Whether some byte read without a source has none left, as far as `has_none_left_at` says so.
     pub(crate) fn has_none_left(&self) -> bool
         ensures { IsTrue result ↔ HasNoneLeft self.now }
     {
