@@ -1,5 +1,6 @@
 //! Text on its way to a writer.
 
+pub(crate) mod digits;
 pub(crate) mod keeping;
 pub(crate) mod refusing;
 pub(crate) mod reporting;
@@ -14,6 +15,7 @@ ghost use Rattle.jslit.specs.Internal.Writing.{HasPut, IsFinished, IsStopped, wr
 
 use crate::counted::Counted;
 use crate::fault::RunFault;
+use crate::page::digits::{DIGIT_LIMIT, write_digits};
 use arrayvec::ArrayVec;
 use std::io::Write;
 
@@ -72,8 +74,9 @@ impl Page {
             self.put_byte(output, b'0' + number as u8);
             return;
         }
-        self.put_number(output, number / 10);
-        self.put_byte(output, b'0' + (number % 10) as u8);
+        let mut digits = [0; DIGIT_LIMIT];
+        let start = write_digits(&mut digits, number);
+        self.put(output, &digits[start..]);
     }
 
     /// Writes what waits.
