@@ -2,9 +2,11 @@
 
 pub(crate) mod digits;
 pub(crate) mod keeping;
+pub(crate) mod lining;
 pub(crate) mod refusing;
 pub(crate) mod reporting;
 pub(crate) mod sharing;
+pub(crate) mod sourcing;
 
 ghost use Rattle.std.specs.Prelude.{◌≡◌, [], ◌∷◌, false, IfErr, OnOk, OnErr};
 ghost use Rattle.std.specs.Fmt.{decimal};
