@@ -2,12 +2,13 @@
 use Rattle.std.proofs.Common.{◌≡◌, ◌≢◌, ℕ, zero, suc, ◌+◌, ◌<◌, ◌≤◌, Bool, true, false, cond, eqb, List, [], ◌∷◌, ◌++◌, length, map, filter, take, drop, get_or, refl, sym, ap, ◌∙◌, arith, append_assoc, ne_eqb, eq-eqb}
 use Rattle.std.specs.Prelude.{All}
 use Rattle.std.specs.List.{AllByRecursion, flat_map, zip, range_with_len}
-use Rattle.std.proofs.lemmas.List.{append-nil, length-append, length-take, length-drop, at_drop_more, take-append-drop, take-append-le, drop-append-le}
+use Rattle.std.proofs.lemmas.List.{append-nil, length-append, length-map, length-take, length-drop, at_drop_more, take-append-drop, take-append-le, drop-append-le}
 use Rattle.std.proofs.lemmas.List.Elements.{filter-append, All-drop}
 use Rattle.lit_read.specs.Syntax.{Litmus}
 use Rattle.lit_paths.specs.declared.event.Event.{Event}
 use Rattle.lit_paths.specs.Event.{does_read, event_at}
-use Rattle.lit_paths.specs.ByteReads.{bytes_read_by, byte_reads_from, byte_reads}
+use Rattle.lit_paths.specs.ByteReads.{bytes_read_by, byte_reads_from, byte_reads, pair_of}
+use Rattle.lit_paths.specs.declared.byte_reads.ByteRead.{ByteRead}
 use Rattle.lit_search.specs.ValidExecution.{read_numbers_from}
 use Rattle.jslit.specs.ReportText.{source_line, from_lines}
 use Rattle.jslit.specs.Internal.ReadLine.{read_line, rest_after, lines_from}
@@ -205,6 +206,13 @@ length_parts events k = ap (λ (es : List Event). length (byte_reads es)) (sym (
 pub length_behind : (events : List Event) (k : ℕ) → length (byte_reads_from k (drop k events)) ≡ length (byte_reads (drop k events))
 length_behind events k = length_from k 0 (drop k events)
 
+-- as many bytes, where those of the others are counted
+pub parts_long : (events : List Event) (k n size : ℕ) → n ≡ length (byte_reads events) → size ≡ length (byte_reads_from k (drop k events)) → n ≡ length (byte_reads (take k events)) + size
+parts_long events k n size all behind = omega (arith, all, behind, length_parts events k, length_behind events k)
+
+pub reads_long : (reads : List ByteRead) (events : List Event) → map pair_of reads ≡ byte_reads events → length reads ≡ length (byte_reads events)
+reads_long reads events is = sym (length-map reads pair_of) ∙ ap length is
+
 -- the last event that reads, and those behind it
 pub last_size : (events : List Event) (i : ℕ) (d : Event) → i < length events → length (byte_reads_from (i + 1) (drop (i + 1) events)) ≡ 0 → does_read (get_or events i d).kind ≡ true → (get_or events i d).size ≡ length (byte_reads_from i (drop i events))
 last_size events i d lt none reads =
@@ -231,10 +239,9 @@ module _ (t : Litmus) (events : List Event) where
       (lines_split (n + 1) es fs (rest_after e ws) us (by_kind n e ws (byte_reads_from (n + 1) es) (does_read e.kind) refl long))
 
   -- the lines of a part, and of the others
-  pub lines_parts : (ws : List ℕ) (k m : ℕ) → length ws ≡ length (byte_reads events) → length (take m ws) ≡ length (byte_reads (take k events))
-      → lines_from t events (take k events) (take m ws) ++ lines_from t events (drop k events) (drop m ws) ≡ from_lines t events ws
-  lines_parts ws k m long cut =
-      sym (lines_split 0 (take k events) (drop k events) (take m ws) (drop m ws) cut)
-      ∙ ap (λ (es : List Event). lines_from t events es (take m ws ++ drop m ws)) (take-append-drop k events)
-      ∙ ap (λ (us : List ℕ). lines_from t events events us) (take-append-drop m ws)
-      ∙ sym (from_lines-is t events ws long)
+  pub lines_both : (k : ℕ) (first last : List ℕ) → length (first ++ last) ≡ length (byte_reads events) → length first ≡ length (byte_reads (take k events))
+      → lines_from t events (take k events) first ++ lines_from t events (drop k events) last ≡ from_lines t events (first ++ last)
+  lines_both k first last long cut =
+      sym (lines_split 0 (take k events) (drop k events) first last cut)
+      ∙ ap (λ (es : List Event). lines_from t events es (first ++ last)) (take-append-drop k events)
+      ∙ sym (from_lines-is t events (first ++ last) long)

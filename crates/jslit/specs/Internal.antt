@@ -5,6 +5,8 @@ pub mod FirstEntry
 pub mod Answering
 pub mod ReadLine
 pub mod Keeping
+pub mod Sourcing
+pub mod Lining
 pub mod Sharing
 pub mod Writing
 pub mod Command

@@ -1,9 +1,12 @@
 //! Text on its way to a writer.
 
+pub(crate) mod digits;
 pub(crate) mod keeping;
+pub(crate) mod lining;
 pub(crate) mod refusing;
 pub(crate) mod reporting;
 pub(crate) mod sharing;
+pub(crate) mod sourcing;
 
 ghost use Rattle.std.specs.Prelude.{◌≡◌, [], ◌∷◌, false, IfErr, OnOk, OnErr};
 ghost use Rattle.std.specs.Fmt.{decimal};
@@ -14,6 +17,7 @@ ghost use Rattle.jslit.specs.Internal.Writing.{HasPut, IsFinished, IsStopped, wr
 
 use crate::counted::Counted;
 use crate::fault::RunFault;
+use crate::page::digits::{DIGIT_LIMIT, write_digits};
 use arrayvec::ArrayVec;
 use std::io::Write;
 
@@ -72,8 +76,9 @@ impl Page {
             self.put_byte(output, b'0' + number as u8);
             return;
         }
-        self.put_number(output, number / 10);
-        self.put_byte(output, b'0' + (number % 10) as u8);
+        let mut digits = [0; DIGIT_LIMIT];
+        let start = write_digits(&mut digits, number);
+        self.put(output, &digits[start..]);
     }
 
     /// Writes what waits.

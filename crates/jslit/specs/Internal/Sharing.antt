@@ -1,15 +1,15 @@
 -- What an entry shares with the one before.
-use Rattle.std.specs.Prelude.{ℕ, List, ◌++◌, take, codes}
+use Rattle.std.specs.Prelude.{ℕ, List, ◌++◌, codes}
 use Rattle.lit_read.specs.Syntax.{Litmus}
 use Rattle.lit_paths.specs.declared.event.Event.{Event}
 use Rattle.lit_paths.specs.Outcome.{names_of}
+use Rattle.lit_paths.specs.Plan.{events_in}
 use Rattle.jslit.specs.declared.page.sharing.Shared.{Shared}
 use Rattle.jslit.specs.declared.page.sharing.KeptOutcome.{KeptOutcome}
-use Rattle.jslit.specs.declared.page.sharing.KeptLines.{KeptLines}
 use Rattle.jslit.specs.declared.page.sharing.KeptOrder.{KeptOrder}
 use Rattle.jslit.specs.ReportText.{line, names_text, registers_text}
 use Rattle.jslit.specs.Internal.Keeping.{Holds}
-use Rattle.jslit.specs.Internal.ReadLine.{lines_from}
+use Rattle.jslit.specs.Internal.Lining.{HoldsLines}
 
 -- the line of an outcome without its end, by the values of the first registers
 abbrev pub outcome_text : Litmus → List (ℕ × ℕ) → List ℕ → List ℕ
@@ -22,14 +22,11 @@ order_line t events order = line (codes "  order" ++ names_text t events order)
 abbrev pub HoldsOutcome : Litmus → List (ℕ × ℕ) → KeptOutcome → Type 0
 HoldsOutcome t names kept = Holds kept.text (outcome_text t names kept.values.now)
 
-abbrev pub HoldsLines : Litmus → List Event → KeptLines → Type 0
-HoldsLines t events kept = Holds kept.text (lines_from t events (take kept.part events) kept.sources.items)
-
 abbrev pub HoldsOrder : Litmus → List Event → KeptOrder → Type 0
 HoldsOrder t events kept = Holds kept.text (order_line t events kept.order.now)
 
--- all that is kept is of this test, and of these events
-pub record IsShared (t : Litmus) (events : List Event) (shared : Shared) : Type 0 where
+-- all that is kept is of this test, and of a combination of its paths
+pub record IsShared (t : Litmus) (c : ℕ) (shared : Shared) : Type 0 where
   pub outcome : HoldsOutcome t (names_of t) shared.outcome
-  pub lines : HoldsLines t events shared.lines
-  pub order : HoldsOrder t events shared.order
+  pub lines : HoldsLines t c shared.lines
+  pub order : HoldsOrder t (events_in t c) shared.order

@@ -1,23 +1,21 @@
 //! An entry of a report, put on a page: what it shares with the entry before is kept, and not made again.
 
-ghost use Rattle.std.specs.Prelude.{◌≡◌, ℕ, ◌+◌, ◌<◌, ◌≤◌, All, IfSome, length, take, drop};
-ghost use Rattle.lit_paths.specs.ByteReads.{byte_reads, byte_reads_from};
+ghost use Rattle.std.specs.Prelude.{◌≡◌, ◌+◌, ◌<◌, ◌≤◌, All, IfSome, length};
 ghost use Rattle.lit_paths.specs.Choice.{choices_of};
 ghost use Rattle.lit_paths.specs.Outcome.{names_of};
-ghost use Rattle.lit_paths.specs.Plan.{choices_before, events_in};
-ghost use Rattle.lit_paths.specs.declared.limits.TheConstants.{BYTE_READ_LIMIT};
+ghost use Rattle.lit_paths.specs.Plan.{choices_before};
 ghost use Rattle.lit_search.specs.Report.{Gives, HasLeastOrder};
-ghost use Rattle.jslit.specs.ReportText.{line, registers_text, from_lines, entry_text};
-ghost use Rattle.jslit.specs.Internal.ReadLine.{lines_from};
-ghost use Rattle.jslit.specs.Internal.Sharing.{HoldsOutcome, HoldsLines, HoldsOrder, IsShared, outcome_text, order_line};
+ghost use Rattle.jslit.specs.ReportText.{line, registers_text, entry_text};
+ghost use Rattle.jslit.specs.Internal.Sharing.{HoldsOutcome, HoldsOrder, IsShared, outcome_text, order_line};
 ghost use Rattle.jslit.specs.Internal.Writing.{HasPut, writing_of};
 
 use crate::counted::Counted;
 use crate::page::Page;
 use crate::page::keeping::Kept;
-use crate::page::reporting::{put_events, put_registers, put_sources};
-use lit_paths::laws::combinations_are_listed;
-use lit_paths::{Combination, Event, Plan, Sources};
+use crate::page::lining::{KeptLines, put_lines};
+use crate::page::reporting::{put_events, put_registers};
+use lit_paths::laws::{choices_are_on_combinations, combinations_are_listed};
+use lit_paths::{Combination, Event, Plan};
 use lit_read::Test;
 use lit_search::Example;
 use std::io::Write;
@@ -26,14 +24,6 @@ use std::io::Write;
 #[derive(Drop)]
 pub(crate) struct KeptOutcome<'f> {
     values: &'f [u32],
-    text: Kept,
-}
-
-/// The lines of the reads among the first events, so many, with their sources.
-#[derive(Drop)]
-pub(crate) struct KeptLines {
-    part: usize,
-    sources: Sources,
     text: Kept,
 }
 
@@ -54,23 +44,18 @@ pub(crate) struct Shared<'f> {
 
 impl<'f> Shared<'f> {
     ghost use Rattle.lit_read.specs.Syntax.{Litmus};
-    ghost use Rattle.lit_paths.specs.declared.event.Event.{Event as OfEvent};
-    ghost use Rattle.std.specs.Prelude.{List};
+    ghost use Rattle.std.specs.Prelude.{ℕ};
 
     /// No text yet.
     pub(crate) fn new() -> Self
-        ensures { (t : Litmus) (events : List OfEvent) → IsShared t events result }
+        ensures { (t : Litmus) (c : ℕ) → IsShared t c result }
     {
         Shared {
             outcome: KeptOutcome {
                 values: &[],
                 text: Kept::new(),
             },
-            lines: KeptLines {
-                part: 0,
-                sources: Sources::new(),
-                text: Kept::new(),
-            },
+            lines: KeptLines::new(),
             order: KeptOrder {
                 order: &[],
                 text: Kept::new(),
@@ -162,101 +147,6 @@ fn put_outcome<'f, W: Write>(
     page.put_byte(output, b'\n');
 }
 
-/// How many events stand before the last that reads, and how many bytes that one has. Without one, no event and no byte.
-fn last_read(events: &[Event]) -> (usize, usize)
-    ensures known { result.0 ≤ length events.now }
-    ensures size { result.1 ≡ length (byte_reads_from result.0 (drop result.0 events.now)) }
-{
-    let mut place = events.len();
-    while place > 0 {
-        place -= 1;
-        if events[place].kind.does_read() {
-            return (place, events[place].size as usize);
-        }
-    }
-    (0, 0)
-}
-
-/// Keeps the lines of the reads among the first events, so many, unless they are too long. They are made anew unless they
-/// are kept.
-fn keep_lines(kept: &mut KeptLines, test: &Test, events: &[Event], part: usize, sources: &[u8])
-    requires owned { All (λ e. IfSome e.owner (λ agent. agent < length test.now.agents)) events.now }
-    requires known { All (λ n. n < length events.now) sources.now }
-    requires part { part ≤ length events.now }
-    requires one_each { length sources.now ≡ length (byte_reads (take part events.now)) }
-    requires few { length sources.now ≤ BYTE_READ_LIMIT }
-    requires kept { HoldsLines test.now events.now kept.old }
-    ensures kept { HoldsLines test.now events.now kept.new }
-    ensures part { kept.new.part ≡ part }
-    ensures sources { kept.new.sources.items ≡ sources.now }
-{
-    if kept.text.is_kept() && kept.part == part && kept.sources.as_slice() == sources {
-        return;
-    }
-    kept.part = part;
-    kept.sources.clear();
-    let _ = kept.sources.try_extend_from_slice(sources);
-    kept.text.begin();
-    put_sources(
-        &mut kept.text.page,
-        &mut kept.text.nowhere,
-        test,
-        events,
-        &events[..part],
-        sources,
-    );
-}
-
-/// Puts the lines of the reads among the first events, so many, as they are kept.
-fn put_kept_lines<W: Write>(
-    page: &mut Page,
-    output: &mut Counted<W>,
-    test: &Test,
-    events: &[Event],
-    part: usize,
-    sources: &[u8],
-    kept: &mut KeptLines,
-)
-    requires owned { All (λ e. IfSome e.owner (λ agent. agent < length test.now.agents)) events.now }
-    requires known { All (λ n. n < length events.now) sources.now }
-    requires part { part ≤ length events.now }
-    requires one_each { length sources.now ≡ length (byte_reads (take part events.now)) }
-    requires few { length sources.now ≤ BYTE_READ_LIMIT }
-    requires kept { HoldsLines test.now events.now kept.old }
-    ensures kept { HoldsLines test.now events.now kept.new }
-    ensures text { HasPut (writing_of W.contents output.old page.old) (writing_of W.contents output.new page.new) (lines_from test.now events.now (take part events.now) sources.now) }
-{
-    keep_lines(kept, test, events, part, sources);
-    if kept.text.is_kept() {
-        page.put(output, kept.text.text());
-        return;
-    }
-    put_sources(page, output, test, events, &events[..part], sources);
-}
-
-/// Puts a line for each read, with the sources of its bytes. All but the last are mostly those of the entry before.
-fn put_lines<W: Write>(
-    page: &mut Page,
-    output: &mut Counted<W>,
-    test: &Test,
-    events: &[Event],
-    sources: &[u8],
-    kept: &mut KeptLines,
-)
-    requires owned { All (λ e. IfSome e.owner (λ agent. agent < length test.now.agents)) events.now }
-    requires known { All (λ n. n < length events.now) sources.now }
-    requires one_each { length sources.now ≡ length (byte_reads events.now) }
-    requires few { length sources.now ≤ BYTE_READ_LIMIT }
-    requires kept { HoldsLines test.now events.now kept.old }
-    ensures kept { HoldsLines test.now events.now kept.new }
-    ensures text { HasPut (writing_of W.contents output.old page.old) (writing_of W.contents output.new page.new) (from_lines test.now events.now sources.now) }
-{
-    let (part, size) = last_read(events);
-    let (own, rest) = sources.split_at(sources.len() - size);
-    put_kept_lines(page, output, test, events, part, own, kept);
-    put_sources(page, output, test, events, &events[part..], rest);
-}
-
 /// Puts the line of an order.
 fn put_order<W: Write>(
     page: &mut Page,
@@ -328,17 +218,17 @@ fn enter_for<'p>(
 )
     requires plan { entered.old.0 ≡ plan.now }
     requires known { choice < length (choices_of plan.now) }
-    requires shared { IsShared plan.now (events_in entered.old.0 entered.old.1) shared.old }
+    requires shared { IsShared plan.now entered.old.1 shared.old }
     ensures plan { entered.new.0 ≡ plan.now }
     ensures low { choices_before entered.new.0 entered.new.1 ≤ choice }
     ensures high { choice < choices_before entered.new.0 (entered.new.1 + 1) }
-    ensures shared { IsShared plan.now (events_in entered.new.0 entered.new.1) shared.new }
+    ensures shared { IsShared plan.now entered.new.1 shared.new }
 {
     if entered.first() <= choice && choice < entered.end() {
         return;
     }
     plan.reenter(entered, plan.combination(choice));
-    shared.lines.text.forget();
+    shared.lines.forget();
     shared.order.text.forget();
 }
 
@@ -356,17 +246,16 @@ pub(crate) fn put_entry<'p, 'f, W: Write>(
     requires known { example.now.choice < length (choices_of plan.now) }
     requires gives { Gives plan.now example.now.choice outcome.now }
     requires least_order { HasLeastOrder plan.now example.now.choice example.now.order.items }
-    requires shared { IsShared plan.now (events_in combination.old.0 combination.old.1) shared.old }
+    requires shared { IsShared plan.now combination.old.1 shared.old }
     ensures plan { combination.new.0 ≡ plan.now }
-    ensures shared { IsShared plan.now (events_in combination.new.0 combination.new.1) shared.new }
+    ensures shared { IsShared plan.now combination.new.1 shared.new }
     ensures text { HasPut (writing_of W.contents output.old page.old) (writing_of W.contents output.new page.new)
         (entry_text plan.now (record { outcome = outcome.now; choice = example.now.choice; order = example.now.order.items })) }
 {
     combinations_are_listed();
+    choices_are_on_combinations();
     let test = plan.test();
     enter_for(plan, combination, example.choice, shared);
-    let events = combination.events();
-    let sources = combination.sources(example.choice);
     put_outcome(
         page,
         output,
@@ -378,16 +267,15 @@ pub(crate) fn put_entry<'p, 'f, W: Write>(
     put_lines(
         page,
         output,
-        test,
-        events,
-        sources.as_slice(),
+        &*combination,
+        example.choice,
         &mut shared.lines,
     );
     put_kept_order(
         page,
         output,
         test,
-        events,
+        combination.events(),
         example.order.as_slice(),
         &mut shared.order,
     );

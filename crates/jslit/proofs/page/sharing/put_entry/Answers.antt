@@ -1,9 +1,14 @@
-use Rattle.std.proofs.Common.{◌≡◌, refl}
-use Rattle.lit_paths.specs.Outcome.{names_of}
+use Rattle.std.proofs.Common.{◌≡◌, List, refl, sym, ap, subst, ◌∙◌}
+use Rattle.lit_read.specs.Syntax.{Litmus}
+use Rattle.lit_paths.specs.declared.event.Event.{Event}
+use Rattle.lit_paths.specs.Choice.{Choice}
+use Rattle.lit_paths.specs.Plan.{HasSources, IsOfCombination, events_in}
 use Rattle.lit_search.specs.Report.{Entry}
 use Rattle.jslit.specs.ChoiceEvents.{choice_at, choice_events}
-use Rattle.jslit.proofs.ChosenEvents.{executed, entered_events, entered_owned, entered_choice, entered_is, entered_sources, of_plan}
-use Rattle.jslit.proofs.EntryFacts.{length-outcome, order_known, sources_known}
+use Rattle.jslit.specs.ReportText.{from_lines}
+use Rattle.jslit.proofs.BegunSources.{known_on}
+use Rattle.jslit.proofs.ChosenEvents.{executed, entered_events, entered_owned, entered_choice, entered_is, events_owned, of_plan}
+use Rattle.jslit.proofs.EntryFacts.{length-outcome, order_known, choice_at-is}
 use Rattle.jslit.proofs.Lines.{entry_is}
 use Rattle.jslit.proofs.Putting.{HasPut-then, HasPut-is}
 use Rattle.jslit.proofs.page.sharing.put_entry.Goals as goal
@@ -13,29 +18,38 @@ put_outcome-requires-clause-one_each g c = rw c.names.ensures.value (length-outc
 
 pub put_lines-requires-clause-owned : goal.put_lines-requires-clause-owned
 put_lines-requires-clause-owned g c =
-    rw c.test-test.ensures.value (entered_owned c.args.plan.now c.args.plan.now c.args.example.now.choice c.enter_for.new.entered.1 c.enter_for.new.entered c.events-events.result.now refl (entered_is c.args.plan.now c.enter_for.new.entered c.enter_for.ensures.plan) c.events-events.ensures.value (of_plan c.args.plan.now c.args.example.now.choice c.enter_for.new.entered c.enter_for.ensures.plan c.sources-sources.ensures.of) (c.combinations_are_listed.ensures c.args.plan.now))
-
-pub put_lines-requires-clause-known : goal.put_lines-requires-clause-known
-put_lines-requires-clause-known g c = rw (c.as_slice.ensures.value, c.events-events.ensures.value) (sources_known _ _ c.sources-sources.ensures.sourced)
+    let entered = c.enter_for.new.entered in
+    events_owned entered.0 entered.1 (c.combinations_are_listed.ensures entered.0) (known_on entered.0 entered.1 c.args.example.now.choice c.enter_for.ensures.low c.enter_for.ensures.high)
 
 pub put_kept_order-requires-clause-owned : goal.put_kept_order-requires-clause-owned
 put_kept_order-requires-clause-owned g c =
-    rw c.test-test.ensures.value (entered_owned c.args.plan.now c.args.plan.now c.args.example.now.choice c.enter_for.new.entered.1 c.enter_for.new.entered c.events-events.result.now refl (entered_is c.args.plan.now c.enter_for.new.entered c.enter_for.ensures.plan) c.events-events.ensures.value (of_plan c.args.plan.now c.args.example.now.choice c.enter_for.new.entered c.enter_for.ensures.plan c.sources-sources.ensures.of) (c.combinations_are_listed.ensures c.args.plan.now))
+    let t = c.args.plan.now in
+    let n = c.args.example.now.choice in
+    let entered = c.enter_for.new.entered in
+    let of : IsOfCombination t n entered.1 = of_plan t n entered c.enter_for.ensures.plan (c.choices_are_on_combinations.ensures entered.0 n entered.1 (known_on entered.0 entered.1 n c.enter_for.ensures.low c.enter_for.ensures.high) c.enter_for.ensures.low c.enter_for.ensures.high) in
+    rw c.test-test.ensures.value (entered_owned t t n entered.1 entered c.events.result.now refl (entered_is t entered c.enter_for.ensures.plan) c.events.ensures.value of (c.combinations_are_listed.ensures t))
 
 pub put_kept_order-requires-clause-known : goal.put_kept_order-requires-clause-known
 put_kept_order-requires-clause-known g c =
-    rw (c.as_slice-2.ensures.value, entered_events c.args.plan.now c.args.plan.now c.args.example.now.choice c.enter_for.new.entered.1 c.enter_for.new.entered c.events-events.result.now refl (entered_is c.args.plan.now c.enter_for.new.entered c.enter_for.ensures.plan) c.events-events.ensures.value (of_plan c.args.plan.now c.args.example.now.choice c.enter_for.new.entered c.enter_for.ensures.plan c.sources-sources.ensures.of))
-    (order_known c.args.plan.now c.args.example.now.choice c.args.outcome.now c.args.example.now.order.items _ c.requires.gives c.requires.least_order (executed c.args.plan.now c.args.example.now.choice c.enter_for.new.entered.1 (of_plan c.args.plan.now c.args.example.now.choice c.enter_for.new.entered c.enter_for.ensures.plan c.sources-sources.ensures.of)))
+    let t = c.args.plan.now in
+    let n = c.args.example.now.choice in
+    let entered = c.enter_for.new.entered in
+    let of : IsOfCombination t n entered.1 = of_plan t n entered c.enter_for.ensures.plan (c.choices_are_on_combinations.ensures entered.0 n entered.1 (known_on entered.0 entered.1 n c.enter_for.ensures.low c.enter_for.ensures.high) c.enter_for.ensures.low c.enter_for.ensures.high) in
+    rw (c.as_slice.ensures.value, entered_events t t n entered.1 entered c.events.result.now refl (entered_is t entered c.enter_for.ensures.plan) c.events.ensures.value of)
+    (order_known t n c.args.outcome.now c.args.example.now.order.items _ c.requires.gives c.requires.least_order (executed t n entered.1 of))
 
 pub returns-clause-text : goal.returns-clause-text
 returns-clause-text g c =
     let t = c.args.plan.now in
-    let choice = choice_at t c.args.example.now.choice in
-    let entry : Entry = record { outcome = c.args.outcome.now; choice = c.args.example.now.choice; order = c.args.example.now.order.items } in
-    let names : c.names.result.now ≡ names_of t = c.names.ensures.value in
-    let events : c.events-events.result.now ≡ choice_events t choice =
-    entered_choice t t c.args.example.now.choice c.enter_for.new.entered.1 c.enter_for.new.entered c.events-events.result.now refl (entered_is c.args.plan.now c.enter_for.new.entered c.enter_for.ensures.plan) c.events-events.ensures.value (of_plan c.args.plan.now c.args.example.now.choice c.enter_for.new.entered c.enter_for.ensures.plan c.sources-sources.ensures.of) (c.combinations_are_listed.ensures t) in
-    let sources : c.as_slice.result.now ≡ choice.sources =
-    entered_sources t t c.args.example.now.choice c.enter_for.new.entered.1 c.enter_for.new.entered c.events-events.result.now refl (entered_is c.args.plan.now c.enter_for.new.entered c.enter_for.ensures.plan) c.events-events.ensures.value (of_plan c.args.plan.now c.args.example.now.choice c.enter_for.new.entered c.enter_for.ensures.plan c.sources-sources.ensures.of) c.sources-sources.result.items c.as_slice.result.now c.sources-sources.ensures.listed c.as_slice.ensures.value in
-    HasPut-is _ _ _ _ (HasPut-then _ _ _ _ _ (HasPut-then _ _ _ _ _ c.put_outcome.ensures.text c.put_lines.ensures.text) c.put_kept_order.ensures.text)
-    (entry_is t c.test-test.result.now c.names.result.now c.events-events.result.now c.as_slice.result.now c.as_slice-2.result.now entry c.test-test.ensures.value names events sources c.as_slice-2.ensures.value)
+    let n = c.args.example.now.choice in
+    let choice = choice_at t n in
+    let entered = c.enter_for.new.entered in
+    let of : IsOfCombination t n entered.1 = of_plan t n entered c.enter_for.ensures.plan (c.choices_are_on_combinations.ensures entered.0 n entered.1 (known_on entered.0 entered.1 n c.enter_for.ensures.low c.enter_for.ensures.high) c.enter_for.ensures.low c.enter_for.ensures.high) in
+    let entry : Entry = record { outcome = c.args.outcome.now; choice = n; order = c.args.example.now.order.items } in
+    let events : c.events.result.now ≡ choice_events t choice = entered_choice t t n entered.1 entered c.events.result.now refl (entered_is t entered c.enter_for.ensures.plan) c.events.ensures.value of (c.combinations_are_listed.ensures t) in
+    let has : HasSources t n choice.sources = record { choice = of.choice; listed = of.listed; same = ap (λ (ch : Choice). ch.sources) (sym (choice_at-is t n of.choice of.listed)) } in
+    let lines = HasPut-is _ _ _ _ (c.put_lines.ensures.text choice.sources (subst (λ (u : Litmus). HasSources u n choice.sources) (sym c.enter_for.ensures.plan) has))
+    (ap (λ (u : Litmus). from_lines u (events_in entered.0 entered.1) choice.sources) (c.enter_for.ensures.plan ∙ sym c.test-test.ensures.value)
+    ∙ ap (λ (es : List Event). from_lines c.test-test.result.now es choice.sources) (sym c.events.ensures.value)) in
+    HasPut-is _ _ _ _ (HasPut-then _ _ _ _ _ (HasPut-then _ _ _ _ _ c.put_outcome.ensures.text lines) c.put_kept_order.ensures.text)
+    (entry_is t c.test-test.result.now c.names.result.now c.events.result.now choice.sources c.as_slice.result.now entry c.test-test.ensures.value c.names.ensures.value events refl c.as_slice.ensures.value)

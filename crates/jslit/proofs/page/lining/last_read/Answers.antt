@@ -1,7 +1,7 @@
 use Rattle.std.proofs.Common.{◌≡◌, ℕ, ◌+◌, ◌-◌, length, drop, sym, subst, ◌∙◌, arith}
 use Rattle.lit_paths.specs.ByteReads.{byte_reads_from}
 use Rattle.jslit.proofs.SourceLines.{last_size}
-use Rattle.jslit.proofs.page.sharing.last_read.Goals as goal
+use Rattle.jslit.proofs.page.lining.last_read.Goals as goal
 
 pub returns-then-does_read-clause-size : goal.returns-then-does_read-clause-size
 returns-then-does_read-clause-size c =

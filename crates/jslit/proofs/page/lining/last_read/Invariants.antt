@@ -1,6 +1,6 @@
 use Rattle.std.proofs.Common.{◌≡◌, ◌≤◌, length, drop}
 use Rattle.lit_paths.specs.ByteReads.{byte_reads_from}
-use Rattle.jslit.proofs.page.sharing.last_read.Given as goal
+use Rattle.jslit.proofs.page.lining.last_read.Given as goal
 
 abbrev pub invariant-loop-place : goal.invariant-loop-place
 invariant-loop-place l = record {

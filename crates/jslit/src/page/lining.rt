@@ -1,0 +1,189 @@
+//! The lines of the reads of a choice, put on a page: those that the choice before has, too, are kept.
+
+ghost use Rattle.std.specs.Prelude.{◌≡◌, ℕ, List, ◌+◌, ◌<◌, ◌≤◌, true, All, IfSome, length, take, drop};
+ghost use Rattle.lit_paths.specs.ByteReads.{byte_reads, byte_reads_from};
+ghost use Rattle.lit_paths.specs.Plan.{HasSources, IsOfCombination, choices_before, events_in};
+ghost use Rattle.jslit.specs.ReportText.{from_lines};
+ghost use Rattle.jslit.specs.Internal.Keeping.{Holds};
+ghost use Rattle.jslit.specs.Internal.Lining.{HoldsLines, IsBegun};
+ghost use Rattle.jslit.specs.Internal.ReadLine.{lines_from};
+ghost use Rattle.jslit.specs.Internal.Sourcing.{IsIn};
+ghost use Rattle.jslit.specs.Internal.Writing.{HasPut, writing_of};
+
+use crate::counted::Counted;
+use crate::page::Page;
+use crate::page::keeping::Kept;
+use crate::page::reporting::put_sources;
+use crate::page::sourcing::{Row, take_sources};
+use lit_paths::laws::choices_have_numbers;
+use lit_paths::{Combination, Event, Sources};
+use lit_read::Test;
+use std::io::Write;
+
+/// The lines of the reads among the first events, so many, with their sources, and the choices that begin with these.
+#[derive(Drop)]
+pub(crate) struct KeptLines {
+    part: usize,
+    sources: Sources,
+    row: Row,
+    text: Kept,
+}
+
+impl KeptLines {
+    /// No lines.
+    pub(crate) fn new() -> Self
+        ensures { result.text.page.failed ≡ true }
+    {
+        KeptLines {
+            part: 0,
+            sources: Sources::new(),
+            row: Row { low: 0, count: 0 },
+            text: Kept::new(),
+        }
+    }
+
+    /// Lets go of the lines.
+    pub(crate) fn forget(&mut self)
+        ensures { self.new.text.page.failed ≡ true }
+    {
+        self.text.forget();
+    }
+}
+
+/// How many events stand before the last that reads, and how many bytes that one has. Without one, no event and no byte.
+fn last_read(events: &[Event]) -> (usize, usize)
+    ensures known { result.0 ≤ length events.now }
+    ensures size { result.1 ≡ length (byte_reads_from result.0 (drop result.0 events.now)) }
+{
+    let mut place = events.len();
+    while place > 0 {
+        place -= 1;
+        if events[place].kind.does_read() {
+            return (place, events[place].size as usize);
+        }
+    }
+    (0, 0)
+}
+
+/// Makes the lines of the reads among the first events, so many, unless they are too long.
+fn make_lines(text: &mut Kept, test: &Test, events: &[Event], part: usize, sources: &[u8])
+    requires owned { All (λ e. IfSome e.owner (λ agent. agent < length test.now.agents)) events.now }
+    requires known { All (λ n. n < length events.now) sources.now }
+    requires part { part ≤ length events.now }
+    requires one_each { length sources.now ≡ length (byte_reads (take part events.now)) }
+    ensures { Holds text.new (lines_from test.now events.now (take part events.now) sources.now) }
+{
+    text.begin();
+    put_sources(
+        &mut text.page,
+        &mut text.nowhere,
+        test,
+        events,
+        &events[..part],
+        sources,
+    );
+}
+
+/// Keeps the lines of all reads of a choice but the last, unless they are too long. They are made anew unless those that
+/// are kept are the choice's.
+fn keep_lines(kept: &mut KeptLines, combination: &Combination<'_>, choice: u64)
+    requires owned { All (λ e. IfSome e.owner (λ agent. agent < length combination.now.0.agents)) (events_in combination.now.0 combination.now.1) }
+    requires of { IsOfCombination combination.now.0 choice combination.now.1 }
+    requires low { choices_before combination.now.0 combination.now.1 ≤ choice }
+    requires high { choice < choices_before combination.now.0 (combination.now.1 + 1) }
+    requires kept { HoldsLines combination.now.0 combination.now.1 kept.old }
+    ensures kept { HoldsLines combination.now.0 combination.now.1 kept.new }
+    ensures begun { IsBegun combination.now.0 combination.now.1 kept.new }
+    ensures inside { IsIn choice kept.new.row }
+{
+    if kept.text.is_kept() && kept.row.has(choice) {
+        return;
+    }
+    choices_have_numbers();
+    let events = combination.events();
+    let (part, size) = last_read(events);
+    let row = Row {
+        low: combination.first(),
+        count: combination.end() - combination.first(),
+    };
+    let count = combination.byte_reads().len() - size;
+    kept.row = take_sources(&mut kept.sources, combination, &[], count, row, choice);
+    kept.part = part;
+    make_lines(
+        &mut kept.text,
+        combination.test(),
+        events,
+        part,
+        kept.sources.as_slice(),
+    );
+}
+
+/// Puts the lines of the first reads, as they are kept.
+fn put_kept_lines<W: Write>(
+    page: &mut Page,
+    output: &mut Counted<W>,
+    test: &Test,
+    events: &[Event],
+    kept: &KeptLines,
+)
+    requires owned { All (λ e. IfSome e.owner (λ agent. agent < length test.now.agents)) events.now }
+    requires known { All (λ n. n < length events.now) kept.now.sources.items }
+    requires part { kept.now.part ≤ length events.now }
+    requires one_each { length kept.now.sources.items ≡ length (byte_reads (take kept.now.part events.now)) }
+    requires kept { Holds kept.now.text (lines_from test.now events.now (take kept.now.part events.now) kept.now.sources.items) }
+    ensures { HasPut (writing_of W.contents output.old page.old) (writing_of W.contents output.new page.new) (lines_from test.now events.now (take kept.now.part events.now) kept.now.sources.items) }
+{
+    if kept.text.is_kept() {
+        page.put(output, kept.text.text());
+        return;
+    }
+    put_sources(
+        page,
+        output,
+        test,
+        events,
+        &events[..kept.part],
+        kept.sources.as_slice(),
+    );
+}
+
+/// Puts a line for each read of a choice, with the sources of its bytes. All but the last are mostly those of the choice
+/// before.
+pub(crate) fn put_lines<W: Write>(
+    page: &mut Page,
+    output: &mut Counted<W>,
+    combination: &Combination<'_>,
+    choice: u64,
+    kept: &mut KeptLines,
+)
+    requires owned { All (λ e. IfSome e.owner (λ agent. agent < length combination.now.0.agents)) (events_in combination.now.0 combination.now.1) }
+    requires of { IsOfCombination combination.now.0 choice combination.now.1 }
+    requires low { choices_before combination.now.0 combination.now.1 ≤ choice }
+    requires high { choice < choices_before combination.now.0 (combination.now.1 + 1) }
+    requires kept { HoldsLines combination.now.0 combination.now.1 kept.old }
+    ensures kept { HoldsLines combination.now.0 combination.now.1 kept.new }
+    ensures text { (sources : List ℕ) → HasSources combination.now.0 choice sources
+        → HasPut (writing_of W.contents output.old page.old) (writing_of W.contents output.new page.new) (from_lines combination.now.0 (events_in combination.now.0 combination.now.1) sources) }
+{
+    keep_lines(kept, combination, choice);
+    let (test, events) = (combination.test(), combination.events());
+    let left = combination.byte_reads().len() - kept.sources.len();
+    let mut last = Sources::new();
+    let _ = take_sources(
+        &mut last,
+        combination,
+        kept.sources.as_slice(),
+        left,
+        kept.row,
+        choice,
+    );
+    put_kept_lines(page, output, test, events, &*kept);
+    put_sources(
+        page,
+        output,
+        test,
+        events,
+        &events[kept.part..],
+        last.as_slice(),
+    );
+}
