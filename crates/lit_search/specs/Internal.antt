@@ -16,4 +16,5 @@ pub mod Wanting
 pub mod Passing
 pub mod StoodFor
 pub mod Others
+pub mod Alike
 pub mod Runners
