@@ -12,6 +12,7 @@ pub mod PassingLemmas
 pub mod ExchangeLemmas
 pub mod StoodForLemmas
 pub mod OtherLemmas
+pub mod AlikeLemmas
 pub mod NextLemmas
 pub mod NumberSets
 pub mod Entries

@@ -65,7 +65,7 @@ same_choice : (a : Choice) → choice_cmp a a ≡ Equal
 same_choice a = ap (λ (o : Ordering). ordering_then o (slice_cmp nat_cmp a.sources a.sources)) (same_lists a.decisions) ∙ same_list a.sources
 
 -- a choice that is less has a lesser number
-less_number : (t : Litmus) → ListsChoices t → (n m : ℕ) (a b : Choice) → slice_get (choices_of t) n ≡ Some a → slice_get (choices_of t) m ≡ Some b → choice_cmp b a ≡ Less → m < n
+pub less_number : (t : Litmus) → ListsChoices t → (n m : ℕ) (a b : Choice) → slice_get (choices_of t) n ≡ Some a → slice_get (choices_of t) m ≡ Some b → choice_cmp b a ≡ Less → m < n
 less_number t lists n m a b at_n at_m less =
     elim (cases_lt m n) [
       | inl below ↦ below
@@ -168,29 +168,35 @@ module _ (laws : Laws) (s : Stand) (entered : IsEntered (part_at s)) (placed : A
         gives = record { execution = y.0; valid = y.1.valid; chosen = found.1; result = y.1.outcome ∙ g.result };
       }
 
-  -- so where none of the lesser choices shows an outcome that is wanted, none of these does
-  module _ (Wanted : List ℕ → Type 0) (since : ℕ) (after : since ≤ low_at front) (seen : NoneShow t Wanted (in_range since (low_at s))) where
-    none_below : (bound n : ℕ) → n < bound → low_at s ≤ n → n < behind_at s → ShowsNone t Wanted n
-    none_below zero n less low high outcome g wanted = absurd (omega (arith, less))
-    none_below (suc bound) n less low high outcome g wanted =
-        let other = gives_less n outcome low high g in
-        elim (cases_lt other.number (low_at s)) [
-          | inl earlier ↦ seen other.number (within since (low_at s) other.number (omega (arith, after, other.after)) earlier) outcome other.gives wanted
-          | inr here ↦ none_below bound other.number (omega (arith, less, other.less)) here (omega (arith, high, other.less)) outcome other.gives wanted
-        ]
+-- where none of the lesser choices shows an outcome that is wanted, none of these does
+module _ (s : Stand) (least : ℕ) (lesser : (n : ℕ) (outcome : List ℕ) → low_at s ≤ n → n < behind_at s → Gives s.test n outcome → GivesLess s.test least n outcome)
+    (Wanted : List ℕ → Type 0) (since : ℕ) (after : since ≤ least) (seen : NoneShow s.test Wanted (in_range since (low_at s))) where
+  none_below : (bound n : ℕ) → n < bound → low_at s ≤ n → n < behind_at s → ShowsNone s.test Wanted n
+  none_below zero n less low high outcome g wanted = absurd (omega (arith, less))
+  none_below (suc bound) n less low high outcome g wanted =
+      let other = lesser n outcome low high g in
+      elim (cases_lt other.number (low_at s)) [
+        | inl earlier ↦ seen other.number (within since (low_at s) other.number (omega (arith, after, other.after)) earlier) outcome other.gives wanted
+        | inr here ↦ none_below bound other.number (omega (arith, less, other.less)) here (omega (arith, high, other.less)) outcome other.gives wanted
+      ]
 
-    none_stood : NoneFrom t Wanted 0 s
-    none_stood n above low high = none_below (suc n) n (omega arith) low high
+  none_stood : NoneFrom s.test Wanted 0 s
+  none_stood n above low high = none_below (suc n) n (omega arith) low high
+
+pub pass_lesser : (s : Stand) (least : ℕ) → ((n : ℕ) (outcome : List ℕ) → low_at s ≤ n → n < behind_at s → Gives s.test n outcome → GivesLess s.test least n outcome)
+    → (t : Litmus) (Wanted : List ℕ → Type 0) (since from depth : ℕ) → s.test ≡ t → depth ≡ length s.places → since ≤ least → NoneShow t Wanted (in_range since (low_at s)) → MayPass t Wanted from s depth
+pass_lesser s least lesser t Wanted since from depth same deep after seen =
+    let here : NoneShow s.test Wanted (in_range since (low_at s)) = subst (λ (u : Litmus). NoneShow u Wanted (in_range since (low_at s))) (sym same) seen in
+    let all : NoneFrom t Wanted 0 s = subst (λ (u : Litmus). NoneFrom u Wanted 0 s) same (none_stood s least lesser Wanted since after here) in
+    let same_stand : first_places s depth ≡ s = ap (first_places s) deep ∙ whole_stand s in
+    let there : NoneFrom t Wanted 0 (first_places s depth) = subst (λ (u : Stand). NoneFrom t Wanted 0 u) (sym same_stand) all in
+    record { few = omega (arith, deep); low = omega (arith, ap low_at same_stand); high = omega (arith, ap behind_at same_stand); none = λ n above low high. there n (omega arith) low high }
 
 pub pass_stood_for : (laws : Laws) (s : Stand) → IsEntered (part_at s) → ArePlaces (stand_events s) 0 s.places → length s.places ≤ length (byte_reads (stand_events s)) → IsStoodFor (part_at s)
     → (t : Litmus) (Wanted : List ℕ → Type 0) (since from depth : ℕ) → s.test ≡ t → depth ≡ length s.places → since ≤ low_at (first_places s (length s.places - 1)) → NoneShow t Wanted (in_range since (low_at s))
     → MayPass t Wanted from s depth
 pass_stood_for laws s entered placed few is t Wanted since from depth same deep after seen =
-    let here : NoneShow s.test Wanted (in_range since (low_at s)) = subst (λ (u : Litmus). NoneShow u Wanted (in_range since (low_at s))) (sym same) seen in
-    let all : NoneFrom t Wanted 0 s = subst (λ (u : Litmus). NoneFrom u Wanted 0 s) same (none_stood laws s entered placed few is Wanted since after here) in
-    let same_stand : first_places s depth ≡ s = ap (first_places s) deep ∙ whole_stand s in
-    let there : NoneFrom t Wanted 0 (first_places s depth) = subst (λ (u : Stand). NoneFrom t Wanted 0 u) (sym same_stand) all in
-    record { few = omega (arith, deep); low = omega (arith, ap low_at same_stand); high = omega (arith, ap behind_at same_stand); none = λ n above low high. there n (omega arith) low high }
+    pass_lesser s (low_at (first_places s (length s.places - 1))) (gives_less laws s entered placed few is) t Wanted since from depth same deep after seen
 
 -- ---- by what the code looks at
 -- the last byte read with a source
@@ -253,7 +259,7 @@ module _ (p : PartModel) (r b s : ℕ) (at_end : AtLast p r b s) where
         (stood_here is).0.first w candidate.writes candidate.in_range ((pairs w r).0 holds)
 
 -- a place of byte reads as the code has them
-read_there : (reads : List ByteRead) (k : ℕ) (d : ByteRead) → k < length reads → slice_get (map pair_of reads) k ≡ Some (pair_of (get_or reads k d))
+pub read_there : (reads : List ByteRead) (k : ℕ) (d : ByteRead) → k < length reads → slice_get (map pair_of reads) k ≡ Some (pair_of (get_or reads k d))
 read_there [] k d inside = absurd (omega (arith, inside))
 read_there (x ∷ reads) zero d inside = refl
 read_there (x ∷ reads) (suc k) d inside = read_there reads k d (omega (arith, inside))

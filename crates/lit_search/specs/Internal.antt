@@ -16,5 +16,6 @@ pub mod Wanting
 pub mod Passing
 pub mod StoodFor
 pub mod Others
+pub mod Alike
 pub mod Runners
 pub mod Foreseeing

@@ -109,6 +109,9 @@ impl Cursor<'_> {
         if self.is_stood_for(plan, since) {
             return Some(depth);
         }
+        if self.has_alike(since) {
+            return Some(depth);
+        }
         None
     }
 

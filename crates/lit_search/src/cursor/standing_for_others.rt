@@ -18,7 +18,7 @@ use lit_paths::{ByteRead, Plan, event_at};
 use lit_rel::Part;
 
 /// Whether a source is not sequentially consistent, and what happens before it is settled.
-fn can_stand(part: &Part<'_>, source: usize) -> bool
+pub(crate) fn can_stand(part: &Part<'_>, source: usize) -> bool
     requires { source < length (part_events part.now) }
     ensures { IsTrue result ↔ CanStand part.now source }
 {
@@ -42,7 +42,7 @@ fn all_can_stand(part: &Part<'_>, read: usize) -> bool
 }
 
 /// Whether the byte read at a place is the last of its read.
-fn is_last_of_read(reads: &[ByteRead], place: usize) -> bool
+pub(crate) fn is_last_of_read(reads: &[ByteRead], place: usize) -> bool
     requires { place < length reads.now }
     ensures { IsTrue result → (r b q c : ℕ) → slice_get (map pair_of reads.now) place ≡ Some (r, b)
         → slice_get (map pair_of reads.now) (place + 1) ≡ Some (q, c) → ¬ (q ≡ r) }

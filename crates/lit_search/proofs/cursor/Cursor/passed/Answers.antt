@@ -3,6 +3,7 @@ use Rattle.std.proofs.lemmas.Bool.{false≢true}
 use Rattle.lit_paths.specs.ByteReads.{byte_reads}
 use Rattle.lit_rel.specs.Part.{AreFirstSources, PartModel, part_events}
 use Rattle.lit_search.specs.Internal.Places.{part_at, stand_events}
+use Rattle.lit_search.proofs.AlikeLemmas.{pass_alike}
 use Rattle.lit_search.proofs.CompletionLemmas.{not_refuted}
 use Rattle.lit_search.proofs.LeftOutLemmas.{none_goes_on}
 use Rattle.lit_search.proofs.PassingLemmas.{length-part, pass_all, pass_from, pass_less}
@@ -62,3 +63,12 @@ returns-then-is_stood_for-clause-passed g c =
 
 pub is_stood_for-requires-clause-whole : goal.is_stood_for-requires-clause-whole
 is_stood_for-requires-clause-whole g c = λ broken. false≢true (sym c.if-refuted.false ∙ c.refuted.ensures.1 (inl broken))
+
+pub returns-then-has_alike-clause-passed : goal.returns-then-has_alike-clause-passed
+returns-then-has_alike-clause-passed g c =
+    let s = c.args.self.now in
+    let long = length-part s c.part-part.result.now c.part-part.ensures.value in
+    let few : length s.places ≤ length (byte_reads (stand_events s)) = omega (arith, long, c.len-depth.ensures.few, c.len-depth.ensures.value, ap (λ (p : PartModel). length (byte_reads (part_events p))) c.part-part.ensures.value) in
+    let is = c.has_alike.ensures c.if-has_alike.true in
+    pass_alike c.laws.ensures s c.part-part.ensures.entered c.part-part.ensures.placed few (λ broken. false≢true (sym c.if-refuted.false ∙ c.refuted.ensures.1 (inl broken))) is.0 is.2 is.1 c.args.plan.now
+    (g.W.Wanted.IsWanted c.args.wanted.now c.args.plan.now) c.args.since c.args.from c.len-depth.result c.requires.test (c.len-depth.ensures.value ∙ long) is.3 c.requires.seen
