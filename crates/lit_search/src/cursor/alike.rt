@@ -4,9 +4,8 @@
 //! what those with the lesser one do, if what happens before the read and before the lesser source is settled.
 
 ghost use Rattle.std.specs.Prelude.{◌≡◌, ◌↔◌, ◌-◌, ℕ, ◌<◌, ◌≤◌, IfSome, IsTrue, Some, length, map, slice_get};
-ghost use Rattle.lit_paths.specs.ByteReads.{IsCandidate, pair_of};
+ghost use Rattle.lit_paths.specs.ByteReads.{pair_of};
 ghost use Rattle.lit_paths.specs.Event.{HasByte, event_at};
-ghost use Rattle.lit_paths.specs.Plan.{ListsCandidates};
 ghost use Rattle.lit_rel.specs.Part.{part_events};
 ghost use Rattle.lit_rel.specs.TearFree.{CanReadWhole};
 ghost use Rattle.lit_search.specs.Internal.Alike.{AllStoredAlike, AreOfOthers, HasAlike, HasLesser, IsAlike, StoresAlike, TearsNoMore};
