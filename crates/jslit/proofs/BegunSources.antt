@@ -5,7 +5,7 @@ use Rattle.std.specs.Prelude.{All, slice_get}
 use Rattle.std.specs.List.{flat_map}
 use Rattle.std.proofs.lemmas.List.{length_push, take_all, take_at}
 use Rattle.std.proofs.lemmas.List.Elements.{All-take, All-drop}
-use Rattle.std.proofs.lemmas.Nat.{div-add-mod', div_below, mod_below}
+use Rattle.std.proofs.lemmas.Nat.{div_below}
 use Rattle.lit_read.specs.Syntax.{Litmus}
 use Rattle.lit_paths.specs.ByteReads.{byte_reads, byte_read_at}
 use Rattle.lit_paths.specs.Choice.{Choice, candidates_of, choices_of, choices_on, combinations_of}
@@ -30,12 +30,6 @@ module _ (t : Litmus) (c n : ℕ) (given : List ℕ) (row : Row) (is : IsRow t c
   index_known left =
       div_below (n - row.low) later (length candidates) (omega (arith, some))
       (omega (arith, inside.0, inside.1, is.count, ways_split (events_in t c) (length given) left, ap (λ (w : ℕ). length candidates * w) counts))
-
-  pub index_low : row.low + index * later ≤ n
-  index_low = omega (arith, inside.0, div-add-mod' (n - row.low) later)
-
-  pub index_high : n < (row.low + index * later) + later
-  index_high = omega (arith, inside.0, div-add-mod' (n - row.low) later, mod_below (n - row.low) later (omega (arith, some)))
 
   pub row_more : NumbersChoices t c → length given < length (byte_reads (events_in t c)) → (w : ℕ) → slice_get candidates index ≡ Some w
       → IsRow t c (given ++ w ∷ []) (record { low = row.low + index * later; count = later })
