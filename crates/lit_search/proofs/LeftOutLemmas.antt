@@ -20,7 +20,7 @@ use Rattle.lit_rel.specs.Coherent.{HasCoherentReads}
 use Rattle.lit_rel.specs.InitReads.{AreOfEvents}
 use Rattle.lit_rel.specs.Part.{AreFirstSources, PartModel, part_events, with_sources}
 use Rattle.lit_rel.specs.ReadsFrom.{ReadsByteFrom}
-use Rattle.lit_rel.specs.TestedBytes.{RefusedBytesMakeFalse, TestsRefuse}
+use Rattle.lit_rel.specs.TestedBytes.{RefusedBytesMakeFalse}
 use Rattle.lit_rel.proofs.PlaceLemmas.{place-middle}
 use Rattle.lit_order.specs.LeftOut.{LeavesOut, LeftOutSourcesAreNone}
 use Rattle.lit_order.specs.MemoryOrder.{IsMemoryOrder}
@@ -28,7 +28,6 @@ use Rattle.lit_order.specs.Refuted.{IsForcedRound, IsRefuted}
 use Rattle.lit_search.specs.declared.cursor.Cursor.TheInside.{Inside}
 use Rattle.lit_search.specs.Completion.{Completes, IsEntered}
 use Rattle.lit_search.specs.Report.{in_range}
-use Rattle.lit_search.specs.StandsFor.{IsTested}
 use Rattle.lit_search.specs.Internal.Laws.{Laws}
 use Rattle.lit_search.specs.Internal.LeftOut.{AreLeftOut, HasGoneOn, HasNoSource, HasNoneLeft, IsLeftOut, IsSeqCstRead, candidate_at, with_place}
 use Rattle.lit_search.specs.Internal.Others.{AddsNothing}
@@ -197,11 +196,6 @@ module _ (x : Inside) (s : Stand) (view : stand_of x ≡ s) (entered : Litmus ×
       e_is ∙ ap (event_at events) n_is ∙ ap (λ (es : List Event). event_at es (get_or reads depth d).read) there ∙ ap (λ (q : ℕ × ℕ). event_at (stand_events s) q.0) pair_is in
       subst (λ (v : Event). IsTrue result ↔ (v.order ≡ SeqCst)) e_there by
 
-  pub tested_as : (result : Bool) → (IsTrue result ↔ IsTested entered.0 entered.1 (get_or reads depth d).read) → IsTrue result ↔ IsTested s.test s.combination (byte_read_at (stand_events s) depth).0
-  tested_as result by =
-      subst (λ (rb : ℕ × ℕ). IsTrue result ↔ IsTested s.test s.combination rb.0) pair_is
-      (subst (λ (u : Stand). IsTrue result ↔ IsTested u.test u.combination (get_or reads depth d).read) view (subst (λ (e : Litmus × ℕ). IsTrue result ↔ IsTested e.0 e.1 (get_or reads depth d).read) same by))
-
   module _ (p : ℕ) (known : p < length (candidates_at (stand_events s) depth)) (list : List ℕ) (listed : list ≡ candidates_at (events_in entered.0 entered.1) depth) where
     list_here : list ≡ candidates_at (part_events x.part) depth
     list_here = candidates_here x entered same depth list listed
@@ -215,11 +209,11 @@ module _ (x : Inside) (s : Stand) (view : stand_of x ≡ s) (entered : Litmus ×
         ap (λ (l : List ℕ). slice_get l p) (sym list_here) ∙ slice_get-get_or list p 0 (omega (arith, known, ap (λ (l : List ℕ). length l) list_there)) in
         ((lists_here x entered same depth list list_here lists).only p (slice_index list p) at).known
 
-    pub left_out_as : IsStanding x → (result : Bool) → (IsTrue result ↔ (TestsRefuse x.part (get_or reads depth d).read (get_or reads depth d).byte (slice_index list p) ⊎ (IsSeqCstRead s depth × (IsRefuted x.part ⊎ LeavesOut x.part (get_or reads depth d).read (get_or reads depth d).byte (slice_index list p)))))
-        → IsTrue result ↔ IsLeftOut s depth p
-    left_out_as is result by =
+    pub leaves_out_as : IsStanding x → (result : Bool) → (IsTrue result ↔ (IsRefuted x.part ⊎ LeavesOut x.part (get_or reads depth d).read (get_or reads depth d).byte (slice_index list p)))
+        → IsTrue result ↔ (IsRefuted (part_at s) ⊎ LeavesOut (part_at s) (byte_read_at (stand_events s) depth).0 (byte_read_at (stand_events s) depth).1 (candidate_at s depth p))
+    leaves_out_as is result by =
         let E = byte_read_at (stand_events s) depth in
-        let Out : PartModel → ℕ × ℕ → ℕ → Type 0 = λ q rb w. TestsRefuse q rb.0 rb.1 w ⊎ (IsSeqCstRead s depth × (IsRefuted q ⊎ LeavesOut q rb.0 rb.1 w)) in
+        let Out : PartModel → ℕ × ℕ → ℕ → Type 0 = λ q rb w. IsRefuted q ⊎ LeavesOut q rb.0 rb.1 w in
         subst (λ (q : PartModel). IsTrue result ↔ Out q E (candidate_at s depth p)) (its_part x is s view)
         (subst (λ (rb : ℕ × ℕ). IsTrue result ↔ Out x.part rb (candidate_at s depth p)) pair_is
         (subst (λ (w : ℕ). IsTrue result ↔ Out x.part (pair_of (get_or reads depth d)) w) (ap (λ (l : List ℕ). slice_index l p) list_there) by))

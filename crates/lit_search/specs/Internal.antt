@@ -8,6 +8,7 @@ pub mod Kept
 pub mod Taking
 pub mod Held
 pub mod Places
+pub mod RefusedSources
 pub mod LeftOut
 pub mod Standing
 pub mod Collecting

@@ -6,6 +6,7 @@ pub(crate) mod held;
 pub(crate) mod leaving_out;
 pub(crate) mod passing;
 pub(crate) mod racing;
+pub(crate) mod refused_sources;
 pub(crate) mod standing_for_others;
 pub(crate) mod standing_in;
 pub(crate) mod used;
@@ -24,6 +25,7 @@ ghost use Rattle.lit_search.specs.Internal.Others.{AddsNothing};
 ghost use Rattle.lit_search.specs.Internal.Passing.{first_places};
 ghost use Rattle.lit_search.specs.Internal.Places.{ArePlaces, behind_at, candidates_at, low_at, part_at, stand_events, with_places};
 
+use crate::cursor::refused_sources::{RefusedSources, set_refused};
 use arrayvec::ArrayVec;
 use lit_order::{ForcedPart, Order};
 use lit_paths::laws::choices_have_numbers;
@@ -36,6 +38,8 @@ use std::marker::Model;
 #[derive(Drop)]
 pub(crate) struct Cursor<'p> {
     part: ForcedPart<'p>,
+    /// What tests refuse on the combination.
+    refused: RefusedSources,
     /// The place of each source given among the candidates of its byte read.
     places: ArrayVec<u8, BYTE_READ_LIMIT>,
     /// The number of the first choice that begins with these sources.
@@ -65,10 +69,13 @@ impl<'p> Cursor<'p> {
     {
         let _test = plan.test();
         let part = ForcedPart::open(plan, combination);
+        let mut refused = RefusedSources::new();
+        set_refused(&mut refused, part.part());
         let low = part.combination().first();
         let end = part.combination().end();
         Cursor {
             part,
+            refused,
             places: ArrayVec::new(),
             low,
             end,
@@ -83,6 +90,7 @@ impl<'p> Cursor<'p> {
     {
         let _test = plan.test();
         self.part.reopen(plan, combination);
+        set_refused(&mut self.refused, self.part.part());
         self.places.clear();
         self.low = self.part.combination().first();
         self.end = self.part.combination().end();

@@ -7,6 +7,7 @@ use Rattle.lit_rel.specs.Part.{part_events}
 use Rattle.lit_search.specs.declared.cursor.Cursor.TheInside.{Inside}
 use Rattle.lit_search.specs.Completion.{IsEntered}
 use Rattle.lit_search.specs.Internal.Places.{ArePlaces, low_at, sources_at}
+use Rattle.lit_search.specs.Internal.RefusedSources.{AreRefused}
 
 pub record IsStanding (c : Inside) : Type 0 where
   pub entered : IsEntered c.part
@@ -17,3 +18,4 @@ pub record IsStanding (c : Inside) : Type 0 where
   pub sound : AreEventsIn c.part.test.bytes (part_events c.part)
   pub few : c.end ≤ CHOICE_LIMIT
   pub last : c.end ≡ choices_before c.part.test (c.part.combination + 1)
+  pub refused : AreRefused c.part.test c.part.combination c.refused.items

@@ -9,7 +9,6 @@ ghost use Rattle.lit_search.specs.Internal.Taking.{AreBarren};
 ghost use Rattle.lit_search.specs.Report.{in_range};
 
 use crate::cursor::Cursor;
-use crate::cursor::used::is_tested;
 use crate::laws::completions::laws;
 use lit_order::laws::{forced_rounds_have_no_order, left_out_sources_are_none};
 use lit_paths::event_at;
@@ -44,15 +43,15 @@ impl Cursor<'_> {
         ensures { IsTrue result ↔ IsLeftOut self.now depth place }
     {
         laws();
-        let combination = self.part.combination();
-        let source = combination.candidates(depth)[place];
-        let at = combination.byte_reads()[depth];
-        if self.part.part().tests_refuse(at, source) {
+        if self.tests_refuse(depth, place) {
             return true;
         }
         if !self.is_seq_cst_read(depth) {
             return false;
         }
+        let combination = self.part.combination();
+        let source = combination.candidates(depth)[place];
+        let at = combination.byte_reads()[depth];
         self.part.leaves_out(at, source)
     }
 
@@ -116,8 +115,7 @@ impl Cursor<'_> {
         if !self.is_worth_asking(depth) {
             return false;
         }
-        let combination = self.part.combination();
-        if !is_tested(combination, combination.byte_reads()[depth].read) {
+        if !self.is_tested(depth) {
             return false;
         }
         self.first_left(depth, 0).is_none()

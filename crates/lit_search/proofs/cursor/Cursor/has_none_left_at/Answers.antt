@@ -1,15 +1,14 @@
 use Rattle.std.proofs.Common.{◌≡◌, true, false, not, refl, sym, ap, ◌∙◌, arith}
 use Rattle.std.proofs.lemmas.Bool.{false≢true}
-use Rattle.lit_search.proofs.LeftOutLemmas.{tested_as, where_none, where_some}
+use Rattle.lit_search.proofs.LeftOutLemmas.{where_none, where_some}
 use Rattle.lit_search.proofs.OtherLemmas.{both_some}
 use Rattle.lit_search.proofs.cursor.Cursor.has_none_left_at.Goals as goal
 
 pub returns : goal.returns
-returns c =
-    let tested = tested_as c.self.inside c.args.self.now c.self.view_is _ c.combination-combination.ensures c.args.depth c.requires c.byte_reads.result.now c.byte_reads.ensures (record { read = 0; byte = 0 }) c.is_tested.result c.is_tested.ensures in (
+returns c = (
       (λ h. record {
         worth = c.is_worth_asking.ensures.0 c.if-not-is_worth_asking.false;
-        tested = tested.0 c.if-not-is_tested.false;
+        tested = c.is_tested.ensures.0 c.if-not-is_tested.false;
         all_out = where_none _ c.first_left.result (c.is_none.ensures ∙ ap not h) c.first_left.ensures.none;
       }),
       (λ none. elim c.is_none.result as (λ b. c.is_none.result ≡ b → b ≡ true) [
@@ -21,4 +20,4 @@ returns c =
     )
 
 pub returns-then-not-is_tested : goal.returns-then-not-is_tested
-returns-then-not-is_tested c = (λ h. absurd (false≢true h), λ none. absurd (false≢true (sym c.if-not-is_tested.true ∙ (tested_as c.self.inside c.args.self.now c.self.view_is _ c.combination-combination.ensures c.args.depth c.requires c.byte_reads.result.now c.byte_reads.ensures (record { read = 0; byte = 0 }) c.is_tested.result c.is_tested.ensures).1 none.tested)))
+returns-then-not-is_tested c = (λ h. absurd (false≢true h), λ none. absurd (false≢true (sym c.if-not-is_tested.true ∙ c.is_tested.ensures.1 none.tested)))

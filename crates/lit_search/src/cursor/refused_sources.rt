@@ -1,0 +1,84 @@
+//! Candidates that tests refuse. They are the same whatever sources are given, so they are looked for once a combination.
+
+ghost use Rattle.std.specs.Prelude.{◌≡◌, ◌↔◌, ℕ, ◌<◌, Some, IsTrue, length, slice_get};
+ghost use Rattle.lit_paths.specs.ByteReads.{byte_reads};
+ghost use Rattle.lit_rel.specs.EventSet.{HasEvent};
+ghost use Rattle.lit_rel.specs.Part.{part_events};
+ghost use Rattle.lit_rel.specs.TestedBytes.{TestsRefuse};
+ghost use Rattle.lit_search.specs.Internal.LeftOut.{candidate_at};
+ghost use Rattle.lit_search.specs.Internal.Places.{candidates_at, stand_events};
+ghost use Rattle.lit_search.specs.Internal.RefusedSources.{AreRefused, AreRefusedAt, IsRefusedAt, IsTestedAt};
+
+use crate::cursor::Cursor;
+use crate::cursor::used::is_tested;
+use crate::laws::completions::laws;
+use arrayvec::ArrayVec;
+use lit_paths::{BYTE_READ_LIMIT, ByteRead};
+use lit_rel::{EventSet, Part};
+
+/// For each byte read the candidates that tests refuse; `None` where no test asks about its read.
+pub(crate) type RefusedSources = ArrayVec<Option<EventSet>, BYTE_READ_LIMIT>;
+
+/// Those of some candidates that tests refuse as the source of a byte read.
+fn refused_among(part: &Part<'_>, at: ByteRead, candidates: &[u8]) -> EventSet
+    requires known { (p w : ℕ) → slice_get candidates.now p ≡ Some w → w < length (part_events part.now) }
+    requires read { at.read < length (part_events part.now) }
+    ensures { (p w : ℕ) → slice_get candidates.now p ≡ Some w → HasEvent result w ↔ TestsRefuse part.now at.read at.byte w }
+{
+    let _events = part.combination().events();
+    let mut refused = EventSet::new();
+    for candidate in candidates {
+        if part.tests_refuse(at, *candidate) {
+            refused = refused.with(usize::from(*candidate));
+        }
+    }
+    refused
+}
+
+/// The candidates of a byte read, by its number, that tests refuse; `None` where no test asks about its read.
+fn refused_at(part: &Part<'_>, depth: usize) -> Option<EventSet>
+    requires { depth < length (byte_reads (part_events part.now)) }
+    ensures { AreRefusedAt part.now.test part.now.combination depth result }
+{
+    laws();
+    let combination = part.combination();
+    let at = combination.byte_reads()[depth];
+    if !is_tested(combination, at.read) {
+        return None;
+    }
+    Some(refused_among(part, at, combination.candidates(depth)))
+}
+
+/// Makes it those of each byte read of a part's combination.
+pub(crate) fn set_refused(refused: &mut RefusedSources, part: &Part<'_>)
+    ensures { AreRefused part.now.test part.now.combination refused.new.items }
+{
+    let _events = part.combination().events();
+    refused.clear();
+    for depth in 0..part.reads() {
+        refused.push(refused_at(part, depth));
+    }
+}
+
+impl Cursor<'_> {
+    /// Whether a test asks about the read of a byte read, by its number.
+    pub(crate) fn is_tested(&self, depth: usize) -> bool
+        requires { depth < length (byte_reads (stand_events self.now)) }
+        ensures { IsTrue result ↔ IsTestedAt self.now.test self.now.combination depth }
+    {
+        self.refused[depth].is_some()
+    }
+
+    /// Whether tests refuse the candidate with a place among those of a byte read, by its number.
+    pub(crate) fn tests_refuse(&self, depth: usize, place: usize) -> bool
+        requires read { depth < length (byte_reads (stand_events self.now)) }
+        requires known { place < length (candidates_at (stand_events self.now) depth) }
+        ensures { IsTrue result ↔ IsRefusedAt self.now.test self.now.combination depth (candidate_at self.now depth place) }
+    {
+        let Some(refused) = self.refused[depth] else {
+            return false;
+        };
+        let source = self.part.combination().candidates(depth)[place];
+        refused.contains(usize::from(source))
+    }
+}
