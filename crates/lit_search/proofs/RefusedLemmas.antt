@@ -17,7 +17,7 @@ use Rattle.lit_search.specs.StandsFor.{IsTested}
 use Rattle.lit_search.specs.declared.cursor.Cursor.TheInside.{Inside}
 use Rattle.lit_search.specs.Internal.LeftOut.{candidate_at}
 use Rattle.lit_search.specs.Internal.Places.{Stand, candidates_at, stand_events}
-use Rattle.lit_search.specs.Internal.RefusedSources.{AreRefused, AreRefusedAt, HasRefused, IsRefusedAt, IsTestedAt}
+use Rattle.lit_search.specs.Internal.RefusedSources.{AreRefused, AreRefusedAt, HasIn, HasRefused, IsRefusedAt, IsTestedAt}
 use Rattle.lit_search.specs.Internal.Standing.{IsStanding}
 use Rattle.lit_search.proofs.ForeseenLemmas.{read_here}
 use Rattle.lit_search.proofs.StandLemmas.{candidates_here, lists_here, stand_of}
@@ -81,6 +81,18 @@ module _ (part : PartModel) (entered : Litmus × ℕ) (same : entered ≡ (part.
         subst (λ (rb : ℕ × ℕ). HasEvent set w ↔ TestsRefuse part rb.0 rb.1 w) (sym pair_is)
         (each p w (ap (λ (ws : List ℕ). slice_get ws p) (listed ∙ ap (λ (e : Litmus × ℕ). candidates_at (events_in e.0 e.1) k) same) ∙ at));
   }
+
+  -- what is kept for it, of a candidate
+  pub refused_in : (sets : List (Option EventSet)) → AreRefused part.test part.combination sets → (list : List ℕ) → list ≡ candidates_at (events_in entered.0 entered.1) k → (o : Option EventSet) → o ≡ get_or sets k None
+      → (p w : ℕ) → slice_get list p ≡ Some w → HasIn o w ↔ TestsRefuse part (get_or reads k d).read (get_or reads k d).byte w
+  refused_in sets all_sets list listed o o_is p w at =
+      let here : AreRefusedAt part.test part.combination k o = subst (AreRefusedAt part.test part.combination k) (sym o_is) (all_sets.each k (get_or sets k None) (slice_get-get_or sets k None (omega (arith, known, all_sets.len)))) in
+      subst (λ (rb : ℕ × ℕ). HasIn o w ↔ TestsRefuse part rb.0 rb.1 w) pair_is
+      (of_set part.test part.combination k w p o here (ap (λ (ws : List ℕ). slice_get ws p) (sym (listed ∙ ap (λ (e : Litmus × ℕ). candidates_at (events_in e.0 e.1) k) same)) ∙ at))
+    where
+      of_set : (t : Litmus) (c k w p : ℕ) (o : Option EventSet) → AreRefusedAt t c k o → slice_get (candidates_at (events_in t c) k) p ≡ Some w → HasIn o w ↔ IsRefusedAt t c k w
+      of_set t c k w p None none at = ((λ h. absurd h), (λ refused. none (refused_tested t c k w refused)))
+      of_set t c k w p (Some x) has at = has.each p w at
 
 -- one byte read more
 pub refused_more : (t : Litmus) (c n : ℕ) (sets : List (Option EventSet)) → length sets ≡ n → ((k : ℕ) (one : Option EventSet) → slice_get sets k ≡ Some one → AreRefusedAt t c k one) → (set : Option EventSet) → AreRefusedAt t c n set

@@ -28,6 +28,10 @@ pub record HasRefused (t : Litmus) (c k : ℕ) (set : EventSet) : Type 0 where
 abbrev pub AreRefusedAt : Litmus → ℕ → ℕ → Option EventSet → Type 0
 AreRefusedAt t c k set = MatchOption set (¬ IsTestedAt t c k) (HasRefused t c k)
 
+-- the set, if there is one, has event w
+abbrev pub HasIn : Option EventSet → ℕ → Type 0
+HasIn set w = MatchOption set ⊥ (λ events. HasEvent events w)
+
 -- those of each byte read
 pub record AreRefused (t : Litmus) (c : ℕ) (sets : List (Option EventSet)) : Type 0 where
   pub len : length sets ≡ length (byte_reads (events_in t c))

@@ -6,16 +6,20 @@
 ghost use Rattle.std.specs.Prelude.{◌≡◌, ◌≢◌, ◌↔◌, ◌⊎◌, ℕ, ◌<◌, ◌≤◌, IfNone, IfSome, IsFalse, IsTrue, OnSome, Some, length, slice_get};
 ghost use Rattle.lit_paths.specs.ByteReads.{byte_read_at, byte_reads};
 ghost use Rattle.lit_paths.specs.Choice.{candidates_of};
+ghost use Rattle.lit_paths.specs.declared.limits.TheConstants.{EVENT_LIMIT};
 ghost use Rattle.lit_paths.specs.Execution.{Execution};
 ghost use Rattle.lit_rel.specs.Between.{Forbids};
 ghost use Rattle.lit_rel.specs.Part.{PartModel, part_events};
+ghost use Rattle.lit_rel.specs.TestedBytes.{TestsRefuse};
 ghost use Rattle.lit_rel.specs.Rows.{Holds, rows_len};
 ghost use Rattle.lit_search.specs.Completion.{Completes, IsEntered};
 ghost use Rattle.lit_search.specs.Foreseen.{IsApart, IsOut};
 ghost use Rattle.lit_search.specs.Internal.Places.{part_at};
+ghost use Rattle.lit_search.specs.Internal.RefusedSources.{AreRefused, HasIn};
 ghost use Rattle.lit_search.specs.Internal.Foreseeing.{GoesNowhere, IsAlwaysSource, IsForeseen, MaySynchronize};
 
 use crate::cursor::Cursor;
+use crate::cursor::refused_sources::RefusedSources;
 use crate::laws::completions::laws;
 use lit_order::forced_precedence;
 use lit_order::laws::{
@@ -44,20 +48,45 @@ fn is_apart(part: &Part<'_>, before: &Rows, source: u8, read: u8) -> bool
     between.split_first().is_some()
 }
 
-/// Whether a candidate can't be the source of a byte read.
-fn is_out(part: &Part<'_>, before: &Rows, at: ByteRead, source: u8) -> bool
+/// Whether a set, if there is one, has a source.
+fn has_source(refused: Option<EventSet>, source: u8) -> bool
+    requires { source < EVENT_LIMIT }
+    ensures { IsTrue result ↔ HasIn refused source }
+{
+    match refused {
+        Some(set) => set.contains(usize::from(source)),
+        None => false,
+    }
+}
+
+/// Whether a candidate can't be the source of a byte read, of whose candidates tests refuse those of a set.
+fn is_out(
+    part: &Part<'_>,
+    refused: Option<EventSet>,
+    before: &Rows,
+    at: ByteRead,
+    source: u8,
+) -> bool
+    requires refused { HasIn refused source ↔ TestsRefuse part.now at.read at.byte source }
     requires source { source < length (part_events part.now) }
     requires read { at.read < length (part_events part.now) }
     requires len { rows_len before.now ≡ length (part_events part.now) }
     ensures { IsTrue result ↔ IsOut part.now (Holds before.now) at.read at.byte source }
 {
-    part.tests_refuse(at, source)
+    has_source(refused, source)
         || !part.is_coherent_with(at, source)
         || is_apart(part, before, source, at.read)
 }
 
-/// The first of the candidates of a byte read that can be its source; `None` where none can.
-fn first_possible(part: &Part<'_>, before: &Rows, at: ByteRead, candidates: &[u8]) -> Option<u8>
+/// The first of the candidates of a byte read that can be its source; `None` where none can. Tests refuse those of a set.
+fn first_possible(
+    part: &Part<'_>,
+    refused: Option<EventSet>,
+    before: &Rows,
+    at: ByteRead,
+    candidates: &[u8],
+) -> Option<u8>
+    requires refused { (k c : ℕ) → slice_get candidates.now k ≡ Some c → HasIn refused c ↔ TestsRefuse part.now at.read at.byte c }
     requires known { (k c : ℕ) → slice_get candidates.now k ≡ Some c → c < length (part_events part.now) }
     requires read { at.read < length (part_events part.now) }
     requires len { rows_len before.now ≡ length (part_events part.now) }
@@ -65,22 +94,30 @@ fn first_possible(part: &Part<'_>, before: &Rows, at: ByteRead, candidates: &[u8
     ensures none { IfNone result ((k c : ℕ) → slice_get candidates.now k ≡ Some c → IsOut part.now (Holds before.now) at.read at.byte c) }
 {
     for candidate in candidates {
-        if !is_out(part, before, at, *candidate) {
+        if !is_out(part, refused, before, at, *candidate) {
             return Some(*candidate);
         }
     }
     None
 }
 
-/// Whether no candidate of a byte read but this one can be its source.
-fn is_only(part: &Part<'_>, before: &Rows, at: ByteRead, candidates: &[u8], source: u8) -> bool
+/// Whether no candidate of a byte read but this one can be its source. Tests refuse those of a set.
+fn is_only(
+    part: &Part<'_>,
+    refused: Option<EventSet>,
+    before: &Rows,
+    at: ByteRead,
+    candidates: &[u8],
+    source: u8,
+) -> bool
+    requires refused { (k c : ℕ) → slice_get candidates.now k ≡ Some c → HasIn refused c ↔ TestsRefuse part.now at.read at.byte c }
     requires known { (k c : ℕ) → slice_get candidates.now k ≡ Some c → c < length (part_events part.now) }
     requires read { at.read < length (part_events part.now) }
     requires len { rows_len before.now ≡ length (part_events part.now) }
     ensures { IsTrue result → (k c : ℕ) → slice_get candidates.now k ≡ Some c → c ≢ source → IsOut part.now (Holds before.now) at.read at.byte c }
 {
     for candidate in candidates {
-        if *candidate != source && !is_out(part, before, at, *candidate) {
+        if *candidate != source && !is_out(part, refused, before, at, *candidate) {
             return false;
         }
     }
@@ -136,7 +173,14 @@ fn put_source(part: &Part<'_>, before: &mut Rows, between: &mut Between, source:
 
 /// Looks at a byte read, by its number: where it is sequentially consistent and has one source left, what this brings is
 /// put in. Says whether it is; `None` where no valid execution goes on from the part.
-fn look_at(part: &Part<'_>, before: &mut Rows, between: &mut Between, number: usize) -> Option<bool>
+fn look_at(
+    part: &Part<'_>,
+    sets: &RefusedSources,
+    before: &mut Rows,
+    between: &mut Between,
+    number: usize,
+) -> Option<bool>
+    requires refused { AreRefused part.now.test part.now.combination sets.now.items }
     requires known { number < length (byte_reads (part_events part.now)) }
     requires entered { IsEntered part.now }
     requires foreseen { IsForeseen part.now before.old between.old }
@@ -153,8 +197,9 @@ fn look_at(part: &Part<'_>, before: &mut Rows, between: &mut Between, number: us
         return Some(false);
     }
     let candidates = combination.candidates(number);
-    let source = first_possible(part, before, at, candidates)?;
-    if !is_only(part, before, at, candidates, source) {
+    let refused = sets[number];
+    let source = first_possible(part, refused, before, at, candidates)?;
+    if !is_only(part, refused, before, at, candidates, source) {
         return Some(false);
     }
     put_source(part, before, between, source, at.read);
@@ -168,11 +213,13 @@ fn look_at(part: &Part<'_>, before: &mut Rows, between: &mut Between, number: us
 /// Looks at a byte read, by its number, unless one of its read was found to have one source left.
 fn look_once(
     part: &Part<'_>,
+    sets: &RefusedSources,
     before: &mut Rows,
     between: &mut Between,
     done: &mut EventSet,
     number: usize,
 ) -> Option<bool>
+    requires refused { AreRefused part.now.test part.now.combination sets.now.items }
     requires known { number < length (byte_reads (part_events part.now)) }
     requires entered { IsEntered part.now }
     requires foreseen { IsForeseen part.now before.old between.old }
@@ -184,7 +231,7 @@ fn look_once(
     if done.contains(read) {
         return Some(false);
     }
-    let is_new = look_at(part, before, between, number)?;
+    let is_new = look_at(part, sets, before, between, number)?;
     if is_new {
         *done = done.with(read);
     }
@@ -195,10 +242,12 @@ fn look_once(
 /// goes on from the part.
 fn look_on(
     part: &Part<'_>,
+    sets: &RefusedSources,
     before: &mut Rows,
     between: &mut Between,
     done: &mut EventSet,
 ) -> Option<bool>
+    requires refused { AreRefused part.now.test part.now.combination sets.now.items }
     requires entered { IsEntered part.now }
     requires foreseen { IsForeseen part.now before.old between.old }
     ensures foreseen { OnSome result (IsForeseen part.now before.new between.new) }
@@ -206,7 +255,7 @@ fn look_on(
 {
     let mut further = false;
     for number in part.len()..part.reads() {
-        if look_once(part, before, between, done, number)? {
+        if look_once(part, sets, before, between, done, number)? {
             further = true;
         }
     }
@@ -214,8 +263,9 @@ fn look_on(
 }
 
 /// Whether no valid execution goes on from a part, as far as what can still stand shows.
-fn goes_nowhere(part: &Part<'_>) -> bool
-    requires { IsEntered part.now }
+fn goes_nowhere(part: &Part<'_>, sets: &RefusedSources) -> bool
+    requires entered { IsEntered part.now }
+    requires refused { AreRefused part.now.test part.now.combination sets.now.items }
     ensures { IsTrue result → GoesNowhere part.now }
 {
     laws();
@@ -226,7 +276,7 @@ fn goes_nowhere(part: &Part<'_>) -> bool
     }
     let mut done = EventSet::new();
     for _turn in 0..part.reads() {
-        match look_on(part, &mut before, &mut between, &mut done) {
+        match look_on(part, sets, &mut before, &mut between, &mut done) {
             None => return true,
             Some(further) => {
                 if !further {
@@ -244,6 +294,6 @@ impl Cursor<'_> {
         ensures { IsTrue result → GoesNowhere (part_at self.now) }
     {
         let part = self.part();
-        part.len() == 0 && goes_nowhere(part)
+        part.len() == 0 && goes_nowhere(part, &self.refused)
     }
 }

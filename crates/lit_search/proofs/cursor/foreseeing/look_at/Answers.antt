@@ -1,12 +1,14 @@
-use Rattle.std.proofs.Common.{Bool, List, Option, length, sym, ap, subst, arith}
+use Rattle.std.proofs.Common.{Bool, List, Option, None, get_or, length, sym, ap, subst, arith}
 use Rattle.std.specs.Prelude.{IfNone}
 use Rattle.lit_paths.specs.declared.byte_reads.ByteRead.{ByteRead}
 use Rattle.lit_paths.specs.declared.event.Event.{Event}
+use Rattle.lit_rel.specs.declared.event_set.EventSet.{EventSet}
 use Rattle.lit_rel.specs.Between.{Forbids}
 use Rattle.lit_rel.specs.Part.{part_events}
 use Rattle.lit_rel.specs.Rows.{Holds}
 use Rattle.lit_search.specs.Internal.Foreseeing.{GoesNowhere}
 use Rattle.lit_search.proofs.ForeseenLemmas.{events_here, its_event, lists_of, none_left, one_left, read_here, sound_here}
+use Rattle.lit_search.proofs.RefusedLemmas.{refused_in}
 use Rattle.lit_search.proofs.cursor.foreseeing.look_at.Goals as goal
 
 abbrev no_read : ByteRead
@@ -21,6 +23,16 @@ event_at-requires c =
 pub first_possible-requires-clause-known : goal.first_possible-requires-clause-known
 first_possible-requires-clause-known c k w at =
     ((lists_of c.args.part.now _ c.combination-combination.ensures c.byte_reads.result.now c.byte_reads.ensures no_read c.args.number c.requires.known c.candidates-candidates.result.now c.candidates-candidates.ensures.lists).only k w at).known
+
+pub first_possible-requires-clause-refused : goal.first_possible-requires-clause-refused
+first_possible-requires-clause-refused c =
+    refused_in c.args.part.now _ c.combination-combination.ensures c.byte_reads.result.now c.byte_reads.ensures no_read c.args.number c.requires.known c.args.sets.now.items c.requires.refused c.candidates-candidates.result.now c.candidates-candidates.ensures.value _
+    (ap (λ (sets : List (Option EventSet)). get_or sets c.args.number None) c.deref.ensures.0)
+
+pub is_only-requires-clause-refused : goal.is_only-requires-clause-refused
+is_only-requires-clause-refused c =
+    refused_in c.args.part.now _ c.combination-combination.ensures c.byte_reads.result.now c.byte_reads.ensures no_read c.args.number c.requires.known c.args.sets.now.items c.requires.refused c.candidates-candidates.result.now c.candidates-candidates.ensures.value _
+    (ap (λ (sets : List (Option EventSet)). get_or sets c.args.number None) c.deref.ensures.0)
 
 pub is_only-requires-clause-known : goal.is_only-requires-clause-known
 is_only-requires-clause-known c k w at =
