@@ -1,5 +1,5 @@
 -- What is kept, and what is found first, while choices are looked at in order.
-use Rattle.std.proofs.Common.{◌≡◌, ◌↔◌, ◌⊎◌, inl, inr, Ok, Err, ℕ, zero, suc, ◌+◌, ◌<◌, ◌≤◌, Bool, List, [], ◌∷◌, Some, refl, sym, subst, arith}
+use Rattle.std.proofs.Common.{◌≡◌, ◌↔◌, ◌⊎◌, inl, inr, Ok, Err, ℕ, zero, suc, ◌+◌, ◌<◌, ◌≤◌, Bool, ◌||◌, List, [], ◌∷◌, Some, refl, sym, ap, subst, arith}
 use Rattle.std.specs.Prelude.{IfOk, IsTrue, slice_get}
 use Rattle.std.specs.declared.result.Result.{Result}
 use Rattle.std.specs.declared.cmp.Ordering.{Ordering}
@@ -15,10 +15,11 @@ use Rattle.lit_search.specs.Internal.Examined.{IsExample}
 use Rattle.lit_search.specs.Internal.Merged.{merged}
 use Rattle.lit_search.specs.Internal.Outcomes.{HasOutcome}
 use Rattle.lit_search.specs.Internal.Shown.{IsNext, IsShown, NoneShow}
-use Rattle.lit_search.specs.Internal.Taking.{KeepsRange, MarksRaces}
+use Rattle.lit_search.specs.Internal.Taking.{AreKept, KeepsRange, MarksRaces}
 use Rattle.lit_search.proofs.Entries.{cmp, differs}
 use Rattle.lit_search.proofs.MergedEntries.{AreMerged-merged}
-use Rattle.lit_search.proofs.NumberSets.{before_end, either_cases, in_other, in_some, not_below, same_test, within}
+use Rattle.lit_search.proofs.NextLemmas.{none_at_first}
+use Rattle.lit_search.proofs.NumberSets.{before_end, either_cases, in_other, in_some, not_below, same_range, same_test, within}
 use Rattle.lit_search.proofs.RacingLemmas.{marked_more, marks_none}
 use Rattle.lit_search.proofs.Reports.{AreEntries-merged, AreEntries-one, AreEntries-passed, AreEntries-same}
 
@@ -62,6 +63,23 @@ module _ (t : Litmus) (Wanted : List ℕ → Type 0) where
       let P : ℕ → Type 0 = λ k. IsShown t Wanted k e in
       let Q : ℕ → Type 0 = λ k. NoneShow t Wanted (in_range from k) in
       record { after = omega (arith, is.choice); before = omega (arith, is.choice); shown = subst P (sym is.choice) is; none_before = subst Q (sym is.choice) none }
+
+-- ---- a row of choices that goes on to a number, or an empty one that begins there
+module _ (first behind from : ℕ) (row : ℕ × ℕ) (on : from ≤ behind → row ≡ (first, behind)) (anew : behind < from → row ≡ (from, from)) where
+  pub row_begins : first ≤ from → row.0 ≤ from
+  row_begins low =
+      elim (cases_lt behind from) [ inl less ↦ omega (arith, ap (λ (r : ℕ × ℕ). r.0) (anew less)) | inr more ↦ omega (arith, low, ap (λ (r : ℕ × ℕ). r.0) (on more)) ]
+
+  pub row_ends : from ≤ row.1
+  row_ends =
+      elim (cases_lt behind from) [ inl less ↦ omega (arith, ap (λ (r : ℕ × ℕ). r.1) (anew less)) | inr more ↦ omega (arith, more, ap (λ (r : ℕ × ℕ). r.1) (on more)) ]
+
+  pub none_in_row : (t : Litmus) (Wanted : List ℕ → Type 0) → NoneShow t Wanted (in_range first behind) → NoneShow t Wanted (in_range row.0 row.1)
+  none_in_row t Wanted none =
+      elim (cases_lt behind from) [
+        | inl less ↦ subst (λ (r : ℕ × ℕ). NoneShow t Wanted (in_range r.0 r.1)) (sym (anew less)) (none_at_first t Wanted from from (omega arith))
+        | inr more ↦ subst (λ (r : ℕ × ℕ). NoneShow t Wanted (in_range r.0 r.1)) (sym (on more)) none
+      ]
 
 -- ---- keeping
 module _ (t : Litmus) where
@@ -118,6 +136,28 @@ module _ (t : Litmus) where
   pub keeps_next : (from to : ℕ) (r new : List Entry) (e : Entry) → IsNext t (λ outcome. ¬ HasOutcome r outcome) from to e → new ≡ merged r (e ∷ []) → KeepsRange t from (e.choice + 1) r new
   keeps_next from to r new e next is =
       keeps_joined from e.choice (e.choice + 1) r r new next.after (omega arith) (keeps_passed from e.choice r next.none_before) (keeps_one e.choice r new e refl next.shown.example is)
+
+  -- a range that ends where nothing lies between its end and that of another
+  pub keeps_end : (from next to : ℕ) (old new : List Entry) → to ≤ next → (to < next → next ≡ from) → KeepsRange t from next old new → KeepsRange t from to old new
+  keeps_end from next to old new past before keeps taken below h =
+      AreEntries-same t (in_either taken (in_range from next)) (in_either taken (in_range from to)) new (λ m known. ap (λ (b : Bool). taken m || b) (same_range from next to past before m)) (keeps taken below h)
+
+  -- choices that show nothing new, as far as these go, and those behind them
+  pub keeps_seen : (since from seen to : ℕ) (old new : List Entry) → since ≤ from → from ≤ seen → from ≤ to → AreKept t old (in_range since seen) → KeepsRange t seen to old new → KeepsRange t from to old new
+  keeps_seen since from seen to old new first ahead order kept keeps = by (cases_lt seen to)
+    where
+      passed : (end : ℕ) → end ≤ seen → KeepsRange t from end old old
+      passed end le =
+          keeps_passed from end old (λ n inside. kept n (within since seen n (omega (arith, first, not_below from end n inside)) (omega (arith, before_end from end n inside, le))))
+
+      none : (m : ℕ) → to ≤ seen → in_range seen to m ≡ in_range to to m
+      none m le = same_test (in_range seen to m) (in_range to to m) (λ p. absurd (omega (arith, le, not_below seen to m p, before_end seen to m p))) (λ p. absurd (omega (arith, not_below to to m p, before_end to to m p)))
+
+      by : (seen < to) ⊎ (to ≤ seen) → KeepsRange t from to old new
+      by (inl lt) = keeps_joined from seen to old old new ahead (omega (arith, lt)) (passed seen (omega arith)) keeps
+      by (inr le) =
+          keeps_joined from to to old old new order (omega arith) (passed to le)
+          (λ taken below h. AreEntries-same t (in_either taken (in_range seen to)) (in_either taken (in_range to to)) new (λ m known. ap (λ (b : Bool). taken m || b) (none m le)) (keeps taken (λ n p. omega (arith, below n p, le)) h))
 
   pub taken_more : (from to : ℕ) (taken : ℕ → Bool) (kept : Bool) (old new : Collected) → old.test ≡ t → new.test ≡ t → old.end ≤ from → from ≤ to → new.end ≡ to → KeepsRange t from to old.report.entries new.report.entries
       → MarksRaces t from to old.report.race kept → IsTrue new.report.race ↔ (IsTrue kept ⊎ HasRaceIn t (in_range from to)) → HasTaken taken old → HasTaken (in_either taken (in_range from to)) new

@@ -1,6 +1,7 @@
 -- Sets of numbers as tests: ranges, and sets joined. For this crate and those above it.
 use Rattle.std.proofs.Common.{◌≡◌, ◌⊎◌, inl, inr, ℕ, ◌<◌, ◌≤◌, Bool, true, false, ◌&&◌, ◌||◌, refl, sym, arith}
 use Rattle.std.specs.Prelude.{IsTrue, nat_le, nat_lt}
+use Rattle.std.proofs.lemmas.Bool.{cases_lt}
 use Rattle.std.proofs.lemmas.Bool.Decides.{nat_tests}
 use Rattle.lit_search.specs.Report.{in_range}
 
@@ -55,3 +56,11 @@ pub same_test : (a b : Bool) → (IsTrue a → IsTrue b) → (IsTrue b → IsTru
 same_test true b f g = sym (f refl)
 same_test false true f g = absurd (let e = g refl in cc)
 same_test false false f g = refl
+
+-- ranges from one number on, where nothing lies between their ends
+pub same_range : (from next to : ℕ) → to ≤ next → (to < next → next ≡ from) → (n : ℕ) → in_range from next n ≡ in_range from to n
+same_range from next to past before n = same_test (in_range from next n) (in_range from to n) (λ p. within from to n (not_below from next n p) (by (before_end from next n p) (not_below from next n p) (cases_lt to next))) (λ p. within from next n (not_below from to n p) (omega (arith, before_end from to n p, past)))
+  where
+    by : n < next → from ≤ n → (to < next) ⊎ (next ≤ to) → n < to
+    by less more (inl lt) = absurd (omega (arith, less, more, before lt))
+    by less more (inr le) = omega (arith, less, le)

@@ -21,7 +21,7 @@ use Rattle.lit_search.specs.Internal.Places.{ArePlaces, Stand, behind_at, low_at
 use Rattle.lit_search.specs.Internal.Shown.{IsNext}
 use Rattle.lit_search.specs.Internal.Taking.{AreBarren, MarksRaces}
 use Rattle.lit_search.proofs.CompletionLemmas.{carried, its_events}
-use Rattle.lit_search.proofs.NumberSets.{before_end, not_below, within}
+use Rattle.lit_search.proofs.NumberSets.{before_end, not_below, same_range, within}
 use Rattle.lit_search.proofs.PassingLemmas.{completed, no_rest, whole_stand}
 use Rattle.lit_search.proofs.PlaceLemmas.{length-sources, ways_end}
 use Rattle.lit_search.proofs.Reports.{HasRaceIn-either}
@@ -154,6 +154,19 @@ marks_joined t from mid to old kept new low high first second = record {
     | inl q ↦ elim (first.comes q) [ inl r ↦ inl r | inr race ↦ inr (race_wider t from mid from to (omega arith) high race) ]
     | inr race ↦ inr (race_wider t mid to from to low (omega arith) race)
   ];
+}
+
+-- a range that begins earlier, or ends where nothing lies between its end and that of another
+pub marks_wider : (t : Litmus) (low from to : ℕ) (old new : Bool) → low ≤ from → MarksRaces t from to old new → MarksRaces t low to old new
+marks_wider t low from to old new below marks = record {
+  stays = marks.stays;
+  comes = λ p. elim (marks.comes p) [ inl q ↦ inl q | inr race ↦ inr (race_wider t from to low to below (omega arith) race) ];
+}
+
+pub marks_end : (t : Litmus) (from next to : ℕ) (old new : Bool) → to ≤ next → (to < next → next ≡ from) → MarksRaces t from next old new → MarksRaces t from to old new
+marks_end t from next to old new past before marks = record {
+  stays = marks.stays;
+  comes = λ p. elim (marks.comes p) [ inl q ↦ inl q | inr race ↦ inr (race.0, sym (same_range from next to past before race.0) ∙ race.1, race.2) ];
 }
 
 -- the next choice kept, with its part's data race

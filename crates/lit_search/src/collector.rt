@@ -2,7 +2,7 @@
 
 pub(crate) mod kept;
 
-ghost use Rattle.std.specs.Prelude.{◌≡◌, ◌↔◌, ◌⊎◌, ℕ, ◌+◌, ◌<◌, ◌≤◌, Bool, IsFalse, IsTrue, is_some, length, OnOk};
+ghost use Rattle.std.specs.Prelude.{◌≡◌, ◌↔◌, ◌⊎◌, ℕ, ◌+◌, ◌<◌, ◌≤◌, Bool, IsFalse, IsTrue, is_some, length, IfOk, OnOk};
 ghost use Rattle.lit_paths.specs.Choice.{choices_of};
 ghost use Rattle.lit_paths.specs.Plan.{choices_before};
 ghost use Rattle.lit_rel.specs.DataRace.{HasDataRace};
@@ -34,7 +34,8 @@ fn mark_race(race: &mut bool, part: &Part<'_>)
 }
 
 /// Keeps what the choices from `from` up to and without `to` show, all on one combination, and marks a data race of what
-/// is kept. What the choices from `since` on show is kept up to `from`, and then up to `to`.
+/// is kept. What the choices from `since` on show is kept up to `from`, and then up to the number answered, `to` or a
+/// greater one.
 fn keep_on(
     kept: &mut Kept,
     race: &mut bool,
@@ -43,7 +44,7 @@ fn keep_on(
     since: u64,
     from: u64,
     to: u64,
-) -> Result<(), AllocError>
+) -> Result<u64, AllocError>
     requires test { cursor.old.test ≡ plan.now }
     requires stands { low_at cursor.old ≤ from }
     requires order { from ≤ to }
@@ -51,21 +52,23 @@ fn keep_on(
     requires seen { AreKept plan.now kept.old (in_range since from) }
     ensures keeps { OnOk result (KeepsRange plan.now from to kept.old kept.new) }
     ensures marks { OnOk result (MarksRaces plan.now from to race.old race.new) }
-    ensures seen { OnOk result (AreKept plan.now kept.new (in_range since to)) }
+    ensures seen { IfOk result (λ seen. AreKept plan.now kept.new (in_range since seen)) }
+    ensures past { IfOk result (λ seen. to ≤ seen) }
 {
     laws();
     let known = known_after(plan, cursor.part(), kept);
     let mut next = from;
-    while let Some(shown) = cursor.next(plan, kept, known, since, next, to) {
+    while let Some(shown) = cursor.next(plan, kept, known, since, &mut next, to) {
         next = shown.example.choice + 1;
         mark_race(race, cursor.part());
         kept.keep(shown)?;
     }
-    Ok(())
+    Ok(next)
 }
 
-/// Keeps what the choices from `from` up to and without `to` show, and marks a data race of what is kept, by a cursor
-/// that stood anywhere. What the choices from `since` on show is kept up to `from`, and then up to `to`.
+/// Keeps what the choices from `from` up to and without `to` show, none where `from` is no less, and marks a data race of
+/// what is kept, by a cursor that stood anywhere. What the choices from `since` on show is kept up to `from`, and then up
+/// to the number answered, `to` or a greater one.
 fn keep_range<'p>(
     kept: &mut Kept,
     race: &mut bool,
@@ -74,22 +77,22 @@ fn keep_range<'p>(
     since: u64,
     from: u64,
     to: u64,
-) -> Result<(), AllocError>
-    requires order { from ≤ to }
+) -> Result<u64, AllocError>
     requires known { to ≤ length (choices_of plan.now) }
     requires seen { AreKept plan.now kept.old (in_range since from) }
     ensures keeps { OnOk result (KeepsRange plan.now from to kept.old kept.new) }
     ensures marks { OnOk result (MarksRaces plan.now from to race.old race.new) }
-    ensures seen { OnOk result (AreKept plan.now kept.new (in_range since to)) }
+    ensures seen { IfOk result (λ seen. AreKept plan.now kept.new (in_range since seen)) }
+    ensures past { IfOk result (λ seen. to ≤ seen) }
 {
-    let mut next = from;
+    let (mut next, mut seen) = (from, from);
     while next < to {
         cursor.reopen(plan, plan.combination(next));
         let end = cursor.end().min(to);
-        keep_on(kept, race, plan, cursor, since, next, end)?;
+        seen = keep_on(kept, race, plan, cursor, since, next, end)?;
         next = end;
     }
-    Ok(())
+    Ok(seen)
 }
 
 /// Whether it was marked, or a choice with a number from `from` up to and without `to` has a data race, by a cursor that
@@ -110,6 +113,15 @@ fn is_marked_with<'p>(
     ensures barren { IsFalse result → AreBarren plan.now (in_range barren.new to) }
 {
     race || has_race_in(plan, cursor, barren, from, to)
+}
+
+/// A row of numbers, from the one up to and without the other, where it goes on to `from` at least; else an empty one at
+/// `from`.
+fn row_at(row: (u64, u64), from: u64) -> (u64, u64)
+    ensures on { from ≤ row.1 → result ≡ row }
+    ensures anew { row.1 < from → result ≡ (from, from) }
+{
+    if row.1 < from { (from, from) } else { row }
 }
 
 /// Has a cursor there, if there is none, on the combination of a choice.
@@ -138,8 +150,10 @@ pub struct Collector<'p> {
     kept: Kept,
     /// Whether a choice taken has a data race.
     race: bool,
-    /// Each choice from this one up to `end` was taken.
+    /// What each choice from this one up to `seen` shows is kept.
     row: u64,
+    /// `end`, or a number behind it.
+    seen: u64,
     /// Where `race` is not marked, no choice from this one up to `end` belongs to a valid execution.
     barren: u64,
     end: u64,
@@ -159,7 +173,6 @@ impl<'p> Model for Collector<'p> {
 }
 
 impl<'p> Collector<'p> {
-    ghost use Rattle.std.specs.Prelude.{IfOk};
     ghost use Rattle.lit_search.specs.Collected.{HasTaken};
     ghost use Rattle.lit_search.specs.Report.{in_either, in_none};
 
@@ -176,6 +189,7 @@ impl<'p> Collector<'p> {
             kept: Kept::new(alloc),
             race: false,
             row: 0,
+            seen: 0,
             barren: 0,
             end: 0,
         }
@@ -202,10 +216,8 @@ impl<'p> Collector<'p> {
         ensures taken { (taken : ℕ → Bool) → HasTaken taken self.old → HasTaken taken self.new }
         ensures end { self.new.end ≡ from }
     {
-        if self.end < from {
-            (self.row, self.barren) = (from, from);
-            self.end = from;
-        }
+        (self.row, self.seen) = row_at((self.row, self.seen), from);
+        (self.barren, self.end) = row_at((self.barren, self.end), from);
     }
 
     /// Takes the choices from its end up to and without `to`, which is greater.
@@ -223,9 +235,9 @@ impl<'p> Collector<'p> {
         let Some(cursor) = &mut self.cursor else {
             unreachable!()
         };
-        let (row, mut barren) = (self.row, self.barren);
-        (self.row, self.barren) = (from, from);
-        keep_range(&mut self.kept, &mut self.race, plan, cursor, row, from, to)?;
+        let (row, seen, mut barren) = (self.row, self.seen, self.barren);
+        (self.row, self.seen, self.barren) = (from, from, from);
+        self.seen = keep_range(&mut self.kept, &mut self.race, plan, cursor, row, seen, to)?;
         self.race = is_marked_with(self.race, plan, cursor, &mut barren, from, to);
         (self.row, self.barren) = (row, barren);
         self.end = to;

@@ -47,10 +47,10 @@ pub fn first_in(plan: &Plan<'_>, class: Class, from: u64, to: u64) -> Option<u64
     while next < to {
         let known = known_after(plan, cursor.part(), &class);
         let end = cursor.end().min(to);
-        if let Some(shown) = cursor.next(plan, &class, known, next, next, end) {
+        let since = next;
+        if let Some(shown) = cursor.next(plan, &class, known, since, &mut next, end) {
             return Some(shown.example.choice);
         }
-        next = end;
         if next < to {
             cursor.reopen(&*plan, plan.combination(next));
         }

@@ -6,5 +6,6 @@ use Rattle.lit_search.specs.Internal.Taking.{AreBarren, AreKept}
 
 pub record IsCollecting (c : Inside) : Type 0 where
   pub before : c.row ≤ c.end
-  pub seen : AreKept c.plan.now c.kept (in_range c.row c.end)
+  pub ahead : c.end ≤ c.seen
+  pub seen : AreKept c.plan.now c.kept (in_range c.row c.seen)
   pub barren : IsFalse c.race → AreBarren c.plan.now (in_range c.barren c.end)

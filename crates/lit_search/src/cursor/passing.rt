@@ -138,39 +138,44 @@ impl Cursor<'_> {
     }
 
     /// The first choice with a number from `from` up to and without `to` that shows an outcome that is wanted. None from
-    /// `since` up to and without `from` does. The cursor stands at most at `from`, and then at that choice. Everything
-    /// that the search asks about is known after `known` byte reads.
+    /// `since` up to and without `from` does. The cursor stands at most at `from`, and then at that choice. Where there is
+    /// none, `from` is then a number from `to` on up to which none does. Everything that the search asks about is known
+    /// after `known` byte reads.
     pub(crate) fn next<W: Wanted>(
         &mut self,
         plan: &Plan<'_>,
         wanted: &W,
         known: usize,
         since: u64,
-        from: u64,
+        from: &mut u64,
         to: u64,
     ) -> Option<Shown>
         requires test { self.old.test ≡ plan.now }
         requires few { known ≤ length (byte_reads (stand_events self.old)) }
         requires known { AllKnownAfter self.old.test self.old.combination known (W.Asks wanted.now plan.now) }
-        requires seen { NoneShow plan.now (W.IsWanted wanted.now plan.now) (in_range since from) }
-        requires low { low_at self.old ≤ from }
+        requires seen { NoneShow plan.now (W.IsWanted wanted.now plan.now) (in_range since from.old) }
+        requires low { low_at self.old ≤ from.old }
         requires high { to ≤ choices_before plan.now (self.old.combination + 1) }
         ensures test { self.new.test ≡ plan.now }
         ensures combination { self.new.combination ≡ self.old.combination }
         ensures shows { MatchOption result
-            (NoneShow plan.now (W.IsWanted wanted.now plan.now) (in_range from to))
-            (λ shown. IsNext plan.now (W.IsWanted wanted.now plan.now) from to (shown_entry shown)) }
+            (NoneShow plan.now (W.IsWanted wanted.now plan.now) (in_range from.old from.new))
+            (λ shown. IsNext plan.now (W.IsWanted wanted.now plan.now) from.old to (shown_entry shown)) }
+        ensures past { IfNone result (to ≤ from.new) }
         ensures stands { IfSome result (λ shown. low_at self.new ≡ shown.example.choice) }
         ensures all { IfSome result (λ shown. HasAll self.new) }
     {
         laws();
+        let first = *from;
         while self.low() < to {
-            if let Some(depth) = self.passed(plan, wanted, known, since, from) {
+            if let Some(depth) = self.passed(plan, wanted, known, since, first) {
                 if !self.leave(plan, depth, since) {
+                    *from = self.end();
                     return None;
                 }
             } else if self.part().len() < self.part().reads() {
                 if !self.enter(plan, since) {
+                    *from = self.end();
                     return None;
                 }
             } else if let Some(shown) = self.shown(plan) {
@@ -178,10 +183,12 @@ impl Cursor<'_> {
             } else {
                 let depth = self.part().len();
                 if !self.leave(plan, depth, since) {
+                    *from = self.end();
                     return None;
                 }
             }
         }
+        *from = self.low();
         None
     }
 }

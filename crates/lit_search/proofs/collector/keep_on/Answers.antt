@@ -5,7 +5,7 @@ use Rattle.lit_rel.specs.Part.{PartModel, part_events}
 use Rattle.lit_search.specs.Internal.Shown.{shown_entry}
 use Rattle.lit_search.specs.Internal.Outcomes.{HasOutcome}
 use Rattle.lit_search.proofs.Keeping.{keeps_none, keeps_joined, keeps_next, keeps_passed}
-use Rattle.lit_search.proofs.NextLemmas.{known_as, known_at, same_reads, seen_on}
+use Rattle.lit_search.proofs.NextLemmas.{known_as, known_at, none_up_to, same_reads, seen_on}
 use Rattle.lit_search.proofs.RacingLemmas.{marks_joined, marks_next, marks_none}
 use Rattle.lit_search.proofs.SeenLemmas.{seen_next}
 use Rattle.lit_search.proofs.collector.keep_on.Goals as goal
@@ -66,7 +66,8 @@ returns-clause-marks c =
 pub returns-clause-keeps : goal.returns-clause-keeps
 returns-clause-keeps c =
     keeps_joined c.args.plan.now c.args.from c.loop-next.next c.args.to c.args.kept.now c.loop-next.kept c.loop-next.kept c.loop-next.invariant.after c.loop-next.invariant.before c.loop-next.invariant.keeps
-    (keeps_passed c.args.plan.now c.loop-next.next c.args.to c.loop-next.kept c.in_default.ensures.shows)
+    (keeps_passed c.args.plan.now c.loop-next.next c.args.to c.loop-next.kept
+    (none_up_to c.args.plan.now (λ outcome. ¬ HasOutcome c.loop-next.kept outcome) c.loop-next.next c.args.to c.next.new.from c.in_default.ensures.past c.in_default.ensures.shows))
 
 pub returns-clause-seen : goal.returns-clause-seen
-returns-clause-seen c = seen_on c.args.plan.now (λ outcome. ¬ HasOutcome c.loop-next.kept outcome) c.args.since c.loop-next.next c.args.to c.loop-next.invariant.seen c.in_default.ensures.shows
+returns-clause-seen c = seen_on c.args.plan.now (λ outcome. ¬ HasOutcome c.loop-next.kept outcome) c.args.since c.loop-next.next c.next.new.from c.loop-next.invariant.seen c.in_default.ensures.shows

@@ -1,17 +1,18 @@
-use Rattle.std.proofs.Common.{◌≡◌, ◌<◌, ℕ, ◌+◌, subst, ap, arith}
+use Rattle.std.proofs.Common.{◌≡◌, ◌<◌, ◌+◌, refl, ap, arith}
 use Rattle.lit_read.specs.Syntax.{Litmus}
 use Rattle.lit_paths.specs.Plan.{choices_before}
-use Rattle.lit_search.specs.Report.{in_range}
+use Rattle.lit_search.specs.Internal.Outcomes.{HasOutcome}
 use Rattle.lit_search.specs.Internal.Places.{Stand, low_at}
-use Rattle.lit_search.specs.Internal.Taking.{AreKept, KeepsRange, MarksRaces}
-use Rattle.lit_search.proofs.Keeping.{keeps_none, keeps_joined}
-use Rattle.lit_search.proofs.RacingLemmas.{marks_joined, marks_none}
+use Rattle.lit_search.proofs.Keeping.{keeps_end, keeps_none, keeps_joined}
+use Rattle.lit_search.proofs.NextLemmas.{none_up_to}
+use Rattle.lit_search.proofs.RacingLemmas.{marks_end, marks_joined, marks_none}
 use Rattle.lit_search.proofs.collector.keep_range.Goals as goal
 
 pub loop-next-init : goal.loop-next-init
 loop-next-init c = record {
   after = omega arith;
-  before = c.requires.order;
+  before = λ past. refl;
+  ahead = omega arith;
   seen = c.requires.seen;
   keeps = keeps_none c.args.plan.now c.args.from c.args.kept.now;
   marks = marks_none c.args.plan.now c.args.from c.args.from c.args.race.now;
@@ -31,6 +32,10 @@ pub keep_on-requires-clause-high : goal.keep_on-requires-clause-high
 keep_on-requires-clause-high c =
     omega (arith, c.min-end.ensures, c.end.ensures, ap (λ (t : Litmus). choices_before t (c.reopen.new.self.combination + 1)) (let e : c.reopen.new.self.test ≡ c.args.plan.now = ap (λ (s : Stand). s.test) c.reopen.ensures in e))
 
+pub keep_on-requires-clause-seen : goal.keep_on-requires-clause-seen
+keep_on-requires-clause-seen c =
+    none_up_to c.args.plan.now (λ outcome. ¬ HasOutcome c.loop-next.kept outcome) c.args.since c.loop-next.next c.loop-next.seen c.loop-next.invariant.ahead c.loop-next.invariant.seen
+
 pub loop-next-preserved : goal.loop-next-preserved
 loop-next-preserved c =
     let next : c.loop-next.next < c.min-end.result =
@@ -44,26 +49,20 @@ loop-next-preserved c =
     ) in
     record {
       after = omega (arith, next, c.loop-next.invariant.after);
-      before = omega (arith, c.min-end.ensures);
-      seen = c.in_ok-keep_on.ensures.seen;
-      keeps = keeps_joined c.args.plan.now c.args.from c.loop-next.next c.min-end.result c.args.kept.now c.loop-next.kept c.keep_on.new.kept c.loop-next.invariant.after (omega (arith, next)) c.loop-next.invariant.keeps c.in_ok-keep_on.ensures.keeps;
-      marks = marks_joined c.args.plan.now c.args.from c.loop-next.next c.min-end.result c.args.race.now c.loop-next.race c.keep_on.new.race c.loop-next.invariant.after (omega (arith, next)) c.loop-next.invariant.marks c.in_ok-keep_on.ensures.marks;
+      before = λ past. absurd (omega (arith, c.min-end.ensures, past));
+      ahead = c.in_ok-seen.ensures.past;
+      seen = c.in_ok-seen.ensures.seen;
+      keeps = keeps_joined c.args.plan.now c.args.from c.loop-next.next c.min-end.result c.args.kept.now c.loop-next.kept c.keep_on.new.kept c.loop-next.invariant.after (omega (arith, next)) c.loop-next.invariant.keeps c.in_ok-seen.ensures.keeps;
+      marks = marks_joined c.args.plan.now c.args.from c.loop-next.next c.min-end.result c.args.race.now c.loop-next.race c.keep_on.new.race c.loop-next.invariant.after (omega (arith, next)) c.loop-next.invariant.marks c.in_ok-seen.ensures.marks;
     }
 
 pub returns-clause-keeps : goal.returns-clause-keeps
 returns-clause-keeps c =
-    let at_end : c.loop-next.next ≡ c.args.to = omega (arith, c.loop-next.invariant.before, c.loop-next-test.false) in
-    let P : ℕ → Type 0 = λ n. KeepsRange c.args.plan.now c.args.from n c.args.kept.now c.loop-next.kept in
-    subst P at_end c.loop-next.invariant.keeps
+    keeps_end c.args.plan.now c.args.from c.loop-next.next c.args.to c.args.kept.now c.loop-next.kept (omega (arith, c.loop-next-test.false)) c.loop-next.invariant.before c.loop-next.invariant.keeps
 
 pub returns-clause-marks : goal.returns-clause-marks
 returns-clause-marks c =
-    let at_end : c.loop-next.next ≡ c.args.to = omega (arith, c.loop-next.invariant.before, c.loop-next-test.false) in
-    let P : ℕ → Type 0 = λ n. MarksRaces c.args.plan.now c.args.from n c.args.race.now c.loop-next.race in
-    subst P at_end c.loop-next.invariant.marks
+    marks_end c.args.plan.now c.args.from c.loop-next.next c.args.to c.args.race.now c.loop-next.race (omega (arith, c.loop-next-test.false)) c.loop-next.invariant.before c.loop-next.invariant.marks
 
-pub returns-clause-seen : goal.returns-clause-seen
-returns-clause-seen c =
-    let at_end : c.loop-next.next ≡ c.args.to = omega (arith, c.loop-next.invariant.before, c.loop-next-test.false) in
-    let P : ℕ → Type 0 = λ n. AreKept c.args.plan.now c.loop-next.kept (in_range c.args.since n) in
-    subst P at_end c.loop-next.invariant.seen
+pub returns-clause-past : goal.returns-clause-past
+returns-clause-past c = omega (arith, c.loop-next-test.false, c.loop-next.invariant.ahead)

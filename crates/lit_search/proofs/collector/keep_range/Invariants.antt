@@ -1,4 +1,4 @@
-use Rattle.std.proofs.Common.{◌-◌, ◌≤◌}
+use Rattle.std.proofs.Common.{◌≡◌, ◌-◌, ◌<◌, ◌≤◌}
 use Rattle.lit_search.specs.Report.{in_range}
 use Rattle.lit_search.specs.Internal.Taking.{AreKept, KeepsRange, MarksRaces}
 use Rattle.lit_search.proofs.collector.keep_range.Given as goal
@@ -6,8 +6,9 @@ use Rattle.lit_search.proofs.collector.keep_range.Given as goal
 abbrev pub invariant-loop-next : goal.invariant-loop-next
 invariant-loop-next l = record {
   after : l.from ≤ l.next;
-  before : l.next ≤ l.to;
-  seen : AreKept l.plan l.kept (in_range l.since l.next);
+  before : l.to < l.next → l.next ≡ l.from;
+  ahead : l.next ≤ l.seen;
+  seen : AreKept l.plan l.kept (in_range l.since l.seen);
   keeps : KeepsRange l.plan l.from l.next l.fn.kept l.kept;
   marks : MarksRaces l.plan l.from l.next l.fn.race l.race;
 }

@@ -1,4 +1,4 @@
-use Rattle.std.proofs.Common.{◌≤◌, ◌+◌, ap, arith}
+use Rattle.std.proofs.Common.{◌<◌, ◌+◌, ap, arith}
 use Rattle.std.specs.Prelude.{IsTrue}
 use Rattle.lit_read.specs.Syntax.{Litmus}
 use Rattle.lit_paths.specs.Plan.{choices_before}
@@ -17,7 +17,6 @@ returns-in-Some c =
 pub loop-next-init : goal.loop-next-init
 loop-next-init c = record {
   after = omega arith;
-  before = c.requires.order;
   same = λ _. ap (λ (s : Stand). s.test) c.open-cursor.ensures;
   low = λ _. omega (arith, ap low_at c.open-cursor.ensures, c.combination.ensures.low);
   high = λ _. omega (arith, ap (λ (s : Stand). choices_before c.args.plan.now (s.combination + 1)) c.open-cursor.ensures, c.combination.ensures.high);
@@ -26,10 +25,11 @@ loop-next-init c = record {
 
 pub loop-next-preserved-then-next-to : goal.loop-next-preserved-then-next-to
 loop-next-preserved-then-next-to c =
-    let next : c.loop-next.next ≤ c.min-end.result =
+    let next : c.loop-next.next < c.next.new.from =
     omega (
       arith,
       c.min-end.ensures,
+      c.in_default.ensures.past,
       c.end.ensures,
       ap (λ (t : Litmus). choices_before t (c.loop-next.cursor.combination + 1)) (c.loop-next.invariant.same c.loop-next-test.true),
       c.loop-next.invariant.high c.loop-next-test.true,
@@ -37,19 +37,19 @@ loop-next-preserved-then-next-to c =
     ) in
     record {
       after = omega (arith, next, c.loop-next.invariant.after);
-      before = omega (arith, c.min-end.ensures);
       same = λ _. ap (λ (s : Stand). s.test) c.reopen.ensures;
       low = λ _. omega (arith, ap low_at c.reopen.ensures, c.combination-then-next-to.ensures.low);
       high = λ _. omega (arith, ap (λ (s : Stand). choices_before c.args.plan.now (s.combination + 1)) c.reopen.ensures, c.combination-then-next-to.ensures.high);
-      none = none_behind c.args.plan.now c.args.class c.args.from c.loop-next.next c.min-end.result c.loop-next.invariant.none c.in_default.ensures.shows;
+      none = none_behind c.args.plan.now c.args.class c.args.from c.loop-next.next c.next.new.from c.loop-next.invariant.none c.in_default.ensures.shows;
     }
 
 pub loop-next-preserved : goal.loop-next-preserved
 loop-next-preserved c =
-    let next : c.loop-next.next ≤ c.min-end.result =
+    let next : c.loop-next.next < c.next.new.from =
     omega (
       arith,
       c.min-end.ensures,
+      c.in_default.ensures.past,
       c.end.ensures,
       ap (λ (t : Litmus). choices_before t (c.loop-next.cursor.combination + 1)) (c.loop-next.invariant.same c.loop-next-test.true),
       c.loop-next.invariant.high c.loop-next-test.true,
@@ -57,11 +57,10 @@ loop-next-preserved c =
     ) in
     record {
       after = omega (arith, next, c.loop-next.invariant.after);
-      before = omega (arith, c.min-end.ensures);
       same = λ more. absurd (omega (arith, more, c.if-next-to.false));
       low = λ more. absurd (omega (arith, more, c.if-next-to.false));
       high = λ more. absurd (omega (arith, more, c.if-next-to.false));
-      none = none_behind c.args.plan.now c.args.class c.args.from c.loop-next.next c.min-end.result c.loop-next.invariant.none c.in_default.ensures.shows;
+      none = none_behind c.args.plan.now c.args.class c.args.from c.loop-next.next c.next.new.from c.loop-next.invariant.none c.in_default.ensures.shows;
     }
 
 pub next-requires-clause-known : goal.next-requires-clause-known

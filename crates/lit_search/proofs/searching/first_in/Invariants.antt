@@ -8,7 +8,6 @@ use Rattle.lit_search.proofs.searching.first_in.Given as goal
 abbrev pub invariant-loop-next : goal.invariant-loop-next
 invariant-loop-next l = record {
   after : l.from ≤ l.next;
-  before : l.next ≤ l.to;
   same : l.next < l.to → l.cursor.test ≡ l.plan;
   low : l.next < l.to → low_at l.cursor ≤ l.next;
   high : l.next < l.to → l.next < choices_before l.plan (l.cursor.combination + 1);

@@ -1,22 +1,23 @@
 use Rattle.std.proofs.Common.{◌<◌, ℕ, ap, refl, subst, sym, arith}
 use Rattle.lit_search.specs.Collected.{Collected, HasTaken}
 use Rattle.lit_search.specs.Report.{in_either, in_range}
-use Rattle.lit_search.proofs.Keeping.{taken_more}
-use Rattle.lit_search.proofs.RacingLemmas.{still_unmarked}
+use Rattle.lit_search.proofs.Keeping.{keeps_seen, taken_more}
+use Rattle.lit_search.proofs.RacingLemmas.{marks_wider, still_unmarked}
 use Rattle.lit_search.proofs.collector.Collector.go_on.Goals as goal
 
 pub keep_range-requires-clause-seen : goal.keep_range-requires-clause-seen
 keep_range-requires-clause-seen c = c.self.invariant.seen
 
 pub is_marked_with-self-inside-requires-clause-barren : goal.is_marked_with-self-inside-requires-clause-barren
-is_marked_with-self-inside-requires-clause-barren c none = c.self.invariant.barren (still_unmarked c.self.inside.race c.keep_range.new.race c.in_ok-keep_range.ensures.marks.stays none)
+is_marked_with-self-inside-requires-clause-barren c none = c.self.invariant.barren (still_unmarked c.self.inside.race c.keep_range.new.race c.in_ok-self-inside.ensures.marks.stays none)
 
 pub invariant_of-self-2 : goal.invariant_of-self-2
 invariant_of-self-2 c =
     let More : Collected → Type 0 = λ x. x.end < c.args.to in
     record {
       before = omega (arith, c.self.invariant.before, subst More (sym c.self.view_is) c.requires.more);
-      seen = c.in_ok-keep_range.ensures.seen;
+      ahead = c.in_ok-self-inside.ensures.past;
+      seen = c.in_ok-self-inside.ensures.seen;
       barren = c.is_marked_with-self-inside.ensures.barren;
     }
 
@@ -27,4 +28,6 @@ returns-clause-taken c taken h =
     let new : Collected = record { test = x.plan.now; end = c.args.to; report = record { entries = c.keep_range.new.kept; race = c.is_marked_with-self-inside.result } } in
     subst (λ (n : ℕ). HasTaken (in_either taken (in_range n c.args.to)) new) (ap (λ (y : Collected). y.end) c.self.view_is)
     (taken_more x.plan.now x.end c.args.to taken c.keep_range.new.race (record { test = x.plan.now; end = x.end; report = record { entries = x.kept; race = x.race } }) new refl refl (omega arith)
-    (omega (arith, subst More (sym c.self.view_is) c.requires.more)) refl c.in_ok-keep_range.ensures.keeps c.in_ok-keep_range.ensures.marks c.is_marked_with-self-inside.ensures.marked (subst (HasTaken taken) (sym c.self.view_is) h))
+    (omega (arith, subst More (sym c.self.view_is) c.requires.more)) refl
+    (keeps_seen x.plan.now x.row x.end x.seen c.args.to x.kept c.keep_range.new.kept c.self.invariant.before c.self.invariant.ahead (omega (arith, subst More (sym c.self.view_is) c.requires.more)) c.self.invariant.seen c.in_ok-self-inside.ensures.keeps)
+    (marks_wider x.plan.now x.end x.seen c.args.to x.race c.keep_range.new.race c.self.invariant.ahead c.in_ok-self-inside.ensures.marks) c.is_marked_with-self-inside.ensures.marked (subst (HasTaken taken) (sym c.self.view_is) h))

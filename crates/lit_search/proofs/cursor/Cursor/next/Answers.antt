@@ -1,4 +1,5 @@
 use Rattle.std.proofs.Common.{◌≡◌, ℕ, ◌+◌, ◌-◌, ◌*◌, ◌<◌, ◌≤◌, List, length, refl, ap, sym, subst, ◌∙◌, arith}
+use Rattle.lit_read.specs.Syntax.{Litmus}
 use Rattle.lit_paths.specs.ByteReads.{byte_reads}
 use Rattle.lit_paths.specs.Plan.{choices_before}
 use Rattle.lit_rel.specs.Part.{PartModel, part_events}
@@ -16,7 +17,7 @@ use Rattle.lit_search.proofs.PlaceLemmas.{ways_end}
 use Rattle.lit_search.proofs.cursor.Cursor.next.Goals as goal
 
 pub loop-self-init : goal.loop-self-init
-loop-self-init g c = record { test = c.requires.test; combination = refl; none = none_at_first c.args.plan.now (g.W.Wanted.IsWanted c.args.wanted.now c.args.plan.now) c.args.from (low_at c.args.self.now) c.requires.low }
+loop-self-init g c = record { test = c.requires.test; combination = refl; none = none_at_first c.args.plan.now (g.W.Wanted.IsWanted c.args.wanted.now c.args.plan.now) c.args.from.now (low_at c.args.self.now) c.requires.low }
 
 pub returns-then-not-leave-clause-shows : goal.returns-then-not-leave-clause-shows
 returns-then-not-leave-clause-shows g c =
@@ -24,9 +25,9 @@ returns-then-not-leave-clause-shows g c =
     let Wanted = g.W.Wanted.IsWanted c.args.wanted.now t in
     let s = c.loop-self.self in
     let may = c.in-Some.ensures.passed in
-    let more = passed_on t Wanted c.args.from (low_at s) s c.in-Some.depth c.loop-self.invariant.none may.low may in
-    let all = shows_on t Wanted c.args.since c.args.from (behind_at (first_places s c.in-Some.depth)) (choices_before t (s.combination + 1)) c.requires.seen more (c.leave.ensures.last c.if-not-leave.true) in
-    none_up_to t Wanted c.args.from c.args.to _ (omega (arith, c.requires.high, ap (λ (k : ℕ). choices_before t (k + 1)) c.loop-self.invariant.combination)) all
+    let more = passed_on t Wanted c.args.from.now (low_at s) s c.in-Some.depth c.loop-self.invariant.none may.low may in
+    none_up_to t Wanted c.args.from.now c.end.result (choices_before t (s.combination + 1)) (omega (arith, c.end.ensures, ap (λ (u : Litmus). choices_before u (c.leave.new.self.combination + 1)) (c.leave.ensures.test ∙ c.loop-self.invariant.test), ap (λ (k : ℕ). choices_before t (k + 1)) c.leave.ensures.combination))
+    (shows_on t Wanted c.args.since c.args.from.now (behind_at (first_places s c.in-Some.depth)) (choices_before t (s.combination + 1)) c.requires.seen more (c.leave.ensures.last c.if-not-leave.true))
 
 pub loop-self-smaller-else-not-leave : goal.loop-self-smaller-else-not-leave
 loop-self-smaller-else-not-leave g c =
@@ -50,8 +51,8 @@ loop-self-preserved-else-not-leave g c =
     record {
       test = c.leave.ensures.test ∙ c.loop-self.invariant.test;
       combination = c.leave.ensures.combination ∙ c.loop-self.invariant.combination;
-      none = shows_on t Wanted c.args.since c.args.from (behind_at (first_places s c.in-Some.depth)) (low_at c.leave.new.self) c.requires.seen
-          (passed_on t Wanted c.args.from (low_at s) s c.in-Some.depth c.loop-self.invariant.none may.low may) (c.leave.ensures.nothing c.if-not-leave.false);
+      none = shows_on t Wanted c.args.since c.args.from.now (behind_at (first_places s c.in-Some.depth)) (low_at c.leave.new.self) c.requires.seen
+          (passed_on t Wanted c.args.from.now (low_at s) s c.in-Some.depth c.loop-self.invariant.none may.low may) (c.leave.ensures.nothing c.if-not-leave.false);
     }
 
 pub enter-requires-clause-left : goal.enter-requires-clause-left
@@ -71,8 +72,8 @@ returns-then-not-enter-clause-shows g c =
     let t = c.args.plan.now in
     let Wanted = g.W.Wanted.IsWanted c.args.wanted.now t in
     let s = c.loop-self.self in
-    none_up_to t Wanted c.args.from c.args.to _ (omega (arith, c.requires.high, ap (λ (k : ℕ). choices_before t (k + 1)) c.loop-self.invariant.combination))
-    (shows_on t Wanted c.args.since c.args.from (low_at s) (choices_before t (s.combination + 1)) c.requires.seen c.loop-self.invariant.none (c.enter.ensures.last c.if-not-enter.true))
+    none_up_to t Wanted c.args.from.now c.end-then-not-enter.result (choices_before t (s.combination + 1)) (omega (arith, c.end-then-not-enter.ensures, ap (λ (u : Litmus). choices_before u (c.enter.new.self.combination + 1)) (c.enter.ensures.test ∙ c.loop-self.invariant.test), ap (λ (k : ℕ). choices_before t (k + 1)) c.enter.ensures.combination))
+    (shows_on t Wanted c.args.since c.args.from.now (low_at s) (choices_before t (s.combination + 1)) c.requires.seen c.loop-self.invariant.none (c.enter.ensures.last c.if-not-enter.true))
 
 pub loop-self-smaller-else-not-enter : goal.loop-self-smaller-else-not-enter
 loop-self-smaller-else-not-enter g c =
@@ -102,7 +103,7 @@ loop-self-preserved-else-not-enter g c =
     record {
       test = c.enter.ensures.test ∙ c.loop-self.invariant.test;
       combination = c.enter.ensures.combination ∙ c.loop-self.invariant.combination;
-      none = shows_on t Wanted c.args.since c.args.from (low_at s) (low_at c.enter.new.self) c.requires.seen c.loop-self.invariant.none (c.enter.ensures.nothing c.if-not-enter.false);
+      none = shows_on t Wanted c.args.since c.args.from.now (low_at s) (low_at c.enter.new.self) c.requires.seen c.loop-self.invariant.none (c.enter.ensures.nothing c.if-not-enter.false);
     }
 
 pub shown-requires-clause-all : goal.shown-requires-clause-all
@@ -144,7 +145,7 @@ returns-in-Some-shown-clause-shows g c =
       example = subst (λ (o : List ℕ). IsExample t (low_at s) o shown.example.order.items) (sym outcome) c.in-Some-shown.ensures.shows;
       wanted = subst (λ (o : List ℕ). Wanted o) (sym outcome) (open'.wanted all);
     } in
-    next_shown t Wanted c.args.from c.args.to (low_at s) (shown_entry shown) (omega (arith, open'.behind, one)) (omega (arith, c.loop-self-test.true, c.low.ensures)) c.loop-self.invariant.none is
+    next_shown t Wanted c.args.from.now c.args.to (low_at s) (shown_entry shown) (omega (arith, open'.behind, one)) (omega (arith, c.loop-self-test.true, c.low.ensures)) c.loop-self.invariant.none is
 
 pub returns-in-Some-shown-clause-all : goal.returns-in-Some-shown-clause-all
 returns-in-Some-shown-clause-all g c =
@@ -172,10 +173,10 @@ returns-then-not-leave-2-clause-shows g c =
     let Wanted = g.W.Wanted.IsWanted c.args.wanted.now t in
     let s = c.loop-self.self in
     let deep = c.len-depth.ensures.value ∙ length-part s c.part-in_default-shown.result.now c.part-in_default-shown.ensures.value in
-    let may = pass_invalid s t Wanted c.args.from c.len-depth.result deep c.in_default-shown.ensures.none in
-    let more = passed_on t Wanted c.args.from (low_at s) s c.len-depth.result c.loop-self.invariant.none may.low may in
-    let all = shows_on t Wanted c.args.since c.args.from (behind_at (first_places s c.len-depth.result)) (choices_before t (s.combination + 1)) c.requires.seen more (c.leave-in_default-shown.ensures.last c.if-not-leave-2.true) in
-    none_up_to t Wanted c.args.from c.args.to _ (omega (arith, c.requires.high, ap (λ (k : ℕ). choices_before t (k + 1)) c.loop-self.invariant.combination)) all
+    let may = pass_invalid s t Wanted c.args.from.now c.len-depth.result deep c.in_default-shown.ensures.none in
+    let more = passed_on t Wanted c.args.from.now (low_at s) s c.len-depth.result c.loop-self.invariant.none may.low may in
+    none_up_to t Wanted c.args.from.now c.end-then-not-leave-2.result (choices_before t (s.combination + 1)) (omega (arith, c.end-then-not-leave-2.ensures, ap (λ (u : Litmus). choices_before u (c.leave-in_default-shown.new.self.combination + 1)) (c.leave-in_default-shown.ensures.test ∙ c.loop-self.invariant.test), ap (λ (k : ℕ). choices_before t (k + 1)) c.leave-in_default-shown.ensures.combination))
+    (shows_on t Wanted c.args.since c.args.from.now (behind_at (first_places s c.len-depth.result)) (choices_before t (s.combination + 1)) c.requires.seen more (c.leave-in_default-shown.ensures.last c.if-not-leave-2.true))
 
 pub loop-self-smaller : goal.loop-self-smaller
 loop-self-smaller g c =
@@ -184,7 +185,7 @@ loop-self-smaller g c =
     let s = c.loop-self.self in
     let new = c.leave-in_default-shown.new.self in
     let deep = c.len-depth.ensures.value ∙ length-part s c.part-in_default-shown.result.now c.part-in_default-shown.ensures.value in
-    let may = pass_invalid s t Wanted c.args.from c.len-depth.result deep c.in_default-shown.ensures.none in
+    let may = pass_invalid s t Wanted c.args.from.now c.len-depth.result deep c.in_default-shown.ensures.none in
     let next : behind_at (first_places s c.len-depth.result) ≤ low_at new = c.leave-in_default-shown.ensures.next c.if-not-leave-2.false in
     let reads = same_reads s s.test s.combination new refl refl c.leave-in_default-shown.ensures.test c.leave-in_default-shown.ensures.combination in
     omega (
@@ -199,16 +200,16 @@ loop-self-preserved g c =
     let Wanted = g.W.Wanted.IsWanted c.args.wanted.now t in
     let s = c.loop-self.self in
     let deep = c.len-depth.ensures.value ∙ length-part s c.part-in_default-shown.result.now c.part-in_default-shown.ensures.value in
-    let may = pass_invalid s t Wanted c.args.from c.len-depth.result deep c.in_default-shown.ensures.none in
+    let may = pass_invalid s t Wanted c.args.from.now c.len-depth.result deep c.in_default-shown.ensures.none in
     record {
       test = c.leave-in_default-shown.ensures.test ∙ c.loop-self.invariant.test;
       combination = c.leave-in_default-shown.ensures.combination ∙ c.loop-self.invariant.combination;
-      none = shows_on t Wanted c.args.since c.args.from (behind_at (first_places s c.len-depth.result)) (low_at c.leave-in_default-shown.new.self) c.requires.seen
-          (passed_on t Wanted c.args.from (low_at s) s c.len-depth.result c.loop-self.invariant.none may.low may) (c.leave-in_default-shown.ensures.nothing c.if-not-leave-2.false);
+      none = shows_on t Wanted c.args.since c.args.from.now (behind_at (first_places s c.len-depth.result)) (low_at c.leave-in_default-shown.new.self) c.requires.seen
+          (passed_on t Wanted c.args.from.now (low_at s) s c.len-depth.result c.loop-self.invariant.none may.low may) (c.leave-in_default-shown.ensures.nothing c.if-not-leave-2.false);
     }
 
 pub returns-clause-shows : goal.returns-clause-shows
-returns-clause-shows g c = none_up_to c.args.plan.now (g.W.Wanted.IsWanted c.args.wanted.now c.args.plan.now) c.args.from c.args.to (low_at c.loop-self.self) (omega (arith, c.loop-self-test.false, c.low.ensures)) c.loop-self.invariant.none
+returns-clause-shows g c = none_up_to c.args.plan.now (g.W.Wanted.IsWanted c.args.wanted.now c.args.plan.now) c.args.from.now c.low-2.result (low_at c.loop-self.self) (omega (arith, c.low-2.ensures)) c.loop-self.invariant.none
 
 pub passed-requires-clause-seen : goal.passed-requires-clause-seen
-passed-requires-clause-seen g c = seen_on c.args.plan.now (g.W.Wanted.IsWanted c.args.wanted.now c.args.plan.now) c.args.since c.args.from (low_at c.loop-self.self) c.requires.seen c.loop-self.invariant.none
+passed-requires-clause-seen g c = seen_on c.args.plan.now (g.W.Wanted.IsWanted c.args.wanted.now c.args.plan.now) c.args.since c.args.from.now (low_at c.loop-self.self) c.requires.seen c.loop-self.invariant.none

@@ -9,7 +9,7 @@ abbrev pub invariant-loop-self : goal.invariant-loop-self
 invariant-loop-self g l = record {
   test : l.self.test ≡ l.plan;
   combination : l.self.combination ≡ l.fn.self.combination;
-  none : NoneShow l.plan (g.W.Wanted.IsWanted l.wanted l.plan) (in_range l.from (low_at l.self));
+  none : NoneShow l.plan (g.W.Wanted.IsWanted l.wanted l.plan) (in_range l.fn.from (low_at l.self));
 }
 
 abbrev pub decreases-loop-self : goal.decreases-loop-self
