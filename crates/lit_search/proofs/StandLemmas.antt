@@ -15,6 +15,7 @@ use Rattle.lit_rel.specs.Part.{IsNextSource, PartModel, part_events, with_source
 use Rattle.lit_search.specs.declared.cursor.Cursor.TheInside.{Inside}
 use Rattle.lit_search.specs.Completion.{IsEntered}
 use Rattle.lit_search.specs.Internal.Places.{ArePlaces, Stand, behind_at, candidates_at, low_at, part_at, passed_at, sources_at, stand_events, with_places}
+use Rattle.lit_search.specs.Internal.Held.{reads_held}
 use Rattle.lit_search.specs.Internal.RefusedSources.{AreRefused}
 use Rattle.lit_search.specs.Internal.Standing.{IsStanding}
 use Rattle.lit_search.proofs.PlaceLemmas.{length-sources, passed_more, placed_front, placed_last, placed_more, sources_more, ways_end, ways_split, within}
@@ -77,11 +78,12 @@ pub record Moved (y : Inside) (part : PartModel) (places : List ℕ) : Type 0 wh
   pub few : y.end ≤ CHOICE_LIMIT
   pub last : y.end ≡ choices_before part.test (part.combination + 1)
   pub refused : AreRefused part.test part.combination y.refused.items
+  pub held : y.held.items ≡ reads_held part.test part.combination
 
 pub standing_moved : (y : Inside) (part : PartModel) (places : List ℕ) → y.part ≡ part → y.places.items ≡ places → Moved y part places → IsStanding y
 standing_moved y part places part_is places_are m =
     let here : Moved y y.part y.places.items = subst (λ (q : PartModel). Moved y q y.places.items) (sym part_is) (subst (λ (ps : List ℕ). Moved y part ps) (sym places_are) m) in
-    record { entered = here.entered; placed = here.placed; given = here.given; count = here.count; first = here.first; sound = here.sound; few = here.few; last = here.last; refused = here.refused }
+    record { entered = here.entered; placed = here.placed; given = here.given; count = here.count; first = here.first; sound = here.sound; few = here.few; last = here.last; refused = here.refused; held = here.held }
 
 module _ (x : Inside) (is : IsStanding x) where
   abbrev its_events : List Event
@@ -128,8 +130,8 @@ module _ (x : Inside) (is : IsStanding x) where
     }
 
     pub standing_down : (y : Inside) → y.part ≡ with_sources x.part (x.part.sources ++ slice_index (candidates_at its_events (length x.places.items)) p ∷ []) → y.places.items ≡ x.places.items ++ p ∷ []
-        → y.low ≡ x.low + p * ways_from its_events (length x.places.items + 1) → y.end ≡ x.end → y.refused.items ≡ x.refused.items → IsStanding y
-    standing_down y part places low end refused =
+        → y.low ≡ x.low + p * ways_from its_events (length x.places.items + 1) → y.end ≡ x.end → y.refused.items ≡ x.refused.items → y.held.items ≡ x.held.items → IsStanding y
+    standing_down y part places low end refused held =
         let q : PartModel = with_sources x.part (x.part.sources ++ slice_index (candidates_at its_events (length x.places.items)) p ∷ []) in
         let given : q.sources ≡ sources_at its_events 0 (x.places.items ++ p ∷ []) =
         ap (λ (ws : List ℕ). ws ++ slice_index (candidates_at its_events (length x.places.items)) p ∷ []) is.given
@@ -145,6 +147,7 @@ module _ (x : Inside) (is : IsStanding x) where
           few = omega (arith, is.few, end);
           last = end ∙ is.last;
           refused = subst (AreRefused x.part.test x.part.combination) (sym refused) is.refused;
+          held = held ∙ is.held;
         } in
         standing_moved y q (x.places.items ++ p ∷ []) part places moved
 
@@ -186,8 +189,8 @@ module _ (x : Inside) (is : IsStanding x) where
             all_front (u ∷ vs) v = ap (λ (us : List ℕ). u ∷ us) (all_front vs v)
 
     pub standing_up : (y : Inside) → y.part ≡ with_sources x.part (take (length x.part.sources - 1) x.part.sources) → y.places.items ≡ ps
-        → y.low ≡ x.low - p * ways_from its_events (length ps + 1) → y.end ≡ x.end → y.refused.items ≡ x.refused.items → IsStanding y
-    standing_up y part places low end refused =
+        → y.low ≡ x.low - p * ways_from its_events (length ps + 1) → y.end ≡ x.end → y.refused.items ≡ x.refused.items → y.held.items ≡ x.held.items → IsStanding y
+    standing_up y part places low end refused held =
         let moved : Moved y (with_sources x.part (take (length x.part.sources - 1) x.part.sources)) ps = record {
           entered = record { litmus = is.entered.litmus; known = is.entered.known };
           placed = placed_front its_events 0 ps p placed_split;
@@ -198,6 +201,7 @@ module _ (x : Inside) (is : IsStanding x) where
           few = omega (arith, is.few, end);
           last = end ∙ is.last;
           refused = subst (AreRefused x.part.test x.part.combination) (sym refused) is.refused;
+          held = held ∙ is.held;
         } in
         standing_moved y _ ps part places moved
 

@@ -25,6 +25,7 @@ ghost use Rattle.lit_search.specs.Internal.Others.{AddsNothing};
 ghost use Rattle.lit_search.specs.Internal.Passing.{first_places};
 ghost use Rattle.lit_search.specs.Internal.Places.{ArePlaces, behind_at, candidates_at, low_at, part_at, stand_events, with_places};
 
+use crate::cursor::held::{HeldReads, set_held};
 use crate::cursor::refused_sources::{RefusedSources, set_refused};
 use arrayvec::ArrayVec;
 use lit_order::{ForcedPart, Order};
@@ -40,6 +41,8 @@ pub(crate) struct Cursor<'p> {
     part: ForcedPart<'p>,
     /// What tests refuse on the combination.
     refused: RefusedSources,
+    /// What registers hold on the combination.
+    held: HeldReads,
     /// The place of each source given among the candidates of its byte read.
     places: ArrayVec<u8, BYTE_READ_LIMIT>,
     /// The number of the first choice that begins with these sources.
@@ -71,11 +74,14 @@ impl<'p> Cursor<'p> {
         let part = ForcedPart::open(plan, combination);
         let mut refused = RefusedSources::new();
         set_refused(&mut refused, part.part());
+        let mut held = HeldReads::new();
+        set_held(&mut held, plan, part.part());
         let low = part.combination().first();
         let end = part.combination().end();
         Cursor {
             part,
             refused,
+            held,
             places: ArrayVec::new(),
             low,
             end,
@@ -91,6 +97,7 @@ impl<'p> Cursor<'p> {
         let _test = plan.test();
         self.part.reopen(plan, combination);
         set_refused(&mut self.refused, self.part.part());
+        set_held(&mut self.held, plan, self.part.part());
         self.places.clear();
         self.low = self.part.combination().first();
         self.end = self.part.combination().end();

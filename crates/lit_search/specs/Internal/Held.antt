@@ -12,6 +12,10 @@ use Rattle.lit_rel.specs.ReadsFrom.{value_of}
 abbrev pub read_held : Litmus → ℕ → ℕ × ℕ → Option ℕ
 read_held t c name = number_on (first_event t c name.0) (slice_index_or (path_in t c name.0).last name.1 None)
 
+-- the reads that the registers of an outcome hold
+abbrev pub reads_held : Litmus → ℕ → List (Option ℕ)
+reads_held t c = map (read_held t c) (names_of t)
+
 -- the value of a read by the sources given, or 0 where there is none
 abbrev pub value_held : PartModel → Option ℕ → ℕ
 value_held part None = 0

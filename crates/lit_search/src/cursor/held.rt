@@ -5,13 +5,14 @@ ghost use Rattle.lit_read.specs.declared.limits.TheConstants.{REGISTERS};
 ghost use Rattle.lit_paths.specs.ByteReads.{byte_reads};
 ghost use Rattle.lit_paths.specs.Outcome.{names_of};
 ghost use Rattle.lit_rel.specs.Part.{part_events};
-ghost use Rattle.lit_search.specs.Internal.Held.{part_outcome, read_held as read_of, value_held as value_of};
+ghost use Rattle.lit_search.specs.Internal.Held.{part_outcome, read_held as read_of, reads_held, value_held as value_of};
 ghost use Rattle.lit_search.specs.Internal.Wanting.{AllKnownAfter};
 
 use crate::cursor::wanted::Wanted;
 use crate::found::Outcome;
-use lit_paths::Plan;
+use arrayvec::ArrayVec;
 use lit_paths::laws::combinations_are_walked;
+use lit_paths::{NAME_LIMIT, Plan};
 use lit_rel::Part;
 
 /// The number of the read that a register holds at the end, named by agent and register; `None` where it was not
@@ -28,27 +29,42 @@ fn read_held(part: &Part<'_>, name: (u8, u8)) -> Option<u8>
     Some(combination.first_event(agent) + place)
 }
 
-/// What a register holds at the end by the sources given.
-fn value_held(part: &Part<'_>, name: (u8, u8)) -> u32
-    requires agent { name.0 < length part.now.test.agents }
-    requires reg { name.1 < REGISTERS }
-    ensures { result ≡ value_of part.now (read_of part.now.test part.now.combination name) }
+/// The read that each register of an outcome holds at the end, in the order of `Plan::names`; `None` for one that was not
+/// written.
+pub(crate) type HeldReads = ArrayVec<Option<u8>, NAME_LIMIT>;
+
+/// Makes them those of a part's combination. The part is one of the plan's test.
+pub(crate) fn set_held(held: &mut HeldReads, plan: &Plan<'_>, part: &Part<'_>)
+    requires { part.now.test ≡ plan.now }
+    ensures { held.new.items ≡ reads_held part.now.test part.now.combination }
 {
-    match read_held(part, name) {
+    held.clear();
+    for name in plan.names() {
+        held.push(read_held(part, *name));
+    }
+}
+
+/// What a register holds at the end by the sources given, which holds this read.
+fn value_held(part: &Part<'_>, held: Option<u8>) -> u32
+    ensures { result ≡ value_of part.now held }
+{
+    match held {
         Some(read) => part.value(read),
         None => 0,
     }
 }
 
-/// The outcome of a part by the sources given. The part is one of the plan's test.
-pub(crate) fn outcome_of(plan: &Plan<'_>, part: &Part<'_>) -> Outcome
-    requires { part.now.test ≡ plan.now }
+/// The outcome of a part by the sources given, whose registers hold these reads. The part is one of the plan's test.
+pub(crate) fn outcome_of(plan: &Plan<'_>, part: &Part<'_>, held: &HeldReads) -> Outcome
+    requires test { part.now.test ≡ plan.now }
+    requires held { held.now.items ≡ reads_held part.now.test part.now.combination }
     ensures value { result.items ≡ part_outcome part.now }
     ensures named { All (λ name. (name.0 < length part.now.test.agents) × (name.1 < REGISTERS)) (names_of part.now.test) }
 {
+    let _names = plan.names();
     let mut outcome = Outcome::new();
-    for name in plan.names() {
-        outcome.push(value_held(part, *name));
+    for read in held.as_slice() {
+        outcome.push(value_held(part, *read));
     }
     outcome
 }

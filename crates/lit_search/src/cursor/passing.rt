@@ -45,7 +45,7 @@ impl Cursor<'_> {
         if part.len() < known {
             return false;
         }
-        !wanted.wants(plan, outcome_of(plan, part).as_slice())
+        !wanted.wants(plan, outcome_of(plan, part, &self.held).as_slice())
     }
 
     /// Whether the event that made a byte can stand for its last source, with choices from number `since` on.
@@ -131,7 +131,7 @@ impl Cursor<'_> {
         let Some(order) = self.least_order() else {
             return None;
         };
-        let outcome = outcome_of(plan, part);
+        let outcome = outcome_of(plan, part, &self.held);
         let choice = self.low();
         let example = Example { choice, order };
         Some(Shown { outcome, example })

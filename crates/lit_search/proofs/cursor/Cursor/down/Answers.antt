@@ -80,4 +80,4 @@ invariant_of-self c =
     standing_down x is c.args.place left known _
     (c.push.ensures ∙ ap (λ (w : ℕ). with_sources x.part (x.part.sources ++ w ∷ [])) same)
     c.push-2.ensures.items
-    (ap (λ (n : ℕ). x.low + n) (ap₂ (λ (a b : ℕ). a * b) c.from.ensures ways)) refl refl
+    (ap (λ (n : ℕ). x.low + n) (ap₂ (λ (a b : ℕ). a * b) c.from.ensures ways)) refl refl refl
