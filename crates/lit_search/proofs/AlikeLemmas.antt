@@ -1,178 +1,199 @@
 -- Choices that may be passed over, since a lesser source that stores the same bytes stands for one of their sources.
-use Rattle.std.proofs.Common.{◌≡◌, ◌≢◌, ◌⊎◌, ◌==◌, inl, inr, ℕ, zero, suc, ◌+◌, ◌-◌, ◌<◌, ◌≤◌, Bool, true, false, cond, List, [], ◌∷◌, ◌++◌, length, filter, map, take, get_or, ◌*◌, Some, refl, sym, ap, subst, ◌∙◌, arith}
-use Rattle.std.specs.Prelude.{slice_get}
+use Rattle.std.proofs.Common.{◌≡◌, ◌≢◌, ◌⊎◌, ◌==◌, inl, inr, ℕ, zero, suc, ◌+◌, ◌<◌, ◌≤◌, Bool, true, false, cond, List, [], ◌∷◌, ◌++◌, length, filter, map, take, get_or, ◌*◌, Some, refl, sym, ap, subst, ◌∙◌, append-nil, arith}
+use Rattle.std.specs.Prelude.{slice_get, slice_index}
 use Rattle.std.specs.List.{zip}
 use Rattle.std.specs.Cmp.{nat_cmp_is}
 use Rattle.std.specs.Cmp.Lexicographic.{slice_cmp}
 use Rattle.std.specs.Ordering.{nat_cmp, ordering_then}
 use Rattle.std.specs.declared.cmp.Ordering.{Ordering}
 use Rattle.std.specs.declared.cmp.Ordering.TheVariants.{Less, Equal}
-use Rattle.std.proofs.lemmas.Bool.{cases_eq, cases_lt}
+use Rattle.std.proofs.lemmas.Bool.{cases_eq, cases_lt, eq-eqb, eqb-true, false≢true}
 use Rattle.std.proofs.lemmas.List.{length-take-le, take_more}
-use Rattle.std.proofs.lemmas.Option.{none-some, same_Some}
+use Rattle.std.proofs.lemmas.Option.{get_or_from_slice_get, none-some, same_Some, slice_get_within}
 use Rattle.lit_read.specs.Syntax.{Litmus}
 use Rattle.lit_paths.specs.declared.event.Event.{Event}
-use Rattle.lit_paths.specs.ByteReads.{IsCandidate, byte_reads}
+use Rattle.lit_paths.specs.ByteReads.{IsCandidate, byte_read_at, byte_reads}
 use Rattle.lit_paths.specs.Choice.{AreSources, choice_cmp, choices_of}
 use Rattle.lit_paths.specs.Event.{event_at, payload_at}
 use Rattle.lit_paths.specs.Execution.{Execution, execution_choice}
 use Rattle.lit_paths.specs.Numbers.{IsBegunBy, ways_from}
 use Rattle.lit_paths.specs.Path.{Path}
+use Rattle.lit_paths.specs.Plan.{ListsCandidates, events_in}
 use Rattle.lit_paths.specs.Run.{run_path}
 use Rattle.lit_rel.specs.Broken.{HasFalseTestOn, IsBroken}
 use Rattle.lit_rel.specs.Coherent.{IsCoherentRead}
+use Rattle.lit_rel.specs.Growth.{IsGivenWhole}
 use Rattle.lit_rel.specs.HappensBefore.{HappensBefore}
 use Rattle.lit_rel.specs.OtherSources.{AreSameBut, IsPlainSource}
-use Rattle.lit_rel.specs.Part.{PartModel}
+use Rattle.lit_rel.specs.Part.{PartModel, part_events, with_sources}
 use Rattle.lit_rel.specs.ReadsFrom.{ReadsByteFrom, composed, value_of}
 use Rattle.lit_rel.specs.Settled.{HasSettledPast}
 use Rattle.lit_rel.specs.TearFree.{CanReadWhole, HasTearFreeReads, ReadsWholeBy}
 use Rattle.lit_rel.proofs.EdgeLemmas.{HappensBeforeBy-transitive}
 use Rattle.lit_rel.proofs.OtherSourceLemmas.{order_stays_with_others, taken}
-use Rattle.lit_rel.proofs.PlaceLemmas.{place-left}
+use Rattle.lit_rel.proofs.PlaceLemmas.{place-left, place_from-left}
+use Rattle.lit_search.specs.declared.cursor.Cursor.TheInside.{Inside}
 use Rattle.lit_search.specs.Completion.{Completes, IsEntered}
 use Rattle.lit_search.specs.Report.{Gives, in_range}
 use Rattle.lit_search.specs.StandsFor.{AreAsGood, HasOneWith}
-use Rattle.lit_search.specs.Internal.Alike.{HasAlike, StoresAlike}
+use Rattle.lit_search.specs.Internal.Alike.{FitsAt, HasAlike, StoresAlike, TakesEach, TakesOne}
 use Rattle.lit_search.specs.Internal.Laws.{Laws}
 use Rattle.lit_search.specs.Internal.Passing.{MayPass, first_places}
-use Rattle.lit_search.specs.Internal.Places.{ArePlaces, Stand, behind_at, low_at, part_at, passed_at, sources_at, stand_events}
+use Rattle.lit_search.specs.Internal.Places.{ArePlaces, Stand, behind_at, candidates_at, low_at, part_at, passed_at, sources_at, stand_events}
 use Rattle.lit_search.specs.Internal.Shown.{NoneShow}
-use Rattle.lit_search.proofs.CompletionLemmas.{carried}
+use Rattle.lit_search.specs.Internal.Standing.{IsStanding}
+use Rattle.lit_search.proofs.CompletionLemmas.{carried, not_broken}
 use Rattle.lit_search.proofs.ExchangeLemmas.{others_stand, past_stays}
 use Rattle.lit_search.proofs.PassingLemmas.{at_numbers, completed}
 use Rattle.lit_search.proofs.PlaceLemmas.{length-sources, passed_more, placed_take}
 use Rattle.lit_search.proofs.RunLemmas.{maps}
+use Rattle.lit_search.proofs.StandLemmas.{candidates_here, stand_of}
 use Rattle.lit_search.proofs.StoodForLemmas.{GivesLess, less_number, pass_lesser, sources_take}
 
--- ---- sources with v in place of w wherever read r has it
+-- ---- sources with v in place of w at those byte reads of r that have it and are chosen
 module _ (r w v : ℕ) where
-  picked : (q u : ℕ) → (q ≡ r) ⊎ (q ≢ r) → (u ≡ w) ⊎ (u ≢ w) → ℕ
-  picked q u (inl is) (inl has) = v
-  picked q u (inl is) (inr has) = u
-  picked q u (inr is) has = u
+  picked : (q u : ℕ) → (q ≡ r) ⊎ (q ≢ r) → (u ≡ w) ⊎ (u ≢ w) → Bool → ℕ
+  picked q u (inl is) (inl has) true = v
+  picked q u (inl is) (inl has) false = u
+  picked q u (inl is) (inr has) here = u
+  picked q u (inr is) has here = u
 
   -- the source that a byte read of q has in place of u: it is exchanged, or stays
-  abbrev IsPicked : ℕ → ℕ → ℕ → Type 0
-  IsPicked q u new = ((q ≡ r) × (u ≡ w) × (new ≡ v)) ⊎ ((new ≡ u) × (q ≡ r → u ≢ w))
+  abbrev IsPicked : ℕ → ℕ → Bool → ℕ → Type 0
+  IsPicked q u here new = ((here ≡ true) × (q ≡ r) × (u ≡ w) × (new ≡ v)) ⊎ ((new ≡ u) × (here ≡ true → q ≡ r → u ≢ w))
 
-  is_picked : (q u : ℕ) (here : (q ≡ r) ⊎ (q ≢ r)) (has : (u ≡ w) ⊎ (u ≢ w)) → IsPicked q u (picked q u here has)
+  is_picked : (q u : ℕ) (is : (q ≡ r) ⊎ (q ≢ r)) (has : (u ≡ w) ⊎ (u ≢ w)) (here : Bool) → IsPicked q u here (picked q u is has here)
   unfolding picked
-  is_picked q u (inl is) (inl has) = inl (is, has, refl)
-  is_picked q u (inl is) (inr has) = inr (refl, λ _. has)
-  is_picked q u (inr is) has = inr (refl, λ same. absurd (is same))
+  is_picked q u (inl is) (inl has) true = inl (refl, is, has, refl)
+  is_picked q u (inl is) (inl has) false = inr (refl, λ not_here. absurd (false≢true not_here))
+  is_picked q u (inl is) (inr has) here = inr (refl, λ _ _. has)
+  is_picked q u (inr is) has here = inr (refl, λ _ same. absurd (is same))
 
-  swapped : List (ℕ × ℕ) → List ℕ → List ℕ
-  swapped [] us = us
-  swapped (p ∷ ps) [] = []
-  swapped (p ∷ ps) (u ∷ us) = picked p.0 u (cases_eq p.0 r) (cases_eq u w) ∷ swapped ps us
+  swapped : (ℕ → Bool) → List (ℕ × ℕ) → List ℕ → List ℕ
+  swapped here [] us = us
+  swapped here (p ∷ ps) [] = []
+  swapped here (p ∷ ps) (u ∷ us) = picked p.0 u (cases_eq p.0 r) (cases_eq u w) (here zero) ∷ swapped (λ i. here (suc i)) ps us
 
-  swapped_long : (ps : List (ℕ × ℕ)) (us : List ℕ) → length (swapped ps us) ≡ length us
+  swapped_long : (here : ℕ → Bool) (ps : List (ℕ × ℕ)) (us : List ℕ) → length (swapped here ps us) ≡ length us
   unfolding swapped
-  swapped_long [] us = refl
-  swapped_long (p ∷ ps) [] = refl
-  swapped_long (p ∷ ps) (u ∷ us) = ap suc (swapped_long ps us)
+  swapped_long here [] us = refl
+  swapped_long here (p ∷ ps) [] = refl
+  swapped_long here (p ∷ ps) (u ∷ us) = ap suc (swapped_long (λ i. here (suc i)) ps us)
 
   -- what stands at a place
-  pub record StoodAt (us : List ℕ) (i q new : ℕ) : Type 0 where
+  pub record StoodAt (us : List ℕ) (i q : ℕ) (here : Bool) (new : ℕ) : Type 0 where
     pub old : ℕ
     pub at : slice_get us i ≡ Some old
-    pub is : IsPicked q old new
+    pub is : IsPicked q old here new
 
-  stood : (ps : List (ℕ × ℕ)) (us : List ℕ) (i q b new : ℕ) → slice_get ps i ≡ Some (q, b) → slice_get (swapped ps us) i ≡ Some new → StoodAt us i q new
+  stood : (here : ℕ → Bool) (ps : List (ℕ × ℕ)) (us : List ℕ) (i q b new : ℕ) → slice_get ps i ≡ Some (q, b) → slice_get (swapped here ps us) i ≡ Some new → StoodAt us i q (here i) new
   unfolding swapped
-  stood [] us i q b new at from = absurd (none-some {A = ℕ × ℕ} (q, b) at)
-  stood (p ∷ ps) [] i q b new at from = absurd (none-some new from)
-  stood (p ∷ ps) (u ∷ us) zero q b new at from =
+  stood here [] us i q b new at from = absurd (none-some {A = ℕ × ℕ} (q, b) at)
+  stood here (p ∷ ps) [] i q b new at from = absurd (none-some new from)
+  stood here (p ∷ ps) (u ∷ us) zero q b new at from =
       let same : p ≡ (q, b) = same_Some p (q, b) at in
-      let head : picked p.0 u (cases_eq p.0 r) (cases_eq u w) ≡ new = same_Some (picked p.0 u (cases_eq p.0 r) (cases_eq u w)) new from in
+      let first : ℕ = picked p.0 u (cases_eq p.0 r) (cases_eq u w) (here zero) in
+      let head : first ≡ new = same_Some first new from in
       record {
         old = u;
         at = refl;
-        is = subst (λ (n : ℕ). IsPicked q u n) head (subst (λ (x : ℕ × ℕ). IsPicked x.0 u (picked p.0 u (cases_eq p.0 r) (cases_eq u w))) same (is_picked p.0 u (cases_eq p.0 r) (cases_eq u w)));
+        is = subst (λ (n : ℕ). IsPicked q u (here zero) n) head (subst (λ (x : ℕ × ℕ). IsPicked x.0 u (here zero) first) same (is_picked p.0 u (cases_eq p.0 r) (cases_eq u w) (here zero)));
       }
-  stood (p ∷ ps) (u ∷ us) (suc i) q b new at from = let s = stood ps us i q b new at from in record { old = s.old; at = s.at; is = s.is }
+  stood here (p ∷ ps) (u ∷ us) (suc i) q b new at from = let s = stood (λ k. here (suc k)) ps us i q b new at from in record { old = s.old; at = s.at; is = s.is }
 
   -- other reads keep theirs
-  kept : (ps : List (ℕ × ℕ)) (us : List ℕ) (i q b : ℕ) → slice_get ps i ≡ Some (q, b) → q ≢ r → slice_get (swapped ps us) i ≡ slice_get us i
+  kept : (here : ℕ → Bool) (ps : List (ℕ × ℕ)) (us : List ℕ) (i q b : ℕ) → slice_get ps i ≡ Some (q, b) → q ≢ r → slice_get (swapped here ps us) i ≡ slice_get us i
   unfolding swapped
-  kept [] us i q b at other = refl
-  kept (p ∷ ps) [] i q b at other = refl
-  kept (p ∷ ps) (u ∷ us) zero q b at other =
+  kept here [] us i q b at other = refl
+  kept here (p ∷ ps) [] i q b at other = refl
+  kept here (p ∷ ps) (u ∷ us) zero q b at other =
       ap (λ (x : ℕ). Some x)
-      (elim (is_picked p.0 u (cases_eq p.0 r) (cases_eq u w)) [
-        | inl is ↦ absurd (other (sym (ap (λ (x : ℕ × ℕ). x.0) (same_Some p (q, b) at)) ∙ is.0))
+      (elim (is_picked p.0 u (cases_eq p.0 r) (cases_eq u w) (here zero)) [
+        | inl is ↦ absurd (other (sym (ap (λ (x : ℕ × ℕ). x.0) (same_Some p (q, b) at)) ∙ is.1))
         | inr is ↦ is.0
       ])
-  kept (p ∷ ps) (u ∷ us) (suc i) q b at other = kept ps us i q b at other
+  kept here (p ∷ ps) (u ∷ us) (suc i) q b at other = kept (λ k. here (suc k)) ps us i q b at other
 
-  -- and so the first sources stay, where none is of the read
-  front_stays : (ps : List (ℕ × ℕ)) (us : List ℕ) (n : ℕ) → ((k q b : ℕ) → k < n → slice_get ps k ≡ Some (q, b) → q ≢ r) → (tail : List ℕ) × (swapped ps us ≡ take n us ++ tail)
+  -- and so the first sources stay, where none that is of the read is chosen
+  front_stays : (here : ℕ → Bool) (ps : List (ℕ × ℕ)) (us : List ℕ) (n : ℕ) → ((k q b : ℕ) → k < n → slice_get ps k ≡ Some (q, b) → here k ≡ true → q ≢ r)
+      → (tail : List ℕ) × (swapped here ps us ≡ take n us ++ tail)
   unfolding swapped
-  front_stays ps us zero others = (swapped ps us, refl)
-  front_stays [] us (suc n) others = split us (suc n)
+  front_stays here ps us zero others = (swapped here ps us, refl)
+  front_stays here [] us (suc n) others = split us (suc n)
     where
       split : (xs : List ℕ) (m : ℕ) → (tail : List ℕ) × (xs ≡ take m xs ++ tail)
       split xs zero = (xs, refl)
       split [] (suc m) = ([], refl)
       split (x ∷ xs) (suc m) = let s = split xs m in (s.0, ap (λ (ys : List ℕ). x ∷ ys) s.1)
-  front_stays (p ∷ ps) [] (suc n) others = ([], refl)
-  front_stays (p ∷ ps) (u ∷ us) (suc n) others =
-      let later = front_stays ps us n (λ k q b less at. others (suc k) q b (omega (arith, less)) at) in
-      let head : picked p.0 u (cases_eq p.0 r) (cases_eq u w) ≡ u =
-      elim (is_picked p.0 u (cases_eq p.0 r) (cases_eq u w)) [
-        | inl is ↦ absurd (others 0 p.0 p.1 (omega arith) refl is.0)
+  front_stays here (p ∷ ps) [] (suc n) others = ([], refl)
+  front_stays here (p ∷ ps) (u ∷ us) (suc n) others =
+      let next : ℕ → Bool = λ k. here (suc k) in
+      let later = front_stays next ps us n (λ k q b less at. others (suc k) q b (omega (arith, less)) at) in
+      let head : picked p.0 u (cases_eq p.0 r) (cases_eq u w) (here zero) ≡ u =
+      elim (is_picked p.0 u (cases_eq p.0 r) (cases_eq u w) (here zero)) [
+        | inl is ↦ absurd (others 0 p.0 p.1 (omega arith) refl is.0 is.1)
         | inr is ↦ is.0
       ] in
-      (later.0, ap (λ (x : ℕ). x ∷ swapped ps us) head ∙ ap (λ (ys : List ℕ). u ∷ ys) later.1)
+      (later.0, ap (λ (x : ℕ). x ∷ swapped next ps us) head ∙ ap (λ (ys : List ℕ). u ∷ ys) later.1)
 
   -- ---- they are less
   module _ (less : v < w) where
-    then_less : (ps : List (ℕ × ℕ)) (us : List ℕ) (k b : ℕ) → slice_get ps k ≡ Some (r, b) → slice_get us k ≡ Some w → slice_cmp nat_cmp (swapped ps us) us ≡ Less
+    then_less : (here : ℕ → Bool) (ps : List (ℕ × ℕ)) (us : List ℕ) (k b : ℕ) → slice_get ps k ≡ Some (r, b) → slice_get us k ≡ Some w → here k ≡ true → slice_cmp nat_cmp (swapped here ps us) us ≡ Less
     unfolding swapped
-    then_less [] us k b at from = absurd (none-some {A = ℕ × ℕ} (r, b) at)
-    then_less (p ∷ ps) [] k b at from = absurd (none-some w from)
-    then_less (p ∷ ps) (u ∷ us) zero b at from =
-        elim (is_picked p.0 u (cases_eq p.0 r) (cases_eq u w)) [
-          | inl is ↦ ap (λ (o : Ordering). ordering_then o (slice_cmp nat_cmp (swapped ps us) us)) (sym (nat_cmp_is (picked p.0 u (cases_eq p.0 r) (cases_eq u w)) u Less (omega (arith, is.1, is.2, less))))
-          | inr is ↦ absurd (is.1 (ap (λ (x : ℕ × ℕ). x.0) (same_Some p (r, b) at)) (same_Some u w from))
+    then_less here [] us k b at from is_here = absurd (none-some {A = ℕ × ℕ} (r, b) at)
+    then_less here (p ∷ ps) [] k b at from is_here = absurd (none-some w from)
+    then_less here (p ∷ ps) (u ∷ us) zero b at from is_here =
+        let first : ℕ = picked p.0 u (cases_eq p.0 r) (cases_eq u w) (here zero) in
+        let later = swapped (λ k. here (suc k)) ps us in
+        elim (is_picked p.0 u (cases_eq p.0 r) (cases_eq u w) (here zero)) [
+          | inl is ↦ ap (λ (o : Ordering). ordering_then o (slice_cmp nat_cmp later us)) (sym (nat_cmp_is first u Less (omega (arith, is.2, is.3, less))))
+          | inr is ↦ absurd (is.1 is_here (ap (λ (x : ℕ × ℕ). x.0) (same_Some p (r, b) at)) (same_Some u w from))
         ]
-    then_less (p ∷ ps) (u ∷ us) (suc k) b at from =
-        let later = then_less ps us k b at from in
-        elim (is_picked p.0 u (cases_eq p.0 r) (cases_eq u w)) [
-          | inl is ↦ ap (λ (o : Ordering). ordering_then o (slice_cmp nat_cmp (swapped ps us) us)) (sym (nat_cmp_is (picked p.0 u (cases_eq p.0 r) (cases_eq u w)) u Less (omega (arith, is.1, is.2, less))))
-          | inr is ↦ ap (λ (o : Ordering). ordering_then o (slice_cmp nat_cmp (swapped ps us) us)) (sym (nat_cmp_is (picked p.0 u (cases_eq p.0 r) (cases_eq u w)) u Equal is.0)) ∙ later
+    then_less here (p ∷ ps) (u ∷ us) (suc k) b at from is_here =
+        let first : ℕ = picked p.0 u (cases_eq p.0 r) (cases_eq u w) (here zero) in
+        let next : ℕ → Bool = λ i. here (suc i) in
+        let later = then_less next ps us k b at from is_here in
+        elim (is_picked p.0 u (cases_eq p.0 r) (cases_eq u w) (here zero)) [
+          | inl is ↦ ap (λ (o : Ordering). ordering_then o (slice_cmp nat_cmp (swapped next ps us) us)) (sym (nat_cmp_is first u Less (omega (arith, is.2, is.3, less))))
+          | inr is ↦ ap (λ (o : Ordering). ordering_then o (slice_cmp nat_cmp (swapped next ps us) us)) (sym (nat_cmp_is first u Equal is.0)) ∙ later
         ]
 
   -- ---- values stay where the bytes are the same
   module _ (events : List Event) (q : ℕ) where
-    taken_alike : (ps : List (ℕ × ℕ)) (us : List ℕ) → ((k b : ℕ) → slice_get ps k ≡ Some (r, b) → slice_get us k ≡ Some w → payload_at (event_at events v) b ≡ payload_at (event_at events w) b)
-        → taken events q ps (swapped ps us) ≡ taken events q ps us
+    taken_alike : (here : ℕ → Bool) (ps : List (ℕ × ℕ)) (us : List ℕ)
+        → ((k b : ℕ) → slice_get ps k ≡ Some (r, b) → slice_get us k ≡ Some w → here k ≡ true → payload_at (event_at events v) b ≡ payload_at (event_at events w) b)
+        → taken events q ps (swapped here ps us) ≡ taken events q ps us
     unfolding swapped
-    taken_alike [] us same = refl
-    taken_alike (p ∷ ps) [] same = refl
-    taken_alike (p ∷ ps) (u ∷ us) same =
+    taken_alike here [] us same = refl
+    taken_alike here (p ∷ ps) [] same = refl
+    taken_alike here (p ∷ ps) (u ∷ us) same =
         by (p.0 == q)
-        (elim (is_picked p.0 u (cases_eq p.0 r) (cases_eq u w)) [
+        (elim (is_picked p.0 u (cases_eq p.0 r) (cases_eq u w) (here zero)) [
           | inl is ↦
-              ap (λ (x : ℕ). payload_at (event_at events x) p.1) is.2
-              ∙ same 0 p.1 (ap (λ (x : ℕ). Some (x, p.1)) is.0) (ap (λ (x : ℕ). Some x) is.1)
-              ∙ sym (ap (λ (x : ℕ). payload_at (event_at events x) p.1) is.1)
+              ap (λ (x : ℕ). payload_at (event_at events x) p.1) is.3
+              ∙ same 0 p.1 (ap (λ (x : ℕ). Some (x, p.1)) is.1) (ap (λ (x : ℕ). Some x) is.2) is.0
+              ∙ sym (ap (λ (x : ℕ). payload_at (event_at events x) p.1) is.2)
           | inr is ↦ ap (λ (x : ℕ). payload_at (event_at events x) p.1) is.0
         ])
-        (taken_alike ps us (λ k b at from. same (suc k) b at from))
+        (taken_alike next ps us (λ k b at from. same (suc k) b at from))
       where
-        by : (t : Bool) → payload_at (event_at events (picked p.0 u (cases_eq p.0 r) (cases_eq u w))) p.1 ≡ payload_at (event_at events u) p.1 → taken events q ps (swapped ps us) ≡ taken events q ps us
-            → map (λ (x : (ℕ × ℕ) × ℕ). payload_at (event_at events x.1) x.0.1) (cond t ((p, picked p.0 u (cases_eq p.0 r) (cases_eq u w)) ∷ filter {X = (ℕ × ℕ) × ℕ} (λ x. x.0.0 == q) (zip ps (swapped ps us))) (filter (λ x. x.0.0 == q) (zip ps (swapped ps us))))
+        next : ℕ → Bool
+        next k = here (suc k)
+
+        first : ℕ
+        first = picked p.0 u (cases_eq p.0 r) (cases_eq u w) (here zero)
+
+        by : (t : Bool) → payload_at (event_at events first) p.1 ≡ payload_at (event_at events u) p.1 → taken events q ps (swapped next ps us) ≡ taken events q ps us
+            → map (λ (x : (ℕ × ℕ) × ℕ). payload_at (event_at events x.1) x.0.1) (cond t ((p, first) ∷ filter {X = (ℕ × ℕ) × ℕ} (λ x. x.0.0 == q) (zip ps (swapped next ps us))) (filter (λ x. x.0.0 == q) (zip ps (swapped next ps us))))
             ≡ map (λ (x : (ℕ × ℕ) × ℕ). payload_at (event_at events x.1) x.0.1) (cond t ((p, u) ∷ filter {X = (ℕ × ℕ) × ℕ} (λ x. x.0.0 == q) (zip ps us)) (filter (λ x. x.0.0 == q) (zip ps us)))
-        by true here later =
-            ap (λ (x : ℕ). x ∷ taken events q ps (swapped ps us)) here
+        by true now later =
+            ap (λ (x : ℕ). x ∷ taken events q ps (swapped next ps us)) now
             ∙ ap (λ (xs : List ℕ). payload_at (event_at events u) p.1 ∷ xs) later
-        by false here later = later
+        by false now later = later
 
 -- ---- the choices of a stand
 module _ (laws : Laws) (s : Stand) (entered : IsEntered (part_at s)) (placed : ArePlaces (stand_events s) 0 s.places) (few : length s.places ≤ length (byte_reads (stand_events s)))
-    (whole : ¬ IsBroken (part_at s)) (first : ℕ) (is : HasAlike (part_at s) first) (deep : first ≤ length s.places) where
+    (first : ℕ) (is : HasAlike (part_at s) first) (deep : first ≤ length s.places) where
   abbrev t : Litmus
   t = s.test
 
@@ -186,10 +207,10 @@ module _ (laws : Laws) (s : Stand) (entered : IsEntered (part_at s)) (placed : A
   r = is.read
 
   abbrev w : ℕ
-  w = is.source
+  w = is.some.source
 
   abbrev v : ℕ
-  v = is.other
+  v = is.some.other
 
   abbrev front : Stand
   front = first_places s first
@@ -206,38 +227,72 @@ module _ (laws : Laws) (s : Stand) (entered : IsEntered (part_at s)) (placed : A
   past_of : (u : ℕ) → HappensBefore events part.sources u r → HasSettledPast events part.sources u
   past_of u before = record { itself = is.past.earlier u before; earlier = λ d h. is.past.earlier d (through d u r h before) }
 
+  -- the byte reads of r whose source w is exchanged: one of them, or each
+  abbrev Takes : Type 0
+  Takes = TakesOne part r is.some.place first w v ⊎ TakesEach part r first w v
+
+  here_by : Takes → ℕ → Bool
+  here_by (inl one) k = k == is.some.place
+  here_by (inr each) k = true
+
+  abbrev here : ℕ → Bool
+  here = here_by is.some.alike.takes
+
+  here_at_place : (takes : Takes) → here_by takes is.some.place ≡ true
+  unfolding here_by
+  here_at_place (inl one) = eq-eqb is.some.place is.some.place refl
+  here_at_place (inr each) = refl
+
+  before_here : (takes : Takes) (k q b : ℕ) → k < first → slice_get (byte_reads events) k ≡ Some (q, b) → here_by takes k ≡ true → q ≢ r
+  unfolding here_by
+  before_here (inl one) k q b less at is_here = absurd (omega (arith, less, one.few, eqb-true k is.some.place is_here))
+  before_here (inr each) k q b less at is_here = each.before k q b less at
+
   module _ (x : Execution) (goes : Completes part x) where
     abbrev others : List ℕ
-    others = swapped r w v (byte_reads events) x.sources
+    others = swapped r w v here (byte_reads events) x.sources
 
     sourced : AreSources events x.sources
     sourced = subst (λ (ws : List ℕ). AreSources events ws) (sym goes.begun) (carried part x goes AreSources goes.valid.candidate.sourced)
 
-    -- what v stores at a byte that the read has from w
-    alike : (k b : ℕ) → slice_get (byte_reads events) k ≡ Some (r, b) → slice_get x.sources k ≡ Some w → StoresAlike part r b w v
-    alike k b at from =
+    -- where the read has all its bytes, they have the sources of the part
+    is_given : (each : TakesEach part r first w v) (k b u : ℕ) → slice_get (byte_reads events) k ≡ Some (r, b) → slice_get x.sources k ≡ Some u → slice_get part.sources k ≡ Some u
+    is_given each k b u at from = place_from-left part.sources goes.rest k u (each.given k b at) (ap (λ (ws : List ℕ). slice_get ws k) (sym goes.begun) ∙ from)
+
+    fits : (each : TakesEach part r first w v) (k b : ℕ) → slice_get (byte_reads events) k ≡ Some (r, b) → FitsAt part r k w v
+    fits each k b at =
         elim (cases_lt k first) [
-          | inl less ↦ absurd (is.before k r b less at refl)
-          | inr later ↦ is.alike.stored k r b later (is.given k b at) at (sourced.each k r b w at from).in_range
+          | inl less ↦ absurd (each.before k r b less at refl)
+          | inr later ↦ each.fit k later (each.given k b at)
         ]
 
+    -- what v stores at a byte that the read has from w
+    alike_by : (takes : Takes) (k b : ℕ) → slice_get (byte_reads events) k ≡ Some (r, b) → slice_get x.sources k ≡ Some w → here_by takes k ≡ true → StoresAlike part r b w v
+    unfolding here_by
+    alike_by (inl one) k b at from is_here = one.stored r b (ap (slice_get (byte_reads events)) (sym (eqb-true k is.some.place is_here)) ∙ at)
+    alike_by (inr each) k b at from is_here = (fits each k b at).stored (is_given each k b w at from) r b at
+
+    alike : (k b : ℕ) → slice_get (byte_reads events) k ≡ Some (r, b) → slice_get x.sources k ≡ Some w → here k ≡ true → StoresAlike part r b w v
+    alike = alike_by is.some.alike.takes
+
     elsewhere : AreSameBut events r x.sources others
-    elsewhere i q b at other = kept r w v (byte_reads events) x.sources i q b at other
+    elsewhere i q b at other = kept r w v here (byte_reads events) x.sources i q b at other
 
     candidates : (i q b new : ℕ) → slice_get (byte_reads events) i ≡ Some (q, b) → slice_get others i ≡ Some new → IsCandidate events q b new
     candidates i q b new at from =
-        let there = stood r w v (byte_reads events) x.sources i q b new at from in
+        let there = stood r w v here (byte_reads events) x.sources i q b new at from in
         elim there.is [
           | inl new_is ↦
-              (let here : slice_get (byte_reads events) i ≡ Some (r, b) = at ∙ ap (λ (n : ℕ). Some (n, b)) new_is.0 in
-              let stores = alike i b here (there.at ∙ ap (λ (n : ℕ). Some n) new_is.1) in
-              subst (λ (n : ℕ). IsCandidate events q b n) (sym new_is.2)
-              (record { known = is.candidate.known; writes = is.candidate.writes; in_range = stores.in_range; other = λ e. is.candidate.other (e ∙ new_is.0) }))
+              (let of_read : slice_get (byte_reads events) i ≡ Some (r, b) = at ∙ ap (λ (n : ℕ). Some (n, b)) new_is.1 in
+              let stores = alike i b of_read (there.at ∙ ap (λ (n : ℕ). Some n) new_is.2) new_is.0 in
+              let candidate = is.some.alike.candidate in
+              subst (λ (n : ℕ). IsCandidate events q b n) (sym new_is.3)
+              (record { known = candidate.known; writes = candidate.writes; in_range = stores.in_range; other = λ e. candidate.other (e ∙ new_is.1) }))
           | inr same ↦ sourced.each i q b new at (there.at ∙ ap (λ (n : ℕ). Some n) (sym same.0))
         ]
 
     others_sourced : AreSources events others
-    others_sourced = record { one_each = swapped_long r w v (byte_reads events) x.sources ∙ sourced.one_each; each = candidates }
+    others_sourced = record { one_each = swapped_long r w v here (byte_reads events) x.sources ∙ sourced.one_each; each = candidates }
 
     -- what happens before an event with a settled past is what did
     stays : (e d : ℕ) → HasSettledPast events part.sources e → HappensBefore events others d e → HappensBefore events part.sources d e
@@ -245,7 +300,7 @@ module _ (laws : Laws) (s : Stand) (entered : IsEntered (part_at s)) (placed : A
 
     coherent : (b : ℕ) → StoresAlike part r b w v → IsCoherentRead events (HappensBefore events others) r b v
     coherent b stores = record {
-      not_later = λ later. stores.coherent.not_later (stays v r is.alike.can.past later);
+      not_later = λ later. stores.coherent.not_later (stays v r is.some.alike.can.past later);
       not_hidden = λ u hides.
           let before : HappensBefore events part.sources u r = stays r u is.past hides.before_read in
           stores.coherent.not_hidden u record { writes = hides.writes; in_range = hides.in_range; after_source = stays u v (past_of u before) hides.after_source; before_read = before };
@@ -253,75 +308,86 @@ module _ (laws : Laws) (s : Stand) (entered : IsEntered (part_at s)) (placed : A
 
     plain : (b new : ℕ) → ReadsByteFrom events others r b new → ReadsByteFrom events x.sources r b new ⊎ IsPlainSource events (HappensBefore events others) r b new
     plain b new (i, at, from) =
-        let there = stood r w v (byte_reads events) x.sources i r b new at from in
+        let there = stood r w v here (byte_reads events) x.sources i r b new at from in
         elim there.is [
           | inl new_is ↦
-              inr (subst (λ (n : ℕ). IsPlainSource events (HappensBefore events others) r b n) (sym new_is.2)
-              (record { ordered = is.alike.can.ordered; coherent = coherent b (alike i b at (there.at ∙ ap (λ (n : ℕ). Some n) new_is.1)) }))
+              inr (subst (λ (n : ℕ). IsPlainSource events (HappensBefore events others) r b n) (sym new_is.3)
+              (record { ordered = is.some.alike.can.ordered; coherent = coherent b (alike i b at (there.at ∙ ap (λ (n : ℕ). Some n) new_is.2) new_is.0) }))
           | inr same ↦ inl (i, at, there.at ∙ ap (λ (n : ℕ). Some n) (sym same.0))
         ]
 
-    -- a source that is read whole was one, or stands for one
-    pub record WasWhole (new : ℕ) : Type 0 where
-      pub old : ℕ
-      pub reads : ReadsWholeBy events (ReadsByteFrom events x.sources) r old
-      pub how : ((old ≡ w) × (new ≡ v)) ⊎ ((new ≡ old) × (old ≢ w))
+    -- a source that is read whole is v, or was one, and is not w where each is exchanged
+    abbrev WasWhole : ℕ → Type 0
+    WasWhole new = ReadsWholeBy events (ReadsByteFrom events x.sources) r new × ((each : TakesEach part r first w v) → ((k : ℕ) → here k ≡ true) → new ≡ v)
 
-    was_whole_at : (new b : ℕ) → ReadsByteFrom events others r b new → CanReadWhole (event_at events r) (event_at events new) → WasWhole new
+    was_whole_at : (new b : ℕ) → ReadsByteFrom events others r b new → CanReadWhole (event_at events r) (event_at events new) → (new ≡ v) ⊎ WasWhole new
     was_whole_at new b (i, at, from) can =
-        let there = stood r w v (byte_reads events) x.sources i r b new at from in
+        let there = stood r w v here (byte_reads events) x.sources i r b new at from in
         elim there.is [
-          | inl new_is ↦ record {
-            old = w;
-            reads = record { reads = (b, (i, at, there.at ∙ ap (λ (n : ℕ). Some n) new_is.1)); can = is.alike.whole (subst (λ (n : ℕ). CanReadWhole (event_at events r) (event_at events n)) new_is.2 can) };
-            how = inl (refl, new_is.2);
-          }
-          | inr same ↦ record {
-            old = new;
-            reads = record { reads = (b, (i, at, there.at ∙ ap (λ (n : ℕ). Some n) (sym same.0))); can = can };
-            how = inr (refl, λ e. same.1 refl (sym same.0 ∙ e));
-          }
+          | inl new_is ↦ inl new_is.3
+          | inr same ↦
+              (let old : slice_get x.sources i ≡ Some new = there.at ∙ ap (λ (n : ℕ). Some n) (sym same.0) in
+              inr (
+                record { reads = (b, (i, at, old)); can = can },
+                λ each all.
+                    let not_w : new ≢ w = λ e. same.1 (all i) refl (sym same.0 ∙ e) in
+                    elim (cases_eq new v) [
+                      | inl is_v ↦ is_v
+                      | inr not_v ↦ absurd ((fits each i b at).whole new (is_given each i b new at old) not_w not_v can)
+                    ],
+              ))
         ]
 
-    was_whole : (new : ℕ) → ReadsWholeBy events (ReadsByteFrom events others) r new → WasWhole new
+    was_whole : (new : ℕ) → ReadsWholeBy events (ReadsByteFrom events others) r new → (new ≡ v) ⊎ WasWhole new
     was_whole new reads = was_whole_at new reads.reads.0 reads.reads.1 reads.can
+
+    all_here : (takes : Takes) → takes ≡ is.some.alike.takes → (new : ℕ) → CanReadWhole (event_at events r) (event_at events new) → new ≡ v → TakesEach part r first w v × ((k : ℕ) → here k ≡ true)
+    unfolding here_by
+    all_here (inl one) same new can is_v = absurd (one.torn (subst (λ (n : ℕ). CanReadWhole (event_at events r) (event_at events n)) is_v can))
+    all_here (inr each) same new can is_v = (each, λ k. ap (λ (takes : Takes). here_by takes k) (sym same))
 
     tear_free : HasTearFreeReads events x.sources → (a c : ℕ) → ReadsWholeBy events (ReadsByteFrom events others) r a → ReadsWholeBy events (ReadsByteFrom events others) r c → c ≡ a
     tear_free has a c one two =
-        let before = was_whole a one in
-        let after = was_whole c two in
-        let same : after.old ≡ before.old = has r before.old after.old before.reads after.reads in
-        elim before.how [
-          | inl new_is ↦ elim after.how [
-            | inl too ↦ too.1 ∙ sym new_is.1
-            | inr old ↦ absurd (old.1 (same ∙ new_is.0))
+        elim (was_whole a one) [
+          | inl a_is ↦ elim (was_whole c two) [
+            | inl c_is ↦ c_is ∙ sym a_is
+            | inr c_was ↦ (let all = all_here is.some.alike.takes refl a one.can a_is in c_was.1 all.0 all.1 ∙ sym a_is)
           ]
-          | inr old_is ↦ elim after.how [
-            | inl new ↦ absurd (old_is.1 (sym same ∙ new.0))
-            | inr too ↦ too.0 ∙ same ∙ sym old_is.0
+          | inr a_was ↦ elim (was_whole c two) [
+            | inl c_is ↦ (let all = all_here is.some.alike.takes refl c two.can c_is in c_is ∙ sym (a_was.1 all.0 all.1))
+            | inr c_was ↦ has r a c a_was.0 c_was.0
           ]
         ]
 
     value_same : value_of events others r ≡ value_of events x.sources r
-    value_same = ap composed (taken_alike r w v events r (byte_reads events) x.sources (λ k b at from. (alike k b at from).same))
+    value_same = ap composed (taken_alike r w v events r here (byte_reads events) x.sources (λ k b at from is_here. (alike k b at from is_here).same))
 
-    value_given : value_of events x.sources r ≡ value_of events part.sources r
-    value_given = ap (λ (ws : List ℕ). value_of events ws r) goes.begun ∙ laws.stay events part.sources goes.rest r is.given
+    -- the tests on the read are true of the value that it has
+    abbrev complete : PartModel
+    complete = with_sources part x.sources
+
+    whole : ¬ IsBroken complete
+    whole =
+        not_broken complete x (record { valid = goes.valid; on_paths = goes.on_paths; rest = []; begun = sym (append-nil x.sources) }) laws laws.grow laws.stay
+        (record { litmus = entered.litmus; known = entered.known })
+
+    all_given : IsGivenWhole events x.sources r
+    all_given i b at = omega (arith, slice_get_within (byte_reads events) i (r, b) at, sourced.one_each)
 
     as_good : AreAsGood t s.combination x.sources others r
     as_good = record {
       can = record { sourced = others_sourced; elsewhere = elsewhere; unordered = is.unordered; plain = plain; whole = tear_free };
       held = λ _. value_same;
-      tested = λ bad. whole (inr (inr (r, is.given, subst (λ (n : ℕ). HasFalseTestOn t s.combination (Some r) n) (value_same ∙ value_given) bad)));
+      tested = λ bad. whole (inr (inr (r, all_given, subst (λ (n : ℕ). HasFalseTestOn t s.combination (Some r) n) value_same bad)));
     }
 
     another : HasOneWith t others x
     another = others_stand laws t s.combination x others r entered.litmus (record { known = entered.known; on_paths = goes.on_paths }) goes.valid as_good
 
-    -- begins with the same sources before the read
+    -- begins with the same sources before the place
     begun : (m : ℕ) → slice_get (choices_of t) m ≡ Some (execution_choice another.0) → IsBegunBy t s.combination (sources_at events 0 front.places) m
     begun m at =
-        let tail = front_stays r w v (byte_reads events) x.sources first is.before in
+        let tail = front_stays r w v here (byte_reads events) x.sources first (before_here is.some.alike.takes) in
         let same : take first x.sources ≡ sources_at events 0 front.places =
         ap (take first) goes.begun ∙ take_front first part.sources goes.rest (omega (arith, deep, long)) ∙ sources_take events 0 s.places first in
         record {
@@ -340,8 +406,8 @@ module _ (laws : Laws) (s : Stand) (entered : IsEntered (part_at s)) (placed : A
     lesser : choice_cmp (execution_choice another.0) (execution_choice x) ≡ Less
     lesser =
         another.1.choice
-        ∙ then_less r w v is.less (byte_reads events) x.sources (length part.sources - 1) is.byte is.is_read
-        (ap (λ (ws : List ℕ). slice_get ws (length part.sources - 1)) goes.begun ∙ place-left part.sources goes.rest (length part.sources - 1) w is.is_source)
+        ∙ then_less r w v is.some.alike.less here (byte_reads events) x.sources is.some.place is.some.alike.byte is.some.alike.is_read
+        (ap (λ (ws : List ℕ). slice_get ws is.some.place) goes.begun ∙ place-left part.sources goes.rest is.some.place w is.some.alike.is_source) (here_at_place is.some.alike.takes)
 
   pub alike_less : (n : ℕ) (outcome : List ℕ) → low_at s ≤ n → n < behind_at s → Gives t n outcome → GivesLess t (low_at front) n outcome
   alike_less n outcome low high g =
@@ -357,12 +423,54 @@ module _ (laws : Laws) (s : Stand) (entered : IsEntered (part_at s)) (placed : A
         gives = record { execution = y.0; valid = y.1.valid; chosen = found.1; result = y.1.outcome ∙ g.result };
       }
 
-pub pass_alike : (laws : Laws) (s : Stand) → IsEntered (part_at s) → ArePlaces (stand_events s) 0 s.places → length s.places ≤ length (byte_reads (stand_events s)) → ¬ IsBroken (part_at s)
+pub pass_alike : (laws : Laws) (s : Stand) → IsEntered (part_at s) → ArePlaces (stand_events s) 0 s.places → length s.places ≤ length (byte_reads (stand_events s))
     → (first : ℕ) → HasAlike (part_at s) first → first ≤ length s.places
     → (t : Litmus) (Wanted : List ℕ → Type 0) (since from depth : ℕ) → s.test ≡ t → depth ≡ length s.places → since ≤ low_at (first_places s first) → NoneShow t Wanted (in_range since (low_at s))
     → MayPass t Wanted from s depth
-pass_alike laws s entered placed few whole first is deep t Wanted since from depth same count after seen =
-    pass_lesser s (low_at (first_places s first)) (alike_less laws s entered placed few whole first is deep) t Wanted since from depth same count after seen
+pass_alike laws s entered placed few first is deep t Wanted since from depth same count after seen =
+    pass_lesser s (low_at (first_places s first)) (alike_less laws s entered placed few first is deep) t Wanted since from depth same count after seen
+
+-- ---- by what the code looks at
+placed_there : (events : List Event) (k : ℕ) (ps : List ℕ) (i : ℕ) → ArePlaces events k ps → i < length ps → get_or ps i 0 < length (candidates_at events (k + i))
+placed_there events k [] i placed inside = absurd (omega (arith, inside))
+placed_there events k (p ∷ ps) zero placed inside = subst (λ (j : ℕ). p < length (candidates_at events j)) (let e : k ≡ k + 0 = omega arith in e) placed.0
+placed_there events k (p ∷ ps) (suc i) placed inside =
+    subst (λ (j : ℕ). get_or ps i 0 < length (candidates_at events j)) (let e : (k + 1) + i ≡ k + suc i = omega arith in e) (placed_there events (k + 1) ps i placed.1 (omega (arith, inside)))
+
+source_there : (events : List Event) (k : ℕ) (ps : List ℕ) (i : ℕ) → i < length ps → slice_get (sources_at events k ps) i ≡ Some (slice_index (candidates_at events (k + i)) (get_or ps i 0))
+source_there events k [] i inside = absurd (omega (arith, inside))
+source_there events k (p ∷ ps) zero inside = ap (λ (j : ℕ). Some (slice_index (candidates_at events j) p)) (let e : k ≡ k + 0 = omega arith in e)
+source_there events k (p ∷ ps) (suc i) inside =
+    source_there events (k + 1) ps i (omega (arith, inside)) ∙ ap (λ (j : ℕ). Some (slice_index (candidates_at events j) (get_or ps i 0))) (let e : (k + 1) + i ≡ k + suc i = omega arith in e)
+
+-- the source of a byte read that has one
+module _ (x : Inside) (is : IsStanding x) (s : Stand) (view : stand_of x ≡ s) (place : ℕ) (inside : place < length s.places) (entered : Litmus × ℕ) (same : entered ≡ (x.part.test, x.part.combination))
+    (list : List ℕ) (listed : list ≡ candidates_at (events_in entered.0 entered.1) place) where
+  its_inside : place < length x.places.items
+  its_inside = subst (λ (u : Stand). place < length u.places) (sym view) inside
+
+  its_list : list ≡ candidates_at (part_events x.part) (0 + place)
+  its_list = candidates_here x entered same place list listed ∙ ap (candidates_at (part_events x.part)) (let e : place ≡ 0 + place = omega arith in e)
+
+  pub source_known : get_or x.places.items place 0 < length list
+  source_known = omega (arith, placed_there (part_events x.part) 0 x.places.items place is.placed its_inside, ap (λ (ws : List ℕ). length ws) its_list)
+
+  pub source_given : slice_get (part_at s).sources place ≡ Some (slice_index list (get_or x.places.items place 0))
+  source_given =
+      subst (λ (u : Stand). slice_get (part_at u).sources place ≡ Some (slice_index list (get_or x.places.items place 0))) view
+      (source_there (part_events x.part) 0 x.places.items place its_inside ∙ ap (λ (ws : List ℕ). Some (slice_index ws (get_or x.places.items place 0))) (sym its_list))
+
+-- its candidates
+pub lists_there : (p : PartModel) (e : Litmus × ℕ) → e ≡ (p.test, p.combination) → (place r b : ℕ) → slice_get (byte_reads (part_events p)) place ≡ Some (r, b) → (list : List ℕ)
+    → ListsCandidates (events_in e.0 e.1) (byte_read_at (events_in e.0 e.1) place).0 (byte_read_at (events_in e.0 e.1) place).1 list → ListsCandidates (part_events p) r b list
+lists_there p e same place r b at list lists =
+    let here = subst (λ (x : Litmus × ℕ). ListsCandidates (events_in x.0 x.1) (byte_read_at (events_in x.0 x.1) place).0 (byte_read_at (events_in x.0 x.1) place).1 list) same lists in
+    let is : byte_read_at (part_events p) place ≡ (r, b) = get_or_from_slice_get (byte_reads (part_events p)) place (r, b) (0, 0) at in
+    subst (λ (q : ℕ × ℕ). ListsCandidates (part_events p) q.0 q.1 list) is here
+
+-- a byte read with a source is one of the byte reads
+pub read_inside : (s : Stand) (p : PartModel) → p ≡ part_at s → (place : ℕ) → place < length s.places → length (part_at s).sources ≤ length (byte_reads (stand_events s)) → place < length (byte_reads (part_events p))
+read_inside s p is place inside count = subst (λ (q : PartModel). place < length (byte_reads (part_events q))) (sym is) (omega (arith, inside, count, length-sources (stand_events s) 0 s.places))
 
 -- ---- the number of the first choice with fewer sources
 pub passed_step : (events : List Event) (ps : List ℕ) (n : ℕ) → n < length ps → passed_at events 0 (take (n + 1) ps) ≡ passed_at events 0 (take n ps) + get_or ps n 0 * ways_from events (n + 1)

@@ -1,16 +1,18 @@
-//! Whether a lesser source that stores the same bytes stands for the last source of a part.
+//! Whether a lesser event that stores the same bytes stands for a source of the last read of a part.
 //!
-//! A read that is unordered has the same value from either source. So the choices with the greater one show nothing but
-//! what those with the lesser one do, if what happens before the read and before the lesser source is settled.
+//! A read that is unordered has the same value from either. So the choices with the greater one show nothing but what those
+//! with the lesser one do, if what happens before the read and before the lesser event is settled. Where the read can be
+//! whole from the lesser event, this takes the source's place in each byte that has it, and is looked for once the read has
+//! all its bytes. Else it takes the place of the last source alone.
 
-ghost use Rattle.std.specs.Prelude.{◌≡◌, ◌↔◌, ◌-◌, ℕ, ◌<◌, ◌≤◌, IfSome, IsTrue, Some, length, map, slice_get};
-ghost use Rattle.lit_paths.specs.ByteReads.{pair_of};
-ghost use Rattle.lit_paths.specs.Event.{HasByte, event_at};
+ghost use Rattle.std.specs.Prelude.{◌≡◌, ◌⊎◌, ◌↔◌, ◌-◌, ℕ, ◌<◌, ◌≤◌, IfSome, IsTrue, Some, length, map, slice_get};
+ghost use Rattle.lit_paths.specs.ByteReads.{byte_reads, pair_of};
+ghost use Rattle.lit_paths.specs.Event.{event_at};
 ghost use Rattle.lit_rel.specs.Part.{part_events};
 ghost use Rattle.lit_rel.specs.TearFree.{CanReadWhole};
-ghost use Rattle.lit_search.specs.Internal.Alike.{AllStoredAlike, AreOfOthers, HasAlike, HasLesser, IsAlike, StoresAlike, TearsNoMore};
+ghost use Rattle.lit_search.specs.Internal.Alike.{AllFit, AreOfOthers, FitsAt, HasAlike, HasAlikeAt, HasLesser, IsLastRead, IsStoredAlike, IsWholeFrom, StoresAlike, TakesEach, TakesOne};
 ghost use Rattle.lit_search.specs.Internal.Passing.{first_places};
-ghost use Rattle.lit_search.specs.Internal.Places.{low_at, part_at};
+ghost use Rattle.lit_search.specs.Internal.Places.{low_at, part_at, stand_events};
 
 use crate::cursor::Cursor;
 use crate::cursor::standing_for_others::{can_stand, is_last_of_read};
@@ -20,6 +22,16 @@ use lit_paths::laws::choices_have_numbers;
 use lit_paths::{ByteRead, Event, event_at};
 use lit_rel::{Part, payload_at};
 
+/// The read of a part's last source, by its event number.
+#[derive(Clone, Copy)]
+struct LastRead {
+    event: u8,
+    /// The place of its first byte.
+    first: usize,
+    /// Whether the last source is that of its last byte.
+    whole: bool,
+}
+
 /// Whether neither a read nor its source may tear, and their ranges are equal.
 fn can_read_whole(read: &Event, source: &Event) -> bool
     ensures { IsTrue result ↔ CanReadWhole read.now source.now }
@@ -27,88 +39,52 @@ fn can_read_whole(read: &Event, source: &Event) -> bool
     read.no_tear && source.no_tear && read.has_same_range(source)
 }
 
-/// Whether a source does not write a byte that is read, or another event stores the same there and the byte is coherent
-/// with it.
+/// Whether a read can be whole from an event: both by number.
+fn is_whole_from(part: &Part<'_>, read: u8, source: u8) -> bool
+    requires read { read < length (part_events part.now) }
+    requires source { source < length (part_events part.now) }
+    ensures { IsTrue result ↔ IsWholeFrom part.now read source }
+{
+    let events = part.combination().events();
+    can_read_whole(
+        event_at(events, usize::from(read)),
+        event_at(events, usize::from(source)),
+    )
+}
+
+/// Whether another event stores what a source does at a byte that is read, and the byte is coherent with it.
 fn stores_alike(part: &Part<'_>, at: ByteRead, source: u8, other: u8) -> bool
     requires read { at.read < length (part_events part.now) }
     requires source { source < length (part_events part.now) }
     requires other { other < length (part_events part.now) }
-    ensures { IsTrue result ↔ (HasByte (event_at (part_events part.now) source) at.byte → StoresAlike part.now at.read at.byte source other) }
+    ensures { IsTrue result → StoresAlike part.now at.read at.byte source other }
 {
     let events = part.combination().events();
     let old = event_at(events, usize::from(source));
     let new = event_at(events, usize::from(other));
-    if !old.has_byte(at.byte) {
-        return true;
-    }
     new.has_byte(at.byte)
         && payload_at(new, at.byte) == payload_at(old, at.byte)
         && part.is_coherent_with(at, other)
 }
 
-/// Whether that is so of each byte read with a source from a place on.
-fn all_stored_alike(part: &Part<'_>, first: usize, source: u8, other: u8) -> bool
+/// Whether that is so of the byte read at a place.
+fn is_stored_alike(part: &Part<'_>, place: usize, source: u8, other: u8) -> bool
+    requires place { place < length (byte_reads (part_events part.now)) }
     requires source { source < length (part_events part.now) }
     requires other { other < length (part_events part.now) }
-    ensures { IsTrue result → AllStoredAlike part.now first source other }
+    ensures { IsTrue result → IsStoredAlike part.now place source other }
 {
     laws();
-    let reads = part.combination().byte_reads();
-    for place in first..part.len() {
-        if !stores_alike(part, reads[place], source, other) {
-            return false;
-        }
-    }
-    true
+    let at = part.combination().byte_reads()[place];
+    stores_alike(part, at, source, other)
 }
 
-/// Whether a read can be whole from another event only where it can be from a source.
-fn tears_no_more(part: &Part<'_>, read: u8, source: u8, other: u8) -> bool
-    requires read { read < length (part_events part.now) }
-    requires source { source < length (part_events part.now) }
-    requires other { other < length (part_events part.now) }
-    ensures { IsTrue result → TearsNoMore part.now read source other }
+/// Whether the byte read at a place is one of a read.
+fn is_byte_of(part: &Part<'_>, place: usize, read: u8) -> bool
+    requires { place < length (byte_reads (part_events part.now)) }
+    ensures { IsTrue result → (b : ℕ) × (slice_get (byte_reads (part_events part.now)) place ≡ Some (read, b)) }
 {
-    let events = part.combination().events();
-    let reader = event_at(events, usize::from(read));
-    if can_read_whole(reader, event_at(events, usize::from(source))) {
-        return true;
-    }
-    !can_read_whole(reader, event_at(events, usize::from(other)))
-}
-
-/// Whether another event can take a source's place in a read, whose bytes are the byte reads given from a place on.
-fn is_alike(part: &Part<'_>, read: u8, first: usize, source: u8, other: u8) -> bool
-    requires read { read < length (part_events part.now) }
-    requires source { source < length (part_events part.now) }
-    requires other { other < length (part_events part.now) }
-    ensures { IsTrue result → IsAlike part.now read first source other }
-{
-    if !all_stored_alike(part, first, source, other) {
-        return false;
-    }
-    if !tears_no_more(part, read, source, other) {
-        return false;
-    }
-    can_stand(part, usize::from(other))
-}
-
-/// Whether one of the candidates is less than a source, and alike.
-fn some_is_alike(part: &Part<'_>, candidates: &[u8], read: u8, first: usize, source: u8) -> bool
-    requires read { read < length (part_events part.now) }
-    requires source { source < length (part_events part.now) }
-    requires candidates { (k w : ℕ) → slice_get candidates.now k ≡ Some w → w < length (part_events part.now) }
-    ensures { IsTrue result → HasLesser part.now candidates.now read first source }
-{
-    for candidate in candidates {
-        if *candidate >= source {
-            return false;
-        }
-        if is_alike(part, read, first, source, *candidate) {
-            return true;
-        }
-    }
-    false
+    part.combination().byte_reads()[place].read == read
 }
 
 /// The place of the first byte read of a read, of those up to a place.
@@ -124,31 +100,157 @@ fn first_of(reads: &[ByteRead], read: u8, last: usize) -> usize
     first
 }
 
-/// Where the read of the last source of a part begins, if a lesser source that is alike stands for that one.
-fn alike_from(part: &Part<'_>, source: u8) -> Option<usize>
-    requires some { 0 < length part.now.sources }
-    requires last { slice_get part.now.sources (length part.now.sources - 1) ≡ Some source }
-    ensures few { IfSome result (λ first. first ≤ length part.now.sources) }
-    ensures alike { IfSome result (λ first. HasAlike part.now first) }
-{
-    laws();
-    let combination = part.combination();
-    let reads = combination.byte_reads();
-    let last = part.len() - 1;
-    let read = reads[last].read;
-    let event = usize::from(read);
-    let first = first_of(reads, read, last);
-    if is_last_of_read(reads, last)
-        && is_unordered(event_at(combination.events(), event))
-        && some_is_alike(part, combination.candidates(last), read, first, source)
-        && part.has_settled_past(event)
-    {
-        return Some(first);
-    }
-    None
-}
-
 impl Cursor<'_> {
+    /// The source of a byte read that has one, by its place.
+    fn source(&self, place: usize) -> u8
+        requires { place < length self.now.places }
+        ensures given { slice_get (part_at self.now).sources place ≡ Some result }
+        ensures known { result < length (stand_events self.now) }
+    {
+        let candidate = self.places[place];
+        self.part.combination().candidates(place)[usize::from(candidate)]
+    }
+
+    /// Whether the byte read at a place has a source for which another event can stand there, or that other event, or one
+    /// from which its read can't be whole.
+    fn fits_at(&self, read: LastRead, place: usize, source: u8, other: u8) -> bool
+        requires last { IsLastRead (part_at self.now) read }
+        requires place { place < length self.now.places }
+        requires source { source < length (stand_events self.now) }
+        requires other { other < length (stand_events self.now) }
+        ensures { IsTrue result → FitsAt (part_at self.now) read.event place source other }
+    {
+        let part = self.part();
+        let given = self.source(place);
+        if given == source {
+            return is_stored_alike(part, place, source, other);
+        }
+        if given == other {
+            return true;
+        }
+        !is_whole_from(part, read.event, given)
+    }
+
+    /// Whether that is so of each byte of the last read.
+    fn all_fit(&self, read: LastRead, source: u8, other: u8) -> bool
+        requires last { IsLastRead (part_at self.now) read }
+        requires source { source < length (stand_events self.now) }
+        requires other { other < length (stand_events self.now) }
+        ensures { IsTrue result → AllFit (part_at self.now) read.event read.first source other }
+    {
+        for place in read.first..self.places.len() {
+            if !self.fits_at(read, place, source, other) {
+                return false;
+            }
+        }
+        true
+    }
+
+    /// Whether another event can take the place of the source at a place of the last read.
+    fn takes_place(&self, read: LastRead, place: usize, source: u8, other: u8) -> bool
+        requires last { IsLastRead (part_at self.now) read }
+        requires place { place < length self.now.places }
+        requires source { source < length (stand_events self.now) }
+        requires other { other < length (stand_events self.now) }
+        ensures { IsTrue result → TakesOne (part_at self.now) read.event place read.first source other ⊎ TakesEach (part_at self.now) read.event read.first source other }
+    {
+        let part = self.part();
+        if is_whole_from(part, read.event, other) {
+            if !read.whole {
+                return false;
+            }
+            return self.all_fit(read, source, other);
+        }
+        if place < self.places.len() - 1 {
+            return false;
+        }
+        is_stored_alike(part, place, source, other)
+    }
+
+    /// Whether one of the candidates is less than the source at a place, and can take its place.
+    fn some_takes_place(&self, candidates: &[u8], read: LastRead, place: usize, source: u8) -> bool
+        requires last { IsLastRead (part_at self.now) read }
+        requires place { place < length self.now.places }
+        requires source { source < length (stand_events self.now) }
+        requires candidates { (k w : ℕ) → slice_get candidates.now k ≡ Some w → w < length (stand_events self.now) }
+        ensures { IsTrue result → HasLesser (part_at self.now) candidates.now read.event place read.first source }
+    {
+        let part = self.part();
+        for candidate in candidates {
+            if *candidate >= source {
+                return false;
+            }
+            if self.takes_place(read, place, source, *candidate)
+                && can_stand(part, usize::from(*candidate))
+            {
+                return true;
+            }
+        }
+        false
+    }
+
+    /// Whether a lesser event is alike to the source at a place, where that is one of the last read.
+    fn has_alike_at(&self, read: LastRead, place: usize) -> bool
+        requires last { IsLastRead (part_at self.now) read }
+        requires place { place < length self.now.places }
+        ensures { IsTrue result → HasAlikeAt (part_at self.now) read.event read.first }
+    {
+        let part = self.part();
+        if !is_byte_of(part, place, read.event) {
+            return false;
+        }
+        let source = self.source(place);
+        let candidates = part.combination().candidates(place);
+        self.some_takes_place(candidates, read, place, source)
+    }
+
+    /// Whether a lesser event is alike to one of the sources of the last read. A source that is the last one too is looked at
+    /// once.
+    fn some_has_alike(&self, read: LastRead) -> bool
+        requires last { IsLastRead (part_at self.now) read }
+        ensures { IsTrue result → HasAlikeAt (part_at self.now) read.event read.first }
+    {
+        let last = self.places.len() - 1;
+        if self.has_alike_at(read, last) {
+            return true;
+        }
+        if !read.whole {
+            return false;
+        }
+        let source = self.source(last);
+        for place in read.first..last {
+            if self.source(place) != source && self.has_alike_at(read, place) {
+                return true;
+            }
+        }
+        false
+    }
+
+    /// The read of its last source, if it is unordered.
+    fn last_read(&self) -> Option<LastRead>
+        ensures { IfSome result (IsLastRead (part_at self.now)) }
+    {
+        laws();
+        let part = self.part();
+        if part.len() == 0 {
+            return None;
+        }
+        let last = part.len() - 1;
+        let combination = part.combination();
+        let reads = combination.byte_reads();
+        let event = reads[last].read;
+        if !is_unordered(event_at(combination.events(), usize::from(event))) {
+            return None;
+        }
+        let first = first_of(reads, event, last);
+        let whole = is_last_of_read(reads, last);
+        Some(LastRead {
+            event,
+            first,
+            whole,
+        })
+    }
+
     /// The number of the first choice that begins with its first `depth` sources, of those given.
     fn low_before(&self, depth: usize) -> u64
         requires { depth ≤ length self.now.places }
@@ -165,19 +267,19 @@ impl Cursor<'_> {
         low
     }
 
-    /// Whether a lesser source that is alike stands for its last one, with choices from number `since` on.
+    /// Whether a lesser event that is alike stands for a source of its last read, with choices from number `since` on.
     pub(crate) fn has_alike(&self, since: u64) -> bool
         ensures { IsTrue result → (first : ℕ) × (first ≤ length self.now.places) × HasAlike (part_at self.now) first × (since ≤ low_at (first_places self.now first)) }
     {
-        let part = self.part();
-        if part.len() == 0 {
+        let Some(read) = self.last_read() else {
+            return false;
+        };
+        if self.low_before(read.first) < since {
             return false;
         }
-        if let Some(first) = alike_from(part, self.last_source()) {
-            if since <= self.low_before(first) {
-                return true;
-            }
+        if !self.some_has_alike(read) {
+            return false;
         }
-        false
+        self.part().has_settled_past(usize::from(read.event))
     }
 }

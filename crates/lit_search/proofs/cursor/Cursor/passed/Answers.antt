@@ -70,5 +70,5 @@ returns-then-has_alike-clause-passed g c =
     let long = length-part s c.part-part.result.now c.part-part.ensures.value in
     let few : length s.places ≤ length (byte_reads (stand_events s)) = omega (arith, long, c.len-depth.ensures.few, c.len-depth.ensures.value, ap (λ (p : PartModel). length (byte_reads (part_events p))) c.part-part.ensures.value) in
     let is = c.has_alike.ensures c.if-has_alike.true in
-    pass_alike c.laws.ensures s c.part-part.ensures.entered c.part-part.ensures.placed few (λ broken. false≢true (sym c.if-refuted.false ∙ c.refuted.ensures.1 (inl broken))) is.0 is.2 is.1 c.args.plan.now
+    pass_alike c.laws.ensures s c.part-part.ensures.entered c.part-part.ensures.placed few is.0 is.2 is.1 c.args.plan.now
     (g.W.Wanted.IsWanted c.args.wanted.now c.args.plan.now) c.args.since c.args.from c.len-depth.result c.requires.test (c.len-depth.ensures.value ∙ long) is.3 c.requires.seen
