@@ -13,6 +13,7 @@ pub mod PassingLemmas
 pub mod ExchangeLemmas
 pub mod StoodForLemmas
 pub mod OtherLemmas
+pub mod SwappedSources
 pub mod AlikeLemmas
 pub mod NextLemmas
 pub mod NumberSets
