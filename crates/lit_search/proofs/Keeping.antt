@@ -20,7 +20,7 @@ use Rattle.lit_search.proofs.Entries.{cmp, differs}
 use Rattle.lit_search.proofs.MergedEntries.{AreMerged-merged}
 use Rattle.lit_search.proofs.NextLemmas.{none_at_first}
 use Rattle.lit_search.proofs.NumberSets.{before_end, either_cases, in_other, in_some, not_below, same_range, same_test, within}
-use Rattle.lit_search.proofs.RacingLemmas.{marked_more, marks_none}
+use Rattle.lit_search.proofs.RacingLemmas.{marked_more, marks_none, race_wider}
 use Rattle.lit_search.proofs.Reports.{AreEntries-merged, AreEntries-one, AreEntries-passed, AreEntries-same}
 
 -- ---- an outcome is kept, or it is not
@@ -79,6 +79,13 @@ module _ (first behind from : ℕ) (row : ℕ × ℕ) (on : from ≤ behind → 
       elim (cases_lt behind from) [
         | inl less ↦ subst (λ (r : ℕ × ℕ). NoneShow t Wanted (in_range r.0 r.1)) (sym (anew less)) (none_at_first t Wanted from from (omega arith))
         | inr more ↦ subst (λ (r : ℕ × ℕ). NoneShow t Wanted (in_range r.0 r.1)) (sym (on more)) none
+      ]
+
+  pub free_in_row : (t : Litmus) (end : ℕ) → end ≤ from → ¬ HasRaceIn t (in_range end behind) → ¬ HasRaceIn t (in_range from row.1)
+  free_in_row t end low none one =
+      elim (cases_lt behind from) [
+        | inl less ↦ omega (arith, not_below from row.1 one.0 one.1, before_end from row.1 one.0 one.1, ap (λ (r : ℕ × ℕ). r.1) (anew less))
+        | inr more ↦ none (race_wider t from row.1 end behind low (omega (arith, ap (λ (r : ℕ × ℕ). r.1) (on more))) one)
       ]
 
 -- ---- keeping

@@ -112,11 +112,8 @@ passed_since t from barren s depth earlier none may n inside =
     ]
 
 -- ---- what is answered
-pub none_found : (t : Litmus) (numbers : ℕ → Bool) → NoneRace t numbers → IsTrue false ↔ HasRaceIn t numbers
-none_found t numbers none = ((λ p. absurd (false≢true p)), (λ one. absurd (none one.0 one.1 one.2)))
-
-pub one_found : (t : Litmus) (numbers : ℕ → Bool) → HasRaceIn t numbers → IsTrue true ↔ HasRaceIn t numbers
-one_found t numbers one = ((λ p. one), (λ race. refl))
+pub none_there : (t : Litmus) (numbers : ℕ → Bool) → NoneRace t numbers → ¬ HasRaceIn t numbers
+none_there t numbers none one = none one.0 one.1 one.2
 
 -- two ranges, one behind the other
 pub race_joined : (t : Litmus) (from mid to : ℕ) → NoneRace t (in_range from mid) → NoneRace t (in_range mid to) → NoneRace t (in_range from to)
@@ -138,6 +135,33 @@ marked_before old is = ((λ p. inl p), (λ h. is))
 
 pub marked_now : {X : Type 0} (old new : Bool) → IsFalse old → IsTrue new ↔ X → IsTrue new ↔ (IsTrue old ⊎ X)
 marked_now old new unmarked is = ((λ p. inr (is.0 p)), (λ h. elim h [ inl p ↦ absurd (false≢true (sym unmarked ∙ p)) | inr x ↦ is.1 x ]))
+
+-- a search finds a data race, or none up to a number from its end on
+pub found_exactly : (t : Litmus) (from past to : ℕ) (found : Bool) → (IsTrue found → HasRaceIn t (in_range from to)) → (IsFalse found → ¬ HasRaceIn t (in_range from past)) → (IsFalse found → to ≤ past)
+    → IsTrue found ↔ HasRaceIn t (in_range from to)
+found_exactly t from past to true race none behind = (race, (λ one. refl))
+found_exactly t from past to false race none behind = (race, (λ one. absurd (none refl (race_wider t from to from past (omega arith) (behind refl) one))))
+
+-- what was free of data races already is left out, where nothing is marked
+pub marked_past : (t : Litmus) (from past to : ℕ) (old new : Bool) → (IsFalse old → from ≤ past) → (IsFalse old → ¬ HasRaceIn t (in_range from past)) → IsTrue new ↔ (IsTrue old ⊎ HasRaceIn t (in_range past to))
+    → IsTrue new ↔ (IsTrue old ⊎ HasRaceIn t (in_range from to))
+marked_past t from past to true new ahead none is = ((λ p. inl refl), (λ h. is.1 (inl refl)))
+marked_past t from past to false new ahead none is = (
+  (λ p. elim (is.0 p) [ inl q ↦ inl q | inr race ↦ inr (race_wider t past to from to (ahead refl) (omega arith) race) ]),
+  (λ h. elim h [ inl q ↦ is.1 (inl q) | inr race ↦ is.1 (inr (later race.0 race.1 race.2 (cases_lt race.0 past))) ]),
+)
+  where
+    later : (n : ℕ) → IsTrue (in_range from to n) → GivesRace t n → (n < past) ⊎ (past ≤ n) → HasRaceIn t (in_range past to)
+    later n inside g (inl less) = absurd (none refl (n, within from past n (not_below from to n inside) less, g))
+    later n inside g (inr more) = (n, within past to n more (before_end from to n inside), g)
+
+-- from a number on there is none, where there was none up to one, and none from there
+pub free_on : (t : Litmus) (from past more to : ℕ) → from ≤ to → ¬ HasRaceIn t (in_range from past) → ¬ HasRaceIn t (in_range past more) → ¬ HasRaceIn t (in_range to more)
+free_on t from past more to order first second one =
+    elim (cases_lt one.0 past) [
+      | inl less ↦ first (one.0, within from past one.0 (omega (arith, order, not_below to more one.0 one.1)) less, one.2)
+      | inr later ↦ second (one.0, within past more one.0 later (before_end to more one.0 one.1), one.2)
+    ]
 
 -- what is not marked was not
 pub still_unmarked : (old new : Bool) → (IsTrue old → IsTrue new) → IsFalse new → IsFalse old

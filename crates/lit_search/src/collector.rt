@@ -96,21 +96,23 @@ fn keep_range<'p>(
 }
 
 /// Whether it was marked, or a choice with a number from `from` up to and without `to` has a data race, by a cursor that
-/// stood anywhere. No choice from `barren` up to `from` belongs to a valid execution, if none was marked, and where it is
-/// not marked now, none from the new `barren` up to `to`.
+/// stood anywhere. No choice from `barren` up to `from` belongs to a valid execution, if none was marked. Where it is not
+/// marked now, `from` is then a number, `to` or a greater one, up to which there is no data race, and `barren` says what
+/// it said of the choices up to there.
 fn is_marked_with<'p>(
     race: bool,
     plan: &'p Plan<'p>,
     cursor: &mut Cursor<'p>,
     barren: &mut u64,
-    from: u64,
+    from: &mut u64,
     to: u64,
 ) -> bool
-    requires order { from ≤ to }
     requires known { to ≤ length (choices_of plan.now) }
-    requires barren { IsFalse race → AreBarren plan.now (in_range barren.old from) }
-    ensures marked { IsTrue result ↔ (IsTrue race ⊎ HasRaceIn plan.now (in_range from to)) }
-    ensures barren { IsFalse result → AreBarren plan.now (in_range barren.new to) }
+    requires barren { IsFalse race → AreBarren plan.now (in_range barren.old from.old) }
+    ensures marked { IsTrue result ↔ (IsTrue race ⊎ HasRaceIn plan.now (in_range from.old to)) }
+    ensures none { IsFalse result → ¬ HasRaceIn plan.now (in_range from.old from.new) }
+    ensures barren { IsFalse result → AreBarren plan.now (in_range barren.new from.new) }
+    ensures past { IsFalse result → to ≤ from.new }
 {
     race || has_race_in(plan, cursor, barren, from, to)
 }
@@ -154,8 +156,11 @@ pub struct Collector<'p> {
     row: u64,
     /// `end`, or a number behind it.
     seen: u64,
-    /// Where `race` is not marked, no choice from this one up to `end` belongs to a valid execution.
+    /// Where `race` is not marked, no choice from this one up to `race_free` belongs to a valid execution.
     barren: u64,
+    /// Where `race` is not marked, `end` or a number behind it, and no choice between these belongs to a valid execution
+    /// with a data race.
+    race_free: u64,
     end: u64,
 }
 
@@ -191,6 +196,7 @@ impl<'p> Collector<'p> {
             row: 0,
             seen: 0,
             barren: 0,
+            race_free: 0,
             end: 0,
         }
     }
@@ -217,10 +223,12 @@ impl<'p> Collector<'p> {
         ensures end { self.new.end ≡ from }
     {
         (self.row, self.seen) = row_at((self.row, self.seen), from);
-        (self.barren, self.end) = row_at((self.barren, self.end), from);
+        (self.barren, self.race_free) = row_at((self.barren, self.race_free), from);
+        self.end = from;
     }
 
-    /// Takes the choices from its end up to and without `to`, which is greater.
+    /// Takes the choices from its end up to and without `to`, which is greater. It goes through those from `seen` on for
+    /// outcomes, and through those from `race_free` on for a data race.
     fn go_on(&mut self, to: u64) -> Result<(), SearchFault>
         requires more { self.old.end < to }
         requires known { to ≤ length (choices_of self.old.test) }
@@ -235,11 +243,13 @@ impl<'p> Collector<'p> {
         let Some(cursor) = &mut self.cursor else {
             unreachable!()
         };
-        let (row, seen, mut barren) = (self.row, self.seen, self.barren);
-        (self.row, self.seen, self.barren) = (from, from, from);
+        let (row, seen) = (self.row, self.seen);
+        let (mut barren, mut race_free) = (self.barren, self.race_free);
+        (self.row, self.seen) = (from, from);
+        (self.barren, self.race_free) = (from, from);
         self.seen = keep_range(&mut self.kept, &mut self.race, plan, cursor, row, seen, to)?;
-        self.race = is_marked_with(self.race, plan, cursor, &mut barren, from, to);
-        (self.row, self.barren) = (row, barren);
+        self.race = is_marked_with(self.race, plan, cursor, &mut barren, &mut race_free, to);
+        (self.row, self.barren, self.race_free) = (row, barren, race_free);
         self.end = to;
         Ok(())
     }

@@ -1,8 +1,8 @@
-use Rattle.std.proofs.Common.{◌<◌, ℕ, ap, refl, subst, sym, arith}
+use Rattle.std.proofs.Common.{◌<◌, inl, ℕ, ap, refl, subst, sym, arith}
 use Rattle.lit_search.specs.Collected.{Collected, HasTaken}
 use Rattle.lit_search.specs.Report.{in_either, in_range}
 use Rattle.lit_search.proofs.Keeping.{keeps_seen, taken_more}
-use Rattle.lit_search.proofs.RacingLemmas.{marks_wider, still_unmarked}
+use Rattle.lit_search.proofs.RacingLemmas.{free_on, marked_past, marks_wider, still_unmarked}
 use Rattle.lit_search.proofs.collector.Collector.go_on.Goals as goal
 
 pub keep_range-requires-clause-seen : goal.keep_range-requires-clause-seen
@@ -18,16 +18,22 @@ invariant_of-self-2 c =
       before = omega (arith, c.self.invariant.before, subst More (sym c.self.view_is) c.requires.more);
       ahead = c.in_ok-self-inside.ensures.past;
       seen = c.in_ok-self-inside.ensures.seen;
+      clear = c.is_marked_with-self-inside.ensures.past;
       barren = c.is_marked_with-self-inside.ensures.barren;
+      race_free = λ none.
+          let unmarked = still_unmarked c.self.inside.race c.keep_range.new.race c.in_ok-self-inside.ensures.marks.stays (still_unmarked c.keep_range.new.race c.is_marked_with-self-inside.result (λ p. c.is_marked_with-self-inside.ensures.marked.1 (inl p)) none) in
+          free_on c.self.inside.plan.now c.self.inside.end c.self.inside.race_free c.is_marked_with-self-inside.new.from c.args.to (omega (arith, subst More (sym c.self.view_is) c.requires.more)) (c.self.invariant.race_free unmarked) (c.is_marked_with-self-inside.ensures.none none);
     }
 
 pub returns-clause-taken : goal.returns-clause-taken
 returns-clause-taken c taken h =
     let More : Collected → Type 0 = λ x. x.end < c.args.to in
     let x = c.self.inside in
+    let unmarked = still_unmarked x.race c.keep_range.new.race c.in_ok-self-inside.ensures.marks.stays in
     let new : Collected = record { test = x.plan.now; end = c.args.to; report = record { entries = c.keep_range.new.kept; race = c.is_marked_with-self-inside.result } } in
     subst (λ (n : ℕ). HasTaken (in_either taken (in_range n c.args.to)) new) (ap (λ (y : Collected). y.end) c.self.view_is)
     (taken_more x.plan.now x.end c.args.to taken c.keep_range.new.race (record { test = x.plan.now; end = x.end; report = record { entries = x.kept; race = x.race } }) new refl refl (omega arith)
     (omega (arith, subst More (sym c.self.view_is) c.requires.more)) refl
     (keeps_seen x.plan.now x.row x.end x.seen c.args.to x.kept c.keep_range.new.kept c.self.invariant.before c.self.invariant.ahead (omega (arith, subst More (sym c.self.view_is) c.requires.more)) c.self.invariant.seen c.in_ok-self-inside.ensures.keeps)
-    (marks_wider x.plan.now x.end x.seen c.args.to x.race c.keep_range.new.race c.self.invariant.ahead c.in_ok-self-inside.ensures.marks) c.is_marked_with-self-inside.ensures.marked (subst (HasTaken taken) (sym c.self.view_is) h))
+    (marks_wider x.plan.now x.end x.seen c.args.to x.race c.keep_range.new.race c.self.invariant.ahead c.in_ok-self-inside.ensures.marks)
+    (marked_past x.plan.now x.end x.race_free c.args.to c.keep_range.new.race c.is_marked_with-self-inside.result (λ none. c.self.invariant.clear (unmarked none)) (λ none. c.self.invariant.race_free (unmarked none)) c.is_marked_with-self-inside.ensures.marked) (subst (HasTaken taken) (sym c.self.view_is) h))

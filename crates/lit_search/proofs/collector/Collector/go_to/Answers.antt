@@ -1,8 +1,7 @@
-use Rattle.std.proofs.Common.{◌≡◌, ◌≤◌, inl, inr, ℕ, ap, subst, sym, arith}
-use Rattle.std.proofs.lemmas.Bool.{cases_lt}
+use Rattle.std.proofs.Common.{◌≤◌, subst, sym, arith}
 use Rattle.lit_search.specs.Collected.{Collected}
 use Rattle.lit_search.specs.Internal.Outcomes.{HasOutcome}
-use Rattle.lit_search.proofs.Keeping.{none_in_row, row_begins, row_ends}
+use Rattle.lit_search.proofs.Keeping.{free_in_row, none_in_row, row_begins, row_ends}
 use Rattle.lit_search.proofs.collector.Collector.go_to.Goals as goal
 
 pub invariant_of-self : goal.invariant_of-self
@@ -12,14 +11,11 @@ invariant_of-self c =
     let b = c.row_at-2 in
     let Low : Collected → Type 0 = λ y. y.end ≤ c.args.from in
     let low : x.end ≤ c.args.from = subst Low (sym c.self.view_is) c.requires in
-    let ends : b.result.1 ≡ c.args.from =
-    elim (cases_lt x.end c.args.from) [
-      | inl less ↦ ap (λ (p : ℕ × ℕ). p.1) (b.ensures.anew less)
-      | inr more ↦ omega (arith, low, more, ap (λ (p : ℕ × ℕ). p.1) (b.ensures.on more))
-    ] in
     record {
-      before = omega (arith, ends, row_begins x.row x.seen c.args.from r.result r.ensures.on r.ensures.anew (omega (arith, low, c.self.invariant.before)));
-      ahead = omega (arith, ends, row_ends x.row x.seen c.args.from r.result r.ensures.on r.ensures.anew);
+      before = row_begins x.row x.seen c.args.from r.result r.ensures.on r.ensures.anew (omega (arith, low, c.self.invariant.before));
+      ahead = row_ends x.row x.seen c.args.from r.result r.ensures.on r.ensures.anew;
       seen = none_in_row x.row x.seen c.args.from r.result r.ensures.on r.ensures.anew x.plan.now (λ outcome. ¬ HasOutcome x.kept outcome) c.self.invariant.seen;
-      barren = λ unmarked. none_in_row x.barren x.end c.args.from b.result b.ensures.on b.ensures.anew x.plan.now (λ _. Unit {0}) (c.self.invariant.barren unmarked);
+      clear = λ unmarked. row_ends x.barren x.race_free c.args.from b.result b.ensures.on b.ensures.anew;
+      barren = λ unmarked. none_in_row x.barren x.race_free c.args.from b.result b.ensures.on b.ensures.anew x.plan.now (λ _. Unit {0}) (c.self.invariant.barren unmarked);
+      race_free = λ unmarked. free_in_row x.barren x.race_free c.args.from b.result b.ensures.on b.ensures.anew x.plan.now x.end low (c.self.invariant.race_free unmarked);
     }

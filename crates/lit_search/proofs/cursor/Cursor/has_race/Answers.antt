@@ -15,7 +15,7 @@ use Rattle.lit_search.proofs.NumberSets.{within}
 use Rattle.lit_search.proofs.OtherLemmas.{barren_on, barren_past, race_left}
 use Rattle.lit_search.proofs.PassingLemmas.{length-part, pass_invalid, whole_stand}
 use Rattle.lit_search.proofs.PlaceLemmas.{length-sources, ways_end}
-use Rattle.lit_search.proofs.RacingLemmas.{apart_race, complete_race, none_found, one_found, passed_race, passed_since, race_at_first, race_here, race_up_to}
+use Rattle.lit_search.proofs.RacingLemmas.{apart_race, complete_race, none_there, passed_race, passed_since, race_at_first, race_here, race_up_to}
 use Rattle.lit_search.proofs.cursor.Cursor.has_race.Goals as goal
 
 -- no outcome is left out
@@ -26,8 +26,8 @@ pub loop-self-init : goal.loop-self-init
 loop-self-init c = record {
   test = c.requires.test;
   combination = refl;
-  none = race_at_first c.args.plan.now c.args.from (low_at c.args.self.now) c.requires.low;
-  barren = none_up_to c.args.plan.now All c.args.barren.now (low_at c.args.self.now) c.args.from c.requires.low c.requires.barren;
+  none = race_at_first c.args.plan.now c.args.from.now (low_at c.args.self.now) c.requires.low;
+  barren = none_up_to c.args.plan.now All c.args.barren.now (low_at c.args.self.now) c.args.from.now c.requires.low c.requires.barren;
   earlier = c.requires.barren;
 }
 
@@ -47,22 +47,22 @@ passed-requires-clause-few c =
 pub passed-requires-clause-seen : goal.passed-requires-clause-seen
 passed-requires-clause-seen c = c.loop-self.invariant.barren
 
-pub returns-then-not-leave-clause-race : goal.returns-then-not-leave-clause-race
-returns-then-not-leave-clause-race c =
+pub returns-then-not-leave-clause-none : goal.returns-then-not-leave-clause-none
+returns-then-not-leave-clause-none c none =
     let t = c.args.plan.now in
     let s = c.loop-self.self in
     let may = c.in-Some.ensures.passed in
-    let barren = passed_since t c.args.from c.loop-self.barren s c.in-Some.less c.loop-self.invariant.earlier c.loop-self.invariant.barren may in
-    none_found t (in_range c.args.from c.args.to)
-    (race_up_to t c.args.from c.args.to _ (omega (arith, c.requires.high, ap (λ (k : ℕ). choices_before t (k + 1)) c.loop-self.invariant.combination))
-    (race_left t c.args.from c.loop-self.barren (behind_at (first_places s c.in-Some.less)) (choices_before t (s.combination + 1)) (passed_race t c.args.from s c.in-Some.less may c.loop-self.invariant.none) barren (c.leave.ensures.last c.if-not-leave.true)))
+    let barren = passed_since t c.args.from.now c.loop-self.barren s c.in-Some.less c.loop-self.invariant.earlier c.loop-self.invariant.barren may in
+    none_there t (in_range c.args.from.now c.end.result)
+    (race_up_to t c.args.from.now c.end.result (choices_before t (s.combination + 1)) (omega (arith, c.end.ensures, ap (λ (u : Litmus). choices_before u (c.leave.new.self.combination + 1)) (c.leave.ensures.test ∙ c.loop-self.invariant.test), ap (λ (k : ℕ). choices_before t (k + 1)) c.leave.ensures.combination))
+    (race_left t c.args.from.now c.loop-self.barren (behind_at (first_places s c.in-Some.less)) (choices_before t (s.combination + 1)) (passed_race t c.args.from.now s c.in-Some.less may c.loop-self.invariant.none) barren (c.leave.ensures.last c.if-not-leave.true)))
 
 pub returns-then-not-leave-clause-barren : goal.returns-then-not-leave-clause-barren
 returns-then-not-leave-clause-barren c none =
     let t = c.args.plan.now in
     let s = c.loop-self.self in
-    let barren = passed_since t c.args.from c.loop-self.barren s c.in-Some.less c.loop-self.invariant.earlier c.loop-self.invariant.barren c.in-Some.ensures.passed in
-    none_up_to t All c.loop-self.barren c.args.to _ (omega (arith, c.requires.high, ap (λ (k : ℕ). choices_before t (k + 1)) c.loop-self.invariant.combination))
+    let barren = passed_since t c.args.from.now c.loop-self.barren s c.in-Some.less c.loop-self.invariant.earlier c.loop-self.invariant.barren c.in-Some.ensures.passed in
+    none_up_to t All c.loop-self.barren c.end.result (choices_before t (s.combination + 1)) (omega (arith, c.end.ensures, ap (λ (u : Litmus). choices_before u (c.leave.new.self.combination + 1)) (c.leave.ensures.test ∙ c.loop-self.invariant.test), ap (λ (k : ℕ). choices_before t (k + 1)) c.leave.ensures.combination))
     (barren_on t c.loop-self.barren (behind_at (first_places s c.in-Some.less)) (choices_before t (s.combination + 1)) barren (c.leave.ensures.last c.if-not-leave.true))
 
 pub loop-self-smaller-else-not-leave : goal.loop-self-smaller-else-not-leave
@@ -83,12 +83,12 @@ loop-self-preserved-else-not-leave c =
     let t = c.args.plan.now in
     let s = c.loop-self.self in
     let may = c.in-Some.ensures.passed in
-    let barren = passed_since t c.args.from c.loop-self.barren s c.in-Some.less c.loop-self.invariant.earlier c.loop-self.invariant.barren may in
+    let barren = passed_since t c.args.from.now c.loop-self.barren s c.in-Some.less c.loop-self.invariant.earlier c.loop-self.invariant.barren may in
     let adds = c.leave.ensures.nothing c.if-not-leave.false in
     record {
       test = c.leave.ensures.test ∙ c.loop-self.invariant.test;
       combination = c.leave.ensures.combination ∙ c.loop-self.invariant.combination;
-      none = race_left t c.args.from c.loop-self.barren (behind_at (first_places s c.in-Some.less)) (low_at c.leave.new.self) (passed_race t c.args.from s c.in-Some.less may c.loop-self.invariant.none) barren adds;
+      none = race_left t c.args.from.now c.loop-self.barren (behind_at (first_places s c.in-Some.less)) (low_at c.leave.new.self) (passed_race t c.args.from.now s c.in-Some.less may c.loop-self.invariant.none) barren adds;
       barren = barren_on t c.loop-self.barren (behind_at (first_places s c.in-Some.less)) (low_at c.leave.new.self) barren adds;
       earlier = c.loop-self.invariant.earlier;
     }
@@ -99,8 +99,8 @@ leave-requires-then-not-may_race c = record {
   depth = omega (arith, c.len-depth.ensures.value, length-part c.loop-self.self c.part-in-loop-self.result.now c.part-in-loop-self.ensures.value);
 }
 
-pub returns-then-not-leave-2-clause-race : goal.returns-then-not-leave-2-clause-race
-returns-then-not-leave-2-clause-race c =
+pub returns-then-not-leave-2-clause-none : goal.returns-then-not-leave-2-clause-none
+returns-then-not-leave-2-clause-none c none =
     let t = c.args.plan.now in
     let s = c.loop-self.self in
     let part = c.part-in-loop-self.ensures.value in
@@ -109,14 +109,14 @@ returns-then-not-leave-2-clause-race c =
     let apart : ¬ MayRace (stand_events s) (part_at s).sources =
     λ may. false≢true (sym c.if-not-may_race.true ∙ c.may_race.ensures.1 (subst (λ (p : PartModel). MayRace (part_events p) p.sources) (sym c.part-in_default.ensures.value) may)) in
     let same : behind_at (first_places s c.len-depth.result) ≡ behind_at s = ap behind_at (ap (first_places s) (c.len-depth.ensures.value ∙ long) ∙ whole_stand s) in
-    none_found t (in_range c.args.from c.args.to)
-    (race_up_to t c.args.from c.args.to _ (omega (arith, c.requires.high, ap (λ (k : ℕ). choices_before t (k + 1)) c.loop-self.invariant.combination))
-    (race_left t c.args.from c.behind-behind.result (behind_at (first_places s c.len-depth.result)) (choices_before t (s.combination + 1))
-    (apart_race c.laws.ensures s c.part-in-loop-self.ensures.entered c.part-in-loop-self.ensures.placed few t c.args.from c.len-depth.result c.loop-self.invariant.test (c.len-depth.ensures.value ∙ long) apart c.loop-self.invariant.none)
+    none_there t (in_range c.args.from.now c.end-then-not-leave-2.result)
+    (race_up_to t c.args.from.now c.end-then-not-leave-2.result (choices_before t (s.combination + 1)) (omega (arith, c.end-then-not-leave-2.ensures, ap (λ (u : Litmus). choices_before u (c.leave-then-not-may_race.new.self.combination + 1)) (c.leave-then-not-may_race.ensures.test ∙ c.loop-self.invariant.test), ap (λ (k : ℕ). choices_before t (k + 1)) c.leave-then-not-may_race.ensures.combination))
+    (race_left t c.args.from.now c.behind-behind.result (behind_at (first_places s c.len-depth.result)) (choices_before t (s.combination + 1))
+    (apart_race c.laws.ensures s c.part-in-loop-self.ensures.entered c.part-in-loop-self.ensures.placed few t c.args.from.now c.len-depth.result c.loop-self.invariant.test (c.len-depth.ensures.value ∙ long) apart c.loop-self.invariant.none)
     (barren_past t c.behind-behind.result (behind_at (first_places s c.len-depth.result)) (omega (arith, same, c.behind-behind.ensures.value))) (c.leave-then-not-may_race.ensures.last c.if-not-leave-2.true)))
 
 pub returns-then-not-leave-2-clause-barren : goal.returns-then-not-leave-2-clause-barren
-returns-then-not-leave-2-clause-barren c none = none_at_first c.args.plan.now All c.args.to c.args.to (omega arith)
+returns-then-not-leave-2-clause-barren c none = none_at_first c.args.plan.now All c.end-then-not-leave-2.result c.end-then-not-leave-2.result (omega arith)
 
 pub loop-self-smaller-then-not-may_race : goal.loop-self-smaller-then-not-may_race
 loop-self-smaller-then-not-may_race c =
@@ -148,11 +148,11 @@ loop-self-preserved-then-not-may_race c =
     record {
       test = c.leave-then-not-may_race.ensures.test ∙ c.loop-self.invariant.test;
       combination = c.leave-then-not-may_race.ensures.combination ∙ c.loop-self.invariant.combination;
-      none = race_left t c.args.from c.behind-behind.result (behind_at (first_places s c.len-depth.result)) (low_at new)
-          (apart_race c.laws.ensures s c.part-in-loop-self.ensures.entered c.part-in-loop-self.ensures.placed few t c.args.from c.len-depth.result c.loop-self.invariant.test deep apart c.loop-self.invariant.none)
+      none = race_left t c.args.from.now c.behind-behind.result (behind_at (first_places s c.len-depth.result)) (low_at new)
+          (apart_race c.laws.ensures s c.part-in-loop-self.ensures.entered c.part-in-loop-self.ensures.placed few t c.args.from.now c.len-depth.result c.loop-self.invariant.test deep apart c.loop-self.invariant.none)
           (barren_past t c.behind-behind.result (behind_at (first_places s c.len-depth.result)) (omega (arith, same, c.behind-behind.ensures.value))) (c.leave-then-not-may_race.ensures.nothing c.if-not-leave-2.false);
       barren = none_at_first t All c.low-then-not-may_race.result (low_at new) (omega (arith, c.low-then-not-may_race.ensures));
-      earlier = none_at_first t All c.low-then-not-may_race.result c.args.from (omega (arith, c.low-then-not-may_race.ensures, next, ap behind_at (ap (first_places s) deep ∙ whole_stand s), c.in_default.ensures.passed.behind));
+      earlier = none_at_first t All c.low-then-not-may_race.result c.args.from.now (omega (arith, c.low-then-not-may_race.ensures, next, ap behind_at (ap (first_places s) deep ∙ whole_stand s), c.in_default.ensures.passed.behind));
     }
 
 pub enter-requires-clause-test : goal.enter-requires-clause-test
@@ -172,19 +172,19 @@ enter-requires-clause-left c =
       same_reads first c.args.plan.now first.combination s c.requires.test refl c.loop-self.invariant.test c.loop-self.invariant.combination,
     )
 
-pub returns-then-not-enter-clause-race : goal.returns-then-not-enter-clause-race
-returns-then-not-enter-clause-race c =
+pub returns-then-not-enter-clause-none : goal.returns-then-not-enter-clause-none
+returns-then-not-enter-clause-none c none =
     let t = c.args.plan.now in
     let s = c.loop-self.self in
-    none_found t (in_range c.args.from c.args.to)
-    (race_up_to t c.args.from c.args.to _ (omega (arith, c.requires.high, ap (λ (k : ℕ). choices_before t (k + 1)) c.loop-self.invariant.combination))
-    (race_left t c.args.from c.loop-self.barren (low_at s) (choices_before t (s.combination + 1)) c.loop-self.invariant.none c.loop-self.invariant.barren (c.enter.ensures.last c.if-not-enter.true)))
+    none_there t (in_range c.args.from.now c.end-then-not-enter.result)
+    (race_up_to t c.args.from.now c.end-then-not-enter.result (choices_before t (s.combination + 1)) (omega (arith, c.end-then-not-enter.ensures, ap (λ (u : Litmus). choices_before u (c.enter.new.self.combination + 1)) (c.enter.ensures.test ∙ c.loop-self.invariant.test), ap (λ (k : ℕ). choices_before t (k + 1)) c.enter.ensures.combination))
+    (race_left t c.args.from.now c.loop-self.barren (low_at s) (choices_before t (s.combination + 1)) c.loop-self.invariant.none c.loop-self.invariant.barren (c.enter.ensures.last c.if-not-enter.true)))
 
 pub returns-then-not-enter-clause-barren : goal.returns-then-not-enter-clause-barren
 returns-then-not-enter-clause-barren c none =
     let t = c.args.plan.now in
     let s = c.loop-self.self in
-    none_up_to t All c.loop-self.barren c.args.to _ (omega (arith, c.requires.high, ap (λ (k : ℕ). choices_before t (k + 1)) c.loop-self.invariant.combination))
+    none_up_to t All c.loop-self.barren c.end-then-not-enter.result (choices_before t (s.combination + 1)) (omega (arith, c.end-then-not-enter.ensures, ap (λ (u : Litmus). choices_before u (c.enter.new.self.combination + 1)) (c.enter.ensures.test ∙ c.loop-self.invariant.test), ap (λ (k : ℕ). choices_before t (k + 1)) c.enter.ensures.combination))
     (barren_on t c.loop-self.barren (low_at s) (choices_before t (s.combination + 1)) c.loop-self.invariant.barren (c.enter.ensures.last c.if-not-enter.true))
 
 pub loop-self-smaller-else-not-enter : goal.loop-self-smaller-else-not-enter
@@ -218,7 +218,7 @@ loop-self-preserved-else-not-enter c =
     record {
       test = c.enter.ensures.test ∙ c.loop-self.invariant.test;
       combination = c.enter.ensures.combination ∙ c.loop-self.invariant.combination;
-      none = race_left t c.args.from c.loop-self.barren (low_at s) (low_at new) c.loop-self.invariant.none c.loop-self.invariant.barren adds;
+      none = race_left t c.args.from.now c.loop-self.barren (low_at s) (low_at new) c.loop-self.invariant.none c.loop-self.invariant.barren adds;
       barren = barren_on t c.loop-self.barren (low_at s) (low_at new) c.loop-self.invariant.barren adds;
       earlier = c.loop-self.invariant.earlier;
     }
@@ -243,7 +243,7 @@ shown-requires-clause-all c =
     )
 
 pub returns-in-Some-shown-clause-race : goal.returns-in-Some-shown-clause-race
-returns-in-Some-shown-clause-race c =
+returns-in-Some-shown-clause-race c found =
     let t = c.args.plan.now in
     let first = c.args.self.now in
     let s = c.loop-self.self in
@@ -266,11 +266,7 @@ returns-in-Some-shown-clause-race c =
     race_here c.laws.ensures s c.part-in-loop-self.ensures.entered c.part-in-loop-self.ensures.placed (omega (arith, all)) all _
     (subst (λ (u : Litmus). Gives u (low_at s) (part_outcome (part_at s))) (sym c.loop-self.invariant.test) c.in-Some-shown.ensures.shows.gives)
     (complete_race (stand_events s) (part_at s).sources (length-sources (stand_events s) 0 s.places ∙ all) may) in
-    one_found t (in_range c.args.from c.args.to)
-    (low_at s, within c.args.from c.args.to (low_at s) (omega (arith, c.in_default.ensures.passed.behind, one)) (omega (arith, c.loop-self-test.true, c.low.ensures)), subst (λ (u : Litmus). GivesRace u (low_at s)) c.loop-self.invariant.test race)
-
-pub returns-in-Some-shown-clause-barren : goal.returns-in-Some-shown-clause-barren
-returns-in-Some-shown-clause-barren c none = absurd (false≢true (sym none))
+    (low_at s, within c.args.from.now c.args.to (low_at s) (omega (arith, c.in_default.ensures.passed.behind, one)) (omega (arith, c.loop-self-test.true, c.low.ensures)), subst (λ (u : Litmus). GivesRace u (low_at s)) c.loop-self.invariant.test race)
 
 pub leave-requires-in_default-shown : goal.leave-requires-in_default-shown
 leave-requires-in_default-shown c = record {
@@ -278,16 +274,16 @@ leave-requires-in_default-shown c = record {
   depth = omega (arith, c.len-depth.ensures.value, length-part c.loop-self.self c.part-in-loop-self.result.now c.part-in-loop-self.ensures.value);
 }
 
-pub returns-then-not-leave-3-clause-race : goal.returns-then-not-leave-3-clause-race
-returns-then-not-leave-3-clause-race c =
+pub returns-then-not-leave-3-clause-none : goal.returns-then-not-leave-3-clause-none
+returns-then-not-leave-3-clause-none c none =
     let t = c.args.plan.now in
     let s = c.loop-self.self in
     let deep = c.len-depth.ensures.value ∙ length-part s c.part-in-loop-self.result.now c.part-in-loop-self.ensures.value in
-    let may = pass_invalid s t All c.args.from c.len-depth.result deep c.in_default-shown.ensures.none in
-    let barren = passed_since t c.args.from c.loop-self.barren s c.len-depth.result c.loop-self.invariant.earlier c.loop-self.invariant.barren may in
-    none_found t (in_range c.args.from c.args.to)
-    (race_up_to t c.args.from c.args.to _ (omega (arith, c.requires.high, ap (λ (k : ℕ). choices_before t (k + 1)) c.loop-self.invariant.combination))
-    (race_left t c.args.from c.loop-self.barren (behind_at (first_places s c.len-depth.result)) (choices_before t (s.combination + 1)) (passed_race t c.args.from s c.len-depth.result may c.loop-self.invariant.none) barren
+    let may = pass_invalid s t All c.args.from.now c.len-depth.result deep c.in_default-shown.ensures.none in
+    let barren = passed_since t c.args.from.now c.loop-self.barren s c.len-depth.result c.loop-self.invariant.earlier c.loop-self.invariant.barren may in
+    none_there t (in_range c.args.from.now c.end-then-not-leave-3.result)
+    (race_up_to t c.args.from.now c.end-then-not-leave-3.result (choices_before t (s.combination + 1)) (omega (arith, c.end-then-not-leave-3.ensures, ap (λ (u : Litmus). choices_before u (c.leave-in_default-shown.new.self.combination + 1)) (c.leave-in_default-shown.ensures.test ∙ c.loop-self.invariant.test), ap (λ (k : ℕ). choices_before t (k + 1)) c.leave-in_default-shown.ensures.combination))
+    (race_left t c.args.from.now c.loop-self.barren (behind_at (first_places s c.len-depth.result)) (choices_before t (s.combination + 1)) (passed_race t c.args.from.now s c.len-depth.result may c.loop-self.invariant.none) barren
     (c.leave-in_default-shown.ensures.last c.if-not-leave-3.true)))
 
 pub returns-then-not-leave-3-clause-barren : goal.returns-then-not-leave-3-clause-barren
@@ -295,10 +291,10 @@ returns-then-not-leave-3-clause-barren c none =
     let t = c.args.plan.now in
     let s = c.loop-self.self in
     let deep = c.len-depth.ensures.value ∙ length-part s c.part-in-loop-self.result.now c.part-in-loop-self.ensures.value in
-    let may = pass_invalid s t All c.args.from c.len-depth.result deep c.in_default-shown.ensures.none in
-    none_up_to t All c.loop-self.barren c.args.to _ (omega (arith, c.requires.high, ap (λ (k : ℕ). choices_before t (k + 1)) c.loop-self.invariant.combination))
+    let may = pass_invalid s t All c.args.from.now c.len-depth.result deep c.in_default-shown.ensures.none in
+    none_up_to t All c.loop-self.barren c.end-then-not-leave-3.result (choices_before t (s.combination + 1)) (omega (arith, c.end-then-not-leave-3.ensures, ap (λ (u : Litmus). choices_before u (c.leave-in_default-shown.new.self.combination + 1)) (c.leave-in_default-shown.ensures.test ∙ c.loop-self.invariant.test), ap (λ (k : ℕ). choices_before t (k + 1)) c.leave-in_default-shown.ensures.combination))
     (barren_on t c.loop-self.barren (behind_at (first_places s c.len-depth.result)) (choices_before t (s.combination + 1))
-    (passed_since t c.args.from c.loop-self.barren s c.len-depth.result c.loop-self.invariant.earlier c.loop-self.invariant.barren may) (c.leave-in_default-shown.ensures.last c.if-not-leave-3.true))
+    (passed_since t c.args.from.now c.loop-self.barren s c.len-depth.result c.loop-self.invariant.earlier c.loop-self.invariant.barren may) (c.leave-in_default-shown.ensures.last c.if-not-leave-3.true))
 
 pub loop-self-smaller : goal.loop-self-smaller
 loop-self-smaller c =
@@ -320,22 +316,21 @@ loop-self-preserved c =
     let s = c.loop-self.self in
     let new = c.leave-in_default-shown.new.self in
     let deep = c.len-depth.ensures.value ∙ length-part s c.part-in-loop-self.result.now c.part-in-loop-self.ensures.value in
-    let may = pass_invalid s t All c.args.from c.len-depth.result deep c.in_default-shown.ensures.none in
-    let barren = passed_since t c.args.from c.loop-self.barren s c.len-depth.result c.loop-self.invariant.earlier c.loop-self.invariant.barren may in
+    let may = pass_invalid s t All c.args.from.now c.len-depth.result deep c.in_default-shown.ensures.none in
+    let barren = passed_since t c.args.from.now c.loop-self.barren s c.len-depth.result c.loop-self.invariant.earlier c.loop-self.invariant.barren may in
     let adds = c.leave-in_default-shown.ensures.nothing c.if-not-leave-3.false in
     record {
       test = c.leave-in_default-shown.ensures.test ∙ c.loop-self.invariant.test;
       combination = c.leave-in_default-shown.ensures.combination ∙ c.loop-self.invariant.combination;
-      none = race_left t c.args.from c.loop-self.barren (behind_at (first_places s c.len-depth.result)) (low_at new) (passed_race t c.args.from s c.len-depth.result may c.loop-self.invariant.none) barren adds;
+      none = race_left t c.args.from.now c.loop-self.barren (behind_at (first_places s c.len-depth.result)) (low_at new) (passed_race t c.args.from.now s c.len-depth.result may c.loop-self.invariant.none) barren adds;
       barren = barren_on t c.loop-self.barren (behind_at (first_places s c.len-depth.result)) (low_at new) barren adds;
       earlier = c.loop-self.invariant.earlier;
     }
 
-pub returns-clause-race : goal.returns-clause-race
-returns-clause-race c =
-    none_found c.args.plan.now (in_range c.args.from c.args.to)
-    (race_up_to c.args.plan.now c.args.from c.args.to (low_at c.loop-self.self) (omega (arith, c.loop-self-test.false, c.low.ensures)) c.loop-self.invariant.none)
+pub returns-clause-none : goal.returns-clause-none
+returns-clause-none c none =
+    none_there c.args.plan.now (in_range c.args.from.now c.low-2.result)
+    (race_up_to c.args.plan.now c.args.from.now c.low-2.result (low_at c.loop-self.self) (omega (arith, c.low-2.ensures)) c.loop-self.invariant.none)
 
 pub returns-clause-barren : goal.returns-clause-barren
-returns-clause-barren c none =
-    none_up_to c.args.plan.now All c.loop-self.barren c.args.to (low_at c.loop-self.self) (omega (arith, c.loop-self-test.false, c.low.ensures)) c.loop-self.invariant.barren
+returns-clause-barren c none = none_up_to c.args.plan.now All c.loop-self.barren c.low-2.result (low_at c.loop-self.self) (omega (arith, c.low-2.ensures)) c.loop-self.invariant.barren

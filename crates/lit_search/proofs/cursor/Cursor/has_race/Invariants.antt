@@ -10,9 +10,9 @@ abbrev pub invariant-loop-self : goal.invariant-loop-self
 invariant-loop-self l = record {
   test : l.self.test ≡ l.plan;
   combination : l.self.combination ≡ l.fn.self.combination;
-  none : NoneRace l.plan (in_range l.from (low_at l.self));
+  none : NoneRace l.plan (in_range l.fn.from (low_at l.self));
   barren : AreBarren l.plan (in_range l.barren (low_at l.self));
-  earlier : AreBarren l.plan (in_range l.barren l.from);
+  earlier : AreBarren l.plan (in_range l.barren l.fn.from);
 }
 
 abbrev pub decreases-loop-self : goal.decreases-loop-self
