@@ -7,7 +7,7 @@
 
 ghost use Rattle.std.specs.Prelude.{◌≡◌, ◌⊎◌, ◌↔◌, ◌-◌, ℕ, ◌<◌, ◌≤◌, IfSome, IsTrue, Some, length, map, slice_get};
 ghost use Rattle.lit_paths.specs.ByteReads.{byte_reads, pair_of};
-ghost use Rattle.lit_paths.specs.Event.{event_at};
+ghost use Rattle.lit_paths.specs.Event.{HasByte, event_at, payload_at};
 ghost use Rattle.lit_rel.specs.Part.{part_events};
 ghost use Rattle.lit_rel.specs.TearFree.{CanReadWhole};
 ghost use Rattle.lit_search.specs.Internal.Alike.{AllFit, AreOfOthers, FitsAt, HasAlike, HasAlikeAt, HasLesser, IsLastRead, IsStoredAlike, IsWholeFrom, StoresAlike, TakesEach, TakesOne};
@@ -52,19 +52,30 @@ fn is_whole_from(part: &Part<'_>, read: u8, source: u8) -> bool
     )
 }
 
-/// Whether another event stores what a source does at a byte that is read, and the byte is coherent with it.
+/// Whether another event stores what a source does at a byte.
+fn stores_same(part: &Part<'_>, byte: u8, source: u8, other: u8) -> bool
+    requires source { source < length (part_events part.now) }
+    requires other { other < length (part_events part.now) }
+    ensures in_range { IsTrue result → HasByte (event_at (part_events part.now) other) byte }
+    ensures same { IsTrue result → payload_at (event_at (part_events part.now) other) byte ≡ payload_at (event_at (part_events part.now) source) byte }
+{
+    let events = part.combination().events();
+    let old = event_at(events, usize::from(source));
+    let new = event_at(events, usize::from(other));
+    new.has_byte(byte) && payload_at(new, byte) == payload_at(old, byte)
+}
+
+/// Whether that is so of a byte that is read, and the byte is coherent with the other event.
 fn stores_alike(part: &Part<'_>, at: ByteRead, source: u8, other: u8) -> bool
     requires read { at.read < length (part_events part.now) }
     requires source { source < length (part_events part.now) }
     requires other { other < length (part_events part.now) }
     ensures { IsTrue result → StoresAlike part.now at.read at.byte source other }
 {
-    let events = part.combination().events();
-    let old = event_at(events, usize::from(source));
-    let new = event_at(events, usize::from(other));
-    new.has_byte(at.byte)
-        && payload_at(new, at.byte) == payload_at(old, at.byte)
-        && part.is_coherent_with(at, other)
+    if !stores_same(part, at.byte, source, other) {
+        return false;
+    }
+    part.is_coherent_with(at, other)
 }
 
 /// Whether that is so of the byte read at a place.
@@ -79,12 +90,16 @@ fn is_stored_alike(part: &Part<'_>, place: usize, source: u8, other: u8) -> bool
     stores_alike(part, at, source, other)
 }
 
-/// Whether the byte read at a place is one of a read.
-fn is_byte_of(part: &Part<'_>, place: usize, read: u8) -> bool
+/// The byte that is read at a place, if by this read.
+fn byte_of(part: &Part<'_>, place: usize, read: u8) -> Option<u8>
     requires { place < length (byte_reads (part_events part.now)) }
-    ensures { IsTrue result → (b : ℕ) × (slice_get (byte_reads (part_events part.now)) place ≡ Some (read, b)) }
+    ensures { IfSome result (λ byte. slice_get (byte_reads (part_events part.now)) place ≡ Some (read, byte)) }
 {
-    part.combination().byte_reads()[place].read == read
+    let at = part.combination().byte_reads()[place];
+    if at.read != read {
+        return None;
+    }
+    Some(at.byte)
 }
 
 /// The place of the first byte read of a read, of those up to a place.
@@ -167,8 +182,15 @@ impl Cursor<'_> {
         is_stored_alike(part, place, source, other)
     }
 
-    /// Whether one of the candidates is less than the source at a place, and can take its place.
-    fn some_takes_place(&self, candidates: &[u8], read: LastRead, place: usize, source: u8) -> bool
+    /// Whether one of the candidates is less than the source of a byte at a place, and can take its place.
+    fn some_takes_place(
+        &self,
+        candidates: &[u8],
+        read: LastRead,
+        place: usize,
+        byte: u8,
+        source: u8,
+    ) -> bool
         requires last { IsLastRead (part_at self.now) read }
         requires place { place < length self.now.places }
         requires source { source < length (stand_events self.now) }
@@ -180,7 +202,8 @@ impl Cursor<'_> {
             if *candidate >= source {
                 return false;
             }
-            if self.takes_place(read, place, source, *candidate)
+            if stores_same(part, byte, source, *candidate)
+                && self.takes_place(read, place, source, *candidate)
                 && can_stand(part, usize::from(*candidate))
             {
                 return true;
@@ -196,12 +219,12 @@ impl Cursor<'_> {
         ensures { IsTrue result → HasAlikeAt (part_at self.now) read.event read.first }
     {
         let part = self.part();
-        if !is_byte_of(part, place, read.event) {
+        let Some(byte) = byte_of(part, place, read.event) else {
             return false;
-        }
+        };
         let source = self.source(place);
         let candidates = part.combination().candidates(place);
-        self.some_takes_place(candidates, read, place, source)
+        self.some_takes_place(candidates, read, place, byte, source)
     }
 
     /// Whether a lesser event is alike to one of the sources of the last read. A source that is the last one too is looked at
