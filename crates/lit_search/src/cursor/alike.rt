@@ -297,10 +297,10 @@ impl Cursor<'_> {
         let Some(read) = self.last_read() else {
             return false;
         };
-        if self.low_before(read.first) < since {
+        if !self.some_has_alike(read) {
             return false;
         }
-        if !self.some_has_alike(read) {
+        if self.low_before(read.first) < since {
             return false;
         }
         self.part().has_settled_past(usize::from(read.event))
