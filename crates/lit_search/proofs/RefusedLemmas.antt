@@ -29,11 +29,6 @@ module _ (x : Inside) (is : IsStanding x) (s : Stand) (view : stand_of x ≡ s) 
       let all : AreRefused s.test s.combination sets = subst (AreRefused s.test s.combination) (sym same) (subst (λ (u : Stand). AreRefused u.test u.combination x.refused.items) view is.refused) in
       all.each k (get_or sets k d) (slice_get-get_or sets k d (omega (arith, inside, all.len)))
 
-  pub long_refused : k < length sets
-  long_refused =
-      let all : AreRefused s.test s.combination sets = subst (AreRefused s.test s.combination) (sym same) (subst (λ (u : Stand). AreRefused u.test u.combination x.refused.items) view is.refused) in
-      omega (arith, inside, all.len)
-
 -- a source that tests refuse is one of a read that a test asks about
 pub refused_tested : (t : Litmus) (c k w : ℕ) → IsRefusedAt t c k w → IsTestedAt t c k
 refused_tested t c k w refused = record { agent = refused.agent; known = refused.known; place = refused.place; test = refused.test; at_place = refused.at_place; asks = refused.asks }
