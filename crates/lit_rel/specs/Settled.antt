@@ -1,20 +1,10 @@
 -- Events whose past no further source changes (this project's own).
-use Rattle.std.specs.Prelude.{◌≡◌, ◌≢◌, ◌↔◌, ℕ, ◌<◌, ◌≤◌, IsTrue, List, ◌++◌, length, Some, slice_get}
+use Rattle.std.specs.Prelude.{◌≡◌, ◌↔◌, ℕ, ◌≤◌, List, ◌++◌, length, Some, slice_get}
 use Rattle.lit_paths.specs.declared.event.Event.{Event}
 use Rattle.lit_paths.specs.ByteReads.{byte_reads}
-use Rattle.lit_paths.specs.Event.{does_write, event_at}
 use Rattle.lit_paths.specs.Numbers.{AreGiven}
 use Rattle.lit_rel.specs.HappensBefore.{HappensBefore}
-use Rattle.lit_rel.specs.SynchronizesWith.{CanSynchronize}
-
--- Some other event that writes can synchronize with e. It has the range of e, so where e reads, it is a candidate of each
--- byte of e.
-pub record MaySynchronize (events : List Event) (e : ℕ) : Type 0 where
-  pub source : ℕ
-  pub known : source < length events
-  pub other : source ≢ e
-  pub writes : IsTrue (does_write (event_at events source).kind)
-  pub can : CanSynchronize (event_at events source) (event_at events e)
+use Rattle.lit_rel.specs.SynchronizesWith.{MaySynchronize}
 
 -- some byte that e reads has no source
 pub record HasByteLeft (events : List Event) (sources : List ℕ) (e : ℕ) : Type 0 where

@@ -3,28 +3,12 @@
 ghost use Rattle.std.specs.Prelude.{◌≡◌, ◌↔◌, ℕ, ◌<◌, ◌≤◌, IsTrue, Some, length, map, slice_get};
 ghost use Rattle.lit_paths.specs.ByteReads.{pair_of};
 ghost use Rattle.lit_rel.specs.Part.{part_events};
-ghost use Rattle.lit_rel.specs.Settled.{HasSettledPast, IsSettled, MaySynchronize};
+ghost use Rattle.lit_rel.specs.Settled.{HasSettledPast, IsSettled};
+ghost use Rattle.lit_rel.specs.SynchronizesWith.{MaySynchronize};
 
-use crate::given::relations::can_synchronize;
+use crate::event_set::EventSet;
 use crate::part::Part;
-use lit_paths::{ByteRead, Event, event_at};
-
-/// Whether another event, which writes, can synchronize with an event.
-fn may_synchronize(events: &[Event], event: usize) -> bool
-    requires { event < length events.now }
-    ensures { IsTrue result ↔ MaySynchronize events.now event }
-{
-    for source in 0..events.len() {
-        let other = event_at(events, source);
-        if source != event
-            && other.kind.does_write()
-            && can_synchronize(other, event_at(events, event))
-        {
-            return true;
-        }
-    }
-    false
-}
+use lit_paths::{ByteRead, event_at};
 
 /// Whether the byte reads from a place on have one of an event.
 fn has_read_from(reads: &[ByteRead], place: usize, event: usize) -> bool
@@ -40,6 +24,19 @@ fn has_read_from(reads: &[ByteRead], place: usize, event: usize) -> bool
 }
 
 impl Part<'_> {
+    /// Whether no other event that writes can synchronize (ECMA-262, 2024, 29.6.5) with an event: that is not sequentially
+    /// consistent, or no such write has its range. By its number, below that of events.
+    pub fn never_synchronizes(&self, event: usize) -> bool
+        requires { event < length (part_events self.now) }
+        ensures { IsTrue result ↔ ¬ MaySynchronize (part_events self.now) event }
+    {
+        !event_at(self.combination().events(), event).is_seq_cst()
+            || self
+                .peers
+                .successors(event)
+                .is_within(EventSet::new().with(event))
+    }
+
     /// Whether an event is settled, by its number: below the number of events.
     fn is_settled(&self, event: usize) -> bool
         requires { event < length (part_events self.now) }
@@ -47,7 +44,7 @@ impl Part<'_> {
     {
         let combination = self.combination();
         !has_read_from(combination.byte_reads(), self.len(), event)
-            || !may_synchronize(combination.events(), event)
+            || self.never_synchronizes(event)
     }
 
     /// Whether an event, by its number, is settled, and so is each event that happens before it: some byte that it
