@@ -19,7 +19,7 @@ use Rattle.lit_rel.specs.ReadsFrom.{ReadsByteFrom, composed}
 use Rattle.lit_rel.specs.TearFree.{HasTearFreeReads, ReadsWholeBy}
 use Rattle.lit_rel.proofs.ByteReadLemmas.{IsReadByte, read_byte, read_once}
 use Rattle.lit_rel.proofs.EdgeLemmas.{HappensBeforeBy-transitive}
-use Rattle.lit_rel.proofs.OtherSourceLemmas.{before_to, others_take_place, taken}
+use Rattle.lit_rel.proofs.OtherSourceLemmas.{before_to, others_take_place, taken, unordered_alone, unordered_apart}
 use Rattle.lit_rel.proofs.PlaceLemmas.{place-set_other, place-set_same}
 use Rattle.lit_rel.proofs.SourceLemmas.{read_known}
 
@@ -118,7 +118,7 @@ module _ (events : List Event) (sources : List ℕ) (k r b i : ℕ) (are : AreSo
           subst (λ (x : ℕ). IsCandidate events x c w) (sym new.0) (subst (λ (x : ℕ). IsCandidate events r x w) (sym new.1) (subst (λ (x : ℕ). IsCandidate events r b x) (sym new.2) candidate))
 
   earlier_to : (e d : ℕ) → HappensBefore events others e d → HappensBefore events sources e d
-  earlier_to = before_to events sources others r can.unordered elsewhere
+  earlier_to = before_to events sources others r (unordered_apart events sources r can.unordered) (unordered_apart events others r can.unordered) elsewhere
 
   -- ---- coherent reads
   made_before : HappensBefore events sources i r
@@ -179,7 +179,14 @@ module _ (events : List Event) (sources : List ℕ) (k r b i : ℕ) (are : AreSo
       by (inl one) (inl two) = has r w v (record { reads = (first.reads.0, one); can = first.can }) (record { reads = (second.reads.0, two); can = second.can })
 
   pub can_take : CanTakeOthers events sources others r
-  can_take = record { sourced = sourced; elsewhere = elsewhere; unordered = can.unordered; plain = plain_there; whole = whole }
+  can_take = record {
+    sourced = sourced;
+    elsewhere = elsewhere;
+    alone = unordered_alone events r can.unordered;
+    apart = unordered_apart events sources r can.unordered;
+    plain = plain_there;
+    whole = whole;
+  }
 
 pub init_takes_place : InitTakesPlace
 init_takes_place events sources k r b i are no_cycle can = others_take_place events sources (with_source sources k i) r (can_take events sources k r b i are no_cycle can)

@@ -1,4 +1,4 @@
--- Other sources for the bytes of one unordered read.
+-- Other sources for the bytes of one read.
 use Rattle.std.proofs.Common.{◌≡◌, ◌≢◌, ◌⊎◌, ℕ, ◌==◌, suc, Bool, true, false, cond, Some, List, [], ◌∷◌, length, filter, map, refl, sym, ap, subst, ◌∙◌, arith, inl, inr}
 use Rattle.std.proofs.lemmas.Bool.{cases_eq}
 use Rattle.std.proofs.lemmas.Bool.Decides.{nat_tests}
@@ -8,15 +8,17 @@ use Rattle.lit_paths.specs.declared.event.Event.{Event}
 use Rattle.lit_paths.specs.declared.event.Order3.{Order3}
 use Rattle.lit_paths.specs.declared.event.Order3.TheVariants.{SeqCst, Unordered, Init}
 use Rattle.lit_paths.specs.ByteReads.{byte_reads}
+use Rattle.lit_paths.specs.Choice.{AreSources}
 use Rattle.lit_paths.specs.Event.{event_at, payload_at}
 use Rattle.lit_rel.specs.Coherent.{HasCoherentReads, IsCoherentRead}
 use Rattle.lit_rel.specs.Forbidden.{IsForbidden, IsForbiddenBetween}
 use Rattle.lit_rel.specs.HappensBefore.{HappensBefore, StepBy}
 use Rattle.lit_rel.specs.OtherSources.{AreSameBut, CanTakeOthers, IsPlainSource, OrderStaysWithOthers, OthersTakePlace, StaysAllowed, ValuesStayWithOthers}
 use Rattle.lit_rel.specs.ReadsFrom.{ReadsByteFrom, composed}
-use Rattle.lit_rel.specs.SynchronizesWith.{CanSynchronize, Synchronizes}
+use Rattle.lit_rel.specs.SynchronizesWith.{MaySynchronize, Synchronizes, SynchronizesWithNone}
 use Rattle.lit_rel.specs.TearFree.{HasTearFreeReads, ReadsWholeBy}
 use Rattle.lit_rel.proofs.ChainLemmas.{Chain-same}
+use Rattle.lit_rel.proofs.ReadingLemmas.{write_known}
 
 -- ---- values
 -- the bytes that a read takes, of these byte reads
@@ -53,13 +55,27 @@ pub values_stay_with_others : ValuesStayWithOthers
 values_stay_with_others events sources others r q long same other = ap composed (taken_elsewhere events (byte_reads events) sources others r q long same other)
 
 -- ---- what synchronizes, and what happens before
-pub not_seq_cst : (o : Order3) → o ≡ Unordered → o ≡ SeqCst → ⊥
+not_seq_cst : (o : Order3) → o ≡ Unordered → o ≡ SeqCst → ⊥
 not_seq_cst o is other = subst (λ (p : Order3). IsUnordered p) (sym is ∙ other) tt
   where
     IsUnordered : Order3 → Type 0
     IsUnordered Unordered = Unit {0}
     IsUnordered SeqCst = ⊥
     IsUnordered Init = ⊥
+
+-- nothing synchronizes with an unordered read
+pub unordered_alone : (events : List Event) (r : ℕ) → (event_at events r).order ≡ Unordered → ¬ MaySynchronize events r
+unordered_alone events r unordered may = not_seq_cst (event_at events r).order unordered may.can.reader
+
+pub unordered_apart : (events : List Event) (sources : List ℕ) (r : ℕ) → (event_at events r).order ≡ Unordered → SynchronizesWithNone events sources r
+unordered_apart events sources r unordered w s = not_seq_cst (event_at events r).order unordered s.can.reader
+
+-- a read with which no other event that writes can synchronize has no source with which it does
+pub alone_apart : (events : List Event) (sources : List ℕ) (r : ℕ) → AreSources events sources → ¬ MaySynchronize events r → SynchronizesWithNone events sources r
+alone_apart events sources r are alone w s =
+    let at = s.reads.1 in
+    let is = are.each at.0 r s.reads.0 w at.1 at.2 in
+    alone record { source = w; known = is.known; other = is.other; writes = is.writes; can = s.can }
 
 happens_before_same : (events : List Event) (some more : List ℕ) → ((w q : ℕ) → Synchronizes events some w q → Synchronizes events more w q) → (e d : ℕ) → HappensBefore events some e d → HappensBefore events more e d
 happens_before_same events some more to e d h =
@@ -69,21 +85,21 @@ happens_before_same events some more to e d h =
     step x y (inl ordered) = inl ordered
     step x y (inr rest) = elim rest [ inl s ↦ inr (inl (to x y s)) | inr made ↦ inr (inr made) ]
 
-module _ (events : List Event) (sources others : List ℕ) (r : ℕ) (unordered : (event_at events r).order ≡ Unordered) (elsewhere : AreSameBut events r sources others) where
+module _ (events : List Event) (sources others : List ℕ) (r : ℕ) (apart : SynchronizesWithNone events sources r) (other_apart : SynchronizesWithNone events others r) (elsewhere : AreSameBut events r sources others) where
   given_to : (q c w : ℕ) → q ≢ r → ReadsByteFrom events others q c w → ReadsByteFrom events sources q c w
   given_to q c w other (j, at, from) = (j, at, sym (elsewhere j q c at other) ∙ from)
 
   given_back : (q c w : ℕ) → q ≢ r → ReadsByteFrom events sources q c w → ReadsByteFrom events others q c w
   given_back q c w other (j, at, from) = (j, at, elsewhere j q c at other ∙ from)
 
-  never : (w q : ℕ) → CanSynchronize (event_at events w) (event_at events q) → q ≢ r
-  never w q s same = not_seq_cst (event_at events r).order unordered (subst (λ (x : ℕ). CanSynchronize (event_at events w) (event_at events x)) same s).reader
+  never : (given : List ℕ) → SynchronizesWithNone events given r → (w q : ℕ) → Synchronizes events given w q → q ≢ r
+  never given none w q s same = none w (subst (λ (x : ℕ). Synchronizes events given w x) same s)
 
   synchronizes_to : (w q : ℕ) → Synchronizes events others w q → Synchronizes events sources w q
-  synchronizes_to w q s = record { reads = (s.reads.0, given_to q s.reads.0 w (never w q s.can) s.reads.1); can = s.can }
+  synchronizes_to w q s = record { reads = (s.reads.0, given_to q s.reads.0 w (never others other_apart w q s) s.reads.1); can = s.can }
 
   synchronizes_back : (w q : ℕ) → Synchronizes events sources w q → Synchronizes events others w q
-  synchronizes_back w q s = record { reads = (s.reads.0, given_back q s.reads.0 w (never w q s.can) s.reads.1); can = s.can }
+  synchronizes_back w q s = record { reads = (s.reads.0, given_back q s.reads.0 w (never sources apart w q s) s.reads.1); can = s.can }
 
   pub before_to : (e d : ℕ) → HappensBefore events others e d → HappensBefore events sources e d
   before_to = happens_before_same events others sources synchronizes_to
@@ -92,15 +108,18 @@ module _ (events : List Event) (sources others : List ℕ) (r : ℕ) (unordered 
   before_back = happens_before_same events sources others synchronizes_back
 
 pub order_stays_with_others : OrderStaysWithOthers
-order_stays_with_others events sources others r unordered same e d = (before_to events sources others r unordered same e d, before_back events sources others r unordered same e d)
+order_stays_with_others events sources others r apart other_apart same e d = (before_to events sources others r apart other_apart same e d, before_back events sources others r apart other_apart same e d)
 
 -- ---- what is allowed
 module _ (events : List Event) (sources others : List ℕ) (r : ℕ) (can : CanTakeOthers events sources others r) where
+  other_none : SynchronizesWithNone events others r
+  other_none = alone_apart events others r can.sourced can.alone
+
   to : (e d : ℕ) → HappensBefore events others e d → HappensBefore events sources e d
-  to = before_to events sources others r can.unordered can.elsewhere
+  to = before_to events sources others r can.apart other_none can.elsewhere
 
   old : (q c w : ℕ) → q ≢ r → ReadsByteFrom events others q c w → ReadsByteFrom events sources q c w
-  old = given_to events sources others r can.unordered can.elsewhere
+  old = given_to events sources others r can.apart other_none can.elsewhere
 
   between_to : (w q v : ℕ) → IsForbiddenBetween events (HappensBefore events others) w q v → IsForbiddenBetween events (HappensBefore events sources) w q v
   between_to w q v f = record {
@@ -121,8 +140,18 @@ module _ (events : List Event) (sources others : List ℕ) (r : ℕ) (can : CanT
   forbids_none : (before : ℕ → ℕ → Type 0) (w v : ℕ) → (event_at events w).order ≢ SeqCst → IsForbiddenBetween events before w r v → ⊥
   forbids_none before w v plain f =
       elim f.pattern [
-        | inl one ↦ not_seq_cst (event_at events r).order can.unordered one.synchronized.reader
-        | inr rest ↦ elim rest [ inl two ↦ plain two.source | inr three ↦ not_seq_cst (event_at events r).order can.unordered three.reader ]
+        | inl one ↦ plain one.synchronized.writer
+        | inr rest ↦ elim rest [
+          | inl two ↦ plain two.source
+          | inr three ↦
+              can.alone record {
+                source = v;
+                known = write_known events v f.writes;
+                other = f.not_read;
+                writes = f.writes;
+                can = record { writer = f.ordered; reader = three.reader; same_range = three.same_range };
+              }
+        ]
       ]
 
   forbidden_to : (w q v : ℕ) → IsForbidden events others w q v → IsForbidden events sources w q v
@@ -166,8 +195,8 @@ module _ (events : List Event) (sources others : List ℕ) (r : ℕ) (can : CanT
   pub stays_allowed : StaysAllowed events sources others
   stays_allowed = record {
     sourced = can.sourced;
-    synchronizes = λ w q. (synchronizes_to events sources others r can.unordered can.elsewhere w q, synchronizes_back events sources others r can.unordered can.elsewhere w q);
-    happens_before = λ e d. order_stays_with_others events sources others r can.unordered can.elsewhere e d;
+    synchronizes = λ w q. (synchronizes_to events sources others r can.apart other_none can.elsewhere w q, synchronizes_back events sources others r can.apart other_none can.elsewhere w q);
+    happens_before = λ e d. order_stays_with_others events sources others r can.apart other_none can.elsewhere e d;
     forbidden = forbidden_to;
     coherent = coherent;
     tear_free = tear_free;

@@ -23,9 +23,10 @@ use Rattle.lit_rel.specs.OtherSources.{AreSameBut, IsPlainSource}
 use Rattle.lit_rel.specs.Part.{PartModel, part_events, with_sources}
 use Rattle.lit_rel.specs.ReadsFrom.{ReadsByteFrom, composed, value_of}
 use Rattle.lit_rel.specs.Settled.{HasSettledPast}
+use Rattle.lit_rel.specs.SynchronizesWith.{SynchronizesWithNone}
 use Rattle.lit_rel.specs.TearFree.{CanReadWhole, HasTearFreeReads, ReadsWholeBy}
 use Rattle.lit_rel.proofs.EdgeLemmas.{HappensBeforeBy-transitive}
-use Rattle.lit_rel.proofs.OtherSourceLemmas.{order_stays_with_others}
+use Rattle.lit_rel.proofs.OtherSourceLemmas.{alone_apart, order_stays_with_others}
 use Rattle.lit_rel.proofs.PlaceLemmas.{place-left, place_from-left}
 use Rattle.lit_search.specs.declared.cursor.Cursor.TheInside.{Inside}
 use Rattle.lit_search.specs.Completion.{Completes, IsEntered}
@@ -149,9 +150,12 @@ module _ (laws : Laws) (s : Stand) (entered : IsEntered (part_at s)) (placed : A
     others_sourced : AreSources events others
     others_sourced = record { one_each = swapped_long r w v here (byte_reads events) x.sources ∙ sourced.one_each; each = candidates }
 
+    apart : SynchronizesWithNone events x.sources r
+    apart = alone_apart events x.sources r sourced is.alone
+
     -- what happens before an event with a settled past is what did
     stays : (e d : ℕ) → HasSettledPast events part.sources e → HappensBefore events others d e → HappensBefore events part.sources d e
-    stays e d past h = (past_stays laws part x e d goes past).0 ((order_stays_with_others events x.sources others r is.unordered elsewhere d e).0 h)
+    stays e d past h = (past_stays laws part x e d goes past).0 ((order_stays_with_others events x.sources others r apart (alone_apart events others r others_sourced is.alone) elsewhere d e).0 h)
 
     coherent : (b : ℕ) → StoresAlike part r b w v → IsCoherentRead events (HappensBefore events others) r b v
     coherent b stores = record {
@@ -231,7 +235,7 @@ module _ (laws : Laws) (s : Stand) (entered : IsEntered (part_at s)) (placed : A
 
     as_good : AreAsGood t s.combination x.sources others r
     as_good = record {
-      can = record { sourced = others_sourced; elsewhere = elsewhere; unordered = is.unordered; plain = plain; whole = tear_free };
+      can = record { sourced = others_sourced; elsewhere = elsewhere; alone = is.alone; apart = apart; plain = plain; whole = tear_free };
       held = λ _. value_same;
       tested = λ bad. whole (inr (inr (r, all_given, subst (λ (n : ℕ). HasFalseTestOn t s.combination (Some r) n) value_same bad)));
     }

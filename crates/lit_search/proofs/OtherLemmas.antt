@@ -22,6 +22,7 @@ use Rattle.lit_rel.specs.Part.{AreFirstSources, PartModel, part_events}
 use Rattle.lit_rel.specs.ReadsFrom.{ReadsByteFrom}
 use Rattle.lit_rel.specs.Settled.{HasSettledPast}
 use Rattle.lit_rel.specs.TearFree.{HasTearFreeReads, ReadsWholeBy}
+use Rattle.lit_rel.proofs.OtherSourceLemmas.{alone_apart}
 use Rattle.lit_rel.proofs.RefusalLemmas.{whole_from_last}
 use Rattle.lit_rel.proofs.EdgeLemmas.{HappensBeforeBy-transitive}
 use Rattle.lit_search.specs.Completion.{Completes, IsEntered}
@@ -196,7 +197,7 @@ module _ (laws : Laws) (s : Stand) (entered : IsEntered (part_at s)) (placed : A
 
     as_good : AreAsGood t s.combination x.sources others r
     as_good = record {
-      can = record { sourced = others_sourced; elsewhere = elsewhere; unordered = is.free.unordered; plain = plain; whole = tear_free };
+      can = record { sourced = others_sourced; elsewhere = elsewhere; alone = is.free.alone; apart = alone_apart events x.sources r sourced is.free.alone; plain = plain; whole = tear_free };
       held = λ held. absurd (is.free.not_held held);
       tested = λ bad. whole (inr (inr (r, is.free.given, subst (λ (v : ℕ). HasFalseTestOn t s.combination (Some r) v) (laws.stay events part.sources rest r is.free.given) bad)));
     }

@@ -1,6 +1,5 @@
 -- When a lesser source that stores the same bytes stands for a source of the last read of a part.
 use Rattle.std.specs.Prelude.{◌≡◌, ◌≢◌, ◌⊎◌, ℕ, ◌<◌, ◌≤◌, IsTrue, List, Some, length, slice_get}
-use Rattle.lit_paths.specs.declared.event.Order3.TheVariants.{Unordered}
 use Rattle.lit_paths.specs.ByteReads.{IsCandidate, byte_reads}
 use Rattle.lit_paths.specs.Event.{HasByte, event_at, payload_at}
 use Rattle.lit_rel.specs.Coherent.{IsCoherentRead}
@@ -8,6 +7,7 @@ use Rattle.lit_rel.specs.Growth.{IsGivenWhole}
 use Rattle.lit_rel.specs.HappensBefore.{HappensBefore}
 use Rattle.lit_rel.specs.Part.{PartModel, part_events}
 use Rattle.lit_rel.specs.Settled.{HasSettledPast}
+use Rattle.lit_rel.specs.SynchronizesWith.{MaySynchronize}
 use Rattle.lit_rel.specs.TearFree.{CanReadWhole}
 use Rattle.lit_search.specs.declared.cursor.alike.LastRead.{LastRead}
 use Rattle.lit_search.specs.Internal.Others.{CanStand}
@@ -79,20 +79,20 @@ pub record HasAlikeAt (part : PartModel) (r first : ℕ) : Type 0 where
   pub other : ℕ
   pub alike : IsAlike part r place first source other
 
--- The last source is one of a read that is unordered, whose byte reads begin at a place at the earliest. Where it is said to
--- be whole, each of its bytes has a source.
+-- The last source is one of a read with which no other event that writes can synchronize, and whose byte reads begin at a
+-- place at the earliest. Where it is said to be whole, each of its bytes has a source.
 pub record IsLastRead (part : PartModel) (read : LastRead) : Type 0 where
   pub known : read.event < length (part_events part)
-  pub unordered : (event_at (part_events part) read.event).order ≡ Unordered
+  pub alone : ¬ MaySynchronize (part_events part) read.event
   pub few : read.first < length part.sources
   pub count : length part.sources ≤ length (byte_reads (part_events part))
   pub before : AreOfOthers (byte_reads (part_events part)) read.event read.first
   pub given : IsTrue read.whole → IsGivenWhole (part_events part) part.sources read.event
 
--- A lesser event is alike to a source of a read, which is unordered, and whose byte reads before a place keep their sources.
--- What happens before the read is the same whatever is given besides.
+-- A lesser event is alike to a source of a read with which no other event that writes can synchronize, and whose byte reads
+-- before a place keep their sources. What happens before the read is the same whatever is given besides.
 pub record HasAlike (part : PartModel) (first : ℕ) : Type 0 where
   pub read : ℕ
-  pub unordered : (event_at (part_events part) read).order ≡ Unordered
+  pub alone : ¬ MaySynchronize (part_events part) read
   pub past : HasSettledPast (part_events part) part.sources read
   pub some : HasAlikeAt part read first

@@ -1,13 +1,14 @@
 -- When the sources of the last read of a part stand for all others.
 use Rattle.std.specs.Prelude.{◌≡◌, ◌≢◌, ℕ, ◌<◌, ◌≤◌, List, Some, length, slice_get}
 use Rattle.lit_read.specs.Syntax.{Litmus}
-use Rattle.lit_paths.specs.declared.event.Order3.TheVariants.{SeqCst, Unordered}
+use Rattle.lit_paths.specs.declared.event.Order3.TheVariants.{SeqCst}
 use Rattle.lit_paths.specs.ByteReads.{byte_reads}
 use Rattle.lit_paths.specs.Event.{event_at}
 use Rattle.lit_rel.specs.Growth.{IsGivenWhole}
 use Rattle.lit_rel.specs.Part.{PartModel, part_events}
 use Rattle.lit_rel.specs.ReadsFrom.{ReadsFrom}
 use Rattle.lit_rel.specs.Settled.{HasSettledPast}
+use Rattle.lit_rel.specs.SynchronizesWith.{MaySynchronize}
 use Rattle.lit_search.specs.Report.{Gives}
 use Rattle.lit_search.specs.StandsFor.{IsHeld}
 
@@ -16,11 +17,11 @@ pub record CanStand (part : PartModel) (w : ℕ) : Type 0 where
   pub ordered : (event_at (part_events part) w).order ≢ SeqCst
   pub past : HasSettledPast (part_events part) part.sources w
 
--- Read r has all its bytes, and is unordered. No register holds it at the end, and what happens before it is the same
--- whatever is given besides.
+-- Read r has all its bytes, and no other event that writes can synchronize with it. No register holds it at the end, and what
+-- happens before it is the same whatever is given besides.
 pub record IsFree (part : PartModel) (r : ℕ) : Type 0 where
   pub given : IsGivenWhole (part_events part) part.sources r
-  pub unordered : (event_at (part_events part) r).order ≡ Unordered
+  pub alone : ¬ MaySynchronize (part_events part) r
   pub not_held : ¬ IsHeld part.test part.combination r
   pub past : HasSettledPast (part_events part) part.sources r
 

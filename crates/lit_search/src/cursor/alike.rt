@@ -1,7 +1,7 @@
 //! Whether a lesser event that stores the same bytes stands for a source of the last read of a part.
 //!
-//! A read that is unordered has the same value from either. So the choices with the greater one show nothing but what those
-//! with the lesser one do, if what happens before the read and before the lesser event is settled. Where the read can be
+//! A read with which nothing can synchronize has the same value from either. So the choices with the greater one show nothing
+//! but what those with the lesser one do, if what happens before the read and before the lesser event is settled. Where the read can be
 //! whole from the lesser event, this takes the source's place in each byte that has it, and is looked for once the read has
 //! all its bytes. Else it takes the place of the last source alone.
 
@@ -16,7 +16,6 @@ ghost use Rattle.lit_search.specs.Internal.Places.{low_at, part_at, stand_events
 
 use crate::cursor::Cursor;
 use crate::cursor::standing_for_others::{can_stand, is_last_of_read};
-use crate::cursor::standing_in::is_unordered;
 use crate::laws::completions::laws;
 use lit_paths::laws::choices_have_numbers;
 use lit_paths::{ByteRead, Event, event_at};
@@ -249,7 +248,7 @@ impl Cursor<'_> {
         false
     }
 
-    /// The read of its last source, if it is unordered.
+    /// The read of its last source, if no other event that writes can synchronize with it.
     fn last_read(&self) -> Option<LastRead>
         ensures { IfSome result (IsLastRead (part_at self.now)) }
     {
@@ -259,10 +258,9 @@ impl Cursor<'_> {
             return None;
         }
         let last = part.len() - 1;
-        let combination = part.combination();
-        let reads = combination.byte_reads();
+        let reads = part.combination().byte_reads();
         let event = reads[last].read;
-        if !is_unordered(event_at(combination.events(), usize::from(event))) {
+        if !part.never_synchronizes(usize::from(event)) {
             return None;
         }
         let first = first_of(reads, event, last);

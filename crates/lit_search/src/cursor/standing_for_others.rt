@@ -1,7 +1,8 @@
 //! Whether the sources of the last read of a part can stand for all others.
 //!
-//! A read that is unordered and that no register holds at the end changes nothing but its path. So of its sources the first
-//! ones with which there is a valid execution are enough, if what happens before it and before them is settled.
+//! A read with which nothing can synchronize and that no register holds at the end changes nothing but its path. So of its
+//! sources the first ones with which there is a valid execution are enough, if what happens before it and before them is
+//! settled.
 
 ghost use Rattle.std.specs.Prelude.{◌≡◌, ◌↔◌, ◌+◌, ℕ, ◌<◌, ◌≤◌, IfSome, IsTrue, Some, length, map, slice_get};
 ghost use Rattle.lit_paths.specs.ByteReads.{pair_of};
@@ -11,7 +12,6 @@ ghost use Rattle.lit_search.specs.Internal.Passing.{first_places};
 ghost use Rattle.lit_search.specs.Internal.Places.{behind_at};
 
 use crate::cursor::Cursor;
-use crate::cursor::standing_in::is_unordered;
 use crate::cursor::used::is_held;
 use crate::laws::completions::laws;
 use lit_paths::{ByteRead, Plan, event_at};
@@ -74,13 +74,12 @@ fn stands_from(plan: &Plan<'_>, part: &Part<'_>) -> Option<usize>
     ensures stands { IfSome result (λ first. (r : ℕ) × StandsForOthers part.now r first) }
 {
     laws();
-    let combination = part.combination();
-    let reads = combination.byte_reads();
+    let reads = part.combination().byte_reads();
     let last = part.len() - 1;
     let read = reads[last].read;
     let event = usize::from(read);
     if is_last_of_read(reads, last)
-        && is_unordered(event_at(combination.events(), event))
+        && part.never_synchronizes(event)
         && !is_held(plan, part, read)
         && part.has_settled_past(event)
         && all_can_stand(part, event)

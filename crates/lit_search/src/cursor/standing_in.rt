@@ -15,7 +15,7 @@ use lit_paths::{ByteRead, Event, Order3, Plan, event_at};
 use lit_rel::{Part, Rows, payload_at};
 
 /// Whether an event is unordered.
-pub(crate) fn is_unordered(event: &Event) -> bool
+fn is_unordered(event: &Event) -> bool
     ensures { IsTrue result ↔ (event.now.order ≡ Unordered) }
 {
     event.order == Order3::Unordered

@@ -17,7 +17,7 @@ returns c =
       omega (arith, last.few, length-part c.args.self.now (part_at c.args.self.now) refl),
       record {
         read = read.event;
-        unordered = last.unordered;
+        alone = last.alone;
         past = subst (λ (p : PartModel). HasSettledPast (part_events p) p.sources read.event) c.part.ensures.value
             (subst (λ (e : ℕ). HasSettledPast (part_events c.part.result.now) c.part.result.now.sources e) c.from.ensures (c.has_settled_past.ensures.0 settled));
         some = c.some_has_alike.ensures c.if-not-some_has_alike.false;
