@@ -8,6 +8,7 @@ use lit_texts::{
     LOAD_BUFFERING, MESSAGE_PASSING, OWN_STORE, STORE_BUFFERING, STORE_BUFFERING_MIXED,
     STORE_BUFFERING_PLAIN, TYPED_READ, VIEWED_READ,
 };
+use std::alloc::AllocGlobal;
 use std::process::Abort;
 use std::test::Fail;
 
@@ -63,6 +64,36 @@ fn a_flag_adds_a_pair_and_takes_it_back(rt: HostRuntime) -> Result<(), Fail> {
     part.pop();
     assert_eq!(rt; part.last_pair(), Some((3, 4)));
     Ok(())
+}
+
+/// In the part of the first combination of a test the events with these numbers, and no others, are ones with which another
+/// event that writes can synchronize.
+fn assert_synchronizing(
+    rt: &(impl Abort + AllocGlobal),
+    text: &str,
+    wanted: &[usize],
+) -> Result<(), Fail> {
+    let test = read(rt.alloc(), text.as_bytes())?;
+    let plan = plan(rt.alloc(), &test)?;
+    assert!(rt; plan.combinations() > 0);
+    let part = Part::open(&plan, 0);
+    for event in 0..part.happens_before().len() {
+        assert_eq!(rt;
+            part.never_synchronizes(event),
+            !wanted.contains(&event),
+            "at {event}"
+        );
+    }
+    Ok(())
+}
+
+/// A loads byte 1 (3), which B stores (4), and B loads byte 0 (5), which A stores (2), all of it seq-cst. Where the stores
+/// are wider than the loads, or all is plain, nothing can synchronize.
+#[test]
+fn only_loads_of_stored_ranges_can_synchronize(rt: HostRuntime) -> Result<(), Fail> {
+    assert_synchronizing(&rt, STORE_BUFFERING, &[3, 5])?;
+    assert_synchronizing(&rt, STORE_BUFFERING_MIXED, &[])?;
+    assert_synchronizing(&rt, STORE_BUFFERING_PLAIN, &[])
 }
 
 /// The init events are one list, each agent's accesses another, and an init event comes before each access of its byte.
