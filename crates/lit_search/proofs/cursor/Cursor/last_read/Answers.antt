@@ -1,4 +1,4 @@
-use Rattle.std.proofs.Common.{◌≡◌, ◌-◌, ◌<◌, ℕ, List, length, get_or, subst, arith}
+use Rattle.std.proofs.Common.{◌-◌, ◌<◌, ℕ, List, length, get_or, subst, arith}
 use Rattle.lit_paths.specs.declared.byte_reads.ByteRead.{ByteRead}
 use Rattle.lit_rel.specs.Part.{PartModel, part_events}
 use Rattle.lit_rel.specs.SynchronizesWith.{MaySynchronize}
