@@ -1,9 +1,9 @@
 //! Whether a lesser event that stores the same bytes stands for a source of the last read of a part.
 //!
 //! A read with which nothing can synchronize has the same value from either. So the choices with the greater one show nothing
-//! but what those with the lesser one do, if what happens before the read and before the lesser event is settled. Where the read can be
-//! whole from the lesser event, this takes the source's place in each byte that has it, and is looked for once the read has
-//! all its bytes. Else it takes the place of the last source alone.
+//! but what those with the lesser one do, if what happens before the read and before the lesser event is settled. Where the
+//! read can be whole from the lesser event, this takes the source's place in each byte that has it, and is looked for once
+//! the read has all its bytes. Else it takes the place of the last source alone.
 
 ghost use Rattle.std.specs.Prelude.{◌≡◌, ◌⊎◌, ◌↔◌, ◌-◌, ℕ, ◌<◌, ◌≤◌, IfSome, IsTrue, Some, length, map, slice_get};
 ghost use Rattle.lit_paths.specs.ByteReads.{byte_reads, pair_of};
