@@ -20,3 +20,4 @@ pub mod Others
 pub mod Alike
 pub mod Runners
 pub mod Foreseeing
+pub mod Coming
