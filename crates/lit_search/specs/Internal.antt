@@ -21,3 +21,4 @@ pub mod Alike
 pub mod Runners
 pub mod Foreseeing
 pub mod Coming
+pub mod Listing
