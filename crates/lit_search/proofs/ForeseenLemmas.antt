@@ -84,6 +84,19 @@ module _ (part : PartModel) where
         let o = order_of x goes order goes.goes_on.valid.ordered.1 in
         never_before_itself order o.complete.once round.0 (keeps before between as_long order o round.0 round.0 round.1)
 
+  -- ---- its sources
+  sourced : (x : Execution) (is : Completes part x) → AreSources events (part.sources ++ is.rest)
+  sourced x is = carried part x is AreSources is.valid.candidate.sourced
+
+  -- that of a byte read is one of its candidates
+  pub source_at : (k r b : ℕ) → slice_get (byte_reads events) k ≡ Some (r, b) → (list : List ℕ) → ListsCandidates events r b list → (x : Execution) → Completes part x → (w : ℕ) × (slice_get x.sources k ≡ Some w) × ((j : ℕ) × (slice_get list j ≡ Some w))
+  source_at k r b read_at list lists x is =
+      let more = part.sources ++ is.rest in
+      let its = sourced x is in
+      let w = get_or more k 0 in
+      let at : slice_get more k ≡ Some w = slice_get-get_or more k 0 (omega (arith, slice_get_within (byte_reads events) k (r, b) read_at, its.one_each)) in
+      (w, ap (λ (ws : List ℕ). slice_get ws k) is.begun ∙ at, lists.all w (its.each k r b w read_at at))
+
   module _ (laws : Laws) where
     -- at first what the part has is kept
     module _ (before : Rows) (between : BetweenModel) (len : rows_len before ≡ length events) (triples_len : between.len ≡ length events) (pairs : (e d : ℕ) → Holds before e d ↔ before_of e d)
@@ -141,9 +154,6 @@ module _ (part : PartModel) where
     -- ---- what can't stand
     module _ (refused : RefusedBytesMakeFalse) (no_order : (some : PartModel) → AreFirstSources some → IsForcedRound some → (order : List ℕ) → ¬ IsMemoryOrder (part_events some) some.sources order)
         (entered : IsEntered part) (sound : AreEventsIn part.test.bytes events) where
-      sourced : (x : Execution) (is : Completes part x) → AreSources events (part.sources ++ is.rest)
-      sourced x is = carried part x is AreSources is.valid.candidate.sourced
-
       module _ (before : Rows) (between : BetweenModel) where
         out_of_all : (x : Execution) (goes : GoesOnWith part before between x) (r b w : ℕ) → ReadsByteFrom events (part.sources ++ goes.goes_on.rest) r b w → IsOut part (Holds before) r b w → ⊥
         out_of_all x goes r b w reads (inl tested) =
@@ -170,23 +180,15 @@ module _ (part : PartModel) where
 
       -- a byte read has some candidate that is not out
       module _ (k r b : ℕ) (read_at : slice_get (byte_reads events) k ≡ Some (r, b)) (list : List ℕ) (lists : ListsCandidates events r b list) where
-        pub source_at : (x : Execution) (is : Completes part x) → (w : ℕ) × (slice_get x.sources k ≡ Some w) × ((j : ℕ) × (slice_get list j ≡ Some w))
-        source_at x is =
-            let more = part.sources ++ is.rest in
-            let its = sourced x is in
-            let w = get_or more k 0 in
-            let at : slice_get more k ≡ Some w = slice_get-get_or more k 0 (omega (arith, slice_get_within (byte_reads events) k (r, b) read_at, its.one_each)) in
-            (w, ap (λ (ws : List ℕ). slice_get ws k) is.begun ∙ at, lists.all w (its.each k r b w read_at at))
-
         module _ (before : Rows) (between : BetweenModel) where
           pub none_left : ((j c : ℕ) → slice_get list j ≡ Some c → IsOut part (Holds before) r b c) → NoneGoesOnWith part before between
           none_left out x goes =
-              let found = source_at x goes.goes_on in
+              let found = source_at k r b read_at list lists x goes.goes_on in
               not_out before between x r b found.0 goes (k, read_at, found.1) (out found.2.0 found.0 found.2.1)
 
           pub one_left : (w : ℕ) → ((j c : ℕ) → slice_get list j ≡ Some c → c ≢ w → IsOut part (Holds before) r b c) → (x : Execution) → GoesOnWith part before between x → ReadsFrom events x.sources r w
           one_left w out x goes =
-              let found = source_at x goes.goes_on in
+              let found = source_at k r b read_at list lists x goes.goes_on in
               elim (cases_eq found.0 w) [
                 | inl same ↦ (b, (k, read_at, found.1 ∙ ap (λ (v : ℕ). Some v) same))
                 | inr other ↦ absurd (not_out before between x r b found.0 goes (k, read_at, found.1) (out found.2.0 found.0 found.2.1 other))

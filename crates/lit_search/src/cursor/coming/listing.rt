@@ -1,6 +1,6 @@
 //! Listing what can come on a combination.
 
-ghost use Rattle.std.specs.Prelude.{◌≡◌, ◌↔◌, ℕ, ◌<◌, ◌≤◌, All, IfNone, IfOk, IfSome, IsTrue, length};
+ghost use Rattle.std.specs.Prelude.{◌≡◌, ◌↔◌, ℕ, ◌<◌, ◌≤◌, [], ◌∷◌, ◌++◌, All, IfNone, IfOk, IfSome, IsTrue, length};
 ghost use Rattle.arrayvec.specs.ArrayVec.{array_vec_len};
 ghost use Rattle.lit_paths.specs.ByteReads.{byte_reads};
 ghost use Rattle.lit_paths.specs.declared.limits.TheConstants.{BYTE_READ_LIMIT};
@@ -47,6 +47,23 @@ fn copied(between: &Between) -> Between
         }
     }
     other
+}
+
+/// A copy of the sources of an item.
+fn copy_of(item: &Sources) -> Result<Sources, AllocError>
+    ensures { IfOk result (λ copy. copy.items ≡ item.now.items) }
+{
+    item.clone()
+}
+
+/// An item with one more source. There is room for it.
+fn item_with(item: &Sources, source: u8) -> Result<Sources, AllocError>
+    requires { array_vec_len item.now < BYTE_READ_LIMIT }
+    ensures { IfOk result (λ longer. longer.items ≡ item.now.items ++ source ∷ []) }
+{
+    let mut longer = copy_of(item)?;
+    longer.push(source);
+    Ok(longer)
 }
 
 /// What memory-orders keep where a byte read has a source besides; `None` where no valid execution has it there. Tests
@@ -108,7 +125,7 @@ fn add_item(
     let mut before = foreseen.before;
     let mut between = copied(&foreseen.between);
     if !leads_nowhere(part, sets, &mut before, &mut between) {
-        let sources = item.clone()?;
+        let sources = copy_of(item)?;
         items.push(Item { sources })?;
     }
     Ok(true)
@@ -144,8 +161,7 @@ fn list_on(
     for candidate in combination.candidates(number) {
         let more = foreseen_with(part, sets[number], foreseen, at, *candidate);
         if let Some(more) = more {
-            let mut longer = item.clone()?;
-            longer.push(*candidate);
+            let longer = item_with(item, *candidate)?;
             if !list_on(part, sets, numbers, &longer, &more, items)? {
                 return Ok(false);
             }
