@@ -1,5 +1,5 @@
 -- Lists of sources that valid executions have.
-use Rattle.std.proofs.Common.{◌≡◌, ℕ, ◌<◌, List, [], ◌∷◌, ◌++◌, Some, length, refl, sym, ap, subst, ◌∙◌, arith, inl, inr, length-append, get_or}
+use Rattle.std.proofs.Common.{◌≡◌, ℕ, ◌<◌, List, [], ◌∷◌, ◌++◌, Some, length, sym, ap, subst, ◌∙◌, arith, inl, inr, length-append, get_or}
 use Rattle.std.specs.Prelude.{slice_get}
 use Rattle.std.proofs.lemmas.Bool.{cases_lt}
 use Rattle.std.proofs.lemmas.List.{map-append}
@@ -52,12 +52,18 @@ module _ (items more : List Item) (item : Item) (pushed : more ≡ items ++ item
   with_it = ap items_of pushed ∙ map-append (λ (i : Item). i.sources.items) items (item ∷ [])
 
   pub stay_pushed : StayListed (items_of items) (items_of more)
-  stay_pushed other listed = (listed.0, ap (λ (ls : List (List ℕ)). slice_get ls listed.0) with_it
-    ∙ slice_get_left (items_of items) (item.sources.items ∷ []) listed.0 (slice_get_within (items_of items) listed.0 other listed.1) ∙ listed.1)
+  stay_pushed other listed = (
+    listed.0,
+    ap (λ (ls : List (List ℕ)). slice_get ls listed.0) with_it
+        ∙ slice_get_left (items_of items) (item.sources.items ∷ []) listed.0 (slice_get_within (items_of items) listed.0 other listed.1) ∙ listed.1,
+  )
 
   pub listed_pushed : IsListed (items_of more) item.sources.items
-  listed_pushed = (length (items_of items), ap (λ (ls : List (List ℕ)). slice_get ls (length (items_of items))) with_it
-    ∙ slice_get_right (items_of items) (item.sources.items ∷ []) (length (items_of items)) 0 (omega arith))
+  listed_pushed = (
+    length (items_of items),
+    ap (λ (ls : List (List ℕ)). slice_get ls (length (items_of items))) with_it
+        ∙ slice_get_right (items_of items) (item.sources.items ∷ []) (length (items_of items)) 0 (omega arith),
+  )
 
 -- ---- one more source
 pub takes_longer : (numbers item longer sources : List ℕ) (k c : ℕ) → longer ≡ item ++ c ∷ [] → slice_get numbers (length item) ≡ Some k → slice_get sources k ≡ Some c → Takes numbers item sources → Takes numbers longer sources

@@ -176,7 +176,8 @@ pub(crate) fn put_source(
     requires read { read < length (part_events part.now) }
     requires of_part { AreOfPart part.now before.old between.old }
     ensures of_part { AreOfPart part.now before.new between.new }
-    ensures kept { (x : Execution) → GoesOnWith part.now before.old between.old x → ReadsFrom (part_events part.now) x.sources read source → GoesOnWith part.now before.new between.new x }
+    ensures kept { (x : Execution) → GoesOnWith part.now before.old between.old x → ReadsFrom (part_events part.now) x.sources read source
+        → GoesOnWith part.now before.new between.new x }
 {
     laws();
     put_pair(part, before, source, read);

@@ -14,5 +14,5 @@ abbrev pub invariant-loop-candidate : goal.invariant-loop-candidate
 invariant-loop-candidate l = record {
   stay : StayListed (items_of l.fn.items.items) (items_of l.items.items);
   listed : (k c : ℕ) → k < l.candidate-index → slice_get l.candidate-items k ≡ Some c → (x : Execution) → GoesOnWith l.part l.foreseen.before l.foreseen.between x → Takes l.numbers l.item.items x.sources
-    → slice_get x.sources l.number ≡ Some c → HasItem l.numbers (items_of l.items.items) x.sources;
+      → slice_get x.sources l.number ≡ Some c → HasItem l.numbers (items_of l.items.items) x.sources;
 }
