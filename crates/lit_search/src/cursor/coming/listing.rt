@@ -6,7 +6,7 @@ ghost use Rattle.lit_paths.specs.ByteReads.{byte_reads};
 ghost use Rattle.lit_paths.specs.declared.limits.TheConstants.{BYTE_READ_LIMIT};
 ghost use Rattle.lit_paths.specs.Execution.{Execution};
 ghost use Rattle.lit_rel.specs.Between.{Forbids};
-ghost use Rattle.lit_rel.specs.Part.{PartModel, part_events};
+ghost use Rattle.lit_rel.specs.Part.{part_events};
 ghost use Rattle.lit_rel.specs.ReadsFrom.{ReadsByteFrom};
 ghost use Rattle.lit_rel.specs.TestedBytes.{TestsRefuse};
 ghost use Rattle.lit_search.specs.Completion.{Completes, IsEntered};
