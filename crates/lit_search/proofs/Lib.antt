@@ -2,6 +2,7 @@ pub mod PlaceLemmas
 pub mod StandLemmas
 pub mod LastLemmas
 pub mod ForeseenLemmas
+pub mod ListingLemmas
 pub mod RefusedLemmas
 pub mod LeftOutLemmas
 pub mod HeldLemmas

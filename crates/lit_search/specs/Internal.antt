@@ -20,3 +20,5 @@ pub mod Others
 pub mod Alike
 pub mod Runners
 pub mod Foreseeing
+pub mod Coming
+pub mod Listing

@@ -1,6 +1,7 @@
 //! Going through the choices of a combination, source by source.
 
 pub(crate) mod alike;
+pub(crate) mod coming;
 pub(crate) mod foreseeing;
 pub(crate) mod held;
 pub(crate) mod leaving_out;

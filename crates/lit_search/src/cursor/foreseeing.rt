@@ -10,13 +10,14 @@ ghost use Rattle.lit_paths.specs.declared.limits.TheConstants.{EVENT_LIMIT};
 ghost use Rattle.lit_paths.specs.Execution.{Execution};
 ghost use Rattle.lit_rel.specs.Between.{Forbids};
 ghost use Rattle.lit_rel.specs.Part.{PartModel, part_events};
+ghost use Rattle.lit_rel.specs.ReadsFrom.{ReadsFrom};
 ghost use Rattle.lit_rel.specs.TestedBytes.{TestsRefuse};
 ghost use Rattle.lit_rel.specs.Rows.{Holds, rows_len};
 ghost use Rattle.lit_search.specs.Completion.{Completes, IsEntered};
 ghost use Rattle.lit_search.specs.Foreseen.{IsApart, IsOut};
 ghost use Rattle.lit_search.specs.Internal.Places.{part_at};
 ghost use Rattle.lit_search.specs.Internal.RefusedSources.{AreRefused, HasIn};
-ghost use Rattle.lit_search.specs.Internal.Foreseeing.{GoesNowhere, IsAlwaysSource, IsForeseen, MaySynchronize};
+ghost use Rattle.lit_search.specs.Internal.Foreseeing.{AreAlwaysKept, AreForeseen, AreOfPart, GoesNowhere, GoesOnWith, MaySynchronize, NoneGoesOnWith};
 
 use crate::cursor::Cursor;
 use crate::cursor::refused_sources::RefusedSources;
@@ -28,6 +29,13 @@ use lit_order::laws::{
 use lit_paths::{BYTE_READ_LIMIT, ByteRead, event_at};
 use lit_rel::laws::refused_bytes_make_tests_false;
 use lit_rel::{Between, EventSet, Part, Rows, can_synchronize};
+
+/// Pairs and triples of events that memory-orders keep.
+#[derive(Drop)]
+pub(crate) struct Foreseen {
+    pub before: Rows,
+    pub between: Between,
+}
 
 /// Whether a source would synchronize with its read, before which it never stands, or something always stands between the
 /// two that may not stand there.
@@ -60,7 +68,7 @@ fn has_source(refused: Option<EventSet>, source: u8) -> bool
 }
 
 /// Whether a candidate can't be the source of a byte read, of whose candidates tests refuse those of a set.
-fn is_out(
+pub(crate) fn is_out(
     part: &Part<'_>,
     refused: Option<EventSet>,
     before: &Rows,
@@ -125,11 +133,11 @@ fn is_only(
 }
 
 /// Makes of what each memory-order keeps all that this forces. Answers `false` where that has an event before itself: then
-/// no valid execution goes on from the part.
-fn close(_part: &Part<'_>, before: &mut Rows, between: &Between) -> bool
-    requires { IsForeseen _part.now before.old between.now }
-    ensures foreseen { IsTrue result → IsForeseen _part.now before.new between.now }
-    ensures none { IsFalse result → GoesNowhere _part.now }
+/// no valid execution keeps it.
+pub(crate) fn close(_part: &Part<'_>, before: &mut Rows, between: &Between) -> bool
+    requires { AreOfPart _part.now before.old between.now }
+    ensures foreseen { IsTrue result → AreForeseen _part.now before.old between.now before.new between.now }
+    ensures none { IsFalse result → NoneGoesOnWith _part.now before.old between.now }
 {
     forcing_keeps_orders();
     orders_keep_what_is_forced();
@@ -155,14 +163,21 @@ fn put_pair(part: &Part<'_>, before: &mut Rows, source: u8, read: u8)
     }
 }
 
-/// Puts in what a source brings that a read always has, both by event number: their pair, and what may not stand between
-/// them, where there is room for it.
-fn put_source(part: &Part<'_>, before: &mut Rows, between: &mut Between, source: u8, read: u8)
+/// Puts in what a source of a read brings, both by event number: their pair, and what may not stand between them, where
+/// there is room for it. Each valid execution keeps it in which the read has this source.
+pub(crate) fn put_source(
+    part: &Part<'_>,
+    before: &mut Rows,
+    between: &mut Between,
+    source: u8,
+    read: u8,
+)
     requires source { source < length (part_events part.now) }
     requires read { read < length (part_events part.now) }
-    requires foreseen { IsForeseen part.now before.old between.old }
-    requires always { IsAlwaysSource part.now source read }
-    ensures { IsForeseen part.now before.new between.new }
+    requires of_part { AreOfPart part.now before.old between.old }
+    ensures of_part { AreOfPart part.now before.new between.new }
+    ensures kept { (x : Execution) → GoesOnWith part.now before.old between.old x → ReadsFrom (part_events part.now) x.sources read source
+        → GoesOnWith part.now before.new between.new x }
 {
     laws();
     put_pair(part, before, source, read);
@@ -172,7 +187,7 @@ fn put_source(part: &Part<'_>, before: &mut Rows, between: &mut Between, source:
 }
 
 /// Looks at a byte read, by its number: where it is sequentially consistent and has one source left, what this brings is
-/// put in. Says whether it is; `None` where no valid execution goes on from the part.
+/// put in. Says whether it is; `None` where no valid execution goes on so.
 fn look_at(
     part: &Part<'_>,
     sets: &RefusedSources,
@@ -183,9 +198,9 @@ fn look_at(
     requires refused { AreRefused part.now.test part.now.combination sets.now.items }
     requires known { number < length (byte_reads (part_events part.now)) }
     requires entered { IsEntered part.now }
-    requires foreseen { IsForeseen part.now before.old between.old }
-    ensures foreseen { OnSome result (IsForeseen part.now before.new between.new) }
-    ensures none { IfNone result (GoesNowhere part.now) }
+    requires of_part { AreOfPart part.now before.old between.old }
+    ensures foreseen { OnSome result (AreForeseen part.now before.old between.old before.new between.new) }
+    ensures none { IfNone result (NoneGoesOnWith part.now before.old between.old) }
 {
     laws();
     refused_bytes_make_tests_false();
@@ -222,9 +237,9 @@ fn look_once(
     requires refused { AreRefused part.now.test part.now.combination sets.now.items }
     requires known { number < length (byte_reads (part_events part.now)) }
     requires entered { IsEntered part.now }
-    requires foreseen { IsForeseen part.now before.old between.old }
-    ensures foreseen { OnSome result (IsForeseen part.now before.new between.new) }
-    ensures none { IfNone result (GoesNowhere part.now) }
+    requires of_part { AreOfPart part.now before.old between.old }
+    ensures foreseen { OnSome result (AreForeseen part.now before.old between.old before.new between.new) }
+    ensures none { IfNone result (NoneGoesOnWith part.now before.old between.old) }
 {
     laws();
     let read = usize::from(part.combination().byte_reads()[number].read);
@@ -239,7 +254,7 @@ fn look_once(
 }
 
 /// Looks at each byte read without a source. Says whether one more has one source left now; `None` where no valid execution
-/// goes on from the part.
+/// goes on so.
 fn look_on(
     part: &Part<'_>,
     sets: &RefusedSources,
@@ -249,9 +264,9 @@ fn look_on(
 ) -> Option<bool>
     requires refused { AreRefused part.now.test part.now.combination sets.now.items }
     requires entered { IsEntered part.now }
-    requires foreseen { IsForeseen part.now before.old between.old }
-    ensures foreseen { OnSome result (IsForeseen part.now before.new between.new) }
-    ensures none { IfNone result (GoesNowhere part.now) }
+    requires of_part { AreOfPart part.now before.old between.old }
+    ensures foreseen { OnSome result (AreForeseen part.now before.old between.old before.new between.new) }
+    ensures none { IfNone result (NoneGoesOnWith part.now before.old between.old) }
 {
     let mut further = false;
     for number in part.len()..part.reads() {
@@ -262,21 +277,22 @@ fn look_on(
     Some(further)
 }
 
-/// Whether no valid execution goes on from a part, as far as what can still stand shows.
-fn goes_nowhere(part: &Part<'_>, sets: &RefusedSources) -> bool
-    requires entered { IsEntered part.now }
+/// Whether no valid execution goes on from a part and keeps what each memory-order is to keep, as far as what can still
+/// stand shows. It puts in what it finds.
+pub(crate) fn leads_nowhere(
+    part: &Part<'_>,
+    sets: &RefusedSources,
+    before: &mut Rows,
+    between: &mut Between,
+) -> bool
     requires refused { AreRefused part.now.test part.now.combination sets.now.items }
-    ensures { IsTrue result → GoesNowhere part.now }
+    requires entered { IsEntered part.now }
+    requires of_part { AreOfPart part.now before.old between.old }
+    ensures { IsTrue result → NoneGoesOnWith part.now before.old between.old }
 {
-    laws();
-    let mut between = part.between();
-    let mut before = part.happens_before();
-    if !close(part, &mut before, &between) {
-        return true;
-    }
     let mut done = EventSet::new();
     for _turn in 0..part.reads() {
-        match look_on(part, sets, &mut before, &mut between, &mut done) {
+        match look_on(part, sets, before, between, &mut done) {
             None => return true,
             Some(further) => {
                 if !further {
@@ -286,6 +302,35 @@ fn goes_nowhere(part: &Part<'_>, sets: &RefusedSources) -> bool
         }
     }
     false
+}
+
+/// What each memory-order of each valid execution that goes on from a part keeps at first; `None` where none goes on.
+pub(crate) fn kept_at_first(part: &Part<'_>) -> Option<Foreseen>
+    ensures kept { IfSome result (λ kept. AreAlwaysKept part.now kept.before kept.between) }
+    ensures none { IfNone result (GoesNowhere part.now) }
+{
+    laws();
+    let between = part.between();
+    let mut before = part.happens_before();
+    if close(part, &mut before, &between) {
+        Some(Foreseen { before, between })
+    } else {
+        None
+    }
+}
+
+/// Whether no valid execution goes on from a part, as far as what can still stand shows.
+fn goes_nowhere(part: &Part<'_>, sets: &RefusedSources) -> bool
+    requires entered { IsEntered part.now }
+    requires refused { AreRefused part.now.test part.now.combination sets.now.items }
+    ensures { IsTrue result → GoesNowhere part.now }
+{
+    let Some(foreseen) = kept_at_first(part) else {
+        return true;
+    };
+    let mut before = foreseen.before;
+    let mut between = foreseen.between;
+    leads_nowhere(part, sets, &mut before, &mut between)
 }
 
 impl Cursor<'_> {

@@ -3,10 +3,8 @@ use Rattle.std.specs.Prelude.{IfNone}
 use Rattle.lit_paths.specs.declared.byte_reads.ByteRead.{ByteRead}
 use Rattle.lit_paths.specs.declared.event.Event.{Event}
 use Rattle.lit_rel.specs.declared.event_set.EventSet.{EventSet}
-use Rattle.lit_rel.specs.Between.{Forbids}
 use Rattle.lit_rel.specs.Part.{part_events}
-use Rattle.lit_rel.specs.Rows.{Holds}
-use Rattle.lit_search.specs.Internal.Foreseeing.{GoesNowhere}
+use Rattle.lit_search.specs.Internal.Foreseeing.{NoneGoesOnWith}
 use Rattle.lit_search.proofs.ForeseenLemmas.{events_here, its_event, lists_of, none_left, one_left, read_here, sound_here}
 use Rattle.lit_search.proofs.RefusedLemmas.{refused_in}
 use Rattle.lit_search.proofs.cursor.foreseeing.look_at.Goals as goal
@@ -44,17 +42,30 @@ returns-in_err-source-clause-none c =
     let same = c.combination-combination.ensures in
     let reads = c.byte_reads.result.now in
     let all = c.byte_reads.ensures in
-    subst (λ (o : Option Bool). IfNone o (GoesNowhere p)) (sym c.from_residual.ensures)
+    subst (λ (o : Option Bool). IfNone o (NoneGoesOnWith p c.args.before.now c.args.between.now)) (sym c.from_residual.ensures)
     (none_left p c.laws.ensures c.refused_bytes_make_tests_false.ensures c.forced_rounds_have_no_order.ensures c.requires.entered (sound_here p _ same c.events-events.result.now c.events-events.ensures.value c.events-events.ensures.sound)
-    (Holds c.args.before.now) (Forbids c.args.between.now) c.requires.foreseen.kept c.args.number _ _ (read_here p _ same reads all no_read c.args.number c.requires.known) c.candidates-candidates.result.now
-    (lists_of p _ same reads all no_read c.args.number c.requires.known c.candidates-candidates.result.now c.candidates-candidates.ensures.lists) c.in_err-source.ensures.none)
+    c.args.number _ _ (read_here p _ same reads all no_read c.args.number c.requires.known) c.candidates-candidates.result.now
+    (lists_of p _ same reads all no_read c.args.number c.requires.known c.candidates-candidates.result.now c.candidates-candidates.ensures.lists) c.args.before.now c.args.between.now c.in_err-source.ensures.none)
 
-pub put_source-requires-clause-always : goal.put_source-requires-clause-always
-put_source-requires-clause-always c =
+pub returns-then-close-clause-foreseen : goal.returns-then-close-clause-foreseen
+returns-then-close-clause-foreseen c =
     let p = c.args.part.now in
     let same = c.combination-combination.ensures in
     let reads = c.byte_reads.result.now in
     let all = c.byte_reads.ensures in
-    one_left p c.laws.ensures c.refused_bytes_make_tests_false.ensures c.forced_rounds_have_no_order.ensures c.requires.entered (sound_here p _ same c.events-events.result.now c.events-events.ensures.value c.events-events.ensures.sound)
-    (Holds c.args.before.now) (Forbids c.args.between.now) c.requires.foreseen.kept c.args.number _ _ (read_here p _ same reads all no_read c.args.number c.requires.known) c.candidates-candidates.result.now
-    (lists_of p _ same reads all no_read c.args.number c.requires.known c.candidates-candidates.result.now c.candidates-candidates.ensures.lists) c.in_ok-source.source (c.is_only.ensures c.if-not-is_only.false)
+    let always = one_left p c.laws.ensures c.refused_bytes_make_tests_false.ensures c.forced_rounds_have_no_order.ensures c.requires.entered (sound_here p _ same c.events-events.result.now c.events-events.ensures.value c.events-events.ensures.sound)
+    c.args.number _ _ (read_here p _ same reads all no_read c.args.number c.requires.known) c.candidates-candidates.result.now
+    (lists_of p _ same reads all no_read c.args.number c.requires.known c.candidates-candidates.result.now c.candidates-candidates.ensures.lists) c.args.before.now c.args.between.now c.in_ok-source.source (c.is_only.ensures c.if-not-is_only.false) in
+    let closed = c.close.ensures.foreseen c.if-close.true in
+    record { of_part = closed.of_part; kept = λ x goes. closed.kept x (c.put_source.ensures.kept x goes (always x goes)) }
+
+pub returns-else-close-clause-none : goal.returns-else-close-clause-none
+returns-else-close-clause-none c x goes =
+    let p = c.args.part.now in
+    let same = c.combination-combination.ensures in
+    let reads = c.byte_reads.result.now in
+    let all = c.byte_reads.ensures in
+    let always = one_left p c.laws.ensures c.refused_bytes_make_tests_false.ensures c.forced_rounds_have_no_order.ensures c.requires.entered (sound_here p _ same c.events-events.result.now c.events-events.ensures.value c.events-events.ensures.sound)
+    c.args.number _ _ (read_here p _ same reads all no_read c.args.number c.requires.known) c.candidates-candidates.result.now
+    (lists_of p _ same reads all no_read c.args.number c.requires.known c.candidates-candidates.result.now c.candidates-candidates.ensures.lists) c.args.before.now c.args.between.now c.in_ok-source.source (c.is_only.ensures c.if-not-is_only.false) in
+    c.close.ensures.none c.if-close.false x (c.put_source.ensures.kept x goes (always x goes))

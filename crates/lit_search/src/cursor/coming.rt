@@ -1,0 +1,3 @@
+//! What can still come on a combination.
+
+pub(crate) mod listing;
