@@ -108,6 +108,22 @@ module _ (laws : Laws) (left_out : LeftOutSourcesAreNone) (refused : RefusedByte
       none_with_source x is r b w (k, read_at, at)
       (subst (λ (v : ℕ). HasNoSource (part_at s) r b v) here (none.none.all_out listed.0 (omega arith) (slice_get_within (candidates_at (stand_events s) k) listed.0 w listed.1)))
 
+  -- the source that one has for a byte read is a candidate that is not left out
+  pub has_place : (x : Execution) (is : Completes (part_at s) x) (k w : ℕ) → k < length (byte_reads (stand_events s)) → slice_get x.sources k ≡ Some w
+      → (p : ℕ) × (p < length (candidates_at (stand_events s) k)) × (candidate_at s k p ≡ w) × ¬ IsLeftOut s k p
+  has_place x is k w known at =
+      let r = (byte_read_at (stand_events s) k).0 in
+      let b = (byte_read_at (stand_events s) k).1 in
+      let here : slice_get ((part_at s).sources ++ is.rest) k ≡ Some w = ap (λ (ws : List ℕ). slice_get ws k) (sym is.begun) ∙ at in
+      let read_at = slice_get-get_or (byte_reads (stand_events s)) k (0, 0) known in
+      let listed = (lists-candidates (stand_events s) r b).all w ((sourced_all x is).each k r b w read_at here) in
+      let same : candidate_at s k listed.0 ≡ w = get_or_from_slice_get (candidates_at (stand_events s) k) listed.0 w 0 listed.1 in (
+        listed.0,
+        slice_get_within (candidates_at (stand_events s) k) listed.0 w listed.1,
+        same,
+        λ out. none_with_source x is r b w (k, read_at, here) (subst (λ (v : ℕ). HasNoSource (part_at s) r b v) same out),
+      )
+
   module _ (placed : ArePlaces (stand_events s) 0 s.places) (left : length s.places < length (byte_reads (stand_events s))) where
     -- what goes on with one source more goes on without it
     fewer : (p : ℕ) (x : Execution) → Completes (part_at (with_place s p)) x → Completes (part_at s) x

@@ -8,6 +8,7 @@ pub mod LeftOutLemmas
 pub mod HeldLemmas
 pub mod Takings
 pub mod RunLemmas
+pub mod ComingLemmas
 pub mod CompletionLemmas
 pub mod WantingLemmas
 pub mod PassingLemmas

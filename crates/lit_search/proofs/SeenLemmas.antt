@@ -36,7 +36,7 @@ lesser_outcome : (a b : Entry) (outcome : List ℕ) → a.outcome ≡ outcome �
 lesser_outcome a b outcome one other = elim (is_gt (example_cmp a b)) as (λ g. (cond g b a).outcome ≡ outcome) [ true ↦ other | false ↦ one ]
 
 -- with one entry more, the outcomes are those that were there and that of the entry
-has_merged : (xs : List Entry) (e : Entry) (outcome : List ℕ) → Has xs outcome ⊎ (e.outcome ≡ outcome) → Has (merged xs (e ∷ [])) outcome
+pub has_merged : (xs : List Entry) (e : Entry) (outcome : List ℕ) → Has xs outcome ⊎ (e.outcome ≡ outcome) → Has (merged xs (e ∷ [])) outcome
 has_merged [] e outcome (inl o) = absurd (let x = o.is in cc)
 has_merged [] e outcome (inr same) = has_first e [] outcome same
 has_merged (x ∷ xs) e outcome some = by (outcome_cmp x e) refl some (has_merged xs e outcome)

@@ -8,11 +8,14 @@ ghost use Rattle.lit_paths.specs.Plan.{choices_before};
 ghost use Rattle.lit_rel.specs.DataRace.{HasDataRace};
 ghost use Rattle.lit_rel.specs.Part.{part_events};
 ghost use Rattle.lit_search.specs.Report.{HasRaceIn, in_range};
+ghost use Rattle.lit_search.specs.Internal.Coming.{IsComing, IsToCome};
+ghost use Rattle.lit_search.specs.Internal.Outcomes.{HasOutcome};
 ghost use Rattle.lit_search.specs.Internal.Places.{low_at};
 ghost use Rattle.lit_search.specs.Internal.Taking.{AreBarren, AreKept, KeepsRange, MarksRaces};
 
 use crate::collector::kept::Kept;
 use crate::cursor::Cursor;
+use crate::cursor::coming::Coming;
 use crate::cursor::held::known_after;
 use crate::cursor::racing::has_race_in;
 use crate::fault::SearchFault;
@@ -23,6 +26,7 @@ use lit_rel::Part;
 use std::alloc::{AllocError, Global};
 use std::boxed::Box;
 use std::marker::Model;
+use std::mem;
 
 /// Marks a data race of a part.
 fn mark_race(race: &mut bool, part: &Part<'_>)
@@ -39,6 +43,7 @@ fn mark_race(race: &mut bool, part: &Part<'_>)
 fn keep_on(
     kept: &mut Kept,
     race: &mut bool,
+    coming: &mut Coming,
     plan: &Plan<'_>,
     cursor: &mut Cursor<'_>,
     since: u64,
@@ -50,18 +55,22 @@ fn keep_on(
     requires order { from ≤ to }
     requires high { to ≤ choices_before plan.now (cursor.old.combination + 1) }
     requires seen { AreKept plan.now kept.old (in_range since from) }
+    requires coming { IsToCome plan.now cursor.old.combination (λ outcome. ¬ HasOutcome kept.old outcome) coming.old }
     ensures keeps { OnOk result (KeepsRange plan.now from to kept.old kept.new) }
     ensures marks { OnOk result (MarksRaces plan.now from to race.old race.new) }
     ensures seen { IfOk result (λ seen. AreKept plan.now kept.new (in_range since seen)) }
     ensures past { IfOk result (λ seen. to ≤ seen) }
+    ensures of { OnOk result (coming.new.combination ≡ coming.old.combination) }
+    ensures coming { OnOk result (IsToCome plan.now cursor.old.combination (λ outcome. ¬ HasOutcome kept.new outcome) coming.new) }
 {
     laws();
     let known = known_after(plan, cursor.part(), kept);
     let mut next = from;
-    while let Some(shown) = cursor.next(plan, kept, known, since, &mut next, to) {
+    while let Some(shown) = cursor.next(plan, kept, known, &*coming, since, &mut next, to) {
         next = shown.example.choice + 1;
         mark_race(race, cursor.part());
         kept.keep(shown)?;
+        coming.leave(plan, &*cursor);
     }
     Ok(next)
 }
@@ -70,8 +79,10 @@ fn keep_on(
 /// what is kept, by a cursor that stood anywhere. What the choices from `since` on show is kept up to `from`, and then up
 /// to the number answered, `to` or a greater one.
 fn keep_range<'p>(
+    alloc: Global,
     kept: &mut Kept,
     race: &mut bool,
+    coming: &mut Coming,
     plan: &'p Plan<'p>,
     cursor: &mut Cursor<'p>,
     since: u64,
@@ -80,16 +91,20 @@ fn keep_range<'p>(
 ) -> Result<u64, AllocError>
     requires known { to ≤ length (choices_of plan.now) }
     requires seen { AreKept plan.now kept.old (in_range since from) }
+    requires coming { IsComing plan.now (λ outcome. ¬ HasOutcome kept.old outcome) coming.old }
     ensures keeps { OnOk result (KeepsRange plan.now from to kept.old kept.new) }
     ensures marks { OnOk result (MarksRaces plan.now from to race.old race.new) }
     ensures seen { IfOk result (λ seen. AreKept plan.now kept.new (in_range since seen)) }
     ensures past { IfOk result (λ seen. to ≤ seen) }
+    ensures coming { OnOk result (IsComing plan.now (λ outcome. ¬ HasOutcome kept.new outcome) coming.new) }
 {
     let (mut next, mut seen) = (from, from);
     while next < to {
-        cursor.reopen(plan, plan.combination(next));
+        let combination = plan.combination(next);
+        cursor.reopen(plan, combination);
+        coming.enter(alloc, &*cursor, combination)?;
         let end = cursor.end().min(to);
-        seen = keep_on(kept, race, plan, cursor, since, next, end)?;
+        seen = keep_on(kept, race, coming, plan, cursor, since, next, end)?;
         next = end;
     }
     Ok(seen)
@@ -150,6 +165,8 @@ pub struct Collector<'p> {
     /// What goes through each range; `None` before the first.
     cursor: Option<Box<Cursor<'p>>>,
     kept: Kept,
+    /// What can still come on the combination gone through last.
+    coming: Coming,
     /// Whether a choice taken has a data race.
     race: bool,
     /// What each choice from this one up to `seen` shows is kept.
@@ -192,6 +209,7 @@ impl<'p> Collector<'p> {
             plan,
             cursor: None,
             kept: Kept::new(alloc),
+            coming: Coming::unknown(),
             race: false,
             row: 0,
             seen: 0,
@@ -247,7 +265,19 @@ impl<'p> Collector<'p> {
         let (mut barren, mut race_free) = (self.barren, self.race_free);
         (self.row, self.seen) = (from, from);
         (self.barren, self.race_free) = (from, from);
-        self.seen = keep_range(&mut self.kept, &mut self.race, plan, cursor, row, seen, to)?;
+        let mut coming = mem::replace(&mut self.coming, Coming::unknown());
+        self.seen = keep_range(
+            self.alloc,
+            &mut self.kept,
+            &mut self.race,
+            &mut coming,
+            plan,
+            cursor,
+            row,
+            seen,
+            to,
+        )?;
+        self.coming = coming;
         self.race = is_marked_with(self.race, plan, cursor, &mut barren, &mut race_free, to);
         (self.row, self.barren, self.race_free) = (row, barren, race_free);
         self.end = to;

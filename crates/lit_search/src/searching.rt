@@ -8,6 +8,7 @@ ghost use Rattle.lit_search.specs.Report.{IsReport, in_range};
 use crate::class::Class;
 use crate::collector::Collector;
 use crate::cursor::Cursor;
+use crate::cursor::coming::Coming;
 use crate::cursor::held::known_after;
 use crate::fault::SearchFault;
 use crate::found::Found;
@@ -43,12 +44,13 @@ pub fn first_in(plan: &Plan<'_>, class: Class, from: u64, to: u64) -> Option<u64
         return None;
     }
     let mut cursor = Cursor::open(&*plan, plan.combination(from));
+    let unknown = Coming::unknown();
     let mut next = from;
     while next < to {
         let known = known_after(plan, cursor.part(), &class);
         let end = cursor.end().min(to);
         let since = next;
-        if let Some(shown) = cursor.next(plan, &class, known, since, &mut next, end) {
+        if let Some(shown) = cursor.next(plan, &class, known, &unknown, since, &mut next, end) {
             return Some(shown.example.choice);
         }
         if next < to {

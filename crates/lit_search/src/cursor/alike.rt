@@ -116,7 +116,7 @@ fn first_of(reads: &[ByteRead], read: u8, last: usize) -> usize
 
 impl Cursor<'_> {
     /// The source of a byte read that has one, by its place.
-    fn source(&self, place: usize) -> u8
+    pub(crate) fn source(&self, place: usize) -> u8
         requires { place < length self.now.places }
         ensures given { slice_get (part_at self.now).sources place ≡ Some result }
         ensures known { result < length (stand_events self.now) }

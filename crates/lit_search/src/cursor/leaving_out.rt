@@ -16,7 +16,7 @@ use lit_rel::laws::refused_bytes_make_tests_false;
 
 impl Cursor<'_> {
     /// Whether the byte read with a number has a candidate with this place among its candidates. There is such a byte read.
-    fn has_candidate(&self, depth: usize, place: usize) -> bool
+    pub(crate) fn has_candidate(&self, depth: usize, place: usize) -> bool
         requires { depth < length (byte_reads (stand_events self.now)) }
         ensures value { IsTrue result ↔ (place < length (candidates_at (stand_events self.now) depth)) }
         ensures few { IsTrue result → place < EVENT_LIMIT }
@@ -37,7 +37,7 @@ impl Cursor<'_> {
 
     /// Whether the sources given leave out the candidate with a place among those of a byte read, by its number. What is
     /// forced is looked at for sequentially consistent reads alone: for others it is as well to give the source.
-    fn is_left_out(&self, depth: usize, place: usize) -> bool
+    pub(crate) fn is_left_out(&self, depth: usize, place: usize) -> bool
         requires read { depth < length (byte_reads (stand_events self.now)) }
         requires known { place < length (candidates_at (stand_events self.now) depth) }
         ensures { IsTrue result ↔ IsLeftOut self.now depth place }

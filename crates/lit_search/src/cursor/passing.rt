@@ -6,6 +6,7 @@ ghost use Rattle.lit_paths.specs.Plan.{choices_before};
 ghost use Rattle.lit_rel.specs.Broken.{IsBroken};
 ghost use Rattle.lit_order.specs.Refuted.{IsRefuted};
 ghost use Rattle.lit_search.specs.Report.{in_range};
+ghost use Rattle.lit_search.specs.Internal.Coming.{IsToCome};
 ghost use Rattle.lit_search.specs.Internal.Examined.{IsExample};
 ghost use Rattle.lit_search.specs.Internal.Held.{part_outcome};
 ghost use Rattle.lit_search.specs.Internal.Passing.{HasAll, IsOpen, MayPass, NoneValid, first_places};
@@ -15,6 +16,7 @@ ghost use Rattle.lit_search.specs.Internal.StoodFor.{IsStoodFor};
 ghost use Rattle.lit_search.specs.Internal.Wanting.{AllKnownAfter};
 
 use crate::cursor::Cursor;
+use crate::cursor::coming::Coming;
 use crate::cursor::held::outcome_of;
 use crate::cursor::standing_in::is_stood_for;
 use crate::cursor::wanted::Wanted;
@@ -73,12 +75,14 @@ impl Cursor<'_> {
         plan: &Plan<'_>,
         wanted: &W,
         known: usize,
+        coming: &Coming,
         since: u64,
         from: u64,
     ) -> Option<usize>
         requires test { self.now.test ≡ plan.now }
         requires few { known ≤ length (byte_reads (stand_events self.now)) }
         requires known { AllKnownAfter self.now.test self.now.combination known (W.Asks wanted.now plan.now) }
+        requires coming { IsToCome plan.now self.now.combination (W.IsWanted wanted.now plan.now) coming.now }
         requires seen { NoneShow plan.now (W.IsWanted wanted.now plan.now) (in_range since (low_at self.now)) }
         ensures some { low_at self.now < behind_at self.now }
         ensures passed { MatchOption result
@@ -105,6 +109,9 @@ impl Cursor<'_> {
         }
         if self.has_unwanted(plan, wanted, known) {
             return Some(known);
+        }
+        if self.none_comes(plan, wanted, coming) {
+            return Some(depth);
         }
         if self.is_stood_for(plan, since) {
             return Some(depth);
@@ -146,6 +153,7 @@ impl Cursor<'_> {
         plan: &Plan<'_>,
         wanted: &W,
         known: usize,
+        coming: &Coming,
         since: u64,
         from: &mut u64,
         to: u64,
@@ -153,6 +161,7 @@ impl Cursor<'_> {
         requires test { self.old.test ≡ plan.now }
         requires few { known ≤ length (byte_reads (stand_events self.old)) }
         requires known { AllKnownAfter self.old.test self.old.combination known (W.Asks wanted.now plan.now) }
+        requires coming { IsToCome plan.now self.old.combination (W.IsWanted wanted.now plan.now) coming.now }
         requires seen { NoneShow plan.now (W.IsWanted wanted.now plan.now) (in_range since from.old) }
         requires low { low_at self.old ≤ from.old }
         requires high { to ≤ choices_before plan.now (self.old.combination + 1) }
@@ -163,12 +172,13 @@ impl Cursor<'_> {
             (λ shown. IsNext plan.now (W.IsWanted wanted.now plan.now) from.old to (shown_entry shown)) }
         ensures past { IfNone result (to ≤ from.new) }
         ensures stands { IfSome result (λ shown. low_at self.new ≡ shown.example.choice) }
+        ensures outcome { IfSome result (λ shown. shown.outcome.items ≡ part_outcome (part_at self.new)) }
         ensures all { IfSome result (λ shown. HasAll self.new) }
     {
         laws();
         let first = *from;
         while self.low() < to {
-            if let Some(depth) = self.passed(plan, wanted, known, since, first) {
+            if let Some(depth) = self.passed(plan, wanted, known, coming, since, first) {
                 if !self.leave(plan, depth, since) {
                     *from = self.end();
                     return None;

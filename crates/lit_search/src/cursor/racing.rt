@@ -11,6 +11,7 @@ ghost use Rattle.lit_search.specs.Internal.Places.{low_at};
 ghost use Rattle.lit_search.specs.Internal.Taking.{AreBarren};
 
 use crate::cursor::Cursor;
+use crate::cursor::coming::Coming;
 use crate::cursor::wanted::Wanted;
 use crate::laws::completions::laws;
 use lit_paths::Plan;
@@ -50,10 +51,11 @@ impl Cursor<'_> {
     {
         laws();
         let first = *from;
+        let unknown = Coming::unknown();
         let reads = self.part().reads();
         while self.low() < to {
             let depth = self.part().len();
-            if let Some(less) = self.passed(plan, &All, reads, *barren, first) {
+            if let Some(less) = self.passed(plan, &All, reads, &unknown, *barren, first) {
                 if !self.leave(plan, less, *barren) {
                     *from = self.end();
                     return false;

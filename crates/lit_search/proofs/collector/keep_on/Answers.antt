@@ -1,7 +1,11 @@
-use Rattle.std.proofs.Common.{refl, ap, ◌∙◌, sym, arith, length, ℕ, ◌+◌}
+use Rattle.std.proofs.Common.{refl, ap, subst, ◌∙◌, sym, arith, length, ℕ, ◌+◌}
 use Rattle.lit_paths.specs.ByteReads.{byte_reads}
 use Rattle.lit_paths.specs.Plan.{choices_before}
 use Rattle.lit_rel.specs.Part.{PartModel, part_events}
+use Rattle.lit_search.specs.Internal.Coming.{IsToCome}
+use Rattle.lit_search.specs.Internal.Held.{part_outcome}
+use Rattle.lit_search.specs.Internal.Places.{part_at}
+use Rattle.lit_search.proofs.ComingLemmas.{kept_listed, numbers_known, off_stand, on_stand}
 use Rattle.lit_search.specs.Internal.Shown.{shown_entry}
 use Rattle.lit_search.specs.Internal.Outcomes.{HasOutcome}
 use Rattle.lit_search.proofs.Keeping.{keeps_none, keeps_joined, keeps_next, keeps_passed}
@@ -20,6 +24,8 @@ loop-next-init c = record {
   marks = marks_none c.args.plan.now c.args.from c.args.from c.args.race.now;
   test = c.requires.test;
   combination = refl;
+  of = refl;
+  coming = c.requires.coming;
 }
 
 pub next-requires-clause-few : goal.next-requires-clause-few
@@ -37,6 +43,13 @@ next-requires-clause-known c =
     let first = c.args.cursor.now in
     known_as first.test first.combination c.loop-next.cursor c.known_after-known.result _ (c.loop-next.invariant.test ∙ sym c.requires.test) c.loop-next.invariant.combination
     (known_at first c.part.result.now c.known_after-known.result _ c.part.ensures.value c.known_after-known.ensures.known)
+
+pub next-requires-clause-coming : goal.next-requires-clause-coming
+next-requires-clause-coming c = subst (λ (n : ℕ). IsToCome c.args.plan.now n (λ outcome. ¬ HasOutcome c.loop-next.kept outcome) c.loop-next.coming) (sym c.loop-next.invariant.combination) c.loop-next.invariant.coming
+
+pub leave-requires-clause-known : goal.leave-requires-clause-known
+leave-requires-clause-known c =
+    numbers_known _ _ _ c.loop-next.coming (off_stand c.next.new.self c.args.plan.now c.args.cursor.now.combination c.in-Some.ensures.test (c.in-Some.ensures.combination ∙ c.loop-next.invariant.combination) _ c.loop-next.coming c.loop-next.invariant.coming)
 
 pub next-requires-clause-high : goal.next-requires-clause-high
 next-requires-clause-high c = omega (arith, c.requires.high, ap (λ (k : ℕ). choices_before c.args.plan.now (k + 1)) c.loop-next.invariant.combination)
@@ -56,6 +69,11 @@ loop-next-preserved c =
           (marks_next c.laws.ensures c.next.new.self c.part-in-Some.result.now c.part-in-Some.ensures.value c.part-in-Some.ensures.entered c.part-in-Some.ensures.placed c.in-Some.ensures.all c.args.plan.now c.loop-next.next c.args.to e c.in-Some.ensures.test c.in-Some.ensures.stands is c.mark_race.ensures);
       test = c.in-Some.ensures.test;
       combination = c.in-Some.ensures.combination ∙ c.loop-next.invariant.combination;
+      of = c.leave.ensures.of ∙ c.loop-next.invariant.of;
+      coming = kept_listed c.args.plan.now c.args.cursor.now.combination c.loop-next.kept c.keep.new.self e (part_outcome (part_at c.next.new.self)) c.in_ok-keep.ensures.ok c.in-Some.ensures.outcome c.leave.new.self
+          (on_stand c.next.new.self c.args.plan.now c.args.cursor.now.combination c.in-Some.ensures.test (c.in-Some.ensures.combination ∙ c.loop-next.invariant.combination) _ c.leave.new.self
+          (c.leave.ensures.coming c.loop-next.kept
+          (off_stand c.next.new.self c.args.plan.now c.args.cursor.now.combination c.in-Some.ensures.test (c.in-Some.ensures.combination ∙ c.loop-next.invariant.combination) _ c.loop-next.coming c.loop-next.invariant.coming)));
     }
 
 pub returns-clause-marks : goal.returns-clause-marks

@@ -1,5 +1,7 @@
 use Rattle.std.proofs.Common.{◌≡◌, ◌-◌, ◌≤◌}
 use Rattle.lit_search.specs.Report.{in_range}
+use Rattle.lit_search.specs.Internal.Coming.{IsToCome}
+use Rattle.lit_search.specs.Internal.Outcomes.{HasOutcome}
 use Rattle.lit_search.specs.Internal.Places.{low_at}
 use Rattle.lit_search.specs.Internal.Taking.{AreKept, KeepsRange, MarksRaces}
 use Rattle.lit_search.proofs.collector.keep_on.Given as goal
@@ -14,6 +16,8 @@ invariant-loop-next l = record {
   marks : MarksRaces l.plan l.from l.next l.fn.race l.race;
   test : l.cursor.test ≡ l.plan;
   combination : l.cursor.combination ≡ l.fn.cursor.combination;
+  of : l.coming.combination ≡ l.fn.coming.combination;
+  coming : IsToCome l.plan l.fn.cursor.combination (λ outcome. ¬ HasOutcome l.kept outcome) l.coming;
 }
 
 abbrev pub decreases-loop-next : goal.decreases-loop-next

@@ -1,6 +1,8 @@
-use Rattle.std.proofs.Common.{◌≡◌, ◌<◌, ◌+◌, refl, ap, arith}
+use Rattle.std.proofs.Common.{◌≡◌, ◌<◌, ◌+◌, ℕ, List, Option, refl, sym, ap, subst, ◌∙◌, arith}
+use Rattle.std.specs.Prelude.{IfSome}
 use Rattle.lit_read.specs.Syntax.{Litmus}
 use Rattle.lit_paths.specs.Plan.{choices_before}
+use Rattle.lit_search.specs.Internal.Coming.{IsComing, IsToCome}
 use Rattle.lit_search.specs.Internal.Outcomes.{HasOutcome}
 use Rattle.lit_search.specs.Internal.Places.{Stand, low_at}
 use Rattle.lit_search.proofs.Keeping.{keeps_end, keeps_none, keeps_joined}
@@ -14,6 +16,7 @@ loop-next-init c = record {
   before = λ past. refl;
   ahead = omega arith;
   seen = c.requires.seen;
+  coming = c.requires.coming;
   keeps = keeps_none c.args.plan.now c.args.from c.args.kept.now;
   marks = marks_none c.args.plan.now c.args.from c.args.from c.args.race.now;
 }
@@ -22,11 +25,11 @@ pub keep_on-requires-clause-test : goal.keep_on-requires-clause-test
 keep_on-requires-clause-test c = ap (λ (s : Stand). s.test) c.reopen.ensures
 
 pub keep_on-requires-clause-stands : goal.keep_on-requires-clause-stands
-keep_on-requires-clause-stands c = omega (arith, ap low_at c.reopen.ensures, c.combination.ensures.low)
+keep_on-requires-clause-stands c = omega (arith, ap low_at c.reopen.ensures, c.combination-combination.ensures.low)
 
 pub keep_on-requires-clause-order : goal.keep_on-requires-clause-order
 keep_on-requires-clause-order c =
-    omega (arith, c.min-end.ensures, c.end.ensures, ap (λ (s : Stand). choices_before s.test (s.combination + 1)) c.reopen.ensures, c.combination.ensures.high, c.loop-next-test.true)
+    omega (arith, c.min-end.ensures, c.end.ensures, ap (λ (s : Stand). choices_before s.test (s.combination + 1)) c.reopen.ensures, c.combination-combination.ensures.high, c.loop-next-test.true)
 
 pub keep_on-requires-clause-high : goal.keep_on-requires-clause-high
 keep_on-requires-clause-high c =
@@ -36,6 +39,21 @@ pub keep_on-requires-clause-seen : goal.keep_on-requires-clause-seen
 keep_on-requires-clause-seen c =
     none_up_to c.args.plan.now (λ outcome. ¬ HasOutcome c.loop-next.kept outcome) c.args.since c.loop-next.next c.loop-next.seen c.loop-next.invariant.ahead c.loop-next.invariant.seen
 
+pub enter-requires-clause-combination : goal.enter-requires-clause-combination
+enter-requires-clause-combination c = ap (λ (s : Stand). s.combination) c.reopen.ensures
+
+pub enter-requires-clause-beginning : goal.enter-requires-clause-beginning
+enter-requires-clause-beginning c = ap (λ (s : Stand). s.places) c.reopen.ensures
+
+pub keep_on-requires-clause-coming : goal.keep_on-requires-clause-coming
+keep_on-requires-clause-coming c =
+    let s = c.reopen.new.self in
+    let Wanted : List ℕ → Type 0 = λ outcome. ¬ HasOutcome c.loop-next.kept outcome in
+    let same : s.test ≡ c.args.plan.now = ap (λ (u : Stand). u.test) c.reopen.ensures in
+    let now = c.in_ok-enter.ensures.coming c.loop-next.kept (subst (λ (u : Litmus). IsComing u Wanted c.loop-next.coming) (sym same) c.loop-next.invariant.coming) in
+    let here = subst (λ (o : Option ℕ). IfSome o (λ n. IsToCome s.test n Wanted c.enter.new.self)) c.in_ok-enter.ensures.of now in
+    subst (λ (u : Litmus). IsToCome u s.combination Wanted c.enter.new.self) same (subst (λ (n : ℕ). IsToCome s.test n Wanted c.enter.new.self) (sym (ap (λ (u : Stand). u.combination) c.reopen.ensures)) here)
+
 pub loop-next-preserved : goal.loop-next-preserved
 loop-next-preserved c =
     let next : c.loop-next.next < c.min-end.result =
@@ -44,7 +62,7 @@ loop-next-preserved c =
       c.min-end.ensures,
       c.end.ensures,
       ap (λ (s : Stand). choices_before s.test (s.combination + 1)) c.reopen.ensures,
-      c.combination.ensures.high,
+      c.combination-combination.ensures.high,
       c.loop-next-test.true,
     ) in
     record {
@@ -52,6 +70,8 @@ loop-next-preserved c =
       before = λ past. absurd (omega (arith, c.min-end.ensures, past));
       ahead = c.in_ok-seen.ensures.past;
       seen = c.in_ok-seen.ensures.seen;
+      coming = subst (λ (o : Option ℕ). IfSome o (λ n. IsToCome c.args.plan.now n (λ outcome. ¬ HasOutcome c.keep_on.new.kept outcome) c.keep_on.new.coming)) (sym (c.in_ok-seen.ensures.of ∙ c.in_ok-enter.ensures.of))
+          (subst (λ (n : ℕ). IsToCome c.args.plan.now n (λ outcome. ¬ HasOutcome c.keep_on.new.kept outcome) c.keep_on.new.coming) (ap (λ (s : Stand). s.combination) c.reopen.ensures) c.in_ok-seen.ensures.coming);
       keeps = keeps_joined c.args.plan.now c.args.from c.loop-next.next c.min-end.result c.args.kept.now c.loop-next.kept c.keep_on.new.kept c.loop-next.invariant.after (omega (arith, next)) c.loop-next.invariant.keeps c.in_ok-seen.ensures.keeps;
       marks = marks_joined c.args.plan.now c.args.from c.loop-next.next c.min-end.result c.args.race.now c.loop-next.race c.keep_on.new.race c.loop-next.invariant.after (omega (arith, next)) c.loop-next.invariant.marks c.in_ok-seen.ensures.marks;
     }

@@ -1,5 +1,7 @@
 use Rattle.std.proofs.Common.{◌≡◌, ◌-◌, ◌<◌, ◌≤◌}
 use Rattle.lit_search.specs.Report.{in_range}
+use Rattle.lit_search.specs.Internal.Coming.{IsComing}
+use Rattle.lit_search.specs.Internal.Outcomes.{HasOutcome}
 use Rattle.lit_search.specs.Internal.Taking.{AreKept, KeepsRange, MarksRaces}
 use Rattle.lit_search.proofs.collector.keep_range.Given as goal
 
@@ -10,6 +12,7 @@ invariant-loop-next l = record {
   ahead : l.next ≤ l.seen;
   seen : AreKept l.plan l.kept (in_range l.since l.seen);
   keeps : KeepsRange l.plan l.from l.next l.fn.kept l.kept;
+  coming : IsComing l.plan (λ outcome. ¬ HasOutcome l.kept outcome) l.coming;
   marks : MarksRaces l.plan l.from l.next l.fn.race l.race;
 }
 

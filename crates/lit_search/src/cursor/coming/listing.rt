@@ -27,7 +27,7 @@ use lit_rel::{Between, EventSet, Part};
 use std::alloc::{AllocError, Global};
 
 /// How many items are listed at the most.
-const ITEM_LIMIT: usize = 20_000;
+const ITEM_LIMIT: usize = 4_096;
 
 /// A source for each of some byte reads, by event number.
 #[derive(Drop)]

@@ -1,5 +1,8 @@
 use Rattle.std.proofs.Common.{◌<◌, inl, ℕ, ap, refl, subst, sym, arith}
 use Rattle.lit_search.specs.Collected.{Collected, HasTaken}
+use Rattle.lit_search.specs.declared.cursor.coming.Coming.{Coming}
+use Rattle.lit_search.specs.Internal.Coming.{IsComing}
+use Rattle.lit_search.specs.Internal.Outcomes.{HasOutcome}
 use Rattle.lit_search.specs.Report.{in_either, in_range}
 use Rattle.lit_search.proofs.Keeping.{keeps_seen, taken_more}
 use Rattle.lit_search.proofs.RacingLemmas.{free_on, marked_past, marks_wider, still_unmarked}
@@ -18,6 +21,7 @@ invariant_of-self-2 c =
       before = omega (arith, c.self.invariant.before, subst More (sym c.self.view_is) c.requires.more);
       ahead = c.in_ok-self-inside.ensures.past;
       seen = c.in_ok-self-inside.ensures.seen;
+      coming = c.in_ok-self-inside.ensures.coming;
       clear = c.is_marked_with-self-inside.ensures.past;
       barren = c.is_marked_with-self-inside.ensures.barren;
       race_free = λ none.
@@ -37,3 +41,7 @@ returns-clause-taken c taken h =
     (keeps_seen x.plan.now x.row x.end x.seen c.args.to x.kept c.keep_range.new.kept c.self.invariant.before c.self.invariant.ahead (omega (arith, subst More (sym c.self.view_is) c.requires.more)) c.self.invariant.seen c.in_ok-self-inside.ensures.keeps)
     (marks_wider x.plan.now x.end x.seen c.args.to x.race c.keep_range.new.race c.self.invariant.ahead c.in_ok-self-inside.ensures.marks)
     (marked_past x.plan.now x.end x.race_free c.args.to c.keep_range.new.race c.is_marked_with-self-inside.result (λ none. c.self.invariant.clear (unmarked none)) (λ none. c.self.invariant.race_free (unmarked none)) c.is_marked_with-self-inside.ensures.marked) (subst (HasTaken taken) (sym c.self.view_is) h))
+
+pub keep_range-requires-clause-coming : goal.keep_range-requires-clause-coming
+keep_range-requires-clause-coming c =
+    subst (λ (x : Coming). IsComing c.self.inside.plan.now (λ outcome. ¬ HasOutcome c.self.inside.kept outcome) x) (sym c.replace-coming.ensures.value) c.self.invariant.coming

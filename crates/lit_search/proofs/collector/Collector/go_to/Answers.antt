@@ -15,6 +15,7 @@ invariant_of-self c =
       before = row_begins x.row x.seen c.args.from r.result r.ensures.on r.ensures.anew (omega (arith, low, c.self.invariant.before));
       ahead = row_ends x.row x.seen c.args.from r.result r.ensures.on r.ensures.anew;
       seen = none_in_row x.row x.seen c.args.from r.result r.ensures.on r.ensures.anew x.plan.now (λ outcome. ¬ HasOutcome x.kept outcome) c.self.invariant.seen;
+      coming = c.self.invariant.coming;
       clear = λ unmarked. row_ends x.barren x.race_free c.args.from b.result b.ensures.on b.ensures.anew;
       barren = λ unmarked. none_in_row x.barren x.race_free c.args.from b.result b.ensures.on b.ensures.anew x.plan.now (λ _. Unit {0}) (c.self.invariant.barren unmarked);
       race_free = λ unmarked. free_in_row x.barren x.race_free c.args.from b.result b.ensures.on b.ensures.anew x.plan.now x.end low (c.self.invariant.race_free unmarked);

@@ -3,6 +3,7 @@ use Rattle.lit_read.specs.Syntax.{Litmus}
 use Rattle.lit_paths.specs.ByteReads.{byte_reads}
 use Rattle.lit_paths.specs.Plan.{choices_before}
 use Rattle.lit_rel.specs.Part.{PartModel, part_events}
+use Rattle.lit_search.specs.Internal.Coming.{IsToCome}
 use Rattle.lit_search.specs.Internal.Held.{part_outcome}
 use Rattle.lit_search.specs.Internal.Passing.{HasAll, first_places}
 use Rattle.lit_search.specs.Internal.Places.{behind_at, low_at, part_at, stand_events}
@@ -213,3 +214,7 @@ returns-clause-shows g c = none_up_to c.args.plan.now (g.W.Wanted.IsWanted c.arg
 
 pub passed-requires-clause-seen : goal.passed-requires-clause-seen
 passed-requires-clause-seen g c = seen_on c.args.plan.now (g.W.Wanted.IsWanted c.args.wanted.now c.args.plan.now) c.args.since c.args.from.now (low_at c.loop-self.self) c.requires.seen c.loop-self.invariant.none
+
+pub passed-requires-clause-coming : goal.passed-requires-clause-coming
+passed-requires-clause-coming g c =
+    subst (λ (n : ℕ). IsToCome c.args.plan.now n (g.W.Wanted.IsWanted c.args.wanted.now c.args.plan.now) c.args.coming.now) (sym c.loop-self.invariant.combination) c.requires.coming

@@ -1,7 +1,8 @@
-use Rattle.std.proofs.Common.{◌≤◌, length, ap, sym, subst, ◌∙◌, inl, arith}
+use Rattle.std.proofs.Common.{◌≤◌, ℕ, length, ap, sym, subst, ◌∙◌, inl, arith}
 use Rattle.std.proofs.lemmas.Bool.{false≢true}
 use Rattle.lit_paths.specs.ByteReads.{byte_reads}
 use Rattle.lit_rel.specs.Part.{AreFirstSources, PartModel, part_events}
+use Rattle.lit_search.specs.Internal.Passing.{MayPass}
 use Rattle.lit_search.specs.Internal.Places.{part_at, stand_events}
 use Rattle.lit_search.proofs.AlikeLemmas.{pass_alike}
 use Rattle.lit_search.proofs.CompletionLemmas.{not_refuted}
@@ -72,3 +73,11 @@ returns-then-has_alike-clause-passed g c =
     let is = c.has_alike.ensures c.if-has_alike.true in
     pass_alike c.laws.ensures s c.part-part.ensures.entered c.part-part.ensures.placed few is.0 is.2 is.1 c.args.plan.now
     (g.W.Wanted.IsWanted c.args.wanted.now c.args.plan.now) c.args.since c.args.from c.len-depth.result c.requires.test (c.len-depth.ensures.value ∙ long) is.3 c.requires.seen
+
+pub returns-then-none_comes-clause-passed : goal.returns-then-none_comes-clause-passed
+returns-then-none_comes-clause-passed g c =
+    let s = c.args.self.now in
+    let Wanted = g.W.Wanted.IsWanted c.args.wanted.now c.args.plan.now in
+    let deep = c.len-depth.ensures.value ∙ length-part s c.part-part.result.now c.part-part.ensures.value in
+    pass_from c.args.plan.now Wanted c.args.from s c.len-depth.result
+    (subst (λ (d : ℕ). MayPass c.args.plan.now Wanted 0 s d) (sym deep) (c.none_comes.ensures c.if-none_comes.true))
