@@ -35,6 +35,10 @@ use Rattle.lit_search.proofs.RunLemmas.{maps}
 abbrev pub AreNamed : Litmus → Type 0
 AreNamed t = All (λ name. (name.0 < length t.agents) × (name.1 < REGISTERS)) (names_of t)
 
+pub are_named : (t u : Litmus) → t ≡ u → (names : List (ℕ × ℕ)) → names ≡ names_of u → All (λ name. (name.0 < length u.agents) × (name.1 < REGISTERS)) names → AreNamed t
+are_named t u same names is all =
+    subst AreNamed (sym same) (subst (λ (ns : List (ℕ × ℕ)). All (λ name. (name.0 < length u.agents) × (name.1 < REGISTERS)) ns) is all)
+
 -- lists of which one begins with the other, as long as it
 pub no_rest : (ws vs rest : List ℕ) → ws ≡ vs ++ rest → length ws ≡ length vs → ws ≡ vs
 no_rest ws vs rest is long = is ∙ ap (λ (rs : List ℕ). vs ++ rs) (nil_from_length rest (omega (arith, long, ap (λ (us : List ℕ). length us) is, length-append vs rest))) ∙ append-nil vs

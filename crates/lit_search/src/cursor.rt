@@ -26,8 +26,9 @@ ghost use Rattle.lit_search.specs.Internal.Others.{AddsNothing};
 ghost use Rattle.lit_search.specs.Internal.Passing.{first_places};
 ghost use Rattle.lit_search.specs.Internal.Places.{ArePlaces, behind_at, candidates_at, low_at, part_at, stand_events, with_places};
 
-use crate::cursor::held::{HeldReads, set_held};
+use crate::cursor::held::{HeldReads, complete_outcome, set_held};
 use crate::cursor::refused_sources::{RefusedSources, set_refused};
+use crate::found::Outcome;
 use arrayvec::ArrayVec;
 use lit_order::{ForcedPart, Order};
 use lit_paths::laws::choices_have_numbers;
@@ -50,6 +51,8 @@ pub(crate) struct Cursor<'p> {
     low: u64,
     /// The number behind the last choice of the combination.
     end: u64,
+    /// Its outcome, where each byte read has a source.
+    outcome: Outcome,
 }
 
 impl<'p> Model for Cursor<'p> {
@@ -77,6 +80,8 @@ impl<'p> Cursor<'p> {
         set_refused(&mut refused, part.part());
         let mut held = HeldReads::new();
         set_held(&mut held, plan, part.part());
+        let mut outcome = Outcome::new();
+        complete_outcome(&mut outcome, part.part(), &held);
         let low = part.combination().first();
         let end = part.combination().end();
         Cursor {
@@ -86,6 +91,7 @@ impl<'p> Cursor<'p> {
             places: ArrayVec::new(),
             low,
             end,
+            outcome,
         }
     }
 
@@ -99,6 +105,7 @@ impl<'p> Cursor<'p> {
         self.part.reopen(plan, combination);
         set_refused(&mut self.refused, self.part.part());
         set_held(&mut self.held, plan, self.part.part());
+        complete_outcome(&mut self.outcome, self.part.part(), &self.held);
         self.places.clear();
         self.low = self.part.combination().first();
         self.end = self.part.combination().end();
@@ -193,6 +200,7 @@ impl<'p> Cursor<'p> {
         self.part.push(source);
         self.places.push(place);
         self.low += passed;
+        complete_outcome(&mut self.outcome, self.part.part(), &self.held);
     }
 
     /// Gives the next byte read its first candidate that is not left out, and where each is, leaves the choices of the

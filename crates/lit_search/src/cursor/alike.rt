@@ -288,10 +288,54 @@ impl Cursor<'_> {
         low
     }
 
+    /// Whether a lesser candidate stores the same as the source of a byte read, by its place.
+    fn is_repeated(&self, place: usize) -> bool
+        requires { place < length self.now.places }
+    {
+        let combination = self.part.combination();
+        let source = self.source(place);
+        let byte = combination.byte_reads()[place].byte;
+        for candidate in combination.candidates(place) {
+            if *candidate >= source {
+                return false;
+            }
+            if stores_same(self.part(), byte, source, *candidate) {
+                return true;
+            }
+        }
+        false
+    }
+
+    /// Whether the byte read at a place is the first of its read.
+    fn begins_read(&self, place: usize) -> bool
+        requires { place < length self.now.places }
+    {
+        let reads = self.part.combination().byte_reads();
+        place == 0 || reads[place - 1].read != reads[place].read
+    }
+
+    /// Whether a lesser candidate stores the same as a source of its last read: else none is alike.
+    fn some_is_repeated(&self) -> bool {
+        let mut place = self.places.len();
+        while place > 0 {
+            place -= 1;
+            if self.is_repeated(place) {
+                return true;
+            }
+            if self.begins_read(place) {
+                return false;
+            }
+        }
+        false
+    }
+
     /// Whether a lesser event that is alike stands for a source of its last read, with choices from number `since` on.
     pub(crate) fn has_alike(&self, since: u64) -> bool
         ensures { IsTrue result → (first : ℕ) × (first ≤ length self.now.places) × HasAlike (part_at self.now) first × (since ≤ low_at (first_places self.now first)) }
     {
+        if !self.some_is_repeated() {
+            return false;
+        }
         let Some(read) = self.last_read() else {
             return false;
         };

@@ -21,7 +21,7 @@ ghost use Rattle.lit_search.specs.Internal.Places.{part_at, stand_events};
 use crate::cursor::Cursor;
 use crate::cursor::coming::listing::{Item, list_items};
 use crate::cursor::coming::taking_out::take_out;
-use crate::cursor::held::HeldReads;
+use crate::cursor::held::is_held_by;
 use crate::laws::completions::laws;
 use arrayvec::ArrayVec;
 use lit_paths::{BYTE_READ_LIMIT, ByteRead, Plan};
@@ -105,18 +105,6 @@ impl Coming {
             take_out(items, self.numbers.as_slice(), cursor);
         }
     }
-}
-
-/// Whether some register holds a read, by the read's number.
-fn is_held_by(held: &HeldReads, read: u8) -> bool
-    ensures { IsTrue result ↔ ((i : ℕ) × (slice_get held.now.items i ≡ Some (Some read))) }
-{
-    for there in held.as_slice() {
-        if *there == Some(read) {
-            return true;
-        }
-    }
-    false
 }
 
 impl Cursor<'_> {

@@ -4,7 +4,7 @@ ghost use Rattle.std.specs.Prelude.{◌≡◌, ◌≢◌, ◌↔◌, ℕ, ◌<�
 ghost use Rattle.lit_read.specs.declared.limits.TheConstants.{REGISTERS};
 ghost use Rattle.lit_paths.specs.ByteReads.{byte_reads};
 ghost use Rattle.lit_paths.specs.Outcome.{names_of};
-ghost use Rattle.lit_rel.specs.Part.{part_events};
+ghost use Rattle.lit_rel.specs.Part.{IsComplete, part_events};
 ghost use Rattle.lit_search.specs.Internal.Held.{part_outcome, read_held as read_of, reads_held, value_held as value_of};
 ghost use Rattle.lit_search.specs.Internal.Wanting.{AllKnownAfter};
 
@@ -44,6 +44,18 @@ pub(crate) fn set_held(held: &mut HeldReads, plan: &Plan<'_>, part: &Part<'_>)
     }
 }
 
+/// Whether some register holds a read, by the read's number.
+pub(crate) fn is_held_by(held: &HeldReads, read: u8) -> bool
+    ensures { IsTrue result ↔ ((i : ℕ) × (slice_get held.now.items i ≡ Some (Some read))) }
+{
+    for there in held.as_slice() {
+        if *there == Some(read) {
+            return true;
+        }
+    }
+    false
+}
+
 /// What a register holds at the end by the sources given, which holds this read.
 fn value_held(part: &Part<'_>, held: Option<u8>) -> u32
     ensures { result ≡ value_of part.now held }
@@ -54,19 +66,36 @@ fn value_held(part: &Part<'_>, held: Option<u8>) -> u32
     }
 }
 
-/// The outcome of a part by the sources given, whose registers hold these reads. The part is one of the plan's test.
-pub(crate) fn outcome_of(plan: &Plan<'_>, part: &Part<'_>, held: &HeldReads) -> Outcome
-    requires test { part.now.test ≡ plan.now }
+/// Makes an outcome that of a part by the sources given, whose registers hold these reads.
+pub(crate) fn set_outcome(outcome: &mut Outcome, part: &Part<'_>, held: &HeldReads)
     requires held { held.now.items ≡ reads_held part.now.test part.now.combination }
-    ensures value { result.items ≡ part_outcome part.now }
-    ensures named { All (λ name. (name.0 < length part.now.test.agents) × (name.1 < REGISTERS)) (names_of part.now.test) }
+    ensures { outcome.new.items ≡ part_outcome part.now }
 {
-    let _names = plan.names();
-    let mut outcome = Outcome::new();
+    outcome.clear();
     for read in held.as_slice() {
         outcome.push(value_held(part, *read));
     }
-    outcome
+}
+
+/// A copy of an outcome.
+pub(crate) fn copy_of(outcome: &Outcome) -> Outcome
+    ensures { result.items ≡ outcome.now.items }
+{
+    let mut copy = Outcome::new();
+    let Ok(()) = copy.try_extend_from_slice(outcome.as_slice()) else {
+        unreachable!()
+    };
+    copy
+}
+
+/// Makes an outcome that of a part where each byte read has a source. Its registers hold these reads.
+pub(crate) fn complete_outcome(outcome: &mut Outcome, part: &Part<'_>, held: &HeldReads)
+    requires held { held.now.items ≡ reads_held part.now.test part.now.combination }
+    ensures { IsComplete part.now → outcome.new.items ≡ part_outcome part.now }
+{
+    if part.len() == part.reads() {
+        set_outcome(outcome, part, held);
+    }
 }
 
 /// Whether a register holds a read, by the read's number.

@@ -13,11 +13,11 @@ ghost use Rattle.lit_search.specs.Internal.Passing.{HasAll, IsOpen, MayPass, Non
 ghost use Rattle.lit_search.specs.Internal.Places.{behind_at, low_at, part_at, stand_events};
 ghost use Rattle.lit_search.specs.Internal.Shown.{IsNext, NoneShow, shown_entry};
 ghost use Rattle.lit_search.specs.Internal.StoodFor.{IsStoodFor};
-ghost use Rattle.lit_search.specs.Internal.Wanting.{AllKnownAfter};
+ghost use Rattle.lit_search.specs.Internal.Wanting.{AllKnownAfter, GoesBy};
 
 use crate::cursor::Cursor;
 use crate::cursor::coming::Coming;
-use crate::cursor::held::outcome_of;
+use crate::cursor::held::{copy_of, set_outcome};
 use crate::cursor::standing_in::is_stood_for;
 use crate::cursor::wanted::Wanted;
 use crate::found::{Example, Outcome};
@@ -34,6 +34,21 @@ pub(crate) struct Shown {
 }
 
 impl Cursor<'_> {
+    /// Whether its outcome by the sources given is wanted.
+    fn is_wanted<W: Wanted>(&self, plan: &Plan<'_>, wanted: &W) -> bool
+        requires test { self.now.test ≡ plan.now }
+        ensures value { IsTrue result ↔ W.IsWanted wanted.now plan.now (part_outcome (part_at self.now)) }
+        ensures goes { GoesBy plan.now (W.Asks wanted.now plan.now) (W.IsWanted wanted.now plan.now) }
+    {
+        let part = self.part();
+        if part.len() == part.reads() {
+            return wanted.wants(plan, self.outcome.as_slice());
+        }
+        let mut outcome = Outcome::new();
+        set_outcome(&mut outcome, part, &self.held);
+        wanted.wants(plan, outcome.as_slice())
+    }
+
     /// Whether the outcome is known, as everything is that a search asks about after so many byte reads, and is not
     /// wanted.
     fn has_unwanted<W: Wanted>(&self, plan: &Plan<'_>, wanted: &W, known: usize) -> bool
@@ -43,16 +58,16 @@ impl Cursor<'_> {
         ensures wanted { IsFalse result → known ≤ length self.now.places → W.IsWanted wanted.now plan.now (part_outcome (part_at self.now)) }
     {
         laws();
+        let _names = plan.names();
         let part = self.part();
         if part.len() < known {
             return false;
         }
-        !wanted.wants(plan, outcome_of(plan, part, &self.held).as_slice())
+        !self.is_wanted(plan, wanted)
     }
 
     /// Whether the event that made a byte can stand for its last source, with choices from number `since` on.
-    fn is_stood_for(&self, plan: &Plan<'_>, since: u64) -> bool
-        requires test { self.now.test ≡ plan.now }
+    fn is_stood_for(&self, since: u64) -> bool
         requires whole { ¬ IsBroken (part_at self.now) }
         ensures { IsTrue result
             ↔ (IsStoodFor (part_at self.now) × (since ≤ low_at (first_places self.now (length self.now.places - 1)))) }
@@ -64,7 +79,7 @@ impl Cursor<'_> {
         if self.low_without_last() < since {
             return false;
         }
-        is_stood_for(plan, part, self.last_source())
+        is_stood_for(part, &self.held, self.last_source())
     }
 
     /// How many of its first sources begin choices that may all be passed over: from number `from` on, none of them
@@ -113,7 +128,7 @@ impl Cursor<'_> {
         if self.none_comes(plan, wanted, coming) {
             return Some(depth);
         }
-        if self.is_stood_for(plan, since) {
+        if self.is_stood_for(since) {
             return Some(depth);
         }
         if self.has_alike(since) {
@@ -134,11 +149,12 @@ impl Cursor<'_> {
         ensures choice { IfSome result (λ shown. shown.example.choice ≡ low_at self.now) }
     {
         laws();
-        let part = self.part();
+        let _part = self.part();
         let Some(order) = self.least_order() else {
             return None;
         };
-        let outcome = outcome_of(plan, part, &self.held);
+        let _names = plan.names();
+        let outcome = copy_of(&self.outcome);
         let choice = self.low();
         let example = Example { choice, order };
         Some(Shown { outcome, example })

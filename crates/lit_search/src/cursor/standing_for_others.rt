@@ -7,11 +7,13 @@
 ghost use Rattle.std.specs.Prelude.{◌≡◌, ◌↔◌, ◌+◌, ℕ, ◌<◌, ◌≤◌, IfSome, IsTrue, Some, length, map, slice_get};
 ghost use Rattle.lit_paths.specs.ByteReads.{pair_of};
 ghost use Rattle.lit_rel.specs.Part.{part_events};
+ghost use Rattle.lit_search.specs.Internal.Held.{reads_held};
 ghost use Rattle.lit_search.specs.Internal.Others.{AddsNothing, AllCanStand, AreOfRead, CanStand, StandsForOthers};
 ghost use Rattle.lit_search.specs.Internal.Passing.{first_places};
 ghost use Rattle.lit_search.specs.Internal.Places.{behind_at};
 
 use crate::cursor::Cursor;
+use crate::cursor::held::HeldReads;
 use crate::cursor::used::is_held;
 use crate::laws::completions::laws;
 use lit_paths::{ByteRead, Plan, event_at};
@@ -67,8 +69,8 @@ fn first_of_read(reads: &[ByteRead], place: usize, read: u8) -> usize
 }
 
 /// Where the last read of a part begins, if it has all its bytes and its sources stand for all others.
-fn stands_from(plan: &Plan<'_>, part: &Part<'_>) -> Option<usize>
-    requires test { part.now.test ≡ plan.now }
+fn stands_from(part: &Part<'_>, held: &HeldReads) -> Option<usize>
+    requires held { held.now.items ≡ reads_held part.now.test part.now.combination }
     requires some { 0 < length part.now.sources }
     ensures few { IfSome result (λ first. first < length part.now.sources) }
     ensures stands { IfSome result (λ first. (r : ℕ) × StandsForOthers part.now r first) }
@@ -80,7 +82,7 @@ fn stands_from(plan: &Plan<'_>, part: &Part<'_>) -> Option<usize>
     let event = usize::from(read);
     if is_last_of_read(reads, last)
         && part.never_synchronizes(event)
-        && !is_held(plan, part, read)
+        && !is_held(part, held, read)
         && part.has_settled_past(event)
         && all_can_stand(part, event)
     {
@@ -93,17 +95,17 @@ impl Cursor<'_> {
     /// How many sources are given before the last read, where its sources stand for all others: the choices left that begin
     /// with so many show nothing but what those of the stand do. `None` where they don't stand, or the choices of the stand
     /// begin before number `since`.
-    pub(crate) fn stands_for_others(&self, plan: &Plan<'_>, since: u64) -> Option<usize>
-        requires test { self.now.test ≡ plan.now }
+    pub(crate) fn stands_for_others(&self, _plan: &Plan<'_>, since: u64) -> Option<usize>
+        requires test { self.now.test ≡ _plan.now }
         ensures few { IfSome result (λ depth. depth < length self.now.places) }
         ensures wider { IfSome result (λ depth. behind_at self.now ≤ behind_at (first_places self.now depth)) }
-        ensures nothing { IfSome result (λ depth. AddsNothing plan.now since (behind_at self.now) (behind_at (first_places self.now depth))) }
+        ensures nothing { IfSome result (λ depth. AddsNothing _plan.now since (behind_at self.now) (behind_at (first_places self.now depth))) }
     {
         laws();
         let part = self.part();
         if part.len() == 0 || part.broken() || self.low() < since {
             return None;
         }
-        stands_from(plan, part)
+        stands_from(part, &self.held)
     }
 }

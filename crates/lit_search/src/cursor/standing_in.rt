@@ -6,12 +6,14 @@ ghost use Rattle.lit_paths.specs.Event.{event_at, payload_at};
 ghost use Rattle.lit_rel.specs.Broken.{IsBroken};
 ghost use Rattle.lit_rel.specs.Part.{part_events};
 ghost use Rattle.lit_rel.specs.Rows.{Holds, rows_len};
+ghost use Rattle.lit_search.specs.Internal.Held.{reads_held};
 ghost use Rattle.lit_search.specs.Internal.StoodFor.{IsStoodFor};
 ghost use Rattle.lit_search.specs.StandsFor.{IsUsed};
 
+use crate::cursor::held::HeldReads;
 use crate::cursor::used::is_used;
 use crate::laws::completions::laws;
-use lit_paths::{ByteRead, Event, Order3, Plan, event_at};
+use lit_paths::{ByteRead, Event, Order3, event_at};
 use lit_rel::{Part, Rows, payload_at};
 
 /// Whether an event is unordered.
@@ -35,19 +37,21 @@ fn is_first(candidates: &[u8], at: ByteRead, before: &Rows) -> bool
     true
 }
 
-/// Whether a source stores 0 at a byte read, or nothing asks what the read reads. The part is one of the plan's test.
-fn tells_nothing(plan: &Plan<'_>, part: &Part<'_>, at: ByteRead, source: u8) -> bool
-    requires test { part.now.test ≡ plan.now }
+/// Whether a source stores 0 at a byte read, or nothing asks what the read reads. The registers hold these reads on the
+/// part's combination.
+fn tells_nothing(part: &Part<'_>, held: &HeldReads, at: ByteRead, source: u8) -> bool
+    requires held { held.now.items ≡ reads_held part.now.test part.now.combination }
     requires known { source < length (part_events part.now) }
     ensures { IsTrue result ↔ (payload_at (event_at (part_events part.now) source) at.byte ≡ 0 ⊎ ¬ IsUsed part.now.test part.now.combination at.read) }
 {
     let events = part.combination().events();
-    payload_at(event_at(events, usize::from(source)), at.byte) == 0 || !is_used(plan, part, at.read)
+    payload_at(event_at(events, usize::from(source)), at.byte) == 0 || !is_used(part, held, at.read)
 }
 
-/// Whether the event that made the byte can stand for the last source of a part, which is one of the plan's test.
-pub(crate) fn is_stood_for(plan: &Plan<'_>, part: &Part<'_>, source: u8) -> bool
-    requires test { part.now.test ≡ plan.now }
+/// Whether the event that made the byte can stand for the last source of a part. The registers hold these reads on the
+/// part's combination.
+pub(crate) fn is_stood_for(part: &Part<'_>, held: &HeldReads, source: u8) -> bool
+    requires held { held.now.items ≡ reads_held part.now.test part.now.combination }
     requires some { 0 < length part.now.sources }
     requires last { slice_get part.now.sources (length part.now.sources - 1) ≡ Some source }
     requires whole { ¬ IsBroken part.now }
@@ -65,10 +69,10 @@ pub(crate) fn is_stood_for(plan: &Plan<'_>, part: &Part<'_>, source: u8) -> bool
     if !is_unordered(event_at(events, read)) {
         return false;
     }
-    if !tells_nothing(plan, part, at, source) {
+    if !tells_nothing(part, held, at, source) {
         return false;
     }
-    if !is_first(combination.candidates(place), at, &part.happens_before()) {
+    if !is_first(combination.candidates(place), at, &part.order().rows) {
         return false;
     }
     part.has_settled_past(read)

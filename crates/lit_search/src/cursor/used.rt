@@ -1,24 +1,21 @@
 //! Whether anything asks for the value of a read.
 
 ghost use Rattle.std.specs.Prelude.{◌≡◌, ◌↔◌, IsTrue};
+ghost use Rattle.lit_search.specs.Internal.Held.{reads_held};
 ghost use Rattle.lit_search.specs.Internal.StoodFor.{AsksAbout, SomeAsks};
 ghost use Rattle.lit_search.specs.StandsFor.{IsHeld, IsTested, IsUsed};
 
-use crate::cursor::held::holds_read;
-use lit_paths::{Combination, Plan, Tested};
+use crate::cursor::held::{HeldReads, is_held_by};
+use lit_paths::{Combination, Tested};
 use lit_rel::Part;
 
-/// Whether a register of the outcome holds a read's value at the end, by the read's number.
-pub(crate) fn is_held(plan: &Plan<'_>, part: &Part<'_>, read: u8) -> bool
-    requires { part.now.test ≡ plan.now }
-    ensures { IsTrue result ↔ IsHeld part.now.test part.now.combination read }
+/// Whether a register of the outcome holds a read's value at the end, by the read's number. The registers hold these reads
+/// on the part's combination.
+pub(crate) fn is_held(_part: &Part<'_>, held: &HeldReads, read: u8) -> bool
+    requires { held.now.items ≡ reads_held _part.now.test _part.now.combination }
+    ensures { IsTrue result ↔ IsHeld _part.now.test _part.now.combination read }
 {
-    for name in plan.names() {
-        if holds_read(part, *name, read) {
-            return true;
-        }
-    }
-    false
+    is_held_by(held, read)
 }
 
 /// Whether a test is on a read, by the read's number and that of the first event of the test's path.
@@ -56,10 +53,11 @@ pub(crate) fn is_tested(combination: &Combination<'_>, read: u8) -> bool
     false
 }
 
-/// Whether a read's value is held at the end or tested, by the read's number. The part is one of the plan's test.
-pub(crate) fn is_used(plan: &Plan<'_>, part: &Part<'_>, read: u8) -> bool
-    requires { part.now.test ≡ plan.now }
+/// Whether a read's value is held at the end or tested, by the read's number. The registers hold these reads on the part's
+/// combination.
+pub(crate) fn is_used(part: &Part<'_>, held: &HeldReads, read: u8) -> bool
+    requires { held.now.items ≡ reads_held part.now.test part.now.combination }
     ensures { IsTrue result ↔ IsUsed part.now.test part.now.combination read }
 {
-    is_held(plan, part, read) || is_tested(part.combination(), read)
+    is_held(part, held, read) || is_tested(part.combination(), read)
 }

@@ -4,7 +4,8 @@ use Rattle.std.proofs.lemmas.Option.{slice_get-get_or}
 use Rattle.lit_paths.specs.Numbers.{ways_from}
 use Rattle.lit_paths.specs.ByteReads.{byte_read_at}
 use Rattle.lit_paths.specs.Plan.{ListsCandidates}
-use Rattle.lit_rel.specs.Part.{IsNextSource, part_events, with_sources}
+use Rattle.lit_rel.specs.Part.{IsComplete, IsNextSource, PartModel, part_events, with_sources}
+use Rattle.lit_search.specs.Internal.Held.{part_outcome}
 use Rattle.lit_search.specs.Internal.Places.{candidates_at}
 use Rattle.lit_search.proofs.StandLemmas.{candidates_here, known_here, left_here, lists_here, next_source, reads_here, room_down, standing_down, ways_here}
 use Rattle.lit_search.proofs.cursor.Cursor.down.Goals as goal
@@ -80,4 +81,5 @@ invariant_of-self c =
     standing_down x is c.args.place left known _
     (c.push.ensures ∙ ap (λ (w : ℕ). with_sources x.part (x.part.sources ++ w ∷ [])) same)
     c.push-2.ensures.items
-    (ap (λ (n : ℕ). x.low + n) (ap₂ (λ (a b : ℕ). a * b) c.from.ensures ways)) refl refl refl
+    (ap (λ (n : ℕ). x.low + n) (ap₂ (λ (a b : ℕ). a * b) c.from.ensures ways))
+    refl refl refl (subst (λ (q : PartModel). IsComplete q → c.complete_outcome.new.outcome.items ≡ part_outcome q) c.part.ensures c.complete_outcome.ensures)

@@ -7,17 +7,12 @@ use Rattle.lit_paths.specs.Outcome.{names_of}
 use Rattle.lit_rel.specs.Part.{PartModel, part_events}
 use Rattle.lit_search.specs.Internal.Held.{part_outcome}
 use Rattle.lit_search.specs.Internal.Places.{part_at, stand_events}
-use Rattle.lit_search.proofs.PassingLemmas.{AreNamed, length-part, pass_unwanted}
+use Rattle.lit_search.proofs.PassingLemmas.{AreNamed, are_named, length-part, pass_unwanted}
 use Rattle.lit_search.proofs.cursor.Cursor.has_unwanted.Goals as goal
 
 pub returns-then-len-known-clause-wanted : goal.returns-then-len-known-clause-wanted
 returns-then-len-known-clause-wanted g c is deep =
     absurd (omega (arith, deep, c.if-len-known.true, c.len.ensures.value, length-part c.args.self.now c.part-part.result.now c.part-part.ensures.value))
-
-pub wants-requires : goal.wants-requires
-wants-requires g c =
-    ap (λ (vs : List ℕ). length vs) (c.as_slice.ensures.value ∙ c.outcome_of.ensures.value ∙ ap part_outcome c.part-part.ensures.value)
-    ∙ length-map (names_of c.args.self.now.test) _ ∙ ap (λ (t : Litmus). length (names_of t)) c.requires.test
 
 pub returns-clause-passed : goal.returns-clause-passed
 returns-clause-passed g c is =
@@ -25,17 +20,14 @@ returns-clause-passed g c is =
     let Wanted = g.W.Wanted.IsWanted c.args.wanted.now c.args.plan.now in
     let long = length-part s c.part-part.result.now c.part-part.ensures.value in
     let few : length s.places ≤ length (byte_reads (stand_events s)) = omega (arith, long, c.len.ensures.few, c.len.ensures.value, ap (λ (p : PartModel). length (byte_reads (part_events p))) c.part-part.ensures.value) in
-    let outcome : c.as_slice.result.now ≡ part_outcome (part_at s) = c.as_slice.ensures.value ∙ c.outcome_of.ensures.value ∙ ap part_outcome c.part-part.ensures.value in
-    let named : AreNamed s.test = subst (λ (p : PartModel). AreNamed p.test) c.part-part.ensures.value c.outcome_of.ensures.named in
+    let named : AreNamed s.test = are_named s.test c.args.plan.now c.requires.test _ c.names-names.ensures.value c.names-names.ensures.known in
     pass_unwanted c.laws.ensures s c.part-part.ensures.entered c.part-part.ensures.placed few c.args.plan.now Wanted (g.W.Wanted.Asks c.args.wanted.now c.args.plan.now) c.args.known c.requires.test named
-    (omega (arith, c.if-len-known.false, c.len.ensures.value, long)) c.requires.known c.wants.ensures.goes
-    (λ wanted. false≢true (ap not (sym (c.wants.ensures.value.1 (subst (λ (o : List ℕ). Wanted o) (sym outcome) wanted))) ∙ is))
+    (omega (arith, c.if-len-known.false, c.len.ensures.value, long)) c.requires.known c.is_wanted.ensures.goes
+    (λ wanted. false≢true (ap not (sym (c.is_wanted.ensures.value.1 wanted)) ∙ is))
 
 pub returns-clause-wanted : goal.returns-clause-wanted
 returns-clause-wanted g c is deep =
-    let Wanted = g.W.Wanted.IsWanted c.args.wanted.now c.args.plan.now in
-    let outcome : c.as_slice.result.now ≡ part_outcome (part_at c.args.self.now) = c.as_slice.ensures.value ∙ c.outcome_of.ensures.value ∙ ap part_outcome c.part-part.ensures.value in
-    subst (λ (o : List ℕ). Wanted o) outcome (c.wants.ensures.value.0 (by c.wants.result is))
+    c.is_wanted.ensures.value.0 (by c.is_wanted.result is)
   where
     by : (b : Bool) → not b ≡ false → b ≡ true
     by true e = refl

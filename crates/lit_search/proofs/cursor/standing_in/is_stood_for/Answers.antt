@@ -33,13 +33,13 @@ tells_nothing-requires-clause-known c =
 pub is_first-requires-clause-read : goal.is_first-requires-clause-read
 is_first-requires-clause-read c =
     let at = at_last c.laws.ensures c.args.part.now _ c.combination-combination.ensures _ c.events-events.ensures.value c.events-events.ensures.sound _ c.byte_reads.ensures _ c.len-place.ensures.value c.requires.some c.len-place.ensures.few c.len-place.ensures.candidates c.args.source no_read c.requires.last in
-    omega (arith, at.known, c.happens_before.ensures.len)
+    omega (arith, at.known, c.order.ensures.len)
 
 pub is_first-requires-clause-known : goal.is_first-requires-clause-known
 is_first-requires-clause-known c k w here =
     let at = at_last c.laws.ensures c.args.part.now _ c.combination-combination.ensures _ c.events-events.ensures.value c.events-events.ensures.sound _ c.byte_reads.ensures _ c.len-place.ensures.value c.requires.some c.len-place.ensures.few c.len-place.ensures.candidates c.args.source no_read c.requires.last in
     let lists = lists_last c.args.part.now _ c.combination-combination.ensures c.len-place.result c.len-place.ensures.value _ _ at.is_read c.candidates.result.now c.candidates.ensures.lists in
-    omega (arith, (lists.only k w here).known, c.happens_before.ensures.len)
+    omega (arith, (lists.only k w here).known, c.order.ensures.len)
 
 pub has_settled_past-requires : goal.has_settled_past-requires
 has_settled_past-requires c =
@@ -64,7 +64,7 @@ returns-then-not-is_first c =
     let at = at_last c.laws.ensures c.args.part.now _ c.combination-combination.ensures _ c.events-events.ensures.value c.events-events.ensures.sound _ c.byte_reads.ensures _ c.len-place.ensures.value c.requires.some c.len-place.ensures.few c.len-place.ensures.candidates c.args.source no_read c.requires.last in
     let lists = lists_last c.args.part.now _ c.combination-combination.ensures c.len-place.result c.len-place.ensures.value _ _ at.is_read c.candidates.result.now c.candidates.ensures.lists in (
       (λ h. absurd (false≢true h)),
-      (λ is. c.if-not-is_first.ensures.1 (first_here _ _ _ _ at c.requires.whole c.happens_before.result c.happens_before.ensures.len c.happens_before.ensures.pairs c.candidates.result.now lists is)),
+      (λ is. c.if-not-is_first.ensures.1 (first_here _ _ _ _ at c.requires.whole c.order.result.now.rows c.order.ensures.len c.order.ensures.pairs c.candidates.result.now lists is)),
     )
 
 pub returns : goal.returns
@@ -76,7 +76,7 @@ returns c =
     let lists = lists_last c.args.part.now _ c.combination-combination.ensures c.len-place.result c.len-place.ensures.value _ _ at.is_read c.candidates.result.now c.candidates.ensures.lists in
     let past = subst (λ (e : ℕ). (IsTrue c.has_settled_past.result → HasSettledPast (part_events c.args.part.now) c.args.part.now.sources e) × (HasSettledPast (part_events c.args.part.now) c.args.part.now.sources e → IsTrue c.has_settled_past.result)) c.from-read.ensures c.has_settled_past.ensures in (
       (λ h.
-          stood_by _ _ _ _ at c.requires.whole c.happens_before.result c.happens_before.ensures.len c.happens_before.ensures.pairs c.candidates.result.now lists c.if-source-at.false (ap (λ (e : Event). e.order) (sym order) ∙ c.is_unordered.ensures.0 c.if-not-is_unordered.false) (c.tells_nothing.ensures.0 c.if-not-tells_nothing.false)
+          stood_by _ _ _ _ at c.requires.whole c.order.result.now.rows c.order.ensures.len c.order.ensures.pairs c.candidates.result.now lists c.if-source-at.false (ap (λ (e : Event). e.order) (sym order) ∙ c.is_unordered.ensures.0 c.if-not-is_unordered.false) (c.tells_nothing.ensures.0 c.if-not-tells_nothing.false)
           (c.is_first.ensures.0 c.if-not-is_first.false) (past.0 h)),
       (λ is. past.1 (stood_here _ _ _ _ at is).2),
     )

@@ -1,8 +1,0 @@
-use Rattle.std.proofs.Common.{◌≡◌, ℕ, ◌<◌, Some}
-use Rattle.std.specs.Prelude.{slice_get}
-use Rattle.lit_paths.specs.Outcome.{names_of}
-use Rattle.lit_search.specs.Internal.Held.{read_held}
-use Rattle.lit_search.proofs.cursor.used.is_held.Given as goal
-
-abbrev pub invariant-loop-name : goal.invariant-loop-name
-invariant-loop-name l = (k : ℕ) (name : ℕ × ℕ) → k < l.name-index → slice_get (names_of l.plan) k ≡ Some name → read_held l.part.test l.part.combination name ≡ Some l.read → ⊥
