@@ -4,8 +4,8 @@ use Rattle.std.specs.Prelude.{IsTrue, slice_get, slice_index, slice_index_or}
 use Rattle.std.specs.List.{list_all, range_with_len}
 use Rattle.std.proofs.lemmas.Bool.Decides.{nat_tests}
 use Rattle.std.proofs.lemmas.List.Folds.{list_all_at}
-use Rattle.std.specs.Option.{option_map}
-use Rattle.std.proofs.lemmas.Option.{none-some, same_Some, slice_get-map, slice_get_within, get_or_from_slice_get}
+use Rattle.std.proofs.lemmas.Option.{slice_get_within, get_or_from_slice_get}
+use Rattle.lit_paths.proofs.Rising.{slice_get-map-found, slice_get-map-known}
 use Rattle.lit_read.specs.declared.limits.TheConstants.{REGISTERS}
 use Rattle.lit_read.specs.Syntax.{Litmus, Window, agent_of}
 use Rattle.lit_paths.specs.declared.event.Event.{Event}
@@ -25,18 +25,13 @@ use Rattle.lit_search.specs.Internal.Held.{read_held, reads_held, value_held}
 use Rattle.lit_search.specs.StandsFor.{IsHeld}
 
 -- ---- the reads that registers hold, in a list
-held_name : (f : ℕ × ℕ → Option ℕ) (names : List (ℕ × ℕ)) (i : ℕ) (y : Option ℕ) → slice_get (map f names) i ≡ Some y → (name : ℕ × ℕ) × (slice_get names i ≡ Some name) × (f name ≡ y)
-held_name f [] i y at = absurd (none-some y at)
-held_name f (x ∷ xs) zero y at = (x, refl, same_Some (f x) y at)
-held_name f (x ∷ xs) (suc i) y at = held_name f xs i y at
-
 pub held_there : (t : Litmus) (c r : ℕ) → IsHeld t c r → (i : ℕ) × (slice_get (reads_held t c) i ≡ Some (Some r))
 held_there t c r held =
-    (held.place, slice_get-map (read_held t c) (names_of t) held.place ∙ ap (option_map (read_held t c)) held.named ∙ ap (λ (o : Option ℕ). Some o) held.holds)
+    (held.place, slice_get-map-found (read_held t c) (names_of t) held.place (held.agent, held.reg) held.named ∙ ap (λ (o : Option ℕ). Some o) held.holds)
 
 pub held_as : (t : Litmus) (c r i : ℕ) → slice_get (reads_held t c) i ≡ Some (Some r) → IsHeld t c r
 held_as t c r i at =
-    let found = held_name (read_held t c) (names_of t) i (Some r) at in
+    let found = slice_get-map-known (read_held t c) (names_of t) i (Some r) at in
     record { agent = found.0.0; reg = found.0.1; place = i; named = found.1; holds = found.2 }
 
 -- each read takes one value

@@ -9,6 +9,7 @@ pub mod HeldLemmas
 pub mod Takings
 pub mod RunLemmas
 pub mod ComingLemmas
+pub mod DecidingLemmas
 pub mod CompletionLemmas
 pub mod WantingLemmas
 pub mod PassingLemmas

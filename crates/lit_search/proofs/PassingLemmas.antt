@@ -103,7 +103,7 @@ pass_invalid s t Wanted from depth deep none =
     }
 
 -- ---- outcomes that are known
-held_stays : ValuesStay → (part : PartModel) (sources rest : List ℕ) → sources ≡ part.sources ++ rest → (place : Option ℕ) → ((r : ℕ) → place ≡ Some r → IsGivenWhole (part_events part) part.sources r)
+pub held_stays : ValuesStay → (part : PartModel) (sources rest : List ℕ) → sources ≡ part.sources ++ rest → (place : Option ℕ) → ((r : ℕ) → place ≡ Some r → IsGivenWhole (part_events part) part.sources r)
     → value_held (with_sources part sources) place ≡ value_held part place
 held_stays stay part sources rest is None whole = refl
 held_stays stay part sources rest is (Some r) whole = ap (λ (ws : List ℕ). value_of (part_events part) ws r) is ∙ stay (part_events part) part.sources rest r (whole r refl)

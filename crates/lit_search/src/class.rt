@@ -1,7 +1,10 @@
 //! The classes of outcomes.
 
+pub(crate) mod deciding;
+
 ghost use Rattle.std.specs.Prelude.{IsTrue};
 
+use crate::class::deciding::is_decided;
 use crate::cursor::wanted::Wanted;
 use lit_paths::Plan;
 
@@ -31,5 +34,17 @@ impl Wanted for Class {
 
     fn asks(&self, plan: &Plan<'_>, name: (u8, u8)) -> bool {
         plan.asks(name)
+    }
+
+    fn decides_early(&self) -> bool {
+        true
+    }
+
+    fn may_want(&self, plan: &Plan<'_>, known: &[Option<u32>]) -> bool {
+        let other = match self {
+            Class::Met => false,
+            Class::Unmet => true,
+        };
+        !is_decided(plan.names(), known, plan.test().check(), other)
     }
 }

@@ -102,4 +102,12 @@ impl Wanted for Kept {
     fn asks(&self, _plan: &Plan<'_>, _name: (u8, u8)) -> bool {
         true
     }
+
+    fn decides_early(&self) -> bool {
+        false
+    }
+
+    fn may_want(&self, _plan: &Plan<'_>, _known: &[Option<u32>]) -> bool {
+        true
+    }
 }

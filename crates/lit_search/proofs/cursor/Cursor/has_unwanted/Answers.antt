@@ -1,12 +1,8 @@
-use Rattle.std.proofs.Common.{◌≡◌, ◌≤◌, ℕ, List, Bool, true, false, not, length, refl, ap, sym, subst, ◌∙◌, arith}
+use Rattle.std.proofs.Common.{◌≡◌, ◌≤◌, Bool, true, false, not, length, refl, ap, sym, ◌∙◌, arith}
 use Rattle.std.proofs.lemmas.Bool.{false≢true}
-use Rattle.std.proofs.lemmas.List.{length-map}
-use Rattle.lit_read.specs.Syntax.{Litmus}
 use Rattle.lit_paths.specs.ByteReads.{byte_reads}
-use Rattle.lit_paths.specs.Outcome.{names_of}
 use Rattle.lit_rel.specs.Part.{PartModel, part_events}
-use Rattle.lit_search.specs.Internal.Held.{part_outcome}
-use Rattle.lit_search.specs.Internal.Places.{part_at, stand_events}
+use Rattle.lit_search.specs.Internal.Places.{stand_events}
 use Rattle.lit_search.proofs.PassingLemmas.{AreNamed, are_named, length-part, pass_unwanted}
 use Rattle.lit_search.proofs.cursor.Cursor.has_unwanted.Goals as goal
 

@@ -2,7 +2,7 @@ use Rattle.std.proofs.Common.{◌≡◌, ℕ, List, length, ap, sym, subst, ◌�
 use Rattle.std.proofs.lemmas.List.{length-map}
 use Rattle.lit_read.specs.Syntax.{Litmus}
 use Rattle.lit_paths.specs.Outcome.{names_of}
-use Rattle.lit_rel.specs.Part.{IsComplete, PartModel}
+use Rattle.lit_rel.specs.Part.{IsComplete}
 use Rattle.lit_search.specs.Internal.Held.{part_outcome}
 use Rattle.lit_search.specs.Internal.Places.{Stand, part_at}
 use Rattle.lit_search.proofs.StandLemmas.{outcome_here}

@@ -1,6 +1,5 @@
 use Rattle.std.proofs.Common.{inl, refl, subst, ◌∙◌}
 use Rattle.lit_read.specs.Syntax.{Litmus}
-use Rattle.lit_rel.specs.Part.{PartModel}
 use Rattle.lit_search.specs.Internal.Examined.{IsExample}
 use Rattle.lit_search.specs.Internal.Held.{part_outcome}
 use Rattle.lit_search.specs.Internal.Places.{low_at, part_at}

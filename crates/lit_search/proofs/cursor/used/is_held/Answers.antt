@@ -1,4 +1,4 @@
-use Rattle.std.proofs.Common.{◌≡◌, ℕ, Option, Some, List, ap, sym, ◌∙◌}
+use Rattle.std.proofs.Common.{ℕ, Option, List, ap, sym, ◌∙◌}
 use Rattle.std.specs.Prelude.{slice_get}
 use Rattle.lit_search.proofs.HeldLemmas.{held_as, held_there}
 use Rattle.lit_search.proofs.cursor.used.is_held.Goals as goal
