@@ -62,8 +62,8 @@ returns-then-is_stood_for-clause-passed g c =
     pass_stood_for c.laws.ensures s c.part-part.ensures.entered c.part-part.ensures.placed few (c.is_stood_for.ensures.0 c.if-is_stood_for.true).0 c.args.plan.now (g.W.Wanted.IsWanted c.args.wanted.now c.args.plan.now) c.args.since c.args.from c.len-depth.result c.requires.test
     (c.len-depth.ensures.value ∙ long) (c.is_stood_for.ensures.0 c.if-is_stood_for.true).1 c.requires.seen
 
-pub is_stood_for-requires-clause-whole : goal.is_stood_for-requires-clause-whole
-is_stood_for-requires-clause-whole g c = λ broken. false≢true (sym c.if-refuted.false ∙ c.refuted.ensures.1 (inl broken))
+pub is_stood_for-requires : goal.is_stood_for-requires
+is_stood_for-requires g c = record { whole = λ broken. false≢true (sym c.if-refuted.false ∙ c.refuted.ensures.1 (inl broken)) }
 
 pub returns-then-has_alike-clause-passed : goal.returns-then-has_alike-clause-passed
 returns-then-has_alike-clause-passed g c =
