@@ -8,6 +8,7 @@ pub mod ForcedLemmas
 pub mod ExtendLemmas
 pub mod ForcingLemmas
 pub mod KeptBetweenLemmas
+pub mod KeptOrderLemmas
 pub mod KeptLevelLemmas
 pub mod LeftOutLemmas
 pub mod LevelLemmas
@@ -16,3 +17,4 @@ pub mod MissingLemmas
 pub mod NarrowLemmas
 pub mod OtherLemmas
 pub mod RowsLemmas
+pub mod SpanLemmas

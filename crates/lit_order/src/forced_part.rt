@@ -1,9 +1,11 @@
 //! Parts of choices, with what they force.
 
 pub(crate) mod kept_between;
+pub(crate) mod kept_order;
 pub(crate) mod leaving_out;
 pub(crate) mod level;
 pub(crate) mod levels;
+pub(crate) mod span;
 
 ghost use Rattle.std.specs.Prelude.{◌≡◌, ◌⊎◌, ◌↔◌, ℕ, ◌-◌, ◌<◌, IfNone, IfSome, IsTrue, List, [], ◌∷◌, ◌++◌, length, take};
 ghost use Rattle.lit_paths.specs.ByteReads.{byte_reads};
@@ -15,7 +17,7 @@ ghost use Rattle.lit_order.specs.Refuted.{IsRefuted};
 ghost use Rattle.lit_order.specs.MemoryOrder.{IsLeastMemoryOrder, IsMemoryOrder};
 
 use crate::forced_part::leaving_out::is_forced_apart;
-use crate::forced_part::level::{ForcedLevel, least_order_anew};
+use crate::forced_part::level::ForcedLevel;
 use crate::forced_part::levels::Levels;
 use crate::order::Order;
 use lit_paths::{ByteRead, Combination, Plan};
@@ -31,7 +33,7 @@ pub struct ForcedPart<'p> {
 
 impl<'p> Model for ForcedPart<'p> {
     ghost use Rattle.lit_rel.specs.Part.{PartModel, coded_part};
-    ghost use Rattle.lit_order.specs.Internal.ForcedLevels.{AreForcedLevels, IsKeptBetween};
+    ghost use Rattle.lit_order.specs.Internal.ForcedLevels.{AreForcedLevels, IsKeptBetween, IsKeptOrder};
 
     ghost Value = { PartModel };
 
@@ -39,7 +41,7 @@ impl<'p> Model for ForcedPart<'p> {
 
     ghost view = { λ p. p.part };
 
-    ghost invariant = { λ p. AreForcedLevels p.part p.levels.earlier.items p.levels.now × IsKeptBetween p.part p.levels.forbidden };
+    ghost invariant = { λ p. AreForcedLevels p.part p.levels.earlier.items p.levels.now × IsKeptBetween p.part p.levels.forbidden × IsKeptOrder p.part p.levels.order };
 }
 
 impl<'p> ForcedPart<'p> {
@@ -139,12 +141,20 @@ impl<'p> ForcedPart<'p> {
         ensures found { IfSome result (λ order. IsLeastMemoryOrder (part_events self.now) self.now.sources order.items) }
         ensures none { IfNone result ((order : List ℕ) → ¬ IsMemoryOrder (part_events self.now) self.now.sources order) }
     {
-        if self.levels.now.least <= self.part.len() && self.levels.forbidden.goes_for(&self.part) {
-            return self
-                .levels
-                .now
-                .least_order(&self.part, &self.levels.forbidden.between);
+        if self.levels.order.goes_for(&self.part) {
+            return self.levels.order.copied();
         }
-        least_order_anew(&self.part)
+        self.levels.find_order(&self.part).order
+    }
+
+    /// Finds the least memory-order of the sources given, unless it is known, and keeps it: `least_order` need not find it
+    /// again, nor with other sources where these give the same relations. The part is not refuted.
+    pub fn keep_order(&mut self)
+        requires { ¬ IsRefuted self.old }
+        ensures { self.new ≡ self.old }
+    {
+        if !self.levels.order.goes_for(&self.part) {
+            self.levels.order = self.levels.find_order(&self.part);
+        }
     }
 }

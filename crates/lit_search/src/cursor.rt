@@ -138,6 +138,14 @@ impl<'p> Cursor<'p> {
         self.part.least_order()
     }
 
+    /// Finds that order, unless it is known, and keeps it for the parts that follow. The part is not refuted.
+    pub(crate) fn keep_order(&mut self)
+        requires { ¬ IsRefuted (part_at self.old) }
+        ensures { self.new ≡ self.old }
+    {
+        self.part.keep_order();
+    }
+
     /// The number of the first choice that begins with its sources.
     pub(crate) fn low(&self) -> u64
         ensures { result ≡ low_at self.now }

@@ -1,5 +1,6 @@
 -- What a part forces with each number of sources.
-use Rattle.std.specs.Prelude.{◌≡◌, ◌↔◌, ◌⊎◌, ℕ, ◌-◌, ◌<◌, ◌≤◌, false, IsTrue, List, ◌∷◌, ◌++◌, [], length, take, Some, slice_get}
+use Rattle.std.specs.Prelude.{◌≡◌, ◌↔◌, ◌⊎◌, ℕ, ◌-◌, ◌<◌, ◌≤◌, false, Option, IfNone, IfSome, IsTrue, List, ◌∷◌, ◌++◌, [], length, take, Some, slice_get}
+use Rattle.arrayvec.specs.ArrayVec.{ArrayVec}
 use Rattle.lit_paths.specs.Plan.{AreEventsIn}
 use Rattle.lit_rel.specs.Between.{BetweenModel, Forbids}
 use Rattle.lit_rel.specs.Broken.{IsBroken}
@@ -9,8 +10,11 @@ use Rattle.lit_rel.specs.LastPair.{AddsNone, AddsPair}
 use Rattle.lit_rel.specs.Part.{PartModel, part_events, with_sources}
 use Rattle.lit_rel.specs.Rows.{Holds, WithPair, rows_len}
 use Rattle.lit_order.specs.declared.forced_part.kept_between.KeptBetween.{KeptBetween}
+use Rattle.lit_order.specs.declared.forced_part.kept_order.KeptOrder.{KeptOrder}
 use Rattle.lit_order.specs.declared.forced_part.level.ForcedLevel.{ForcedLevel}
+use Rattle.lit_order.specs.declared.forced_part.span.Span.{Span}
 use Rattle.lit_order.specs.Forcing.{IsForced}
+use Rattle.lit_order.specs.MemoryOrder.{IsLeastMemoryOrder, IsMemoryOrder}
 use Rattle.lit_order.specs.Refuted.{IsRefuted}
 
 -- a part without its last source
@@ -26,9 +30,22 @@ pub record AreForbidden (part : PartModel) (between : BetweenModel) : Type 0 whe
   pub len : length (part_events part) ≡ between.len
   pub triples : (w r v : ℕ) → Forbids between w r v ↔ IsForbidden (part_events part) part.sources w r v
 
+-- it holds with as many first sources as the span says, of those that there are
+abbrev pub HoldsOfFirst : (PartModel → Type 0) → PartModel → Span → Type 0
+HoldsOfFirst holds part span = (k : ℕ) → span.least ≤ k → k ≤ span.most → k ≤ length part.sources → holds (first_of part k)
+
 -- what is forbidden with as many sources as it says, of those that there are
 abbrev pub IsKeptBetween : PartModel → KeptBetween → Type 0
-IsKeptBetween part kept = (k : ℕ) → kept.least ≤ k → k ≤ kept.most → k ≤ length part.sources → AreForbidden (first_of part k) kept.between
+IsKeptBetween part kept = HoldsOfFirst (λ p. AreForbidden p kept.between) part kept.span
+
+-- its least memory-order, or nothing where it has none
+pub record IsLeastOf (part : PartModel) (order : Option (ArrayVec ℕ)) : Type 0 where
+  pub found : IfSome order (λ it. IsLeastMemoryOrder (part_events part) part.sources it.items)
+  pub none : IfNone order ((list : List ℕ) → ¬ IsMemoryOrder (part_events part) part.sources list)
+
+-- so with as many sources as it says, of those that there are, where nothing refutes them
+abbrev pub IsKeptOrder : PartModel → KeptOrder → Type 0
+IsKeptOrder part kept = HoldsOfFirst (λ p. ¬ IsRefuted p → IsLeastOf p kept.order) part kept.span
 
 -- its last source forbids nothing that is not forbidden without it
 abbrev pub ForbidsNone : PartModel → Type 0

@@ -6,6 +6,7 @@ ghost use Rattle.lit_rel.specs.EventSet.{HasEvent};
 ghost use Rattle.lit_rel.specs.LastPair.{AddsNone};
 ghost use Rattle.lit_order.specs.Internal.ForcedLevels.{AreForbidden, ForbidsNone, IsKeptBetween, less_of};
 
+use crate::forced_part::span::Span;
 use lit_rel::laws::relations_grow_with_bytes;
 use lit_rel::{Between, EventSet, Part};
 
@@ -13,46 +14,19 @@ use lit_rel::{Between, EventSet, Part};
 #[derive(Drop)]
 pub(crate) struct KeptBetween {
     pub between: Between,
-    /// The least of these numbers.
-    pub least: usize,
-    /// The greatest of them. Where it is less than the least, nothing is known.
-    pub most: usize,
+    /// These numbers.
+    pub span: Span,
 }
 
 impl KeptBetween {
     /// Nothing is known.
     pub(crate) fn new() -> Self
-        ensures { result.most < result.least }
+        ensures { result.span.most < result.span.least }
     {
         KeptBetween {
             between: Between::new(0),
-            least: 1,
-            most: 0,
+            span: Span::none(),
         }
-    }
-
-    /// Forgets what is known.
-    pub(crate) fn forget(&mut self)
-        ensures { self.new.most < self.new.least }
-    {
-        self.least = 1;
-        self.most = 0;
-    }
-
-    /// Whether it is what so many first sources forbid.
-    fn knows(&self, sources: usize) -> bool
-        ensures least { IsTrue result → self.now.least ≤ sources }
-        ensures most { IsTrue result → sources ≤ self.now.most }
-    {
-        self.least <= sources && sources <= self.most
-    }
-
-    /// Whether it is what a part forbids.
-    pub(crate) fn goes_for(&self, part: &Part<'_>) -> bool
-        requires { IsKeptBetween part.now self.now }
-        ensures { IsTrue result → AreForbidden part.now self.now.between }
-    {
-        self.knows(part.len())
     }
 
     /// Whether the last source of a part adds nothing to happens-before, and forbids nothing that is not forbidden without
@@ -73,18 +47,7 @@ impl KeptBetween {
         if others.is_empty() {
             return true;
         }
-        self.knows(last) && has_last(&self.between, source, read, others)
-    }
-
-    /// Goes on to a part, of which nothing is known.
-    pub(crate) fn pass(&mut self, part: &Part<'_>)
-        requires some { 0 < length part.now.sources }
-        requires kept { IsKeptBetween (less_of part.now) self.old }
-        ensures { IsKeptBetween part.now self.new }
-    {
-        if part.len() <= self.most {
-            self.most = part.len() - 1;
-        }
+        self.span.has(last) && has_last(&self.between, source, read, others)
     }
 
     /// Goes on to a part, and makes it what the part forbids. `same` says that this is what it forbids without its last
@@ -98,13 +61,15 @@ impl KeptBetween {
     {
         relations_grow_with_bytes();
         let depth = part.len();
-        if same && self.knows(depth - 1) {
-            self.most = depth;
+        if same && self.span.has(depth - 1) {
+            self.span.most = depth;
             return;
         }
         part.put_between(&mut self.between);
-        self.least = depth;
-        self.most = depth;
+        self.span = Span {
+            least: depth,
+            most: depth,
+        };
     }
 }
 

@@ -1,12 +1,11 @@
 //! What parts force.
 
-ghost use Rattle.std.specs.Prelude.{◌≡◌, ℕ, ◌<◌, IfNone, IfSome, IsTrue, IsFalse, List, [], length};
+ghost use Rattle.std.specs.Prelude.{◌≡◌, ◌<◌, IsTrue, IsFalse, [], length};
 ghost use Rattle.lit_rel.specs.Broken.{IsBroken};
-ghost use Rattle.lit_rel.specs.Part.{part_events};
+ghost use Rattle.lit_rel.specs.Part.{PartModel, part_events};
 ghost use Rattle.lit_rel.specs.Rows.{Holds, IsTransitive, rows_len};
-ghost use Rattle.lit_order.specs.MemoryOrder.{IsLeastMemoryOrder, IsMemoryOrder};
 ghost use Rattle.lit_order.specs.Refuted.{IsRefuted};
-ghost use Rattle.lit_order.specs.Internal.ForcedLevels.{AreForbidden, IsForcedLevel, IsLedOn, less_of};
+ghost use Rattle.lit_order.specs.Internal.ForcedLevels.{AreForbidden, HasForcedPairs, IsForcedLevel, IsLeastOf, IsLedOn, less_of};
 
 use crate::forced_finder::least_of;
 use crate::forcing::force;
@@ -83,13 +82,11 @@ impl ForcedLevel {
         self.least = part.len();
     }
 
-    /// The least memory-order of a part that forces this, or `None` exactly where there is none. The part is not refuted.
-    pub(crate) fn least_order(&self, _part: &Part<'_>, between: &Between) -> Option<Order>
-        requires unrefuted { ¬ IsRefuted _part.now }
-        requires between { AreForbidden _part.now between.now }
-        requires level { IsForcedLevel _part.now self.now }
-        ensures found { IfSome result (λ order. IsLeastMemoryOrder (part_events _part.now) _part.now.sources order.items) }
-        ensures none { IfNone result ((order : List ℕ) → ¬ IsMemoryOrder (part_events _part.now) _part.now.sources order) }
+    /// The least memory-order of each part that forces this and forbids what `between` does, or `None` exactly where these
+    /// have none.
+    pub(crate) fn least_order(&self, between: &Between) -> Option<Order>
+        requires { rows_len self.now.forced.rows ≡ between.now.len }
+        ensures { (part : PartModel) → AreForbidden part between.now → HasForcedPairs part self.now → IsLeastOf part result }
     {
         least_of(&self.forced, between)
     }
@@ -99,13 +96,12 @@ impl ForcedLevel {
 /// refuted.
 pub(crate) fn least_order_anew(part: &Part<'_>) -> Option<Order>
     requires { ¬ IsRefuted part.now }
-    ensures found { IfSome result (λ order. IsLeastMemoryOrder (part_events part.now) part.now.sources order.items) }
-    ensures none { IfNone result ((order : List ℕ) → ¬ IsMemoryOrder (part_events part.now) part.now.sources order) }
+    ensures { IsLeastOf part.now result }
 {
     let between = part.between();
     let mut level = ForcedLevel::default();
     level.begin(part, &between);
-    level.least_order(part, &between)
+    level.least_order(&between)
 }
 
 /// Puts in the pair that the last source of a part adds to happens-before, and with it what it leads through.

@@ -2,10 +2,13 @@
 
 ghost use Rattle.std.specs.Prelude.{◌≡◌, ◌-◌, ◌<◌, ◌≤◌, Some, [], ◌∷◌, ◌++◌, length, slice_get};
 ghost use Rattle.lit_order.specs.declared.forced_part.levels.TheConstants.{LEVELS_KEPT};
-ghost use Rattle.lit_order.specs.Internal.ForcedLevels.{AreForcedLevels, IsForcedLevel, IsKeptBetween, WereForcedLevels, less_of};
+ghost use Rattle.lit_order.specs.Internal.ForcedLevels.{AreForcedLevels, IsForcedLevel, IsKeptBetween, IsKeptOrder, IsLeastOf, WereForcedLevels, less_of};
+ghost use Rattle.lit_order.specs.Refuted.{IsRefuted};
 
 use crate::forced_part::kept_between::KeptBetween;
-use crate::forced_part::level::ForcedLevel;
+use crate::forced_part::kept_order::KeptOrder;
+use crate::forced_part::level::{ForcedLevel, least_order_anew};
+use crate::forced_part::span::Span;
 use arrayvec::ArrayVec;
 use lit_rel::Part;
 use lit_rel::laws::{broken_parts_stay_broken, relations_grow_with_bytes};
@@ -21,6 +24,8 @@ pub(crate) struct Levels {
     pub now: ForcedLevel,
     /// What the part forbids, as far as that is known.
     pub forbidden: KeptBetween,
+    /// The least memory-order of the part, as far as that is known.
+    pub order: KeptOrder,
 }
 
 impl Levels {
@@ -30,7 +35,8 @@ impl Levels {
         ensures earlier { result.earlier.items ≡ [] }
         ensures level { IsForcedLevel part.now result.now }
         ensures least { result.now.least ≡ 0 }
-        ensures forbidden { result.forbidden.most < result.forbidden.least }
+        ensures forbidden { result.forbidden.span.most < result.forbidden.span.least }
+        ensures order { result.order.span.most < result.order.span.least }
     {
         let mut now = ForcedLevel::default();
         now.open(part);
@@ -38,6 +44,7 @@ impl Levels {
             earlier: ArrayVec::new(),
             now,
             forbidden: KeptBetween::new(),
+            order: KeptOrder::new(),
         }
     }
 
@@ -47,11 +54,13 @@ impl Levels {
         ensures earlier { self.new.earlier.items ≡ [] }
         ensures level { IsForcedLevel part.now self.new.now }
         ensures least { self.new.now.least ≡ 0 }
-        ensures forbidden { self.new.forbidden.most < self.new.forbidden.least }
+        ensures forbidden { self.new.forbidden.span.most < self.new.forbidden.span.least }
+        ensures order { self.new.order.span.most < self.new.order.span.least }
     {
         self.earlier.clear();
         self.now.open(part);
-        self.forbidden.forget();
+        self.forbidden.span = Span::none();
+        self.order.span = Span::none();
     }
 
     /// Goes on to a part, from what was known without its last source.
@@ -60,17 +69,21 @@ impl Levels {
         requires last { slice_get part.now.sources (length part.now.sources - 1) ≡ Some source }
         requires levels { AreForcedLevels (less_of part.now) self.old.earlier.items self.old.now }
         requires forbidden { IsKeptBetween (less_of part.now) self.old.forbidden }
+        requires order { IsKeptOrder (less_of part.now) self.old.order }
         ensures levels { AreForcedLevels part.now self.new.earlier.items self.new.now }
         ensures forbidden { IsKeptBetween part.now self.new.forbidden }
+        ensures order { IsKeptOrder part.now self.new.order }
     {
         broken_parts_stay_broken();
         relations_grow_with_bytes();
         if self.now.round || part.broken() {
-            self.forbidden.pass(part);
+            self.forbidden.span.pass(part);
+            self.order.span.pass(part);
             return;
         }
         let same = self.forbidden.gains_nothing(part, source);
         self.forbidden.go_on(part, same);
+        self.order.go_on(part, same);
         if part.len() <= self.now.least {
             self.now.begin(part, &self.forbidden.between);
         } else if !same && !self.now.goes_for(part, &self.forbidden.between) {
@@ -79,9 +92,37 @@ impl Levels {
         }
     }
 
+    /// The least memory-order of a part, or that there is none. The part is not refuted.
+    pub(crate) fn find_order(&self, part: &Part<'_>) -> KeptOrder
+        requires unrefuted { ¬ IsRefuted part.now }
+        requires levels { AreForcedLevels part.now self.now.earlier.items self.now.now }
+        requires forbidden { IsKeptBetween part.now self.now.forbidden }
+        ensures kept { IsKeptOrder part.now result }
+        ensures found { IsLeastOf part.now result.order }
+    {
+        let depth = part.len();
+        if self.now.least <= depth && self.forbidden.span.has(depth) {
+            return KeptOrder {
+                order: self.now.least_order(&self.forbidden.between),
+                span: Span {
+                    least: self.now.least.max(self.forbidden.span.least),
+                    most: depth,
+                },
+            };
+        }
+        KeptOrder {
+            order: least_order_anew(part),
+            span: Span {
+                least: depth,
+                most: depth,
+            },
+        }
+    }
+
     /// Keeps what is known for so many sources at the most, where there is room.
     fn keep(&mut self, most: usize)
         ensures forbidden { self.new.forbidden ≡ self.old.forbidden }
+        ensures order { self.new.order ≡ self.old.order }
         ensures now { self.new.now ≡ record { forced = self.old.now.forced; round = self.old.now.round; least = self.old.now.least; most = most } }
         ensures kept { length self.old.earlier.items < LEVELS_KEPT → self.new.earlier.items ≡ self.old.earlier.items ++ self.new.now ∷ [] }
         ensures full { LEVELS_KEPT ≤ length self.old.earlier.items → self.new.earlier.items ≡ self.old.earlier.items }
@@ -97,6 +138,7 @@ impl Levels {
         requires { WereForcedLevels part.now self.old.earlier.items self.old.now }
         ensures levels { AreForcedLevels part.now self.new.earlier.items self.new.now }
         ensures forbidden { self.new.forbidden ≡ self.old.forbidden }
+        ensures order { self.new.order ≡ self.old.order }
     {
         let depth = part.len();
         if self.now.least <= depth {

@@ -140,9 +140,8 @@ impl Cursor<'_> {
         None
     }
 
-    /// What its choice shows: its outcome with the least memory-order, or `None` where no valid execution has it. Each
-    /// byte read has a source.
-    pub(crate) fn shown(&self, plan: &Plan<'_>) -> Option<Shown>
+    /// What its choice shows, by an order that may be kept.
+    fn choice_shown(&self, plan: &Plan<'_>) -> Option<Shown>
         requires test { self.now.test ≡ plan.now }
         requires all { HasAll self.now }
         requires whole { ¬ IsRefuted (part_at self.now) }
@@ -161,6 +160,22 @@ impl Cursor<'_> {
         let choice = self.low();
         let example = Example { choice, order };
         Some(Shown { outcome, example })
+    }
+
+    /// What its choice shows: its outcome with the least memory-order, or `None` where no valid execution has it. Each
+    /// byte read has a source. The order is kept for the choices that follow.
+    pub(crate) fn shown(&mut self, plan: &Plan<'_>) -> Option<Shown>
+        requires test { self.old.test ≡ plan.now }
+        requires all { HasAll self.old }
+        requires whole { ¬ IsRefuted (part_at self.old) }
+        ensures same { self.new ≡ self.old }
+        ensures none { IfNone result (NoneValid plan.now self.old) }
+        ensures shows { IfSome result (λ shown. IsExample plan.now (low_at self.old) (part_outcome (part_at self.old)) shown.example.order.items) }
+        ensures outcome { IfSome result (λ shown. shown.outcome.items ≡ part_outcome (part_at self.old)) }
+        ensures choice { IfSome result (λ shown. shown.example.choice ≡ low_at self.old) }
+    {
+        self.keep_order();
+        self.choice_shown(plan)
     }
 
     /// The first choice with a number from `from` up to and without `to` that shows an outcome that is wanted. None from

@@ -1,8 +1,10 @@
 use Rattle.std.proofs.Common.{◌-◌, ◌<◌, ℕ, List, [], ◌∷◌, ◌++◌, get_or, length, sym, subst, arith}
 use Rattle.lit_rel.specs.Part.{PartModel, with_sources}
-use Rattle.lit_order.specs.Internal.ForcedLevels.{AreForcedLevels, IsKeptBetween}
-use Rattle.lit_order.proofs.KeptBetweenLemmas.{IsKeptBetween-back}
+use Rattle.lit_order.specs.Internal.ForcedLevels.{AreForcedLevels, IsKeptBetween, IsKeptOrder}
+use Rattle.lit_order.proofs.KeptBetweenLemmas.{ForbiddenBy}
 use Rattle.lit_order.proofs.KeptLevelLemmas.{with_last}
+use Rattle.lit_order.proofs.KeptOrderLemmas.{OrderedBy}
+use Rattle.lit_order.proofs.SpanLemmas.{HoldsOfFirst-back}
 use Rattle.lit_order.proofs.forced_part.ForcedPart.pop.Goals as goal
 
 pub go_back-requires : goal.go_back-requires
@@ -20,8 +22,11 @@ go_back-requires c =
 pub invariant_of-self : goal.invariant_of-self
 invariant_of-self c =
     let inside = c.self.inside in
-    let part = inside.part in (
+    let part = inside.part in
+    let last = length part.sources - 1 in (
       c.go_back.ensures.levels,
       subst (IsKeptBetween c.pop.new.self) (sym c.go_back.ensures.forbidden)
-          (subst (λ (p : PartModel). IsKeptBetween p inside.levels.forbidden) (sym c.pop.ensures) (IsKeptBetween-back part (length part.sources - 1) (omega arith) inside.levels.forbidden c.self.invariant.1)),
+          (subst (λ (p : PartModel). IsKeptBetween p inside.levels.forbidden) (sym c.pop.ensures) (HoldsOfFirst-back (ForbiddenBy inside.levels.forbidden) part last (omega arith) inside.levels.forbidden.span c.self.invariant.1)),
+      subst (IsKeptOrder c.pop.new.self) (sym c.go_back.ensures.order)
+          (subst (λ (p : PartModel). IsKeptOrder p inside.levels.order) (sym c.pop.ensures) (HoldsOfFirst-back (OrderedBy inside.levels.order) part last (omega arith) inside.levels.order.span c.self.invariant.2)),
     )

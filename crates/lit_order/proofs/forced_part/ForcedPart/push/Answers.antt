@@ -1,6 +1,6 @@
 use Rattle.std.proofs.Common.{ℕ, List, sym, subst}
 use Rattle.lit_rel.specs.Part.{PartModel, with_sources}
-use Rattle.lit_order.specs.Internal.ForcedLevels.{AreForcedLevels, IsKeptBetween, less_of}
+use Rattle.lit_order.specs.Internal.ForcedLevels.{AreForcedLevels, IsKeptBetween, IsKeptOrder, less_of}
 use Rattle.lit_order.proofs.KeptLevelLemmas.{front_of}
 use Rattle.lit_order.proofs.forced_part.ForcedPart.push.Goals as goal
 
@@ -16,3 +16,9 @@ go_on-requires-clause-forbidden c =
     let inside = c.self.inside in
     subst (λ (p : PartModel). IsKeptBetween (less_of p) inside.levels.forbidden) (sym c.push.ensures)
     (subst (λ (ws : List ℕ). IsKeptBetween (with_sources inside.part ws) inside.levels.forbidden) (sym (front_of inside.part.sources c.args.source)) c.self.invariant.1)
+
+pub go_on-requires-clause-order : goal.go_on-requires-clause-order
+go_on-requires-clause-order c =
+    let inside = c.self.inside in
+    subst (λ (p : PartModel). IsKeptOrder (less_of p) inside.levels.order) (sym c.push.ensures)
+    (subst (λ (ws : List ℕ). IsKeptOrder (with_sources inside.part ws) inside.levels.order) (sym (front_of inside.part.sources c.args.source)) c.self.invariant.2)

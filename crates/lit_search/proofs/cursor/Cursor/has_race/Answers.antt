@@ -7,8 +7,9 @@ use Rattle.lit_rel.specs.DataRace.{MayRace}
 use Rattle.lit_rel.specs.Part.{PartModel, part_events}
 use Rattle.lit_search.specs.Report.{Gives, GivesRace, in_range}
 use Rattle.lit_search.specs.Internal.Held.{part_outcome}
+use Rattle.lit_search.specs.Internal.Others.{AddsNothing}
 use Rattle.lit_search.specs.Internal.Passing.{HasAll, first_places}
-use Rattle.lit_search.specs.Internal.Places.{behind_at, low_at, part_at, stand_events}
+use Rattle.lit_search.specs.Internal.Places.{Stand, behind_at, low_at, part_at, stand_events}
 use Rattle.lit_search.proofs.LeftOutLemmas.{smaller_gone}
 use Rattle.lit_search.proofs.NextLemmas.{none_at_first, none_up_to, same_reads, smaller_leave}
 use Rattle.lit_search.proofs.NumberSets.{within}
@@ -270,43 +271,46 @@ returns-in-Some-shown-clause-race c found =
 
 pub leave-requires-in_default-shown : goal.leave-requires-in_default-shown
 leave-requires-in_default-shown c = record {
-  test = c.loop-self.invariant.test;
-  depth = omega (arith, c.len-depth.ensures.value, length-part c.loop-self.self c.part-in-loop-self.result.now c.part-in-loop-self.ensures.value);
+  test = ap (λ (x : Stand). x.test) c.shown.ensures.same ∙ c.loop-self.invariant.test;
+  depth = omega (arith, c.len-depth.ensures.value, length-part c.loop-self.self c.part-in-loop-self.result.now c.part-in-loop-self.ensures.value, ap (λ (x : Stand). length x.places) c.shown.ensures.same);
 }
 
 pub returns-then-not-leave-3-clause-none : goal.returns-then-not-leave-3-clause-none
 returns-then-not-leave-3-clause-none c none =
     let t = c.args.plan.now in
     let s = c.loop-self.self in
+    let same : c.shown.new.self ≡ s = c.shown.ensures.same in
     let deep = c.len-depth.ensures.value ∙ length-part s c.part-in-loop-self.result.now c.part-in-loop-self.ensures.value in
     let may = pass_invalid s t All c.args.from.now c.len-depth.result deep c.in_default-shown.ensures.none in
     let barren = passed_since t c.args.from.now c.loop-self.barren s c.len-depth.result c.loop-self.invariant.earlier c.loop-self.invariant.barren may in
     none_there t (in_range c.args.from.now c.end-then-not-leave-3.result)
-    (race_up_to t c.args.from.now c.end-then-not-leave-3.result (choices_before t (s.combination + 1)) (omega (arith, c.end-then-not-leave-3.ensures, ap (λ (u : Litmus). choices_before u (c.leave-in_default-shown.new.self.combination + 1)) (c.leave-in_default-shown.ensures.test ∙ c.loop-self.invariant.test), ap (λ (k : ℕ). choices_before t (k + 1)) c.leave-in_default-shown.ensures.combination))
+    (race_up_to t c.args.from.now c.end-then-not-leave-3.result (choices_before t (s.combination + 1)) (omega (arith, c.end-then-not-leave-3.ensures, ap (λ (u : Litmus). choices_before u (c.leave-in_default-shown.new.self.combination + 1)) (c.leave-in_default-shown.ensures.test ∙ ap (λ (x : Stand). x.test) same ∙ c.loop-self.invariant.test), ap (λ (k : ℕ). choices_before t (k + 1)) (c.leave-in_default-shown.ensures.combination ∙ ap (λ (x : Stand). x.combination) same)))
     (race_left t c.args.from.now c.loop-self.barren (behind_at (first_places s c.len-depth.result)) (choices_before t (s.combination + 1)) (passed_race t c.args.from.now s c.len-depth.result may c.loop-self.invariant.none) barren
-    (c.leave-in_default-shown.ensures.last c.if-not-leave-3.true)))
+    (subst (λ (x : Stand). AddsNothing t c.loop-self.barren (behind_at (first_places x c.len-depth.result)) (choices_before t (x.combination + 1))) same (c.leave-in_default-shown.ensures.last c.if-not-leave-3.true))))
 
 pub returns-then-not-leave-3-clause-barren : goal.returns-then-not-leave-3-clause-barren
 returns-then-not-leave-3-clause-barren c none =
     let t = c.args.plan.now in
     let s = c.loop-self.self in
+    let same : c.shown.new.self ≡ s = c.shown.ensures.same in
     let deep = c.len-depth.ensures.value ∙ length-part s c.part-in-loop-self.result.now c.part-in-loop-self.ensures.value in
     let may = pass_invalid s t All c.args.from.now c.len-depth.result deep c.in_default-shown.ensures.none in
-    none_up_to t All c.loop-self.barren c.end-then-not-leave-3.result (choices_before t (s.combination + 1)) (omega (arith, c.end-then-not-leave-3.ensures, ap (λ (u : Litmus). choices_before u (c.leave-in_default-shown.new.self.combination + 1)) (c.leave-in_default-shown.ensures.test ∙ c.loop-self.invariant.test), ap (λ (k : ℕ). choices_before t (k + 1)) c.leave-in_default-shown.ensures.combination))
+    none_up_to t All c.loop-self.barren c.end-then-not-leave-3.result (choices_before t (s.combination + 1)) (omega (arith, c.end-then-not-leave-3.ensures, ap (λ (u : Litmus). choices_before u (c.leave-in_default-shown.new.self.combination + 1)) (c.leave-in_default-shown.ensures.test ∙ ap (λ (x : Stand). x.test) same ∙ c.loop-self.invariant.test), ap (λ (k : ℕ). choices_before t (k + 1)) (c.leave-in_default-shown.ensures.combination ∙ ap (λ (x : Stand). x.combination) same)))
     (barren_on t c.loop-self.barren (behind_at (first_places s c.len-depth.result)) (choices_before t (s.combination + 1))
-    (passed_since t c.args.from.now c.loop-self.barren s c.len-depth.result c.loop-self.invariant.earlier c.loop-self.invariant.barren may) (c.leave-in_default-shown.ensures.last c.if-not-leave-3.true))
+    (passed_since t c.args.from.now c.loop-self.barren s c.len-depth.result c.loop-self.invariant.earlier c.loop-self.invariant.barren may) (subst (λ (x : Stand). AddsNothing t c.loop-self.barren (behind_at (first_places x c.len-depth.result)) (choices_before t (x.combination + 1))) same (c.leave-in_default-shown.ensures.last c.if-not-leave-3.true)))
 
 pub loop-self-smaller : goal.loop-self-smaller
 loop-self-smaller c =
     let s = c.loop-self.self in
+    let same : c.shown.new.self ≡ s = c.shown.ensures.same in
     let new = c.leave-in_default-shown.new.self in
     let deep = c.len-depth.ensures.value ∙ length-part s c.part-in-loop-self.result.now c.part-in-loop-self.ensures.value in
-    let same = ap behind_at (ap (first_places s) deep ∙ whole_stand s) in
-    let next : behind_at (first_places s c.len-depth.result) ≤ low_at new = c.leave-in_default-shown.ensures.next c.if-not-leave-3.false in
-    let reads = same_reads s s.test s.combination new refl refl c.leave-in_default-shown.ensures.test c.leave-in_default-shown.ensures.combination in
+    let whole = ap behind_at (ap (first_places s) deep ∙ whole_stand s) in
+    let next : behind_at (first_places s c.len-depth.result) ≤ low_at new = subst (λ (x : Stand). behind_at (first_places x c.len-depth.result) ≤ low_at new) same (c.leave-in_default-shown.ensures.next c.if-not-leave-3.false) in
+    let reads = same_reads s s.test s.combination new refl refl (c.leave-in_default-shown.ensures.test ∙ ap (λ (x : Stand). x.test) same) (c.leave-in_default-shown.ensures.combination ∙ ap (λ (x : Stand). x.combination) same) in
     omega (
       arith,
-      smaller_leave c.args.to (low_at s) (low_at new) (length (byte_reads (stand_events s))) (length s.places) (length new.places) (omega (arith, next, same, c.in_default.ensures.some)) (omega (arith, c.loop-self-test.true, c.low.ensures)),
+      smaller_leave c.args.to (low_at s) (low_at new) (length (byte_reads (stand_events s))) (length s.places) (length new.places) (omega (arith, next, whole, c.in_default.ensures.some)) (omega (arith, c.loop-self-test.true, c.low.ensures)),
       ap (λ (r : ℕ). (c.args.to - low_at new) * (r + 1) + (r - length new.places)) reads,
     )
 
@@ -314,14 +318,15 @@ pub loop-self-preserved : goal.loop-self-preserved
 loop-self-preserved c =
     let t = c.args.plan.now in
     let s = c.loop-self.self in
+    let same : c.shown.new.self ≡ s = c.shown.ensures.same in
     let new = c.leave-in_default-shown.new.self in
     let deep = c.len-depth.ensures.value ∙ length-part s c.part-in-loop-self.result.now c.part-in-loop-self.ensures.value in
     let may = pass_invalid s t All c.args.from.now c.len-depth.result deep c.in_default-shown.ensures.none in
     let barren = passed_since t c.args.from.now c.loop-self.barren s c.len-depth.result c.loop-self.invariant.earlier c.loop-self.invariant.barren may in
-    let adds = c.leave-in_default-shown.ensures.nothing c.if-not-leave-3.false in
+    let adds = subst (λ (x : Stand). AddsNothing t c.loop-self.barren (behind_at (first_places x c.len-depth.result)) (low_at new)) same (c.leave-in_default-shown.ensures.nothing c.if-not-leave-3.false) in
     record {
-      test = c.leave-in_default-shown.ensures.test ∙ c.loop-self.invariant.test;
-      combination = c.leave-in_default-shown.ensures.combination ∙ c.loop-self.invariant.combination;
+      test = c.leave-in_default-shown.ensures.test ∙ ap (λ (x : Stand). x.test) same ∙ c.loop-self.invariant.test;
+      combination = c.leave-in_default-shown.ensures.combination ∙ ap (λ (x : Stand). x.combination) same ∙ c.loop-self.invariant.combination;
       none = race_left t c.args.from.now c.loop-self.barren (behind_at (first_places s c.len-depth.result)) (low_at new) (passed_race t c.args.from.now s c.len-depth.result may c.loop-self.invariant.none) barren adds;
       barren = barren_on t c.loop-self.barren (behind_at (first_places s c.len-depth.result)) (low_at new) barren adds;
       earlier = c.loop-self.invariant.earlier;

@@ -5,8 +5,9 @@ use Rattle.lit_paths.specs.Plan.{choices_before}
 use Rattle.lit_rel.specs.Part.{PartModel, part_events}
 use Rattle.lit_search.specs.Internal.Coming.{IsToCome}
 use Rattle.lit_search.specs.Internal.Held.{part_outcome}
+use Rattle.lit_search.specs.Internal.Others.{AddsNothing}
 use Rattle.lit_search.specs.Internal.Passing.{HasAll, first_places}
-use Rattle.lit_search.specs.Internal.Places.{behind_at, low_at, part_at, stand_events}
+use Rattle.lit_search.specs.Internal.Places.{Stand, behind_at, low_at, part_at, stand_events}
 use Rattle.lit_search.specs.Internal.Shown.{IsShown, shown_entry}
 use Rattle.lit_search.specs.Internal.Examined.{IsExample}
 use Rattle.lit_search.proofs.Keeping.{next_shown}
@@ -153,6 +154,8 @@ returns-in-Some-shown-clause-all g c =
     let s = c.loop-self.self in
     omega (
       arith,
+      ap (λ (x : Stand). length x.places) c.shown.ensures.same,
+      ap (λ (x : Stand). length (byte_reads (stand_events x))) c.shown.ensures.same,
       c.if-len-reads.false,
       c.len.ensures.value,
       c.len.ensures.few,
@@ -162,10 +165,13 @@ returns-in-Some-shown-clause-all g c =
       ap (λ (p : PartModel). length (byte_reads (part_events p))) c.part-in_default.ensures.value,
     )
 
+pub returns-in-Some-shown-clause-outcome : goal.returns-in-Some-shown-clause-outcome
+returns-in-Some-shown-clause-outcome g c = c.in-Some-shown.ensures.outcome ∙ ap (λ (x : Stand). part_outcome (part_at x)) (sym c.shown.ensures.same)
+
 pub leave-requires-in_default-shown : goal.leave-requires-in_default-shown
 leave-requires-in_default-shown g c = record {
-  test = c.loop-self.invariant.test;
-  depth = omega (arith, c.len-depth.ensures.value, length-part c.loop-self.self c.part-in_default-shown.result.now c.part-in_default-shown.ensures.value);
+  test = ap (λ (x : Stand). x.test) c.shown.ensures.same ∙ c.loop-self.invariant.test;
+  depth = omega (arith, c.len-depth.ensures.value, length-part c.shown.new.self c.part-in_default-shown.result.now c.part-in_default-shown.ensures.value);
 }
 
 pub returns-then-not-leave-2-clause-shows : goal.returns-then-not-leave-2-clause-shows
@@ -173,22 +179,24 @@ returns-then-not-leave-2-clause-shows g c =
     let t = c.args.plan.now in
     let Wanted = g.W.Wanted.IsWanted c.args.wanted.now t in
     let s = c.loop-self.self in
-    let deep = c.len-depth.ensures.value ∙ length-part s c.part-in_default-shown.result.now c.part-in_default-shown.ensures.value in
+    let same : c.shown.new.self ≡ s = c.shown.ensures.same in
+    let deep = c.len-depth.ensures.value ∙ length-part s c.part-in_default-shown.result.now (c.part-in_default-shown.ensures.value ∙ ap part_at same) in
     let may = pass_invalid s t Wanted c.args.from.now c.len-depth.result deep c.in_default-shown.ensures.none in
     let more = passed_on t Wanted c.args.from.now (low_at s) s c.len-depth.result c.loop-self.invariant.none may.low may in
-    none_up_to t Wanted c.args.from.now c.end-then-not-leave-2.result (choices_before t (s.combination + 1)) (omega (arith, c.end-then-not-leave-2.ensures, ap (λ (u : Litmus). choices_before u (c.leave-in_default-shown.new.self.combination + 1)) (c.leave-in_default-shown.ensures.test ∙ c.loop-self.invariant.test), ap (λ (k : ℕ). choices_before t (k + 1)) c.leave-in_default-shown.ensures.combination))
-    (shows_on t Wanted c.args.since c.args.from.now (behind_at (first_places s c.len-depth.result)) (choices_before t (s.combination + 1)) c.requires.seen more (c.leave-in_default-shown.ensures.last c.if-not-leave-2.true))
+    none_up_to t Wanted c.args.from.now c.end-then-not-leave-2.result (choices_before t (s.combination + 1)) (omega (arith, c.end-then-not-leave-2.ensures, ap (λ (u : Litmus). choices_before u (c.leave-in_default-shown.new.self.combination + 1)) (c.leave-in_default-shown.ensures.test ∙ ap (λ (x : Stand). x.test) same ∙ c.loop-self.invariant.test), ap (λ (k : ℕ). choices_before t (k + 1)) (c.leave-in_default-shown.ensures.combination ∙ ap (λ (x : Stand). x.combination) same)))
+    (shows_on t Wanted c.args.since c.args.from.now (behind_at (first_places s c.len-depth.result)) (choices_before t (s.combination + 1)) c.requires.seen more (subst (λ (x : Stand). AddsNothing t c.args.since (behind_at (first_places x c.len-depth.result)) (choices_before t (x.combination + 1))) same (c.leave-in_default-shown.ensures.last c.if-not-leave-2.true)))
 
 pub loop-self-smaller : goal.loop-self-smaller
 loop-self-smaller g c =
     let t = c.args.plan.now in
     let Wanted = g.W.Wanted.IsWanted c.args.wanted.now t in
     let s = c.loop-self.self in
+    let same : c.shown.new.self ≡ s = c.shown.ensures.same in
     let new = c.leave-in_default-shown.new.self in
-    let deep = c.len-depth.ensures.value ∙ length-part s c.part-in_default-shown.result.now c.part-in_default-shown.ensures.value in
+    let deep = c.len-depth.ensures.value ∙ length-part s c.part-in_default-shown.result.now (c.part-in_default-shown.ensures.value ∙ ap part_at same) in
     let may = pass_invalid s t Wanted c.args.from.now c.len-depth.result deep c.in_default-shown.ensures.none in
-    let next : behind_at (first_places s c.len-depth.result) ≤ low_at new = c.leave-in_default-shown.ensures.next c.if-not-leave-2.false in
-    let reads = same_reads s s.test s.combination new refl refl c.leave-in_default-shown.ensures.test c.leave-in_default-shown.ensures.combination in
+    let next : behind_at (first_places s c.len-depth.result) ≤ low_at new = subst (λ (x : Stand). behind_at (first_places x c.len-depth.result) ≤ low_at new) same (c.leave-in_default-shown.ensures.next c.if-not-leave-2.false) in
+    let reads = same_reads s s.test s.combination new refl refl (c.leave-in_default-shown.ensures.test ∙ ap (λ (x : Stand). x.test) same) (c.leave-in_default-shown.ensures.combination ∙ ap (λ (x : Stand). x.combination) same) in
     omega (
       arith,
       smaller_leave c.args.to (low_at s) (low_at new) (length (byte_reads (stand_events s))) (length s.places) (length new.places) (omega (arith, next, may.high, c.in_default.ensures.some)) (omega (arith, c.loop-self-test.true, c.low.ensures)),
@@ -200,13 +208,14 @@ loop-self-preserved g c =
     let t = c.args.plan.now in
     let Wanted = g.W.Wanted.IsWanted c.args.wanted.now t in
     let s = c.loop-self.self in
-    let deep = c.len-depth.ensures.value ∙ length-part s c.part-in_default-shown.result.now c.part-in_default-shown.ensures.value in
+    let same : c.shown.new.self ≡ s = c.shown.ensures.same in
+    let deep = c.len-depth.ensures.value ∙ length-part s c.part-in_default-shown.result.now (c.part-in_default-shown.ensures.value ∙ ap part_at same) in
     let may = pass_invalid s t Wanted c.args.from.now c.len-depth.result deep c.in_default-shown.ensures.none in
     record {
-      test = c.leave-in_default-shown.ensures.test ∙ c.loop-self.invariant.test;
-      combination = c.leave-in_default-shown.ensures.combination ∙ c.loop-self.invariant.combination;
+      test = c.leave-in_default-shown.ensures.test ∙ ap (λ (x : Stand). x.test) same ∙ c.loop-self.invariant.test;
+      combination = c.leave-in_default-shown.ensures.combination ∙ ap (λ (x : Stand). x.combination) same ∙ c.loop-self.invariant.combination;
       none = shows_on t Wanted c.args.since c.args.from.now (behind_at (first_places s c.len-depth.result)) (low_at c.leave-in_default-shown.new.self) c.requires.seen
-          (passed_on t Wanted c.args.from.now (low_at s) s c.len-depth.result c.loop-self.invariant.none may.low may) (c.leave-in_default-shown.ensures.nothing c.if-not-leave-2.false);
+          (passed_on t Wanted c.args.from.now (low_at s) s c.len-depth.result c.loop-self.invariant.none may.low may) (subst (λ (x : Stand). AddsNothing t c.args.since (behind_at (first_places x c.len-depth.result)) (low_at c.leave-in_default-shown.new.self)) same (c.leave-in_default-shown.ensures.nothing c.if-not-leave-2.false));
     }
 
 pub returns-clause-shows : goal.returns-clause-shows

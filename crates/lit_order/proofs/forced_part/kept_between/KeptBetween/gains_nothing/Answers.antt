@@ -6,8 +6,9 @@ use Rattle.lit_rel.proofs.ReadingLemmas.{write_known}
 use Rattle.lit_rel.proofs.SourceLemmas.{read_known}
 use Rattle.lit_rel.specs.Part.{part_events}
 use Rattle.lit_order.specs.Internal.ForcedLevels.{less_of}
-use Rattle.lit_order.proofs.KeptBetweenLemmas.{fewer, forbids_none, kept_here, last_read}
+use Rattle.lit_order.proofs.KeptBetweenLemmas.{ForbiddenBy, forbids_none, last_read}
 use Rattle.lit_order.proofs.LevelLemmas.{of_none}
+use Rattle.lit_order.proofs.SpanLemmas.{fewer, holds_here}
 use Rattle.lit_order.proofs.forced_part.kept_between.KeptBetween.gains_nothing.Goals as goal
 
 pub others_between-others-requires-clause-source : goal.others_between-others-requires-clause-source
@@ -30,13 +31,13 @@ returns-then-is_empty-clause-triples c _ =
     c.requires.last (of_none _ c.last_pair.result (sym c.is_some.ensures ∙ c.if-is_some.false) c.last_pair.ensures)
     (λ v b. absurd (c.is_empty.ensures.0 c.if-is_empty.true v ((c.others_between-others.ensures v).1 (write_known (part_events part) v b.writes, b))))
 
-pub returns-then-knows-clause-pairs : goal.returns-then-knows-clause-pairs
-returns-then-knows-clause-pairs c _ = of_none _ c.last_pair.result (sym c.is_some.ensures ∙ c.if-is_some.false) c.last_pair.ensures
+pub returns-then-has-clause-pairs : goal.returns-then-has-clause-pairs
+returns-then-has-clause-pairs c _ = of_none _ c.last_pair.result (sym c.is_some.ensures ∙ c.if-is_some.false) c.last_pair.ensures
 
-pub returns-then-knows-clause-triples : goal.returns-then-knows-clause-triples
-returns-then-knows-clause-triples c has =
+pub returns-then-has-clause-triples : goal.returns-then-has-clause-triples
+returns-then-has-clause-triples c has =
     let part = c.args.part.now in
-    let were = kept_here (less_of part) c.args.self.now c.requires.kept (omega (arith, c.knows.ensures.least c.if-knows.true, c.len-last.ensures.value, fewer part c.requires.some)) (omega (arith, c.knows.ensures.most c.if-knows.true, c.len-last.ensures.value, fewer part c.requires.some)) in
+    let were = holds_here (ForbiddenBy c.args.self.now) (less_of part) c.args.self.now.span c.requires.kept (omega (arith, c.has.ensures.least c.if-has.true, c.len-last.ensures.value, fewer part c.requires.some)) (omega (arith, c.has.ensures.most c.if-has.true, c.len-last.ensures.value, fewer part c.requires.some)) in
     forbids_none part c.requires.some _ _ c.args.source c.len-last.result c.len-last.ensures.value
     (last_read part c.requires.some c.byte_reads.result.now (c.byte_reads.ensures ∙ ap (λ t. byte_reads (events_in t.0 t.1)) c.combination.ensures) c.len-last.result c.len-last.ensures.value c.len-last.ensures.few (record { read = 0; byte = 0 }))
     c.requires.last (of_none _ c.last_pair.result (sym c.is_some.ensures ∙ c.if-is_some.false) c.last_pair.ensures)

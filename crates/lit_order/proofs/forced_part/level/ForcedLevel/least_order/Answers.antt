@@ -1,4 +1,4 @@
-use Rattle.std.proofs.Common.{◌<◌, ◌∙◌, ℕ, length, sym, subst}
+use Rattle.std.proofs.Common.{◌<◌, ℕ, length, sym, subst}
 use Rattle.lit_rel.specs.Between.{BetweenModel, Forbids}
 use Rattle.lit_rel.specs.Forbidden.{IsForbidden}
 use Rattle.lit_rel.specs.HappensBefore.{HappensBefore}
@@ -17,23 +17,15 @@ triples_below part between are = record {
   other = λ w r v f. subst (λ (m : ℕ). v < m) (sym are.len) ((are.triples w r v).1 f).other_known;
 }
 
-pub least_of-requires : goal.least_of-requires
-least_of-requires c = (c.requires.level.pairs c.requires.unrefuted).len ∙ c.requires.between.len
-
-pub returns-clause-found : goal.returns-clause-found
-returns-clause-found c =
-    let part = c.args._part.now in
-    let known = c.requires.level.pairs c.requires.unrefuted in
-    IfSome-to c.least_of.result (λ order.
-    least_of_forced (length (part_events part)) (rows_len c.args.self.now.forced.rows) (HappensBefore (part_events part) part.sources) (Holds c.args.self.now.forced.rows) (IsForbidden (part_events part) part.sources) (Forbids c.args.between.now) known.len known.pairs c.requires.between.triples
-    (triples_below part c.args.between.now c.requires.between) order.items)
-    c.least_of.ensures.found
-
-pub returns-clause-none : goal.returns-clause-none
-returns-clause-none c =
-    let part = c.args._part.now in
-    let known = c.requires.level.pairs c.requires.unrefuted in
-    IfNone-to c.least_of.result
-    (none_of_forced (length (part_events part)) (rows_len c.args.self.now.forced.rows) (HappensBefore (part_events part) part.sources) (Holds c.args.self.now.forced.rows) (IsForbidden (part_events part) part.sources) (Forbids c.args.between.now) known.len known.pairs c.requires.between.triples
-    (triples_below part c.args.between.now c.requires.between))
-    c.least_of.ensures.none
+pub returns : goal.returns
+returns c part are known =
+    let rows = Holds c.args.self.now.forced.rows in
+    let n = length (part_events part) in
+    let m = rows_len c.args.self.now.forced.rows in
+    let before = HappensBefore (part_events part) part.sources in
+    let forbidden = IsForbidden (part_events part) part.sources in
+    let below = triples_below part c.args.between.now are in
+    record {
+      found = IfSome-to c.least_of.result (λ order. least_of_forced n m before rows forbidden (Forbids c.args.between.now) known.len known.pairs are.triples below order.items) c.least_of.ensures.found;
+      none = IfNone-to c.least_of.result (none_of_forced n m before rows forbidden (Forbids c.args.between.now) known.len known.pairs are.triples below) c.least_of.ensures.none;
+    }

@@ -6,7 +6,10 @@ use Rattle.lit_order.specs.declared.forced_part.level.ForcedLevel.{ForcedLevel}
 use Rattle.lit_order.specs.declared.forced_part.levels.TheConstants.{LEVELS_KEPT}
 use Rattle.lit_order.specs.Internal.ForcedLevels.{AreForbidden, AreForcedLevels, IsForcedLevel, IsKeptBetween, less_of}
 use Rattle.lit_order.proofs.KeptLevelLemmas.{AreForcedLevels-alone, AreForcedLevels-begin, AreForcedLevels-on, AreForcedLevels-stay, IsForcedLevel-most, known_less, shorter}
+use Rattle.lit_order.proofs.KeptBetweenLemmas.{ForbiddenBy}
+use Rattle.lit_order.proofs.KeptOrderLemmas.{OrderedBy}
 use Rattle.lit_order.proofs.PartLemmas.{level_stays, level_unforced}
+use Rattle.lit_order.proofs.SpanLemmas.{HoldsOfFirst-pass}
 use Rattle.lit_order.proofs.forced_part.levels.Levels.go_on.Goals as goal
 use Rattle.lit_order.proofs.forced_part.levels.Levels.go_on.Goals.{then-self-via-then-self, then-self-via-else-self+then-broken, else-not-same-via-then-not-same+else-not-goes_for, else-not-same-via-else-not-same}
 
@@ -32,6 +35,17 @@ returns-then-self-clause-levels c =
           (λ known. level_stays part c.relations_grow_with_bytes.ensures c.broken_parts_stay_broken.ensures was (λ round. (known_less part some earlier was are known).refuted.1 (inr round)) (inr broken))
           (λ _. broken)
     ]
+
+pub returns-then-self-clause-forbidden : goal.returns-then-self-clause-forbidden
+returns-then-self-clause-forbidden c =
+    let was = c.args.self.now.forbidden in
+    HoldsOfFirst-pass (ForbiddenBy was) c.args.part.now c.requires.some was.span c.requires.forbidden c.pass.new.self c.pass.ensures.least c.pass.ensures.fewer c.pass.ensures.few
+
+pub returns-then-self-clause-order : goal.returns-then-self-clause-order
+returns-then-self-clause-order c =
+    let was = c.args.self.now.order in
+    let pass = c.pass-then-self in
+    HoldsOfFirst-pass (OrderedBy was) c.args.part.now c.requires.some was.span c.requires.order pass.new.self pass.ensures.least pass.ensures.fewer pass.ensures.few
 
 pub goes_for-requires-clause-level : goal.goes_for-requires-clause-level
 goes_for-requires-clause-level c =
