@@ -1,5 +1,5 @@
 -- Sets of events as words: after an event is put in, of two sets together, sets of no event, and sets within another.
-use Rattle.std.proofs.Common.{◌≡◌, ◌≢◌, ◌⊎◌, ◌↔◌, ℕ, ◌+◌, ◌-◌, ◌*◌, ◌^◌, ◌/◌, ◌%◌, ◌<◌, ◌≤◌, max, min, List, [], ◌∷◌, get_or, bit_and, bit_or, ap, inl, inr, arith, refl, subst, sym, ◌∙◌, w64, suc, zero}
+use Rattle.std.proofs.Common.{◌≡◌, ◌≢◌, ◌⊎◌, ◌↔◌, ℕ, ◌+◌, ◌-◌, ◌*◌, ◌^◌, ◌/◌, ◌%◌, ◌<◌, ◌≤◌, max, min, List, [], ◌∷◌, get_or, replicate, bit_and, bit_or, ap, inl, inr, arith, refl, subst, sym, ◌∙◌, w64, suc, zero}
 use Rattle.std.specs.Int.RustNames.{bit_xor}
 use Rattle.std.proofs.lemmas.Nat.Bits.{bit_at_or, bit_at_and, bit_at_xor, bit_at-lt, bit_at-suc, bit_at-zero, bit_at_cat_high, bit_at_cat_low, bit_at_lowest, same_from_bits_below, bit_at-trailing_zeros, bit_at_ones, bit_at_ones_above, bit_at_set_same, bit_at_set_other, same_from_bits}
 use Rattle.std.proofs.lemmas.Bool.{cases_eq, cases_order, cases_lt}
@@ -196,6 +196,11 @@ event_or_not s e = elim (cases_eq (bit_at s.bits e) 1) [ inl in_set ↦ inl in_s
 abbrev pub AreEmpty : List EventSet → Type 0
 AreEmpty [] = Unit {0}
 AreEmpty (s ∷ ss) = (s.bits ≡ 0) × AreEmpty ss
+
+-- so many empty sets
+pub AreEmpty-replicate : (n : ℕ) (s : EventSet) → s.bits ≡ 0 → AreEmpty (replicate n s)
+AreEmpty-replicate zero s none = tt
+AreEmpty-replicate (suc n) s none = (none, AreEmpty-replicate n s none)
 
 get_or-empty : (ss : List EventSet) → AreEmpty ss → (k : ℕ) → (get_or ss k no_events).bits ≡ 0
 get_or-empty [] e k = refl

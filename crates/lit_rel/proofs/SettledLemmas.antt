@@ -1,16 +1,16 @@
 -- What happens before an event with a settled past.
-use Rattle.std.proofs.Common.{ℕ, ◌<◌, List, [], ◌∷◌, ◌++◌, length, Some, map, get_or, ap, ◌≡◌, ◌∙◌, inl, inr}
+use Rattle.std.proofs.Common.{ℕ, ◌<◌, List, [], ◌∷◌, ◌++◌, length, Some, map, get_or, ap, ◌≡◌, ◌∙◌, ◌⊎◌, ◌≤◌, inl, inr, refl}
 use Rattle.std.proofs.lemmas.Bool.{cases_lt}
 use Rattle.std.specs.List.{slice_get}
 use Rattle.std.proofs.lemmas.Option.{get_or_from_slice_get, slice_get-get_or}
 use Rattle.lit_paths.specs.declared.event.Event.{Event}
 use Rattle.lit_paths.specs.declared.byte_reads.ByteRead.{ByteRead}
-use Rattle.lit_paths.specs.ByteReads.{pair_of}
+use Rattle.lit_paths.specs.ByteReads.{byte_reads, pair_of}
 use Rattle.lit_paths.specs.Numbers.{AreGiven}
 use Rattle.lit_rel.specs.HappensBefore.{Chain, HappensBefore, StepBy}
 use Rattle.lit_rel.specs.ReadsFrom.{ReadsByteFrom}
 use Rattle.lit_rel.specs.Settled.{HasSettledPast, IsSettled, SettledPastsStay}
-use Rattle.lit_rel.specs.SynchronizesWith.{Synchronizes}
+use Rattle.lit_rel.specs.SynchronizesWith.{MaySynchronize, Synchronizes}
 use Rattle.lit_paths.proofs.Rising.{slice_get-map-found, slice_get-map-known}
 use Rattle.lit_rel.proofs.GrowthLemmas.{grow_with_bytes}
 use Rattle.lit_rel.proofs.PlaceLemmas.{place_from-left}
@@ -41,6 +41,14 @@ module _ (events : List Event) (sources rest : List ℕ) (given : AreGiven event
 
 pub settled_pasts_stay : SettledPastsStay
 settled_pasts_stay events sources rest e given past d = (λ h. chain_before events sources rest given e past d h.middles h.chain, (grow_with_bytes.lists events sources rest).happens_before d e)
+
+-- where no byte that is left is read by the event or by one that happens before it, unless none can synchronize with its read
+pub HasSettledPast-from : (events : List Event) (sources : List ℕ) (e : ℕ) (past : ℕ → Type 0) → ((d : ℕ) → (HappensBefore events sources d e ⊎ (d ≡ e)) → past d)
+    → ((k r b : ℕ) → length sources ≤ k → slice_get (byte_reads events) k ≡ Some (r, b) → past r → MaySynchronize events r → ⊥) → HasSettledPast events sources e
+HasSettledPast-from events sources e past has none = record {
+  itself = λ both. none both.1.place e both.1.byte both.1.left both.1.is_read (has e (inr refl)) both.0;
+  earlier = λ d before both. none both.1.place d both.1.byte both.1.left both.1.is_read (has d (inl before)) both.0;
+}
 
 -- ---- byte reads as the code has them
 pub read_there : (reads : List ByteRead) (k r b : ℕ) (d : ByteRead) → slice_get (map pair_of reads) k ≡ Some (r, b) → (get_or reads k d).read ≡ r

@@ -36,6 +36,16 @@ impl Rows {
         }
     }
 
+    /// Makes it `new(len)`, in place.
+    pub(crate) fn begin(&mut self, len: usize)
+        requires { len ≤ EVENT_LIMIT }
+        ensures len { rows_len self.new ≡ len }
+        ensures empty { (a d : ℕ) → ¬ Holds self.new a d }
+    {
+        self.len = len;
+        self.sets = [EventSet::new(); EVENT_LIMIT];
+    }
+
     /// How many events it is on.
     pub fn len(&self) -> usize
         ensures value { result ≡ rows_len self.now }

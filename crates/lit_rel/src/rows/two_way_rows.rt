@@ -23,18 +23,26 @@ fn put_each(rows: &mut Rows, firsts: EventSet, seconds: EventSet)
     }
 }
 
-/// The converse of a relation: it leads from each event to those that come before it.
-pub fn converse_of(rows: &Rows) -> Rows
-    ensures { IsConverse rows.now result }
+/// Makes what is there the converse of a relation.
+fn put_converse(converse: &mut Rows, rows: &Rows)
+    ensures { IsConverse rows.now converse.new }
 {
-    let mut converse = Rows::new(rows.len());
+    converse.begin(rows.len());
     for event in 0..rows.len() {
         put_each(
-            &mut converse,
+            converse,
             rows.successors(event),
             EventSet::new().with(event),
         );
     }
+}
+
+/// The converse of a relation: it leads from each event to those that come before it.
+pub fn converse_of(rows: &Rows) -> Rows
+    ensures { IsConverse rows.now result }
+{
+    let mut converse = Rows::new(0);
+    put_converse(&mut converse, rows);
     converse
 }
 
@@ -66,10 +74,19 @@ impl TwoWayRows {
         ensures len { rows_len result.rows ≡ rows_len before.now }
         ensures pairs { (a d : ℕ) → Holds result.rows a d ↔ ((middles : List ℕ) × Chain (Holds before.now) a middles d) }
     {
-        let mut rows = *before;
-        close(&mut rows);
-        let converse = converse_of(&rows);
-        TwoWayRows { rows, converse }
+        let mut order = TwoWayRows::default();
+        order.put_closed(before);
+        order
+    }
+
+    /// Makes it `closed(before)`, in place.
+    pub(crate) fn put_closed(&mut self, before: &Rows)
+        ensures len { rows_len self.new.rows ≡ rows_len before.now }
+        ensures pairs { (a d : ℕ) → Holds self.new.rows a d ↔ ((middles : List ℕ) × Chain (Holds before.now) a middles d) }
+    {
+        self.rows = *before;
+        close(&mut self.rows);
+        put_converse(&mut self.converse, &self.rows);
     }
 
     /// Puts a pair in, both numbers below the length, and with it what it leads through, as `Rows::close_with` does.

@@ -1,6 +1,6 @@
 use Rattle.std.proofs.Common.{◌≡◌, ◌↔◌, ◌<◌, ℕ}
 use Rattle.lit_rel.specs.Rows.{rows_len, Holds}
-use Rattle.lit_rel.proofs.rows.two_way_rows.converse_of.Given as goal
+use Rattle.lit_rel.proofs.rows.two_way_rows.put_converse.Given as goal
 
 abbrev pub invariant-loop-event : goal.invariant-loop-event
 invariant-loop-event l = record {

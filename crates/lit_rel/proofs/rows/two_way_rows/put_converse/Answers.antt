@@ -2,12 +2,12 @@ use Rattle.std.proofs.Common.{ℕ, ◌<◌, ◌≡◌, ◌∙◌, arith, sym, su
 use Rattle.lit_rel.specs.EventSet.{HasEvent}
 use Rattle.lit_rel.specs.Rows.{Holds, rows_len}
 use Rattle.lit_rel.proofs.TwoWayLemmas.{converse_more, single_is}
-use Rattle.lit_rel.proofs.rows.two_way_rows.converse_of.Goals as goal
+use Rattle.lit_rel.proofs.rows.two_way_rows.put_converse.Goals as goal
 
 pub loop-event-init : goal.loop-event-init
 loop-event-init c = record {
-  len = c.new-converse.ensures.len ∙ c.len.ensures.value;
-  pairs = λ a d. ((λ h. absurd (c.new-converse.ensures.empty d a h)), (λ h. absurd (let below : a < 0 = h.0 in omega arith)));
+  len = c.begin.ensures.len ∙ c.len.ensures.value;
+  pairs = λ a d. ((λ h. absurd (c.begin.ensures.empty d a h)), (λ h. absurd (let below : a < 0 = h.0 in omega arith)));
 }
 
 pub put_each-requires : goal.put_each-requires
