@@ -4,6 +4,7 @@ ghost use Rattle.std.specs.Prelude.{◌≡◌, ◌⊎◌, ◌↔◌, ℕ, ◌<�
 ghost use Rattle.lit_rel.specs.EventSet.{HasEvent};
 ghost use Rattle.lit_rel.specs.Rows.{rows_len, Holds};
 ghost use Rattle.lit_rel.specs.Converse.{IsConverse};
+ghost use Rattle.lit_rel.specs.Internal.Changes.{IsChange};
 
 use crate::event_set::EventSet;
 use crate::rows::Rows;
@@ -23,17 +24,32 @@ fn put_each(rows: &mut Rows, firsts: EventSet, seconds: EventSet)
     }
 }
 
-/// Makes what is there the converse of a relation.
+/// Makes what is there the changes of a relation: each event with the events that lead to it or to the one before it, but
+/// not to both. There are few, since events mostly lead to some that follow one another.
+fn put_changes(changes: &mut Rows, rows: &Rows)
+    ensures len { rows_len changes.new ≡ rows_len rows.now }
+    ensures pairs { (a d : ℕ) → Holds changes.new d a ↔ IsChange (rows_len rows.now) (Holds rows.now) a d }
+{
+    changes.begin(rows.len());
+    for event in 0..rows.len() {
+        let to = rows.successors(event);
+        put_each(
+            changes,
+            to.apart(to.next_below(rows.len())),
+            EventSet::new().with(event),
+        );
+    }
+}
+
+/// Makes what is there the converse of a relation, event by event from its changes.
 fn put_converse(converse: &mut Rows, rows: &Rows)
     ensures { IsConverse rows.now converse.new }
 {
-    converse.begin(rows.len());
+    put_changes(converse, rows);
+    let mut before = EventSet::new();
     for event in 0..rows.len() {
-        put_each(
-            converse,
-            rows.successors(event),
-            EventSet::new().with(event),
-        );
+        before = before.apart(converse.successors(event));
+        converse.set_all(event, before);
     }
 }
 
