@@ -1,9 +1,8 @@
 //! Events whose past no further source changes.
 
-ghost use Rattle.std.specs.Prelude.{◌≡◌, ◌↔◌, ℕ, ◌<◌, ◌≤◌, IsTrue, Some, length, map, slice_get};
-ghost use Rattle.lit_paths.specs.ByteReads.{pair_of};
+ghost use Rattle.std.specs.Prelude.{◌↔◌, ◌<◌, IsTrue, length};
 ghost use Rattle.lit_rel.specs.Part.{part_events};
-ghost use Rattle.lit_rel.specs.Settled.{HasSettledPast, IsSettled};
+ghost use Rattle.lit_rel.specs.Settled.{HasSettledPast};
 ghost use Rattle.lit_rel.specs.SynchronizesWith.{MaySynchronize};
 
 use crate::event_set::EventSet;
