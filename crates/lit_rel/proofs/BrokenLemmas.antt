@@ -2,10 +2,12 @@
 use Rattle.std.proofs.Common.{◌≡◌, ◌↔◌, ◌⊎◌, ℕ, List, inl, inr, refl, sym, ◌∙◌, subst}
 use Rattle.lit_paths.specs.declared.event.Event.{Event}
 use Rattle.lit_paths.specs.Event.{event_at}
-use Rattle.lit_rel.specs.Broken.{IsBrokenBy}
+use Rattle.lit_rel.specs.Broken.{BytesStayBroken, IsBrokenBy}
 use Rattle.lit_rel.specs.Coherent.{IsCoherentRead}
+use Rattle.lit_rel.specs.Growth.{GivenBy}
 use Rattle.lit_rel.specs.HappensBefore.{HappensBeforeBy}
 use Rattle.lit_rel.specs.Internal.Pushed.{CanChange, IsBrokenAnew}
+use Rattle.lit_rel.specs.ReadsFrom.{ReadsByteFrom}
 use Rattle.lit_rel.specs.Rows.{WithPair}
 use Rattle.lit_rel.specs.TearFree.{CanReadWhole, ReadsWholeBy}
 use Rattle.lit_rel.proofs.GrowthLemmas.{Grows-from}
@@ -52,6 +54,12 @@ IsBrokenBy-grows events less more to (inr (inr torn)) = inr (inr record {
   second = record { reads = (torn.second.reads.0, to torn.read torn.second.reads.0 torn.other torn.second.reads.1); can = torn.second.can };
   two_sources = torn.two_sources;
 })
+
+pub bytes_stay_broken : BytesStayBroken
+bytes_stay_broken = record {
+  sets = λ events less more to. IsBrokenBy-grows events (GivenBy less) (GivenBy more) to;
+  into_lists = λ events less sources to. IsBrokenBy-grows events (GivenBy less) (ReadsByteFrom events sources) to;
+}
 
 -- what is given, and what is given with byte b of read r from source w
 module _ (events : List Event) (given more : ℕ → ℕ → ℕ → Type 0) (r b w : ℕ) (adds : (r' b' w' : ℕ) → more r' b' w' ↔ (given r' b' w' ⊎ ((r' ≡ r) × (b' ≡ b) × (w' ≡ w)))) where

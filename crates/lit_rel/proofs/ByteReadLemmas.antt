@@ -1,13 +1,15 @@
 -- The list of byte reads: what stands there, and that it stands there once.
-use Rattle.std.proofs.Common.{◌≡◌, ℕ, ◌+◌, ◌<◌, suc, zero, Bool, true, false, cond, Some, List, [], ◌∷◌, ◌++◌, map, refl, sym, ap, ◌∙◌, arith, ◌⊎◌, inl, inr, subst}
-use Rattle.std.proofs.lemmas.Option.{none-some, same_Some}
+use Rattle.std.proofs.Common.{◌≡◌, ℕ, ◌+◌, ◌<◌, ◌≤◌, suc, zero, Bool, true, false, cond, Some, List, [], ◌∷◌, ◌++◌, length, map, refl, sym, ap, ◌∙◌, arith, ◌⊎◌, inl, inr, subst}
+use Rattle.std.proofs.lemmas.Option.{none-some, same_Some, slice_get_within}
 use Rattle.std.specs.Bool.{IsTrue}
 use Rattle.std.specs.List.{range_with_len, slice_get}
 use Rattle.lit_paths.specs.declared.event.Event.{Event}
 use Rattle.lit_paths.specs.Event.{HasByte, does_read, event_at}
 use Rattle.lit_paths.specs.ByteReads.{byte_reads, byte_reads_from, bytes_read_by}
+use Rattle.lit_rel.specs.declared.given.SourcedByte.{SourcedByte}
 use Rattle.lit_rel.specs.InitReads.{AreOfEvents}
-use Rattle.lit_rel.proofs.SourceLemmas.{read_known}
+use Rattle.lit_rel.specs.Internal.Given.{AreFirstReads, read_of}
+use Rattle.lit_rel.proofs.SourceLemmas.{read_known, read_place}
 
 -- a place of two lists joined is one of the first or of the second
 in_joined : {X : Type 0} (xs ys : List X) (k : ℕ) (x : X) → slice_get (xs ++ ys) k ≡ Some x → ((j : ℕ) × (slice_get xs j ≡ Some x)) ⊎ ((j : ℕ) × (slice_get ys j ≡ Some x))
@@ -103,6 +105,36 @@ once_from n (e ∷ es) =
 -- two places of one byte read are one
 pub read_once : (events : List Event) (j k : ℕ) (q : ℕ × ℕ) → slice_get (byte_reads events) j ≡ Some q → slice_get (byte_reads events) k ≡ Some q → j ≡ k
 read_once events j k q p at = once_from 0 events j k q p at
+
+-- ---- by rising reads
+-- a place of two lists joined, counted on in the second
+in_joined_at : {X : Type 0} (xs ys : List X) (k : ℕ) (x : X) → slice_get (xs ++ ys) k ≡ Some x → (slice_get xs k ≡ Some x) ⊎ ((j : ℕ) × (length xs + j ≡ k) × (slice_get ys j ≡ Some x))
+in_joined_at [] ys k x at = inr (k, omega arith, at)
+in_joined_at (a ∷ xs) ys zero x at = inl at
+in_joined_at (a ∷ xs) ys (suc k) x at = elim (in_joined_at xs ys k x at) [ inl here ↦ inl here | inr there ↦ inr (there.0, omega (arith, there.1), there.2) ]
+
+rise_from : (n : ℕ) (es : List Event) (j k : ℕ) (p q : ℕ × ℕ) → j ≤ k → slice_get (byte_reads_from n es) j ≡ Some p → slice_get (byte_reads_from n es) k ≡ Some q → p.0 ≤ q.0
+rise_from n [] j k p q le here there = absurd (none-some p here)
+rise_from n (e ∷ es) j k p q le here there =
+    elim (in_joined_at (bytes_read_by n e) (byte_reads_from (n + 1) es) j p here) [
+      | inl first ↦
+          let low : p.0 ≡ n = (read_here n e j p first).number in
+          elim (in_joined_at (bytes_read_by n e) (byte_reads_from (n + 1) es) k q there) [
+            | inl other ↦ (let same : q.0 ≡ n = (read_here n e k q other).number in omega (arith, low, same))
+            | inr later ↦ (let high = (read_from (n + 1) es later.0 q later.2).1 in omega (arith, low, high))
+          ]
+      | inr later ↦
+          elim (in_joined_at (bytes_read_by n e) (byte_reads_from (n + 1) es) k q there) [
+            | inl other ↦
+                let within : k < length (bytes_read_by n e) = slice_get_within (bytes_read_by n e) k q other in
+                absurd (omega (arith, within, le, later.1))
+            | inr last ↦ rise_from (n + 1) es later.0 last.0 p q (omega (arith, le, later.1, last.1)) later.2 last.2
+          ]
+    ]
+
+-- the reads of first byte reads rise
+pub reads_rise : (events : List Event) (bytes : List SourcedByte) → AreFirstReads events bytes → (j k : ℕ) (p q : SourcedByte) → j ≤ k → slice_get bytes j ≡ Some p → slice_get bytes k ≡ Some q → p.read ≤ q.read
+reads_rise events bytes first j k p q le here there = rise_from 0 events j k (read_of p) (read_of q) le (read_place events bytes first j p here) (read_place events bytes first k q there)
 
 pub are_of_events : (events : List Event) → AreOfEvents events
 are_of_events events = record {

@@ -15,6 +15,17 @@ pub Chain-append : (step : ℕ → ℕ → Type 0) (e : ℕ) (ms : List ℕ) (m 
 Chain-append step e [] m ns d p q = (p, q)
 Chain-append step e (k ∷ ms) m ns d p q = (p.0, Chain-append step k ms m ns d p.1 q)
 
+pub HasChain-joined : (step : ℕ → ℕ → Type 0) (e m d : ℕ) → HasChain step e m → HasChain step m d → HasChain step e d
+HasChain-joined step e m d first second = (first.0 ++ m ∷ second.0, Chain-append step e first.0 m second.0 d first.1 second.1)
+
+-- what is so of each event that leads to another is so of the first of a chain
+pub HasChain-first : (step : ℕ → ℕ → Type 0) (P : ℕ → Type 0) → ((e d : ℕ) → step e d → P e) → (e d : ℕ) → HasChain step e d → P e
+HasChain-first step P is e d chain = of_first chain.0 chain.1
+  where
+    of_first : (middles : List ℕ) → Chain step e middles d → P e
+    of_first [] p = is e d p
+    of_first (m ∷ middles) p = is e m p.0
+
 -- What holds has a chain, each step holds, and what leads to a middle below k leads to all that the middle leads to.
 pub record IsClosedBelow (step holds : ℕ → ℕ → Type 0) (k : ℕ) : Type 0 where
   pub sound : (e d : ℕ) → holds e d → HasChain step e d
@@ -30,10 +41,7 @@ module _ (step holds more : ℕ → ℕ → Type 0) (k : ℕ) (leads : (e d : �
       sound e d h =
           elim ((leads e d).0 h) [
             | inl old ↦ c.sound e d old
-            | inr both ↦
-                let first = c.sound e k both.0 in
-                let second = c.sound k d both.1 in
-                (first.0 ++ k ∷ second.0, Chain-append step e first.0 k second.0 d first.1 second.1)
+            | inr both ↦ HasChain-joined step e k d (c.sound e k both.0) (c.sound k d both.1)
           ]
 
       -- to the middle itself nothing new leads, and it leads to nothing new

@@ -1,17 +1,20 @@
 -- With more bytes given the relations grow, and what was read whole keeps its value.
-use Rattle.std.proofs.Common.{◌≡◌, ◌≢◌, ℕ, ◌<◌, ◌==◌, suc, Bool, false, cond, Some, List, [], ◌∷◌, ◌++◌, length, filter, map, refl, ap, ◌∙◌, arith, inl, inr}
+use Rattle.std.proofs.Common.{◌≡◌, ◌≢◌, ℕ, ◌==◌, suc, Bool, false, cond, Some, List, [], ◌∷◌, ◌++◌, filter, get_or, map, refl, sym, subst, ap, ◌∙◌, ◌⊎◌, arith, inl, inr}
+use Rattle.std.proofs.lemmas.Bool.{cases_eq}
 use Rattle.std.proofs.lemmas.Bool.Decides.{nat_tests}
+use Rattle.std.proofs.lemmas.Option.{none-some, same_Some, slice_get-get_or}
 use Rattle.std.specs.List.{slice_get, zip}
 use Rattle.lit_paths.specs.declared.event.Event.{Event}
 use Rattle.lit_paths.specs.ByteReads.{byte_reads}
 use Rattle.lit_paths.specs.Event.{event_at, payload_at}
 use Rattle.lit_rel.specs.Coherent.{HasCoherentReadsBy}
 use Rattle.lit_rel.specs.Forbidden.{IsForbiddenBy}
-use Rattle.lit_rel.specs.Growth.{GivenBy, GrowWithBytes, Grows, ValuesStay}
+use Rattle.lit_rel.specs.Growth.{GivenBy, GivenValuesAgree, GrowWithBytes, Grows, IsGivenWholeBy, ValuesStay}
 use Rattle.lit_rel.specs.HappensBefore.{HappensBeforeBy, StepBy}
-use Rattle.lit_rel.specs.ReadsFrom.{ReadsByteFrom, ReadsFromBy, composed}
+use Rattle.lit_rel.specs.ReadsFrom.{ReadsByteFrom, ReadsFromBy, composed, value_of}
 use Rattle.lit_rel.specs.SynchronizesWith.{SynchronizesBy}
 use Rattle.lit_rel.specs.TearFree.{ReadsWholeBy}
+use Rattle.lit_rel.proofs.ByteReadLemmas.{read_once}
 use Rattle.lit_rel.proofs.ChainLemmas.{Chain-same}
 use Rattle.lit_rel.proofs.PlaceLemmas.{place-left}
 
@@ -93,15 +96,40 @@ none_left r (p ∷ reads) (w ∷ rest) none =
     let later : of_read r reads rest ≡ [] = none_left r reads rest (λ i b h. none (suc i) b h) in
     ap (λ (t : Bool). cond t ((p, w) ∷ filter {X = (ℕ × ℕ) × ℕ} (λ q. q.0.0 == r) (zip reads rest)) (filter (λ q. q.0.0 == r) (zip reads rest))) no_test ∙ later
 
-of_read-longer : (r : ℕ) (reads : List (ℕ × ℕ)) (sources rest : List ℕ) → ((i b : ℕ) → slice_get reads i ≡ Some (r, b) → i < length sources) → of_read r reads (sources ++ rest) ≡ of_read r reads sources
+-- the sources of its bytes are the same in two lists
+of_read-same : (r : ℕ) (reads : List (ℕ × ℕ)) (sources others : List ℕ) → ((i b : ℕ) → slice_get reads i ≡ Some (r, b) → (w : ℕ) × (slice_get sources i ≡ Some w) × (slice_get others i ≡ Some w)) → of_read r reads others ≡ of_read r reads sources
 unfolding of_read
-of_read-longer r [] sources rest all = refl
-of_read-longer r (p ∷ reads) [] rest all = none_left r (p ∷ reads) rest (λ i b h. let l : i < 0 = all i b h in absurd (omega arith))
-of_read-longer r (p ∷ reads) (w ∷ sources) rest all =
-    let later : of_read r reads (sources ++ rest) ≡ of_read r reads sources = of_read-longer r reads sources rest (λ i b h. let l : suc i < suc (length sources) = all (suc i) b h in omega arith) in
-    ap (λ (qs : List ((ℕ × ℕ) × ℕ)). cond (p.0 == r) ((p, w) ∷ qs) qs) later
+of_read-same r [] sources others agree = refl
+of_read-same r (p ∷ reads) [] others agree = none_left r (p ∷ reads) others (λ i b h. let a = agree i b h in none-some a.0 a.1)
+of_read-same r (p ∷ reads) (v ∷ sources) [] agree = sym (none_left r (p ∷ reads) (v ∷ sources) (λ i b h. let a = agree i b h in none-some a.0 a.2))
+of_read-same r (p ∷ reads) (v ∷ sources) (o ∷ others) agree = by (cases_eq p.0 r) (of_read-same r reads sources others (λ i b h. agree (suc i) b h))
+  where
+    by : (p.0 ≡ r) ⊎ (p.0 ≢ r) → of_read r reads others ≡ of_read r reads sources → of_read r (p ∷ reads) (o ∷ others) ≡ of_read r (p ∷ reads) (v ∷ sources)
+    by (inl is) later =
+        let a = agree 0 p.1 (ap (λ (k : ℕ). Some (k, p.1)) is) in
+        let head : o ≡ v = same_Some o a.0 a.2 ∙ sym (same_Some v a.0 a.1) in
+        ap (λ (w : ℕ). cond (p.0 == r) ((p, w) ∷ of_read r reads others) (of_read r reads others)) head
+        ∙ ap (λ (qs : List ((ℕ × ℕ) × ℕ)). cond (p.0 == r) ((p, v) ∷ qs) qs) later
+    by (inr other) later =
+        let no_test : (p.0 == r) ≡ false = grind (arith, nat_tests) in
+        ap (λ (t : Bool). cond t ((p, o) ∷ of_read r reads others) (of_read r reads others)) no_test
+        ∙ later
+        ∙ sym (ap (λ (t : Bool). cond t ((p, v) ∷ of_read r reads sources) (of_read r reads sources)) no_test)
+
+-- the value of a read by lists of sources that have the same bytes of it
+value-given : (events : List Event) (given : ℕ → ℕ → ℕ → Type 0) (sources others : List ℕ) (r : ℕ) → IsGivenWholeBy events given r → ((b w : ℕ) → given r b w → ReadsByteFrom events sources r b w) → ((b w : ℕ) → given r b w → ReadsByteFrom events others r b w)
+    → value_of events others r ≡ value_of events sources r
+unfolding of_read
+value-given events given sources others r whole to other_to =
+    ap (λ (ps : List ((ℕ × ℕ) × ℕ)). composed (map (λ p. payload_at (event_at events p.1) p.0.1) ps)) (of_read-same r (byte_reads events) sources others (λ i b at.
+    let from = whole i b at in
+    let one = to b from.0 from.1 in
+    let two = other_to b from.0 from.1 in
+    (from.0, subst (λ (j : ℕ). slice_get sources j ≡ Some from.0) (read_once events one.0 i (r, b) one.1 at) one.2, subst (λ (j : ℕ). slice_get others j ≡ Some from.0) (read_once events two.0 i (r, b) two.1 at) two.2)))
+
+pub given_values_agree : GivenValuesAgree
+given_values_agree events given sources others r whole to other_to = value-given events (GivenBy given) sources others r whole to other_to
 
 pub values_stay : ValuesStay
-unfolding of_read
 values_stay events sources rest r all =
-    ap (λ (ps : List ((ℕ × ℕ) × ℕ)). composed (map (λ p. payload_at (event_at events p.1) p.0.1) ps)) (of_read-longer r (byte_reads events) sources rest all)
+    value-given events (ReadsByteFrom events sources) sources (sources ++ rest) r (λ i b at. (get_or sources i 0, (i, at, slice_get-get_or sources i 0 (all i b at)))) (λ b w from. from) (λ b w from. ReadsByteFrom-longer events sources rest r b w from)

@@ -18,6 +18,7 @@ pub mod ReadingLemmas
 pub mod RefusalLemmas
 pub mod RelatingLemmas
 pub mod RestoreLemmas
+pub mod RisingLemmas
 pub mod RowLemmas
 pub mod SameRelations
 pub mod SetLemmas

@@ -127,34 +127,3 @@ WithPair-least before other a d through has pair x y (inr led) = to_y led.1
 
 pub IsTransitive-same : (before other : ℕ → ℕ → Type 0) → ((x y : ℕ) → other x y ↔ before x y) → IsTransitive before → IsTransitive other
 IsTransitive-same before other same through x y z p q = (same x z).1 (through x y z ((same x y).0 p) ((same y z).0 q))
-
--- one more pair with this first event is put in, or passes
-module _ (init cur new step : ℕ → ℕ → Type 0) (first second : ℕ) (so_far : (e d : ℕ) → cur e d ↔ (init e d ⊎ ((e ≡ first) × (d < second) × step e d))) where
-  pub put_more : ((e d : ℕ) → new e d ↔ (cur e d ⊎ ((e ≡ first) × (d ≡ second)))) → step first second → (e d : ℕ) → new e d ↔ (init e d ⊎ ((e ≡ first) × (d < second + 1) × step e d))
-  put_more joined here e d = (
-    (λ h. elim ((joined e d).0 h) [
-      | inl old ↦ elim ((so_far e d).0 old) [ inl was ↦ inl was | inr put ↦ inr (put.0, omega arith, put.2) ]
-      | inr put ↦ inr (put.0, omega arith, subst (λ (x : ℕ). step x d) (sym put.0) (subst (step first) (sym put.1) here))
-    ]),
-    (λ h. elim h [
-      | inl was ↦ (joined e d).1 (inl ((so_far e d).1 (inl was)))
-      | inr put ↦
-          elim (cases_eq d second) [
-            | inl same ↦ (joined e d).1 (inr (put.0, same))
-            | inr other ↦ (joined e d).1 (inl ((so_far e d).1 (inr (put.0, omega arith, put.2))))
-          ]
-    ]),
-  )
-
-  pub put_skip : (step first second → ⊥) → (e d : ℕ) → cur e d ↔ (init e d ⊎ ((e ≡ first) × (d < second + 1) × step e d))
-  put_skip not_here e d = (
-    (λ h. elim ((so_far e d).0 h) [ inl was ↦ inl was | inr put ↦ inr (put.0, omega arith, put.2) ]),
-    (λ h. elim h [
-      | inl was ↦ (so_far e d).1 (inl was)
-      | inr put ↦
-          elim (cases_eq d second) [
-            | inl same ↦ absurd (not_here (subst (λ (x : ℕ). step x second) put.0 (subst (step e) same put.2)))
-            | inr other ↦ (so_far e d).1 (inr (put.0, omega arith, put.2))
-          ]
-    ]),
-  )

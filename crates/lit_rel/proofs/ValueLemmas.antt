@@ -48,6 +48,20 @@ stored-cons_same events r p ps same =
     let is_test : (p.read == r) ≡ true = eq-eqb p.read r same in
     ap (λ (b : Bool). map {A = (ℕ × ℕ) × ℕ} {B = ℕ} (λ q. payload_at (event_at events q.1) q.0.1) (cond b (sourced p ∷ filter (λ (q : (ℕ × ℕ) × ℕ). q.0.0 == r) (map sourced ps)) (filter (λ (q : (ℕ × ℕ) × ℕ). q.0.0 == r) (map sourced ps)))) is_test
 
+-- one of another read in front
+stored-cons_other : (events : List Event) (r : ℕ) (p : SourcedByte) (ps : List SourcedByte) → p.read ≢ r → stored events r (p ∷ ps) ≡ stored events r ps
+stored-cons_other events r p ps other =
+    let no_test : (p.read == r) ≡ false = grind (arith, nat_tests) in
+    ap (λ (b : Bool). map {A = (ℕ × ℕ) × ℕ} {B = ℕ} (λ q. payload_at (event_at events q.1) q.0.1) (cond b (sourced p ∷ filter (λ (q : (ℕ × ℕ) × ℕ). q.0.0 == r) (map sourced ps)) (filter (λ (q : (ℕ × ℕ) × ℕ). q.0.0 == r) (map sourced ps)))) no_test
+
+-- none of the first bytes is of the read
+pub stored-from : (events : List Event) (r : ℕ) (bytes : List SourcedByte) (d : SourcedByte) (place : ℕ) → place ≤ length bytes → ((k : ℕ) → k < place → (get_or bytes k d).read ≢ r) → stored events r (drop place bytes) ≡ stored events r bytes
+stored-from events r bytes d zero within others = refl
+stored-from events r bytes d (suc place) within others =
+    let before : stored events r (drop place bytes) ≡ stored events r (drop (place + 1) bytes) = ap (stored events r) (drop_more bytes place d (omega arith)) ∙ stored-cons_other events r (get_or bytes place d) (drop (place + 1) bytes) (others place (omega arith)) in
+    let next : place + 1 ≡ suc place = omega arith in
+    sym (before ∙ ap (λ (n : ℕ). stored events r (drop n bytes)) next) ∙ stored-from events r bytes d place (omega arith) (λ k below. others k (omega (arith, below)))
+
 -- the number so far, and that its bytes leave room for it
 pub record IsComposed (value : ℕ) (bytes : List ℕ) : Type 0 where
   pub is : value ≡ composed bytes

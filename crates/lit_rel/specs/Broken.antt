@@ -1,12 +1,12 @@
 -- When a part is broken: nothing that is given later can make a valid execution of it (this project's own).
-use Rattle.std.specs.Prelude.{◌≡◌, ◌≢◌, ◌⊎◌, ℕ, ◌+◌, ◌<◌, false, Option, Some, None, List, ◌++◌, length, slice_get}
+use Rattle.std.specs.Prelude.{◌≡◌, ◌≢◌, ◌⊎◌, ℕ, ◌+◌, ◌<◌, Bool, false, Option, Some, None, List, ◌++◌, length, slice_get}
 use Rattle.lit_read.specs.Syntax.{Litmus}
 use Rattle.lit_paths.specs.declared.event.Event.{Event}
 use Rattle.lit_paths.specs.declared.path.Tested.{Tested}
 use Rattle.lit_paths.specs.Plan.{first_event, path_in}
 use Rattle.lit_paths.specs.Run.{compares}
 use Rattle.lit_rel.specs.Coherent.{IsCoherentRead}
-use Rattle.lit_rel.specs.Growth.{IsGivenWhole}
+use Rattle.lit_rel.specs.Growth.{GivenBy, IsGivenWhole}
 use Rattle.lit_rel.specs.HappensBefore.{HappensBeforeBy}
 use Rattle.lit_rel.specs.Part.{PartModel, part_events, with_sources}
 use Rattle.lit_rel.specs.ReadsFrom.{ReadsByteFrom, value_of}
@@ -68,3 +68,8 @@ IsBroken part = HasBrokenRelations part ⊎ HasFalseTest part
 -- a broken part is broken with any sources more
 abbrev pub StaysBroken : Type 0
 StaysBroken = (part : PartModel) (rest : List ℕ) → IsBroken part → IsBroken (with_sources part (part.sources ++ rest))
+
+-- any bytes given whose relations are broken are so with any bytes more, and in each list of sources that has them
+pub record BytesStayBroken : Type 0 where
+  pub sets : (events : List Event) (less more : ℕ → ℕ → ℕ → Bool) → ((r b w : ℕ) → GivenBy less r b w → GivenBy more r b w) → IsBrokenBy events (GivenBy less) → IsBrokenBy events (GivenBy more)
+  pub into_lists : (events : List Event) (less : ℕ → ℕ → ℕ → Bool) (sources : List ℕ) → ((r b w : ℕ) → GivenBy less r b w → ReadsByteFrom events sources r b w) → IsBrokenBy events (GivenBy less) → IsBrokenBy events (ReadsByteFrom events sources)

@@ -35,3 +35,12 @@ IsGivenWhole events sources r = (i b : ℕ) → slice_get (byte_reads events) i 
 -- the value of a read all of whose bytes have a source does not change with further ones
 abbrev pub ValuesStay : Type 0
 ValuesStay = (events : List Event) (sources rest : List ℕ) (r : ℕ) → IsGivenWhole events sources r → value_of events (sources ++ rest) r ≡ value_of events sources r
+
+-- all bytes of read r are given a source
+abbrev pub IsGivenWholeBy : List Event → (ℕ → ℕ → ℕ → Type 0) → ℕ → Type 0
+IsGivenWholeBy events given r = (i b : ℕ) → slice_get (byte_reads events) i ≡ Some (r, b) → (w : ℕ) × given r b w
+
+-- the value of a read all of whose bytes are given is the same in all lists of sources that have these bytes of it
+abbrev pub GivenValuesAgree : Type 0
+GivenValuesAgree = (events : List Event) (given : ℕ → ℕ → ℕ → Bool) (sources others : List ℕ) (r : ℕ) → IsGivenWholeBy events (GivenBy given) r
+    → ((b w : ℕ) → GivenBy given r b w → ReadsByteFrom events sources r b w) → ((b w : ℕ) → GivenBy given r b w → ReadsByteFrom events others r b w) → value_of events others r ≡ value_of events sources r

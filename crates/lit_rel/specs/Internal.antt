@@ -1,4 +1,5 @@
 -- Notions of the contracts inside this crate: what a part has, and the steps that no source decides.
+pub mod Changes
 pub mod Closing
 pub mod Forbidding
 pub mod Given

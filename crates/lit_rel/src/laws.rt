@@ -7,8 +7,8 @@ mod tested_bytes;
 mod wide_events;
 
 pub use growth::{
-    broken_parts_stay_broken, races_are_foreseen, relations_grow_with_bytes, settled_pasts_stay,
-    values_stay,
+    broken_parts_stay_broken, bytes_keep_settled_pasts, bytes_stay_broken, given_values_agree,
+    races_are_foreseen, relations_grow_with_bytes, settled_pasts_stay, values_stay,
 };
 pub use init_reads::{byte_reads_are_of_events, init_takes_place, values_keep_place};
 pub use other_sources::{order_stays_with_others, others_take_place, values_stay_with_others};

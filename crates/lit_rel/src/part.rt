@@ -27,7 +27,7 @@ ghost use Rattle.lit_rel.specs.SynchronizesWith.{Synchronizes};
 ghost use Rattle.lit_rel.specs.TearFree.{HasTearFreeReads};
 
 use crate::between::Between;
-use crate::given::peers::peers_of;
+use crate::given::peers::put_peers;
 use crate::part::refused::{has_false_test, is_refused_with};
 use crate::part::related::Related;
 use crate::rows::Rows;
@@ -74,7 +74,8 @@ impl<'p> Part<'p> {
     {
         let combination = plan.enter(combination);
         let refused = has_false_test(&combination, None, 0);
-        let peers = peers_of(combination.events());
+        let mut peers = Rows::new(0);
+        put_peers(&mut peers, combination.events());
         let peerless = peers.is_empty();
         Part {
             related: Related::open(combination),
@@ -96,7 +97,7 @@ impl<'p> Part<'p> {
         self.earlier.clear();
         let combination = self.related.combination();
         self.refused = has_false_test(combination, None, 0);
-        self.peers = peers_of(combination.events());
+        put_peers(&mut self.peers, combination.events());
         self.peerless = self.peers.is_empty();
     }
 

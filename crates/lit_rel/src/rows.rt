@@ -3,7 +3,7 @@
 pub(crate) mod closing;
 pub(crate) mod two_way_rows;
 
-ghost use Rattle.std.specs.Prelude.{◌≡◌, ◌⊎◌, ◌↔◌, ℕ, ◌<◌, ◌≤◌, IsTrue};
+ghost use Rattle.std.specs.Prelude.{◌≡◌, ◌≢◌, ◌⊎◌, ◌↔◌, ℕ, ◌<◌, ◌≤◌, IsTrue};
 ghost use Rattle.lit_paths.specs.declared.limits.TheConstants.{EVENT_LIMIT};
 ghost use Rattle.lit_rel.specs.EventSet.{AreWithin};
 
@@ -34,6 +34,16 @@ impl Rows {
             len,
             sets: [EventSet::new(); EVENT_LIMIT],
         }
+    }
+
+    /// Makes it `new(len)`, in place.
+    pub(crate) fn begin(&mut self, len: usize)
+        requires { len ≤ EVENT_LIMIT }
+        ensures len { rows_len self.new ≡ len }
+        ensures empty { (a d : ℕ) → ¬ Holds self.new a d }
+    {
+        self.len = len;
+        self.sets = [EventSet::new(); EVENT_LIMIT];
     }
 
     /// How many events it is on.
@@ -68,6 +78,16 @@ impl Rows {
         ensures pairs { (x y : ℕ) → Holds self.new x y ↔ (Holds self.old x y ⊎ ((x ≡ a) × HasEvent set y)) }
     {
         self.sets[a] = self.sets[a].union(set);
+    }
+
+    /// Lets event a lead to the events of a set alone, all numbers below `len()`.
+    pub(crate) fn set_all(&mut self, a: usize, set: EventSet)
+        requires first { a < rows_len self.old }
+        requires second { (d : ℕ) → HasEvent set d → d < rows_len self.old }
+        ensures len { rows_len self.new ≡ rows_len self.old }
+        ensures pairs { (x y : ℕ) → Holds self.new x y ↔ (((x ≢ a) × Holds self.old x y) ⊎ ((x ≡ a) × HasEvent set y)) }
+    {
+        self.sets[a] = set;
     }
 
     /// Puts a pair in, both numbers below `len()`.

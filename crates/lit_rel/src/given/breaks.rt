@@ -73,8 +73,12 @@ impl Given<'_> {
         if !self.reads_whole(byte) {
             return false;
         }
-        for other in self.bytes {
-            if self.tears(byte, *other) {
+        for place in (0..self.bytes.len()).rev() {
+            let other = self.bytes[place];
+            if other.read < byte.read {
+                return false;
+            }
+            if self.tears(byte, other) {
                 return true;
             }
         }

@@ -31,16 +31,15 @@ fn put_peer(peers: &mut Rows, events: &[Event], write: usize)
     }
 }
 
-/// The sequentially consistent writes that have the range of each event.
-pub(crate) fn peers_of(events: &[Event]) -> Rows
+/// Makes what is there the sequentially consistent writes that have the range of each event.
+pub(crate) fn put_peers(peers: &mut Rows, events: &[Event])
     requires { length events.now ≤ EVENT_LIMIT }
-    ensures { ArePeers events.now result }
+    ensures { ArePeers events.now peers.new }
 {
-    let mut peers = Rows::new(events.len());
+    peers.begin(events.len());
     for write in 0..events.len() {
         if is_seq_cst_write(events, write) {
-            put_peer(&mut peers, events, write);
+            put_peer(peers, events, write);
         }
     }
-    peers
 }

@@ -33,7 +33,11 @@ impl Given<'_> {
         let mut value: u32 = 0;
         for place in (0..self.bytes.len()).rev() {
             let byte = self.bytes[place];
-            if usize::from(byte.read) == read {
+            let reader = usize::from(byte.read);
+            if reader < read {
+                return value;
+            }
+            if reader == read {
                 let source = event_at(self.events, usize::from(byte.source));
                 value = 256 * value + u32::from(payload_at(source, byte.byte));
             }

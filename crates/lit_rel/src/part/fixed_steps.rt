@@ -1,12 +1,14 @@
 //! The steps of happens-before that no source decides (ECMA-262, 2024, 29.6.1 and 29.6.6).
 
-ghost use Rattle.std.specs.Prelude.{◌≡◌, ◌⊎◌, ◌↔◌, ℕ, ◌<◌, ◌≤◌, IsTrue, [], length};
+ghost use Rattle.std.specs.Prelude.{◌≡◌, ◌↔◌, ℕ, ◌<◌, ◌≤◌, IsTrue, [], length};
 ghost use Rattle.lit_paths.specs.declared.limits.TheConstants.{EVENT_LIMIT};
 ghost use Rattle.lit_rel.specs.AgentOrder.{IsAgentOrdered};
+ghost use Rattle.lit_rel.specs.EventSet.{HasEvent};
 ghost use Rattle.lit_rel.specs.HappensBefore.{HappensBefore, IsMadeBefore};
 ghost use Rattle.lit_rel.specs.Internal.Steps.{IsFixedStep};
 ghost use Rattle.lit_rel.specs.Rows.{Holds, rows_len};
 
+use crate::event_set::EventSet;
 use crate::rows::Rows;
 use crate::rows::two_way_rows::TwoWayRows;
 use lit_paths::{Event, Order3, event_at};
@@ -17,7 +19,18 @@ pub(crate) fn unsourced_order(events: &[Event]) -> TwoWayRows
     ensures len { rows_len result.rows ≡ length events.now }
     ensures pairs { (e d : ℕ) → Holds result.rows e d ↔ HappensBefore events.now [] e d }
 {
-    TwoWayRows::closed(&fixed_steps(events))
+    let mut order = TwoWayRows::default();
+    put_unsourced_order(&mut order, events);
+    order
+}
+
+/// Makes what is there happens-before where no byte read has a source.
+pub(crate) fn put_unsourced_order(order: &mut TwoWayRows, events: &[Event])
+    requires { length events.now ≤ EVENT_LIMIT }
+    ensures len { rows_len order.new.rows ≡ length events.now }
+    ensures pairs { (e d : ℕ) → Holds order.new.rows e d ↔ HappensBefore events.now [] e d }
+{
+    order.put_closed(&fixed_steps(events));
 }
 
 /// All of them.
@@ -28,23 +41,24 @@ fn fixed_steps(events: &[Event]) -> Rows
 {
     let mut rows = Rows::new(events.len());
     for first in 0..events.len() {
-        put_fixed_steps(&mut rows, events, first);
+        rows.put_all(first, steps_from(events, first));
     }
     rows
 }
 
-/// Puts in those from one event.
-fn put_fixed_steps(rows: &mut Rows, events: &[Event], first: usize)
-    requires rows { rows_len rows.old ≡ length events.now }
+/// The events that an event comes before in such a step.
+fn steps_from(events: &[Event], first: usize) -> EventSet
+    requires few { length events.now ≤ EVENT_LIMIT }
     requires first { first < length events.now }
-    ensures len { rows_len rows.new ≡ rows_len rows.old }
-    ensures pairs { (e d : ℕ) → Holds rows.new e d ↔ (Holds rows.old e d ⊎ ((e ≡ first) × IsFixedStep events.now e d)) }
+    ensures { (d : ℕ) → HasEvent result d ↔ IsFixedStep events.now first d }
 {
+    let mut steps = EventSet::new();
     for second in 0..events.len() {
         if is_fixed_step(events, first, second) {
-            rows.put(first, second);
+            steps = steps.with(second);
         }
     }
+    steps
 }
 
 /// Whether one event comes before another in such a step.

@@ -1,14 +1,17 @@
 //! happens-before (ECMA-262, 2024, 29.6.6) of the sources given, and what it was before.
 
 ghost use Rattle.std.specs.Prelude.{◌≡◌, ◌↔◌, ℕ, ◌<◌, ◌≤◌, [], ◌∷◌, ◌++◌, length, take};
+ghost use Rattle.lit_paths.specs.declared.limits.TheConstants.{EVENT_LIMIT};
 ghost use Rattle.lit_rel.specs.declared.part.orders.TheConstants.{ORDERS_KEPT};
 ghost use Rattle.lit_rel.specs.Internal.Given.{sources_of};
-ghost use Rattle.lit_rel.specs.Internal.Levels.{AreBack, rows_of};
+ghost use Rattle.lit_rel.specs.Internal.Levels.{AreBack, IsOrder, rows_of};
 ghost use Rattle.lit_rel.specs.Rows.{Holds, WithPair, rows_len};
 
 use crate::given::Given;
+use crate::part::fixed_steps::put_unsourced_order;
 use crate::rows::two_way_rows::TwoWayRows;
 use arrayvec::ArrayVec;
+use lit_paths::Event;
 
 /// How many earlier relations are kept at the most. Few parts add more pairs, and what is not kept is found anew.
 pub(crate) const ORDERS_KEPT: usize = 12;
@@ -32,12 +35,13 @@ impl Orders {
         }
     }
 
-    /// Begins anew, with a relation to which no pair was added.
-    pub(crate) fn begin(&mut self, now: TwoWayRows)
-        ensures now { self.new.now ≡ now }
+    /// Begins anew, with happens-before where no byte read has a source.
+    pub(crate) fn begin(&mut self, events: &[Event])
+        requires { length events.now ≤ EVENT_LIMIT }
+        ensures now { IsOrder events.now [] self.new.now.rows }
         ensures earlier { self.new.earlier.items ≡ [] }
     {
-        self.now = now;
+        put_unsourced_order(&mut self.now, events);
         self.earlier.clear();
     }
 

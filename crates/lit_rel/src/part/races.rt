@@ -32,11 +32,11 @@ impl Part<'_> {
         ensures { IsTrue result ↔ HasApartPair (part_events self.now) (HappensBefore (part_events self.now) self.now.sources) (HasCandidateLeft (part_events self.now) self.now.sources) }
     {
         let combination = self.combination();
-        let before = self.happens_before();
+        let before = &self.order().rows;
         for place in self.len()..self.reads() {
             let read = combination.byte_reads()[place].read;
             let candidates = combination.candidates(place);
-            if races_with_source(combination.events(), &before, usize::from(read), candidates) {
+            if races_with_source(combination.events(), before, usize::from(read), candidates) {
                 return true;
             }
         }

@@ -92,13 +92,12 @@ impl<'p> Related<'p> {
         plan.reenter(&mut self.combination, combination);
         self.bytes.clear();
         self.earlier.clear();
-        let start = unsourced_order(self.combination.events());
+        self.orders.begin(self.combination.events());
         self.level = Level {
             adds: false,
-            broken: start.rows.has_cycle(),
+            broken: self.orders.now.rows.has_cycle(),
             pairs: 0,
         };
-        self.orders.begin(start);
     }
 
     /// Its combination.

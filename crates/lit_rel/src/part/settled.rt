@@ -1,27 +1,13 @@
 //! Events whose past no further source changes.
 
-ghost use Rattle.std.specs.Prelude.{◌≡◌, ◌↔◌, ℕ, ◌<◌, ◌≤◌, IsTrue, Some, length, map, slice_get};
-ghost use Rattle.lit_paths.specs.ByteReads.{pair_of};
+ghost use Rattle.std.specs.Prelude.{◌↔◌, ◌<◌, IsTrue, length};
 ghost use Rattle.lit_rel.specs.Part.{part_events};
-ghost use Rattle.lit_rel.specs.Settled.{HasSettledPast, IsSettled};
+ghost use Rattle.lit_rel.specs.Settled.{HasSettledPast};
 ghost use Rattle.lit_rel.specs.SynchronizesWith.{MaySynchronize};
 
 use crate::event_set::EventSet;
 use crate::part::Part;
-use lit_paths::{ByteRead, event_at};
-
-/// Whether the byte reads from a place on have one of an event.
-fn has_read_from(reads: &[ByteRead], place: usize, event: usize) -> bool
-    requires { place ≤ length reads.now }
-    ensures { IsTrue result ↔ ((k byte : ℕ) × (place ≤ k) × (slice_get (map pair_of reads.now) k ≡ Some (event, byte))) }
-{
-    for next in place..reads.len() {
-        if usize::from(reads[next].read) == event {
-            return true;
-        }
-    }
-    false
-}
+use lit_paths::event_at;
 
 impl Part<'_> {
     /// Whether no other event that writes can synchronize (ECMA-262, 2024, 29.6.5) with an event: that is not sequentially
@@ -37,25 +23,25 @@ impl Part<'_> {
                 .is_within(EventSet::new().with(event))
     }
 
-    /// Whether an event is settled, by its number: below the number of events.
-    fn is_settled(&self, event: usize) -> bool
-        requires { event < length (part_events self.now) }
-        ensures { IsTrue result ↔ IsSettled (part_events self.now) self.now.sources event }
-    {
-        let combination = self.combination();
-        !has_read_from(combination.byte_reads(), self.len(), event)
-            || self.never_synchronizes(event)
-    }
-
     /// Whether an event, by its number, is settled, and so is each event that happens before it: some byte that it
     /// reads has no source only where no event can synchronize with it. The number is below that of events.
     pub fn has_settled_past(&self, event: usize) -> bool
         requires { event < length (part_events self.now) }
         ensures { IsTrue result ↔ HasSettledPast (part_events self.now) self.now.sources event }
     {
-        let before = self.happens_before();
-        for earlier in 0..before.len() {
-            if before.leads(earlier, event) && !self.is_settled(earlier) {
+        self.peerless || self.has_settled_reads(event)
+    }
+
+    /// The same, whether or not there are sequentially consistent writes.
+    fn has_settled_reads(&self, event: usize) -> bool
+        requires { event < length (part_events self.now) }
+        ensures { IsTrue result ↔ HasSettledPast (part_events self.now) self.now.sources event }
+    {
+        let past = self.order().converse.successors(event).with(event);
+        let reads = self.combination().byte_reads();
+        for place in self.len()..reads.len() {
+            let read = usize::from(reads[place].read);
+            if past.contains(read) && !self.never_synchronizes(read) {
                 return false;
             }
         }

@@ -45,7 +45,7 @@ pub returns-then-races_with_source : goal.returns-then-races_with_source
 returns-then-races_with_source c =
     let part = c.args.self.now in
     let k = c.loop-place.place in
-    let rows = Holds c.happens_before-before.result in
+    let rows = Holds c.order.result.now.rows in
     let within : k < length (byte_reads (part_events part)) = omega (arith, c.reads-place-end.ensures, c.loop-place-test.true) in
     let left : length part.sources ≤ k = omega (arith, c.len-place.ensures.value, c.loop-place.auto.place) in
     let events : c.events.result.now ≡ part_events part = its_events _ part.test part.combination _ c.combination-combination.ensures c.events.ensures.value in
@@ -55,7 +55,7 @@ returns-then-races_with_source c =
       (λ _.
           let found = c.if-races_with_source.ensures.0 refl in
           let apart : AreApart (part_events part) rows (byte_read_at (part_events part) k).0 found.1 = AreApart-at (part_events part) rows c.from.result found.1 _ found.1 (sym read) refl (subst (λ (es : List Event). AreApart es rows c.from.result found.1) events found.3) in
-          HasApartPair-same (part_events part) rows (HappensBefore (part_events part) part.sources) (HasCandidateLeft (part_events part) part.sources) (λ e d. (c.happens_before-before.ensures.pairs e d).1)
+          HasApartPair-same (part_events part) rows (HappensBefore (part_events part) part.sources) (HasCandidateLeft (part_events part) part.sources) (λ e d. (c.order.ensures.pairs e d).1)
           (racing_candidate_from (part_events part) part.sources rows k c.candidates-candidates.result.now lists within left found.0 found.1 found.2 apart)),
       (λ _. refl),
     )
@@ -64,7 +64,7 @@ pub loop-place-preserved : goal.loop-place-preserved
 loop-place-preserved c i r b w low high at candidate apart =
     let part = c.args.self.now in
     let k = c.loop-place.place in
-    let rows = Holds c.happens_before-before.result in
+    let rows = Holds c.order.result.now.rows in
     elim (cases_eq i k) [
       | inl same ↦
           let within : k < length (byte_reads (part_events part)) = omega (arith, c.reads-place-end.ensures, c.loop-place-test.true) in
@@ -80,11 +80,11 @@ loop-place-preserved c i r b w low high at candidate apart =
 pub returns : goal.returns
 returns c =
     let part = c.args.self.now in
-    let rows = Holds c.happens_before-before.result in (
+    let rows = Holds c.order.result.now.rows in (
       (λ h. absurd (false≢true h)),
       (λ pair.
           let left = pair.is_pair in
           let inside : left.place < length (byte_reads (part_events part)) = slice_get_within (byte_reads (part_events part)) left.place (pair.first, left.byte) left.is_read in
-          let apart : AreApart (part_events part) rows pair.first pair.second = AreApart-same (part_events part) (HappensBefore (part_events part) part.sources) rows (λ e d. (c.happens_before-before.ensures.pairs e d).0) pair.first pair.second pair.apart in
+          let apart : AreApart (part_events part) rows pair.first pair.second = AreApart-same (part_events part) (HappensBefore (part_events part) part.sources) rows (λ e d. (c.order.ensures.pairs e d).0) pair.first pair.second pair.apart in
           absurd (c.loop-place.invariant left.place pair.first left.byte pair.second left.left (omega (arith, inside, c.reads-place-end.ensures, c.loop-place-test.false)) left.is_read left.candidate apart)),
     )

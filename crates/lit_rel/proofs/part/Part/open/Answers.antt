@@ -19,6 +19,6 @@ invariant_of-result c =
       refusals = AreRefusals-open c.«open».result c.new.result.items refused.result (ap (λ (part : PartModel). part.sources) is) c.new.ensures c.«open».ensures.sound
           (subst (λ (p : PartModel). IsTrue refused.result ↔ HasFalseTestOn p.test p.combination None 0) (sym is) refused.ensures.value)
           (subst (λ (p : PartModel). (IsTrue refused.result → ⊥) → (agent : ℕ) → agent < length p.test.agents → IsWalkIn p.test p.combination agent (walk_in p.test p.combination agent)) (sym is) refused.ensures.walks);
-      peers = subst (λ (es : List Event). ArePeers es c.peers_of-peers.result) (c.events.ensures.value ∙ ap part_events (sym is)) c.peers_of-peers.ensures;
+      peers = subst (λ (es : List Event). ArePeers es c.put_peers.new.peers) (c.events.ensures.value ∙ ap part_events (sym is)) c.put_peers.ensures;
       none = c.is_empty-peerless.ensures.0;
     }

@@ -18,6 +18,6 @@ invariant_of-self c =
       refusals = AreRefusals-open c.reopen.new.self c.clear.new.self.items refused.result (ap (λ (part : PartModel). part.sources) c.reopen.ensures.value) c.clear.ensures c.reopen.ensures.sound
           (subst (λ (p : Litmus × ℕ). IsTrue refused.result ↔ HasFalseTestOn p.0 p.1 None 0) c.combination-combination.ensures refused.ensures.value)
           (subst (λ (p : Litmus × ℕ). (IsTrue refused.result → ⊥) → (agent : ℕ) → agent < length p.0.agents → IsWalkIn p.0 p.1 agent (walk_in p.0 p.1 agent)) c.combination-combination.ensures refused.ensures.walks);
-      peers = subst (λ (es : List Event). ArePeers es c.peers_of-self-inside.result) (c.events.ensures.value ∙ ap (λ (p : Litmus × ℕ). events_in p.0 p.1) c.combination-combination.ensures) c.peers_of-self-inside.ensures;
+      peers = subst (λ (es : List Event). ArePeers es c.put_peers.new.peers) (c.events.ensures.value ∙ ap (λ (p : Litmus × ℕ). events_in p.0 p.1) c.combination-combination.ensures) c.put_peers.ensures;
       none = c.is_empty-self-inside.ensures.0;
     }

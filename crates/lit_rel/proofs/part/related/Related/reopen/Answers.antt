@@ -1,23 +1,14 @@
-use Rattle.std.proofs.Common.{◌↔◌, ◌∙◌, ℕ, [], ap, subst, sym, List}
-use Rattle.std.specs.Bool.{IsTrue}
+use Rattle.std.proofs.Common.{[], ap, subst, List}
 use Rattle.lit_paths.specs.declared.event.Event.{Event}
 use Rattle.lit_paths.specs.Plan.{AreEventsIn}
-use Rattle.lit_rel.specs.declared.rows.two_way_rows.TwoWayRows.{TwoWayRows}
-use Rattle.lit_rel.specs.HappensBefore.{HappensBefore}
 use Rattle.lit_rel.specs.Internal.Given.{sources_of}
 use Rattle.lit_rel.specs.Internal.Levels.{IsOrder, rows_of}
-use Rattle.lit_rel.specs.Rows.{Holds, rows_len}
 use Rattle.lit_rel.proofs.PartLemmas.{IsKept-open}
 use Rattle.lit_rel.proofs.part.related.Related.reopen.Goals as goal
 
 pub invariant_of-self : goal.invariant_of-self
 invariant_of-self c =
-    let start = c.unsourced_order-start in
-    let same = c.begin.ensures.now in
     IsKept-open _ c.clear.new.self.items (rows_of c.begin.new.self.earlier.items) c.begin.new.self.now.rows c.clear-2.new.self.items c.has_cycle.result (ap sources_of c.clear.ensures) c.clear.ensures (ap rows_of c.begin.ensures.earlier) c.clear-2.ensures
     (subst (AreEventsIn _) c.events.ensures.value c.events.ensures.sound)
-    (subst (λ (events : List Event). IsOrder events [] c.begin.new.self.now.rows) c.events.ensures.value record {
-      len = ap (λ (o : TwoWayRows). rows_len o.rows) same ∙ start.ensures.len;
-      pairs = λ e d. subst (λ (o : TwoWayRows). Holds o.rows e d ↔ HappensBefore c.events.result.now [] e d) (sym same) (start.ensures.pairs e d);
-    })
-    (subst (λ (o : TwoWayRows). IsTrue c.has_cycle.result ↔ ((e : ℕ) × Holds o.rows e e)) (sym same) c.has_cycle.ensures)
+    (subst (λ (events : List Event). IsOrder events [] c.begin.new.self.now.rows) c.events.ensures.value c.begin.ensures.now)
+    c.has_cycle.ensures

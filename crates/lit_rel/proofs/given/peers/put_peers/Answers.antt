@@ -3,11 +3,11 @@ use Rattle.std.proofs.lemmas.Bool.{cases_lt, false≢true}
 use Rattle.lit_rel.specs.declared.rows.Rows.{Rows}
 use Rattle.lit_rel.specs.Internal.Peers.{IsPeer, IsSeqCstWrite}
 use Rattle.lit_rel.specs.Rows.{Holds, rows_len}
-use Rattle.lit_rel.proofs.given.peers.peers_of.Goals as goal
-use Rattle.lit_rel.proofs.given.peers.peers_of.Goals.{then-is_seq_cst_write, else-is_seq_cst_write}
+use Rattle.lit_rel.proofs.given.peers.put_peers.Goals as goal
+use Rattle.lit_rel.proofs.given.peers.put_peers.Goals.{then-is_seq_cst_write, else-is_seq_cst_write}
 
 pub loop-write-init : goal.loop-write-init
-loop-write-init c = record { len = c.new-peers.ensures.len; pairs = λ e v. ((λ h. absurd (c.new-peers.ensures.empty e v h)), (λ h. absurd (omega (arith, h.0)))) }
+loop-write-init c = record { len = c.begin.ensures.len; pairs = λ e v. ((λ h. absurd (c.begin.ensures.empty e v h)), (λ h. absurd (omega (arith, h.0)))) }
 
 pub put_peer-requires-clause-len : goal.put_peer-requires-clause-len
 put_peer-requires-clause-len c = c.loop-write.invariant.len

@@ -1,7 +1,7 @@
 use Rattle.std.proofs.Common.{◌≡◌, ◌↔◌, ℕ, ◌<◌, length}
 use Rattle.lit_rel.specs.Internal.Peers.{IsPeer}
 use Rattle.lit_rel.specs.Rows.{Holds, rows_len}
-use Rattle.lit_rel.proofs.given.peers.peers_of.Given as goal
+use Rattle.lit_rel.proofs.given.peers.put_peers.Given as goal
 
 abbrev pub invariant-loop-write : goal.invariant-loop-write
 invariant-loop-write l = record {
