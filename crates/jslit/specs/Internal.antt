@@ -4,6 +4,7 @@ pub mod Reading
 pub mod FirstEntry
 pub mod Answering
 pub mod ReadLine
+pub mod Judging
 pub mod Keeping
 pub mod Sourcing
 pub mod Lining
