@@ -12,6 +12,7 @@ ghost use Rattle.jslit.specs.Counted.{device_of, failures_of, one_more};
 ghost use Rattle.jslit.specs.Devices.{AppendsBeginning};
 ghost use Rattle.jslit.specs.ReportText.{line, verdict_text, event_name, names_text, source_line, register_text, registers_text, entry_text, class_text, report_text, quick_text, yes_or_no};
 ghost use Rattle.jslit.specs.Internal.FirstEntry.{IsOnlyEntry, entry_of_option};
+ghost use Rattle.jslit.specs.Internal.Sharing.{register_head};
 ghost use Rattle.jslit.specs.Internal.ReadLine.{read_line, rest_after, lines_from};
 ghost use Rattle.jslit.specs.Internal.Writing.{HasPut, writing_of};
 
@@ -156,6 +157,25 @@ fn put_register_name<W: Write>(page: &mut Page, output: &mut Counted<W>, agent: 
     page.put_number(output, register as u64);
 }
 
+/// Puts a register of an outcome up to its value, named by agent and register.
+pub(crate) fn put_register_head<W: Write>(
+    page: &mut Page,
+    output: &mut Counted<W>,
+    test: &Test,
+    name: (u8, u8),
+)
+    requires { name.0 < length test.now.agents }
+    ensures { HasPut (writing_of W.contents output.old page.old) (writing_of W.contents output.new page.new) (register_head test.now name) }
+{
+    put_register_name(
+        page,
+        output,
+        test.agent_name(name.0 as usize).as_bytes(),
+        name.1,
+    );
+    page.put_byte(output, b'=');
+}
+
 /// Puts a register of an outcome, named by agent and register, with its value.
 fn put_register<W: Write>(
     page: &mut Page,
@@ -167,13 +187,7 @@ fn put_register<W: Write>(
     requires { name.0 < length test.now.agents }
     ensures { HasPut (writing_of W.contents output.old page.old) (writing_of W.contents output.new page.new) (register_text test.now (name, value)) }
 {
-    put_register_name(
-        page,
-        output,
-        test.agent_name(name.0 as usize).as_bytes(),
-        name.1,
-    );
-    page.put_byte(output, b'=');
+    put_register_head(page, output, test, name);
     page.put_number(output, value as u64);
 }
 

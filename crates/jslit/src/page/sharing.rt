@@ -6,21 +6,21 @@ ghost use Rattle.lit_paths.specs.Outcome.{names_of};
 ghost use Rattle.lit_paths.specs.Plan.{choices_before};
 ghost use Rattle.lit_search.specs.Report.{Gives, HasLeastOrder};
 ghost use Rattle.jslit.specs.ReportText.{line, registers_text, entry_text};
-ghost use Rattle.jslit.specs.Internal.Sharing.{HoldsOutcome, HoldsOrder, IsShared, outcome_text, order_line};
+ghost use Rattle.jslit.specs.Internal.Sharing.{HoldsOutcome, HoldsOrder, IsShared, first_head, first_value, outcome_head, outcome_text, order_line};
 ghost use Rattle.jslit.specs.Internal.Writing.{HasPut, writing_of};
 
 use crate::counted::Counted;
 use crate::page::Page;
 use crate::page::keeping::Kept;
 use crate::page::lining::{KeptLines, put_lines};
-use crate::page::reporting::{put_events, put_registers};
+use crate::page::reporting::{put_events, put_register_head, put_registers};
 use lit_paths::laws::{choices_are_on_combinations, combinations_are_listed};
 use lit_paths::{Combination, Event, Plan};
 use lit_read::Test;
 use lit_search::Example;
 use std::io::Write;
 
-/// The line of an outcome up to its last register, with the values that stand there.
+/// The line of an outcome up to its last value, with the values that stand there.
 #[derive(Drop)]
 pub(crate) struct KeptOutcome<'f> {
     values: &'f [u32],
@@ -64,7 +64,17 @@ impl<'f> Shared<'f> {
     }
 }
 
-/// Puts the line of an outcome up to the last of these values.
+/// Puts the first of these registers up to its value, if there is one.
+fn put_first<W: Write>(page: &mut Page, output: &mut Counted<W>, test: &Test, names: &[(u8, u8)])
+    requires known { All (λ name. name.0 < length test.now.agents) names.now }
+    ensures { HasPut (writing_of W.contents output.old page.old) (writing_of W.contents output.new page.new) (first_head test.now names.now) }
+{
+    if let [name, ..] = names {
+        put_register_head(page, output, test, *name);
+    }
+}
+
+/// Puts the line of an outcome up to the first value that is not among these.
 fn put_values<W: Write>(
     page: &mut Page,
     output: &mut Counted<W>,
@@ -74,13 +84,14 @@ fn put_values<W: Write>(
 )
     requires known { All (λ name. name.0 < length test.now.agents) names.now }
     requires named { length values.now ≤ length names.now }
-    ensures { HasPut (writing_of W.contents output.old page.old) (writing_of W.contents output.new page.new) (outcome_text test.now names.now values.now) }
+    ensures { HasPut (writing_of W.contents output.old page.old) (writing_of W.contents output.new page.new) (outcome_head test.now names.now values.now) }
 {
     page.put(output, b"outcome");
     put_registers(page, output, test, names, values);
+    put_first(page, output, test, &names[values.len()..]);
 }
 
-/// Keeps the line of an outcome up to the last of these values, unless it is too long. It is made anew unless it is kept.
+/// Keeps the line of an outcome up to the first value that is not among these, unless it is too long. It is made anew unless it is kept.
 fn keep_values<'f>(kept: &mut KeptOutcome<'f>, test: &Test, names: &[(u8, u8)], values: &'f [u32])
     requires known { All (λ name. name.0 < length test.now.agents) names.now }
     requires named { length values.now ≤ length names.now }
@@ -102,7 +113,7 @@ fn keep_values<'f>(kept: &mut KeptOutcome<'f>, test: &Test, names: &[(u8, u8)], 
     );
 }
 
-/// Puts the line of an outcome up to the last of these values, as it is kept.
+/// Puts the line of an outcome up to the first value that is not among these, as it is kept.
 fn put_kept_values<'f, W: Write>(
     page: &mut Page,
     output: &mut Counted<W>,
@@ -115,7 +126,7 @@ fn put_kept_values<'f, W: Write>(
     requires named { length values.now ≤ length names.now }
     requires kept { HoldsOutcome test.now names.now kept.old }
     ensures kept { HoldsOutcome test.now names.now kept.new }
-    ensures text { HasPut (writing_of W.contents output.old page.old) (writing_of W.contents output.new page.new) (outcome_text test.now names.now values.now) }
+    ensures text { HasPut (writing_of W.contents output.old page.old) (writing_of W.contents output.new page.new) (outcome_head test.now names.now values.now) }
 {
     keep_values(kept, test, names, values);
     if kept.text.is_kept() {
@@ -123,6 +134,15 @@ fn put_kept_values<'f, W: Write>(
         return;
     }
     put_values(page, output, test, names, values);
+}
+
+/// Puts a value, if there is one.
+fn put_last<W: Write>(page: &mut Page, output: &mut Counted<W>, values: &[u32])
+    ensures { HasPut (writing_of W.contents output.old page.old) (writing_of W.contents output.new page.new) (first_value values.now) }
+{
+    if let [value, ..] = values {
+        page.put_number(output, *value as u64);
+    }
 }
 
 /// Puts the line of an outcome, of which all but the last value is mostly that of the outcome before.
@@ -143,7 +163,7 @@ fn put_outcome<'f, W: Write>(
     let count = outcome.len().saturating_sub(1);
     let (values, last) = outcome.split_at(count);
     put_kept_values(page, output, test, names, values, kept);
-    put_registers(page, output, test, &names[count..], last);
+    put_last(page, output, last);
     page.put_byte(output, b'\n');
 }
 
