@@ -1,20 +1,20 @@
 -- The texts of single lines, as they are put together.
-use Rattle.std.proofs.Common.{◌≡◌, ℕ, Bool, ◌+◌, ◌<◌, ◌≤◌, Option, Some, None, List, [], ◌∷◌, ◌++◌, length, take, drop, get_or, codes, refl, sym, ap, ◌∙◌, append_assoc}
+use Rattle.std.proofs.Common.{◌≡◌, ℕ, Bool, ◌+◌, ◌<◌, ◌≤◌, Option, Some, None, List, [], ◌∷◌, ◌++◌, length, take, drop, get_or, codes, refl, sym, ap, ◌∙◌, append_assoc, length-take, arith}
 use Rattle.std.specs.List.{flat_map}
-use Rattle.std.proofs.lemmas.List.{drop_more, drop_all, get_or_default}
+use Rattle.std.proofs.lemmas.List.{drop_more, drop_all}
 use Rattle.std.specs.Fmt.{decimal}
 use Rattle.std.proofs.lemmas.Fmt.{decimal_digit}
 use Rattle.lit_read.specs.Syntax.{Litmus, agent_of}
 use Rattle.lit_paths.specs.declared.event.Event.{Event}
-use Rattle.lit_paths.specs.Event.{no_event}
+use Rattle.lit_paths.specs.Event.{event_at}
 use Rattle.lit_paths.specs.Outcome.{meets, names_of}
 use Rattle.lit_search.specs.Report.{Entry, Report, entry_at}
 use Rattle.jslit.specs.ChoiceEvents.{choice_at, choice_events}
 use Rattle.jslit.specs.ReportText.{class_text, entry_text, event_name, from_lines, interleaving_text, line, names_text, owned_name, quick_text, register_text, registers_text, report_text, verdict_text, yes_or_no}
 use Rattle.jslit.specs.declared.verdict.Verdict.{Verdict}
 use Rattle.jslit.specs.Internal.FirstEntry.{entry_of_option}
-use Rattle.jslit.specs.Internal.Sharing.{outcome_text, order_line}
-use Rattle.jslit.proofs.Registers.{registers_split}
+use Rattle.jslit.specs.Internal.Sharing.{first_head, first_value, outcome_head, outcome_text, order_line, register_head}
+use Rattle.jslit.proofs.Registers.{register_last, registers_split}
 
 -- a blank, an agent's name, what stands behind it, and a number
 pub name_is : (agent behind number : List ℕ) → ((codes " " ++ agent) ++ behind) ++ number ≡ codes " " ++ agent ++ behind ++ number
@@ -40,21 +40,19 @@ init_name t e none = by e.owner none
     by None h = refl
     by (Some agent) h = absurd (h agent refl)
 
--- a register with its value
-pub register_is : (t : Litmus) (agent register value : ℕ) (name bytes : List ℕ) → name ≡ (agent_of t agent).name → bytes ≡ name
-    → ((codes " " ++ bytes ++ codes ".r" ++ decimal register) ++ codes "=") ++ decimal value ≡ register_text t ((agent, register), value)
-register_is t agent register value name bytes is same =
-    ap (λ (w : List ℕ). ((codes " " ++ w ++ codes ".r" ++ decimal register) ++ codes "=") ++ decimal value) (same ∙ is) ∙ joined (agent_of t agent).name (decimal register) (decimal value)
+-- a register up to its value
+pub register_head_is : (t : Litmus) (agent register : ℕ) (name bytes : List ℕ) → name ≡ (agent_of t agent).name → bytes ≡ name
+    → (codes " " ++ bytes ++ codes ".r" ++ decimal register) ++ codes "=" ≡ register_head t (agent, register)
+register_head_is t agent register name bytes is same =
+    ap (λ (w : List ℕ). (codes " " ++ w ++ codes ".r" ++ decimal register) ++ codes "=") (same ∙ is) ∙ joined (agent_of t agent).name (decimal register)
   where
-    joined : (n r v : List ℕ) → ((codes " " ++ n ++ codes ".r" ++ r) ++ codes "=") ++ v ≡ codes " " ++ n ++ codes ".r" ++ r ++ codes "=" ++ v
-    joined n r v = simp append_assoc
+    joined : (n r : List ℕ) → (codes " " ++ n ++ codes ".r" ++ r) ++ codes "=" ≡ codes " " ++ n ++ codes ".r" ++ r ++ codes "="
+    joined n r = simp append_assoc
 
 -- the names of events, one after the other
-pub names_more : (t : Litmus) (events : List Event) (numbers : List ℕ) (i d : ℕ) (none : Event) → i < length numbers → get_or numbers i d < length events
-    → names_text t events (drop i numbers) ≡ (codes " " ++ event_name t (get_or events (get_or numbers i d) none)) ++ names_text t events (drop (i + 1) numbers)
-names_more t events numbers i d none lt known =
-    ap (names_text t events) (drop_more numbers i d lt)
-    ∙ ap (λ (e : Event). (codes " " ++ event_name t e) ++ names_text t events (drop (i + 1) numbers)) (get_or_default events (get_or numbers i d) no_event none known)
+pub names_more : (t : Litmus) (events : List Event) (numbers : List ℕ) (i d : ℕ) → i < length numbers
+    → names_text t events (drop i numbers) ≡ (codes " " ++ event_name t (event_at events (get_or numbers i d))) ++ names_text t events (drop (i + 1) numbers)
+names_more t events numbers i d lt = ap (names_text t events) (drop_more numbers i d lt)
 
 pub names_end : (t : Litmus) (events : List Event) (numbers : List ℕ) (i : ℕ) → length numbers ≤ i → names_text t events (drop i numbers) ≡ []
 names_end t events numbers i le = ap (names_text t events) (drop_all i numbers le)
@@ -68,10 +66,16 @@ entries_more t report i entry lt is =
 pub entries_end : (t : Litmus) (report : Report) (i : ℕ) → length report.entries ≤ i → flat_map (entry_text t) (drop i report.entries) ≡ []
 entries_end t report i le = ap (flat_map (entry_text t)) (drop_all i report.entries le)
 
--- an outcome from its first values and the others
-pub outcome_is : (t : Litmus) (names : List (ℕ × ℕ)) (values : List ℕ) (n : ℕ) → (outcome_text t names (take n values) ++ registers_text t (drop n names) (drop n values)) ++ codes "\n" ≡ line (outcome_text t names values)
-outcome_is t names values n =
-    ap (λ (w : List ℕ). w ++ codes "\n") (append_assoc (codes "outcome") (registers_text t names (take n values)) (registers_text t (drop n names) (drop n values)) ∙ ap (λ (w : List ℕ). codes "outcome" ++ w) (registers_split t names values n))
+-- an outcome from its first values, the next register and its value
+pub outcome_is : (t : Litmus) (names : List (ℕ × ℕ)) (values : List ℕ) (n : ℕ) → length values ≡ length names → n ≤ length values → length values ≤ n + 1
+    → (outcome_head t names (take n values) ++ first_value (drop n values)) ++ codes "\n" ≡ line (outcome_text t names values)
+outcome_is t names values n one_each le last =
+    let front = registers_text t names (take n values) in
+    let long : length (take n values) ≡ n = omega (arith, length-take n values, le) in
+    ap (λ (k : ℕ). ((outcome_text t names (take n values) ++ first_head t (drop k names)) ++ first_value (drop n values)) ++ codes "\n") long
+    ∙ ap (λ (w : List ℕ). w ++ codes "\n") (append_assoc (outcome_text t names (take n values)) (first_head t (drop n names)) (first_value (drop n values)))
+    ∙ ap (λ (w : List ℕ). (outcome_text t names (take n values) ++ w) ++ codes "\n") (register_last t names values n one_each le last)
+    ∙ ap (λ (w : List ℕ). w ++ codes "\n") (append_assoc (codes "outcome") front (registers_text t (drop n names) (drop n values)) ∙ ap (λ (w : List ℕ). codes "outcome" ++ w) (registers_split t names values n))
 
 -- an entry from its parts
 pub entry_is : (t test : Litmus) (names : List (ℕ × ℕ)) (events : List Event) (sources order : List ℕ) (entry : Entry)

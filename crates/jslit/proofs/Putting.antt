@@ -1,5 +1,5 @@
 -- Texts put one behind another.
-use Rattle.std.proofs.Common.{◌≡◌, ℕ, Bool, true, false, List, [], ◌++◌, Option, Ok, Err, OnOk, OnErr, is_ok, is_err, refl, sym, ap, subst, ◌∙◌, append_assoc}
+use Rattle.std.proofs.Common.{◌≡◌, ℕ, Bool, true, false, List, [], ◌++◌, Option, Ok, Err, OnOk, OnErr, refl, sym, ap, subst, ◌∙◌, append_assoc}
 use Rattle.std.specs.declared.result.Result.{Result}
 use Rattle.std.proofs.lemmas.List.{append-nil}
 use Rattle.std.specs.Io.KnownBytes.{Appends}
@@ -69,14 +69,6 @@ HasPut-then a b c s t p q = by_middle b.failed refl
 pub HasPut-nothing : (a : Writing) → HasPut a a []
 HasPut-nothing a = record {
   going = λ before after. record { same = refl; front = []; parts = sym (append-nil a.waiting); appended = Appends-nil a.known };
-  failing = λ before after. absurd cc;
-  failed = λ before. record { failed = before; same = refl; known = refl };
-}
-
--- a text that waits behind what waited
-pub HasPut-waiting : (a : Writing) (waiting text : List ℕ) → waiting ≡ a.waiting ++ text → HasPut a (record { known = a.known; failures = a.failures; waiting = waiting; failed = a.failed }) text
-HasPut-waiting a waiting text is = record {
-  going = λ before after. record { same = refl; front = []; parts = is; appended = Appends-nil a.known };
   failing = λ before after. absurd cc;
   failed = λ before. record { failed = before; same = refl; known = refl };
 }
@@ -152,12 +144,3 @@ pub stopped : {X E : Type 0} (r : Result X E) (a b : Writing) (known : Option (L
     → OnErr r (IsStopped b known failures) → OnErr r (AppendsBeginning a.known known text)
 stopped (Ok x) a b known failures text p empty going s = tt
 stopped (Err e) a b known failures text p empty going s = stopped_after a b known failures text p empty going s
-
--- what is said of an error, where there is one
-pub at_error : {X E : Type 0} (r : Result X E) (A : Type 0) → is_err r ≡ true → OnErr r A → A
-at_error (Ok x) A is holds = absurd cc
-at_error (Err e) A is holds = holds
-
-pub not_ok : {X E : Type 0} (r : Result X E) → is_ok r ≡ false → is_err r ≡ true
-not_ok (Ok x) is = absurd cc
-not_ok (Err e) is = refl

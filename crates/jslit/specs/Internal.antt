@@ -4,7 +4,10 @@ pub mod Reading
 pub mod FirstEntry
 pub mod Answering
 pub mod ReadLine
+pub mod Judging
 pub mod Keeping
+pub mod ShortText
+pub mod Names
 pub mod Sourcing
 pub mod Lining
 pub mod Sharing

@@ -3,12 +3,14 @@
 pub(crate) mod digits;
 pub(crate) mod keeping;
 pub(crate) mod lining;
+pub(crate) mod names;
 pub(crate) mod refusing;
 pub(crate) mod reporting;
 pub(crate) mod sharing;
 pub(crate) mod sourcing;
+pub(crate) mod text;
 
-ghost use Rattle.std.specs.Prelude.{◌≡◌, [], ◌∷◌, false, IfErr, OnOk, OnErr};
+ghost use Rattle.std.specs.Prelude.{◌≡◌, ◌≤◌, [], ◌∷◌, false, IfErr, OnOk, OnErr, length, take};
 ghost use Rattle.std.specs.Fmt.{decimal};
 ghost use Rattle.std.specs.Io.KnownBytes.{Appends};
 ghost use Rattle.jslit.specs.Counted.{device_of, failures_of, one_more};
@@ -18,7 +20,7 @@ ghost use Rattle.jslit.specs.Internal.Writing.{HasPut, IsFinished, IsStopped, wr
 use crate::counted::Counted;
 use crate::fault::RunFault;
 use crate::page::digits::{DIGIT_LIMIT, write_digits};
-use arrayvec::ArrayVec;
+use crate::page::text::{ShortText, Text};
 use std::io::Write;
 
 /// How many bytes wait at the most before they are written.
@@ -28,44 +30,63 @@ const ROOM: usize = 8_192;
 /// All room is taken beforehand: what is put takes no memory.
 #[derive(Drop)]
 pub(crate) struct Page {
-    waiting: ArrayVec<u8, ROOM>,
+    waiting: Text<ROOM>,
     failed: bool,
 }
 
 impl Page {
     /// A page on which nothing waits.
     pub(crate) fn new() -> Self
-        ensures empty { result.waiting.items ≡ [] }
+        ensures empty { result.waiting ≡ [] }
         ensures going { result.failed ≡ false }
     {
         Page {
-            waiting: ArrayVec::new(),
+            waiting: Text::new(),
             failed: false,
         }
     }
 
     /// Puts bytes behind what waits. Where there is no room for them, what waits is written first.
+    #[inline]
     pub(crate) fn put<W: Write>(&mut self, output: &mut Counted<W>, bytes: &[u8])
         ensures { HasPut (writing_of W.contents output.old self.old) (writing_of W.contents output.new self.new) bytes.now }
     {
-        if self.waiting.try_extend_from_slice(bytes).is_ok() {
+        if self.waiting.try_put(bytes) {
             return;
         }
-        self.flush(output);
-        if self.waiting.try_extend_from_slice(bytes).is_err() {
-            self.failed = write_on(self.failed, output, bytes);
-        }
+        self.put_anew(output, bytes);
     }
 
-    /// Puts one byte behind what waits. Where there is no room for it, what waits is written first.
+    /// Puts a short text behind what waits. Where there is no room for it, what waits is written first.
+    #[inline]
+    pub(crate) fn put_short<W: Write>(&mut self, output: &mut Counted<W>, text: &ShortText)
+        requires { text.now.length ≤ length text.now.bytes }
+        ensures { HasPut (writing_of W.contents output.old self.old) (writing_of W.contents output.new self.new) (take text.now.length text.now.bytes) }
+    {
+        if self.waiting.try_put_short(text) {
+            return;
+        }
+        self.put_anew(output, text.as_slice());
+    }
+
+    /// Puts one byte behind what waits.
+    #[inline]
     pub(crate) fn put_byte<W: Write>(&mut self, output: &mut Counted<W>, byte: u8)
         ensures { HasPut (writing_of W.contents output.old self.old) (writing_of W.contents output.new self.new) (byte ∷ []) }
     {
-        if self.waiting.try_push(byte).is_ok() {
+        self.put(output, &[byte]);
+    }
+
+    /// Writes what waits, and puts bytes behind it.
+    #[inline(never)]
+    fn put_anew<W: Write>(&mut self, output: &mut Counted<W>, bytes: &[u8])
+        ensures { HasPut (writing_of W.contents output.old self.old) (writing_of W.contents output.new self.new) bytes.now }
+    {
+        self.flush(output);
+        if self.waiting.try_put(bytes) {
             return;
         }
-        self.flush(output);
-        self.waiting.push(byte);
+        self.failed = write_on(self.failed, output, bytes);
     }
 
     /// Puts a number, in decimal digits.
@@ -84,7 +105,7 @@ impl Page {
     /// Writes what waits.
     fn flush<W: Write>(&mut self, output: &mut Counted<W>)
         ensures put { HasPut (writing_of W.contents output.old self.old) (writing_of W.contents output.new self.new) [] }
-        ensures empty { self.new.waiting.items ≡ [] }
+        ensures empty { self.new.waiting ≡ [] }
     {
         self.failed = write_on(self.failed, output, self.waiting.as_slice());
         self.waiting.clear();

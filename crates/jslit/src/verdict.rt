@@ -1,9 +1,10 @@
 //! Whether a test's condition holds of its outcomes.
 
-ghost use Rattle.std.specs.Prelude.{◌≡◌, ℕ, ◌<◌, length};
+ghost use Rattle.std.specs.Prelude.{◌≡◌, ℕ, ◌<◌, true, false, not, length};
 ghost use Rattle.lit_paths.specs.Outcome.{names_of};
 ghost use Rattle.lit_search.specs.Report.{entry_at};
 ghost use Rattle.jslit.specs.Verdict.{IsVerdict, verdict_of};
+ghost use Rattle.jslit.specs.Internal.Judging.{AllAnswer, SomeAnswers};
 
 use lit_paths::Plan;
 use lit_search::Found;
@@ -34,20 +35,27 @@ impl Verdict {
     }
 }
 
+/// Whether some outcome meets the condition, or, where `wanted` is false, whether some does not.
+fn has_answer(plan: &Plan<'_>, found: &Found, wanted: bool) -> bool
+    requires { (i : ℕ) → i < length found.now.entries → length (entry_at found.now i).outcome ≡ length (names_of plan.now) }
+    ensures some { result ≡ true → SomeAnswers plan.now found.now (length found.now.entries) wanted }
+    ensures none { result ≡ false → AllAnswer plan.now found.now (length found.now.entries) (not wanted) }
+{
+    for place in 0..found.len() {
+        if plan.meets(found.outcome(place)) == wanted {
+            return true;
+        }
+    }
+    false
+}
+
 /// The verdict on a test, from all its outcomes.
 pub fn verdict_on(plan: &Plan<'_>, found: &Found) -> Verdict
     requires { (i : ℕ) → i < length found.now.entries → length (entry_at found.now i).outcome ≡ length (names_of plan.now) }
     ensures { IsVerdict plan.now found.now result }
 {
-    let mut met = false;
-    let mut unmet = false;
-    for place in 0..found.len() {
-        if plan.meets(found.outcome(place)) {
-            met = true;
-        } else {
-            unmet = true;
-        }
-    }
+    let met = has_answer(plan, found, true);
+    let unmet = has_answer(plan, found, false);
     verdict_from(met, unmet)
 }
 

@@ -1,6 +1,7 @@
 -- What an entry shares with the one before.
-use Rattle.std.specs.Prelude.{ℕ, List, ◌++◌, codes}
-use Rattle.lit_read.specs.Syntax.{Litmus}
+use Rattle.std.specs.Prelude.{ℕ, List, [], ◌∷◌, ◌++◌, codes, drop, length}
+use Rattle.std.specs.Fmt.{decimal}
+use Rattle.lit_read.specs.Syntax.{Litmus, agent_of}
 use Rattle.lit_paths.specs.declared.event.Event.{Event}
 use Rattle.lit_paths.specs.Outcome.{names_of}
 use Rattle.lit_paths.specs.Plan.{events_in}
@@ -10,23 +11,43 @@ use Rattle.jslit.specs.declared.page.sharing.KeptOrder.{KeptOrder}
 use Rattle.jslit.specs.ReportText.{line, names_text, registers_text}
 use Rattle.jslit.specs.Internal.Keeping.{Holds}
 use Rattle.jslit.specs.Internal.Lining.{HoldsLines}
+use Rattle.jslit.specs.Internal.Names.{AreNames}
+
+-- a register of an outcome up to its value
+abbrev pub register_head : Litmus → ℕ × ℕ → List ℕ
+register_head t name = codes " " ++ (agent_of t name.0).name ++ codes ".r" ++ decimal name.1 ++ codes "="
+
+-- the first of these registers up to its value, if there is one
+abbrev pub first_head : Litmus → List (ℕ × ℕ) → List ℕ
+first_head t [] = []
+first_head t (name ∷ names) = register_head t name
+
+-- the first of these values, if there is one
+abbrev pub first_value : List ℕ → List ℕ
+first_value [] = []
+first_value (value ∷ values) = decimal value
 
 -- the line of an outcome without its end, by the values of the first registers
 abbrev pub outcome_text : Litmus → List (ℕ × ℕ) → List ℕ → List ℕ
 outcome_text t names values = codes "outcome" ++ registers_text t names values
+
+-- the same, up to the value of the next register
+abbrev pub outcome_head : Litmus → List (ℕ × ℕ) → List ℕ → List ℕ
+outcome_head t names values = outcome_text t names values ++ first_head t (drop (length values) names)
 
 abbrev pub order_line : Litmus → List Event → List ℕ → List ℕ
 order_line t events order = line (codes "  order" ++ names_text t events order)
 
 -- each text is kept of what is kept beside it
 abbrev pub HoldsOutcome : Litmus → List (ℕ × ℕ) → KeptOutcome → Type 0
-HoldsOutcome t names kept = Holds kept.text (outcome_text t names kept.values.now)
+HoldsOutcome t names kept = Holds kept.text (outcome_head t names kept.values.now)
 
 abbrev pub HoldsOrder : Litmus → List Event → KeptOrder → Type 0
 HoldsOrder t events kept = Holds kept.text (order_line t events kept.order.now)
 
 -- all that is kept is of this test, and of a combination of its paths
 pub record IsShared (t : Litmus) (c : ℕ) (shared : Shared) : Type 0 where
+  pub names : AreNames t shared.names.names
   pub outcome : HoldsOutcome t (names_of t) shared.outcome
   pub lines : HoldsLines t c shared.lines
   pub order : HoldsOrder t (events_in t c) shared.order

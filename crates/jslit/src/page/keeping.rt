@@ -2,7 +2,7 @@
 
 use crate::counted::Counted;
 use crate::page::Page;
-use arrayvec::ArrayVec;
+use crate::page::text::Text;
 use std::io;
 use std::io::Write;
 
@@ -40,7 +40,7 @@ impl Kept {
     {
         Kept {
             page: Page {
-                waiting: ArrayVec::new(),
+                waiting: Text::new(),
                 failed: true,
             },
             nowhere: Counted::new(Nowhere {}),
@@ -56,7 +56,7 @@ impl Kept {
 
     /// Makes it the empty text, behind which more is put on the page.
     pub(crate) fn begin(&mut self)
-        ensures empty { self.new.page.waiting.items ≡ [] }
+        ensures empty { self.new.page.waiting ≡ [] }
         ensures going { self.new.page.failed ≡ false }
     {
         self.page.waiting.clear();
@@ -72,7 +72,7 @@ impl Kept {
 
     /// The text that is kept.
     pub(crate) fn text(&self) -> &[u8]
-        ensures { result.now ≡ self.now.page.waiting.items }
+        ensures { result.now ≡ self.now.page.waiting }
     {
         self.page.waiting.as_slice()
     }

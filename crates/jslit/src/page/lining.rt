@@ -6,6 +6,7 @@ ghost use Rattle.lit_paths.specs.Plan.{HasSources, IsOfCombination, choices_befo
 ghost use Rattle.jslit.specs.ReportText.{from_lines};
 ghost use Rattle.jslit.specs.Internal.Keeping.{Holds};
 ghost use Rattle.jslit.specs.Internal.Lining.{HoldsLines, IsBegun};
+ghost use Rattle.jslit.specs.Internal.Names.{AreNames};
 ghost use Rattle.jslit.specs.Internal.ReadLine.{lines_from};
 ghost use Rattle.jslit.specs.Internal.Sourcing.{IsIn};
 ghost use Rattle.jslit.specs.Internal.Writing.{HasPut, writing_of};
@@ -13,6 +14,7 @@ ghost use Rattle.jslit.specs.Internal.Writing.{HasPut, writing_of};
 use crate::counted::Counted;
 use crate::page::Page;
 use crate::page::keeping::Kept;
+use crate::page::names::Names;
 use crate::page::reporting::put_sources;
 use crate::page::sourcing::{Row, take_sources};
 use lit_paths::laws::choices_have_numbers;
@@ -66,11 +68,19 @@ fn last_read(events: &[Event]) -> (usize, usize)
 }
 
 /// Makes the lines of the reads among the first events, so many, unless they are too long.
-fn make_lines(text: &mut Kept, test: &Test, events: &[Event], part: usize, sources: &[u8])
+fn make_lines(
+    text: &mut Kept,
+    test: &Test,
+    events: &[Event],
+    part: usize,
+    sources: &[u8],
+    names: &Names,
+)
     requires owned { All (λ e. IfSome e.owner (λ agent. agent < length test.now.agents)) events.now }
     requires known { All (λ n. n < length events.now) sources.now }
     requires part { part ≤ length events.now }
     requires one_each { length sources.now ≡ length (byte_reads (take part events.now)) }
+    requires names { AreNames test.now names.now.names }
     ensures { Holds text.new (lines_from test.now events.now (take part events.now) sources.now) }
 {
     text.begin();
@@ -81,17 +91,19 @@ fn make_lines(text: &mut Kept, test: &Test, events: &[Event], part: usize, sourc
         events,
         &events[..part],
         sources,
+        names,
     );
 }
 
 /// Keeps the lines of all reads of a choice but the last, unless they are too long. They are made anew unless those that
 /// are kept are the choice's.
-fn keep_lines(kept: &mut KeptLines, combination: &Combination<'_>, choice: u64)
+fn keep_lines(kept: &mut KeptLines, combination: &Combination<'_>, choice: u64, names: &Names)
     requires owned { All (λ e. IfSome e.owner (λ agent. agent < length combination.now.0.agents)) (events_in combination.now.0 combination.now.1) }
     requires of { IsOfCombination combination.now.0 choice combination.now.1 }
     requires low { choices_before combination.now.0 combination.now.1 ≤ choice }
     requires high { choice < choices_before combination.now.0 (combination.now.1 + 1) }
     requires kept { HoldsLines combination.now.0 combination.now.1 kept.old }
+    requires names { AreNames combination.now.0 names.now.names }
     ensures kept { HoldsLines combination.now.0 combination.now.1 kept.new }
     ensures begun { IsBegun combination.now.0 combination.now.1 kept.new }
     ensures inside { IsIn choice kept.new.row }
@@ -115,6 +127,7 @@ fn keep_lines(kept: &mut KeptLines, combination: &Combination<'_>, choice: u64)
         events,
         part,
         kept.sources.as_slice(),
+        names,
     );
 }
 
@@ -125,11 +138,13 @@ fn put_kept_lines<W: Write>(
     test: &Test,
     events: &[Event],
     kept: &KeptLines,
+    names: &Names,
 )
     requires owned { All (λ e. IfSome e.owner (λ agent. agent < length test.now.agents)) events.now }
     requires known { All (λ n. n < length events.now) kept.now.sources.items }
     requires part { kept.now.part ≤ length events.now }
     requires one_each { length kept.now.sources.items ≡ length (byte_reads (take kept.now.part events.now)) }
+    requires names { AreNames test.now names.now.names }
     requires kept { Holds kept.now.text (lines_from test.now events.now (take kept.now.part events.now) kept.now.sources.items) }
     ensures { HasPut (writing_of W.contents output.old page.old) (writing_of W.contents output.new page.new) (lines_from test.now events.now (take kept.now.part events.now) kept.now.sources.items) }
 {
@@ -144,6 +159,7 @@ fn put_kept_lines<W: Write>(
         events,
         &events[..kept.part],
         kept.sources.as_slice(),
+        names,
     );
 }
 
@@ -155,17 +171,19 @@ pub(crate) fn put_lines<W: Write>(
     combination: &Combination<'_>,
     choice: u64,
     kept: &mut KeptLines,
+    names: &Names,
 )
     requires owned { All (λ e. IfSome e.owner (λ agent. agent < length combination.now.0.agents)) (events_in combination.now.0 combination.now.1) }
     requires of { IsOfCombination combination.now.0 choice combination.now.1 }
     requires low { choices_before combination.now.0 combination.now.1 ≤ choice }
     requires high { choice < choices_before combination.now.0 (combination.now.1 + 1) }
     requires kept { HoldsLines combination.now.0 combination.now.1 kept.old }
+    requires names { AreNames combination.now.0 names.now.names }
     ensures kept { HoldsLines combination.now.0 combination.now.1 kept.new }
     ensures text { (sources : List ℕ) → HasSources combination.now.0 choice sources
         → HasPut (writing_of W.contents output.old page.old) (writing_of W.contents output.new page.new) (from_lines combination.now.0 (events_in combination.now.0 combination.now.1) sources) }
 {
-    keep_lines(kept, combination, choice);
+    keep_lines(kept, combination, choice, names);
     let (test, events) = (combination.test(), combination.events());
     let left = combination.byte_reads().len() - kept.sources.len();
     let mut last = Sources::new();
@@ -177,7 +195,7 @@ pub(crate) fn put_lines<W: Write>(
         kept.row,
         choice,
     );
-    put_kept_lines(page, output, test, events, &*kept);
+    put_kept_lines(page, output, test, events, &*kept, names);
     put_sources(
         page,
         output,
@@ -185,5 +203,6 @@ pub(crate) fn put_lines<W: Write>(
         events,
         &events[kept.part..],
         last.as_slice(),
+        names,
     );
 }

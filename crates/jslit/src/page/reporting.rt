@@ -10,14 +10,17 @@ ghost use Rattle.lit_paths.specs.ByteReads.{byte_reads};
 ghost use Rattle.lit_search.specs.Report.{IsReport, in_range};
 ghost use Rattle.jslit.specs.Counted.{device_of, failures_of, one_more};
 ghost use Rattle.jslit.specs.Devices.{AppendsBeginning};
-ghost use Rattle.jslit.specs.ReportText.{line, verdict_text, event_name, names_text, source_line, register_text, registers_text, entry_text, class_text, report_text, quick_text, yes_or_no};
+ghost use Rattle.jslit.specs.ReportText.{line, verdict_text, event_name, source_line, register_text, registers_text, entry_text, class_text, report_text, quick_text, yes_or_no};
 ghost use Rattle.jslit.specs.Internal.FirstEntry.{IsOnlyEntry, entry_of_option};
+ghost use Rattle.jslit.specs.Internal.Sharing.{register_head};
+ghost use Rattle.jslit.specs.Internal.Names.{AreNames};
 ghost use Rattle.jslit.specs.Internal.ReadLine.{read_line, rest_after, lines_from};
 ghost use Rattle.jslit.specs.Internal.Writing.{HasPut, writing_of};
 
 use crate::counted::Counted;
 use crate::fault::RunFault;
 use crate::page::Page;
+use crate::page::names::{Names, put_names};
 use crate::page::sharing::{Shared, put_entry};
 use crate::verdict::Verdict;
 use lit_paths::{Event, Kind, Plan};
@@ -40,7 +43,12 @@ fn put_access<W: Write>(page: &mut Page, output: &mut Counted<W>, agent: &[u8], 
 }
 
 /// Puts a blank and the name of an event: of a byte of the block, or of an agent's access.
-fn put_event<W: Write>(page: &mut Page, output: &mut Counted<W>, test: &Test, event: &Event)
+pub(crate) fn put_event<W: Write>(
+    page: &mut Page,
+    output: &mut Counted<W>,
+    test: &Test,
+    event: &Event,
+)
     requires { IfSome event.now.owner (λ agent. agent < length test.now.agents) }
     ensures { HasPut (writing_of W.contents output.old page.old) (writing_of W.contents output.new page.new) (codes " " ++ event_name test.now event.now) }
 {
@@ -58,23 +66,6 @@ fn put_event<W: Write>(page: &mut Page, output: &mut Counted<W>, test: &Test, ev
     );
 }
 
-/// Puts a blank and the name of each of these events, by their numbers.
-pub(crate) fn put_events<W: Write>(
-    page: &mut Page,
-    output: &mut Counted<W>,
-    test: &Test,
-    events: &[Event],
-    numbers: &[u8],
-)
-    requires owned { All (λ e. IfSome e.owner (λ agent. agent < length test.now.agents)) events.now }
-    requires known { All (λ n. n < length events.now) numbers.now }
-    ensures { HasPut (writing_of W.contents output.old page.old) (writing_of W.contents output.new page.new) (names_text test.now events.now numbers.now) }
-{
-    for number in numbers {
-        put_event(page, output, test, &events[*number as usize]);
-    }
-}
-
 /// Puts the line of a read, with the sources of its bytes.
 fn put_source_line<W: Write>(
     page: &mut Page,
@@ -83,15 +74,17 @@ fn put_source_line<W: Write>(
     events: &[Event],
     read: &Event,
     sources: &[u8],
+    names: &Names,
 )
     requires owner { IfSome read.now.owner (λ agent. agent < length test.now.agents) }
     requires owned { All (λ e. IfSome e.owner (λ agent. agent < length test.now.agents)) events.now }
     requires known { All (λ n. n < length events.now) sources.now }
+    requires names { AreNames test.now names.now.names }
     ensures { HasPut (writing_of W.contents output.old page.old) (writing_of W.contents output.new page.new) (source_line test.now events.now read.now sources.now) }
 {
     page.put(output, b"  from");
     put_event(page, output, test, read);
-    put_events(page, output, test, events, sources);
+    put_names(page, output, test, events, sources, names);
     page.put_byte(output, b'\n');
 }
 
@@ -103,10 +96,12 @@ fn put_read<'s, W: Write>(
     events: &[Event],
     event: &Event,
     sources: &'s [u8],
+    names: &Names,
 ) -> &'s [u8]
     requires owner { IfSome event.now.owner (λ agent. agent < length test.now.agents) }
     requires owned { All (λ e. IfSome e.owner (λ agent. agent < length test.now.agents)) events.now }
     requires known { All (λ n. n < length events.now) sources.now }
+    requires names { AreNames test.now names.now.names }
     requires room { does_read event.now.kind ≡ true → event.now.size ≤ length sources.now }
     ensures text { HasPut (writing_of W.contents output.old page.old) (writing_of W.contents output.new page.new) (read_line test.now events.now event.now sources.now) }
     ensures rest { result.now ≡ rest_after event.now sources.now }
@@ -115,7 +110,7 @@ fn put_read<'s, W: Write>(
         Kind::Write => sources,
         Kind::Read | Kind::Modify => {
             let (own, rest) = sources.split_at(event.size as usize);
-            put_source_line(page, output, test, events, event, own);
+            put_source_line(page, output, test, events, event, own, names);
             rest
         }
     }
@@ -129,16 +124,18 @@ pub(crate) fn put_sources<W: Write>(
     events: &[Event],
     part: &[Event],
     sources: &[u8],
+    names: &Names,
 )
     requires owned { All (λ e. IfSome e.owner (λ agent. agent < length test.now.agents)) events.now }
     requires part { All (λ e. IfSome e.owner (λ agent. agent < length test.now.agents)) part.now }
     requires known { All (λ n. n < length events.now) sources.now }
+    requires names { AreNames test.now names.now.names }
     requires one_each { length sources.now ≡ length (byte_reads part.now) }
     ensures { HasPut (writing_of W.contents output.old page.old) (writing_of W.contents output.new page.new) (lines_from test.now events.now part.now sources.now) }
 {
     let mut rest = sources;
     for event in part {
-        rest = put_read(page, output, test, events, event, rest);
+        rest = put_read(page, output, test, events, event, rest, names);
     }
 }
 
@@ -156,6 +153,25 @@ fn put_register_name<W: Write>(page: &mut Page, output: &mut Counted<W>, agent: 
     page.put_number(output, register as u64);
 }
 
+/// Puts a register of an outcome up to its value, named by agent and register.
+pub(crate) fn put_register_head<W: Write>(
+    page: &mut Page,
+    output: &mut Counted<W>,
+    test: &Test,
+    name: (u8, u8),
+)
+    requires { name.0 < length test.now.agents }
+    ensures { HasPut (writing_of W.contents output.old page.old) (writing_of W.contents output.new page.new) (register_head test.now name) }
+{
+    put_register_name(
+        page,
+        output,
+        test.agent_name(name.0 as usize).as_bytes(),
+        name.1,
+    );
+    page.put_byte(output, b'=');
+}
+
 /// Puts a register of an outcome, named by agent and register, with its value.
 fn put_register<W: Write>(
     page: &mut Page,
@@ -167,13 +183,7 @@ fn put_register<W: Write>(
     requires { name.0 < length test.now.agents }
     ensures { HasPut (writing_of W.contents output.old page.old) (writing_of W.contents output.new page.new) (register_text test.now (name, value)) }
 {
-    put_register_name(
-        page,
-        output,
-        test.agent_name(name.0 as usize).as_bytes(),
-        name.1,
-    );
-    page.put_byte(output, b'=');
+    put_register_head(page, output, test, name);
     page.put_number(output, value as u64);
 }
 

@@ -3,24 +3,26 @@
 ghost use Rattle.std.specs.Prelude.{◌≡◌, ◌+◌, ◌<◌, ◌≤◌, All, IfSome, length};
 ghost use Rattle.lit_paths.specs.Choice.{choices_of};
 ghost use Rattle.lit_paths.specs.Outcome.{names_of};
-ghost use Rattle.lit_paths.specs.Plan.{choices_before};
+ghost use Rattle.lit_paths.specs.Plan.{choices_before, events_in};
 ghost use Rattle.lit_search.specs.Report.{Gives, HasLeastOrder};
 ghost use Rattle.jslit.specs.ReportText.{line, registers_text, entry_text};
-ghost use Rattle.jslit.specs.Internal.Sharing.{HoldsOutcome, HoldsOrder, IsShared, outcome_text, order_line};
+ghost use Rattle.jslit.specs.Internal.Names.{AreNames};
+ghost use Rattle.jslit.specs.Internal.Sharing.{HoldsOutcome, HoldsOrder, IsShared, first_head, first_value, outcome_head, outcome_text, order_line};
 ghost use Rattle.jslit.specs.Internal.Writing.{HasPut, writing_of};
 
 use crate::counted::Counted;
 use crate::page::Page;
 use crate::page::keeping::Kept;
 use crate::page::lining::{KeptLines, put_lines};
-use crate::page::reporting::{put_events, put_registers};
+use crate::page::names::{Names, keep_names, put_names};
+use crate::page::reporting::{put_register_head, put_registers};
 use lit_paths::laws::{choices_are_on_combinations, combinations_are_listed};
 use lit_paths::{Combination, Event, Plan};
 use lit_read::Test;
 use lit_search::Example;
 use std::io::Write;
 
-/// The line of an outcome up to its last register, with the values that stand there.
+/// The line of an outcome up to its last value, with the values that stand there.
 #[derive(Drop)]
 pub(crate) struct KeptOutcome<'f> {
     values: &'f [u32],
@@ -34,9 +36,11 @@ pub(crate) struct KeptOrder<'f> {
     text: Kept,
 }
 
-/// The text that an entry can share with the one before.
+/// The text that an entry can share with the one before, and whether the names of the combination's events were kept.
 #[derive(Drop)]
 pub(crate) struct Shared<'f> {
+    named: bool,
+    names: Names,
     outcome: KeptOutcome<'f>,
     lines: KeptLines,
     order: KeptOrder<'f>,
@@ -50,21 +54,37 @@ impl<'f> Shared<'f> {
     pub(crate) fn new() -> Self
         ensures { (t : Litmus) (c : ℕ) → IsShared t c result }
     {
+        let names = Names::new();
+        let outcome = Kept::new();
+        let lines = KeptLines::new();
+        let order = Kept::new();
         Shared {
+            named: false,
+            names,
             outcome: KeptOutcome {
                 values: &[],
-                text: Kept::new(),
+                text: outcome,
             },
-            lines: KeptLines::new(),
+            lines,
             order: KeptOrder {
                 order: &[],
-                text: Kept::new(),
+                text: order,
             },
         }
     }
 }
 
-/// Puts the line of an outcome up to the last of these values.
+/// Puts the first of these registers up to its value, if there is one.
+fn put_first<W: Write>(page: &mut Page, output: &mut Counted<W>, test: &Test, names: &[(u8, u8)])
+    requires known { All (λ name. name.0 < length test.now.agents) names.now }
+    ensures { HasPut (writing_of W.contents output.old page.old) (writing_of W.contents output.new page.new) (first_head test.now names.now) }
+{
+    if let [name, ..] = names {
+        put_register_head(page, output, test, *name);
+    }
+}
+
+/// Puts the line of an outcome up to the first value that is not among these.
 fn put_values<W: Write>(
     page: &mut Page,
     output: &mut Counted<W>,
@@ -74,13 +94,14 @@ fn put_values<W: Write>(
 )
     requires known { All (λ name. name.0 < length test.now.agents) names.now }
     requires named { length values.now ≤ length names.now }
-    ensures { HasPut (writing_of W.contents output.old page.old) (writing_of W.contents output.new page.new) (outcome_text test.now names.now values.now) }
+    ensures { HasPut (writing_of W.contents output.old page.old) (writing_of W.contents output.new page.new) (outcome_head test.now names.now values.now) }
 {
     page.put(output, b"outcome");
     put_registers(page, output, test, names, values);
+    put_first(page, output, test, &names[values.len()..]);
 }
 
-/// Keeps the line of an outcome up to the last of these values, unless it is too long. It is made anew unless it is kept.
+/// Keeps the line of an outcome up to the first value that is not among these, unless it is too long. It is made anew unless it is kept.
 fn keep_values<'f>(kept: &mut KeptOutcome<'f>, test: &Test, names: &[(u8, u8)], values: &'f [u32])
     requires known { All (λ name. name.0 < length test.now.agents) names.now }
     requires named { length values.now ≤ length names.now }
@@ -102,7 +123,7 @@ fn keep_values<'f>(kept: &mut KeptOutcome<'f>, test: &Test, names: &[(u8, u8)], 
     );
 }
 
-/// Puts the line of an outcome up to the last of these values, as it is kept.
+/// Puts the line of an outcome up to the first value that is not among these, as it is kept.
 fn put_kept_values<'f, W: Write>(
     page: &mut Page,
     output: &mut Counted<W>,
@@ -115,7 +136,7 @@ fn put_kept_values<'f, W: Write>(
     requires named { length values.now ≤ length names.now }
     requires kept { HoldsOutcome test.now names.now kept.old }
     ensures kept { HoldsOutcome test.now names.now kept.new }
-    ensures text { HasPut (writing_of W.contents output.old page.old) (writing_of W.contents output.new page.new) (outcome_text test.now names.now values.now) }
+    ensures text { HasPut (writing_of W.contents output.old page.old) (writing_of W.contents output.new page.new) (outcome_head test.now names.now values.now) }
 {
     keep_values(kept, test, names, values);
     if kept.text.is_kept() {
@@ -123,6 +144,15 @@ fn put_kept_values<'f, W: Write>(
         return;
     }
     put_values(page, output, test, names, values);
+}
+
+/// Puts a value, if there is one.
+fn put_last<W: Write>(page: &mut Page, output: &mut Counted<W>, values: &[u32])
+    ensures { HasPut (writing_of W.contents output.old page.old) (writing_of W.contents output.new page.new) (first_value values.now) }
+{
+    if let [value, ..] = values {
+        page.put_number(output, *value as u64);
+    }
 }
 
 /// Puts the line of an outcome, of which all but the last value is mostly that of the outcome before.
@@ -143,7 +173,7 @@ fn put_outcome<'f, W: Write>(
     let count = outcome.len().saturating_sub(1);
     let (values, last) = outcome.split_at(count);
     put_kept_values(page, output, test, names, values, kept);
-    put_registers(page, output, test, &names[count..], last);
+    put_last(page, output, last);
     page.put_byte(output, b'\n');
 }
 
@@ -154,20 +184,29 @@ fn put_order<W: Write>(
     test: &Test,
     events: &[Event],
     order: &[u8],
+    names: &Names,
 )
     requires owned { All (λ e. IfSome e.owner (λ agent. agent < length test.now.agents)) events.now }
     requires known { All (λ n. n < length events.now) order.now }
+    requires names { AreNames test.now names.now.names }
     ensures { HasPut (writing_of W.contents output.old page.old) (writing_of W.contents output.new page.new) (order_line test.now events.now order.now) }
 {
     page.put(output, b"  order");
-    put_events(page, output, test, events, order);
+    put_names(page, output, test, events, order, names);
     page.put_byte(output, b'\n');
 }
 
 /// Keeps the line of an order, unless it is too long. It is made anew unless it is kept.
-fn keep_order<'f>(kept: &mut KeptOrder<'f>, test: &Test, events: &[Event], order: &'f [u8])
+fn keep_order<'f>(
+    kept: &mut KeptOrder<'f>,
+    test: &Test,
+    events: &[Event],
+    order: &'f [u8],
+    names: &Names,
+)
     requires owned { All (λ e. IfSome e.owner (λ agent. agent < length test.now.agents)) events.now }
     requires known { All (λ n. n < length events.now) order.now }
+    requires names { AreNames test.now names.now.names }
     requires kept { HoldsOrder test.now events.now kept.old }
     ensures kept { HoldsOrder test.now events.now kept.new }
     ensures order { kept.new.order.now ≡ order.now }
@@ -183,6 +222,7 @@ fn keep_order<'f>(kept: &mut KeptOrder<'f>, test: &Test, events: &[Event], order
         test,
         events,
         order,
+        names,
     );
 }
 
@@ -194,19 +234,21 @@ fn put_kept_order<'f, W: Write>(
     events: &[Event],
     order: &'f [u8],
     kept: &mut KeptOrder<'f>,
+    names: &Names,
 )
     requires owned { All (λ e. IfSome e.owner (λ agent. agent < length test.now.agents)) events.now }
     requires known { All (λ n. n < length events.now) order.now }
+    requires names { AreNames test.now names.now.names }
     requires kept { HoldsOrder test.now events.now kept.old }
     ensures kept { HoldsOrder test.now events.now kept.new }
     ensures text { HasPut (writing_of W.contents output.old page.old) (writing_of W.contents output.new page.new) (order_line test.now events.now order.now) }
 {
-    keep_order(kept, test, events, order);
+    keep_order(kept, test, events, order, names);
     if kept.text.is_kept() {
         page.put(output, kept.text.text());
         return;
     }
-    put_order(page, output, test, events, order);
+    put_order(page, output, test, events, order, names);
 }
 
 /// Enters the combination of a choice, unless it is entered. What is kept of other events is let go.
@@ -230,6 +272,26 @@ fn enter_for<'p>(
     plan.reenter(entered, plan.combination(choice));
     shared.lines.forget();
     shared.order.text.forget();
+    shared.named = false;
+}
+
+/// Keeps the names of a combination's events, unless that was done. The order that is kept is let go.
+fn name_events(plan: &Plan<'_>, combination: &Combination<'_>, shared: &mut Shared<'_>)
+    requires plan { combination.now.0 ≡ plan.now }
+    requires owned { All (λ e. IfSome e.owner (λ agent. agent < length combination.now.0.agents)) (events_in combination.now.0 combination.now.1) }
+    requires shared { IsShared plan.now combination.now.1 shared.old }
+    ensures { IsShared plan.now combination.now.1 shared.new }
+{
+    if shared.named {
+        return;
+    }
+    keep_names(
+        &mut shared.names,
+        &mut shared.order.text,
+        plan.test(),
+        combination.events(),
+    );
+    shared.named = true;
 }
 
 /// Puts an outcome and its example, whose combination is entered unless it is.
@@ -256,6 +318,7 @@ pub(crate) fn put_entry<'p, 'f, W: Write>(
     choices_are_on_combinations();
     let test = plan.test();
     enter_for(plan, combination, example.choice, shared);
+    name_events(plan, &*combination, shared);
     put_outcome(
         page,
         output,
@@ -270,6 +333,7 @@ pub(crate) fn put_entry<'p, 'f, W: Write>(
         &*combination,
         example.choice,
         &mut shared.lines,
+        &shared.names,
     );
     put_kept_order(
         page,
@@ -278,5 +342,6 @@ pub(crate) fn put_entry<'p, 'f, W: Write>(
         combination.events(),
         example.order.as_slice(),
         &mut shared.order,
+        &shared.names,
     );
 }
