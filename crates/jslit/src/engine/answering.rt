@@ -25,11 +25,8 @@ use std::alloc::{AllocError, Global};
 use std::io::Write;
 use std::thread::Threads;
 
-/// How many pieces several workers draw at the most.
-const SHARED_PIECES: u64 = 1_024;
-
-/// How many pieces a worker alone draws at the most: it needs no cutting but to tell how far it is.
-const OWN_PIECES: u64 = 64;
+/// How many pieces workers draw at the most: each is begun anew, which is most of the work of some tests.
+const PIECE_LIMIT: u64 = 64;
 
 /// How many choices a piece has: those asked for, or more where that would make too many pieces. The quick search of one
 /// worker is not cut: it begins each piece anew.
@@ -38,10 +35,10 @@ fn cut_of(total: u64, options: Options) -> u64
     ensures some { 0 < result }
     ensures small { result ≤ CUT_LIMIT }
 {
-    let pieces = match (options.workers, options.quick) {
-        (1, true) => 1,
-        (1, false) => OWN_PIECES,
-        _ => SHARED_PIECES,
+    let pieces = if options.workers == 1 && options.quick {
+        1
+    } else {
+        PIECE_LIMIT
     };
     options.cut.max(total.div_ceil(pieces))
 }
