@@ -21,8 +21,10 @@ fn give(rt: &impl Abort, part: &mut ForcedPart<'_>, source: u8)
     part.push(source);
 }
 
-/// The part, which is not refuted, has this as its least order.
-fn assert_least(rt: &impl Abort, part: &ForcedPart<'_>, wanted: &[u8]) {
+/// The part, which is not refuted, has this as its least order, also where that is kept.
+fn assert_least(rt: &impl Abort, part: &mut ForcedPart<'_>, wanted: &[u8]) {
+    assert!(rt; !part.refuted());
+    part.keep_order();
     assert!(rt; !part.refuted());
     match part.least_order() {
         Some(order) => assert_eq!(rt; order.as_slice(), wanted),
@@ -76,15 +78,15 @@ fn store_buffering_forces_a_round(rt: HostRuntime) -> Result<(), Fail> {
     assert!(rt; part.refuted());
     take_back(&rt, &mut part);
     give(&rt, &mut part, 2);
-    assert_least(&rt, &part, &[0, 1, 2, 3, 4, 5]);
+    assert_least(&rt, &mut part, &[0, 1, 2, 3, 4, 5]);
     take_back(&rt, &mut part);
     take_back(&rt, &mut part);
     give(&rt, &mut part, 4);
     give(&rt, &mut part, 0);
-    assert_least(&rt, &part, &[0, 1, 4, 5, 2, 3]);
+    assert_least(&rt, &mut part, &[0, 1, 4, 5, 2, 3]);
     take_back(&rt, &mut part);
     give(&rt, &mut part, 2);
-    assert_least(&rt, &part, &[0, 1, 2, 4, 3, 5]);
+    assert_least(&rt, &mut part, &[0, 1, 2, 4, 3, 5]);
     part.reopen(&plan, 0);
     assert!(rt; part.part().len() == 0 && !part.refuted());
     Ok(())

@@ -3,8 +3,9 @@
 use super::assert_pairs;
 use lit_paths::EVENT_LIMIT;
 use lit_rel::laws::{
-    mixed_sizes_never_synchronize, never_reads_itself, races_are_foreseen,
-    relations_grow_with_bytes, typed_load_mixes_with_init_only, values_stay, viewed_load_mixes,
+    bytes_keep_settled_pasts, bytes_stay_broken, given_values_agree, mixed_sizes_never_synchronize,
+    never_reads_itself, races_are_foreseen, relations_grow_with_bytes,
+    typed_load_mixes_with_init_only, values_stay, viewed_load_mixes,
 };
 use lit_rel::{Between, EventSet, Rows};
 
@@ -89,6 +90,9 @@ fn laws_are_named(rt: HostRuntime) {
     never_reads_itself();
     relations_grow_with_bytes();
     values_stay();
+    bytes_stay_broken();
+    bytes_keep_settled_pasts();
+    given_values_agree();
     races_are_foreseen();
     assert!(rt; true);
 }
