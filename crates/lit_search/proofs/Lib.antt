@@ -1,4 +1,5 @@
 pub mod PlaceLemmas
+pub mod PackedLemmas
 pub mod StandLemmas
 pub mod LastLemmas
 pub mod ForeseenLemmas

@@ -6,6 +6,7 @@ pub mod Merged
 pub mod Shown
 pub mod Kept
 pub mod Taking
+pub mod Packed
 pub mod Held
 pub mod Deciding
 pub mod Places

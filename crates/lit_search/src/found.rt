@@ -1,11 +1,17 @@
 //! The outcomes found, each with its example.
 
 pub(crate) mod merging;
+pub(crate) mod packing;
 
+ghost use Rattle.std.specs.Box.{boxed_slice_items};
+ghost use Rattle.lit_search.specs.Internal.Packed.{IsPacked};
+
+use crate::found::packing::{LARGE_COUNT, LARGE_TOP, SMALL_COUNT, SMALL_TOP, packed};
 use arrayvec::ArrayVec;
 use lit_order::Order;
 use lit_paths::NAME_LIMIT;
 use std::boxed::{Box, BoxedSlice};
+use std::cmp::Ordering;
 use std::marker::Model;
 
 /// The last values of the registers of an outcome, one for each of `Plan::names` and in that order.
@@ -20,11 +26,49 @@ pub struct Example {
     pub order: Order,
 }
 
-/// An outcome with its example, each in a room of its own, so that a map or list of entries holds four words for each.
+/// An outcome with its example, each in a room of its own, and the outcome packed, by which most entries are compared.
 #[derive(Debug, Drop)]
 pub(crate) struct Entry {
     pub outcome: BoxedSlice<u32>,
     pub example: Box<Example>,
+    pub small: u64,
+    pub large: u64,
+    ghost packed: { IsPacked small large (boxed_slice_items outcome) },
+}
+
+impl Entry {
+    ghost use Rattle.std.specs.Prelude.{◌≡◌};
+    ghost use Rattle.lit_search.specs.Entry.{entry_of};
+    ghost use Rattle.lit_search.specs.Report.{outcome_cmp};
+
+    /// An outcome with its example.
+    pub(crate) fn new(outcome: BoxedSlice<u32>, example: Box<Example>) -> Self
+        ensures { entry_of result ≡ record { outcome = boxed_slice_items outcome; choice = example.value.choice; order = example.value.order.items } }
+    {
+        let small = packed(&outcome, SMALL_TOP, SMALL_COUNT);
+        let large = packed(&outcome, LARGE_TOP, LARGE_COUNT);
+        Entry {
+            outcome,
+            example,
+            small,
+            large,
+        }
+    }
+
+    /// How it compares with another one by the outcome, as a list.
+    pub(crate) fn cmp_outcome(&self, other: &Entry) -> Ordering
+        ensures { result ≡ outcome_cmp (entry_of self.now) (entry_of other.now) }
+    {
+        match self.small.cmp(&other.small) {
+            Ordering::Equal => {}
+            unequal => return unequal,
+        }
+        match self.large.cmp(&other.large) {
+            Ordering::Equal => {}
+            unequal => return unequal,
+        }
+        self.outcome.cmp(&other.outcome)
+    }
 }
 
 /// The outcomes of a set of choices, rising, each with its example, and whether one of these choices has a data race. A

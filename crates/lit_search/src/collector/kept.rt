@@ -75,12 +75,12 @@ impl Kept {
         let Kept { alloc, examples } = self;
         let mut entries = Vec::with_capacity(alloc, examples.len())?;
         for (outcome, example) in examples {
-            entries.push(Entry { outcome, example })?;
+            entries.push(Entry::new(outcome, example))?;
         }
         entries.sort_unstable_by(
             |a: &Entry, b: &Entry| -> Ordering
                 ensures { result ≡ outcome_cmp (entry_of a.now) (entry_of b.now) }
-            { a.outcome.cmp(&b.outcome) },
+            { a.cmp_outcome(b) },
         );
         Ok(entries)
     }

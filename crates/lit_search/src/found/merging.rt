@@ -29,7 +29,7 @@ fn compared(a: &VecDeque<Entry>, b: &VecDeque<Entry>) -> Ordering
     ensures { result ≡ heads_cmp (map entry_of a.now.items) (map entry_of b.now.items) }
 {
     match (a.front(), b.front()) {
-        (Some(first), Some(second)) => first.outcome.cmp(&second.outcome),
+        (Some(first), Some(second)) => first.cmp_outcome(second),
         (_, None) => Ordering::Less,
         (None, _) => Ordering::Greater,
     }
