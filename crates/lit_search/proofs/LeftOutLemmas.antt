@@ -20,8 +20,9 @@ use Rattle.lit_rel.specs.Coherent.{HasCoherentReads}
 use Rattle.lit_rel.specs.InitReads.{AreOfEvents}
 use Rattle.lit_rel.specs.Part.{AreFirstSources, PartModel, part_events, with_sources}
 use Rattle.lit_rel.specs.ReadsFrom.{ReadsByteFrom}
+use Rattle.lit_rel.specs.TearFree.{HasTearFreeReads, ReadsWholeBy}
 use Rattle.lit_rel.specs.TestedBytes.{RefusedBytesMakeFalse}
-use Rattle.lit_rel.proofs.PlaceLemmas.{place-middle}
+use Rattle.lit_rel.proofs.PlaceLemmas.{place-left, place-middle}
 use Rattle.lit_order.specs.LeftOut.{LeavesOut, LeftOutSourcesAreNone}
 use Rattle.lit_order.specs.MemoryOrder.{IsMemoryOrder}
 use Rattle.lit_order.specs.Refuted.{IsForcedRound, IsRefuted}
@@ -29,7 +30,7 @@ use Rattle.lit_search.specs.declared.cursor.Cursor.TheInside.{Inside}
 use Rattle.lit_search.specs.Completion.{Completes, IsEntered}
 use Rattle.lit_search.specs.Report.{in_range}
 use Rattle.lit_search.specs.Internal.Laws.{Laws}
-use Rattle.lit_search.specs.Internal.LeftOut.{AreLeftOut, HasGoneOn, HasNoSource, HasNoneLeft, IsLeftOut, IsSeqCstRead, candidate_at, with_place}
+use Rattle.lit_search.specs.Internal.LeftOut.{AreLeftOut, HasGoneOn, HasNoSource, HasNoneLeft, IsLeftOut, IsSeqCstRead, WouldTear, candidate_at, with_place}
 use Rattle.lit_search.specs.Internal.Others.{AddsNothing}
 use Rattle.lit_search.specs.Internal.Passing.{NoneFrom}
 use Rattle.lit_search.specs.Internal.Places.{ArePlaces, Stand, behind_at, candidates_at, low_at, part_at, sources_at, stand_events}
@@ -87,8 +88,29 @@ module _ (laws : Laws) (left_out : LeftOutSourcesAreNone) (refused : RefusedByte
       let sourced = sourced_all x is in
       let whole : Completes all x = record { valid = is.valid; on_paths = is.on_paths; rest = []; begun = is.begun ∙ sym (append-nil all.sources) } in
       not_refuted all x whole laws (record { litmus = entered.litmus; known = entered.known }) (no_order all sourced.each) (inl (inr (refused all r b w sound sourced.one_each reads tested)))
-  none_with_source x is r b w reads (inr (_, inl refuted)) = not_refuted (part_at s) x is laws entered (no_order (part_at s) firsts) refuted
-  none_with_source x is r b w reads (inr (_, inr out)) =
+  none_with_source x is r b w reads (inr (inl tears)) =
+      let events = stand_events s in
+      let given = (part_at s).sources in
+      let other = slice_index given tears.place in
+      let read = byte_read_at events tears.place in
+      let read_there = slice_get-get_or (byte_reads events) tears.place (0, 0) (omega (arith, tears.given, length-append given is.rest, (sourced_all x is).one_each)) in
+      let same : read.0 ≡ r = tears.its_own tears.place read.0 read.1 (omega arith) tears.given read_there in
+      let source_there = slice_get-get_or given tears.place 0 tears.given in
+      let whole_other : ReadsWholeBy events (ReadsByteFrom events (given ++ is.rest)) r other = record {
+        reads = (
+          read.1,
+          (
+            tears.place,
+            subst (λ (q : ℕ). slice_get (byte_reads events) tears.place ≡ Some (q, read.1)) same read_there,
+            place-left given is.rest tears.place other source_there,
+          ),
+        );
+        can = tears.other.1;
+      } in
+      let whole_one : ReadsWholeBy events (ReadsByteFrom events (given ++ is.rest)) r w = record { reads = (b, reads); can = tears.whole } in
+      absurd (tears.other.0 (carried (part_at s) x is HasTearFreeReads is.valid.tear_free_reads r w other whole_one whole_other))
+  none_with_source x is r b w reads (inr (inr (_, inl refuted))) = not_refuted (part_at s) x is laws entered (no_order (part_at s) firsts) refuted
+  none_with_source x is r b w reads (inr (inr (_, inr out))) =
       let ordered = is.valid.ordered in
       left_out (part_at s) is.rest ordered.0 r b w (sourced_all x is).each (carried (part_at s) x is HasCoherentReads is.valid.coherent_reads) (carried (part_at s) x is (λ es ws. IsMemoryOrder es ws ordered.0) ordered.1) reads out
 
@@ -224,6 +246,14 @@ module _ (x : Inside) (s : Stand) (view : stand_of x ≡ s) (entered : Litmus ×
         let at : slice_get (candidates_at (part_events x.part) depth) p ≡ Some (slice_index list p) =
         ap (λ (l : List ℕ). slice_get l p) (sym list_here) ∙ slice_get-get_or list p 0 (omega (arith, known, ap (λ (l : List ℕ). length l) list_there)) in
         ((lists_here x entered same depth list list_here lists).only p (slice_index list p) at).known
+
+    pub source_there : slice_index list p < length (part_events x.part) → slice_index list p < length (stand_events s)
+    source_there known = subst (λ (u : Stand). slice_index list p < length (stand_events u)) view known
+
+    pub tears_as : (result : Bool) → (IsTrue result ↔ WouldTear (part_at s) (get_or reads depth d).read (slice_index list p)) → IsTrue result ↔ WouldTear (part_at s) (byte_read_at (stand_events s) depth).0 (candidate_at s depth p)
+    tears_as result by =
+        subst (λ (q : ℕ × ℕ). IsTrue result ↔ WouldTear (part_at s) q.0 (candidate_at s depth p)) pair_is
+        (subst (λ (w : ℕ). IsTrue result ↔ WouldTear (part_at s) (get_or reads depth d).read w) (ap (λ (l : List ℕ). slice_index l p) list_there) by)
 
     pub leaves_out_as : IsStanding x → (result : Bool) → (IsTrue result ↔ (IsRefuted x.part ⊎ LeavesOut x.part (get_or reads depth d).read (get_or reads depth d).byte (slice_index list p)))
         → IsTrue result ↔ (IsRefuted (part_at s) ⊎ LeavesOut (part_at s) (byte_read_at (stand_events s) depth).0 (byte_read_at (stand_events s) depth).1 (candidate_at s depth p))

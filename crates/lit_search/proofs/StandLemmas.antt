@@ -6,18 +6,20 @@ use Rattle.std.proofs.lemmas.Option.{slice_get-get_or}
 use Rattle.std.proofs.lemmas.List.{length_push, nil_from_length}
 use Rattle.lit_read.specs.Syntax.{Litmus}
 use Rattle.lit_paths.specs.declared.event.Event.{Event}
-use Rattle.lit_paths.specs.declared.limits.TheConstants.{CHOICE_LIMIT}
+use Rattle.lit_paths.specs.declared.limits.TheConstants.{CHOICE_LIMIT, NAME_LIMIT}
 use Rattle.lit_paths.specs.ByteReads.{byte_reads, byte_read_at}
 use Rattle.lit_paths.specs.Choice.{combinations_of, is_candidate}
 use Rattle.lit_paths.specs.Numbers.{NumbersChoices, ways_from}
 use Rattle.lit_paths.specs.Plan.{AreEventsIn, ListsCandidates, choices_before, events_in}
-use Rattle.lit_rel.specs.Part.{IsComplete, IsNextSource, PartModel, part_events, with_sources}
+use Rattle.lit_rel.specs.Growth.{ValuesStay}
+use Rattle.lit_rel.specs.Part.{IsNextSource, PartModel, part_events, with_sources}
 use Rattle.lit_search.specs.declared.cursor.Cursor.TheInside.{Inside}
 use Rattle.lit_search.specs.Completion.{IsEntered}
 use Rattle.lit_search.specs.Internal.Places.{ArePlaces, Stand, behind_at, candidates_at, low_at, part_at, passed_at, sources_at, stand_events, with_places}
-use Rattle.lit_search.specs.Internal.Held.{part_outcome, reads_held}
+use Rattle.lit_search.specs.Internal.Held.{HasWholeValues, reads_held, without_last}
 use Rattle.lit_search.specs.Internal.RefusedSources.{AreRefused}
 use Rattle.lit_search.specs.Internal.Standing.{IsStanding}
+use Rattle.lit_search.proofs.WholeValues.{whole_before}
 use Rattle.lit_search.proofs.PlaceLemmas.{length-sources, passed_more, placed_front, placed_last, placed_more, sources_more, ways_end, ways_split, within}
 
 -- a byte read has no more candidates than there are events
@@ -36,12 +38,6 @@ few_candidates events k = few_filtered (is_candidate (byte_read_at events k).0 (
 -- its part is that of the stand
 pub its_part : (x : Inside) → IsStanding x → (s : Stand) → record { test = x.part.test; combination = x.part.combination; places = x.places.items } ≡ s → x.part ≡ part_at s
 its_part x is s view = ap (λ (ws : List ℕ). with_sources x.part ws) is.given ∙ ap part_at view
-
--- its outcome, where each byte read has a source
-pub outcome_here : (x : Inside) → IsStanding x → (s : Stand) → record { test = x.part.test; combination = x.part.combination; places = x.places.items } ≡ s → IsComplete (part_at s) → x.outcome.items ≡ part_outcome (part_at s)
-outcome_here x is s view whole =
-    let same = its_part x is s view in
-    is.outcome (subst IsComplete (sym same) whole) ∙ ap part_outcome same
 
 -- ---- the next one behind its choices
 once_more : (a w : ℕ) → (a + 1) * w ≡ a * w + w
@@ -85,12 +81,13 @@ pub record Moved (y : Inside) (part : PartModel) (places : List ℕ) : Type 0 wh
   pub last : y.end ≡ choices_before part.test (part.combination + 1)
   pub refused : AreRefused part.test part.combination y.refused.items
   pub held : y.held.items ≡ reads_held part.test part.combination
-  pub outcome : IsComplete part → y.outcome.items ≡ part_outcome part
+  pub values : HasWholeValues part y.values
+  pub all : length y.values ≡ NAME_LIMIT
 
 pub standing_moved : (y : Inside) (part : PartModel) (places : List ℕ) → y.part ≡ part → y.places.items ≡ places → Moved y part places → IsStanding y
 standing_moved y part places part_is places_are m =
     let here : Moved y y.part y.places.items = subst (λ (q : PartModel). Moved y q y.places.items) (sym part_is) (subst (λ (ps : List ℕ). Moved y part ps) (sym places_are) m) in
-    record { entered = here.entered; placed = here.placed; given = here.given; count = here.count; first = here.first; sound = here.sound; few = here.few; last = here.last; refused = here.refused; held = here.held; outcome = here.outcome }
+    record { entered = here.entered; placed = here.placed; given = here.given; count = here.count; first = here.first; sound = here.sound; few = here.few; last = here.last; refused = here.refused; held = here.held; values = here.values; all = here.all }
 
 module _ (x : Inside) (is : IsStanding x) where
   abbrev its_events : List Event
@@ -137,8 +134,8 @@ module _ (x : Inside) (is : IsStanding x) where
     }
 
     pub standing_down : (y : Inside) → y.part ≡ with_sources x.part (x.part.sources ++ slice_index (candidates_at its_events (length x.places.items)) p ∷ []) → y.places.items ≡ x.places.items ++ p ∷ []
-        → y.low ≡ x.low + p * ways_from its_events (length x.places.items + 1) → y.end ≡ x.end → y.refused.items ≡ x.refused.items → y.held.items ≡ x.held.items → (IsComplete y.part → y.outcome.items ≡ part_outcome y.part) → IsStanding y
-    standing_down y part places low end refused held outcome =
+        → y.low ≡ x.low + p * ways_from its_events (length x.places.items + 1) → y.end ≡ x.end → y.refused.items ≡ x.refused.items → y.held.items ≡ x.held.items → HasWholeValues y.part y.values → length y.values ≡ NAME_LIMIT → IsStanding y
+    standing_down y part places low end refused held values all =
         let q : PartModel = with_sources x.part (x.part.sources ++ slice_index (candidates_at its_events (length x.places.items)) p ∷ []) in
         let given : q.sources ≡ sources_at its_events 0 (x.places.items ++ p ∷ []) =
         ap (λ (ws : List ℕ). ws ++ slice_index (candidates_at its_events (length x.places.items)) p ∷ []) is.given
@@ -155,7 +152,8 @@ module _ (x : Inside) (is : IsStanding x) where
           last = end ∙ is.last;
           refused = subst (AreRefused x.part.test x.part.combination) (sym refused) is.refused;
           held = held ∙ is.held;
-          outcome = subst (λ (r : PartModel). IsComplete r → y.outcome.items ≡ part_outcome r) part outcome;
+          values = subst (λ (r : PartModel). HasWholeValues r y.values) part values;
+          all = all;
         } in
         standing_moved y q (x.places.items ++ p ∷ []) part places moved
 
@@ -196,9 +194,9 @@ module _ (x : Inside) (is : IsStanding x) where
             all_front [] v = refl
             all_front (u ∷ vs) v = ap (λ (us : List ℕ). u ∷ us) (all_front vs v)
 
-    pub standing_up : (y : Inside) → y.part ≡ with_sources x.part (take (length x.part.sources - 1) x.part.sources) → y.places.items ≡ ps
-        → y.low ≡ x.low - p * ways_from its_events (length ps + 1) → y.end ≡ x.end → y.refused.items ≡ x.refused.items → y.held.items ≡ x.held.items → IsStanding y
-    standing_up y part places low end refused held =
+    pub standing_up : ValuesStay → (y : Inside) → y.part ≡ with_sources x.part (take (length x.part.sources - 1) x.part.sources) → y.places.items ≡ ps
+        → y.low ≡ x.low - p * ways_from its_events (length ps + 1) → y.end ≡ x.end → y.refused.items ≡ x.refused.items → y.held.items ≡ x.held.items → y.values ≡ x.values → IsStanding y
+    standing_up stay y part places low end refused held values =
         let moved : Moved y (with_sources x.part (take (length x.part.sources - 1) x.part.sources)) ps = record {
           entered = record { litmus = is.entered.litmus; known = is.entered.known };
           placed = placed_front its_events 0 ps p placed_split;
@@ -210,7 +208,8 @@ module _ (x : Inside) (is : IsStanding x) where
           last = end ∙ is.last;
           refused = subst (AreRefused x.part.test x.part.combination) (sym refused) is.refused;
           held = held ∙ is.held;
-          outcome = λ whole. absurd (omega (arith, whole, left_up, length-sources its_events 0 ps, ap (λ (ws : List ℕ). length ws) given_up));
+          values = subst (HasWholeValues (without_last x.part)) (sym values) (whole_before stay x.part (omega (arith, count_places, long_up)) x.values is.values);
+          all = ap (λ (vs : List ℕ). length vs) values ∙ is.all;
         } in
         standing_moved y _ ps part places moved
 

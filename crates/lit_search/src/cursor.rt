@@ -17,24 +17,27 @@ pub(crate) mod wanted;
 ghost use Rattle.std.specs.Prelude.{◌≡◌, ◌↔◌, ℕ, ◌+◌, ◌-◌, ◌<◌, ◌≤◌, List, Some, IfNone, IfSome, IsTrue, IsFalse, [], ◌∷◌, ◌++◌, length, slice_get, take};
 ghost use Rattle.lit_paths.specs.ByteReads.{byte_reads};
 ghost use Rattle.lit_paths.specs.Choice.{combinations_of};
-ghost use Rattle.lit_paths.specs.declared.limits.TheConstants.{EVENT_LIMIT};
+ghost use Rattle.lit_paths.specs.declared.limits.TheConstants.{EVENT_LIMIT, NAME_LIMIT};
 ghost use Rattle.lit_paths.specs.Plan.{AreEventsIn, choices_before};
+ghost use Rattle.lit_rel.specs.Part.{IsComplete};
 ghost use Rattle.lit_order.specs.MemoryOrder.{IsLeastMemoryOrder, IsMemoryOrder};
 ghost use Rattle.lit_order.specs.Refuted.{IsRefuted};
 ghost use Rattle.lit_search.specs.Completion.{IsEntered};
+ghost use Rattle.lit_search.specs.Internal.Held.{part_outcome};
 ghost use Rattle.lit_search.specs.Internal.LeftOut.{HasGoneOn};
 ghost use Rattle.lit_search.specs.Internal.Others.{AddsNothing};
 ghost use Rattle.lit_search.specs.Internal.Passing.{first_places};
 ghost use Rattle.lit_search.specs.Internal.Places.{ArePlaces, behind_at, candidates_at, low_at, part_at, stand_events, with_places};
 
-use crate::cursor::held::{HeldReads, complete_outcome, set_held};
+use crate::cursor::alike::{Repeats, no_repeats};
+use crate::cursor::held::{HeldReads, Values, no_values, put_last_value, set_held};
 use crate::cursor::refused_sources::{RefusedSources, set_refused};
-use crate::found::Outcome;
 use arrayvec::ArrayVec;
 use lit_order::{ForcedPart, Order};
 use lit_paths::laws::choices_have_numbers;
 use lit_paths::{BYTE_READ_LIMIT, Plan};
 use lit_rel::Part;
+use lit_rel::laws::values_stay;
 use std::marker::Model;
 
 /// A stand among the choices of a combination: sources for its first byte reads, and with them the choices that begin
@@ -52,8 +55,9 @@ pub(crate) struct Cursor<'p> {
     low: u64,
     /// The number behind the last choice of the combination.
     end: u64,
-    /// Its outcome, where each byte read has a source.
-    outcome: Outcome,
+    repeats: Repeats,
+    /// What registers hold, as far as that is known.
+    values: Values,
 }
 
 impl<'p> Model for Cursor<'p> {
@@ -81,8 +85,8 @@ impl<'p> Cursor<'p> {
         set_refused(&mut refused, part.part());
         let mut held = HeldReads::new();
         set_held(&mut held, plan, part.part());
-        let mut outcome = Outcome::new();
-        complete_outcome(&mut outcome, part.part(), &held);
+        let values = no_values(part.part());
+        let repeats = no_repeats();
         let low = part.combination().first();
         let end = part.combination().end();
         Cursor {
@@ -92,7 +96,8 @@ impl<'p> Cursor<'p> {
             places: ArrayVec::new(),
             low,
             end,
-            outcome,
+            repeats,
+            values,
         }
     }
 
@@ -106,7 +111,7 @@ impl<'p> Cursor<'p> {
         self.part.reopen(plan, combination);
         set_refused(&mut self.refused, self.part.part());
         set_held(&mut self.held, plan, self.part.part());
-        complete_outcome(&mut self.outcome, self.part.part(), &self.held);
+        self.values = no_values(self.part.part());
         self.places.clear();
         self.low = self.part.combination().first();
         self.end = self.part.combination().end();
@@ -174,6 +179,16 @@ impl<'p> Cursor<'p> {
         self.low + combination.candidates(depth).len() as u64 * combination.ways_after(depth)
     }
 
+    /// Its outcome. Each byte read has a source.
+    pub(crate) fn outcome(&self) -> &[u32]
+        requires { IsComplete (part_at self.now) }
+        ensures value { result.now ≡ part_outcome (part_at self.now) }
+        ensures few { length result.now ≤ NAME_LIMIT }
+    {
+        let _part = self.part();
+        &self.values[..self.held.len()]
+    }
+
     /// Its last source. There is one.
     pub(crate) fn last_source(&self) -> u8
         requires { 0 < length self.now.places }
@@ -202,6 +217,7 @@ impl<'p> Cursor<'p> {
         ensures { self.new ≡ with_places self.old (self.old.places ++ place ∷ []) }
     {
         choices_have_numbers();
+        let repeated = self.repeats_with(place);
         let depth = self.places.len();
         let combination = self.part.combination();
         let passed = u64::from(place) * combination.ways_after(depth);
@@ -209,7 +225,8 @@ impl<'p> Cursor<'p> {
         self.part.push(source);
         self.places.push(place);
         self.low += passed;
-        complete_outcome(&mut self.outcome, self.part.part(), &self.held);
+        put_last_value(&mut self.values, self.part.part(), &self.held);
+        self.repeats[depth] = repeated;
     }
 
     /// Gives the next byte read its first candidate that is not left out, and where each is, leaves the choices of the
@@ -240,6 +257,7 @@ impl<'p> Cursor<'p> {
         ensures known { result < length (candidates_at (stand_events self.new) (length self.new.places)) }
     {
         choices_have_numbers();
+        values_stay();
         let Some(place) = self.places.pop() else {
             unreachable!()
         };

@@ -55,18 +55,34 @@ impl Entry {
         }
     }
 
-    /// How it compares with another one by the outcome, as a list.
+    /// How it compares with another one by the outcome, as a list. Most differ in their small values packed or in their large
+    /// ones.
+    #[inline(always)]
     pub(crate) fn cmp_outcome(&self, other: &Entry) -> Ordering
         ensures { result ≡ outcome_cmp (entry_of self.now) (entry_of other.now) }
     {
         match self.small.cmp(&other.small) {
-            Ordering::Equal => {}
-            unequal => return unequal,
+            Ordering::Equal => self.cmp_large(other),
+            unequal => unequal,
         }
+    }
+
+    /// The same, by the large values first.
+    #[inline(always)]
+    fn cmp_large(&self, other: &Entry) -> Ordering
+        ensures { result ≡ outcome_cmp (entry_of self.now) (entry_of other.now) }
+    {
         match self.large.cmp(&other.large) {
-            Ordering::Equal => {}
-            unequal => return unequal,
+            Ordering::Equal => self.cmp_values(other),
+            unequal => unequal,
         }
+    }
+
+    /// The same, value by value.
+    #[inline(never)]
+    fn cmp_values(&self, other: &Entry) -> Ordering
+        ensures { result ≡ outcome_cmp (entry_of self.now) (entry_of other.now) }
+    {
         self.outcome.cmp(&other.outcome)
     }
 }

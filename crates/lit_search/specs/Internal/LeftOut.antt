@@ -1,13 +1,15 @@
 -- Candidates of a byte read that the sources given leave out.
-use Rattle.std.specs.Prelude.{◌≡◌, ◌⊎◌, ℕ, ◌+◌, ◌<◌, ◌≤◌, [], ◌∷◌, ◌++◌, length, slice_index}
+use Rattle.std.specs.Prelude.{◌≡◌, ◌≢◌, ◌⊎◌, ℕ, ◌+◌, ◌<◌, ◌≤◌, [], ◌∷◌, ◌++◌, length, slice_index}
 use Rattle.lit_paths.specs.declared.event.Order3.TheVariants.{SeqCst}
 use Rattle.lit_paths.specs.ByteReads.{byte_read_at, byte_reads}
 use Rattle.lit_paths.specs.Event.{event_at}
 use Rattle.lit_rel.specs.Part.{PartModel, part_events}
+use Rattle.lit_rel.specs.TearFree.{CanReadWhole}
 use Rattle.lit_rel.specs.TestedBytes.{TestsRefuse}
 use Rattle.lit_order.specs.LeftOut.{LeavesOut}
 use Rattle.lit_order.specs.Refuted.{IsRefuted}
 use Rattle.lit_search.specs.StandsFor.{IsTested}
+use Rattle.lit_search.specs.Internal.Others.{AreOfRead}
 use Rattle.lit_search.specs.Internal.Places.{Stand, behind_at, candidates_at, low_at, part_at, stand_events, with_places}
 
 -- the stand with one place more
@@ -18,10 +20,23 @@ with_place s p = with_places s (s.places ++ p ∷ [])
 abbrev pub candidate_at : Stand → ℕ → ℕ → ℕ
 candidate_at s k p = slice_index (candidates_at (stand_events s) k) p
 
--- w can't be the source of byte b of read r: a test refuses it, or r is sequentially consistent, and the part is refuted, or
--- it leaves w out
+-- the source with this place is another event than w, and read r can be whole from it
+abbrev pub IsOtherWhole : PartModel → ℕ → ℕ → ℕ → Type 0
+IsOtherWhole part r w place = (slice_index part.sources place ≢ w) × CanReadWhole (event_at (part_events part) r) (event_at (part_events part) (slice_index part.sources place))
+
+-- Read r can be whole from w, and from another event, which is the source of a byte of it: from this one on, all bytes that
+-- have a source are bytes of r.
+pub record WouldTear (part : PartModel) (r w : ℕ) : Type 0 where
+  pub place : ℕ
+  pub given : place < length part.sources
+  pub its_own : AreOfRead (byte_reads (part_events part)) r place (length part.sources)
+  pub other : IsOtherWhole part r w place
+  pub whole : CanReadWhole (event_at (part_events part) r) (event_at (part_events part) w)
+
+-- w can't be the source of byte b of read r: a test refuses it, or r would tear, or r is sequentially consistent, and the part
+-- is refuted, or it leaves w out
 abbrev pub HasNoSource : PartModel → ℕ → ℕ → ℕ → Type 0
-HasNoSource part r b w = TestsRefuse part r b w ⊎ (((event_at (part_events part) r).order ≡ SeqCst) × (IsRefuted part ⊎ LeavesOut part r b w))
+HasNoSource part r b w = TestsRefuse part r b w ⊎ (WouldTear part r w ⊎ (((event_at (part_events part) r).order ≡ SeqCst) × (IsRefuted part ⊎ LeavesOut part r b w)))
 
 -- that candidate can't be the source of the k-th byte read
 abbrev pub IsLeftOut : Stand → ℕ → ℕ → Type 0

@@ -1,12 +1,12 @@
 -- What a value of the program's type `Cursor` keeps.
 use Rattle.std.specs.Prelude.{◌≡◌, ◌+◌, ◌≤◌, length}
-use Rattle.lit_paths.specs.declared.limits.TheConstants.{CHOICE_LIMIT}
+use Rattle.lit_paths.specs.declared.limits.TheConstants.{CHOICE_LIMIT, NAME_LIMIT}
 use Rattle.lit_paths.specs.ByteReads.{byte_reads}
 use Rattle.lit_paths.specs.Plan.{AreEventsIn, choices_before}
-use Rattle.lit_rel.specs.Part.{IsComplete, part_events}
+use Rattle.lit_rel.specs.Part.{part_events}
 use Rattle.lit_search.specs.declared.cursor.Cursor.TheInside.{Inside}
 use Rattle.lit_search.specs.Completion.{IsEntered}
-use Rattle.lit_search.specs.Internal.Held.{part_outcome, reads_held}
+use Rattle.lit_search.specs.Internal.Held.{HasWholeValues, reads_held}
 use Rattle.lit_search.specs.Internal.Places.{ArePlaces, low_at, sources_at}
 use Rattle.lit_search.specs.Internal.RefusedSources.{AreRefused}
 
@@ -21,4 +21,5 @@ pub record IsStanding (c : Inside) : Type 0 where
   pub last : c.end ≡ choices_before c.part.test (c.part.combination + 1)
   pub refused : AreRefused c.part.test c.part.combination c.refused.items
   pub held : c.held.items ≡ reads_held c.part.test c.part.combination
-  pub outcome : IsComplete c.part → c.outcome.items ≡ part_outcome c.part
+  pub values : HasWholeValues c.part c.values
+  pub all : length c.values ≡ NAME_LIMIT

@@ -12,13 +12,13 @@ ghost use Rattle.lit_rel.specs.Part.{part_events};
 ghost use Rattle.lit_rel.specs.TearFree.{CanReadWhole};
 ghost use Rattle.lit_search.specs.Internal.Alike.{AllFit, AreOfOthers, FitsAt, HasAlike, HasAlikeAt, HasLesser, IsLastRead, IsStoredAlike, IsWholeFrom, StoresAlike, TakesEach, TakesOne};
 ghost use Rattle.lit_search.specs.Internal.Passing.{first_places};
-ghost use Rattle.lit_search.specs.Internal.Places.{low_at, part_at, stand_events};
+ghost use Rattle.lit_search.specs.Internal.Places.{candidates_at, low_at, part_at, stand_events};
 
 use crate::cursor::Cursor;
 use crate::cursor::standing_for_others::{can_stand, is_last_of_read};
 use crate::laws::completions::laws;
 use lit_paths::laws::choices_have_numbers;
-use lit_paths::{ByteRead, Event, event_at};
+use lit_paths::{BYTE_READ_LIMIT, ByteRead, Event, event_at};
 use lit_rel::{Part, payload_at};
 
 /// The read of a part's last source, by its event number.
@@ -31,6 +31,14 @@ struct LastRead {
     whole: bool,
 }
 
+/// For each source given, by its place, whether a lesser candidate stores the same as it, or as one before it of its read.
+pub(crate) type Repeats = [bool; BYTE_READ_LIMIT];
+
+/// The answers where no byte read has a source.
+pub(crate) fn no_repeats() -> Repeats {
+    [false; BYTE_READ_LIMIT]
+}
+
 /// Whether neither a read nor its source may tear, and their ranges are equal.
 fn can_read_whole(read: &Event, source: &Event) -> bool
     ensures { IsTrue result ↔ CanReadWhole read.now source.now }
@@ -39,7 +47,7 @@ fn can_read_whole(read: &Event, source: &Event) -> bool
 }
 
 /// Whether a read can be whole from an event: both by number.
-fn is_whole_from(part: &Part<'_>, read: u8, source: u8) -> bool
+pub(crate) fn is_whole_from(part: &Part<'_>, read: u8, source: u8) -> bool
     requires read { read < length (part_events part.now) }
     requires source { source < length (part_events part.now) }
     ensures { IsTrue result ↔ IsWholeFrom part.now read source }
@@ -288,14 +296,31 @@ impl Cursor<'_> {
         low
     }
 
-    /// Whether a lesser candidate stores the same as the source of a byte read, by its place.
-    fn is_repeated(&self, place: usize) -> bool
-        requires { place < length self.now.places }
+    /// Whether the byte read at a place is the first of its read.
+    fn begins_read(&self, place: usize) -> bool
+        requires { place < length (byte_reads (stand_events self.now)) }
     {
+        let reads = self.part.combination().byte_reads();
+        place == 0 || reads[place - 1].read != reads[place].read
+    }
+
+    /// Whether a lesser candidate of the next byte read stores the same as the one with a place among its candidates, or as
+    /// the source of a byte before it of its read. A byte read is left.
+    pub(crate) fn repeats_with(&self, place: u8) -> bool
+        requires left { length self.now.places < length (byte_reads (stand_events self.now)) }
+        requires known { place < length (candidates_at (stand_events self.now) (length self.now.places)) }
+    {
+        laws();
+        let _part = self.part();
+        let depth = self.places.len();
+        if depth > 0 && self.repeats[depth - 1] && !self.begins_read(depth) {
+            return true;
+        }
         let combination = self.part.combination();
-        let source = self.source(place);
-        let byte = combination.byte_reads()[place].byte;
-        for candidate in combination.candidates(place) {
+        let byte = combination.byte_reads()[depth].byte;
+        let candidates = combination.candidates(depth);
+        let source = candidates[usize::from(place)];
+        for candidate in candidates {
             if *candidate >= source {
                 return false;
             }
@@ -306,34 +331,12 @@ impl Cursor<'_> {
         false
     }
 
-    /// Whether the byte read at a place is the first of its read.
-    fn begins_read(&self, place: usize) -> bool
-        requires { place < length self.now.places }
-    {
-        let reads = self.part.combination().byte_reads();
-        place == 0 || reads[place - 1].read != reads[place].read
-    }
-
-    /// Whether a lesser candidate stores the same as a source of its last read: else none is alike.
-    fn some_is_repeated(&self) -> bool {
-        let mut place = self.places.len();
-        while place > 0 {
-            place -= 1;
-            if self.is_repeated(place) {
-                return true;
-            }
-            if self.begins_read(place) {
-                return false;
-            }
-        }
-        false
-    }
-
     /// Whether a lesser event that is alike stands for a source of its last read, with choices from number `since` on.
     pub(crate) fn has_alike(&self, since: u64) -> bool
         ensures { IsTrue result → (first : ℕ) × (first ≤ length self.now.places) × HasAlike (part_at self.now) first × (since ≤ low_at (first_places self.now first)) }
     {
-        if !self.some_is_repeated() {
+        let depth = self.places.len();
+        if depth == 0 || !self.repeats[depth - 1] {
             return false;
         }
         let Some(read) = self.last_read() else {

@@ -1,19 +1,22 @@
 //! What the registers hold at the end of a combination's paths, from the sources of a part.
 
-ghost use Rattle.std.specs.Prelude.{◌≡◌, ◌≢◌, ◌↔◌, ℕ, ◌<◌, ◌≤◌, All, Some, IsTrue, IsFalse, length, slice_get};
+ghost use Rattle.std.specs.Prelude.{◌≡◌, ◌≢◌, ◌↔◌, ℕ, ◌<◌, ◌≤◌, [], All, Some, IsTrue, IsFalse, length, slice_get};
 ghost use Rattle.lit_read.specs.declared.limits.TheConstants.{REGISTERS};
 ghost use Rattle.lit_paths.specs.ByteReads.{byte_reads};
 ghost use Rattle.lit_paths.specs.Outcome.{names_of};
-ghost use Rattle.lit_rel.specs.Part.{IsComplete, part_events};
-ghost use Rattle.lit_search.specs.Internal.Held.{part_outcome, read_held as read_of, reads_held, value_held as value_of};
+ghost use Rattle.lit_paths.specs.declared.limits.TheConstants.{NAME_LIMIT};
+ghost use Rattle.lit_rel.specs.Part.{part_events};
+ghost use Rattle.lit_search.specs.Internal.Held.{HasWholeValues, part_outcome, read_held as read_of, reads_held, value_held as value_of, without_last};
 ghost use Rattle.lit_search.specs.Internal.Wanting.{AllKnownAfter};
 
+use crate::cursor::standing_for_others::is_last_of_read;
 use crate::cursor::wanted::Wanted;
 use crate::found::Outcome;
 use arrayvec::ArrayVec;
 use lit_paths::laws::combinations_are_walked;
 use lit_paths::{NAME_LIMIT, Plan};
 use lit_rel::Part;
+use lit_rel::laws::values_stay;
 
 /// The number of the read that a register holds at the end, named by agent and register; `None` where it was not
 /// written.
@@ -42,6 +45,13 @@ pub(crate) fn set_held(held: &mut HeldReads, plan: &Plan<'_>, part: &Part<'_>)
     for name in plan.names() {
         held.push(read_held(part, *name));
     }
+}
+
+/// Whether a register that holds this read holds the one with a number.
+fn is_that(held: Option<u8>, read: u8) -> bool
+    ensures { IsTrue result ↔ (held ≡ Some read) }
+{
+    held == Some(read)
 }
 
 /// Whether some register holds a read, by the read's number.
@@ -77,24 +87,51 @@ pub(crate) fn set_outcome(outcome: &mut Outcome, part: &Part<'_>, held: &HeldRea
     }
 }
 
-/// A copy of an outcome.
-pub(crate) fn copy_of(outcome: &Outcome) -> Outcome
-    ensures { result.items ≡ outcome.now.items }
+/// An outcome of these values.
+pub(crate) fn outcome_of(values: &[u32]) -> Outcome
+    requires { length values.now ≤ NAME_LIMIT }
+    ensures { result.items ≡ values.now }
 {
-    let mut copy = Outcome::new();
-    let Ok(()) = copy.try_extend_from_slice(outcome.as_slice()) else {
+    let mut outcome = Outcome::new();
+    let Ok(()) = outcome.try_extend_from_slice(values) else {
         unreachable!()
     };
-    copy
+    outcome
 }
 
-/// Makes an outcome that of a part where each byte read has a source. Its registers hold these reads.
-pub(crate) fn complete_outcome(outcome: &mut Outcome, part: &Part<'_>, held: &HeldReads)
-    requires held { held.now.items ≡ reads_held part.now.test part.now.combination }
-    ensures { IsComplete part.now → outcome.new.items ≡ part_outcome part.now }
+/// Values of registers, in the order of `Plan::names`, as far as the reads that these hold have all their bytes.
+pub(crate) type Values = [u32; NAME_LIMIT];
+
+/// The values where no byte read has a source.
+pub(crate) fn no_values(part: &Part<'_>) -> Values
+    requires { part.now.sources ≡ [] }
+    ensures values { HasWholeValues part.now result }
+    ensures all { length result ≡ NAME_LIMIT }
 {
-    if part.len() == part.reads() {
-        set_outcome(outcome, part, held);
+    let _len = part.len();
+    [0; NAME_LIMIT]
+}
+
+/// Puts the value of a part's last read where registers hold it, if all its bytes have sources. The registers hold these
+/// reads.
+pub(crate) fn put_last_value(values: &mut Values, part: &Part<'_>, held: &HeldReads)
+    requires some { 0 < length part.now.sources }
+    requires held { held.now.items ≡ reads_held part.now.test part.now.combination }
+    requires values { HasWholeValues (without_last part.now) values.old }
+    ensures values { HasWholeValues part.now values.new }
+    ensures all { length values.new ≡ NAME_LIMIT }
+{
+    values_stay();
+    let reads = part.combination().byte_reads();
+    let last = part.len() - 1;
+    if !is_last_of_read(reads, last) {
+        return;
+    }
+    let read = reads[last].read;
+    for (place, there) in held.as_slice().iter().enumerate() {
+        if is_that(*there, read) {
+            values[place] = part.value(read);
+        }
     }
 }
 

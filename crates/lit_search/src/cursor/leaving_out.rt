@@ -3,12 +3,13 @@
 ghost use Rattle.std.specs.Prelude.{◌≡◌, ◌↔◌, ◌<◌, ◌≤◌, [], ◌∷◌, ◌++◌, IfNone, IfSome, IsTrue, length};
 ghost use Rattle.lit_paths.specs.ByteReads.{byte_reads};
 ghost use Rattle.lit_paths.specs.declared.limits.TheConstants.{EVENT_LIMIT};
-ghost use Rattle.lit_search.specs.Internal.LeftOut.{AreLeftOut, HasNoneLeft, HasNoneLeftAt, IsLeftOut, IsSeqCstRead, IsWorthAsking, with_place};
-ghost use Rattle.lit_search.specs.Internal.Places.{behind_at, candidates_at, low_at, stand_events};
+ghost use Rattle.lit_search.specs.Internal.LeftOut.{AreLeftOut, HasNoneLeft, HasNoneLeftAt, IsLeftOut, IsSeqCstRead, IsWorthAsking, WouldTear, with_place};
+ghost use Rattle.lit_search.specs.Internal.Places.{behind_at, candidates_at, low_at, part_at, stand_events};
 ghost use Rattle.lit_search.specs.Internal.Taking.{AreBarren};
 ghost use Rattle.lit_search.specs.Report.{in_range};
 
 use crate::cursor::Cursor;
+use crate::cursor::alike::is_whole_from;
 use crate::laws::completions::laws;
 use lit_order::laws::{forced_rounds_have_no_order, left_out_sources_are_none};
 use lit_paths::event_at;
@@ -35,8 +36,33 @@ impl Cursor<'_> {
         event_at(combination.events(), usize::from(read)).is_seq_cst()
     }
 
+    /// Whether a read would tear with one more source: it can be whole from it, and from another one of a byte of it that
+    /// is given last or just before. Both are by event number.
+    fn would_tear(&self, read: u8, source: u8) -> bool
+        requires read { read < length (stand_events self.now) }
+        requires source { source < length (stand_events self.now) }
+        ensures { IsTrue result ↔ WouldTear (part_at self.now) read source }
+    {
+        laws();
+        let part = self.part();
+        if !is_whole_from(part, read, source) {
+            return false;
+        }
+        let reads = part.combination().byte_reads();
+        let mut place = self.places.len();
+        while place > 0 && reads[place - 1].read == read {
+            place -= 1;
+            let other = self.source(place);
+            if other != source && is_whole_from(part, read, other) {
+                return true;
+            }
+        }
+        false
+    }
+
     /// Whether the sources given leave out the candidate with a place among those of a byte read, by its number. What is
-    /// forced is looked at for sequentially consistent reads alone: for others it is as well to give the source.
+    /// forced is looked at for sequentially consistent reads alone: for others it is as well to give the source, unless the
+    /// read would tear.
     pub(crate) fn is_left_out(&self, depth: usize, place: usize) -> bool
         requires read { depth < length (byte_reads (stand_events self.now)) }
         requires known { place < length (candidates_at (stand_events self.now) depth) }
@@ -46,12 +72,15 @@ impl Cursor<'_> {
         if self.tests_refuse(depth, place) {
             return true;
         }
-        if !self.is_seq_cst_read(depth) {
-            return false;
-        }
         let combination = self.part.combination();
         let source = combination.candidates(depth)[place];
         let at = combination.byte_reads()[depth];
+        if self.would_tear(at.read, source) {
+            return true;
+        }
+        if !self.is_seq_cst_read(depth) {
+            return false;
+        }
         self.part.leaves_out(at, source)
     }
 

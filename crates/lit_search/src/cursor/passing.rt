@@ -17,7 +17,7 @@ ghost use Rattle.lit_search.specs.Internal.Wanting.{AllKnownAfter, GoesBy};
 
 use crate::cursor::Cursor;
 use crate::cursor::coming::Coming;
-use crate::cursor::held::{copy_of, set_outcome};
+use crate::cursor::held::{outcome_of, set_outcome};
 use crate::cursor::standing_in::is_stood_for;
 use crate::cursor::wanted::Wanted;
 use crate::found::{Example, Outcome};
@@ -42,7 +42,7 @@ impl Cursor<'_> {
     {
         let part = self.part();
         if part.len() == part.reads() {
-            return wanted.wants(plan, self.outcome.as_slice());
+            return wanted.wants(plan, self.outcome());
         }
         let mut outcome = Outcome::new();
         set_outcome(&mut outcome, part, &self.held);
@@ -156,7 +156,7 @@ impl Cursor<'_> {
             return None;
         };
         let _names = plan.names();
-        let outcome = copy_of(&self.outcome);
+        let outcome = outcome_of(self.outcome());
         let choice = self.low();
         let example = Example { choice, order };
         Some(Shown { outcome, example })

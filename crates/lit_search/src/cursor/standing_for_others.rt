@@ -46,13 +46,16 @@ fn all_can_stand(part: &Part<'_>, read: usize) -> bool
 /// Whether the byte read at a place is the last of its read.
 pub(crate) fn is_last_of_read(reads: &[ByteRead], place: usize) -> bool
     requires { place < length reads.now }
-    ensures { IsTrue result → (r b q c : ℕ) → slice_get (map pair_of reads.now) place ≡ Some (r, b)
-        → slice_get (map pair_of reads.now) (place + 1) ≡ Some (q, c) → ¬ (q ≡ r) }
+    ensures { IsTrue result ↔ ((r b q c : ℕ) → slice_get (map pair_of reads.now) place ≡ Some (r, b)
+        → slice_get (map pair_of reads.now) (place + 1) ≡ Some (q, c) → ¬ (q ≡ r)) }
 {
-    match reads.get(place + 1) {
-        Some(next) => next.read != reads[place].read,
-        None => true,
+    if place + 1 == reads.len() {
+        return true;
     }
+    if reads[place + 1].read == reads[place].read {
+        return false;
+    }
+    true
 }
 
 /// The place of the first of the byte reads of a read that come one after the other up to a place.

@@ -4,7 +4,6 @@ use Rattle.lit_search.specs.Internal.Examined.{IsExample}
 use Rattle.lit_search.specs.Internal.Held.{part_outcome}
 use Rattle.lit_search.specs.Internal.Places.{low_at, part_at}
 use Rattle.lit_search.proofs.PassingLemmas.{AreNamed, are_named, is_example, length-part, no_order, none_shown}
-use Rattle.lit_search.proofs.StandLemmas.{outcome_here}
 use Rattle.lit_search.proofs.cursor.Cursor.choice_shown.Goals as goal
 
 pub returns-in_default-clause-none : goal.returns-in_default-clause-none
@@ -20,7 +19,10 @@ returns-clause-shows c =
     subst (λ (t : Litmus). IsExample t (low_at s) (part_outcome (part_at s)) order) c.requires.test
     (is_example c.laws.ensures s c.part-part.ensures.entered c.part-part.ensures.placed c.requires.all named (λ broken. c.requires.whole (inl broken)) order c.in-Some.ensures.found)
 
+pub outcome-requires : goal.outcome-requires
+outcome-requires c = length-part c.args.self.now (part_at c.args.self.now) refl ∙ c.requires.all
+
 pub returns-clause-outcome : goal.returns-clause-outcome
 returns-clause-outcome c =
     let s = c.args.self.now in
-    c.copy_of-outcome.ensures ∙ outcome_here c.self.inside c.self.invariant s c.self.view_is (length-part s (part_at s) refl ∙ c.requires.all)
+    c.outcome_of-outcome.ensures ∙ c.outcome.ensures.value

@@ -4,10 +4,11 @@ use Rattle.std.proofs.lemmas.Option.{slice_get-get_or}
 use Rattle.lit_paths.specs.Numbers.{ways_from}
 use Rattle.lit_paths.specs.ByteReads.{byte_read_at}
 use Rattle.lit_paths.specs.Plan.{ListsCandidates}
-use Rattle.lit_rel.specs.Part.{IsComplete, IsNextSource, PartModel, part_events, with_sources}
-use Rattle.lit_search.specs.Internal.Held.{part_outcome}
+use Rattle.lit_rel.specs.Part.{IsNextSource, PartModel, part_events, with_sources}
+use Rattle.lit_search.specs.Internal.Held.{HasWholeValues}
 use Rattle.lit_search.specs.Internal.Places.{candidates_at}
 use Rattle.lit_search.proofs.StandLemmas.{candidates_here, known_here, left_here, lists_here, next_source, reads_here, room_down, standing_down, ways_here}
+use Rattle.lit_search.proofs.WholeValues.{values_before}
 use Rattle.lit_search.proofs.cursor.Cursor.down.Goals as goal
 
 pub ways_after-requires : goal.ways_after-requires
@@ -57,6 +58,11 @@ push-requires-2 c =
     let left = left_here c.self.inside _ c.self.view_is c.requires.left in
     omega (arith, left, c.self.invariant.sound.few_reads)
 
+pub put_last_value-requires-clause-values : goal.put_last_value-requires-clause-values
+put_last_value-requires-clause-values c =
+    let x = c.self.inside in
+    values_before x.part c.part.result.now (slice_index_or c.candidates.result.now c.from-2.result 0) x.values (c.part.ensures ∙ c.push.ensures) c.self.invariant.values
+
 pub overflow_add-self : goal.overflow_add-self
 overflow_add-self c =
     let x = c.self.inside in
@@ -82,4 +88,4 @@ invariant_of-self c =
     (c.push.ensures ∙ ap (λ (w : ℕ). with_sources x.part (x.part.sources ++ w ∷ [])) same)
     c.push-2.ensures.items
     (ap (λ (n : ℕ). x.low + n) (ap₂ (λ (a b : ℕ). a * b) c.from.ensures ways))
-    refl refl refl (subst (λ (q : PartModel). IsComplete q → c.complete_outcome.new.outcome.items ≡ part_outcome q) c.part.ensures c.complete_outcome.ensures)
+    refl refl refl (subst (λ (q : PartModel). HasWholeValues q c.put_last_value.new.values) c.part.ensures c.put_last_value.ensures.values) c.put_last_value.ensures.all

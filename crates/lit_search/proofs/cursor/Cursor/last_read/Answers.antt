@@ -32,5 +32,5 @@ returns c =
       few = omega (arith, c.first_of-first.ensures.few, some, c.len-last.ensures.value);
       count = omega (arith, c.len-last.ensures.few, c.len-last.ensures.value);
       before = subst (λ (ps : List (ℕ × ℕ)). AreOfOthers ps event c.first_of-first.result) all c.first_of-first.ensures.before;
-      given = λ whole. given_whole p reads all c.len-last.result c.len-last.ensures.value some no_read _ last.is_read (c.is_last_of_read-whole.ensures whole);
+      given = λ whole. given_whole p reads all c.len-last.result c.len-last.ensures.value some no_read _ last.is_read (c.is_last_of_read-whole.ensures.0 whole);
     })

@@ -43,7 +43,7 @@ invariant_of-self c =
     let ps = c.pop.new.self.items in
     let same = c.combination.ensures ∙ ap (λ (p : PartModel). (p.test, p.combination)) c.pop-2.ensures in
     let ways = ways_here x _ same c.len-depth.result c.ways_after.result c.ways_after.ensures.value ∙ ap (λ (k : ℕ). ways_from (part_events x.part) (k + 1)) c.len-depth.ensures.value in
-    standing_up x is ps c.in-Some.place c.in-Some.ensures.items _ c.pop-2.ensures refl (ap (λ (n : ℕ). x.low - n) (ap₂ (λ (a b : ℕ). a * b) c.from.ensures ways)) refl refl refl
+    standing_up x is ps c.in-Some.place c.in-Some.ensures.items c.values_stay.ensures _ c.pop-2.ensures refl (ap (λ (n : ℕ). x.low - n) (ap₂ (λ (a b : ℕ). a * b) c.from.ensures ways)) refl refl refl refl
 
 pub returns-clause-value : goal.returns-clause-value
 returns-clause-value c =

@@ -36,7 +36,7 @@ returns-then-all_can_stand-clause-stands c =
       (get_or reads (c.len-last.result - 1) no_read).read,
       record {
         free = record {
-          given = given_whole p reads all c.len-last.result c.len-last.ensures.value c.requires.some no_read _ last.is_read (c.is_last_of_read.ensures c.if-is_last_of_read.true);
+          given = given_whole p reads all c.len-last.result c.len-last.ensures.value c.requires.some no_read _ last.is_read (c.is_last_of_read.ensures.0 c.if-is_last_of_read.true);
           alone = subst (λ (e : ℕ). ¬ MaySynchronize (part_events p) e) c.from-event.ensures (c.never_synchronizes.ensures.0 c.if-never_synchronizes.true);
           not_held = λ held. false≢true (sym c.if-not-is_held.true ∙ c.is_held.ensures.1 held);
           past = subst (λ (e : ℕ). HasSettledPast (part_events p) p.sources e) c.from-event.ensures (c.has_settled_past.ensures.0 c.if-has_settled_past.true);

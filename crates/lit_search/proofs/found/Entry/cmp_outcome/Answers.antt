@@ -9,9 +9,3 @@ returns-in_default c =
     let a = c.args.self.now in
     let b = c.args.other.now in
     told 127 9 (boxed_slice_items a.outcome) (boxed_slice_items b.outcome) c.cmp.result (c.cmp.ensures ∙ ap₂ nat_cmp a.packed.by_small b.packed.by_small) c.in_default.not-Equal
-
-pub returns-in_default-cmp : goal.returns-in_default-cmp
-returns-in_default-cmp c =
-    let a = c.args.self.now in
-    let b = c.args.other.now in
-    told 2147483647 2 (boxed_slice_items a.outcome) (boxed_slice_items b.outcome) c.cmp-2.result (c.cmp-2.ensures ∙ ap₂ nat_cmp a.packed.by_large b.packed.by_large) c.in_default-cmp.not-Equal

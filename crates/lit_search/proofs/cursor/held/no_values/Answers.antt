@@ -1,0 +1,5 @@
+use Rattle.lit_search.proofs.WholeValues.{whole_from_none}
+use Rattle.lit_search.proofs.cursor.held.no_values.Goals as goal
+
+pub returns-clause-values : goal.returns-clause-values
+returns-clause-values c = whole_from_none c.args.part.now 64 c.requires
