@@ -66,10 +66,10 @@ fn keep_on(
     laws();
     let known = known_after(plan, cursor.part(), kept);
     let mut next = from;
-    while let Some(shown) = cursor.next(plan, kept, known, &*coming, since, &mut next, to) {
-        next = shown.example.choice + 1;
+    while let Some(example) = cursor.next(plan, kept, known, &*coming, since, &mut next, to) {
+        next = example.choice + 1;
         mark_race(race, cursor.part());
-        kept.keep(shown)?;
+        kept.keep(cursor.outcome(), example)?;
         coming.leave(plan, &*cursor);
     }
     Ok(next)

@@ -1,13 +1,13 @@
 -- What choices show to a search for some of the outcomes.
 use Rattle.std.specs.Prelude.{◌≡◌, ℕ, ◌<◌, ◌≤◌, Bool, IsTrue, List}
 use Rattle.lit_read.specs.Syntax.{Litmus}
-use Rattle.lit_search.specs.declared.cursor.passing.Shown.{Shown}
+use Rattle.lit_search.specs.declared.found.Example.{Example}
 use Rattle.lit_search.specs.Report.{Entry, Gives, in_range}
 use Rattle.lit_search.specs.Internal.Examined.{IsExample}
 
--- the entry that a value of the program's type `Shown` stands for
-abbrev pub shown_entry : Shown → Entry
-shown_entry shown = record { outcome = shown.outcome.items; choice = shown.example.choice; order = shown.example.order.items }
+-- the entry of an outcome and its example
+abbrev pub shown_entry : List ℕ → Example → Entry
+shown_entry outcome example = record { outcome = outcome; choice = example.choice; order = example.order.items }
 
 -- no valid execution has the choice with this number and an outcome that is wanted
 abbrev pub ShowsNone : Litmus → (List ℕ → Type 0) → ℕ → Type 0

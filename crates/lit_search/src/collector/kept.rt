@@ -5,7 +5,6 @@ ghost use Rattle.std.specs.List.Sorted.{IsStrictlySortedBy};
 ghost use Rattle.lit_search.specs.Entry.{entry_of};
 ghost use Rattle.lit_search.specs.Report.{outcome_cmp};
 
-use crate::cursor::passing::Shown;
 use crate::cursor::wanted::Wanted;
 use crate::found::{Entry, Example};
 use indexmap::IndexMap;
@@ -56,13 +55,13 @@ impl Kept {
     }
 
     /// Keeps one more outcome, with its example.
-    pub(crate) fn keep(&mut self, shown: Shown) -> Result<(), AllocError>
-        requires { ¬ HasOutcome self.old shown.outcome.items }
-        ensures ok { OnOk result (self.new ≡ merged self.old (shown_entry shown ∷ [])) }
+    pub(crate) fn keep(&mut self, outcome: &[u32], example: Example) -> Result<(), AllocError>
+        requires { ¬ HasOutcome self.old outcome.now }
+        ensures ok { OnOk result (self.new ≡ merged self.old (shown_entry outcome.now example ∷ [])) }
         ensures err { OnErr result (self.new ≡ self.old) }
     {
-        let outcome = BoxedSlice::from_slice(self.alloc, shown.outcome.as_slice())?;
-        let example = Box::new(self.alloc, shown.example)?;
+        let outcome = BoxedSlice::from_slice(self.alloc, outcome)?;
+        let example = Box::new(self.alloc, example)?;
         self.examples.insert(outcome, example)?;
         Ok(())
     }

@@ -87,18 +87,6 @@ pub(crate) fn set_outcome(outcome: &mut Outcome, part: &Part<'_>, held: &HeldRea
     }
 }
 
-/// An outcome of these values.
-pub(crate) fn outcome_of(values: &[u32]) -> Outcome
-    requires { length values.now ≤ NAME_LIMIT }
-    ensures { result.items ≡ values.now }
-{
-    let mut outcome = Outcome::new();
-    let Ok(()) = outcome.try_extend_from_slice(values) else {
-        unreachable!()
-    };
-    outcome
-}
-
 /// Values of registers, in the order of `Plan::names`, as far as the reads that these hold have all their bytes.
 pub(crate) type Values = [u32; NAME_LIMIT];
 

@@ -17,7 +17,7 @@ ghost use Rattle.lit_search.specs.Internal.Wanting.{AllKnownAfter, GoesBy};
 
 use crate::cursor::Cursor;
 use crate::cursor::coming::Coming;
-use crate::cursor::held::{outcome_of, set_outcome};
+use crate::cursor::held::set_outcome;
 use crate::cursor::standing_in::is_stood_for;
 use crate::cursor::wanted::Wanted;
 use crate::found::{Example, Outcome};
@@ -25,13 +25,6 @@ use crate::laws::completions::laws;
 use lit_order::laws::{forced_rounds_have_no_order, left_out_sources_are_none};
 use lit_paths::Plan;
 use lit_rel::laws::refused_bytes_make_tests_false;
-
-/// The outcome of a choice of some valid execution, with the choice and its least memory-order.
-#[derive(Debug, Drop)]
-pub(crate) struct Shown {
-    pub outcome: Outcome,
-    pub example: Example,
-}
 
 impl Cursor<'_> {
     /// Whether its outcome by the sources given is wanted.
@@ -140,15 +133,14 @@ impl Cursor<'_> {
         None
     }
 
-    /// What its choice shows, by an order that may be kept.
-    fn choice_shown(&self, plan: &Plan<'_>) -> Option<Shown>
+    /// The example that its choice is of its outcome, by an order that may be kept.
+    fn choice_shown(&self, plan: &Plan<'_>) -> Option<Example>
         requires test { self.now.test ≡ plan.now }
         requires all { HasAll self.now }
         requires whole { ¬ IsRefuted (part_at self.now) }
         ensures none { IfNone result (NoneValid plan.now self.now) }
-        ensures shows { IfSome result (λ shown. IsExample plan.now (low_at self.now) (part_outcome (part_at self.now)) shown.example.order.items) }
-        ensures outcome { IfSome result (λ shown. shown.outcome.items ≡ part_outcome (part_at self.now)) }
-        ensures choice { IfSome result (λ shown. shown.example.choice ≡ low_at self.now) }
+        ensures shows { IfSome result (λ example. IsExample plan.now (low_at self.now) (part_outcome (part_at self.now)) example.order.items) }
+        ensures choice { IfSome result (λ example. example.choice ≡ low_at self.now) }
     {
         laws();
         let _part = self.part();
@@ -156,30 +148,28 @@ impl Cursor<'_> {
             return None;
         };
         let _names = plan.names();
-        let outcome = outcome_of(self.outcome());
         let choice = self.low();
-        let example = Example { choice, order };
-        Some(Shown { outcome, example })
+        Some(Example { choice, order })
     }
 
-    /// What its choice shows: its outcome with the least memory-order, or `None` where no valid execution has it. Each
-    /// byte read has a source. The order is kept for the choices that follow.
-    pub(crate) fn shown(&mut self, plan: &Plan<'_>) -> Option<Shown>
+    /// The example that its choice is of its outcome, with the least memory-order, or `None` where no valid execution has
+    /// it. Each byte read has a source. The order is kept for the choices that follow.
+    pub(crate) fn shown(&mut self, plan: &Plan<'_>) -> Option<Example>
         requires test { self.old.test ≡ plan.now }
         requires all { HasAll self.old }
         requires whole { ¬ IsRefuted (part_at self.old) }
         ensures same { self.new ≡ self.old }
         ensures none { IfNone result (NoneValid plan.now self.old) }
-        ensures shows { IfSome result (λ shown. IsExample plan.now (low_at self.old) (part_outcome (part_at self.old)) shown.example.order.items) }
-        ensures outcome { IfSome result (λ shown. shown.outcome.items ≡ part_outcome (part_at self.old)) }
-        ensures choice { IfSome result (λ shown. shown.example.choice ≡ low_at self.old) }
+        ensures shows { IfSome result (λ example. IsExample plan.now (low_at self.old) (part_outcome (part_at self.old)) example.order.items) }
+        ensures choice { IfSome result (λ example. example.choice ≡ low_at self.old) }
     {
         self.keep_order();
         self.choice_shown(plan)
     }
 
-    /// The first choice with a number from `from` up to and without `to` that shows an outcome that is wanted. None from
-    /// `since` up to and without `from` does. The cursor stands at most at `from`, and then at that choice. Where there is
+    /// The first choice with a number from `from` up to and without `to` that shows an outcome that is wanted, as the
+    /// example that it is. None from `since` up to and without `from` does. The cursor stands at most at `from`, and then at
+    /// that choice, and has its outcome. Where there is
     /// none, `from` is then a number from `to` on up to which none does. Everything that the search asks about is known
     /// after `known` byte reads.
     pub(crate) fn next<W: Wanted>(
@@ -191,7 +181,7 @@ impl Cursor<'_> {
         since: u64,
         from: &mut u64,
         to: u64,
-    ) -> Option<Shown>
+    ) -> Option<Example>
         requires test { self.old.test ≡ plan.now }
         requires few { known ≤ length (byte_reads (stand_events self.old)) }
         requires known { AllKnownAfter self.old.test self.old.combination known (W.Asks wanted.now plan.now) }
@@ -203,11 +193,10 @@ impl Cursor<'_> {
         ensures combination { self.new.combination ≡ self.old.combination }
         ensures shows { MatchOption result
             (NoneShow plan.now (W.IsWanted wanted.now plan.now) (in_range from.old from.new))
-            (λ shown. IsNext plan.now (W.IsWanted wanted.now plan.now) from.old to (shown_entry shown)) }
+            (λ example. IsNext plan.now (W.IsWanted wanted.now plan.now) from.old to (shown_entry (part_outcome (part_at self.new)) example)) }
         ensures past { IfNone result (to ≤ from.new) }
-        ensures stands { IfSome result (λ shown. low_at self.new ≡ shown.example.choice) }
-        ensures outcome { IfSome result (λ shown. shown.outcome.items ≡ part_outcome (part_at self.new)) }
-        ensures all { IfSome result (λ shown. HasAll self.new) }
+        ensures stands { IfSome result (λ example. low_at self.new ≡ example.choice) }
+        ensures all { IfSome result (λ _. HasAll self.new) }
     {
         laws();
         let first = *from;
@@ -222,8 +211,8 @@ impl Cursor<'_> {
                     *from = self.end();
                     return None;
                 }
-            } else if let Some(shown) = self.shown(plan) {
-                return Some(shown);
+            } else if let Some(example) = self.shown(plan) {
+                return Some(example);
             } else {
                 let depth = self.part().len();
                 if !self.leave(plan, depth, since) {

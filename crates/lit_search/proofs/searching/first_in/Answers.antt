@@ -4,7 +4,8 @@ use Rattle.lit_read.specs.Syntax.{Litmus}
 use Rattle.lit_paths.specs.Plan.{choices_before}
 use Rattle.lit_search.specs.Class.{is_of_class}
 use Rattle.lit_search.specs.Internal.Shown.{shown_entry}
-use Rattle.lit_search.specs.Internal.Places.{Stand, low_at}
+use Rattle.lit_search.specs.Internal.Held.{part_outcome}
+use Rattle.lit_search.specs.Internal.Places.{Stand, low_at, part_at}
 use Rattle.lit_search.proofs.NextLemmas.{known_at, none_at_first}
 use Rattle.lit_search.proofs.Keeping.{none_behind, first_found}
 use Rattle.lit_search.proofs.NumberSets.{before_end, not_below}
@@ -12,7 +13,7 @@ use Rattle.lit_search.proofs.searching.first_in.Goals as goal
 
 pub returns-in-Some : goal.returns-in-Some
 returns-in-Some c =
-    first_found c.args.plan.now c.args.class c.args.from c.loop-next.next c.min-end.result c.loop-next.invariant.none c.args.to (shown_entry c.in-Some.shown) c.loop-next.invariant.after (omega (arith, c.min-end.ensures)) c.in-Some.ensures.shows
+    first_found c.args.plan.now c.args.class c.args.from c.loop-next.next c.min-end.result c.loop-next.invariant.none c.args.to (shown_entry (part_outcome (part_at c.next.new.self)) c.in-Some.example) c.loop-next.invariant.after (omega (arith, c.min-end.ensures)) c.in-Some.ensures.shows
 
 pub loop-next-init : goal.loop-next-init
 loop-next-init c = record {

@@ -1,9 +1,9 @@
-use Rattle.std.proofs.Common.{inl, refl, subst, ◌∙◌}
+use Rattle.std.proofs.Common.{inl, subst}
 use Rattle.lit_read.specs.Syntax.{Litmus}
 use Rattle.lit_search.specs.Internal.Examined.{IsExample}
 use Rattle.lit_search.specs.Internal.Held.{part_outcome}
 use Rattle.lit_search.specs.Internal.Places.{low_at, part_at}
-use Rattle.lit_search.proofs.PassingLemmas.{AreNamed, are_named, is_example, length-part, no_order, none_shown}
+use Rattle.lit_search.proofs.PassingLemmas.{AreNamed, are_named, is_example, no_order, none_shown}
 use Rattle.lit_search.proofs.cursor.Cursor.choice_shown.Goals as goal
 
 pub returns-in_default-clause-none : goal.returns-in_default-clause-none
@@ -18,11 +18,3 @@ returns-clause-shows c =
     let named : AreNamed s.test = are_named s.test c.args.plan.now c.requires.test _ c.names-names.ensures.value c.names-names.ensures.known in
     subst (λ (t : Litmus). IsExample t (low_at s) (part_outcome (part_at s)) order) c.requires.test
     (is_example c.laws.ensures s c.part-part.ensures.entered c.part-part.ensures.placed c.requires.all named (λ broken. c.requires.whole (inl broken)) order c.in-Some.ensures.found)
-
-pub outcome-requires : goal.outcome-requires
-outcome-requires c = length-part c.args.self.now (part_at c.args.self.now) refl ∙ c.requires.all
-
-pub returns-clause-outcome : goal.returns-clause-outcome
-returns-clause-outcome c =
-    let s = c.args.self.now in
-    c.outcome_of-outcome.ensures ∙ c.outcome.ensures.value

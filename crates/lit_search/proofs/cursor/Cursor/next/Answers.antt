@@ -1,4 +1,4 @@
-use Rattle.std.proofs.Common.{◌≡◌, ℕ, ◌+◌, ◌-◌, ◌*◌, ◌<◌, ◌≤◌, List, length, refl, ap, sym, subst, ◌∙◌, arith}
+use Rattle.std.proofs.Common.{◌≡◌, ℕ, ◌+◌, ◌-◌, ◌*◌, ◌<◌, ◌≤◌, length, refl, ap, sym, subst, ◌∙◌, arith}
 use Rattle.lit_read.specs.Syntax.{Litmus}
 use Rattle.lit_paths.specs.ByteReads.{byte_reads}
 use Rattle.lit_paths.specs.Plan.{choices_before}
@@ -8,8 +8,7 @@ use Rattle.lit_search.specs.Internal.Held.{part_outcome}
 use Rattle.lit_search.specs.Internal.Others.{AddsNothing}
 use Rattle.lit_search.specs.Internal.Passing.{HasAll, first_places}
 use Rattle.lit_search.specs.Internal.Places.{Stand, behind_at, low_at, part_at, stand_events}
-use Rattle.lit_search.specs.Internal.Shown.{IsShown, shown_entry}
-use Rattle.lit_search.specs.Internal.Examined.{IsExample}
+use Rattle.lit_search.specs.Internal.Shown.{IsNext, IsShown, shown_entry}
 use Rattle.lit_search.proofs.Keeping.{next_shown}
 use Rattle.lit_search.proofs.LeftOutLemmas.{smaller_gone}
 use Rattle.lit_search.proofs.NextLemmas.{none_at_first, none_up_to, passed_on, same_reads, seen_on, smaller_leave}
@@ -140,14 +139,10 @@ returns-in-Some-shown-clause-shows g c =
       ap (λ (p : PartModel). length (byte_reads (part_events p))) c.part-in_default.ensures.value,
     ) in
     let one = ways_end (stand_events s) (length s.places) (omega (arith, all)) in
-    let shown = c.in-Some-shown.shown in
-    let outcome : shown.outcome.items ≡ part_outcome (part_at s) = c.in-Some-shown.ensures.outcome in
-    let is : IsShown t Wanted (low_at s) (shown_entry shown) = record {
-      choice = c.in-Some-shown.ensures.choice;
-      example = subst (λ (o : List ℕ). IsExample t (low_at s) o shown.example.order.items) (sym outcome) c.in-Some-shown.ensures.shows;
-      wanted = subst (λ (o : List ℕ). Wanted o) (sym outcome) (open'.wanted all);
-    } in
-    next_shown t Wanted c.args.from.now c.args.to (low_at s) (shown_entry shown) (omega (arith, open'.behind, one)) (omega (arith, c.loop-self-test.true, c.low.ensures)) c.loop-self.invariant.none is
+    let entry = shown_entry (part_outcome (part_at s)) c.in-Some-shown.example in
+    let is : IsShown t Wanted (low_at s) entry = record { choice = c.in-Some-shown.ensures.choice; example = c.in-Some-shown.ensures.shows; wanted = open'.wanted all } in
+    subst (λ (u : Stand). IsNext t Wanted c.args.from.now c.args.to (shown_entry (part_outcome (part_at u)) c.in-Some-shown.example)) (sym c.shown.ensures.same)
+    (next_shown t Wanted c.args.from.now c.args.to (low_at s) entry (omega (arith, open'.behind, one)) (omega (arith, c.loop-self-test.true, c.low.ensures)) c.loop-self.invariant.none is)
 
 pub returns-in-Some-shown-clause-all : goal.returns-in-Some-shown-clause-all
 returns-in-Some-shown-clause-all g c =
@@ -164,9 +159,6 @@ returns-in-Some-shown-clause-all g c =
       ap (λ (p : PartModel). length (byte_reads (part_events p))) c.part.ensures.value,
       ap (λ (p : PartModel). length (byte_reads (part_events p))) c.part-in_default.ensures.value,
     )
-
-pub returns-in-Some-shown-clause-outcome : goal.returns-in-Some-shown-clause-outcome
-returns-in-Some-shown-clause-outcome g c = c.in-Some-shown.ensures.outcome ∙ ap (λ (x : Stand). part_outcome (part_at x)) (sym c.shown.ensures.same)
 
 pub leave-requires-in_default-shown : goal.leave-requires-in_default-shown
 leave-requires-in_default-shown g c = record {

@@ -1,9 +1,9 @@
-use Rattle.std.proofs.Common.{◌≡◌, ◌<◌, ℕ, List, length, get_or, ap, subst, sym, ◌∙◌, arith}
+use Rattle.std.proofs.Common.{◌<◌, ℕ, List, length, get_or, ap, subst, sym, ◌∙◌, arith}
 use Rattle.std.proofs.lemmas.Option.{slice_get-get_or}
 use Rattle.lit_read.specs.Syntax.{Litmus}
 use Rattle.lit_paths.specs.Plan.{events_in}
 use Rattle.lit_rel.specs.Part.{PartModel, part_events}
-use Rattle.lit_search.specs.Internal.Places.{Stand, candidates_at, part_at, stand_events}
+use Rattle.lit_search.specs.Internal.Places.{candidates_at}
 use Rattle.lit_search.proofs.StandLemmas.{candidates_here, its_part, known_here}
 use Rattle.lit_search.proofs.cursor.Cursor.repeats_with.Goals as goal
 

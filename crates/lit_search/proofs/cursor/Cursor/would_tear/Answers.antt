@@ -11,7 +11,7 @@ use Rattle.lit_rel.specs.Part.{PartModel, part_events}
 use Rattle.lit_rel.specs.TearFree.{CanReadWhole}
 use Rattle.lit_rel.proofs.SettledLemmas.{read_there}
 use Rattle.lit_search.specs.Internal.Alike.{IsWholeFrom}
-use Rattle.lit_search.specs.Internal.LeftOut.{IsOtherWhole, WouldTear}
+use Rattle.lit_search.specs.Internal.LeftOut.{IsOtherWhole}
 use Rattle.lit_search.specs.Internal.Others.{AreOfRead}
 use Rattle.lit_search.specs.Internal.Places.{Stand, part_at, stand_events}
 use Rattle.lit_search.proofs.LeftOutLemmas.{pair_there}
