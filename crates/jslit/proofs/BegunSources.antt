@@ -1,5 +1,5 @@
 -- The sources of a choice, taken one after the other by its number.
-use Rattle.std.proofs.Common.{◌≡◌, ℕ, ◌+◌, ◌-◌, ◌*◌, ◌/◌, ◌<◌, ◌≤◌, ⊎_elim, List, [], ◌∷◌, ◌++◌, length, map, take, drop, Some, refl, sym, ap, subst, ◌∙◌, arith}
+use Rattle.std.proofs.Common.{◌≡◌, ℕ, ◌+◌, ◌-◌, ◌*◌, ◌/◌, ◌<◌, ◌≤◌, ⊎_elim, List, [], ◌∷◌, ◌++◌, length, take, drop, Some, refl, sym, ap, subst, ◌∙◌, arith}
 use Rattle.std.proofs.lemmas.Bool.{cases_lt}
 use Rattle.std.specs.Prelude.{All, slice_get}
 use Rattle.std.specs.List.{flat_map}
@@ -8,7 +8,7 @@ use Rattle.std.proofs.lemmas.List.Elements.{All-take, All-drop}
 use Rattle.std.proofs.lemmas.Nat.{div_below}
 use Rattle.lit_read.specs.Syntax.{Litmus}
 use Rattle.lit_paths.specs.ByteReads.{byte_reads, byte_read_at}
-use Rattle.lit_paths.specs.Choice.{Choice, candidates_of, choices_of, choices_on, combinations_of}
+use Rattle.lit_paths.specs.Choice.{Choice, candidates_of, choices_on, combinations_of}
 use Rattle.lit_paths.specs.Path.{Path}
 use Rattle.lit_paths.specs.Numbers.{AreNumbered, IsBegunBy, NumbersChoices, ways_from}
 use Rattle.lit_paths.specs.Plan.{HasSources, IsOfCombination, choices_before, events_in}

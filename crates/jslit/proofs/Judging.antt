@@ -4,7 +4,7 @@ use Rattle.std.proofs.lemmas.Bool.{false≢true}
 use Rattle.std.proofs.lemmas.List.{get_or_default}
 use Rattle.lit_read.specs.Syntax.{Litmus}
 use Rattle.lit_paths.specs.Outcome.{meets}
-use Rattle.lit_search.specs.Report.{Entry, Report, entry_at}
+use Rattle.lit_search.specs.Report.{Entry, Report}
 use Rattle.jslit.specs.declared.verdict.Verdict.TheVariants.{Always, Sometimes, Never}
 use Rattle.jslit.specs.Verdict.{IsVerdict, verdict_of}
 use Rattle.jslit.specs.Internal.Judging.{AllAnswer, SomeAnswers}

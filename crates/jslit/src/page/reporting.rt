@@ -7,7 +7,7 @@ ghost use Rattle.std.specs.List.{flat_map};
 ghost use Rattle.lit_paths.specs.Event.{does_read};
 ghost use Rattle.lit_paths.specs.Choice.{choices_of};
 ghost use Rattle.lit_paths.specs.ByteReads.{byte_reads};
-ghost use Rattle.lit_search.specs.Report.{IsReport, in_range};
+ghost use Rattle.lit_search.specs.Report.{IsReport, entry_at, in_range};
 ghost use Rattle.jslit.specs.Counted.{device_of, failures_of, one_more};
 ghost use Rattle.jslit.specs.Devices.{AppendsBeginning};
 ghost use Rattle.jslit.specs.ReportText.{line, verdict_text, event_name, source_line, register_text, registers_text, entry_text, class_text, report_text, quick_text, yes_or_no};
@@ -238,7 +238,19 @@ fn put_race<W: Write>(page: &mut Page, output: &mut Counted<W>, race: bool)
     page.put_byte(output, b'\n');
 }
 
-/// Puts an outcome and its example for each entry of a report.
+/// The choice of the example with a place in a report, or 0 behind the last.
+fn choice_at(found: &Found, place: usize) -> u64
+    ensures { place < length found.now.entries → result ≡ (entry_at found.now place).choice }
+{
+    if place < found.len() {
+        found.example(place).choice
+    } else {
+        0
+    }
+}
+
+/// Puts an outcome and its example for each entry of a report. Examples lie here and there in memory, so each is looked at
+/// one entry before it is put: till then the memory is at hand.
 fn put_entries<W: Write>(page: &mut Page, output: &mut Counted<W>, plan: &Plan<'_>, found: &Found)
     requires report { IsReport plan.now (in_range 0 (length (choices_of plan.now))) found.now }
     ensures { HasPut (writing_of W.contents output.old page.old) (writing_of W.contents output.new page.new) (flat_map (entry_text plan.now) found.now.entries) }
@@ -246,16 +258,20 @@ fn put_entries<W: Write>(page: &mut Page, output: &mut Counted<W>, plan: &Plan<'
     let _some = plan.combinations();
     let mut combination = plan.enter(0);
     let mut shared = Shared::new();
+    let mut choice = choice_at(found, 0);
     for place in 0..found.len() {
+        let next = choice_at(found, place + 1);
         put_entry(
             page,
             output,
             &*plan,
             &mut combination,
             found.outcome(place),
-            found.example(place),
+            choice,
+            found.example(place).order.as_slice(),
             &mut shared,
         );
+        choice = next;
     }
 }
 
@@ -304,13 +320,15 @@ fn put_class<W: Write>(
     page.put_byte(output, b' ');
     let _some = plan.combinations();
     let mut combination = plan.enter(0);
+    let example = found.example(0);
     put_entry(
         page,
         output,
         &*plan,
         &mut combination,
         found.outcome(0),
-        found.example(0),
+        example.choice,
+        example.order.as_slice(),
         &mut Shared::new(),
     );
 }

@@ -19,7 +19,6 @@ use crate::page::reporting::{put_register_head, put_registers};
 use lit_paths::laws::{choices_are_on_combinations, combinations_are_listed};
 use lit_paths::{Combination, Event, Plan};
 use lit_read::Test;
-use lit_search::Example;
 use std::io::Write;
 
 /// The line of an outcome up to its last value, with the values that stand there.
@@ -294,30 +293,31 @@ fn name_events(plan: &Plan<'_>, combination: &Combination<'_>, shared: &mut Shar
     shared.named = true;
 }
 
-/// Puts an outcome and its example, whose combination is entered unless it is.
+/// Puts an outcome and its example, by the example's choice and order. The choice's combination is entered unless it is.
 pub(crate) fn put_entry<'p, 'f, W: Write>(
     page: &mut Page,
     output: &mut Counted<W>,
     plan: &'p Plan<'p>,
     combination: &mut Combination<'p>,
     outcome: &'f [u32],
-    example: &'f Example,
+    choice: u64,
+    order: &'f [u8],
     shared: &mut Shared<'f>,
 )
     requires plan { combination.old.0 ≡ plan.now }
-    requires known { example.now.choice < length (choices_of plan.now) }
-    requires gives { Gives plan.now example.now.choice outcome.now }
-    requires least_order { HasLeastOrder plan.now example.now.choice example.now.order.items }
+    requires known { choice < length (choices_of plan.now) }
+    requires gives { Gives plan.now choice outcome.now }
+    requires least_order { HasLeastOrder plan.now choice order.now }
     requires shared { IsShared plan.now combination.old.1 shared.old }
     ensures plan { combination.new.0 ≡ plan.now }
     ensures shared { IsShared plan.now combination.new.1 shared.new }
     ensures text { HasPut (writing_of W.contents output.old page.old) (writing_of W.contents output.new page.new)
-        (entry_text plan.now (record { outcome = outcome.now; choice = example.now.choice; order = example.now.order.items })) }
+        (entry_text plan.now (record { outcome = outcome.now; choice = choice; order = order.now })) }
 {
     combinations_are_listed();
     choices_are_on_combinations();
     let test = plan.test();
-    enter_for(plan, combination, example.choice, shared);
+    enter_for(plan, combination, choice, shared);
     name_events(plan, &*combination, shared);
     put_outcome(
         page,
@@ -331,7 +331,7 @@ pub(crate) fn put_entry<'p, 'f, W: Write>(
         page,
         output,
         &*combination,
-        example.choice,
+        choice,
         &mut shared.lines,
         &shared.names,
     );
@@ -340,7 +340,7 @@ pub(crate) fn put_entry<'p, 'f, W: Write>(
         output,
         test,
         combination.events(),
-        example.order.as_slice(),
+        order,
         &mut shared.order,
         &shared.names,
     );

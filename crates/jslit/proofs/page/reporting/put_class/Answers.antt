@@ -16,6 +16,6 @@ put_entry-requires-clause-shared g c = c.new.ensures _ _
 
 pub returns : goal.returns
 returns g c =
-    let entry : Entry = record { outcome = c.outcome.result.now; choice = c.example.result.now.choice; order = c.example.result.now.order.items } in
-    let is : entry ≡ entry_at c.in-Some.found 0 = rw (c.outcome.ensures, c.example.ensures.choice, c.example.ensures.order) refl in
+    let entry : Entry = record { outcome = c.outcome.result.now; choice = c.example-example.result.now.choice; order = c.as_slice.result.now } in
+    let is : entry ≡ entry_at c.in-Some.found 0 = rw (c.outcome.ensures, c.example-example.ensures.choice, c.as_slice.ensures.value, c.example-example.ensures.order) refl in
     HasPut-is _ _ _ _ (HasPut-then _ _ _ _ _ (HasPut-then _ _ _ _ _ c.put.ensures c.put_byte.ensures) c.put_entry.ensures.text) (class_some c.args.plan.now c.args.word.now c.args.first.now c.in-Some.found entry c.in-Some.is is)

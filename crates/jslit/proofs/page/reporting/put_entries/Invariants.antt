@@ -1,5 +1,6 @@
-use Rattle.std.proofs.Common.{◌≡◌, drop}
+use Rattle.std.proofs.Common.{◌≡◌, ◌<◌, drop, length}
 use Rattle.std.specs.List.{flat_map}
+use Rattle.lit_search.specs.Report.{entry_at}
 use Rattle.jslit.specs.ReportText.{entry_text}
 use Rattle.jslit.specs.Internal.Sharing.{IsShared}
 use Rattle.jslit.specs.Internal.Writing.{writing_of}
@@ -9,6 +10,7 @@ use Rattle.jslit.proofs.page.reporting.put_entries.Given as goal
 abbrev pub invariant-loop-place : goal.invariant-loop-place
 invariant-loop-place g l = record {
   entered : l.combination.0 ≡ l.plan;
+  choice : l.place < length l.found.entries → l.choice ≡ (entry_at l.found l.place).choice;
   shared : IsShared l.plan l.combination.1 l.shared;
   so_far : PutsOf (writing_of g.W.Write.contents l.fn.output l.fn.page) (writing_of g.W.Write.contents l.output l.page) (flat_map (entry_text l.plan) (drop l.place l.found.entries)) (flat_map (entry_text l.plan) l.found.entries);
 }

@@ -1,4 +1,4 @@
-use Rattle.std.proofs.Common.{subst, sym}
+use Rattle.std.proofs.Common.{subst}
 use Rattle.lit_read.specs.Syntax.{Litmus}
 use Rattle.jslit.specs.Internal.Names.{AreNames}
 use Rattle.jslit.proofs.page.sharing.name_events.Goals as goal
