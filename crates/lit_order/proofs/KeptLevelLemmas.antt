@@ -60,6 +60,22 @@ AreForcedLevels-open part earlier now sound none no_levels least level =
       apart = λ _ i other at. absurd (no_entry earlier no_levels i other at);
     }
 
+-- where nothing is known of a part with no source
+pub AreForcedLevels-unknown : (part : PartModel) (earlier : List ForcedLevel) (now : ForcedLevel) → AreEventsIn part.test.bytes (part_events part) → part.sources ≡ [] → earlier ≡ [] → now.least ≡ 1 → now.round ≡ false → AreForcedLevels part earlier now
+AreForcedLevels-unknown part earlier now sound none no_levels least straight =
+    let no : length part.sources ≡ 0 = ap length none in
+    record {
+      sound = sound;
+      here = λ k low high. absurd (omega (arith, low, high, no, least));
+      below = λ k _ _ refuted. unsourced_refuted (first_of part k) (take_all k part.sources (omega (arith, no)) ∙ none) refuted;
+      straight = λ _. straight;
+      kept = λ i other at. absurd (no_entry earlier no_levels i other at);
+      ordered = λ i other at. absurd (no_entry earlier no_levels i other at);
+      rising = λ i j other more _ at _. absurd (no_entry earlier no_levels i other at);
+      lower = λ i other at. absurd (no_entry earlier no_levels i other at);
+      apart = λ _ i other at. absurd (no_entry earlier no_levels i other at);
+    }
+
 -- up to which number of sources a level goes does not matter to a part
 pub IsForcedLevel-most : (part : PartModel) (level : ForcedLevel) (most : ℕ) → IsForcedLevel part level → IsForcedLevel part (record level { most = most })
 IsForcedLevel-most part level most is = record { refuted = is.refuted; pairs = λ fine. record { len = (is.pairs fine).len; pairs = (is.pairs fine).pairs } }

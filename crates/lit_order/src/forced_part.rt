@@ -45,15 +45,17 @@ impl<'p> Model for ForcedPart<'p> {
 }
 
 impl<'p> ForcedPart<'p> {
-    /// A combination of a plan's test, by its number: below `combinations`. No byte read has a source yet.
+    /// A combination of a plan's test, by its number: below `combinations`. No byte read has a source yet. What it forces
+    /// without a source is found each time that it is asked for; `reopen` keeps it.
     pub fn open(plan: &'p Plan<'p>, combination: usize) -> Self
         requires { combination < length (combinations_of plan.now) }
         ensures value { result ≡ record { test = plan.now; combination = combination; sources = [] } }
         ensures sound { AreEventsIn result.test.bytes (part_events result) }
     {
-        let part = Part::open(plan, combination);
-        let levels = Levels::new(&part);
-        ForcedPart { part, levels }
+        ForcedPart {
+            part: Part::open(plan, combination),
+            levels: Levels::unknown(),
+        }
     }
 
     /// Opens a combination of a plan's test, by its number, below `combinations`, in place of the part that is there. This

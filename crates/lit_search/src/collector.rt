@@ -141,7 +141,8 @@ fn row_at(row: (u64, u64), from: u64) -> (u64, u64)
     if row.1 < from { (from, from) } else { row }
 }
 
-/// Has a cursor there, if there is none, on the combination of a choice.
+/// Has a cursor there, if there is none, on the combination of a choice. It is a large one, so this stays by itself.
+#[inline(never)]
 fn open_first<'p>(
     alloc: Global,
     cursor: &mut Option<Box<Cursor<'p>>>,

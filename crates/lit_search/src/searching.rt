@@ -47,14 +47,12 @@ pub fn first_in(plan: &Plan<'_>, class: Class, from: u64, to: u64) -> Option<u64
     let unknown = Coming::unknown();
     let mut next = from;
     while next < to {
+        cursor.reopen(&*plan, plan.combination(next));
         let known = known_after(plan, cursor.part(), &class);
         let end = cursor.end().min(to);
         let since = next;
         if let Some(example) = cursor.next(plan, &class, known, &unknown, since, &mut next, end) {
             return Some(example.choice);
-        }
-        if next < to {
-            cursor.reopen(&*plan, plan.combination(next));
         }
     }
     None

@@ -1,6 +1,6 @@
 //! What parts force.
 
-ghost use Rattle.std.specs.Prelude.{◌≡◌, ◌<◌, IsTrue, IsFalse, [], length};
+ghost use Rattle.std.specs.Prelude.{◌≡◌, ◌<◌, false, IsTrue, IsFalse, [], length};
 ghost use Rattle.lit_rel.specs.Broken.{IsBroken};
 ghost use Rattle.lit_rel.specs.Part.{PartModel, part_events};
 ghost use Rattle.lit_rel.specs.Rows.{Holds, IsTransitive, rows_len};
@@ -28,6 +28,19 @@ pub(crate) struct ForcedLevel {
 }
 
 impl ForcedLevel {
+    /// Nothing is said of parts with fewer sources than this number.
+    pub(crate) fn after(least: usize) -> Self
+        ensures straight { result.round ≡ false }
+        ensures least { result.least ≡ least }
+    {
+        ForcedLevel {
+            forced: TwoWayRows::default(),
+            round: false,
+            least,
+            most: 0,
+        }
+    }
+
     /// Makes it what a part with no source forces: its happens-before.
     pub(crate) fn open(&mut self, part: &Part<'_>)
         requires { part.now.sources ≡ [] }

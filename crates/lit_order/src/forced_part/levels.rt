@@ -1,6 +1,6 @@
 //! What is known of what the first sources of a combination force.
 
-ghost use Rattle.std.specs.Prelude.{◌≡◌, ◌-◌, ◌<◌, ◌≤◌, Some, [], ◌∷◌, ◌++◌, length, slice_get};
+ghost use Rattle.std.specs.Prelude.{◌≡◌, ◌-◌, ◌<◌, ◌≤◌, false, Some, [], ◌∷◌, ◌++◌, length, slice_get};
 ghost use Rattle.lit_order.specs.declared.forced_part.levels.TheConstants.{LEVELS_KEPT};
 ghost use Rattle.lit_order.specs.Internal.ForcedLevels.{AreForcedLevels, IsForcedLevel, IsKeptBetween, IsKeptOrder, IsLeastOf, WereForcedLevels, less_of};
 ghost use Rattle.lit_order.specs.Refuted.{IsRefuted};
@@ -29,26 +29,23 @@ pub(crate) struct Levels {
 }
 
 impl Levels {
-    /// What a part with no source forces.
-    pub(crate) fn new(part: &Part<'_>) -> Self
-        requires { part.now.sources ≡ [] }
+    /// Nothing is known of a part with no source. All of it is the same for each part.
+    pub(crate) fn unknown() -> Self
         ensures earlier { result.earlier.items ≡ [] }
-        ensures level { IsForcedLevel part.now result.now }
-        ensures least { result.now.least ≡ 0 }
+        ensures straight { result.now.round ≡ false }
+        ensures least { result.now.least ≡ 1 }
         ensures forbidden { result.forbidden.span.most < result.forbidden.span.least }
         ensures order { result.order.span.most < result.order.span.least }
     {
-        let mut now = ForcedLevel::default();
-        now.open(part);
         Levels {
             earlier: ArrayVec::new(),
-            now,
+            now: ForcedLevel::after(1),
             forbidden: KeptBetween::new(),
             order: KeptOrder::new(),
         }
     }
 
-    /// Makes it `new(part)`, in place.
+    /// Makes it what a part with no source forces.
     pub(crate) fn begin(&mut self, part: &Part<'_>)
         requires { part.now.sources ≡ [] }
         ensures earlier { self.new.earlier.items ≡ [] }

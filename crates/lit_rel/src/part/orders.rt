@@ -1,6 +1,6 @@
 //! happens-before (ECMA-262, 2024, 29.6.6) of the sources given, and what it was before.
 
-ghost use Rattle.std.specs.Prelude.{◌≡◌, ◌↔◌, ℕ, ◌<◌, ◌≤◌, [], ◌∷◌, ◌++◌, length, take};
+ghost use Rattle.std.specs.Prelude.{◌≡◌, ◌↔◌, ℕ, ◌<◌, ◌≤◌, IsTrue, [], ◌∷◌, ◌++◌, length, take};
 ghost use Rattle.lit_paths.specs.declared.limits.TheConstants.{EVENT_LIMIT};
 ghost use Rattle.lit_rel.specs.declared.part.orders.TheConstants.{ORDERS_KEPT};
 ghost use Rattle.lit_rel.specs.Internal.Given.{sources_of};
@@ -20,17 +20,21 @@ pub(crate) const ORDERS_KEPT: usize = 12;
 #[derive(Drop)]
 pub(crate) struct Orders {
     pub now: TwoWayRows,
+    /// Whether an event came before itself when no pair was added.
+    pub round: bool,
     pub earlier: ArrayVec<TwoWayRows, ORDERS_KEPT>,
 }
 
 impl Orders {
-    /// A relation to which no pair was added.
-    pub(crate) fn new(now: TwoWayRows) -> Self
+    /// A relation to which no pair was added. `round` says whether an event comes before itself.
+    pub(crate) fn new(now: TwoWayRows, round: bool) -> Self
         ensures now { result.now ≡ now }
+        ensures round { result.round ≡ round }
         ensures earlier { result.earlier.items ≡ [] }
     {
         Orders {
             now,
+            round,
             earlier: ArrayVec::new(),
         }
     }
@@ -39,9 +43,11 @@ impl Orders {
     pub(crate) fn begin(&mut self, events: &[Event])
         requires { length events.now ≤ EVENT_LIMIT }
         ensures now { IsOrder events.now [] self.new.now.rows }
+        ensures round { IsTrue self.new.round ↔ ((e : ℕ) × Holds self.new.now.rows e e) }
         ensures earlier { self.new.earlier.items ≡ [] }
     {
         put_unsourced_order(&mut self.now, events);
+        self.round = self.now.rows.has_cycle();
         self.earlier.clear();
     }
 

@@ -73,7 +73,7 @@ impl<'p> Related<'p> {
         Related {
             combination,
             bytes: SourcedBytes::new(),
-            orders: Orders::new(start),
+            orders: Orders::new(start, broken),
             earlier: Levels::new(),
             level: Level {
                 adds: false,
@@ -95,7 +95,7 @@ impl<'p> Related<'p> {
         self.orders.begin(self.combination.events());
         self.level = Level {
             adds: false,
-            broken: self.orders.now.rows.has_cycle(),
+            broken: self.orders.round,
             pairs: 0,
         };
     }

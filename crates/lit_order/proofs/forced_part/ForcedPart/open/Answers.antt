@@ -1,14 +1,14 @@
 use Rattle.std.proofs.Common.{ap}
 use Rattle.lit_rel.specs.Part.{PartModel}
 use Rattle.lit_order.proofs.KeptBetweenLemmas.{ForbiddenBy}
-use Rattle.lit_order.proofs.KeptLevelLemmas.{AreForcedLevels-open}
+use Rattle.lit_order.proofs.KeptLevelLemmas.{AreForcedLevels-unknown}
 use Rattle.lit_order.proofs.KeptOrderLemmas.{OrderedBy}
 use Rattle.lit_order.proofs.SpanLemmas.{HoldsOfFirst-none}
 use Rattle.lit_order.proofs.forced_part.ForcedPart.open.Goals as goal
 
 pub invariant_of-result : goal.invariant_of-result
 invariant_of-result c = (
-  AreForcedLevels-open c.open-part.result c.new-levels.result.earlier.items c.new-levels.result.now c.open-part.ensures.sound (ap (λ (p : PartModel). p.sources) c.open-part.ensures.value) c.new-levels.ensures.earlier c.new-levels.ensures.least c.new-levels.ensures.level,
-  HoldsOfFirst-none (ForbiddenBy c.new-levels.result.forbidden) c.open-part.result c.new-levels.result.forbidden.span c.new-levels.ensures.forbidden,
-  HoldsOfFirst-none (OrderedBy c.new-levels.result.order) c.open-part.result c.new-levels.result.order.span c.new-levels.ensures.order,
+  AreForcedLevels-unknown c.open.result c.unknown.result.earlier.items c.unknown.result.now c.open.ensures.sound (ap (λ (p : PartModel). p.sources) c.open.ensures.value) c.unknown.ensures.earlier c.unknown.ensures.least c.unknown.ensures.straight,
+  HoldsOfFirst-none (ForbiddenBy c.unknown.result.forbidden) c.open.result c.unknown.result.forbidden.span c.unknown.ensures.forbidden,
+  HoldsOfFirst-none (OrderedBy c.unknown.result.order) c.open.result c.unknown.result.order.span c.unknown.ensures.order,
 )
