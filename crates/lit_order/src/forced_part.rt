@@ -41,7 +41,7 @@ impl<'p> Model for ForcedPart<'p> {
 
     ghost view = { λ p. p.part };
 
-    ghost invariant = { λ p. AreForcedLevels p.part p.levels.earlier.items p.levels.now × IsKeptBetween p.part p.levels.forbidden × IsKeptOrder p.part p.levels.order };
+    ghost invariant = { λ p. AreForcedLevels p.part p.levels.earlier.items p.levels.now × IsKeptBetween p.part p.levels.forbidden × IsKeptBetween p.part p.levels.fewer × IsKeptOrder p.part p.levels.order };
 }
 
 impl<'p> ForcedPart<'p> {

@@ -24,6 +24,8 @@ pub(crate) struct Levels {
     pub now: ForcedLevel,
     /// What the part forbids, as far as that is known.
     pub forbidden: KeptBetween,
+    /// What it forbids with fewer sources, as far as that is known.
+    pub fewer: KeptBetween,
     /// The least memory-order of the part, as far as that is known.
     pub order: KeptOrder,
 }
@@ -35,12 +37,14 @@ impl Levels {
         ensures straight { result.now.round ≡ false }
         ensures least { result.now.least ≡ 1 }
         ensures forbidden { result.forbidden.span.most < result.forbidden.span.least }
+        ensures fewer { result.fewer.span.most < result.fewer.span.least }
         ensures order { result.order.span.most < result.order.span.least }
     {
         Levels {
             earlier: ArrayVec::new(),
             now: ForcedLevel::after(1),
             forbidden: KeptBetween::new(),
+            fewer: KeptBetween::new(),
             order: KeptOrder::new(),
         }
     }
@@ -52,11 +56,13 @@ impl Levels {
         ensures level { IsForcedLevel part.now self.new.now }
         ensures least { self.new.now.least ≡ 0 }
         ensures forbidden { self.new.forbidden.span.most < self.new.forbidden.span.least }
+        ensures fewer { self.new.fewer.span.most < self.new.fewer.span.least }
         ensures order { self.new.order.span.most < self.new.order.span.least }
     {
         self.earlier.clear();
         self.now.open(part);
         self.forbidden.span = Span::none();
+        self.fewer.span = Span::none();
         self.order.span = Span::none();
     }
 
@@ -66,20 +72,23 @@ impl Levels {
         requires last { slice_get part.now.sources (length part.now.sources - 1) ≡ Some source }
         requires levels { AreForcedLevels (less_of part.now) self.old.earlier.items self.old.now }
         requires forbidden { IsKeptBetween (less_of part.now) self.old.forbidden }
+        requires fewer { IsKeptBetween (less_of part.now) self.old.fewer }
         requires order { IsKeptOrder (less_of part.now) self.old.order }
         ensures levels { AreForcedLevels part.now self.new.earlier.items self.new.now }
         ensures forbidden { IsKeptBetween part.now self.new.forbidden }
+        ensures fewer { IsKeptBetween part.now self.new.fewer }
         ensures order { IsKeptOrder part.now self.new.order }
     {
         broken_parts_stay_broken();
         relations_grow_with_bytes();
         if self.now.round || part.broken() {
             self.forbidden.span.pass(part);
+            self.fewer.span.pass(part);
             self.order.span.pass(part);
             return;
         }
         let same = self.forbidden.gains_nothing(part, source);
-        self.forbidden.go_on(part, same);
+        self.forbidden.go_on(&mut self.fewer, part, source, same);
         self.order.go_on(part, same);
         if part.len() <= self.now.least {
             self.now.begin(part, &self.forbidden.between);
@@ -119,6 +128,7 @@ impl Levels {
     /// Keeps what is known for so many sources at the most, where there is room.
     fn keep(&mut self, most: usize)
         ensures forbidden { self.new.forbidden ≡ self.old.forbidden }
+        ensures fewer { self.new.fewer ≡ self.old.fewer }
         ensures order { self.new.order ≡ self.old.order }
         ensures now { self.new.now ≡ record { forced = self.old.now.forced; round = self.old.now.round; least = self.old.now.least; most = most } }
         ensures kept { length self.old.earlier.items < LEVELS_KEPT → self.new.earlier.items ≡ self.old.earlier.items ++ self.new.now ∷ [] }
@@ -135,6 +145,7 @@ impl Levels {
         requires { WereForcedLevels part.now self.old.earlier.items self.old.now }
         ensures levels { AreForcedLevels part.now self.new.earlier.items self.new.now }
         ensures forbidden { self.new.forbidden ≡ self.old.forbidden }
+        ensures fewer { self.new.fewer ≡ self.old.fewer }
         ensures order { self.new.order ≡ self.old.order }
     {
         let depth = part.len();

@@ -10,5 +10,6 @@ pub invariant_of-result : goal.invariant_of-result
 invariant_of-result c = (
   AreForcedLevels-unknown c.open.result c.unknown.result.earlier.items c.unknown.result.now c.open.ensures.sound (ap (λ (p : PartModel). p.sources) c.open.ensures.value) c.unknown.ensures.earlier c.unknown.ensures.least c.unknown.ensures.straight,
   HoldsOfFirst-none (ForbiddenBy c.unknown.result.forbidden) c.open.result c.unknown.result.forbidden.span c.unknown.ensures.forbidden,
+  HoldsOfFirst-none (ForbiddenBy c.unknown.result.fewer) c.open.result c.unknown.result.fewer.span c.unknown.ensures.fewer,
   HoldsOfFirst-none (OrderedBy c.unknown.result.order) c.open.result c.unknown.result.order.span c.unknown.ensures.order,
 )

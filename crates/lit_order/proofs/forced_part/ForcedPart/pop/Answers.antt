@@ -27,6 +27,8 @@ invariant_of-self c =
       c.go_back.ensures.levels,
       subst (IsKeptBetween c.pop.new.self) (sym c.go_back.ensures.forbidden)
           (subst (λ (p : PartModel). IsKeptBetween p inside.levels.forbidden) (sym c.pop.ensures) (HoldsOfFirst-back (ForbiddenBy inside.levels.forbidden) part last (omega arith) inside.levels.forbidden.span c.self.invariant.1)),
+      subst (IsKeptBetween c.pop.new.self) (sym c.go_back.ensures.fewer)
+          (subst (λ (p : PartModel). IsKeptBetween p inside.levels.fewer) (sym c.pop.ensures) (HoldsOfFirst-back (ForbiddenBy inside.levels.fewer) part last (omega arith) inside.levels.fewer.span c.self.invariant.2)),
       subst (IsKeptOrder c.pop.new.self) (sym c.go_back.ensures.order)
-          (subst (λ (p : PartModel). IsKeptOrder p inside.levels.order) (sym c.pop.ensures) (HoldsOfFirst-back (OrderedBy inside.levels.order) part last (omega arith) inside.levels.order.span c.self.invariant.2)),
+          (subst (λ (p : PartModel). IsKeptOrder p inside.levels.order) (sym c.pop.ensures) (HoldsOfFirst-back (OrderedBy inside.levels.order) part last (omega arith) inside.levels.order.span c.self.invariant.3)),
     )

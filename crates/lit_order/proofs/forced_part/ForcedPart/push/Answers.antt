@@ -17,8 +17,14 @@ go_on-requires-clause-forbidden c =
     subst (λ (p : PartModel). IsKeptBetween (less_of p) inside.levels.forbidden) (sym c.push.ensures)
     (subst (λ (ws : List ℕ). IsKeptBetween (with_sources inside.part ws) inside.levels.forbidden) (sym (front_of inside.part.sources c.args.source)) c.self.invariant.1)
 
+pub go_on-requires-clause-fewer : goal.go_on-requires-clause-fewer
+go_on-requires-clause-fewer c =
+    let inside = c.self.inside in
+    subst (λ (p : PartModel). IsKeptBetween (less_of p) inside.levels.fewer) (sym c.push.ensures)
+    (subst (λ (ws : List ℕ). IsKeptBetween (with_sources inside.part ws) inside.levels.fewer) (sym (front_of inside.part.sources c.args.source)) c.self.invariant.2)
+
 pub go_on-requires-clause-order : goal.go_on-requires-clause-order
 go_on-requires-clause-order c =
     let inside = c.self.inside in
     subst (λ (p : PartModel). IsKeptOrder (less_of p) inside.levels.order) (sym c.push.ensures)
-    (subst (λ (ws : List ℕ). IsKeptOrder (with_sources inside.part ws) inside.levels.order) (sym (front_of inside.part.sources c.args.source)) c.self.invariant.2)
+    (subst (λ (ws : List ℕ). IsKeptOrder (with_sources inside.part ws) inside.levels.order) (sym (front_of inside.part.sources c.args.source)) c.self.invariant.3)

@@ -10,5 +10,6 @@ pub invariant_of-self : goal.invariant_of-self
 invariant_of-self c = (
   AreForcedLevels-open c.reopen.new.self c.begin.new.self.earlier.items c.begin.new.self.now c.reopen.ensures.sound (ap (λ (p : PartModel). p.sources) c.reopen.ensures.value) c.begin.ensures.earlier c.begin.ensures.least c.begin.ensures.level,
   HoldsOfFirst-none (ForbiddenBy c.begin.new.self.forbidden) c.reopen.new.self c.begin.new.self.forbidden.span c.begin.ensures.forbidden,
+  HoldsOfFirst-none (ForbiddenBy c.begin.new.self.fewer) c.reopen.new.self c.begin.new.self.fewer.span c.begin.ensures.fewer,
   HoldsOfFirst-none (OrderedBy c.begin.new.self.order) c.reopen.new.self c.begin.new.self.order.span c.begin.ensures.order,
 )

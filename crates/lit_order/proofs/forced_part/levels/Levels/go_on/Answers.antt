@@ -41,10 +41,16 @@ returns-then-self-clause-forbidden c =
     let was = c.args.self.now.forbidden in
     HoldsOfFirst-pass (ForbiddenBy was) c.args.part.now c.requires.some was.span c.requires.forbidden c.pass.new.self c.pass.ensures.least c.pass.ensures.fewer c.pass.ensures.few
 
+pub returns-then-self-clause-fewer : goal.returns-then-self-clause-fewer
+returns-then-self-clause-fewer c =
+    let was = c.args.self.now.fewer in
+    let pass = c.pass-then-self in
+    HoldsOfFirst-pass (ForbiddenBy was) c.args.part.now c.requires.some was.span c.requires.fewer pass.new.self pass.ensures.least pass.ensures.fewer pass.ensures.few
+
 pub returns-then-self-clause-order : goal.returns-then-self-clause-order
 returns-then-self-clause-order c =
     let was = c.args.self.now.order in
-    let pass = c.pass-then-self in
+    let pass = c.pass-then-self-2 in
     HoldsOfFirst-pass (OrderedBy was) c.args.part.now c.requires.some was.span c.requires.order pass.new.self pass.ensures.least pass.ensures.fewer pass.ensures.few
 
 pub goes_for-requires-clause-level : goal.goes_for-requires-clause-level
@@ -97,6 +103,9 @@ returns-then-not-goes_for-clause-levels c =
 
 pub returns-then-not-goes_for-clause-forbidden : goal.returns-then-not-goes_for-clause-forbidden
 returns-then-not-goes_for-clause-forbidden c = subst (IsKeptBetween c.args.part.now) (sym c.keep.ensures.forbidden) c.go_on.ensures.kept
+
+pub returns-then-not-goes_for-clause-fewer : goal.returns-then-not-goes_for-clause-fewer
+returns-then-not-goes_for-clause-fewer c = subst (IsKeptBetween c.args.part.now) (sym c.keep.ensures.fewer) c.go_on.ensures.fewer
 
 pub returns-else-not-same-clause-levels : goal.returns-else-not-same-clause-levels
 returns-else-not-same-clause-levels c =
