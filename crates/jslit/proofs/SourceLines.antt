@@ -1,8 +1,8 @@
 -- The lines of the reads, one event after the other.
-use Rattle.std.proofs.Common.{◌≡◌, ◌≢◌, ℕ, zero, suc, ◌+◌, ◌<◌, ◌≤◌, Bool, true, false, cond, eqb, List, [], ◌∷◌, ◌++◌, length, map, filter, take, drop, get_or, refl, sym, ap, ◌∙◌, arith, append_assoc, ne_eqb, eq-eqb}
+use Rattle.std.proofs.Common.{◌≡◌, ◌≢◌, ℕ, zero, suc, ◌+◌, ◌<◌, ◌≤◌, Bool, true, false, cond, eqb, List, [], ◌∷◌, ◌++◌, length, map, filter, take, drop, get_or, codes, refl, sym, ap, subst, ◌∙◌, arith, append_assoc, ne_eqb, eq-eqb}
 use Rattle.std.specs.Prelude.{All}
 use Rattle.std.specs.List.{AllByRecursion, flat_map, zip, range_with_len}
-use Rattle.std.proofs.lemmas.List.{append-nil, length-append, length-map, length-take, length-drop, at_drop_more, take-append-drop, take-append-le, drop-append-le}
+use Rattle.std.proofs.lemmas.List.{append-nil, length-append, length-map, length-take, length-drop, at_drop_more, drop_more, take_all, take-append-drop, take-append-le, drop-append-le}
 use Rattle.std.proofs.lemmas.List.Elements.{filter-append, All-drop}
 use Rattle.lit_read.specs.Syntax.{Litmus}
 use Rattle.lit_paths.specs.declared.event.Event.{Event}
@@ -10,8 +10,8 @@ use Rattle.lit_paths.specs.Event.{does_read, event_at}
 use Rattle.lit_paths.specs.ByteReads.{bytes_read_by, byte_reads_from, byte_reads, pair_of}
 use Rattle.lit_paths.specs.declared.byte_reads.ByteRead.{ByteRead}
 use Rattle.lit_search.specs.ValidExecution.{read_numbers_from}
-use Rattle.jslit.specs.ReportText.{source_line, from_lines}
-use Rattle.jslit.specs.Internal.ReadLine.{read_line, rest_after, lines_from}
+use Rattle.jslit.specs.ReportText.{line, event_name, names_text, source_line, from_lines}
+use Rattle.jslit.specs.Internal.ReadLine.{NoneReads, OnlyFirstReads, read_line, rest_after, lines_from, source_head, first_source_head, line_end, lines_up_to}
 
 abbrev Pair : Type 0
 Pair = (ℕ × ℕ) × ℕ
@@ -214,10 +214,20 @@ pub reads_long : (reads : List ByteRead) (events : List Event) → map pair_of r
 reads_long reads events is = sym (length-map reads pair_of) ∙ ap length is
 
 -- the last event that reads, and those behind it
-pub last_size : (events : List Event) (i : ℕ) (d : Event) → i < length events → length (byte_reads_from (i + 1) (drop (i + 1) events)) ≡ 0 → does_read (get_or events i d).kind ≡ true → (get_or events i d).size ≡ length (byte_reads_from i (drop i events))
+none_bytes : (n : ℕ) (es : List Event) → NoneReads es → length (byte_reads_from n es) ≡ 0
+none_bytes n [] none = refl
+none_bytes n (e ∷ es) none = rw none.0 (none_bytes (n + 1) es none.1)
+
+pub last_size : (events : List Event) (i : ℕ) (d : Event) → i < length events → NoneReads (drop (i + 1) events) → does_read (get_or events i d).kind ≡ true → (get_or events i d).size ≡ length (byte_reads_from i (drop i events))
 last_size events i d lt none reads =
     let e = get_or events i d in
-    omega (arith, none, ap length (at_drop_more (byte_reads_from i) events i d lt), length-append (bytes_read_by i e) (byte_reads_from (i + 1) (drop (i + 1) events)), length-read_by i e reads)
+    omega (arith, none_bytes (i + 1) (drop (i + 1) events) none, ap length (at_drop_more (byte_reads_from i) events i d lt), length-append (bytes_read_by i e) (byte_reads_from (i + 1) (drop (i + 1) events)), length-read_by i e reads)
+
+pub last_read_is : (events : List Event) (i : ℕ) (d : Event) → i < length events → NoneReads (drop (i + 1) events) → does_read (get_or events i d).kind ≡ true → OnlyFirstReads (drop i events)
+last_read_is events i d lt none reads = subst OnlyFirstReads (sym (drop_more events i d lt)) (reads, none)
+
+pub none_more : (events : List Event) (i : ℕ) (d : Event) → i < length events → NoneReads (drop (i + 1) events) → does_read (get_or events i d).kind ≡ false → NoneReads (drop i events)
+none_more events i d lt none idle = subst NoneReads (sym (drop_more events i d lt)) (idle, none)
 
 module _ (t : Litmus) (events : List Event) where
   line_split : (e : Event) (es : List Event) (ws us later more : List ℕ) (b : Bool) → (b ≡ true → e.size ≤ length ws)
@@ -239,9 +249,44 @@ module _ (t : Litmus) (events : List Event) where
       (lines_split (n + 1) es fs (rest_after e ws) us (by_kind n e ws (byte_reads_from (n + 1) es) (does_read e.kind) refl long))
 
   -- the lines of a part, and of the others
-  pub lines_both : (k : ℕ) (first last : List ℕ) → length (first ++ last) ≡ length (byte_reads events) → length first ≡ length (byte_reads (take k events))
+  lines_both : (k : ℕ) (first last : List ℕ) → length (first ++ last) ≡ length (byte_reads events) → length first ≡ length (byte_reads (take k events))
       → lines_from t events (take k events) first ++ lines_from t events (drop k events) last ≡ from_lines t events (first ++ last)
   lines_both k first last long cut =
       sym (lines_split 0 (take k events) (drop k events) first last cut)
       ∙ ap (λ (es : List Event). lines_from t events es (first ++ last)) (take-append-drop k events)
       ∙ sym (from_lines-is t events (first ++ last) long)
+
+-- ---- the last line, up to its sources and behind
+none_lines : (t : Litmus) (events es : List Event) (ws : List ℕ) → NoneReads es → lines_from t events es ws ≡ []
+none_lines t events [] ws none = refl
+none_lines t events (e ∷ es) ws none = rw none.0 (none_lines t events es ws none.1)
+
+head_and_end : (t : Litmus) (events : List Event) (e : Event) (es : List Event) (ws : List ℕ) (b : Bool) → b ≡ true → take e.size ws ≡ ws → NoneReads es
+    → source_head t e ++ line (names_text t events ws) ≡ cond b (source_line t events e (take e.size ws)) [] ++ lines_from t events es (cond b (drop e.size ws) ws)
+head_and_end t events e es ws true is whole none =
+    sym (append_assoc (source_head t e) (names_text t events ws) (codes "\n"))
+    ∙ ap (λ (w : List ℕ). w ++ codes "\n") (append_assoc (codes "  from") (codes " " ++ event_name t e) (names_text t events ws))
+    ∙ ap (source_line t events e) (sym whole)
+    ∙ sym (append-nil (source_line t events e (take e.size ws)))
+    ∙ ap (λ (w : List ℕ). source_line t events e (take e.size ws) ++ w) (sym (none_lines t events es (drop e.size ws) none))
+head_and_end t events e es ws false is whole none = absurd cc
+
+last_line : (t : Litmus) (events es : List Event) (ws : List ℕ) → OnlyFirstReads es → length ws ≡ length (byte_reads es) → first_source_head t es ++ line_end t events es ws ≡ lines_from t events es ws
+last_line t events [] ws only long = refl
+last_line t events (e ∷ es) ws only long =
+    head_and_end t events e es ws (does_read e.kind) only.0
+    (take_all e.size ws (omega (arith, long, length-append (bytes_read_by 0 e) (byte_reads_from 1 es), length-read_by 0 e only.0, none_bytes 1 es only.1))) only.1
+
+-- the end of a line that there is
+pub line_end_is : (t : Litmus) (events es : List Event) (ws : List ℕ) → 1 ≤ length es → line (names_text t events ws) ≡ line_end t events es ws
+line_end_is t events [] ws some = absurd (omega (arith, some))
+line_end_is t events (e ∷ es) ws some = refl
+
+-- the lines of a choice's reads: up to the sources of the last, and what is behind
+pub lines_whole : (t : Litmus) (events : List Event) (k : ℕ) (first last : List ℕ) → length (first ++ last) ≡ length (byte_reads events) → length first ≡ length (byte_reads (take k events)) → OnlyFirstReads (drop k events)
+    → lines_up_to t events k first ++ line_end t events (drop k events) last ≡ from_lines t events (first ++ last)
+lines_whole t events k first last long cut only =
+    append_assoc (lines_from t events (take k events) first) (first_source_head t (drop k events)) (line_end t events (drop k events) last)
+    ∙ ap (λ (w : List ℕ). lines_from t events (take k events) first ++ w)
+    (last_line t events (drop k events) last only (omega (arith, long, cut, length-append first last, length_parts events k)))
+    ∙ lines_both t events k first last long cut

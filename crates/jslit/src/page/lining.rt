@@ -7,15 +7,15 @@ ghost use Rattle.jslit.specs.ReportText.{from_lines};
 ghost use Rattle.jslit.specs.Internal.Keeping.{Holds};
 ghost use Rattle.jslit.specs.Internal.Lining.{HoldsLines, IsBegun};
 ghost use Rattle.jslit.specs.Internal.Names.{AreNames};
-ghost use Rattle.jslit.specs.Internal.ReadLine.{lines_from};
+ghost use Rattle.jslit.specs.Internal.ReadLine.{OnlyFirstReads, first_source_head, lines_up_to, line_end};
 ghost use Rattle.jslit.specs.Internal.Sourcing.{IsIn};
 ghost use Rattle.jslit.specs.Internal.Writing.{HasPut, writing_of};
 
 use crate::counted::Counted;
 use crate::page::Page;
 use crate::page::keeping::Kept;
-use crate::page::names::Names;
-use crate::page::reporting::put_sources;
+use crate::page::names::{Names, put_names};
+use crate::page::reporting::{put_source_head, put_sources};
 use crate::page::sourcing::{Row, take_sources};
 use lit_paths::laws::choices_have_numbers;
 use lit_paths::{Combination, Event, Sources};
@@ -23,6 +23,7 @@ use lit_read::Test;
 use std::io::Write;
 
 /// The lines of the reads among the first events, so many, with their sources, and the choices that begin with these.
+/// Behind them the line of the event that follows, which is the last that reads, up to its sources.
 #[derive(Drop)]
 pub(crate) struct KeptLines {
     part: usize,
@@ -52,9 +53,10 @@ impl KeptLines {
     }
 }
 
-/// How many events stand before the last that reads, and how many bytes that one has. Without one, no event and no byte.
+/// How many events stand before the last that reads, and how many bytes that one has. Without one, all events and no byte.
 fn last_read(events: &[Event]) -> (usize, usize)
     ensures known { result.0 ≤ length events.now }
+    ensures last { OnlyFirstReads (drop result.0 events.now) }
     ensures size { result.1 ≡ length (byte_reads_from result.0 (drop result.0 events.now)) }
 {
     let mut place = events.len();
@@ -64,10 +66,43 @@ fn last_read(events: &[Event]) -> (usize, usize)
             return (place, events[place].size as usize);
         }
     }
-    (0, 0)
+    (events.len(), 0)
 }
 
-/// Makes the lines of the reads among the first events, so many, unless they are too long.
+/// Puts the line of the first of these events up to its sources, if there is one.
+fn put_first_head<W: Write>(page: &mut Page, output: &mut Counted<W>, test: &Test, events: &[Event])
+    requires owned { All (λ e. IfSome e.owner (λ agent. agent < length test.now.agents)) events.now }
+    ensures { HasPut (writing_of W.contents output.old page.old) (writing_of W.contents output.new page.new) (first_source_head test.now events.now) }
+{
+    if let [read, ..] = events {
+        put_source_head(page, output, test, read);
+    }
+}
+
+/// Puts the lines of the reads among the first events, so many, and that of the event behind up to its sources.
+fn put_front<W: Write>(
+    page: &mut Page,
+    output: &mut Counted<W>,
+    test: &Test,
+    events: &[Event],
+    part: usize,
+    sources: &[u8],
+    names: &Names,
+)
+    requires owned { All (λ e. IfSome e.owner (λ agent. agent < length test.now.agents)) events.now }
+    requires known { All (λ n. n < length events.now) sources.now }
+    requires part { part ≤ length events.now }
+    requires one_each { length sources.now ≡ length (byte_reads (take part events.now)) }
+    requires names { AreNames test.now names.now.names }
+    ensures { HasPut (writing_of W.contents output.old page.old) (writing_of W.contents output.new page.new) (lines_up_to test.now events.now part sources.now) }
+{
+    let (first, last) = events.split_at(part);
+    put_sources(page, output, test, events, first, sources, names);
+    put_first_head(page, output, test, last);
+}
+
+/// Makes the lines of the reads among the first events, so many, and that of the event behind up to its sources, unless
+/// they are too long.
 fn make_lines(
     text: &mut Kept,
     test: &Test,
@@ -81,22 +116,22 @@ fn make_lines(
     requires part { part ≤ length events.now }
     requires one_each { length sources.now ≡ length (byte_reads (take part events.now)) }
     requires names { AreNames test.now names.now.names }
-    ensures { Holds text.new (lines_from test.now events.now (take part events.now) sources.now) }
+    ensures { Holds text.new (lines_up_to test.now events.now part sources.now) }
 {
     text.begin();
-    put_sources(
+    put_front(
         &mut text.page,
         &mut text.nowhere,
         test,
         events,
-        &events[..part],
+        part,
         sources,
         names,
     );
 }
 
-/// Keeps the lines of all reads of a choice but the last, unless they are too long. They are made anew unless those that
-/// are kept are the choice's.
+/// Keeps the lines of all reads of a choice, the last up to its sources, unless they are too long. They are made anew
+/// unless those that are kept are the choice's.
 fn keep_lines(kept: &mut KeptLines, combination: &Combination<'_>, choice: u64, names: &Names)
     requires owned { All (λ e. IfSome e.owner (λ agent. agent < length combination.now.0.agents)) (events_in combination.now.0 combination.now.1) }
     requires of { IsOfCombination combination.now.0 choice combination.now.1 }
@@ -131,7 +166,7 @@ fn keep_lines(kept: &mut KeptLines, combination: &Combination<'_>, choice: u64, 
     );
 }
 
-/// Puts the lines of the first reads, as they are kept.
+/// Puts the lines of all reads, the last up to its sources, as they are kept.
 fn put_kept_lines<W: Write>(
     page: &mut Page,
     output: &mut Counted<W>,
@@ -145,26 +180,47 @@ fn put_kept_lines<W: Write>(
     requires part { kept.now.part ≤ length events.now }
     requires one_each { length kept.now.sources.items ≡ length (byte_reads (take kept.now.part events.now)) }
     requires names { AreNames test.now names.now.names }
-    requires kept { Holds kept.now.text (lines_from test.now events.now (take kept.now.part events.now) kept.now.sources.items) }
-    ensures { HasPut (writing_of W.contents output.old page.old) (writing_of W.contents output.new page.new) (lines_from test.now events.now (take kept.now.part events.now) kept.now.sources.items) }
+    requires kept { Holds kept.now.text (lines_up_to test.now events.now kept.now.part kept.now.sources.items) }
+    ensures { HasPut (writing_of W.contents output.old page.old) (writing_of W.contents output.new page.new) (lines_up_to test.now events.now kept.now.part kept.now.sources.items) }
 {
     if kept.text.is_kept() {
         page.put(output, kept.text.text());
         return;
     }
-    put_sources(
+    put_front(
         page,
         output,
         test,
         events,
-        &events[..kept.part],
+        kept.part,
         kept.sources.as_slice(),
         names,
     );
 }
 
-/// Puts a line for each read of a choice, with the sources of its bytes. All but the last are mostly those of the choice
-/// before.
+/// Puts the sources of the first of the last events and the end of its line, if there is one.
+fn put_line_end<W: Write>(
+    page: &mut Page,
+    output: &mut Counted<W>,
+    test: &Test,
+    events: &[Event],
+    last: &[Event],
+    sources: &[u8],
+    names: &Names,
+)
+    requires owned { All (λ e. IfSome e.owner (λ agent. agent < length test.now.agents)) events.now }
+    requires known { All (λ n. n < length events.now) sources.now }
+    requires names { AreNames test.now names.now.names }
+    ensures { HasPut (writing_of W.contents output.old page.old) (writing_of W.contents output.new page.new) (line_end test.now events.now last.now sources.now) }
+{
+    if let [_read, ..] = last {
+        put_names(page, output, test, events, sources, names);
+        page.put_byte(output, b'\n');
+    }
+}
+
+/// Puts a line for each read of a choice, with the sources of its bytes. All up to those of the last read is mostly that
+/// of the choice before.
 pub(crate) fn put_lines<W: Write>(
     page: &mut Page,
     output: &mut Counted<W>,
@@ -196,7 +252,7 @@ pub(crate) fn put_lines<W: Write>(
         choice,
     );
     put_kept_lines(page, output, test, events, &*kept, names);
-    put_sources(
+    put_line_end(
         page,
         output,
         test,

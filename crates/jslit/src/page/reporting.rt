@@ -14,7 +14,7 @@ ghost use Rattle.jslit.specs.ReportText.{line, verdict_text, event_name, source_
 ghost use Rattle.jslit.specs.Internal.FirstEntry.{IsOnlyEntry, entry_of_option};
 ghost use Rattle.jslit.specs.Internal.Sharing.{register_head};
 ghost use Rattle.jslit.specs.Internal.Names.{AreNames};
-ghost use Rattle.jslit.specs.Internal.ReadLine.{read_line, rest_after, lines_from};
+ghost use Rattle.jslit.specs.Internal.ReadLine.{source_head, read_line, rest_after, lines_from};
 ghost use Rattle.jslit.specs.Internal.Writing.{HasPut, writing_of};
 
 use crate::counted::Counted;
@@ -66,6 +66,20 @@ pub(crate) fn put_event<W: Write>(
     );
 }
 
+/// Puts the line of a read up to its sources.
+pub(crate) fn put_source_head<W: Write>(
+    page: &mut Page,
+    output: &mut Counted<W>,
+    test: &Test,
+    read: &Event,
+)
+    requires { IfSome read.now.owner (λ agent. agent < length test.now.agents) }
+    ensures { HasPut (writing_of W.contents output.old page.old) (writing_of W.contents output.new page.new) (source_head test.now read.now) }
+{
+    page.put(output, b"  from");
+    put_event(page, output, test, read);
+}
+
 /// Puts the line of a read, with the sources of its bytes.
 fn put_source_line<W: Write>(
     page: &mut Page,
@@ -82,8 +96,7 @@ fn put_source_line<W: Write>(
     requires names { AreNames test.now names.now.names }
     ensures { HasPut (writing_of W.contents output.old page.old) (writing_of W.contents output.new page.new) (source_line test.now events.now read.now sources.now) }
 {
-    page.put(output, b"  from");
-    put_event(page, output, test, read);
+    put_source_head(page, output, test, read);
     put_names(page, output, test, events, sources, names);
     page.put_byte(output, b'\n');
 }

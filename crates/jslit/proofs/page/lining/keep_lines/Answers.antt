@@ -1,11 +1,11 @@
-use Rattle.std.proofs.Common.{◌≡◌, ◌<◌, List, ℕ, length, take, sym, ap, subst, ◌∙◌, arith}
+use Rattle.std.proofs.Common.{◌≡◌, ◌<◌, List, ℕ, length, take, drop, sym, ap, subst, ◌∙◌, arith}
 use Rattle.std.specs.Prelude.{All}
 use Rattle.lit_read.specs.Syntax.{Litmus}
 use Rattle.lit_paths.specs.declared.event.Event.{Event}
 use Rattle.lit_paths.specs.ByteReads.{byte_reads}
 use Rattle.lit_paths.specs.Plan.{events_in}
 use Rattle.jslit.specs.Internal.Keeping.{Holds}
-use Rattle.jslit.specs.Internal.ReadLine.{lines_from}
+use Rattle.jslit.specs.Internal.ReadLine.{OnlyFirstReads, lines_up_to}
 use Rattle.jslit.proofs.BegunSources.{given_known, known_on, row_whole}
 use Rattle.jslit.proofs.SourceLines.{parts_long, reads_long}
 use Rattle.jslit.proofs.page.lining.keep_lines.Goals as goal
@@ -45,6 +45,7 @@ returns-clause-begun c =
     let own : length c.take_sources-kept.new.sources.items ≡ length (byte_reads (take part es)) = omega (arith, c.take_sources-kept.ensures.long, parts_long es part (length c.byte_reads.result.now) c.last_read-part.result.1 long c.last_read-part.ensures.size) in
     record {
       part = omega (arith, c.last_read-part.ensures.known, ap length c.events-events.ensures.value);
+      last = subst (λ (xs : List Event). OnlyFirstReads (drop part xs)) c.events-events.ensures.value c.last_read-part.ensures.last;
       one_each = own ∙ ap (λ (xs : List Event). length (byte_reads (take part xs))) c.events-events.ensures.value;
       row = c.take_sources-kept.ensures.row;
     }
@@ -61,10 +62,11 @@ returns-clause-kept c =
     record {
       begun = λ going. record {
         part = omega (arith, c.last_read-part.ensures.known, ap length c.events-events.ensures.value);
+        last = subst (λ (xs : List Event). OnlyFirstReads (drop part xs)) c.events-events.ensures.value c.last_read-part.ensures.last;
         one_each = own ∙ ap (λ (xs : List Event). length (byte_reads (take part xs))) c.events-events.ensures.value;
         row = c.take_sources-kept.ensures.row;
       };
-      text = subst (λ (ws : List ℕ). Holds text (lines_from t events (take part events) ws)) c.as_slice.ensures.value
-          (subst (λ (xs : List Event). Holds text (lines_from t xs (take part xs) c.as_slice.result.now)) c.events-events.ensures.value
-          (subst (λ (u : Litmus). Holds text (lines_from u es (take part es) c.as_slice.result.now)) c.test.ensures c.make_lines.ensures));
+      text = subst (λ (ws : List ℕ). Holds text (lines_up_to t events part ws)) c.as_slice.ensures.value
+          (subst (λ (xs : List Event). Holds text (lines_up_to t xs part c.as_slice.result.now)) c.events-events.ensures.value
+          (subst (λ (u : Litmus). Holds text (lines_up_to u es part c.as_slice.result.now)) c.test.ensures c.make_lines.ensures));
     }

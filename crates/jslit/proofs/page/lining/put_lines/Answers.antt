@@ -6,11 +6,11 @@ use Rattle.lit_paths.specs.declared.event.Event.{Event}
 use Rattle.lit_paths.specs.ByteReads.{byte_reads}
 use Rattle.lit_paths.specs.Plan.{events_in}
 use Rattle.jslit.specs.ReportText.{from_lines}
-use Rattle.jslit.specs.Internal.ReadLine.{lines_from}
+use Rattle.jslit.specs.Internal.ReadLine.{OnlyFirstReads, line_end, lines_up_to}
 use Rattle.jslit.proofs.BegunSources.{behind_known, given_known, given_whole}
 use Rattle.jslit.proofs.Putting.{HasPut-then, HasPut-is}
 use Rattle.jslit.proofs.Registers.{all_behind}
-use Rattle.jslit.proofs.SourceLines.{length_parts, lines_both, reads_long}
+use Rattle.jslit.proofs.SourceLines.{length_parts, lines_whole, reads_long}
 use Rattle.jslit.proofs.page.lining.put_lines.Goals as goal
 
 pub overflow_sub-left : goal.overflow_sub-left
@@ -28,24 +28,14 @@ put_kept_lines-requires-clause-known g c =
     subst (λ (xs : List Event). All (λ w. w < length xs) items) (sym c.events-events.ensures.value)
     (given_known c.args.combination.now.0 c.args.combination.now.1 c.args.choice items c.keep_lines.new.kept.row c.keep_lines.ensures.begun.row c.keep_lines.ensures.inside c.requires.of)
 
-pub put_sources-requires-clause-known : goal.put_sources-requires-clause-known
-put_sources-requires-clause-known g c =
+pub put_line_end-requires-clause-known : goal.put_line_end-requires-clause-known
+put_line_end-requires-clause-known g c =
     let front = c.as_slice.result.now in
     let last = c.take_sources.new.sources.items in
     let all = given_known c.args.combination.now.0 c.args.combination.now.1 c.args.choice (front ++ last) c.take_sources.result c.take_sources.ensures.row c.take_sources.ensures.inside c.requires.of in
     subst (λ (ws : List ℕ). All (λ w. w < length c.events-events.result.now) ws) (sym c.as_slice-2.ensures.value)
     (subst (λ (xs : List Event). All (λ w. w < length xs) last) (sym c.events-events.ensures.value)
     (behind_known (length (events_in c.args.combination.now.0 c.args.combination.now.1)) front last all))
-
-pub put_sources-requires-clause-one_each : goal.put_sources-requires-clause-one_each
-put_sources-requires-clause-one_each g c =
-    let es = c.events-events.result.now in
-    let part = c.keep_lines.new.kept.part in
-    let events = events_in c.args.combination.now.0 c.args.combination.now.1 in
-    let last : length c.as_slice-2.result.now ≡ length c.take_sources.new.sources.items = ap length c.as_slice-2.ensures.value in
-    let rest : length c.as_slice-2.result.now ≡ length (byte_reads (drop part events)) =
-    omega (arith, last, c.take_sources.ensures.long, c.len.ensures.value, c.keep_lines.ensures.begun.one_each, reads_long c.byte_reads.result.now (events_in c.args.combination.now.0 c.args.combination.now.1) c.byte_reads.ensures, length_parts events part) in
-    rest ∙ ap (λ (xs : List Event). length (byte_reads (drop part xs))) (sym c.events-events.ensures.value) ∙ ap (λ (xs : List Event). length (byte_reads xs)) (sym (all_behind es part))
 
 pub returns-clause-text : goal.returns-clause-text
 returns-clause-text g c = λ sources has.
@@ -65,10 +55,11 @@ returns-clause-text g c = λ sources has.
     let all : length (items ++ last) ≡ length (byte_reads es) =
     ap (λ (ws : List ℕ). length (ws ++ last)) (sym c.as_slice.ensures.value) ∙ long ∙ ap (λ (xs : List Event). length (byte_reads xs)) (sym c.events-events.ensures.value) in
     let own : length items ≡ length (byte_reads (take part es)) = c.keep_lines.ensures.begun.one_each ∙ ap (λ (xs : List Event). length (byte_reads (take part xs))) (sym c.events-events.ensures.value) in
-    HasPut-is _ _ _ _ (HasPut-then _ _ _ _ _ c.put_kept_lines.ensures c.put_sources.ensures)
-    (ap (λ (xs : List Event). lines_from test es (take part es) items ++ lines_from test es xs c.as_slice-2.result.now) (all_behind es part)
-    ∙ ap (λ (ws : List ℕ). lines_from test es (take part es) items ++ lines_from test es (drop part es) ws) c.as_slice-2.ensures.value
-    ∙ lines_both test es part items last all own
+    let only : OnlyFirstReads (drop part es) = subst (λ (xs : List Event). OnlyFirstReads (drop part xs)) (sym c.events-events.ensures.value) c.keep_lines.ensures.begun.last in
+    HasPut-is _ _ _ _ (HasPut-then _ _ _ _ _ c.put_kept_lines.ensures c.put_line_end.ensures)
+    (ap (λ (xs : List Event). lines_up_to test es part items ++ line_end test es xs c.as_slice-2.result.now) (all_behind es part)
+    ∙ ap (λ (ws : List ℕ). lines_up_to test es part items ++ line_end test es (drop part es) ws) c.as_slice-2.ensures.value
+    ∙ lines_whole test es part items last all own only
     ∙ ap (λ (ws : List ℕ). from_lines test es ws) both
     ∙ ap (λ (u : Litmus). from_lines u es sources) c.test-test.ensures
     ∙ ap (λ (xs : List Event). from_lines t xs sources) c.events-events.ensures.value)
