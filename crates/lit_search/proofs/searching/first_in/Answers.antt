@@ -1,11 +1,10 @@
 use Rattle.std.proofs.Common.{◌<◌, ◌+◌, ap, arith}
 use Rattle.std.specs.Prelude.{IsTrue}
-use Rattle.lit_read.specs.Syntax.{Litmus}
 use Rattle.lit_paths.specs.Plan.{choices_before}
 use Rattle.lit_search.specs.Class.{is_of_class}
 use Rattle.lit_search.specs.Internal.Shown.{shown_entry}
 use Rattle.lit_search.specs.Internal.Held.{part_outcome}
-use Rattle.lit_search.specs.Internal.Places.{Stand, low_at, part_at}
+use Rattle.lit_search.specs.Internal.Places.{Stand, part_at}
 use Rattle.lit_search.proofs.NextLemmas.{known_at, none_at_first}
 use Rattle.lit_search.proofs.Keeping.{none_behind, first_found}
 use Rattle.lit_search.proofs.NumberSets.{before_end, not_below}
@@ -18,31 +17,8 @@ returns-in-Some c =
 pub loop-next-init : goal.loop-next-init
 loop-next-init c = record {
   after = omega arith;
-  same = λ _. ap (λ (s : Stand). s.test) c.open-cursor.ensures;
-  low = λ _. omega (arith, ap low_at c.open-cursor.ensures, c.combination.ensures.low);
-  high = λ _. omega (arith, ap (λ (s : Stand). choices_before c.args.plan.now (s.combination + 1)) c.open-cursor.ensures, c.combination.ensures.high);
   none = λ n inside _. omega (arith, not_below c.args.from c.args.from n inside, before_end c.args.from c.args.from n inside);
 }
-
-pub loop-next-preserved-then-next-to : goal.loop-next-preserved-then-next-to
-loop-next-preserved-then-next-to c =
-    let next : c.loop-next.next < c.next.new.from =
-    omega (
-      arith,
-      c.min-end.ensures,
-      c.in_default.ensures.past,
-      c.end.ensures,
-      ap (λ (t : Litmus). choices_before t (c.loop-next.cursor.combination + 1)) (c.loop-next.invariant.same c.loop-next-test.true),
-      c.loop-next.invariant.high c.loop-next-test.true,
-      c.loop-next-test.true,
-    ) in
-    record {
-      after = omega (arith, next, c.loop-next.invariant.after);
-      same = λ _. ap (λ (s : Stand). s.test) c.reopen.ensures;
-      low = λ _. omega (arith, ap low_at c.reopen.ensures, c.combination-then-next-to.ensures.low);
-      high = λ _. omega (arith, ap (λ (s : Stand). choices_before c.args.plan.now (s.combination + 1)) c.reopen.ensures, c.combination-then-next-to.ensures.high);
-      none = none_behind c.args.plan.now c.args.class c.args.from c.loop-next.next c.next.new.from c.loop-next.invariant.none c.in_default.ensures.shows;
-    }
 
 pub loop-next-preserved : goal.loop-next-preserved
 loop-next-preserved c =
@@ -52,20 +28,17 @@ loop-next-preserved c =
       c.min-end.ensures,
       c.in_default.ensures.past,
       c.end.ensures,
-      ap (λ (t : Litmus). choices_before t (c.loop-next.cursor.combination + 1)) (c.loop-next.invariant.same c.loop-next-test.true),
-      c.loop-next.invariant.high c.loop-next-test.true,
+      ap (λ (s : Stand). choices_before s.test (s.combination + 1)) c.reopen.ensures,
+      c.combination-in-loop-next.ensures.high,
       c.loop-next-test.true,
     ) in
     record {
       after = omega (arith, next, c.loop-next.invariant.after);
-      same = λ more. absurd (omega (arith, more, c.if-next-to.false));
-      low = λ more. absurd (omega (arith, more, c.if-next-to.false));
-      high = λ more. absurd (omega (arith, more, c.if-next-to.false));
       none = none_behind c.args.plan.now c.args.class c.args.from c.loop-next.next c.next.new.from c.loop-next.invariant.none c.in_default.ensures.shows;
     }
 
 pub next-requires-clause-known : goal.next-requires-clause-known
-next-requires-clause-known c = known_at c.loop-next.cursor c.part.result.now c.known_after-known.result _ c.part.ensures.value c.known_after-known.ensures.known
+next-requires-clause-known c = known_at c.reopen.new.self c.part.result.now c.known_after-known.result _ c.part.ensures.value c.known_after-known.ensures.known
 
 pub next-requires-clause-seen : goal.next-requires-clause-seen
 next-requires-clause-seen c = none_at_first c.args.plan.now (λ outcome. IsTrue (is_of_class c.args.plan.now c.args.class outcome)) c.loop-next.next c.loop-next.next (omega arith)
