@@ -226,9 +226,6 @@ last_size events i d lt none reads =
 pub last_read_is : (events : List Event) (i : ℕ) (d : Event) → i < length events → NoneReads (drop (i + 1) events) → does_read (get_or events i d).kind ≡ true → OnlyFirstReads (drop i events)
 last_read_is events i d lt none reads = subst OnlyFirstReads (sym (drop_more events i d lt)) (reads, none)
 
-pub none_more : (events : List Event) (i : ℕ) (d : Event) → i < length events → NoneReads (drop (i + 1) events) → does_read (get_or events i d).kind ≡ false → NoneReads (drop i events)
-none_more events i d lt none idle = subst NoneReads (sym (drop_more events i d lt)) (idle, none)
-
 module _ (t : Litmus) (events : List Event) where
   line_split : (e : Event) (es : List Event) (ws us later more : List ℕ) (b : Bool) → (b ≡ true → e.size ≤ length ws)
       → lines_from t events es (cond b (drop e.size ws) ws ++ us) ≡ later ++ more
