@@ -20,12 +20,9 @@ use Rattle.lit_search.specs.Merge.{AreMerged, HasInEither}
 use Rattle.lit_search.specs.Internal.Kept.{risen}
 use Rattle.lit_search.specs.Internal.Merged.{lesser, merged}
 use Rattle.lit_search.specs.Internal.Outcomes.{HasOutcome}
+use Rattle.lit_search.specs.Internal.Ranks.{are_same}
 use Rattle.lit_search.proofs.Entries.{AreRising, Stands, all_from_each, all_stand, first_stands, later_stands, same_rising, stands_cases, stands_in_none}
 use Rattle.lit_search.proofs.MergedEntries.{AreMerged-merged, AreRising-merged, all_merged}
-
--- whether two entries have one outcome
-abbrev pub are_same : Entry → Entry → Bool
-are_same a b = pointwise nat_eq a.outcome b.outcome
 
 flips : (a b : Entry) → are_same a b ≡ are_same b a
 flips a b = nat_list_eq_equiv.symm a.outcome b.outcome

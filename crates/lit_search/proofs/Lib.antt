@@ -1,5 +1,6 @@
 pub mod PlaceLemmas
 pub mod PackedLemmas
+pub mod RankLemmas
 pub mod WholeValues
 pub mod StandLemmas
 pub mod LastLemmas

@@ -114,7 +114,7 @@ told top n xs ys o is unequal =
     ]
 
 -- ---- value by value, from the last on
-pub room : (top count place : ℕ) → 0 < place → place ≤ count → (top + 1) ^ count ≤ 9223372036854775808 → (top + 1) * (top + 1) ^ (count - place) ≤ 9223372036854775808
+pub room : (top count place : ℕ) → 0 < place → place ≤ count → (top + 1) ^ count ≤ 170141183460469231731687303715884105728 → (top + 1) * (top + 1) ^ (count - place) ≤ 170141183460469231731687303715884105728
 room top count place some few fits =
     let k = count - place in
     omega (arith, pow-succ' (top + 1) k, pow-le-pow_right {n = top + 1} (omega arith) {i = suc k} {j = count} (omega (arith, some, few)), fits)

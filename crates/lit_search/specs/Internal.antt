@@ -7,6 +7,7 @@ pub mod Shown
 pub mod Kept
 pub mod Taking
 pub mod Packed
+pub mod Ranks
 pub mod Held
 pub mod Deciding
 pub mod Places

@@ -7,7 +7,8 @@ pub mod Merge
 pub mod Collected
 pub mod Class
 pub mod Internal
-pub mod Entry
+pub mod Examples
+pub mod Ranked
 pub mod Found
 pub mod Interleaving
 pub mod Sequential

@@ -309,7 +309,9 @@ impl<'p> Collector<'p> {
     pub fn into_found(self) -> Result<Found, SearchFault>
         ensures { IfOk result (λ found. found ≡ self.entry.report) }
     {
-        let Collector { kept, race, .. } = self;
-        Ok(Found::from_rising(kept.into_entries()?, race))
+        let Collector {
+            alloc, kept, race, ..
+        } = self;
+        Ok(Found::new(alloc, kept.into_examples(), race)?)
     }
 }

@@ -1,17 +1,16 @@
 //! The outcomes found, each with its example.
 
+pub(crate) mod examples;
 pub(crate) mod merging;
 pub(crate) mod packing;
+pub(crate) mod ranking;
 
-ghost use Rattle.std.specs.Box.{boxed_slice_items};
-ghost use Rattle.lit_search.specs.Internal.Packed.{IsPacked};
-
-use crate::found::packing::{LARGE_COUNT, LARGE_TOP, SMALL_COUNT, SMALL_TOP, packed};
+use crate::found::examples::Examples;
+use crate::found::ranking::{Rank, find, ranked};
 use arrayvec::ArrayVec;
 use lit_order::Order;
 use lit_paths::NAME_LIMIT;
-use std::boxed::{Box, BoxedSlice};
-use std::cmp::Ordering;
+use std::alloc::{AllocError, Global};
 use std::marker::Model;
 
 /// The last values of the registers of an outcome, one for each of `Plan::names` and in that order.
@@ -26,72 +25,15 @@ pub struct Example {
     pub order: Order,
 }
 
-/// An outcome with its example, each in a room of its own, and the outcome packed, by which most entries are compared.
-#[derive(Debug, Drop)]
-pub(crate) struct Entry {
-    pub outcome: BoxedSlice<u32>,
-    pub example: Box<Example>,
-    pub small: u64,
-    pub large: u64,
-    ghost packed: { IsPacked small large (boxed_slice_items outcome) },
-}
-
-impl Entry {
-    ghost use Rattle.std.specs.Prelude.{◌≡◌};
-    ghost use Rattle.lit_search.specs.Entry.{entry_of};
-    ghost use Rattle.lit_search.specs.Report.{outcome_cmp};
-
-    /// An outcome with its example.
-    pub(crate) fn new(outcome: BoxedSlice<u32>, example: Box<Example>) -> Self
-        ensures { entry_of result ≡ record { outcome = boxed_slice_items outcome; choice = example.value.choice; order = example.value.order.items } }
-    {
-        let small = packed(&outcome, SMALL_TOP, SMALL_COUNT);
-        let large = packed(&outcome, LARGE_TOP, LARGE_COUNT);
-        Entry {
-            outcome,
-            example,
-            small,
-            large,
-        }
-    }
-
-    /// How it compares with another one by the outcome, as a list. Most differ in their small values packed or in their large
-    /// ones.
-    #[inline(always)]
-    pub(crate) fn cmp_outcome(&self, other: &Entry) -> Ordering
-        ensures { result ≡ outcome_cmp (entry_of self.now) (entry_of other.now) }
-    {
-        match self.small.cmp(&other.small) {
-            Ordering::Equal => self.cmp_large(other),
-            unequal => unequal,
-        }
-    }
-
-    /// The same, by the large values first.
-    #[inline(always)]
-    fn cmp_large(&self, other: &Entry) -> Ordering
-        ensures { result ≡ outcome_cmp (entry_of self.now) (entry_of other.now) }
-    {
-        match self.large.cmp(&other.large) {
-            Ordering::Equal => self.cmp_values(other),
-            unequal => unequal,
-        }
-    }
-
-    /// The same, value by value.
-    #[inline(never)]
-    fn cmp_values(&self, other: &Entry) -> Ordering
-        ensures { result ≡ outcome_cmp (entry_of self.now) (entry_of other.now) }
-    {
-        self.outcome.cmp(&other.outcome)
-    }
-}
-
 /// The outcomes of a set of choices, rising, each with its example, and whether one of these choices has a data race. A
 /// clause sees it as a `Report`.
 #[derive(Drop)]
 pub struct Found {
-    entries: Vec<Entry>,
+    parts: Vec<Examples>,
+    /// Which outcome of the parts comes when.
+    ranks: Vec<Rank>,
+    /// How many outcomes stand in the parts: more than there are ranks, where some stand in several.
+    count: usize,
     race: bool,
 }
 
@@ -101,36 +43,51 @@ impl Model for Found {
     ghost Value = { Report };
 
     ghost use Rattle.lit_search.specs.Found.{report_of};
-    ghost use Rattle.std.specs.List.Sorted.{IsStrictlySortedBy};
-    ghost use Rattle.lit_search.specs.Report.{outcome_cmp};
+    ghost use Rattle.lit_search.specs.Internal.Ranks.{IsRanked};
 
     ghost view = { report_of };
 
-    ghost invariant = { λ f. IsStrictlySortedBy outcome_cmp (report_of f).entries };
+    ghost invariant = { IsRanked };
 }
 
 impl Found {
-    ghost use Rattle.std.specs.Prelude.{◌≡◌, ◌<◌, ◌==◌, length, map};
-    ghost use Rattle.std.specs.List.Sorted.{IsStrictlySortedBy};
-    ghost use Rattle.lit_search.specs.Entry.{entry_of};
-    ghost use Rattle.lit_search.specs.Report.{entry_at, outcome_cmp};
+    ghost use Rattle.std.specs.Prelude.{◌≡◌, ◌<◌, ◌==◌, IfOk, length};
+    ghost use Rattle.lit_search.specs.Internal.Kept.{risen};
+    ghost use Rattle.lit_search.specs.Report.{entry_at};
 
-    /// These outcomes, rising, with their examples, and the mark of data races.
-    pub(crate) fn from_rising(entries: Vec<Entry>, race: bool) -> Self
-        requires { IsStrictlySortedBy outcome_cmp (map entry_of entries.items) }
-        ensures entries { result.entries ≡ map entry_of entries.items }
-        ensures race { result.race ≡ race }
+    /// These outcomes, ranked, with their examples, and the mark of data races.
+    pub(crate) fn new(alloc: Global, examples: Examples, race: bool) -> Result<Self, AllocError>
+        ensures entries { IfOk result (λ found. found.entries ≡ risen examples) }
+        ensures race { IfOk result (λ found. found.race ≡ race) }
     {
-        Found { entries, race }
+        let count = examples.len();
+        let mut parts = Vec::with_capacity(alloc, 1)?;
+        parts.push(examples)?;
+        let ranks = ranked(alloc, parts.as_slice(), count)?;
+        Ok(Found {
+            parts,
+            ranks,
+            count,
+            race,
+        })
     }
 
-    /// The outcomes with their examples.
-    pub(crate) fn into_entries(self) -> Vec<Entry>
-        ensures entries { map entry_of result.items ≡ self.entries }
-        ensures rising { IsStrictlySortedBy outcome_cmp self.entries }
+    /// The same outcomes, with another mark of data races.
+    pub(crate) fn marked(self, race: bool) -> Self
+        ensures { result ≡ record { entries = self.entries; race = race } }
     {
-        let Found { entries, race: _ } = self;
-        entries
+        let Found {
+            parts,
+            ranks,
+            count,
+            race: _,
+        } = self;
+        Found {
+            parts,
+            ranks,
+            count,
+            race,
+        }
     }
 
     /// Whether some valid execution of these choices has a data race (ECMA-262, 2024, 29.9). It takes no memory.
@@ -144,14 +101,14 @@ impl Found {
     pub fn len(&self) -> usize
         ensures { result ≡ length self.now.entries }
     {
-        self.entries.len()
+        self.ranks.len()
     }
 
     /// Whether there is no outcome.
     pub fn is_empty(&self) -> bool
         ensures { result ≡ (length self.now.entries == 0) }
     {
-        self.entries.is_empty()
+        self.ranks.is_empty()
     }
 
     /// The values of an outcome, by its place in the rising order, from 0. The place is below `len()`.
@@ -159,7 +116,10 @@ impl Found {
         requires { place < length self.now.entries }
         ensures { result.now ≡ (entry_at self.now place).outcome }
     {
-        &self.entries[place].outcome
+        let Some((outcome, _)) = find(self.parts.as_slice(), self.ranks[place].place) else {
+            unreachable!()
+        };
+        outcome
     }
 
     /// The example of an outcome, by its place in the rising order, from 0. The place is below `len()`.
@@ -168,6 +128,9 @@ impl Found {
         ensures choice { result.now.choice ≡ (entry_at self.now place).choice }
         ensures order { result.now.order.items ≡ (entry_at self.now place).order }
     {
-        &self.entries[place].example
+        let Some((_, example)) = find(self.parts.as_slice(), self.ranks[place].place) else {
+            unreachable!()
+        };
+        example
     }
 }

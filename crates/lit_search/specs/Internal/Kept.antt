@@ -1,6 +1,5 @@
 -- The entries that a value of the program's type `Kept` stands for.
-use Rattle.std.specs.Prelude.{List, [], ◌∷◌, map}
-use Rattle.std.specs.Box.{boxed_slice_items}
+use Rattle.std.specs.Prelude.{List, [], ◌∷◌}
 use Rattle.lit_search.specs.declared.collector.kept.Kept.TheInside.{Inside}
 use Rattle.lit_search.specs.Report.{Entry}
 use Rattle.lit_search.specs.Internal.Merged.{merged}
@@ -11,4 +10,4 @@ risen [] = []
 risen (x ∷ xs) = merged (risen xs) (x ∷ [])
 
 abbrev pub entries_of : Inside → List Entry
-entries_of kept = risen (map (λ p. record { outcome = boxed_slice_items p.0; choice = p.1.value.choice; order = p.1.value.order.items }) kept.examples.entries)
+entries_of kept = risen kept.examples

@@ -11,4 +11,4 @@ packed top (suc n) (x ∷ xs) = if nat_lt x top then x * (top + 1) ^ n + packed 
 -- an outcome packed by small digits, and by large ones
 pub record IsPacked (small large : ℕ) (outcome : List ℕ) : Type 0 where
   pub by_small : small ≡ packed 127 9 outcome
-  pub by_large : large ≡ packed 2147483647 2 outcome
+  pub by_large : large ≡ packed 2147483647 4 outcome

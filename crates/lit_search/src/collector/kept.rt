@@ -1,17 +1,12 @@
 //! The outcomes kept while choices are taken.
 
-ghost use Rattle.std.specs.Prelude.{◌≡◌, ◌↔◌, ◌∷◌, [], IsTrue, OnOk, OnErr, IfOk, map};
-ghost use Rattle.std.specs.List.Sorted.{IsStrictlySortedBy};
-ghost use Rattle.lit_search.specs.Entry.{entry_of};
-ghost use Rattle.lit_search.specs.Report.{outcome_cmp};
+ghost use Rattle.std.specs.Prelude.{◌≡◌, ◌↔◌, ◌∷◌, [], IsTrue, OnOk, OnErr};
 
 use crate::cursor::wanted::Wanted;
-use crate::found::{Entry, Example};
-use indexmap::IndexMap;
+use crate::found::Example;
+use crate::found::examples::Examples;
 use lit_paths::Plan;
 use std::alloc::{AllocError, Global};
-use std::boxed::{Box, BoxedSlice};
-use std::cmp::Ordering;
 use std::marker::Model;
 
 /// Outcomes, each with its example, in the order in which they were kept. A clause sees it as a list of entries that rises by
@@ -19,7 +14,7 @@ use std::marker::Model;
 #[derive(Drop)]
 pub(crate) struct Kept {
     alloc: Global,
-    examples: IndexMap<BoxedSlice<u32>, Box<Example>>,
+    examples: Examples,
 }
 
 impl Model for Kept {
@@ -33,6 +28,7 @@ impl Model for Kept {
 }
 
 impl Kept {
+    ghost use Rattle.lit_search.specs.Internal.Kept.{risen};
     ghost use Rattle.lit_search.specs.Internal.Outcomes.{HasOutcome};
     ghost use Rattle.lit_search.specs.Internal.Merged.{merged};
     ghost use Rattle.lit_search.specs.Internal.Shown.{shown_entry};
@@ -43,7 +39,7 @@ impl Kept {
     {
         Kept {
             alloc,
-            examples: IndexMap::new(alloc),
+            examples: Examples::new(alloc),
         }
     }
 
@@ -51,7 +47,7 @@ impl Kept {
     pub(crate) fn has(&self, outcome: &[u32]) -> bool
         ensures { IsTrue result ↔ HasOutcome self.now outcome.now }
     {
-        self.examples.contains_key(outcome)
+        self.examples.has(outcome)
     }
 
     /// Keeps one more outcome, with its example.
@@ -60,28 +56,15 @@ impl Kept {
         ensures ok { OnOk result (self.new ≡ merged self.old (shown_entry outcome.now example ∷ [])) }
         ensures err { OnErr result (self.new ≡ self.old) }
     {
-        let outcome = BoxedSlice::from_slice(self.alloc, outcome)?;
-        let example = Box::new(self.alloc, example)?;
-        self.examples.insert(outcome, example)?;
-        Ok(())
+        self.examples.put(self.alloc, outcome, example)
     }
 
-    /// What is kept, rising by outcome.
-    pub(crate) fn into_entries(self) -> Result<Vec<Entry>, AllocError>
-        ensures entries { IfOk result (λ entries. map entry_of entries.items ≡ self) }
-        ensures rising { IsStrictlySortedBy outcome_cmp self }
+    /// What is kept, in the order in which it was.
+    pub(crate) fn into_examples(self) -> Examples
+        ensures { risen result ≡ self }
     {
-        let Kept { alloc, examples } = self;
-        let mut entries = Vec::with_capacity(alloc, examples.len())?;
-        for (outcome, example) in examples {
-            entries.push(Entry::new(outcome, example))?;
-        }
-        entries.sort_unstable_by(
-            |a: &Entry, b: &Entry| -> Ordering
-                ensures { result ≡ outcome_cmp (entry_of a.now) (entry_of b.now) }
-            { a.cmp_outcome(b) },
-        );
-        Ok(entries)
+        let Kept { alloc: _, examples } = self;
+        examples
     }
 }
 

@@ -1,52 +1,116 @@
 //! Merging what is found in two sets of choices.
 
-ghost use Rattle.std.specs.Prelude.{◌≡◌, ℕ, ◌+◌, ◌<◌, ◌++◌, ◌||◌, Bool, [], length, map, IfOk, IfNone, OnSome};
+ghost use Rattle.std.specs.Prelude.{◌≡◌, ℕ, ◌+◌, ◌<◌, ◌++◌, ◌||◌, Bool, [], length, map, IfOk, IfNone, IfSome, OnSome};
 ghost use Rattle.std.specs.Option.{option_to_list, option_map};
 ghost use Rattle.lit_read.specs.Syntax.{Litmus};
-ghost use Rattle.lit_search.specs.Entry.{entry_of};
 ghost use Rattle.lit_search.specs.Merge.{IsMerge};
+ghost use Rattle.lit_search.specs.Ranked.{joined, ranked_entry};
 ghost use Rattle.lit_search.specs.Report.{IsReport, in_either};
 ghost use Rattle.lit_search.specs.Internal.Merged.{heads_cmp, lesser as lesser_of, merged};
+ghost use Rattle.lit_search.specs.Internal.Ranks.{AreRanks, IsRank};
 
 use crate::fault::SearchFault;
-use crate::found::{Entry, Found};
-use std::alloc::Global;
+use crate::found::Found;
+use crate::found::examples::Examples;
+use crate::found::ranking::{Rank, all_behind, cmp_ranks, find};
+use std::alloc::{AllocError, Global};
 use std::cmp::Ordering;
 use std::collections::VecDeque;
 
-/// Of two entries of one outcome the one with the lesser example: by choice, and then by order as a list.
-fn lesser(a: Entry, b: Entry) -> Entry
-    ensures { entry_of result ≡ lesser_of (entry_of a) (entry_of b) }
+/// Of two ranks of one outcome the one with the lesser example: by choice, and then by order as a list.
+fn lesser(parts: &[Examples], a: Rank, b: Rank) -> Rank
+    requires first { IsRank (joined parts.now) a }
+    requires second { IsRank (joined parts.now) b }
+    ensures lesser { ranked_entry (joined parts.now) result ≡ lesser_of (ranked_entry (joined parts.now) a) (ranked_entry (joined parts.now) b) }
+    ensures rank { IsRank (joined parts.now) result }
 {
-    match a.example.cmp(&b.example) {
+    let (Some((_, first)), Some((_, second))) = (find(parts, a.place), find(parts, b.place)) else {
+        unreachable!()
+    };
+    match first.cmp(second) {
         Ordering::Greater => b,
         _ => a,
     }
 }
 
 /// How the outcomes at the fronts of two lists compare. Where one list has ended, the other's is less.
-fn compared(a: &VecDeque<Entry>, b: &VecDeque<Entry>) -> Ordering
-    ensures { result ≡ heads_cmp (map entry_of a.now.items) (map entry_of b.now.items) }
+fn compared(parts: &[Examples], a: &VecDeque<Rank>, b: &VecDeque<Rank>) -> Ordering
+    requires first { AreRanks (joined parts.now) a.now.items }
+    requires second { AreRanks (joined parts.now) b.now.items }
+    ensures { result ≡ heads_cmp (map (ranked_entry (joined parts.now)) a.now.items) (map (ranked_entry (joined parts.now)) b.now.items) }
 {
     match (a.front(), b.front()) {
-        (Some(first), Some(second)) => first.cmp_outcome(second),
+        (Some(first), Some(second)) => cmp_ranks(parts, first, second),
         (_, None) => Ordering::Less,
         (None, _) => Ordering::Greater,
     }
 }
 
-/// Takes the entry with the least outcome from the fronts of two rising lists: where both have it, the lesser one.
-fn take_least(a: &mut VecDeque<Entry>, b: &mut VecDeque<Entry>) -> Option<Entry>
-    ensures taken { merged (map entry_of a.old.items) (map entry_of b.old.items)
-        ≡ option_to_list (option_map entry_of result) ++ merged (map entry_of a.new.items) (map entry_of b.new.items) }
+/// Takes the rank of the least outcome from the fronts of two rising lists: where both have it, the lesser one.
+fn take_least(parts: &[Examples], a: &mut VecDeque<Rank>, b: &mut VecDeque<Rank>) -> Option<Rank>
+    requires first { AreRanks (joined parts.now) a.old.items }
+    requires second { AreRanks (joined parts.now) b.old.items }
+    ensures taken { merged (map (ranked_entry (joined parts.now)) a.old.items) (map (ranked_entry (joined parts.now)) b.old.items)
+        ≡ option_to_list (option_map (ranked_entry (joined parts.now)) result) ++ merged (map (ranked_entry (joined parts.now)) a.new.items) (map (ranked_entry (joined parts.now)) b.new.items) }
+    ensures rank { IfSome result (IsRank (joined parts.now)) }
+    ensures first { AreRanks (joined parts.now) a.new.items }
+    ensures second { AreRanks (joined parts.now) b.new.items }
     ensures fewer { OnSome result (length a.new.items + length b.new.items < length a.old.items + length b.old.items) }
-    ensures end { IfNone result (merged (map entry_of a.new.items) (map entry_of b.new.items) ≡ []) }
+    ensures end { IfNone result (merged (map (ranked_entry (joined parts.now)) a.new.items) (map (ranked_entry (joined parts.now)) b.new.items) ≡ []) }
 {
-    match compared(a, b) {
+    match compared(parts, a, b) {
         Ordering::Less => a.pop_front(),
         Ordering::Greater => b.pop_front(),
-        Ordering::Equal => Some(lesser(a.pop_front()?, b.pop_front()?)),
+        Ordering::Equal => Some(lesser(parts, a.pop_front()?, b.pop_front()?)),
     }
+}
+
+/// The ranks of two rising lists, merged to one: of two of one outcome the lesser one.
+fn merged_ranks(alloc: Global, parts: &[Examples], a: Vec<Rank>, b: Vec<Rank>) -> Result<Vec<Rank>, AllocError>
+    requires first { AreRanks (joined parts.now) a.items }
+    requires second { AreRanks (joined parts.now) b.items }
+    ensures merged { IfOk result (λ ranks. map (ranked_entry (joined parts.now)) ranks.items
+        ≡ merged (map (ranked_entry (joined parts.now)) a.items) (map (ranked_entry (joined parts.now)) b.items)) }
+    ensures ranks { IfOk result (λ ranks. AreRanks (joined parts.now) ranks.items) }
+{
+    let mut ranks = Vec::with_capacity(alloc, a.len().saturating_add(b.len()))?;
+    let mut left = VecDeque::from_vec(a);
+    let mut right = VecDeque::from_vec(b);
+    while let Some(rank) = take_least(parts, &mut left, &mut right) {
+        ranks.push(rank)?;
+    }
+    Ok(ranks)
+}
+
+/// The outcomes of both, with a mark of data races.
+fn with_both(alloc: Global, a: Found, b: Found, race: bool) -> Result<Found, AllocError>
+    ensures entries { IfOk result (λ found. found.entries ≡ merged a.entries b.entries) }
+    ensures race { IfOk result (λ found. found.race ≡ race) }
+{
+    let Found {
+        mut parts,
+        ranks,
+        count,
+        race: _,
+    } = a;
+    let Found {
+        parts: mut more,
+        ranks: others,
+        count: other_count,
+        race: _,
+    } = b;
+    let Some(total) = count.checked_add(other_count) else {
+        return Err(AllocError);
+    };
+    let others = all_behind(alloc, others, count)?;
+    parts.append(&mut more)?;
+    let ranks = merged_ranks(alloc, parts.as_slice(), ranks, others)?;
+    Ok(Found {
+        parts,
+        ranks,
+        count: total,
+        race,
+    })
 }
 
 /// Whether one of two is marked with a data race.
@@ -67,16 +131,10 @@ pub fn merge(alloc: Global, a: Found, b: Found) -> Result<Found, SearchFault>
     let (first, second) = (a.len(), b.len());
     let race = is_one_marked(&a, &b);
     if first == 0 {
-        return Ok(Found::from_rising(b.into_entries(), race));
+        return Ok(b.marked(race));
     }
     if second == 0 {
-        return Ok(Found::from_rising(a.into_entries(), race));
+        return Ok(a.marked(race));
     }
-    let mut entries = Vec::with_capacity(alloc, first.saturating_add(second))?;
-    let mut left = VecDeque::from_vec(a.into_entries());
-    let mut right = VecDeque::from_vec(b.into_entries());
-    while let Some(entry) = take_least(&mut left, &mut right) {
-        entries.push(entry)?;
-    }
-    Ok(Found::from_rising(entries, race))
+    Ok(with_both(alloc, a, b, race)?)
 }

@@ -1,0 +1,13 @@
+-- The entries that ranks stand for, by their places in lists of entries, one behind the other.
+use Rattle.std.specs.Prelude.{List, [], slice_index_or}
+use Rattle.std.specs.List.{flat_map}
+use Rattle.lit_search.specs.declared.found.ranking.Rank.{Rank}
+use Rattle.lit_search.specs.Report.{Entry}
+
+-- the lists, one behind the other
+abbrev pub joined : List (List Entry) → List Entry
+joined parts = flat_map (λ part. part) parts
+
+-- past the last one, one with no outcome and no order
+abbrev pub ranked_entry : List Entry → Rank → Entry
+ranked_entry entries rank = slice_index_or entries rank.place (record { outcome = []; choice = 0; order = [] })

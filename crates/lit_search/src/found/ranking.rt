@@ -1,0 +1,150 @@
+//! Outcomes ranked, wherever they stand.
+
+ghost use Rattle.std.specs.Prelude.{◌≡◌, ◌+◌, ◌<◌, ◌^◌, ◌∷◌, IfOk, map, slice_get};
+ghost use Rattle.std.specs.Cmp.Lexicographic.{slice_cmp};
+ghost use Rattle.std.specs.List.{All, IsDistinct};
+ghost use Rattle.std.specs.Option.{option_map};
+ghost use Rattle.std.specs.Ordering.{nat_cmp};
+ghost use Rattle.lit_search.specs.Ranked.{joined, ranked_entry};
+ghost use Rattle.lit_search.specs.Internal.Kept.{risen};
+ghost use Rattle.lit_search.specs.Internal.Packed.{IsPacked};
+ghost use Rattle.lit_search.specs.Internal.Ranks.{AreRanks, are_same, rank_cmp};
+ghost use Rattle.lit_search.specs.Internal.Shown.{shown_entry};
+
+use crate::found::Example;
+use crate::found::examples::Examples;
+use crate::found::packing::{LARGE_COUNT, LARGE_TOP, SMALL_COUNT, SMALL_TOP, packed};
+use std::alloc::{AllocError, Global};
+use std::cmp::Ordering;
+
+/// An outcome, by its place in parts that stand one behind the other. It has the outcome packed, by which most are compared.
+#[derive(Clone, Copy, Debug)]
+pub(crate) struct Rank {
+    pub large: u128,
+    pub small: u64,
+    pub place: usize,
+}
+
+impl Rank {
+    /// That of an outcome at a place.
+    fn new(outcome: &[u32], place: usize) -> Self
+        ensures packed { IsPacked result.small result.large outcome.now }
+        ensures place { result.place ≡ place }
+    {
+        Rank {
+            large: packed(outcome, LARGE_TOP, LARGE_COUNT),
+            small: packed(outcome, SMALL_TOP, SMALL_COUNT) as u64,
+            place,
+        }
+    }
+
+    /// The same, where so many outcomes stand before the parts.
+    fn behind(self, count: usize) -> Self
+        requires { self.place + count < 2 ^ 64 }
+        ensures { result ≡ record { large = self.large; small = self.small; place = self.place + count } }
+    {
+        Rank {
+            large: self.large,
+            small: self.small,
+            place: self.place + count,
+        }
+    }
+}
+
+/// The outcome at a place of parts, and its example.
+pub(crate) fn find(parts: &[Examples], place: usize) -> Option<(&[u32], &Example)>
+    ensures { option_map (λ p. shown_entry p.0.now p.1.now) result ≡ slice_get (joined parts.now) place }
+{
+    let mut left = place;
+    let mut rest = parts;
+    while let Some((part, others)) = rest.split_first() {
+        if left < part.len() {
+            return part.at(left);
+        }
+        left -= part.len();
+        rest = others;
+    }
+    None
+}
+
+/// The outcome of a rank, or no value where there is none at its place.
+fn outcome_of<'a>(parts: &'a [Examples], rank: &Rank) -> &'a [u32]
+    ensures { result.now ≡ (ranked_entry (joined parts.now) rank.now).outcome }
+{
+    match find(parts, rank.place) {
+        Some((outcome, _)) => outcome,
+        None => &[],
+    }
+}
+
+/// How the outcomes of ranks compare, value by value.
+#[inline(never)]
+fn cmp_outcomes(parts: &[Examples], a: &Rank, b: &Rank) -> Ordering
+    ensures { result ≡ slice_cmp nat_cmp (ranked_entry (joined parts.now) a.now).outcome (ranked_entry (joined parts.now) b.now).outcome }
+{
+    outcome_of(parts, a).cmp(outcome_of(parts, b))
+}
+
+/// How they compare by their large values packed, and then value by value.
+#[inline(always)]
+fn cmp_large(parts: &[Examples], a: &Rank, b: &Rank) -> Ordering
+    ensures { result ≡ slice_cmp nat_cmp (a.now.large ∷ (ranked_entry (joined parts.now) a.now).outcome) (b.now.large ∷ (ranked_entry (joined parts.now) b.now).outcome) }
+{
+    match a.large.cmp(&b.large) {
+        Ordering::Equal => cmp_outcomes(parts, a, b),
+        unequal => unequal,
+    }
+}
+
+/// How ranks compare: by their small values packed, by their large ones, and then value by value. Those of the parts compare
+/// as their outcomes do, and most differ in the first or the second.
+#[inline(always)]
+pub(crate) fn cmp_ranks(parts: &[Examples], a: &Rank, b: &Rank) -> Ordering
+    ensures { result ≡ rank_cmp (joined parts.now) a.now b.now }
+{
+    match a.small.cmp(&b.small) {
+        Ordering::Equal => cmp_large(parts, a, b),
+        unequal => unequal,
+    }
+}
+
+/// The ranks of all outcomes of parts, in their order.
+fn ranks_of(alloc: Global, parts: &[Examples], count: usize) -> Result<Vec<Rank>, AllocError>
+    ensures each { IfOk result (λ ranks. map (ranked_entry (joined parts.now)) ranks.items ≡ joined parts.now) }
+    ensures ranks { IfOk result (λ ranks. AreRanks (joined parts.now) ranks.items) }
+{
+    let mut ranks = Vec::with_capacity(alloc, count)?;
+    while let Some((outcome, _)) = find(parts, ranks.len()) {
+        let rank = Rank::new(outcome, ranks.len());
+        ranks.push(rank)?;
+    }
+    Ok(ranks)
+}
+
+/// The ranks of all outcomes of parts, no two of which are the same, rising by outcome. `count` is for how many there is room
+/// at once.
+pub(crate) fn ranked(alloc: Global, parts: &[Examples], count: usize) -> Result<Vec<Rank>, AllocError>
+    requires { IsDistinct are_same (joined parts.now) }
+    ensures rising { IfOk result (λ ranks. map (ranked_entry (joined parts.now)) ranks.items ≡ risen (joined parts.now)) }
+    ensures ranks { IfOk result (λ ranks. AreRanks (joined parts.now) ranks.items) }
+{
+    let mut ranks = ranks_of(alloc, parts, count)?;
+    ranks.sort_unstable_by(
+        |a: &Rank, b: &Rank| -> Ordering
+            ensures { result ≡ rank_cmp (joined parts.entry.now) a.now b.now }
+        { cmp_ranks(parts, a, b) },
+    );
+    Ok(ranks)
+}
+
+/// Ranks, where so many outcomes stand before their parts.
+pub(crate) fn all_behind(alloc: Global, ranks: Vec<Rank>, count: usize) -> Result<Vec<Rank>, AllocError>
+    requires { All (λ rank. rank.place + count < 2 ^ 64) ranks.items }
+    ensures { IfOk result (λ moved. moved.items ≡ map (λ rank. record { large = rank.large; small = rank.small; place = rank.place + count }) ranks.items) }
+{
+    let mut moved = Vec::with_capacity(alloc, ranks.len())?;
+    for rank in ranks {
+        moved.push(rank.behind(count))?;
+    }
+    Ok(moved)
+}
