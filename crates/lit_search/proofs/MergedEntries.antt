@@ -7,7 +7,7 @@ use Rattle.std.specs.List.Sorted.{IsStrictlySortedBy}
 use Rattle.std.specs.Ordering.{is_gt, match_ordering}
 use Rattle.std.specs.declared.cmp.Ordering.{Ordering}
 use Rattle.std.specs.declared.cmp.Ordering.TheVariants.{Less, Equal, Greater}
-use Rattle.std.proofs.lemmas.List.{append-nil, nil_from_length}
+use Rattle.std.proofs.lemmas.List.{nil_from_length}
 use Rattle.std.proofs.lemmas.Map.Lookups.{exact_bytes}
 use Rattle.lit_search.specs.Report.{Entry, HasEntry, Report, example_cmp, outcome_cmp}
 use Rattle.lit_search.specs.Merge.{AreMerged, HasInEither, IsMerge}
@@ -203,7 +203,3 @@ module _ {K : Type 0} (f : K → Entry) where
   taken_less xs rest ys (Some x) h is =
       let P : List K → Type 0 = λ zs. heads_cmp (map f zs) (map f ys) ≡ Less in
       ap (λ (zs : List K). merged (map f zs) (map f ys)) is ∙ merged-less (f x) (map f rest) (map f ys) (subst P is h)
-
--- nothing is left to take
-pub all_taken : (done left rest whole : List Entry) → done ++ left ≡ whole → left ≡ [] ++ rest → rest ≡ [] → done ≡ whole
-all_taken done left rest whole so_far step end = sym (append-nil done) ∙ ap (λ (zs : List Entry). done ++ zs) (sym (step ∙ end)) ∙ so_far

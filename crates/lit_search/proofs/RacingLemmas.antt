@@ -222,3 +222,24 @@ marked_more t from to taken old kept new marks is was =
       ])),
       (λ one. is.1 (elim (both.0 one) [ inl race ↦ inl (marks.stays (was.1 race)) | inr race ↦ inr race ])),
     )
+
+-- ---- ranges without a data race
+-- behind the first range there is none, where it goes as far as the second
+pub calm_rest : (t : Litmus) (barren from to : ℕ) (row : ℕ × ℕ) → (to ≤ from → row ≡ (barren, from)) → (from < to → row ≡ (to, to)) → ¬ HasRaceIn t (in_range from to) → ¬ HasRaceIn t (in_range from row.1)
+calm_rest t barren from to row on anew none one =
+    elim (cases_lt from to) [
+      | inl less ↦ none (subst (λ (r : ℕ × ℕ). HasRaceIn t (in_range from r.1)) (anew less) one)
+      | inr past ↦ (let p = subst (λ (r : ℕ × ℕ). HasRaceIn t (in_range from r.1)) (on past) one in absurd (omega (arith, not_below from from p.0 p.1, before_end from from p.0 p.1)))
+    ]
+
+-- a range behind it has none, if no more than that was gone by
+pub calm_joined : (t : Litmus) (from next low end behind : ℕ) → ¬ HasRaceIn t (in_range from next) → low ≤ next → end ≤ behind → ¬ HasRaceIn t (in_range low behind) → ¬ HasRaceIn t (in_range from end)
+calm_joined t from next low end behind none below less more one =
+    elim (cases_lt one.0 next) [
+      | inl before ↦ none (one.0, within from next one.0 (not_below from end one.0 one.1) before, one.2)
+      | inr after ↦ more (one.0, within low behind one.0 (omega (arith, below, after)) (omega (arith, before_end from end one.0 one.1, less)), one.2)
+    ]
+
+-- and one that begins no earlier and ends no later
+pub calm_within : (t : Litmus) (low from to : ℕ) → low ≤ from → ¬ HasRaceIn t (in_range low to) → ¬ HasRaceIn t (in_range from to)
+calm_within t low from to below none one = none (race_wider t from to low to below (omega arith) one)

@@ -1,5 +1,5 @@
 -- Ranks of entries that stand in parts, one behind the other.
-use Rattle.std.proofs.Common.{◌≡◌, ◌≢◌, ℕ, Bool, zero, suc, ◌+◌, ◌-◌, ◌^◌, ◌<◌, ◌≤◌, List, [], ◌∷◌, ◌++◌, map, take, Some, length, refl, sym, ap, ap₂, subst, ◌∙◌, arith}
+use Rattle.std.proofs.Common.{◌≡◌, ◌≢◌, ℕ, Bool, zero, suc, ◌+◌, ◌<◌, ◌≤◌, List, [], ◌∷◌, ◌++◌, map, take, Some, length, refl, sym, ap, ap₂, subst, ◌∙◌, arith}
 use Rattle.std.specs.Prelude.{None, slice_get, slice_index_or}
 use Rattle.std.specs.Cmp.Lexicographic.{slice_cmp}
 use Rattle.std.specs.List.{All}
@@ -20,17 +20,6 @@ use Rattle.lit_search.specs.Internal.Merged.{heads_cmp, merged}
 use Rattle.lit_search.specs.Internal.Packed.{IsPacked}
 use Rattle.lit_search.specs.Internal.Ranks.{AreRanks, IsRank, rank_cmp}
 use Rattle.lit_search.proofs.PackedLemmas.{told}
-
--- ---- places in parts
-pub in_first : (xs ys : List Entry) (i : ℕ) → i < length xs → slice_get xs i ≡ slice_get (xs ++ ys) i
-in_first [] ys i lt = absurd (omega (arith, lt))
-in_first (x ∷ xs) ys zero lt = refl
-in_first (x ∷ xs) ys (suc i) lt = in_first xs ys i (omega (arith, lt))
-
-pub in_others : (xs ys : List Entry) (i : ℕ) → length xs ≤ i → slice_get ys (i - length xs) ≡ slice_get (xs ++ ys) i
-in_others [] ys i le = ap (slice_get ys) (let e : i - 0 ≡ i = omega arith in e)
-in_others (x ∷ xs) ys zero le = absurd (omega (arith, le))
-in_others (x ∷ xs) ys (suc i) le = ap (slice_get ys) (let e : suc i - length (x ∷ xs) ≡ i - length xs = omega arith in e) ∙ in_others xs ys i (omega (arith, le))
 
 -- ---- the entry of a rank
 nothing_at : (es : List Entry) (i : ℕ) (d : Entry) → slice_get es i ≡ None → slice_index_or es i d ≡ d
@@ -68,10 +57,10 @@ pub one_more_rank : (es : List Entry) (ranks : List Rank) (rank : Rank) (e : Ent
 one_more_rank es ranks rank e at there packed all =
     let is = ranked_is es rank e (ap (slice_get es) at ∙ there) in
     All-append (IsRank es) ranks (rank ∷ []) all (
-      alone (IsRank es) rank (record {
-        within = omega (arith, at, slice_get_within es (length ranks) e there);
-        packed = subst (λ (x : Entry). IsPacked rank.small rank.large x.outcome) (sym is) packed;
-      })
+    alone (IsRank es) rank (record {
+      within = omega (arith, at, slice_get_within es (length ranks) e there);
+      packed = subst (λ (x : Entry). IsPacked rank.small rank.large x.outcome) (sym is) packed;
+    })
     )
 
 -- ---- how ranks compare
@@ -105,9 +94,9 @@ pub entry_at_rank : (es : List Entry) (ranks : List Rank) (race : Bool) (place :
     → e ≡ entry_at (record { entries = map (ranked_entry es) ranks; race = race }) place
 entry_at_rank es ranks race place rank e here there =
     sym (
-      get_or_from_slice_get (map (ranked_entry es) ranks) place (ranked_entry es rank) (record { outcome = []; choice = 0; order = [] })
-      (slice_get-map (ranked_entry es) ranks place ∙ ap (option_map (ranked_entry es)) here)
-      ∙ ranked_is es rank e there
+    get_or_from_slice_get (map (ranked_entry es) ranks) place (ranked_entry es rank) (record { outcome = []; choice = 0; order = [] })
+    (slice_get-map (ranked_entry es) ranks place ∙ ap (option_map (ranked_entry es)) here)
+    ∙ ranked_is es rank e there
     )
 
 pub found_at : (es : List Entry) (ranks : List Rank) (race : Bool) (place : ℕ) (rank : Rank) (e : Entry) (report : Report) → record { entries = map (ranked_entry es) ranks; race = race } ≡ report
@@ -132,15 +121,6 @@ module _ (es more : List Entry) where
   before : (rank : Rank) → IsRank es rank → ranked_entry (es ++ more) rank ≡ ranked_entry es rank
   before rank h = get_or_append_left es more (record { outcome = []; choice = 0; order = [] }) rank.place h.within
 
-  pub ranks_before : (ranks : List Rank) → AreRanks es ranks → AreRanks (es ++ more) ranks
-  ranks_before ranks all k d lt =
-      let h = all k d lt in
-      let rank = slice_index_or ranks k d in
-      record {
-        within = omega (arith, h.within, length-append es more);
-        packed = subst (λ (e : Entry). IsPacked rank.small rank.large e.outcome) (sym (before rank h)) h.packed;
-      }
-
   pub map_before : (ranks : List Rank) → AreRanks es ranks → map (ranked_entry (es ++ more)) ranks ≡ map (ranked_entry es) ranks
   map_before [] all = refl
   map_before (r ∷ rs) all = ap₂ (λ (e : Entry) (xs : List Entry). e ∷ xs) (before r (all 0 r (omega arith))) (map_before rs (λ k d lt. all (suc k) d (omega (arith, lt))))
@@ -164,10 +144,6 @@ module _ (es more : List Entry) where
   pub map_behind : (ranks : List Rank) → map (ranked_entry (es ++ more)) (map (moved (length es)) ranks) ≡ map (ranked_entry more) ranks
   map_behind [] = refl
   map_behind (r ∷ rs) = ap₂ (λ (e : Entry) (xs : List Entry). e ∷ xs) (behind r) (map_behind rs)
-
--- there is room for the places
-pub places_fit : (es : List Entry) (ranks : List Rank) (count other : ℕ) → AreRanks es ranks → other ≡ length es → count + other < 2 ^ 64 → All (λ rank. rank.place + count < 2 ^ 64) ranks
-places_fit es ranks count other all is fits k d lt = omega (arith, (all k d lt).within, is, fits)
 
 -- what ranks of both come to
 pub both_merged : (es more all : List Entry) (xs ys others ranks : List Rank) → all ≡ es ++ more → others ≡ map (moved (length es)) ys → AreRanks es xs

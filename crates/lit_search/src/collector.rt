@@ -2,7 +2,7 @@
 
 pub(crate) mod kept;
 
-ghost use Rattle.std.specs.Prelude.{◌≡◌, ◌↔◌, ◌⊎◌, ℕ, ◌+◌, ◌<◌, ◌≤◌, Bool, IsFalse, IsTrue, is_some, length, IfOk, OnOk};
+ghost use Rattle.std.specs.Prelude.{◌≡◌, ◌↔◌, ◌⊎◌, ℕ, ◌+◌, ◌<◌, ◌≤◌, Bool, IsFalse, IsTrue, [], is_some, length, IfOk, OnOk};
 ghost use Rattle.lit_paths.specs.Choice.{choices_of};
 ghost use Rattle.lit_paths.specs.Plan.{choices_before};
 ghost use Rattle.lit_rel.specs.DataRace.{HasDataRace};
@@ -75,9 +75,20 @@ fn keep_on(
     Ok(next)
 }
 
+/// Whether there was no data race so far, and no choice of a combination has one, as far as its events show. The cursor has no
+/// source.
+fn stays_calm(calm: bool, cursor: &Cursor<'_>) -> bool
+    requires { cursor.now.places ≡ [] }
+    ensures before { IsTrue result → IsTrue calm }
+    ensures here { IsTrue result → ¬ HasRaceIn cursor.now.test (in_range (low_at cursor.now) (choices_before cursor.now.test (cursor.now.combination + 1))) }
+{
+    calm && cursor.is_calm()
+}
+
 /// Keeps what the choices from `from` up to and without `to` show, none where `from` is no less, and marks a data race of
 /// what is kept, by a cursor that stood anywhere. What the choices from `since` on show is kept up to `from`, and then up
-/// to the number answered, `to` or a greater one.
+/// to the number answered, `to` or a greater one. It answers too whether these choices have no data race, as far as the
+/// events of their combinations show.
 fn keep_range<'p>(
     alloc: Global,
     kept: &mut Kept,
@@ -88,48 +99,29 @@ fn keep_range<'p>(
     since: u64,
     from: u64,
     to: u64,
-) -> Result<u64, AllocError>
+) -> Result<(u64, bool), AllocError>
     requires known { to ≤ length (choices_of plan.now) }
     requires seen { AreKept plan.now kept.old (in_range since from) }
     requires coming { IsComing plan.now (λ outcome. ¬ HasOutcome kept.old outcome) coming.old }
     ensures keeps { OnOk result (KeepsRange plan.now from to kept.old kept.new) }
     ensures marks { OnOk result (MarksRaces plan.now from to race.old race.new) }
-    ensures seen { IfOk result (λ seen. AreKept plan.now kept.new (in_range since seen)) }
-    ensures past { IfOk result (λ seen. to ≤ seen) }
+    ensures seen { IfOk result (λ found. AreKept plan.now kept.new (in_range since found.0)) }
+    ensures past { IfOk result (λ found. to ≤ found.0) }
+    ensures calm { IfOk result (λ found. IsTrue found.1 → ¬ HasRaceIn plan.now (in_range from to)) }
     ensures coming { OnOk result (IsComing plan.now (λ outcome. ¬ HasOutcome kept.new outcome) coming.new) }
 {
     let (mut next, mut seen) = (from, from);
+    let mut calm = true;
     while next < to {
         let combination = plan.combination(next);
         cursor.reopen(plan, combination);
+        calm = stays_calm(calm, &*cursor);
         coming.enter(alloc, &*cursor, combination)?;
         let end = cursor.end().min(to);
         seen = keep_on(kept, race, coming, plan, cursor, since, next, end)?;
         next = end;
     }
-    Ok(seen)
-}
-
-/// Whether it was marked, or a choice with a number from `from` up to and without `to` has a data race, by a cursor that
-/// stood anywhere. No choice from `barren` up to `from` belongs to a valid execution, if none was marked. Where it is not
-/// marked now, `from` is then a number, `to` or a greater one, up to which there is no data race, and `barren` says what
-/// it said of the choices up to there.
-fn is_marked_with<'p>(
-    race: bool,
-    plan: &'p Plan<'p>,
-    cursor: &mut Cursor<'p>,
-    barren: &mut u64,
-    from: &mut u64,
-    to: u64,
-) -> bool
-    requires known { to ≤ length (choices_of plan.now) }
-    requires barren { IsFalse race → AreBarren plan.now (in_range barren.old from.old) }
-    ensures marked { IsTrue result ↔ (IsTrue race ⊎ HasRaceIn plan.now (in_range from.old to)) }
-    ensures none { IsFalse result → ¬ HasRaceIn plan.now (in_range from.old from.new) }
-    ensures barren { IsFalse result → AreBarren plan.now (in_range barren.new from.new) }
-    ensures past { IsFalse result → to ≤ from.new }
-{
-    race || has_race_in(plan, cursor, barren, from, to)
+    Ok((seen, calm))
 }
 
 /// A row of numbers, from the one up to and without the other, where it goes on to `from` at least; else an empty one at
@@ -139,6 +131,37 @@ fn row_at(row: (u64, u64), from: u64) -> (u64, u64)
     ensures anew { row.1 < from → result ≡ (from, from) }
 {
     if row.1 < from { (from, from) } else { row }
+}
+
+/// Whether it was marked, or a choice with a number from `from` up to and without `to` has a data race, by a cursor that
+/// stood anywhere. `calm` says that none of these has one. No choice from `barren` up to `from` belongs to a valid
+/// execution, if none was marked. Where it is not marked now, `from` is then a number, `to` or a greater one, up to which there is no data race, and `barren` says what
+/// it said of the choices up to there.
+fn is_marked_with<'p>(
+    race: bool,
+    calm: bool,
+    plan: &'p Plan<'p>,
+    cursor: &mut Cursor<'p>,
+    barren: &mut u64,
+    from: &mut u64,
+    to: u64,
+) -> bool
+    requires known { to ≤ length (choices_of plan.now) }
+    requires calm { IsTrue calm → ¬ HasRaceIn plan.now (in_range from.old to) }
+    requires barren { IsFalse race → AreBarren plan.now (in_range barren.old from.old) }
+    ensures marked { IsTrue result ↔ (IsTrue race ⊎ HasRaceIn plan.now (in_range from.old to)) }
+    ensures none { IsFalse result → ¬ HasRaceIn plan.now (in_range from.old from.new) }
+    ensures barren { IsFalse result → AreBarren plan.now (in_range barren.new from.new) }
+    ensures past { IsFalse result → to ≤ from.new }
+{
+    if race {
+        return true;
+    }
+    if calm {
+        (*barren, *from) = row_at((*barren, *from), to);
+        return false;
+    }
+    has_race_in(plan, cursor, barren, from, to)
 }
 
 /// Has a cursor there, if there is none, on the combination of a choice. It is a large one, so this stays by itself.
@@ -267,7 +290,7 @@ impl<'p> Collector<'p> {
         (self.row, self.seen) = (from, from);
         (self.barren, self.race_free) = (from, from);
         let mut coming = mem::replace(&mut self.coming, Coming::unknown());
-        self.seen = keep_range(
+        let (ahead, calm) = keep_range(
             self.alloc,
             &mut self.kept,
             &mut self.race,
@@ -278,8 +301,17 @@ impl<'p> Collector<'p> {
             seen,
             to,
         )?;
+        self.seen = ahead;
         self.coming = coming;
-        self.race = is_marked_with(self.race, plan, cursor, &mut barren, &mut race_free, to);
+        self.race = is_marked_with(
+            self.race,
+            calm && seen <= race_free,
+            plan,
+            cursor,
+            &mut barren,
+            &mut race_free,
+            to,
+        );
         (self.row, self.barren, self.race_free) = (row, barren, race_free);
         self.end = to;
         Ok(())
@@ -310,7 +342,10 @@ impl<'p> Collector<'p> {
         ensures { IfOk result (λ found. found ≡ self.entry.report) }
     {
         let Collector {
-            alloc, kept, race, ..
+            alloc,
+            kept,
+            race,
+            ..
         } = self;
         Ok(Found::new(alloc, kept.into_examples(), race)?)
     }

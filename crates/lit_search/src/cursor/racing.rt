@@ -3,7 +3,7 @@
 //! What the search for outcomes leaves is not enough here: a choice whose outcome is kept may be the only one with a
 //! data race, and one for which an init event can stand has one always.
 
-ghost use Rattle.std.specs.Prelude.{◌≡◌, ◌+◌, ◌≤◌, IsFalse, IsTrue, false, length};
+ghost use Rattle.std.specs.Prelude.{◌≡◌, ◌+◌, ◌≤◌, IsFalse, IsTrue, [], false, length};
 ghost use Rattle.lit_paths.specs.Choice.{choices_of};
 ghost use Rattle.lit_paths.specs.Plan.{choices_before};
 ghost use Rattle.lit_search.specs.Report.{HasRaceIn, in_range};
@@ -42,6 +42,16 @@ impl Wanted for All {
 }
 
 impl Cursor<'_> {
+    /// Whether no choice of its combination has a data race, as far as that shows where no byte read has a source, as none
+    /// has.
+    pub(crate) fn is_calm(&self) -> bool
+        requires { self.now.places ≡ [] }
+        ensures { IsTrue result → ¬ HasRaceIn self.now.test (in_range (low_at self.now) (choices_before self.now.test (self.now.combination + 1))) }
+    {
+        laws();
+        !self.part().may_race() && self.behind() == self.end()
+    }
+
     /// Whether a choice with a number from `from` up to and without `to` belongs to a valid execution with a data race.
     /// The cursor stands at the beginning of such a range of its combination. No choice from `barren` up to `from`
     /// belongs to a valid execution, so that one for which others stand doesn't either where these are of such choices.

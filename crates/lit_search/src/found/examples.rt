@@ -59,7 +59,12 @@ impl Examples {
     }
 
     /// Puts one more outcome there, with its example.
-    pub(crate) fn put(&mut self, alloc: Global, outcome: &[u32], example: Example) -> Result<(), AllocError>
+    pub(crate) fn put(
+        &mut self,
+        alloc: Global,
+        outcome: &[u32],
+        example: Example,
+    ) -> Result<(), AllocError>
         requires { ¬ HasOutcome (risen self.old) outcome.now }
         ensures ok { OnOk result (risen self.new ≡ merged (risen self.old) (shown_entry outcome.now example ∷ [])) }
         ensures err { OnErr result (self.new ≡ self.old) }

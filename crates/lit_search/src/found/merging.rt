@@ -66,7 +66,12 @@ fn take_least(parts: &[Examples], a: &mut VecDeque<Rank>, b: &mut VecDeque<Rank>
 }
 
 /// The ranks of two rising lists, merged to one: of two of one outcome the lesser one.
-fn merged_ranks(alloc: Global, parts: &[Examples], a: Vec<Rank>, b: Vec<Rank>) -> Result<Vec<Rank>, AllocError>
+fn merged_ranks(
+    alloc: Global,
+    parts: &[Examples],
+    a: Vec<Rank>,
+    b: Vec<Rank>,
+) -> Result<Vec<Rank>, AllocError>
     requires first { AreRanks (joined parts.now) a.items }
     requires second { AreRanks (joined parts.now) b.items }
     ensures merged { IfOk result (λ ranks. map (ranked_entry (joined parts.now)) ranks.items

@@ -123,7 +123,11 @@ fn ranks_of(alloc: Global, parts: &[Examples], count: usize) -> Result<Vec<Rank>
 
 /// The ranks of all outcomes of parts, no two of which are the same, rising by outcome. `count` is for how many there is room
 /// at once.
-pub(crate) fn ranked(alloc: Global, parts: &[Examples], count: usize) -> Result<Vec<Rank>, AllocError>
+pub(crate) fn ranked(
+    alloc: Global,
+    parts: &[Examples],
+    count: usize,
+) -> Result<Vec<Rank>, AllocError>
     requires { IsDistinct are_same (joined parts.now) }
     ensures rising { IfOk result (λ ranks. map (ranked_entry (joined parts.now)) ranks.items ≡ risen (joined parts.now)) }
     ensures ranks { IfOk result (λ ranks. AreRanks (joined parts.now) ranks.items) }
@@ -138,7 +142,11 @@ pub(crate) fn ranked(alloc: Global, parts: &[Examples], count: usize) -> Result<
 }
 
 /// Ranks, where so many outcomes stand before their parts.
-pub(crate) fn all_behind(alloc: Global, ranks: Vec<Rank>, count: usize) -> Result<Vec<Rank>, AllocError>
+pub(crate) fn all_behind(
+    alloc: Global,
+    ranks: Vec<Rank>,
+    count: usize,
+) -> Result<Vec<Rank>, AllocError>
     requires { All (λ rank. rank.place + count < 2 ^ 64) ranks.items }
     ensures { IfOk result (λ moved. moved.items ≡ map (λ rank. record { large = rank.large; small = rank.small; place = rank.place + count }) ranks.items) }
 {

@@ -2,12 +2,13 @@ use Rattle.std.proofs.Common.{◌≡◌, ◌<◌, ◌+◌, ℕ, List, Option, re
 use Rattle.std.specs.Prelude.{IfSome}
 use Rattle.lit_read.specs.Syntax.{Litmus}
 use Rattle.lit_paths.specs.Plan.{choices_before}
+use Rattle.lit_search.specs.Report.{HasRaceIn, in_range}
 use Rattle.lit_search.specs.Internal.Coming.{IsComing, IsToCome}
 use Rattle.lit_search.specs.Internal.Outcomes.{HasOutcome}
 use Rattle.lit_search.specs.Internal.Places.{Stand, low_at}
 use Rattle.lit_search.proofs.Keeping.{keeps_end, keeps_none, keeps_joined}
 use Rattle.lit_search.proofs.NextLemmas.{none_up_to}
-use Rattle.lit_search.proofs.RacingLemmas.{marks_end, marks_joined, marks_none}
+use Rattle.lit_search.proofs.RacingLemmas.{calm_joined, marks_end, marks_joined, marks_none, none_there, race_at_first, race_wider}
 use Rattle.lit_search.proofs.collector.keep_range.Goals as goal
 
 pub loop-next-init : goal.loop-next-init
@@ -19,6 +20,7 @@ loop-next-init c = record {
   coming = c.requires.coming;
   keeps = keeps_none c.args.plan.now c.args.from c.args.kept.now;
   marks = marks_none c.args.plan.now c.args.from c.args.from c.args.race.now;
+  calm = λ free. none_there c.args.plan.now (in_range c.args.from c.args.from) (race_at_first c.args.plan.now c.args.from c.args.from (omega arith));
 }
 
 pub keep_on-requires-clause-test : goal.keep_on-requires-clause-test
@@ -65,6 +67,10 @@ loop-next-preserved c =
       c.combination-combination.ensures.high,
       c.loop-next-test.true,
     ) in
+    let s = c.reopen.new.self in
+    let behind = choices_before s.test (s.combination + 1) in
+    let same : s.test ≡ c.args.plan.now = ap (λ (u : Stand). u.test) c.reopen.ensures in
+    let Calm : Litmus → Type 0 = λ t. ¬ HasRaceIn t (in_range (low_at s) behind) in
     record {
       after = omega (arith, next, c.loop-next.invariant.after);
       before = λ past. absurd (omega (arith, c.min-end.ensures, past));
@@ -74,6 +80,9 @@ loop-next-preserved c =
           (subst (λ (n : ℕ). IsToCome c.args.plan.now n (λ outcome. ¬ HasOutcome c.keep_on.new.kept outcome) c.keep_on.new.coming) (ap (λ (s : Stand). s.combination) c.reopen.ensures) c.in_ok-seen.ensures.coming);
       keeps = keeps_joined c.args.plan.now c.args.from c.loop-next.next c.min-end.result c.args.kept.now c.loop-next.kept c.keep_on.new.kept c.loop-next.invariant.after (omega (arith, next)) c.loop-next.invariant.keeps c.in_ok-seen.ensures.keeps;
       marks = marks_joined c.args.plan.now c.args.from c.loop-next.next c.min-end.result c.args.race.now c.loop-next.race c.keep_on.new.race c.loop-next.invariant.after (omega (arith, next)) c.loop-next.invariant.marks c.in_ok-seen.ensures.marks;
+      calm = λ free.
+          calm_joined c.args.plan.now c.args.from c.loop-next.next (low_at s) c.min-end.result behind (c.loop-next.invariant.calm (c.stays_calm-calm.ensures.before free))
+          (omega (arith, ap low_at c.reopen.ensures, c.combination-combination.ensures.low)) (omega (arith, c.min-end.ensures, c.end.ensures)) (subst Calm same (c.stays_calm-calm.ensures.here free));
     }
 
 pub returns-clause-keeps : goal.returns-clause-keeps
@@ -86,3 +95,6 @@ returns-clause-marks c =
 
 pub returns-clause-past : goal.returns-clause-past
 returns-clause-past c = omega (arith, c.loop-next-test.false, c.loop-next.invariant.ahead)
+
+pub returns-clause-calm : goal.returns-clause-calm
+returns-clause-calm c free one = c.loop-next.invariant.calm free (race_wider c.args.plan.now c.args.from c.args.to c.args.from c.loop-next.next (omega arith) (omega (arith, c.loop-next-test.false)) one)

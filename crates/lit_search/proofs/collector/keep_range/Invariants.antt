@@ -1,5 +1,6 @@
 use Rattle.std.proofs.Common.{◌≡◌, ◌-◌, ◌<◌, ◌≤◌}
-use Rattle.lit_search.specs.Report.{in_range}
+use Rattle.std.specs.Prelude.{IsTrue}
+use Rattle.lit_search.specs.Report.{HasRaceIn, in_range}
 use Rattle.lit_search.specs.Internal.Coming.{IsComing}
 use Rattle.lit_search.specs.Internal.Outcomes.{HasOutcome}
 use Rattle.lit_search.specs.Internal.Taking.{AreKept, KeepsRange, MarksRaces}
@@ -14,6 +15,7 @@ invariant-loop-next l = record {
   keeps : KeepsRange l.plan l.from l.next l.fn.kept l.kept;
   coming : IsComing l.plan (λ outcome. ¬ HasOutcome l.kept outcome) l.coming;
   marks : MarksRaces l.plan l.from l.next l.fn.race l.race;
+  calm : IsTrue l.calm → ¬ HasRaceIn l.plan (in_range l.from l.next);
 }
 
 abbrev pub decreases-loop-next : goal.decreases-loop-next

@@ -11,8 +11,8 @@ returns-clause-choice c =
     let x = c.self.inside in
     let rank = c.index.result.now in
     ap (λ (e : Entry). e.choice) (
-      found_at (joined x.parts.items) x.ranks.items x.race c.args.place rank (shown_entry c.in-Some.field-0-0.now c.in-Some.example.now) c.args.self.now c.self.view_is c.requires c.index.ensures
-      (ap (λ (ps : List (List Entry)). slice_get (joined ps) rank.place) (sym c.as_slice.ensures.value) ∙ sym c.in-Some.ensures)
+    found_at (joined x.parts.items) x.ranks.items x.race c.args.place rank (shown_entry c.in-Some.field-0-0.now c.in-Some.example.now) c.args.self.now c.self.view_is c.requires c.index.ensures
+    (ap (λ (ps : List (List Entry)). slice_get (joined ps) rank.place) (sym c.as_slice.ensures.value) ∙ sym c.in-Some.ensures)
     )
 
 pub returns-clause-order : goal.returns-clause-order
@@ -20,6 +20,6 @@ returns-clause-order c =
     let x = c.self.inside in
     let rank = c.index.result.now in
     ap (λ (e : Entry). e.order) (
-      found_at (joined x.parts.items) x.ranks.items x.race c.args.place rank (shown_entry c.in-Some.field-0-0.now c.in-Some.example.now) c.args.self.now c.self.view_is c.requires c.index.ensures
-      (ap (λ (ps : List (List Entry)). slice_get (joined ps) rank.place) (sym c.as_slice.ensures.value) ∙ sym c.in-Some.ensures)
+    found_at (joined x.parts.items) x.ranks.items x.race c.args.place rank (shown_entry c.in-Some.field-0-0.now c.in-Some.example.now) c.args.self.now c.self.view_is c.requires c.index.ensures
+    (ap (λ (ps : List (List Entry)). slice_get (joined ps) rank.place) (sym c.as_slice.ensures.value) ∙ sym c.in-Some.ensures)
     )

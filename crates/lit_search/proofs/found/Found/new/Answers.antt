@@ -11,7 +11,7 @@ pub invariant_of-result : goal.invariant_of-result
 invariant_of-result c =
     let items : c.push.new.self.items ≡ c.in_ok-parts.parts.items ++ c.args.examples ∷ [] = c.in_ok-push.ensures.items in
     let one : joined c.push.new.self.items ≡ c.args.examples =
-        ap joined (items ∙ ap (λ (xs : List (List Entry)). xs ++ c.args.examples ∷ []) c.in_ok-parts.ensures.items) ∙ joined_one c.args.examples in
+    ap joined (items ∙ ap (λ (xs : List (List Entry)). xs ++ c.args.examples ∷ []) c.in_ok-parts.ensures.items) ∙ joined_one c.args.examples in
     let ranks = c.in_ok-ranks.ranks.items in
     let P : List (List Entry) → Type 0 = λ ps. AreRising (map (ranked_entry (joined ps)) ranks) in
     let Q : List (List Entry) → Type 0 = λ ps. AreRanks (joined ps) ranks in

@@ -11,6 +11,6 @@ returns c =
     let x = c.self.inside in
     let rank = c.index.result.now in
     ap (λ (e : Entry). e.outcome) (
-      found_at (joined x.parts.items) x.ranks.items x.race c.args.place rank (shown_entry c.in-Some.outcome.now c.in-Some.field-0-1.now) c.args.self.now c.self.view_is c.requires c.index.ensures
-      (ap (λ (ps : List (List Entry)). slice_get (joined ps) rank.place) (sym c.as_slice.ensures.value) ∙ sym c.in-Some.ensures)
+    found_at (joined x.parts.items) x.ranks.items x.race c.args.place rank (shown_entry c.in-Some.outcome.now c.in-Some.field-0-1.now) c.args.self.now c.self.view_is c.requires c.index.ensures
+    (ap (λ (ps : List (List Entry)). slice_get (joined ps) rank.place) (sym c.as_slice.ensures.value) ∙ sym c.in-Some.ensures)
     )

@@ -22,4 +22,4 @@ returns-clause-rising c =
     sorted_risen (ranked_entry es) es sorted c.requires
     (subst P c.in_ok-ranks.ensures.each (IsPermutation-map (ranked_entry es) c.in_ok-ranks.ranks.items sorted c.sort_unstable_by.ensures.permutation))
     (sorted_by_outcome es sorted (All-permutation (IsRank es) c.in_ok-ranks.ranks.items sorted c.sort_unstable_by.ensures.permutation c.in_ok-ranks.ensures.ranks)
-      (c.sort_unstable_by.ensures.sorted _ (ranks_by nat_list_cmp_total (rank_key es)) (always_returns_same _ _ _ (λ a r f' k. search rules))))
+    (c.sort_unstable_by.ensures.sorted _ (ranks_by nat_list_cmp_total (rank_key es)) (always_returns_same _ _ _ (λ a r f' k. search rules))))
