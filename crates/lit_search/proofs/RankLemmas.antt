@@ -14,11 +14,13 @@ use Rattle.std.proofs.lemmas.Grind.{flat_map-append}
 use Rattle.std.specs.Option.{option_map}
 use Rattle.std.proofs.lemmas.Option.{get_or_from_slice_get, slice_get-get_or, slice_get-map, slice_get_within}
 use Rattle.lit_search.specs.declared.found.ranking.Rank.{Rank}
+use Rattle.lit_search.specs.declared.found.Found.TheInside.{Inside}
+use Rattle.lit_search.specs.Found.{report_of}
 use Rattle.lit_search.specs.Ranked.{joined, ranked_entry}
 use Rattle.lit_search.specs.Report.{Entry, Report, entry_at, outcome_cmp}
 use Rattle.lit_search.specs.Internal.Merged.{heads_cmp, merged}
 use Rattle.lit_search.specs.Internal.Packed.{IsPacked}
-use Rattle.lit_search.specs.Internal.Ranks.{AreRanks, IsRank, rank_cmp}
+use Rattle.lit_search.specs.Internal.Ranks.{AreRanks, IsRank, IsRanked, rank_cmp}
 use Rattle.lit_search.proofs.PackedLemmas.{told}
 
 -- ---- the entry of a rank
@@ -99,13 +101,17 @@ entry_at_rank es ranks race place rank e here there =
     ∙ ranked_is es rank e there
     )
 
-pub found_at : (es : List Entry) (ranks : List Rank) (race : Bool) (place : ℕ) (rank : Rank) (e : Entry) (report : Report) → record { entries = map (ranked_entry es) ranks; race = race } ≡ report
-    → place < length report.entries → rank ≡ slice_index_or ranks place rank → slice_get es rank.place ≡ Some e → e ≡ entry_at report place
-found_at es ranks race place rank e report view known is there =
+pub found_at : (x : Inside) (report : Report) → report_of x ≡ report → (parts : List (List Entry)) → parts ≡ x.parts.items → (place : ℕ) → place < length report.entries
+    → (rank : Rank) → rank ≡ slice_index_or x.ranks.items place rank → (e : Entry) → Some e ≡ slice_get (joined parts) rank.place → e ≡ entry_at report place
+found_at x report view parts same place known rank is e there =
+    let es = joined x.parts.items in
     let P : Report → Type 0 = λ r. place < length r.entries in
     let Q : Report → Type 0 = λ r. e ≡ entry_at r place in
-    let within : place < length ranks = omega (arith, subst P (sym view) known, length-map ranks (ranked_entry es)) in
-    subst Q view (entry_at_rank es ranks race place rank e (slice_get-get_or ranks place rank within ∙ ap Some (sym is)) there)
+    let within : place < length x.ranks.items = omega (arith, subst P (sym view) known, length-map x.ranks.items (ranked_entry es)) in
+    subst Q view (
+    entry_at_rank es x.ranks.items x.race place rank e (slice_get-get_or x.ranks.items place rank within ∙ ap Some (sym is))
+    (ap (λ (ps : List (List Entry)). slice_get (joined ps) rank.place) (sym same) ∙ sym there)
+    )
 
 -- ---- merging
 pub fronts : (es : List Entry) (xs ys : List Rank) (a b : Rank) → AreRanks es xs → AreRanks es ys → 0 < length xs → a ≡ slice_index_or xs 0 a → 0 < length ys → b ≡ slice_index_or ys 0 b
@@ -145,11 +151,32 @@ module _ (es more : List Entry) where
   map_behind [] = refl
   map_behind (r ∷ rs) = ap₂ (λ (e : Entry) (xs : List Entry). e ∷ xs) (behind r) (map_behind rs)
 
--- what ranks of both come to
-pub both_merged : (es more all : List Entry) (xs ys others ranks : List Rank) → all ≡ es ++ more → others ≡ map (moved (length es)) ys → AreRanks es xs
-    → map (ranked_entry all) ranks ≡ merged (map (ranked_entry all) xs) (map (ranked_entry all) others) → map (ranked_entry all) ranks ≡ merged (map (ranked_entry es) xs) (map (ranked_entry more) ys)
-both_merged es more all xs ys others ranks whole behind known is =
-    is
-    ∙ ap₂ merged
-    (ap (λ (zs : List Entry). map (ranked_entry zs) xs) whole ∙ map_before es more xs known)
-    (ap₂ (λ (zs : List Entry) (rs : List Rank). map (ranked_entry zs) rs) whole behind ∙ map_behind es more ys)
+-- what is found in two sets, with the parts of both
+module _ (x y : Inside) (first : IsRanked x) (second : IsRanked y) (parts : List (List Entry)) (others : List Rank) (both : parts ≡ x.parts.items ++ y.parts.items) (behind : others ≡ map (moved x.count) y.ranks.items) where
+  abbrev es : List Entry
+  es = joined x.parts.items
+
+  abbrev more : List Entry
+  more = joined y.parts.items
+
+  whole : joined parts ≡ es ++ more
+  whole = ap joined both ∙ joined_both x.parts.items y.parts.items
+
+  theirs : others ≡ map (moved (length es)) y.ranks.items
+  theirs = behind ∙ ap (λ (k : ℕ). map (moved k) y.ranks.items) first.count
+
+  pub others_are : AreRanks (joined parts) others
+  others_are =
+      let P : List Entry → Type 0 = λ zs. AreRanks zs others in
+      subst P (sym whole) (subst (AreRanks (es ++ more)) (sym theirs) (ranks_behind es more y.ranks.items second.ranks))
+
+  pub sum_is : x.count + y.count ≡ length (joined parts)
+  sum_is = omega (arith, first.count, second.count, length-append es more, ap (λ (zs : List Entry). length zs) whole)
+
+  pub entries_are : (ranks : List Rank) → map (ranked_entry (joined parts)) ranks ≡ merged (map (ranked_entry (joined parts)) x.ranks.items) (map (ranked_entry (joined parts)) others)
+      → map (ranked_entry (joined parts)) ranks ≡ merged (report_of x).entries (report_of y).entries
+  entries_are ranks is =
+      is
+      ∙ ap₂ merged
+      (ap (λ (zs : List Entry). map (ranked_entry zs) x.ranks.items) whole ∙ map_before es more x.ranks.items first.ranks)
+      (ap₂ (λ (zs : List Entry) (rs : List Rank). map (ranked_entry zs) rs) whole theirs ∙ map_behind es more y.ranks.items)

@@ -88,9 +88,10 @@ fn stays_calm(calm: bool, cursor: &Cursor<'_>) -> bool
 /// Keeps what the choices from `from` up to and without `to` show, none where `from` is no less, and marks a data race of
 /// what is kept, by a cursor that stood anywhere. What the choices from `since` on show is kept up to `from`, and then up
 /// to the number answered, `to` or a greater one. It answers too whether these choices have no data race, as far as the
-/// events of their combinations show.
+/// events of their combinations show. `lists` says whether what can come on a combination may be listed.
 fn keep_range<'p>(
     alloc: Global,
+    lists: bool,
     kept: &mut Kept,
     race: &mut bool,
     coming: &mut Coming,
@@ -116,7 +117,7 @@ fn keep_range<'p>(
         let combination = plan.combination(next);
         cursor.reopen(plan, combination);
         calm = stays_calm(calm, &*cursor);
-        coming.enter(alloc, &*cursor, combination)?;
+        coming.enter(alloc, &*cursor, combination, lists)?;
         let end = cursor.end().min(to);
         seen = keep_on(kept, race, coming, plan, cursor, since, next, end)?;
         next = end;
@@ -189,6 +190,8 @@ pub struct Collector<'p> {
     /// What goes through each range; `None` before the first.
     cursor: Option<Box<Cursor<'p>>>,
     kept: Kept,
+    /// Whether what can come on a combination may be listed.
+    lists: bool,
     /// What can still come on the combination gone through last.
     coming: Coming,
     /// Whether a choice taken has a data race.
@@ -233,6 +236,7 @@ impl<'p> Collector<'p> {
             plan,
             cursor: None,
             kept: Kept::new(alloc),
+            lists: true,
             coming: Coming::unknown(),
             race: false,
             row: 0,
@@ -241,6 +245,13 @@ impl<'p> Collector<'p> {
             race_free: 0,
             end: 0,
         }
+    }
+
+    /// Says whether what can come on a combination may be listed: for few choices that is more than to go through them.
+    pub(crate) fn let_list(&mut self, lists: bool)
+        ensures { self.new ≡ self.old }
+    {
+        self.lists = lists;
     }
 
     /// The number after the last choice taken, or 0.
@@ -292,6 +303,7 @@ impl<'p> Collector<'p> {
         let mut coming = mem::replace(&mut self.coming, Coming::unknown());
         let (ahead, calm) = keep_range(
             self.alloc,
+            self.lists,
             &mut self.kept,
             &mut self.race,
             &mut coming,

@@ -8,7 +8,7 @@ ghost use Rattle.lit_search.specs.Report.{IsReport, in_range};
 use crate::class::Class;
 use crate::collector::Collector;
 use crate::cursor::Cursor;
-use crate::cursor::coming::Coming;
+use crate::cursor::coming::{CHOICES_FOR_ITEM, Coming};
 use crate::cursor::held::known_after;
 use crate::fault::SearchFault;
 use crate::found::Found;
@@ -28,6 +28,7 @@ pub fn search_range(
     ensures { IfOk result (IsReport plan.now (in_range from to)) }
 {
     let mut collector = Collector::new(alloc, &*plan);
+    collector.let_list(to - from >= CHOICES_FOR_ITEM);
     collector.take(from, to)?;
     collector.into_found()
 }

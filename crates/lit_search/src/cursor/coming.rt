@@ -33,7 +33,7 @@ pub(crate) type Numbers = ArrayVec<u8, BYTE_READ_LIMIT>;
 
 /// How many choices a combination has at the least for each item that may have to be listed: else it is as well to go
 /// through the choices.
-const CHOICES_FOR_ITEM: u64 = 64;
+pub(crate) const CHOICES_FOR_ITEM: u64 = 64;
 
 /// How many items may have to be looked at, at the most.
 const LOOK_LIMIT: u64 = 1_000_000;
@@ -65,12 +65,13 @@ impl Coming {
     }
 
     /// Lists what can come on a combination, by its number, on which the cursor stands without a source, unless that was done
-    /// last, or it is as well to go through the choices.
+    /// last, or it is as well to go through the choices, as `lists` says that it is not.
     pub(crate) fn enter(
         &mut self,
         alloc: Global,
         cursor: &Cursor<'_>,
         combination: usize,
+        lists: bool,
     ) -> Result<(), AllocError>
         requires combination { cursor.now.combination ≡ combination }
         requires beginning { cursor.now.places ≡ [] }
@@ -83,7 +84,7 @@ impl Coming {
         self.combination = Some(combination);
         self.items = None;
         self.numbers = cursor.held_numbers();
-        if cursor.is_worth_listing(self.numbers.as_slice()) {
+        if lists && cursor.is_worth_listing(self.numbers.as_slice()) {
             self.items = cursor.listed(alloc, self.numbers.as_slice())?;
         }
         Ok(())
