@@ -1,27 +1,18 @@
-//! The program jslit: the library's `program` over the standard streams and the words of the command line. Where standard
-//! error is a terminal, a run by several workers shows there after two seconds how far it is.
+//! The program jslit: the library's `program_watched` over the standard streams and the words of the command line. Where
+//! standard error is a terminal, a run by several workers shows there after two seconds how far it is.
 #![tactic(auto)]
 
-use jslit::{Counted, Progress, no_words, program, program_watched};
+mod terminal;
+
+use crate::terminal::Terminal;
+use jslit::{Counted, Progress, no_words, program_watched};
 use std::process::ExitCode;
-use std::rt::Files;
 use std::{env, io};
 
 /// The words of the command line, the program's name first.
 fn words(rt: &HostRuntime) -> io::Result<Vec<String>> {
     let words = env::args(rt)?.collect(rt.alloc())?;
     Ok(words)
-}
-
-/// Whether standard error is a terminal, by the name that the system gives to what it is.
-fn is_on_terminal(rt: &HostRuntime) -> bool {
-    match rt.read_link(rt.alloc(), "/proc/self/fd/2") {
-        Ok(name) => {
-            let name = name.as_str();
-            name.starts_with("/dev/pts/") || name.starts_with("/dev/tty") || name == "/dev/console"
-        }
-        Err(_) => false,
-    }
 }
 
 fn main(rt: HostRuntime) -> ExitCode {
@@ -32,26 +23,15 @@ fn main(rt: HostRuntime) -> ExitCode {
     };
     let mut input = Counted::new(rt.stdin());
     let mut output = Counted::new(rt.stdout());
-    let status = if is_on_terminal(&rt) {
-        let progress = Progress::new(&rt, rt.stderr());
-        program_watched(
-            &rt,
-            rt.alloc(),
-            &words,
-            &mut input,
-            &mut output,
-            &mut errors,
-            &progress,
-        )
-    } else {
-        program(
-            &rt,
-            rt.alloc(),
-            &words,
-            &mut input,
-            &mut output,
-            &mut errors,
-        )
-    };
+    let progress = Progress::new(&rt, Terminal::new(&rt, rt.stderr()));
+    let status = program_watched(
+        &rt,
+        rt.alloc(),
+        &words,
+        &mut input,
+        &mut output,
+        &mut errors,
+        &progress,
+    );
     ExitCode::from(status)
 }

@@ -288,7 +288,8 @@ fn put_entries<W: Write>(page: &mut Page, output: &mut Counted<W>, plan: &Plan<'
     }
 }
 
-/// Writes a test's report. Takes no memory.
+/// Writes a test's report. Takes no memory. Its pages are large, so this stays by itself.
+#[inline(never)]
 pub(crate) fn write_report<W: Write>(
     output: &mut Counted<W>,
     plan: &Plan<'_>,
@@ -346,7 +347,8 @@ fn put_class<W: Write>(
     );
 }
 
-/// Writes a test's quick report. Takes no memory.
+/// Writes a test's quick report. Takes no memory. It stays by itself, as `write_report`.
+#[inline(never)]
 pub(crate) fn write_quick_report<W: Write>(
     output: &mut Counted<W>,
     plan: &Plan<'_>,
