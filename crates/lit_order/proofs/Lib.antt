@@ -5,6 +5,7 @@ pub mod PartLemmas
 pub mod SameOrders
 pub mod StandingLemmas
 pub mod ForcedLemmas
+pub mod EarlierLevelLemmas
 pub mod ExtendLemmas
 pub mod ForcingLemmas
 pub mod KeptBetweenLemmas

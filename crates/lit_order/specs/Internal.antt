@@ -3,5 +3,6 @@ pub mod Beginning
 pub mod Contested
 pub mod Constrained
 pub mod Deciding
+pub mod EarlierLevels
 pub mod ForcedLevels
 pub mod Narrowed

@@ -1,5 +1,6 @@
 //! Parts of choices, with what they force.
 
+pub(crate) mod earlier_levels;
 pub(crate) mod kept_between;
 pub(crate) mod kept_order;
 pub(crate) mod leaving_out;
@@ -33,7 +34,7 @@ pub struct ForcedPart<'p> {
 
 impl<'p> Model for ForcedPart<'p> {
     ghost use Rattle.lit_rel.specs.Part.{PartModel, coded_part};
-    ghost use Rattle.lit_order.specs.Internal.ForcedLevels.{AreForcedLevels, IsKeptBetween, IsKeptOrder};
+    ghost use Rattle.lit_order.specs.Internal.ForcedLevels.{HasForcedLevels, IsKeptBetween, IsKeptOrder};
 
     ghost Value = { PartModel };
 
@@ -41,7 +42,7 @@ impl<'p> Model for ForcedPart<'p> {
 
     ghost view = { λ p. p.part };
 
-    ghost invariant = { λ p. AreForcedLevels p.part p.levels.earlier.items p.levels.now × IsKeptBetween p.part p.levels.forbidden × IsKeptBetween p.part p.levels.fewer × IsKeptOrder p.part p.levels.order };
+    ghost invariant = { λ p. HasForcedLevels p.part p.levels.earlier p.levels.now × IsKeptBetween p.part p.levels.forbidden × IsKeptBetween p.part p.levels.fewer × IsKeptOrder p.part p.levels.order };
 }
 
 impl<'p> ForcedPart<'p> {

@@ -7,6 +7,7 @@ pub mod EdgeLemmas
 pub mod ForbiddenLemmas
 pub mod GrowthLemmas
 pub mod InitReadLemmas
+pub mod KeptRowsLemmas
 pub mod LevelLemmas
 pub mod OrderLemmas
 pub mod OtherSourceLemmas

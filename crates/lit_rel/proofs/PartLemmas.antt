@@ -14,24 +14,27 @@ use Rattle.lit_paths.specs.declared.byte_reads.ByteRead.{ByteRead}
 use Rattle.lit_paths.specs.ByteReads.{IsCandidate, byte_reads, pair_of}
 use Rattle.lit_paths.specs.Event.{event_at, no_event}
 use Rattle.lit_paths.specs.Plan.{AreEventsIn}
+use Rattle.lit_paths.proofs.Rising.{slice_get-map-found}
 use Rattle.lit_rel.specs.declared.rows.Rows.{Rows}
 use Rattle.lit_rel.specs.declared.given.SourcedByte.{SourcedByte}
 use Rattle.lit_rel.specs.declared.part.levels.Level.{Level}
-use Rattle.lit_rel.specs.declared.part.orders.TheConstants.{ORDERS_KEPT}
+use Rattle.lit_rel.specs.declared.rows.kept_rows.KeptRows.{KeptRows}
+use Rattle.lit_rel.specs.declared.rows.two_way_rows.TwoWayRows.{TwoWayRows}
 use Rattle.lit_rel.specs.Coherent.{IsCoherentRead}
 use Rattle.lit_rel.specs.HappensBefore.{HappensBefore, HappensBeforeBy}
 use Rattle.lit_rel.specs.LastPair.{AddsPair}
 use Rattle.lit_rel.specs.Part.{AreFirstSources, IsNextSource, PartModel, part_events, with_sources}
 use Rattle.lit_rel.specs.Internal.Given.{AreFirstReads, IsKnown, Tears, read_of, sources_of}
-use Rattle.lit_rel.specs.Internal.Levels.{AreBack, Stay, Kept, Anew, AreKept, AreRestored, IsKept, IsLevel, IsOrder}
+use Rattle.lit_rel.specs.Internal.Levels.{AreBack, Stay, Kept, Anew, AreKept, AreRestored, IsKept, IsLevel, IsOrder, rows_of}
+use Rattle.lit_rel.specs.KeptRows.{AreKeptRows, HasRoom, IsKeptWith, Put, Full}
 use Rattle.lit_rel.specs.Internal.Pushed.{HasByteSo, IsChangedByte}
 use Rattle.lit_rel.specs.ReadsFrom.{ReadsByteFrom}
 use Rattle.lit_rel.specs.Rows.{Holds, WithPair}
 use Rattle.lit_rel.specs.SynchronizesWith.{CanSynchronize}
 use Rattle.lit_rel.proofs.LevelLemmas.{HasChangedByte-iff, HasTearing-iff, broken_with, broken_with_pair, now_is_more}
 use Rattle.lit_rel.proofs.OrderLemmas.{given_adds, order_with, same_order}
-use Rattle.lit_rel.proofs.PlaceLemmas.{place-middle, place-push}
-use Rattle.lit_rel.proofs.RestoreLemmas.{AreRestored-anew, AreRestored-back, AreRestored-full, AreRestored-level, AreRestored-order, AreRestored-stays}
+use Rattle.lit_rel.proofs.PlaceLemmas.{element_at, place-middle, place-push}
+use Rattle.lit_rel.proofs.RestoreLemmas.{AreRestored-anew, AreRestored-back, AreRestored-full, AreRestored-level, AreRestored-order, AreRestored-stays, IsOrder-of_same}
 use Rattle.lit_rel.proofs.SourceLemmas.{AreFirstReads-push, AreFirstReads-take, next_read, read_known, take_from}
 
 pub of_part : (P : List Event → List ℕ → Type 0) (events part_events : List Event) (sources part_sources : List ℕ) → events ≡ part_events → sources ≡ part_sources → P events sources → P part_events part_sources
@@ -79,28 +82,30 @@ AreFirstSources-push part byte left candidate are i r b w at_read at_source =
     ]
 
 -- so there is room for it
-pub few_bytes : (part : PartModel) (bytes : List SourcedByte) (orders : List Rows) (order : Rows) (earlier : List Level) (level : Level) (byte : SourcedByte) → IsKept part bytes orders order earlier level → IsNextByte part bytes byte → length bytes < BYTE_READ_LIMIT
-few_bytes part bytes orders order earlier level byte k new =
+pub few_bytes : (part : PartModel) (bytes : List SourcedByte) (kept : KeptRows) (order : Rows) (earlier : List Level) (level : Level) (byte : SourcedByte) → IsKept part bytes kept order earlier level → IsNextByte part bytes byte → length bytes < BYTE_READ_LIMIT
+few_bytes part bytes kept order earlier level byte k new =
     let below : length bytes < length (byte_reads (part_events part)) = slice_get_within (byte_reads (part_events part)) (length bytes) (read_of byte) new.left in
     let few : length (byte_reads (part_events part)) ≤ BYTE_READ_LIMIT = k.sound.few_reads in
     omega arith
 
 -- what happens-before was, with one level more
-restored_level : (part : PartModel) (bytes : List SourcedByte) (orders : List Rows) (order : Rows) (earlier : List Level) (level : Level) (byte : SourcedByte) → part.sources ≡ sources_of bytes → IsKept part bytes orders order earlier level
-    → AreRestored (part_events part) (part.sources ++ byte.source ∷ []) (earlier ++ level ∷ []) orders order level.pairs
-restored_level part bytes orders order earlier level byte same k =
+restored_level : (part : PartModel) (bytes : List SourcedByte) (kept : KeptRows) (order : Rows) (earlier : List Level) (level : Level) (byte : SourcedByte) → part.sources ≡ sources_of bytes → (k : IsKept part bytes kept order earlier level)
+    → AreRestored (part_events part) (part.sources ++ byte.source ∷ []) (earlier ++ level ∷ []) (rows_of k.orders) order level.pairs
+restored_level part bytes kept order earlier level byte same k =
     let count : length part.sources ≡ length bytes = ap length same ∙ length-map bytes (λ (b : SourcedByte). b.source) in
     let one_each : length earlier ≡ length bytes = k.one_each in
     let few : level.pairs ≤ length bytes = k.few in
-    AreRestored-level (part_events part) part.sources earlier orders order level.pairs k.restored byte.source level (omega arith) (omega arith) refl k.kept.few k.ordered
+    let kept_all : length (rows_of k.orders) ≡ kept.count = length-map k.orders (λ (o : TwoWayRows). o.rows) ∙ sym k.are.count in
+    let no_more : kept.count ≤ level.pairs = k.as_many.few in
+    AreRestored-level (part_events part) part.sources earlier (rows_of k.orders) order level.pairs k.restored byte.source level (omega arith) (omega arith) refl (omega (arith, kept_all, no_more)) k.ordered
 
 -- one byte more, with what is known then
-IsKept-push : (part : PartModel) (bytes bytes' : List SourcedByte) (orders orders' : List Rows) (order order' : Rows) (earlier earlier' : List Level) (level next : Level) (byte : SourcedByte)
-    → part.sources ≡ sources_of bytes → IsKept part bytes orders order earlier level → IsNextByte part bytes byte → bytes' ≡ bytes ++ byte ∷ [] → earlier' ≡ earlier ++ level ∷ []
+IsKept-push : (part : PartModel) (bytes bytes' : List SourcedByte) (kept more : KeptRows) (orders : List TwoWayRows) (order order' : Rows) (earlier earlier' : List Level) (level next : Level) (byte : SourcedByte)
+    → part.sources ≡ sources_of bytes → IsKept part bytes kept order earlier level → IsNextByte part bytes byte → bytes' ≡ bytes ++ byte ∷ [] → earlier' ≡ earlier ++ level ∷ []
     → IsOrder (part_events part) (part.sources ++ byte.source ∷ []) order' → IsLevel (with_sources part (part.sources ++ byte.source ∷ [])) next
-    → next.pairs ≤ level.pairs + 1 → AreKept (length orders') next.pairs → AreRestored (part_events part) (part.sources ++ byte.source ∷ []) (earlier ++ level ∷ []) orders' order' next.pairs
-    → IsKept (with_sources part (sources_of bytes')) bytes' orders' order' earlier' next
-IsKept-push part bytes bytes' orders orders' order order' earlier earlier' level next byte same k new pushed pushed_level is_now is_next one_more kept is_restored =
+    → next.pairs ≤ level.pairs + 1 → AreKept more (length (part_events part)) next.pairs → AreKeptRows more orders → AreRestored (part_events part) (part.sources ++ byte.source ∷ []) (earlier ++ level ∷ []) (rows_of orders) order' next.pairs
+    → IsKept (with_sources part (sources_of bytes')) bytes' more order' earlier' next
+IsKept-push part bytes bytes' kept more orders order order' earlier earlier' level next byte same k new pushed pushed_level is_now is_next one_more as_many are is_restored =
     let count : length part.sources ≡ length bytes = ap length same ∙ length-map bytes (λ (b : SourcedByte). b.source) in
     let sources' : sources_of bytes' ≡ part.sources ++ byte.source ∷ [] = ap sources_of pushed ∙ map_push (λ (b : SourcedByte). b.source) bytes byte ∙ ap (λ (xs : List ℕ). xs ++ byte.source ∷ []) (sym same) in
     record {
@@ -110,9 +115,11 @@ IsKept-push part bytes bytes' orders orders' order order' earlier earlier' level
       candidates = subst (λ (xs : List ℕ). AreFirstSources (with_sources part xs)) (sym sources') (AreFirstSources-push part byte (ap (slice_get (byte_reads (part_events part))) count ∙ new.left) new.candidate k.candidates);
       one_each = ap length pushed_level ∙ length_push earlier level ∙ (let e : length earlier ≡ length bytes = k.one_each in omega arith) ∙ sym (length_push bytes byte) ∙ sym (ap length pushed);
       few = (let few : level.pairs ≤ length bytes = k.few in let longer : length bytes' ≡ length bytes + 1 = ap length pushed ∙ length_push bytes byte in omega arith);
-      kept = kept;
+      as_many = as_many;
+      orders = orders;
+      are = are;
       ordered = subst (λ (xs : List ℕ). IsOrder (part_events part) xs order') (sym sources') is_now;
-      restored = subst (λ (xs : List ℕ). AreRestored (part_events part) xs earlier' orders' order' next.pairs) (sym sources') (subst (λ (ls : List Level). AreRestored (part_events part) (part.sources ++ byte.source ∷ []) ls orders' order' next.pairs) (sym pushed_level) is_restored);
+      restored = subst (λ (xs : List ℕ). AreRestored (part_events part) xs earlier' (rows_of orders) order' next.pairs) (sym sources') (subst (λ (ls : List Level). AreRestored (part_events part) (part.sources ++ byte.source ∷ []) ls (rows_of orders) order' next.pairs) (sym pushed_level) is_restored);
       level = subst (λ (xs : List ℕ). IsLevel (with_sources part xs) next) (sym sources') is_next;
       levels = λ n l at_n.
           elim (place-push earlier level n l (sym (ap (λ (xs : List Level). slice_get xs n) pushed_level) ∙ at_n)) [
@@ -130,81 +137,92 @@ IsKept-push part bytes bytes' orders orders' order order' earlier earlier' level
     }
 
 -- where the last one adds no pair
-pub IsKept-push_alone : (part : PartModel) (bytes bytes' : List SourcedByte) (orders : List Rows) (order : Rows) (earlier earlier' : List Level) (level next : Level) (byte : SourcedByte)
-    → part.sources ≡ sources_of bytes → IsKept part bytes orders order earlier level → IsNextByte part bytes byte → bytes' ≡ bytes ++ byte ∷ [] → earlier' ≡ earlier ++ level ∷ []
+pub IsKept-push_alone : (part : PartModel) (bytes bytes' : List SourcedByte) (kept : KeptRows) (order : Rows) (earlier earlier' : List Level) (level next : Level) (byte : SourcedByte)
+    → part.sources ≡ sources_of bytes → IsKept part bytes kept order earlier level → IsNextByte part bytes byte → bytes' ≡ bytes ++ byte ∷ [] → earlier' ≡ earlier ++ level ∷ []
     → IsOrder (part_events part) (part.sources ++ byte.source ∷ []) order → IsLevel (with_sources part (part.sources ++ byte.source ∷ [])) next → next.pairs ≡ level.pairs
-    → IsKept (with_sources part (sources_of bytes')) bytes' orders order earlier' next
-IsKept-push_alone part bytes bytes' orders order earlier earlier' level next byte same k new pushed pushed_level is_now is_next pairs =
-    IsKept-push part bytes bytes' orders orders order order earlier earlier' level next byte same k new pushed pushed_level is_now is_next (omega arith) (subst (AreKept (length orders)) (sym pairs) k.kept)
-    (subst (AreRestored (part_events part) (part.sources ++ byte.source ∷ []) (earlier ++ level ∷ []) orders order) (sym pairs) (restored_level part bytes orders order earlier level byte same k))
+    → IsKept (with_sources part (sources_of bytes')) bytes' kept order earlier' next
+IsKept-push_alone part bytes bytes' kept order earlier earlier' level next byte same k new pushed pushed_level is_now is_next pairs =
+    IsKept-push part bytes bytes' kept kept k.orders order order earlier earlier' level next byte same k new pushed pushed_level is_now is_next (omega arith) (subst (AreKept kept (length (part_events part))) (sym pairs) k.as_many) k.are
+    (subst (AreRestored (part_events part) (part.sources ++ byte.source ∷ []) (earlier ++ level ∷ []) (rows_of k.orders) order) (sym pairs) (restored_level part bytes kept order earlier level byte same k))
 
 -- where it adds one
-pub IsKept-push_pair : (part : PartModel) (bytes bytes' : List SourcedByte) (orders orders' : List Rows) (order order' : Rows) (earlier earlier' : List Level) (level next : Level) (byte : SourcedByte)
-    → part.sources ≡ sources_of bytes → IsKept part bytes orders order earlier level → IsNextByte part bytes byte → bytes' ≡ bytes ++ byte ∷ [] → earlier' ≡ earlier ++ level ∷ []
-    → IsOrder (part_events part) (part.sources ++ byte.source ∷ []) order' → IsLevel (with_sources part (part.sources ++ byte.source ∷ [])) next → next.pairs ≡ level.pairs + 1 → (length orders < ORDERS_KEPT → orders' ≡ orders ++ order ∷ []) → (ORDERS_KEPT ≤ length orders → orders' ≡ orders)
-    → IsKept (with_sources part (sources_of bytes')) bytes' orders' order' earlier' next
-IsKept-push_pair part bytes bytes' orders orders' order order' earlier earlier' level next byte same k new pushed pushed_level is_now is_next pairs added full =
-    let few : length orders ≤ level.pairs = k.kept.few in
-    let restored = restored_level part bytes orders order earlier level byte same k in
-    IsKept-push part bytes bytes' orders orders' order order' earlier earlier' level next byte same k new pushed pushed_level is_now is_next (omega arith)
-    (elim (cases_lt (length orders) ORDERS_KEPT) [
-      | inl room ↦
-          let longer : length orders' ≡ length orders + 1 = ap length (added room) ∙ length_push orders order in
-          let all : length orders ≡ level.pairs = k.kept.all room in
-          record { few = omega arith; all = λ _. omega arith }
-      | inr none ↦
-          let as_long : length orders' ≡ length orders = ap length (full none) in
-          record { few = omega arith; all = λ room. absurd (omega (arith, room, none, as_long)) }
-    ])
-    (subst (AreRestored (part_events part) (part.sources ++ byte.source ∷ []) (earlier ++ level ∷ []) orders' order') (sym pairs)
-    (elim (cases_lt (length orders) ORDERS_KEPT) [
-      | inl room ↦
-          subst (λ (os : List Rows). AreRestored (part_events part) (part.sources ++ byte.source ∷ []) (earlier ++ level ∷ []) os order' (level.pairs + 1)) (sym (added room))
-          (AreRestored-order (part_events part) (part.sources ++ byte.source ∷ []) (earlier ++ level ∷ []) orders order level.pairs restored order' (k.kept.all room))
-      | inr none ↦
-          subst (λ (os : List Rows). AreRestored (part_events part) (part.sources ++ byte.source ∷ []) (earlier ++ level ∷ []) os order' (level.pairs + 1)) (sym (full none))
-          (AreRestored-full (part_events part) (part.sources ++ byte.source ∷ []) (earlier ++ level ∷ []) orders order level.pairs restored order')
-    ]))
+pub IsKept-push_pair : (part : PartModel) (bytes bytes' : List SourcedByte) (kept more : KeptRows) (was : TwoWayRows) (order' : Rows) (earlier earlier' : List Level) (level next : Level) (byte : SourcedByte)
+    → part.sources ≡ sources_of bytes → IsKept part bytes kept was.rows earlier level → IsNextByte part bytes byte → bytes' ≡ bytes ++ byte ∷ [] → earlier' ≡ earlier ++ level ∷ []
+    → IsOrder (part_events part) (part.sources ++ byte.source ∷ []) order' → IsLevel (with_sources part (part.sources ++ byte.source ∷ [])) next → next.pairs ≡ level.pairs + 1 → IsKeptWith kept more was
+    → IsKept (with_sources part (sources_of bytes')) bytes' more order' earlier' next
+IsKept-push_pair part bytes bytes' kept more was order' earlier earlier' level next byte same k new pushed pushed_level is_now is_next pairs (Put room put) =
+    let restored = restored_level part bytes kept was.rows earlier level byte same k in
+    let all : kept.count ≡ level.pairs = k.as_many.all (subst (HasRoom kept) k.ordered.len room) in
+    let are = put k.orders k.are in
+    let longer : length (k.orders ++ was ∷ []) ≡ length k.orders + 1 = length_push k.orders was in
+    let count : more.count ≡ level.pairs + 1 = are.count ∙ longer ∙ ap (λ (n : ℕ). n + 1) (sym k.are.count ∙ all) in
+    IsKept-push part bytes bytes' kept more (k.orders ++ was ∷ []) was.rows order' earlier earlier' level next byte same k new pushed pushed_level is_now is_next (omega arith)
+    record { few = omega (arith, count, pairs); all = λ _. count ∙ sym pairs }
+    are
+    (subst (AreRestored (part_events part) (part.sources ++ byte.source ∷ []) (earlier ++ level ∷ []) (rows_of (k.orders ++ was ∷ [])) order') (sym pairs)
+    (subst (λ (os : List Rows). AreRestored (part_events part) (part.sources ++ byte.source ∷ []) (earlier ++ level ∷ []) os order' (level.pairs + 1)) (sym (map_push (λ (o : TwoWayRows). o.rows) k.orders was))
+    (AreRestored-order (part_events part) (part.sources ++ byte.source ∷ []) (earlier ++ level ∷ []) (rows_of k.orders) was.rows level.pairs restored order' (length-map k.orders (λ (o : TwoWayRows). o.rows) ∙ sym k.are.count ∙ all))))
+IsKept-push_pair part bytes bytes' kept more was order' earlier earlier' level next byte same k new pushed pushed_level is_now is_next pairs (Full no_room stays) =
+    let restored = restored_level part bytes kept was.rows earlier level byte same k in
+    let few : kept.count ≤ level.pairs = k.as_many.few in
+    let count : more.count ≡ kept.count = ap (λ (r : KeptRows). r.count) stays in
+    IsKept-push part bytes bytes' kept more k.orders was.rows order' earlier earlier' level next byte same k new pushed pushed_level is_now is_next (omega arith)
+    record { few = omega (arith, few, count, pairs); all = λ room. absurd (no_room (subst (HasRoom kept) (sym k.ordered.len) (subst (λ (r : KeptRows). HasRoom r (length (part_events part))) stays room))) }
+    (subst (λ (r : KeptRows). AreKeptRows r k.orders) (sym stays) k.are)
+    (subst (AreRestored (part_events part) (part.sources ++ byte.source ∷ []) (earlier ++ level ∷ []) (rows_of k.orders) order') (sym pairs)
+    (AreRestored-full (part_events part) (part.sources ++ byte.source ∷ []) (earlier ++ level ∷ []) (rows_of k.orders) was.rows level.pairs restored order'))
 
 -- what happens-before was, back at a level
-record IsBackAt (part : PartModel) (orders' : List Rows) (order' : Rows) (earlier : List Level) (n : ℕ) (at : Level) : Type 0 where
-  kept : AreKept (length orders') at.pairs
-  ordered : IsOrder (part_events part) (take n part.sources) order'
-  restored : AreRestored (part_events part) (take n part.sources) (take n earlier) orders' order' at.pairs
+record IsBackAt (part : PartModel) (less : KeptRows) (back : Rows) (earlier : List Level) (n : ℕ) (at : Level) : Type 0 where
+  as_many : AreKept less (length (part_events part)) at.pairs
+  orders : List TwoWayRows
+  are : AreKeptRows less orders
+  ordered : IsOrder (part_events part) (take n part.sources) back
+  restored : AreRestored (part_events part) (take n part.sources) (take n earlier) (rows_of orders) back at.pairs
 
-went_back : (part : PartModel) (bytes : List SourcedByte) (orders orders' : List Rows) (order order' : Rows) (earlier : List Level) (level : Level) (n : ℕ) (at : Level)
-    → IsKept part bytes orders order earlier level → slice_get earlier n ≡ Some at → AreBack (part_events part) (take n part.sources) orders orders' order order' at.pairs level.pairs → IsBackAt part orders' order' earlier n at
-went_back part bytes orders orders' order order' earlier level n at k at_level (Stay same same_orders same_order) = record {
-  kept = subst (λ (os : List Rows). AreKept (length os) at.pairs) (sym same_orders) (subst (AreKept (length orders)) (sym same) k.kept);
-  ordered = subst (λ (o : Rows). IsOrder (part_events part) (take n part.sources) o) (sym same_order) (k.restored.here n at at_level same);
-  restored = subst (λ (os : List Rows). AreRestored (part_events part) (take n part.sources) (take n earlier) os order' at.pairs) (sym same_orders)
-      (subst (λ (o : Rows). AreRestored (part_events part) (take n part.sources) (take n earlier) orders o at.pairs) (sym same_order) (AreRestored-stays (part_events part) part.sources earlier orders order level.pairs k.restored n at at_level same));
+went_back : (part : PartModel) (bytes : List SourcedByte) (kept less : KeptRows) (order back : Rows) (earlier : List Level) (level : Level) (n : ℕ) (at : Level)
+    → IsKept part bytes kept order earlier level → slice_get earlier n ≡ Some at → AreBack (part_events part) (take n part.sources) kept less order back at.pairs level.pairs → IsBackAt part less back earlier n at
+went_back part bytes kept less order back earlier level n at k at_level (Stay same stays order_stays) = record {
+  as_many = subst (λ (r : KeptRows). AreKept r (length (part_events part)) at.pairs) (sym stays) (subst (AreKept kept (length (part_events part))) (sym same) k.as_many);
+  orders = k.orders;
+  are = subst (λ (r : KeptRows). AreKeptRows r k.orders) (sym stays) k.are;
+  ordered = subst (λ (o : Rows). IsOrder (part_events part) (take n part.sources) o) (sym order_stays) (k.restored.here n at at_level same);
+  restored = subst (λ (o : Rows). AreRestored (part_events part) (take n part.sources) (take n earlier) (rows_of k.orders) o at.pairs) (sym order_stays) (AreRestored-stays (part_events part) part.sources earlier (rows_of k.orders) order level.pairs k.restored n at at_level same);
 }
-went_back part bytes orders orders' order order' earlier level n at k at_level (Kept past front is) =
-    let long : length orders' ≡ at.pairs = ap length front ∙ length-take-le at.pairs orders (omega arith) in
+went_back part bytes kept less order back earlier level n at k at_level (Kept past taken) =
+    let within : at.pairs < length k.orders = (let count : kept.count ≡ length k.orders = k.are.count in omega (arith, past, count)) in
+    let was = element_at k.orders at.pairs within in
+    let found : slice_get (rows_of k.orders) at.pairs ≡ Some was.0.rows = slice_get-map-found (λ (o : TwoWayRows). o.rows) k.orders at.pairs was.0 was.1 in
+    let same = taken.same k.orders was.0 k.are was.1 in
+    let are = taken.before k.orders k.are in
+    let long : less.count ≡ at.pairs = are.count ∙ length-take-le at.pairs k.orders (omega (arith, within)) in
     record {
-      kept = record { few = omega arith; all = λ _. long };
-      ordered = k.restored.there n at order' at_level is;
-      restored = subst (λ (os : List Rows). AreRestored (part_events part) (take n part.sources) (take n earlier) os order' at.pairs) (sym front) (AreRestored-back (part_events part) part.sources earlier orders order level.pairs k.restored n at at_level order' is);
+      as_many = record { few = omega (arith, long); all = λ _. long };
+      orders = take at.pairs k.orders;
+      are = are;
+      ordered = IsOrder-of_same (part_events part) (take n part.sources) was.0.rows back same (k.restored.there n at was.0.rows at_level found);
+      restored = subst (λ (os : List Rows). AreRestored (part_events part) (take n part.sources) (take n earlier) os back at.pairs) (take-map (λ (o : TwoWayRows). o.rows) at.pairs k.orders) (AreRestored-back (part_events part) part.sources earlier (rows_of k.orders) order level.pairs k.restored n at at_level was.0.rows back same found);
     }
-went_back part bytes orders orders' order order' earlier level n at k at_level (Anew less none same is) =
-    let as_long : length orders' ≡ length orders = ap length same in
+went_back part bytes kept less order back earlier level n at k at_level (Anew fewer none same is) =
+    let count : less.count ≡ kept.count = ap (λ (r : KeptRows). r.count) same in
     record {
-      kept = record { few = omega arith; all = λ room. (let all : length orders ≡ level.pairs = k.kept.all (omega (arith, room, as_long)) in absurd (omega arith)) };
+      as_many = record { few = omega (arith, none, count); all = λ room. (let all : kept.count ≡ level.pairs = k.as_many.all (subst (λ (r : KeptRows). HasRoom r (length (part_events part))) same room) in absurd (omega (arith, all, fewer, none))) };
+      orders = k.orders;
+      are = subst (λ (r : KeptRows). AreKeptRows r k.orders) (sym same) k.are;
       ordered = is;
-      restored = subst (λ (os : List Rows). AreRestored (part_events part) (take n part.sources) (take n earlier) os order' at.pairs) (sym same) (AreRestored-anew (part_events part) part.sources earlier orders order level.pairs k.restored n at at_level order' is);
+      restored = AreRestored-anew (part_events part) part.sources earlier (rows_of k.orders) order level.pairs k.restored n at at_level back is;
     }
 
 -- one byte less
-pub IsKept-pop : (part : PartModel) (bytes bytes' : List SourcedByte) (orders orders' : List Rows) (order order' : Rows) (earlier earlier' : List Level) (level : Level) (n : ℕ) (d : Level)
-    → part.sources ≡ sources_of bytes → IsKept part bytes orders order earlier level → n + 1 ≡ length bytes → bytes' ≡ take n bytes → earlier' ≡ take n earlier
-    → AreBack (part_events part) (take n part.sources) orders orders' order order' (get_or earlier n d).pairs level.pairs
-    → IsKept (with_sources part (sources_of bytes')) bytes' orders' order' earlier' (get_or earlier n d)
-IsKept-pop part bytes bytes' orders orders' order order' earlier earlier' level n d same k count is_bytes is_earlier went =
+pub IsKept-pop : (part : PartModel) (bytes bytes' : List SourcedByte) (kept less : KeptRows) (order order' : Rows) (earlier earlier' : List Level) (level : Level) (n : ℕ) (d : Level)
+    → part.sources ≡ sources_of bytes → IsKept part bytes kept order earlier level → n + 1 ≡ length bytes → bytes' ≡ take n bytes → earlier' ≡ take n earlier
+    → AreBack (part_events part) (take n part.sources) kept less order order' (get_or earlier n d).pairs level.pairs
+    → IsKept (with_sources part (sources_of bytes')) bytes' less order' earlier' (get_or earlier n d)
+IsKept-pop part bytes bytes' kept less order order' earlier earlier' level n d same k count is_bytes is_earlier went =
     let one_each : length earlier ≡ length bytes = k.one_each in
     let sources' : take n part.sources ≡ sources_of bytes' = ap (take n) same ∙ take-map (λ (b : SourcedByte). b.source) n bytes ∙ sym (ap sources_of is_bytes) in
     let at_level : slice_get earlier n ≡ Some (get_or earlier n d) = slice_get-get_or earlier n d (omega arith) in
-    let back = went_back part bytes orders orders' order order' earlier level n (get_or earlier n d) k at_level went in
+    let back = went_back part bytes kept less order order' earlier level n (get_or earlier n d) k at_level went in
     record {
       sound = k.sound;
       first_reads = subst (AreFirstReads (part_events part)) (sym is_bytes) (AreFirstReads-take (part_events part) bytes k.first_reads n (omega arith));
@@ -212,9 +230,11 @@ IsKept-pop part bytes bytes' orders orders' order order' earlier earlier' level 
       candidates = subst (λ (xs : List ℕ). AreFirstSources (with_sources part xs)) sources' (λ i r b w at_read at_source. k.candidates i r b w at_read (take_from n part.sources i w at_source));
       one_each = ap length is_earlier ∙ length-take-le n earlier (omega arith) ∙ sym (length-take-le n bytes (omega arith)) ∙ sym (ap length is_bytes);
       few = (let shorter : length bytes' ≡ n = ap length is_bytes ∙ length-take-le n bytes (omega arith) in let few : (get_or earlier n d).pairs ≤ n = k.restored.few n (get_or earlier n d) at_level in omega arith);
-      kept = back.kept;
+      as_many = back.as_many;
+      orders = back.orders;
+      are = back.are;
       ordered = subst (λ (xs : List ℕ). IsOrder (part_events part) xs order') sources' back.ordered;
-      restored = subst (λ (xs : List ℕ). AreRestored (part_events part) xs earlier' orders' order' (get_or earlier n d).pairs) sources' (subst (λ (ls : List Level). AreRestored (part_events part) (take n part.sources) ls orders' order' (get_or earlier n d).pairs) (sym is_earlier) back.restored);
+      restored = subst (λ (xs : List ℕ). AreRestored (part_events part) xs earlier' (rows_of back.orders) order' (get_or earlier n d).pairs) sources' (subst (λ (ls : List Level). AreRestored (part_events part) (take n part.sources) ls (rows_of back.orders) order' (get_or earlier n d).pairs) (sym is_earlier) back.restored);
       level = subst (λ (xs : List ℕ). IsLevel (with_sources part xs) (get_or earlier n d)) sources' (k.levels n (get_or earlier n d) (slice_get-get_or earlier n d (omega arith)));
       levels = λ m l at_m.
           let within : m < n = (let w : m < length earlier' = slice_get_within earlier' m l at_m in let c : length earlier' ≡ n = ap length is_earlier ∙ length-take-le n earlier (omega arith) in omega arith) in
@@ -224,17 +244,19 @@ IsKept-pop part bytes bytes' orders orders' order order' earlier earlier' level 
     }
 
 -- no byte yet
-pub IsKept-open : (part : PartModel) (bytes : List SourcedByte) (orders : List Rows) (start : Rows) (earlier : List Level) (broken : Bool) → part.sources ≡ [] → bytes ≡ [] → orders ≡ [] → earlier ≡ []
+pub IsKept-open : (part : PartModel) (bytes : List SourcedByte) (kept : KeptRows) (start : Rows) (earlier : List Level) (broken : Bool) → part.sources ≡ [] → bytes ≡ [] → AreKeptRows kept [] → earlier ≡ []
     → AreEventsIn part.test.bytes (part_events part) → IsOrder (part_events part) [] start → (IsTrue broken ↔ ((e : ℕ) × Holds start e e))
-    → IsKept part bytes orders start earlier (record { adds = false; broken = broken; pairs = 0 })
-IsKept-open part bytes orders start earlier broken none no_bytes no_orders no_levels sound is_start is_broken = record {
+    → IsKept part bytes kept start earlier (record { adds = false; broken = broken; pairs = 0 })
+IsKept-open part bytes kept start earlier broken none no_bytes no_orders no_levels sound is_start is_broken = record {
   sound = sound;
   first_reads = subst (AreFirstReads (part_events part)) (sym no_bytes) refl;
   known = subst (λ (xs : List SourcedByte). All (IsKnown (length (part_events part))) xs) (sym no_bytes) (All-nil (IsKnown (length (part_events part))));
   candidates = λ i r b w at_read at_source. absurd (none-some w (sym (ap (λ (xs : List ℕ). slice_get xs i) none) ∙ at_source));
   one_each = ap length no_levels ∙ sym (ap length no_bytes);
   few = omega arith;
-  kept = (let no : length orders ≡ 0 = ap length no_orders in record { few = omega arith; all = λ _. no });
+  as_many = (let no : kept.count ≡ 0 = no_orders.count in record { few = omega arith; all = λ _. no });
+  orders = [];
+  are = no_orders;
   ordered = subst (λ (xs : List ℕ). IsOrder (part_events part) xs start) (sym none) is_start;
   restored = record {
     few = λ k l at_k. absurd (no_level k l at_k);
@@ -266,7 +288,7 @@ abbrev pub part_of : Litmus → ℕ → List SourcedByte → PartModel
 part_of t c bytes = record { test = t; combination = c; sources = sources_of bytes }
 
 -- what is known of a part with one byte more
-module _ (t : Litmus) (c : ℕ) (bytes : List SourcedByte) (orders : List Rows) (order : Rows) (earlier : List Level) (level : Level) (byte : SourcedByte) (k : IsKept (part_of t c bytes) bytes orders order earlier level) (new : IsNextByte (part_of t c bytes) bytes byte) where
+module _ (t : Litmus) (c : ℕ) (bytes : List SourcedByte) (kept : KeptRows) (order : Rows) (earlier : List Level) (level : Level) (byte : SourcedByte) (k : IsKept (part_of t c bytes) bytes kept order earlier level) (new : IsNextByte (part_of t c bytes) bytes byte) where
   abbrev events : List Event
   events = part_events (part_of t c bytes)
 

@@ -1,19 +1,15 @@
 -- What happens-before was, with one source more or some less.
 use Rattle.std.proofs.Common.{◌≡◌, ℕ, ◌+◌, ◌<◌, ◌≤◌, List, ◌∷◌, [], ◌++◌, Some, length, take, sym, ap, ◌∙◌, subst, arith, inl, inr}
-use Rattle.std.proofs.lemmas.List.{length-take-le, map_push, take-take, take-append-le, take_at}
+use Rattle.std.proofs.lemmas.List.{length-take-le, take-take, take-append-le, take_at}
 use Rattle.std.proofs.lemmas.Option.{slice_get_within}
 use Rattle.std.specs.List.{slice_get}
 use Rattle.lit_paths.specs.declared.event.Event.{Event}
-use Rattle.lit_rel.specs.declared.rows.two_way_rows.TwoWayRows.{TwoWayRows}
 use Rattle.lit_rel.specs.declared.rows.Rows.{Rows}
 use Rattle.lit_rel.specs.declared.part.levels.Level.{Level}
-use Rattle.lit_rel.specs.Internal.Levels.{AreRestored, IsOrder, rows_of}
+use Rattle.lit_rel.specs.Internal.Levels.{AreRestored, IsOrder}
+use Rattle.lit_rel.specs.KeptRows.{AreSameRows}
 use Rattle.lit_rel.proofs.PlaceLemmas.{place-push}
 use Rattle.lit_rel.proofs.SourceLemmas.{take_from}
-
--- the relations, with one more
-pub rows_pushed : (more orders : List TwoWayRows) (order : TwoWayRows) → more ≡ orders ++ order ∷ [] → rows_of more ≡ rows_of orders ++ order.rows ∷ []
-rows_pushed more orders order is = ap rows_of is ∙ map_push (λ (o : TwoWayRows). o.rows) orders order
 
 -- a place of a front
 below : {X : Type 0} (n : ℕ) (xs : List X) (k : ℕ) (x : X) → n ≤ length xs → slice_get (take n xs) k ≡ Some x → k < n
@@ -29,12 +25,16 @@ IsOrder-same events xs ys order rows x y is = record {
   pairs = λ e d. (λ h. (y.pairs e d).0 ((x.pairs e d).1 ((is.pairs e d).0 h)), λ h. (is.pairs e d).1 ((x.pairs e d).0 ((y.pairs e d).1 h)));
 }
 
+-- the same relation is happens-before of the same
+pub IsOrder-of_same : (events : List Event) (sources : List ℕ) (was back : Rows) → AreSameRows was back → IsOrder events sources was → IsOrder events sources back
+IsOrder-of_same events sources was back same is = record {
+  len = same.len ∙ is.len;
+  pairs = λ e d. (λ h. (is.pairs e d).0 ((same.pairs e d).0 h), λ h. (same.pairs e d).1 ((is.pairs e d).1 h));
+}
+
 module _ (events : List Event) (sources : List ℕ) (earlier : List Level) (orders : List Rows) (order : Rows) (pairs : ℕ) (r : AreRestored events sources earlier orders order pairs) where
   -- one level more
   module _ (w : ℕ) (level : Level) (one_each : length earlier ≡ length sources) (few : pairs ≤ length earlier) (counted : level.pairs ≡ pairs) (kept : length orders ≤ pairs) (ordered : IsOrder events sources order) where
-    abbrev more : List ℕ
-    more = sources ++ w ∷ []
-
     old_front : (k : ℕ) → k < length earlier → take k sources ≡ take k (sources ++ w ∷ [])
     old_front k below = sym (take-append-le k sources (w ∷ []) (omega arith))
 
@@ -150,13 +150,13 @@ module _ (events : List Event) (sources : List ℕ) (earlier : List Level) (orde
       there = λ k l was at found. subst (λ (xs : List ℕ). IsOrder events xs was) (front k l at) (r.there k l was (old k l at) found);
     }
 
-    pub AreRestored-back : (was : Rows) → slice_get orders level.pairs ≡ Some was → AreRestored events (take n sources) (take n earlier) (take level.pairs orders) was level.pairs
-    AreRestored-back was found = record {
+    pub AreRestored-back : (was back : Rows) → AreSameRows was back → slice_get orders level.pairs ≡ Some was → AreRestored events (take n sources) (take n earlier) (take level.pairs orders) back level.pairs
+    AreRestored-back was back same found = record {
       few = λ k l at. r.few k l (old k l at);
       within = λ k l at. at_most k l at;
       rising = λ j k l m low at_j at_k. r.rising j k l m low (old j l at_j) (old k m at_k);
       same = still;
-      here = λ k l at is. subst (λ (xs : List ℕ). IsOrder events xs was) (front k l at) (r.there k l was (old k l at) (ap (slice_get orders) is ∙ found));
+      here = λ k l at is. subst (λ (xs : List ℕ). IsOrder events xs back) (front k l at) (IsOrder-of_same events (take k sources) was back same (r.there k l was (old k l at) (ap (slice_get orders) is ∙ found)));
       there = λ k l other at there. subst (λ (xs : List ℕ). IsOrder events xs other) (front k l at) (r.there k l other (old k l at) (take_from level.pairs orders l.pairs other there));
     }
 

@@ -1,6 +1,7 @@
 pub mod EventSet
 pub mod Rows
 pub mod Converse
+pub mod KeptRows
 pub mod Between
 pub mod ReadsFrom
 pub mod AgentOrder

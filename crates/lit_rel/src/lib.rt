@@ -20,4 +20,5 @@ pub use given::values::payload_at;
 pub use part::Part;
 pub use rows::Rows;
 pub use rows::closing::close;
+pub use rows::kept_rows::{KeptRows, ROWS_KEPT};
 pub use rows::two_way_rows::{TwoWayRows, converse_of};

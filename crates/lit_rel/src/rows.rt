@@ -1,9 +1,10 @@
 //! A relation on the events of a candidate execution, as rows of sets. `given::relations` has the relations of clause 29.
 
 pub(crate) mod closing;
+pub(crate) mod kept_rows;
 pub(crate) mod two_way_rows;
 
-ghost use Rattle.std.specs.Prelude.{◌≡◌, ◌≢◌, ◌⊎◌, ◌↔◌, ℕ, ◌<◌, ◌≤◌, IsTrue};
+ghost use Rattle.std.specs.Prelude.{◌≡◌, ◌≢◌, ◌⊎◌, ◌↔◌, ℕ, ◌<◌, ◌≤◌, IsTrue, length};
 ghost use Rattle.lit_paths.specs.declared.limits.TheConstants.{EVENT_LIMIT};
 ghost use Rattle.lit_rel.specs.EventSet.{AreWithin};
 
@@ -22,6 +23,7 @@ pub struct Rows {
 
 impl Rows {
     ghost use Rattle.lit_rel.specs.EventSet.{HasEvent};
+    ghost use Rattle.lit_rel.specs.KeptRows.{AreSameRows, HasSets, sets_of};
     ghost use Rattle.lit_rel.specs.Rows.{Holds, IsLeastWith, IsTransitive, WithPair, rows_len};
 
     /// The empty relation on so many events, at most `EVENT_LIMIT`.
@@ -44,6 +46,25 @@ impl Rows {
     {
         self.len = len;
         self.sets = [EventSet::new(); EVENT_LIMIT];
+    }
+
+    /// Its sets: for each event the set of those that it leads to.
+    pub(crate) fn sets(&self) -> &[EventSet]
+        ensures value { result.now ≡ sets_of self.now }
+        ensures len { length result.now ≡ rows_len self.now }
+    {
+        &self.sets[..self.len]
+    }
+
+    /// Makes it the relation that has these sets, in place.
+    pub(crate) fn put_sets(&mut self, sets: &[EventSet])
+        requires { (was : Rows) × HasSets was sets.now }
+        ensures { (was : Rows) → HasSets was sets.now → AreSameRows was self.new }
+    {
+        let mut all = [EventSet::new(); EVENT_LIMIT];
+        all[..sets.len()].copy_from_slice(sets);
+        self.len = sets.len();
+        self.sets = all;
     }
 
     /// How many events it is on.

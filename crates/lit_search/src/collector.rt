@@ -136,8 +136,8 @@ fn row_at(row: (u64, u64), from: u64) -> (u64, u64)
 
 /// Whether it was marked, or a choice with a number from `from` up to and without `to` has a data race, by a cursor that
 /// stood anywhere. `calm` says that none of these has one. No choice from `barren` up to `from` belongs to a valid
-/// execution, if none was marked. Where it is not marked now, `from` is then a number, `to` or a greater one, up to which there is no data race, and `barren` says what
-/// it said of the choices up to there.
+/// execution, if none was marked. Where it is not marked now, `from` is then a number, `to` or a greater one, up to which
+/// there is no data race, and `barren` says what it said of the choices up to there.
 fn is_marked_with<'p>(
     race: bool,
     calm: bool,

@@ -9,11 +9,13 @@ use Rattle.lit_rel.specs.HappensBefore.{HappensBefore}
 use Rattle.lit_rel.specs.LastPair.{AddsNone, AddsPair}
 use Rattle.lit_rel.specs.Part.{PartModel, part_events, with_sources}
 use Rattle.lit_rel.specs.Rows.{Holds, WithPair, rows_len}
+use Rattle.lit_order.specs.declared.forced_part.earlier_levels.EarlierLevels.{EarlierLevels}
 use Rattle.lit_order.specs.declared.forced_part.kept_between.KeptBetween.{KeptBetween}
 use Rattle.lit_order.specs.declared.forced_part.kept_order.KeptOrder.{KeptOrder}
 use Rattle.lit_order.specs.declared.forced_part.level.ForcedLevel.{ForcedLevel}
 use Rattle.lit_order.specs.declared.forced_part.span.Span.{Span}
 use Rattle.lit_order.specs.Forcing.{IsForced}
+use Rattle.lit_order.specs.Internal.EarlierLevels.{AreEarlierLevels}
 use Rattle.lit_order.specs.MemoryOrder.{IsLeastMemoryOrder, IsMemoryOrder}
 use Rattle.lit_order.specs.Refuted.{IsRefuted}
 
@@ -82,6 +84,12 @@ pub record AreForcedLevels (part : PartModel) (earlier : List ForcedLevel) (now 
   pub lower : (i : ℕ) (level : ForcedLevel) → slice_get earlier i ≡ Some level → level.most < now.least
   pub apart : length part.sources < now.least → (i : ℕ) (level : ForcedLevel) → slice_get earlier i ≡ Some level → level.most < length part.sources
 
+-- so of the levels that are kept
+pub record HasForcedLevels (part : PartModel) (earlier : EarlierLevels) (now : ForcedLevel) : Type 0 where
+  pub levels : List ForcedLevel
+  pub kept : AreEarlierLevels earlier levels
+  pub are : AreForcedLevels part levels now
+
 -- so with one source more
-abbrev pub WereForcedLevels : PartModel → List ForcedLevel → ForcedLevel → Type 0
-WereForcedLevels part earlier now = (w : ℕ) × AreForcedLevels (with_sources part (part.sources ++ w ∷ [])) earlier now
+abbrev pub WereForcedLevels : PartModel → EarlierLevels → ForcedLevel → Type 0
+WereForcedLevels part earlier now = (w : ℕ) × HasForcedLevels (with_sources part (part.sources ++ w ∷ [])) earlier now

@@ -16,7 +16,7 @@ use lit_rel::{Between, Part, TwoWayRows};
 
 /// What the first sources of a combination force, for some numbers of them that follow one another: where nothing
 /// refutes them, the pairs of events that each memory-order keeps.
-#[derive(Clone, Copy, Default)]
+#[derive(Default, Drop)]
 pub(crate) struct ForcedLevel {
     pub forced: TwoWayRows,
     /// Whether an event is forced before itself.

@@ -1,25 +1,24 @@
 //! What is known of what the first sources of a combination force.
 
-ghost use Rattle.std.specs.Prelude.{◌≡◌, ◌-◌, ◌<◌, ◌≤◌, false, Some, [], ◌∷◌, ◌++◌, length, slice_get};
-ghost use Rattle.lit_order.specs.declared.forced_part.levels.TheConstants.{LEVELS_KEPT};
-ghost use Rattle.lit_order.specs.Internal.ForcedLevels.{AreForcedLevels, IsForcedLevel, IsKeptBetween, IsKeptOrder, IsLeastOf, WereForcedLevels, less_of};
+ghost use Rattle.std.specs.Prelude.{◌≡◌, ◌-◌, ◌<◌, false, Some, List, [], length, slice_get};
+ghost use Rattle.lit_order.specs.declared.forced_part.level.ForcedLevel.{ForcedLevel as Level};
+ghost use Rattle.lit_order.specs.Internal.EarlierLevels.{AreEarlierLevels, IsLevelKept};
+ghost use Rattle.lit_order.specs.Internal.ForcedLevels.{HasForcedLevels, IsForcedLevel, IsKeptBetween, IsKeptOrder, IsLeastOf, WereForcedLevels, less_of};
 ghost use Rattle.lit_order.specs.Refuted.{IsRefuted};
 
+use crate::forced_part::earlier_levels::EarlierLevels;
 use crate::forced_part::kept_between::KeptBetween;
 use crate::forced_part::kept_order::KeptOrder;
 use crate::forced_part::level::{ForcedLevel, least_order_anew};
 use crate::forced_part::span::Span;
-use arrayvec::ArrayVec;
 use lit_rel::Part;
 use lit_rel::laws::{broken_parts_stay_broken, relations_grow_with_bytes};
 
-/// How many earlier levels are kept at the most. Few parts force more that often, and what is not kept is found anew.
-pub(crate) const LEVELS_KEPT: usize = 12;
-
-/// What a part forces, and what it forced with less sources, as far as that is kept.
+/// What a part forces, and what it forced with less sources, as far as that is kept. Few parts force more than there is room
+/// for, and what is not kept is found anew.
 #[derive(Drop)]
 pub(crate) struct Levels {
-    pub earlier: ArrayVec<ForcedLevel, LEVELS_KEPT>,
+    pub earlier: EarlierLevels,
     /// That of the part. Where the part has less sources than its least number, it says nothing.
     pub now: ForcedLevel,
     /// What the part forbids, as far as that is known.
@@ -33,7 +32,7 @@ pub(crate) struct Levels {
 impl Levels {
     /// Nothing is known of a part with no source. All of it is the same for each part.
     pub(crate) fn unknown() -> Self
-        ensures earlier { result.earlier.items ≡ [] }
+        ensures earlier { AreEarlierLevels result.earlier [] }
         ensures straight { result.now.round ≡ false }
         ensures least { result.now.least ≡ 1 }
         ensures forbidden { result.forbidden.span.most < result.forbidden.span.least }
@@ -41,7 +40,7 @@ impl Levels {
         ensures order { result.order.span.most < result.order.span.least }
     {
         Levels {
-            earlier: ArrayVec::new(),
+            earlier: EarlierLevels::new(),
             now: ForcedLevel::after(1),
             forbidden: KeptBetween::new(),
             fewer: KeptBetween::new(),
@@ -52,7 +51,7 @@ impl Levels {
     /// Makes it what a part with no source forces.
     pub(crate) fn begin(&mut self, part: &Part<'_>)
         requires { part.now.sources ≡ [] }
-        ensures earlier { self.new.earlier.items ≡ [] }
+        ensures earlier { AreEarlierLevels self.new.earlier [] }
         ensures level { IsForcedLevel part.now self.new.now }
         ensures least { self.new.now.least ≡ 0 }
         ensures forbidden { self.new.forbidden.span.most < self.new.forbidden.span.least }
@@ -70,11 +69,11 @@ impl Levels {
     pub(crate) fn go_on(&mut self, part: &Part<'_>, source: u8)
         requires some { 0 < length part.now.sources }
         requires last { slice_get part.now.sources (length part.now.sources - 1) ≡ Some source }
-        requires levels { AreForcedLevels (less_of part.now) self.old.earlier.items self.old.now }
+        requires levels { HasForcedLevels (less_of part.now) self.old.earlier self.old.now }
         requires forbidden { IsKeptBetween (less_of part.now) self.old.forbidden }
         requires fewer { IsKeptBetween (less_of part.now) self.old.fewer }
         requires order { IsKeptOrder (less_of part.now) self.old.order }
-        ensures levels { AreForcedLevels part.now self.new.earlier.items self.new.now }
+        ensures levels { HasForcedLevels part.now self.new.earlier self.new.now }
         ensures forbidden { IsKeptBetween part.now self.new.forbidden }
         ensures fewer { IsKeptBetween part.now self.new.fewer }
         ensures order { IsKeptOrder part.now self.new.order }
@@ -101,7 +100,7 @@ impl Levels {
     /// The least memory-order of a part, or that there is none. The part is not refuted.
     pub(crate) fn find_order(&self, part: &Part<'_>) -> KeptOrder
         requires unrefuted { ¬ IsRefuted part.now }
-        requires levels { AreForcedLevels part.now self.now.earlier.items self.now.now }
+        requires levels { HasForcedLevels part.now self.now.earlier self.now.now }
         requires forbidden { IsKeptBetween part.now self.now.forbidden }
         ensures kept { IsKeptOrder part.now result }
         ensures found { IsLeastOf part.now result.order }
@@ -127,23 +126,22 @@ impl Levels {
 
     /// Keeps what is known for so many sources at the most, where there is room.
     fn keep(&mut self, most: usize)
+        requires kept { (levels : List Level) × AreEarlierLevels self.old.earlier levels }
+        requires straight { self.old.now.round ≡ false }
         ensures forbidden { self.new.forbidden ≡ self.old.forbidden }
         ensures fewer { self.new.fewer ≡ self.old.fewer }
         ensures order { self.new.order ≡ self.old.order }
         ensures now { self.new.now ≡ record { forced = self.old.now.forced; round = self.old.now.round; least = self.old.now.least; most = most } }
-        ensures kept { length self.old.earlier.items < LEVELS_KEPT → self.new.earlier.items ≡ self.old.earlier.items ++ self.new.now ∷ [] }
-        ensures full { LEVELS_KEPT ≤ length self.old.earlier.items → self.new.earlier.items ≡ self.old.earlier.items }
+        ensures earlier { IsLevelKept self.old.earlier self.new.earlier self.new.now }
     {
         self.now.most = most;
-        if self.earlier.len() < LEVELS_KEPT {
-            self.earlier.push(self.now);
-        }
+        self.earlier.keep(&self.now);
     }
 
     /// Goes back to a part, from what was known with one source more.
     pub(crate) fn go_back(&mut self, part: &Part<'_>)
-        requires { WereForcedLevels part.now self.old.earlier.items self.old.now }
-        ensures levels { AreForcedLevels part.now self.new.earlier.items self.new.now }
+        requires { WereForcedLevels part.now self.old.earlier self.old.now }
+        ensures levels { HasForcedLevels part.now self.new.earlier self.new.now }
         ensures forbidden { self.new.forbidden ≡ self.old.forbidden }
         ensures fewer { self.new.fewer ≡ self.old.fewer }
         ensures order { self.new.order ≡ self.old.order }
@@ -152,10 +150,8 @@ impl Levels {
         if self.now.least <= depth {
             return;
         }
-        let kept = self.earlier.len();
-        if kept > 0 && self.earlier[kept - 1].most == depth {
-            self.now = self.earlier[kept - 1];
-            self.earlier.pop();
+        if self.earlier.ends_at(depth) {
+            self.earlier.take_last(&mut self.now);
         } else {
             self.now.round = false;
             self.now.least = depth + 1;

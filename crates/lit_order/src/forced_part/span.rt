@@ -5,7 +5,7 @@ ghost use Rattle.std.specs.Prelude.{◌≡◌, ◌-◌, ◌<◌, ◌≤◌, IsTr
 use lit_rel::Part;
 
 /// Numbers of first sources that follow one another.
-#[derive(Clone, Copy, Drop)]
+#[derive(Clone, Copy, Default)]
 pub(crate) struct Span {
     /// The least of these numbers.
     pub least: usize,

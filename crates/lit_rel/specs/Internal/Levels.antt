@@ -4,12 +4,13 @@ use Rattle.lit_paths.specs.declared.event.Event.{Event}
 use Rattle.lit_paths.specs.ByteReads.{byte_reads}
 use Rattle.lit_paths.specs.Plan.{AreEventsIn}
 use Rattle.lit_rel.specs.declared.rows.Rows.{Rows}
+use Rattle.lit_rel.specs.declared.rows.kept_rows.KeptRows.{KeptRows}
 use Rattle.lit_rel.specs.declared.rows.two_way_rows.TwoWayRows.{TwoWayRows}
 use Rattle.lit_rel.specs.declared.given.SourcedByte.{SourcedByte}
 use Rattle.lit_rel.specs.declared.part.levels.Level.{Level}
-use Rattle.lit_rel.specs.declared.part.orders.TheConstants.{ORDERS_KEPT}
 use Rattle.lit_rel.specs.Broken.{HasBrokenRelations}
 use Rattle.lit_rel.specs.HappensBefore.{HappensBefore}
+use Rattle.lit_rel.specs.KeptRows.{AreKeptRows, HasRoom, IsTakenBack}
 use Rattle.lit_rel.specs.LastPair.{AddsNone, AddsPair}
 use Rattle.lit_rel.specs.Part.{AreFirstSources, PartModel, part_events, with_sources}
 use Rattle.lit_rel.specs.Internal.Given.{AreFirstReads, AreKnown}
@@ -43,27 +44,29 @@ pub record AreRestored (events : List Event) (sources : List ℕ) (earlier : Lis
 
 -- the relations on the way back to these sources: those that are there, where no pair is taken back; one that was kept; or one
 -- found anew
-pub data AreBack (events : List Event) (sources : List ℕ) (orders orders' : List Rows) (order order' : Rows) (pairs added : ℕ) : Type 0 where
-  Stay : pairs ≡ added → orders' ≡ orders → order' ≡ order → AreBack events sources orders orders' order order' pairs added
-  Kept : pairs < length orders → orders' ≡ take pairs orders → slice_get orders pairs ≡ Some order' → AreBack events sources orders orders' order order' pairs added
-  Anew : pairs < added → length orders ≤ pairs → orders' ≡ orders → IsOrder events sources order' → AreBack events sources orders orders' order order' pairs added
+pub data AreBack (events : List Event) (sources : List ℕ) (kept less : KeptRows) (order back : Rows) (pairs added : ℕ) : Type 0 where
+  Stay : pairs ≡ added → less ≡ kept → back ≡ order → AreBack events sources kept less order back pairs added
+  Kept : pairs < kept.count → IsTakenBack kept less pairs back → AreBack events sources kept less order back pairs added
+  Anew : pairs < added → kept.count ≤ pairs → less ≡ kept → IsOrder events sources back → AreBack events sources kept less order back pairs added
 
 -- one is kept for each of the pairs that were added, as long as there is room
-pub record AreKept (kept pairs : ℕ) : Type 0 where
-  pub few : kept ≤ pairs
-  pub all : kept < ORDERS_KEPT → kept ≡ pairs
+pub record AreKept (kept : KeptRows) (len pairs : ℕ) : Type 0 where
+  pub few : kept.count ≤ pairs
+  pub all : HasRoom kept len → kept.count ≡ pairs
 
 -- what a part keeps: the first byte reads, each with a source that is a candidate, happens-before of all of them and before
 -- the first pairs that were added, and what is known with all of them and with each lesser number of them
-pub record IsKept (part : PartModel) (bytes : List SourcedByte) (orders : List Rows) (order : Rows) (earlier : List Level) (last : Level) : Type 0 where
+pub record IsKept (part : PartModel) (bytes : List SourcedByte) (kept : KeptRows) (order : Rows) (earlier : List Level) (last : Level) : Type 0 where
   pub sound : AreEventsIn part.test.bytes (part_events part)
   pub first_reads : AreFirstReads (part_events part) bytes
   pub known : AreKnown (part_events part) bytes
   pub candidates : AreFirstSources part
   pub one_each : length earlier ≡ length bytes
   pub few : last.pairs ≤ length bytes
-  pub kept : AreKept (length orders) last.pairs
+  pub as_many : AreKept kept (length (part_events part)) last.pairs
+  pub orders : List TwoWayRows
+  pub are : AreKeptRows kept orders
   pub ordered : IsOrder (part_events part) part.sources order
-  pub restored : AreRestored (part_events part) part.sources earlier orders order last.pairs
+  pub restored : AreRestored (part_events part) part.sources earlier (rows_of orders) order last.pairs
   pub level : IsLevel part last
   pub levels : (k : ℕ) (level : Level) → slice_get earlier k ≡ Some level → IsLevel (with_sources part (take k part.sources)) level

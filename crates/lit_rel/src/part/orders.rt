@@ -1,28 +1,27 @@
 //! happens-before (ECMA-262, 2024, 29.6.6) of the sources given, and what it was before.
 
-ghost use Rattle.std.specs.Prelude.{◌≡◌, ◌↔◌, ℕ, ◌<◌, ◌≤◌, IsTrue, [], ◌∷◌, ◌++◌, length, take};
+ghost use Rattle.std.specs.Prelude.{◌≡◌, ◌↔◌, ℕ, ◌<◌, ◌≤◌, IsTrue, List, [], length, take};
 ghost use Rattle.lit_paths.specs.declared.limits.TheConstants.{EVENT_LIMIT};
-ghost use Rattle.lit_rel.specs.declared.part.orders.TheConstants.{ORDERS_KEPT};
+ghost use Rattle.lit_rel.specs.declared.rows.two_way_rows.TwoWayRows.{TwoWayRows as TwoWay};
 ghost use Rattle.lit_rel.specs.Internal.Given.{sources_of};
-ghost use Rattle.lit_rel.specs.Internal.Levels.{AreBack, IsOrder, rows_of};
+ghost use Rattle.lit_rel.specs.Internal.Levels.{AreBack, IsOrder};
+ghost use Rattle.lit_rel.specs.KeptRows.{AreKeptRows, IsKeptWith};
 ghost use Rattle.lit_rel.specs.Rows.{Holds, WithPair, rows_len};
 
 use crate::given::Given;
 use crate::part::fixed_steps::put_unsourced_order;
+use crate::rows::kept_rows::KeptRows;
 use crate::rows::two_way_rows::TwoWayRows;
-use arrayvec::ArrayVec;
 use lit_paths::Event;
 
-/// How many earlier relations are kept at the most. Few parts add more pairs, and what is not kept is found anew.
-pub(crate) const ORDERS_KEPT: usize = 12;
-
-/// A relation, and what it was before each of the first pairs that were added.
+/// A relation, and what it was before each of the first pairs that were added, as far as there is room. Few parts add more
+/// pairs, and what is not kept is found anew.
 #[derive(Drop)]
 pub(crate) struct Orders {
     pub now: TwoWayRows,
     /// Whether an event came before itself when no pair was added.
     pub round: bool,
-    pub earlier: ArrayVec<TwoWayRows, ORDERS_KEPT>,
+    pub earlier: KeptRows,
 }
 
 impl Orders {
@@ -30,12 +29,12 @@ impl Orders {
     pub(crate) fn new(now: TwoWayRows, round: bool) -> Self
         ensures now { result.now ≡ now }
         ensures round { result.round ≡ round }
-        ensures earlier { result.earlier.items ≡ [] }
+        ensures earlier { AreKeptRows result.earlier [] }
     {
         Orders {
             now,
             round,
-            earlier: ArrayVec::new(),
+            earlier: KeptRows::new(),
         }
     }
 
@@ -44,7 +43,7 @@ impl Orders {
         requires { length events.now ≤ EVENT_LIMIT }
         ensures now { IsOrder events.now [] self.new.now.rows }
         ensures round { IsTrue self.new.round ↔ ((e : ℕ) × Holds self.new.now.rows e e) }
-        ensures earlier { self.new.earlier.items ≡ [] }
+        ensures earlier { AreKeptRows self.new.earlier [] }
     {
         put_unsourced_order(&mut self.now, events);
         self.round = self.now.rows.has_cycle();
@@ -58,12 +57,9 @@ impl Orders {
         requires second { d < rows_len self.old.now.rows }
         ensures len { rows_len self.new.now.rows ≡ rows_len self.old.now.rows }
         ensures pairs { (x y : ℕ) → Holds self.new.now.rows x y ↔ WithPair (Holds self.old.now.rows) a d x y }
-        ensures kept { length self.old.earlier.items < ORDERS_KEPT → self.new.earlier.items ≡ self.old.earlier.items ++ self.old.now ∷ [] }
-        ensures full { ORDERS_KEPT ≤ length self.old.earlier.items → self.new.earlier.items ≡ self.old.earlier.items }
+        ensures earlier { IsKeptWith self.old.earlier self.new.earlier self.old.now }
     {
-        if self.earlier.len() < ORDERS_KEPT {
-            self.earlier.push(self.now);
-        }
+        self.earlier.keep(&self.now);
         self.now.close_with(a, d);
     }
 
@@ -72,15 +68,15 @@ impl Orders {
     pub(crate) fn go_back(&mut self, given: &Given<'_>, count: usize, pairs: usize, added: usize)
         requires count { count ≤ length given.now.bytes.now }
         requires pairs { pairs ≤ added }
-        ensures { AreBack given.now.events.now (take count (sources_of given.now.bytes.now)) (rows_of self.old.earlier.items) (rows_of self.new.earlier.items)
+        requires earlier { (orders : List TwoWay) × AreKeptRows self.old.earlier orders }
+        ensures { AreBack given.now.events.now (take count (sources_of given.now.bytes.now)) self.old.earlier self.new.earlier
             self.old.now.rows self.new.now.rows pairs added }
     {
         if pairs == added {
             return;
         }
-        if let Some(order) = self.earlier.as_slice().get(pairs) {
-            self.now = *order;
-            self.earlier.truncate(pairs);
+        if pairs < self.earlier.len() {
+            self.earlier.put_back(pairs, &mut self.now);
             return;
         }
         self.now = given.order_of_first(count);

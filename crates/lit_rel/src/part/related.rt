@@ -47,7 +47,7 @@ pub(crate) struct Related<'p> {
 impl<'p> Model for Related<'p> {
     ghost use Rattle.lit_rel.specs.Part.{PartModel, coded_part};
     ghost use Rattle.lit_rel.specs.Internal.Given.{sources_of};
-    ghost use Rattle.lit_rel.specs.Internal.Levels.{IsKept, rows_of};
+    ghost use Rattle.lit_rel.specs.Internal.Levels.{IsKept};
 
     ghost Value = { PartModel };
 
@@ -55,7 +55,7 @@ impl<'p> Model for Related<'p> {
 
     ghost view = { λ p. record { test = p.combination.0; combination = p.combination.1; sources = sources_of p.bytes.items } };
 
-    ghost invariant = { λ p. IsKept (record { test = p.combination.0; combination = p.combination.1; sources = sources_of p.bytes.items }) p.bytes.items (rows_of p.orders.earlier.items) p.orders.now.rows p.earlier.items p.level };
+    ghost invariant = { λ p. IsKept (record { test = p.combination.0; combination = p.combination.1; sources = sources_of p.bytes.items }) p.bytes.items p.orders.earlier p.orders.now.rows p.earlier.items p.level };
 }
 
 impl<'p> Related<'p> {

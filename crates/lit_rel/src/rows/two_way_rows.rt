@@ -83,6 +83,7 @@ impl Default for TwoWayRows {
 impl TwoWayRows {
     ghost use Rattle.std.specs.Prelude.{List};
     ghost use Rattle.lit_rel.specs.HappensBefore.{Chain};
+    ghost use Rattle.lit_rel.specs.KeptRows.{AreSameRows, HasSets};
     ghost use Rattle.lit_rel.specs.Rows.{IsTransitive, WithPair};
 
     /// Of the least transitive relation that has this one.
@@ -117,5 +118,14 @@ impl TwoWayRows {
         let behind = self.rows.successors(d).with(d);
         put_each(&mut self.rows, ahead, behind);
         put_each(&mut self.converse, behind, ahead);
+    }
+
+    /// Makes it the relation that has these sets, and whose converse has those, in place.
+    pub(crate) fn put_sets(&mut self, rows: &[EventSet], converse: &[EventSet])
+        requires { (was : TwoWayRows) × HasSets was.rows rows.now × HasSets was.converse converse.now }
+        ensures { (was : TwoWayRows) → HasSets was.rows rows.now → HasSets was.converse converse.now → AreSameRows was.rows self.new.rows }
+    {
+        self.rows.put_sets(rows);
+        self.converse.put_sets(converse);
     }
 }

@@ -23,7 +23,7 @@ returns-then-refuted c = (
 pub is_forced_apart-requires-clause-level : goal.is_forced_apart-requires-clause-level
 is_forced_apart-requires-clause-level c =
     let inside = c.self.inside in
-    (level_here inside.part inside.levels.earlier.items inside.levels.now c.self.invariant.0 (omega (arith, c.if-self-len.true, c.len.ensures.value))).pairs
+    (level_here inside.part c.self.invariant.0.levels inside.levels.now c.self.invariant.0.are (omega (arith, c.if-self-len.true, c.len.ensures.value))).pairs
     (λ is. false≢true (sym c.if-refuted.false ∙ c.refuted.ensures.1 (subst IsRefuted c.self.view_is is)))
 
 pub returns-then-self-len : goal.returns-then-self-len

@@ -1,4 +1,4 @@
-use Rattle.std.proofs.Common.{ap}
+use Rattle.std.proofs.Common.{[], ap, refl}
 use Rattle.lit_rel.specs.Part.{PartModel}
 use Rattle.lit_order.proofs.KeptBetweenLemmas.{ForbiddenBy}
 use Rattle.lit_order.proofs.KeptLevelLemmas.{AreForcedLevels-unknown}
@@ -8,7 +8,7 @@ use Rattle.lit_order.proofs.forced_part.ForcedPart.open.Goals as goal
 
 pub invariant_of-result : goal.invariant_of-result
 invariant_of-result c = (
-  AreForcedLevels-unknown c.open.result c.unknown.result.earlier.items c.unknown.result.now c.open.ensures.sound (ap (λ (p : PartModel). p.sources) c.open.ensures.value) c.unknown.ensures.earlier c.unknown.ensures.least c.unknown.ensures.straight,
+  record { levels = []; kept = c.unknown.ensures.earlier; are = AreForcedLevels-unknown c.open.result [] c.unknown.result.now c.open.ensures.sound (ap (λ (p : PartModel). p.sources) c.open.ensures.value) refl c.unknown.ensures.least c.unknown.ensures.straight },
   HoldsOfFirst-none (ForbiddenBy c.unknown.result.forbidden) c.open.result c.unknown.result.forbidden.span c.unknown.ensures.forbidden,
   HoldsOfFirst-none (ForbiddenBy c.unknown.result.fewer) c.open.result c.unknown.result.fewer.span c.unknown.ensures.fewer,
   HoldsOfFirst-none (OrderedBy c.unknown.result.order) c.open.result c.unknown.result.order.span c.unknown.ensures.order,

@@ -1,6 +1,6 @@
 use Rattle.std.proofs.Common.{◌-◌, ◌<◌, ℕ, List, [], ◌∷◌, ◌++◌, get_or, length, sym, subst, arith}
 use Rattle.lit_rel.specs.Part.{PartModel, with_sources}
-use Rattle.lit_order.specs.Internal.ForcedLevels.{AreForcedLevels, IsKeptBetween, IsKeptOrder}
+use Rattle.lit_order.specs.Internal.ForcedLevels.{HasForcedLevels, IsKeptBetween, IsKeptOrder}
 use Rattle.lit_order.proofs.KeptBetweenLemmas.{ForbiddenBy}
 use Rattle.lit_order.proofs.KeptLevelLemmas.{with_last}
 use Rattle.lit_order.proofs.KeptOrderLemmas.{OrderedBy}
@@ -11,12 +11,12 @@ pub go_back-requires : goal.go_back-requires
 go_back-requires c =
     let inside = c.self.inside in
     let part = inside.part in
-    let earlier = inside.levels.earlier.items in
+    let earlier = inside.levels.earlier in
     let last = get_or part.sources (length part.sources - 1) 0 in
     let some : 0 < length part.sources = subst (λ (p : PartModel). 0 < length p.sources) (sym c.self.view_is) c.requires in (
       last,
-      subst (λ (p : PartModel). AreForcedLevels (with_sources p (p.sources ++ last ∷ [])) earlier inside.levels.now) (sym c.pop.ensures)
-          (subst (λ (ws : List ℕ). AreForcedLevels (with_sources part ws) earlier inside.levels.now) (sym (with_last part.sources some)) c.self.invariant.0),
+      subst (λ (p : PartModel). HasForcedLevels (with_sources p (p.sources ++ last ∷ [])) earlier inside.levels.now) (sym c.pop.ensures)
+          (subst (λ (ws : List ℕ). HasForcedLevels (with_sources part ws) earlier inside.levels.now) (sym (with_last part.sources some)) c.self.invariant.0),
     )
 
 pub invariant_of-self : goal.invariant_of-self

@@ -9,7 +9,7 @@ use Rattle.lit_order.proofs.forced_part.ForcedPart.refuted.Goals as goal
 pub returns-else-broken : goal.returns-else-broken
 returns-else-broken c =
     let inside = c.self.inside in
-    let is = IsRefuted-iff inside.part inside.levels.earlier.items inside.levels.now c.self.invariant.0 in
+    let is = IsRefuted-iff inside.part c.self.invariant.0.levels inside.levels.now c.self.invariant.0.are in
     subst (λ (p : PartModel). IsTrue inside.levels.now.round ↔ IsRefuted p) c.self.view_is (
       (λ h. is.1 (inr h)),
       (λ refuted. elim (is.0 refuted) [ inl broken ↦ absurd (false≢true (c.if-broken.ensures.1 broken)) | inr round ↦ round ]),

@@ -16,12 +16,12 @@ least_order-requires c =
     let part = c.args.part.now in
     let was = c.args.self.now in
     let known : was.now.least ≤ length part.sources = omega (arith, c.if-self-depth.true, c.len-depth.ensures.value) in
-    ((level_here part was.earlier.items was.now c.requires.levels known).pairs c.requires.unrefuted).len
+    ((level_here part c.requires.levels.levels was.now c.requires.levels.are known).pairs c.requires.unrefuted).len
     ∙ (forbidden part was.forbidden c.len-depth.result c.len-depth.ensures.value c.requires.forbidden (c.has.ensures.least c.if-has.true) (c.has.ensures.most c.if-has.true)).len
 
 pub returns-then-has-clause-kept : goal.returns-then-has-clause-kept
 returns-then-has-clause-kept c k low high few unrefuted =
-    c.least_order.ensures _ (c.requires.forbidden k (omega (arith, low, c.max.ensures)) (omega (arith, high, c.has.ensures.most c.if-has.true)) few) ((c.requires.levels.here k (omega (arith, low, c.max.ensures)) few).pairs unrefuted)
+    c.least_order.ensures _ (c.requires.forbidden k (omega (arith, low, c.max.ensures)) (omega (arith, high, c.has.ensures.most c.if-has.true)) few) ((c.requires.levels.are.here k (omega (arith, low, c.max.ensures)) few).pairs unrefuted)
 
 pub returns-then-has-clause-found : goal.returns-then-has-clause-found
 returns-then-has-clause-found c =
@@ -29,7 +29,7 @@ returns-then-has-clause-found c =
     let was = c.args.self.now in
     let known : was.now.least ≤ length part.sources = omega (arith, c.if-self-depth.true, c.len-depth.ensures.value) in
     c.least_order.ensures part (forbidden part was.forbidden c.len-depth.result c.len-depth.ensures.value c.requires.forbidden (c.has.ensures.least c.if-has.true) (c.has.ensures.most c.if-has.true))
-    ((level_here part was.earlier.items was.now c.requires.levels known).pairs c.requires.unrefuted)
+    ((level_here part c.requires.levels.levels was.now c.requires.levels.are known).pairs c.requires.unrefuted)
 
 pub returns-clause-kept : goal.returns-clause-kept
 returns-clause-kept c =

@@ -1,10 +1,11 @@
-use Rattle.std.proofs.Common.{◌≡◌, ◌-◌, ◌<◌, ◌≤◌, ℕ, List, IsFalse, length, arith, sym, ap, ◌∙◌, subst, inl, inr}
-use Rattle.std.proofs.lemmas.Bool.{cases_lt, false≢true}
+use Rattle.std.proofs.Common.{◌≡◌, ◌-◌, ◌<◌, ◌≤◌, ◌++◌, ◌∷◌, [], ℕ, IsFalse, length, arith, sym, ap, ◌∙◌, subst, inl, inr}
+use Rattle.std.proofs.lemmas.Bool.{false≢true}
 use Rattle.lit_rel.specs.Part.{PartModel}
+use Rattle.lit_order.specs.declared.forced_part.earlier_levels.EarlierLevels.{EarlierLevels}
 use Rattle.lit_order.specs.declared.forced_part.kept_between.KeptBetween.{KeptBetween}
 use Rattle.lit_order.specs.declared.forced_part.level.ForcedLevel.{ForcedLevel}
-use Rattle.lit_order.specs.declared.forced_part.levels.TheConstants.{LEVELS_KEPT}
-use Rattle.lit_order.specs.Internal.ForcedLevels.{AreForbidden, AreForcedLevels, IsForcedLevel, IsKeptBetween, less_of}
+use Rattle.lit_order.specs.Internal.EarlierLevels.{AreEarlierLevels, Put, Full}
+use Rattle.lit_order.specs.Internal.ForcedLevels.{AreForbidden, IsForcedLevel, IsKeptBetween, less_of}
 use Rattle.lit_order.proofs.KeptLevelLemmas.{AreForcedLevels-alone, AreForcedLevels-begin, AreForcedLevels-on, AreForcedLevels-stay, IsForcedLevel-most, known_less, shorter}
 use Rattle.lit_order.proofs.KeptBetweenLemmas.{ForbiddenBy}
 use Rattle.lit_order.proofs.KeptOrderLemmas.{OrderedBy}
@@ -21,20 +22,24 @@ pub returns-then-self-clause-levels : goal.returns-then-self-clause-levels
 returns-then-self-clause-levels c =
     let part = c.args.part.now in
     let was = c.args.self.now.now in
-    let earlier = c.args.self.now.earlier.items in
+    let earlier = c.requires.levels.levels in
     let some = c.requires.some in
-    let are = c.requires.levels in
-    elim c.then-self.branch [
-      | then-self-via-then-self w ↦
-          AreForcedLevels-stay part some earlier was are
-          (λ known. level_stays part c.relations_grow_with_bytes.ensures c.broken_parts_stay_broken.ensures was (λ round. (known_less part some earlier was are known).refuted.1 (inr round)) (inl w.if-self.true))
-          (λ apart. absurd (false≢true (sym (are.straight apart) ∙ w.if-self.true)))
-      | then-self-via-else-self+then-broken w ↦
-          let broken = w.broken.ensures.0 w.if-broken.true in
-          AreForcedLevels-stay part some earlier was are
-          (λ known. level_stays part c.relations_grow_with_bytes.ensures c.broken_parts_stay_broken.ensures was (λ round. (known_less part some earlier was are known).refuted.1 (inr round)) (inr broken))
-          (λ _. broken)
-    ]
+    let are = c.requires.levels.are in
+    record {
+      levels = earlier;
+      kept = c.requires.levels.kept;
+      are = elim c.then-self.branch [
+        | then-self-via-then-self w ↦
+            AreForcedLevels-stay part some earlier was are
+            (λ known. level_stays part c.relations_grow_with_bytes.ensures c.broken_parts_stay_broken.ensures was (λ round. (known_less part some earlier was are known).refuted.1 (inr round)) (inl w.if-self.true))
+            (λ apart. absurd (false≢true (sym (are.straight apart) ∙ w.if-self.true)))
+        | then-self-via-else-self+then-broken w ↦
+            let broken = w.broken.ensures.0 w.if-broken.true in
+            AreForcedLevels-stay part some earlier was are
+            (λ known. level_stays part c.relations_grow_with_bytes.ensures c.broken_parts_stay_broken.ensures was (λ round. (known_less part some earlier was are known).refuted.1 (inr round)) (inr broken))
+            (λ _. broken)
+      ];
+    }
 
 pub returns-then-self-clause-forbidden : goal.returns-then-self-clause-forbidden
 returns-then-self-clause-forbidden c =
@@ -57,17 +62,17 @@ pub goes_for-requires-clause-level : goal.goes_for-requires-clause-level
 goes_for-requires-clause-level c =
     let part = c.args.part.now in
     let was = c.args.self.now.now in
-    let earlier = c.args.self.now.earlier.items in
-    known_less part c.requires.some earlier was c.requires.levels (known_before part c.requires.some was c.len.result c.len.ensures.value c.if-len-self.false (shorter part c.requires.some earlier was c.requires.levels))
+    let earlier = c.requires.levels.levels in
+    known_less part c.requires.some earlier was c.requires.levels.are (known_before part c.requires.some was c.len.result c.len.ensures.value c.if-len-self.false (shorter part c.requires.some earlier was c.requires.levels.are))
 
 pub go_on-requires-then-not-goes_for-clause-level : goal.go_on-requires-then-not-goes_for-clause-level
 go_on-requires-then-not-goes_for-clause-level c =
     let part = c.args.part.now in
     let was = c.args.self.now.now in
-    let earlier = c.args.self.now.earlier.items in
+    let earlier = c.requires.levels.levels in
     subst (IsForcedLevel (less_of part)) (sym c.keep.ensures.now)
     (IsForcedLevel-most (less_of part) was (c.len-then-not-goes_for.result - 1)
-    (known_less part c.requires.some earlier was c.requires.levels (known_before part c.requires.some was c.len.result c.len.ensures.value c.if-len-self.false (shorter part c.requires.some earlier was c.requires.levels))))
+    (known_less part c.requires.some earlier was c.requires.levels.are (known_before part c.requires.some was c.len.result c.len.ensures.value c.if-len-self.false (shorter part c.requires.some earlier was c.requires.levels.are))))
 
 pub go_on-requires-then-not-goes_for-clause-between : goal.go_on-requires-then-not-goes_for-clause-between
 go_on-requires-then-not-goes_for-clause-between c = subst (λ (kept : KeptBetween). AreForbidden c.args.part.now kept.between) (sym c.keep.ensures.forbidden) c.go_on.ensures.between
@@ -79,26 +84,31 @@ pub returns-then-len-self-clause-levels : goal.returns-then-len-self-clause-leve
 returns-then-len-self-clause-levels c =
     let part = c.args.part.now in
     let was = c.args.self.now.now in
-    let earlier = c.args.self.now.earlier.items in
-    let short : length (less_of part).sources ≡ length part.sources - 1 = shorter part c.requires.some earlier was c.requires.levels in
-    AreForcedLevels-begin part c.requires.some earlier was c.requires.levels c.begin.new.self (omega (arith, c.if-len-self.true, c.len.ensures.value, short, c.requires.some)) c.begin.ensures.least c.begin.ensures.level
+    let earlier = c.requires.levels.levels in
+    let short : length (less_of part).sources ≡ length part.sources - 1 = shorter part c.requires.some earlier was c.requires.levels.are in
+    record { levels = earlier; kept = c.requires.levels.kept; are = AreForcedLevels-begin part c.requires.some earlier was c.requires.levels.are c.begin.new.self (omega (arith, c.if-len-self.true, c.len.ensures.value, short, c.requires.some)) c.begin.ensures.least c.begin.ensures.level }
 
 pub returns-then-not-goes_for-clause-levels : goal.returns-then-not-goes_for-clause-levels
 returns-then-not-goes_for-clause-levels c =
     let part = c.args.part.now in
     let was = c.args.self.now.now in
-    let earlier = c.args.self.now.earlier.items in
+    let earlier = c.requires.levels.levels in
     let some = c.requires.some in
-    let are = c.requires.levels in
+    let are = c.requires.levels.are in
     let known = known_before part some was c.len.result c.len.ensures.value c.if-len-self.false (shorter part some earlier was are) in
-    elim (cases_lt (length earlier) LEVELS_KEPT) [
-      | inl room ↦
-          subst (λ (ls : List ForcedLevel). AreForcedLevels part ls c.go_on-then-not-goes_for.new.self) (sym (c.keep.ensures.kept room))
-          (AreForcedLevels-on part some earlier was are c.go_on-then-not-goes_for.new.self known c.if-self.false c.go_on-then-not-goes_for.ensures.least c.go_on-then-not-goes_for.ensures.level c.keep.new.self.now
-          (c.keep.ensures.now ∙ ap (λ (n : ℕ). record was { most = n - 1 }) c.len-then-not-goes_for.ensures.value))
-      | inr full ↦
-          subst (λ (ls : List ForcedLevel). AreForcedLevels part ls c.go_on-then-not-goes_for.new.self) (sym (c.keep.ensures.full full))
-          (AreForcedLevels-alone part some earlier was are c.go_on-then-not-goes_for.new.self known c.if-self.false c.go_on-then-not-goes_for.ensures.least c.go_on-then-not-goes_for.ensures.level)
+    let next = c.go_on-then-not-goes_for.new.self in
+    elim c.keep.ensures.earlier [
+      | Put _ put ↦ record {
+        levels = earlier ++ c.keep.new.self.now ∷ [];
+        kept = put earlier c.requires.levels.kept;
+        are = AreForcedLevels-on part some earlier was are next known c.if-self.false c.go_on-then-not-goes_for.ensures.least c.go_on-then-not-goes_for.ensures.level c.keep.new.self.now
+            (c.keep.ensures.now ∙ ap (λ (n : ℕ). record was { most = n - 1 }) c.len-then-not-goes_for.ensures.value);
+      }
+      | Full _ stays ↦ record {
+        levels = earlier;
+        kept = subst (λ (kept : EarlierLevels). AreEarlierLevels kept earlier) (sym stays) c.requires.levels.kept;
+        are = AreForcedLevels-alone part some earlier was are next known c.if-self.false c.go_on-then-not-goes_for.ensures.least c.go_on-then-not-goes_for.ensures.level;
+      }
     ]
 
 pub returns-then-not-goes_for-clause-forbidden : goal.returns-then-not-goes_for-clause-forbidden
@@ -111,9 +121,9 @@ pub returns-else-not-same-clause-levels : goal.returns-else-not-same-clause-leve
 returns-else-not-same-clause-levels c =
     let part = c.args.part.now in
     let was = c.args.self.now.now in
-    let earlier = c.args.self.now.earlier.items in
+    let earlier = c.requires.levels.levels in
     let some = c.requires.some in
-    let are = c.requires.levels in
+    let are = c.requires.levels.are in
     let known = known_before part some was c.len.result c.len.ensures.value c.if-len-self.false (shorter part some earlier was are) in
     let stays : IsForcedLevel part was = elim c.else-not-same.branch [
       | else-not-same-via-then-not-same+else-not-goes_for w ↦ w.goes_for.ensures w.if-not-goes_for.false
@@ -121,4 +131,7 @@ returns-else-not-same-clause-levels c =
           level_unforced part c.relations_grow_with_bytes.ensures c.broken_parts_stay_broken.ensures was (λ broken. false≢true (sym c.if-broken.false ∙ c.broken.ensures.1 broken)) c.if-self.false (known_less part some earlier was are known)
           (c.gains_nothing-same.ensures.pairs w.if-not-same.false) (c.gains_nothing-same.ensures.triples w.if-not-same.false)
     ] in
-    AreForcedLevels-stay part some earlier was are (λ _. stays) (λ apart. absurd (omega (arith, apart, known)))
+    record { levels = earlier; kept = c.requires.levels.kept; are = AreForcedLevels-stay part some earlier was are (λ _. stays) (λ apart. absurd (omega (arith, apart, known))) }
+
+pub keep-requires-clause-kept : goal.keep-requires-clause-kept
+keep-requires-clause-kept c = (c.requires.levels.levels, c.requires.levels.kept)

@@ -6,7 +6,7 @@ use Rattle.lit_rel.specs.declared.part.levels.Level.{Level}
 use Rattle.lit_rel.specs.declared.part.related.Related.TheInside.{Inside}
 use Rattle.lit_rel.specs.Part.{PartModel}
 use Rattle.lit_rel.specs.Internal.Given.{sources_of}
-use Rattle.lit_rel.specs.Internal.Levels.{AreBack, IsKept, rows_of}
+use Rattle.lit_rel.specs.Internal.Levels.{AreBack, IsKept}
 use Rattle.lit_rel.proofs.PartLemmas.{IsKept-pop, part_of}
 use Rattle.lit_rel.proofs.part.related.Related.pop.Goals as goal
 
@@ -35,12 +35,15 @@ invariant_of-self c =
     let front' : length earlier - 1 ≡ n = omega arith in
     let part = part_of inside.combination.0 inside.combination.1 bytes in
     let same : c.deref.result.now ≡ earlier = c.deref.ensures.0 in
-    let Back : List Event → List SourcedByte → List Level → Type 0 = λ es bs ls. AreBack es (take n (sources_of bs)) (rows_of orders.earlier.items) (rows_of back.earlier.items) orders.now.rows back.now.rows (get_or ls n no_level).pairs inside.level.pairs in
+    let Back : List Event → List SourcedByte → List Level → Type 0 = λ es bs ls. AreBack es (take n (sources_of bs)) orders.earlier back.earlier orders.now.rows back.now.rows (get_or ls n no_level).pairs inside.level.pairs in
     let went = subst (λ (es : List Event). Back es bytes earlier) c.events.ensures.value
     (subst (λ (bs : List SourcedByte). Back c.events.result.now bs earlier) c.as_slice.ensures.value
     (subst (λ (ls : List Level). Back c.events.result.now c.as_slice.result.now ls) same c.go_back.ensures)) in
-    subst (λ (xs : List Level). IsKept (part_of inside.combination.0 inside.combination.1 c.pop-2.new.self.items) c.pop-2.new.self.items (rows_of back.earlier.items) back.now.rows c.pop.new.self.items (get_or xs n no_level)) (sym same)
-    (IsKept-pop part bytes c.pop-2.new.self.items (rows_of orders.earlier.items) (rows_of back.earlier.items) orders.now.rows back.now.rows earlier c.pop.new.self.items inside.level n no_level refl c.self.invariant last
+    subst (λ (xs : List Level). IsKept (part_of inside.combination.0 inside.combination.1 c.pop-2.new.self.items) c.pop-2.new.self.items back.earlier back.now.rows c.pop.new.self.items (get_or xs n no_level)) (sym same)
+    (IsKept-pop part bytes c.pop-2.new.self.items orders.earlier back.earlier orders.now.rows back.now.rows earlier c.pop.new.self.items inside.level n no_level refl c.self.invariant last
     (c.pop-2.ensures.rest ∙ ap (λ k. take k bytes) front)
     (c.pop.ensures.rest ∙ ap (λ k. take k earlier) front')
     went)
+
+pub go_back-requires-clause-earlier : goal.go_back-requires-clause-earlier
+go_back-requires-clause-earlier c = (c.self.invariant.orders, c.self.invariant.are)

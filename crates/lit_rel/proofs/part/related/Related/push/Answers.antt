@@ -1,4 +1,4 @@
-use Rattle.std.proofs.Common.{◌≡◌, ◌↔◌, ◌⊎◌, ◌+◌, ◌<◌, ◌≤◌, ℕ, List, [], ◌∷◌, ◌++◌, length, map, get_or, true, false, refl, sym, ap, ◌∙◌, subst, arith, inl, inr}
+use Rattle.std.proofs.Common.{◌≡◌, ◌↔◌, ◌⊎◌, ◌+◌, ◌<◌, ℕ, List, [], ◌∷◌, ◌++◌, length, map, get_or, true, false, refl, sym, ap, ◌∙◌, subst, arith, inl, inr}
 use Rattle.std.proofs.lemmas.Bool.{false≢true}
 use Rattle.std.proofs.lemmas.List.{length-map}
 use Rattle.std.specs.Bool.{IsTrue}
@@ -7,23 +7,20 @@ use Rattle.lit_paths.specs.Event.{event_at}
 use Rattle.lit_paths.specs.ByteReads.{byte_reads, pair_of}
 use Rattle.lit_paths.specs.declared.limits.TheConstants.{BYTE_READ_LIMIT}
 use Rattle.lit_paths.specs.declared.byte_reads.ByteRead.{ByteRead}
-use Rattle.lit_rel.specs.declared.rows.two_way_rows.TwoWayRows.{TwoWayRows}
 use Rattle.lit_rel.specs.declared.given.SourcedByte.{SourcedByte}
 use Rattle.lit_rel.specs.declared.part.levels.Level.{Level}
-use Rattle.lit_rel.specs.declared.part.orders.TheConstants.{ORDERS_KEPT}
 use Rattle.lit_rel.specs.declared.part.related.Related.TheInside.{Inside}
 use Rattle.lit_rel.specs.Coherent.{IsCoherentRead}
 use Rattle.lit_rel.specs.EventSet.{HasEvent}
 use Rattle.lit_rel.specs.Part.{IsNextSource, PartModel, part_events}
 use Rattle.lit_rel.specs.Internal.Given.{IsKnown, Tears, sources_of}
-use Rattle.lit_rel.specs.Internal.Levels.{IsKept, rows_of}
+use Rattle.lit_rel.specs.Internal.Levels.{IsKept}
 use Rattle.lit_rel.specs.Internal.Pushed.{HasByteSo, IsChangedByte}
 use Rattle.lit_rel.specs.Rows.{Holds, WithPair}
 use Rattle.lit_rel.specs.SynchronizesWith.{CanSynchronize}
 use Rattle.lit_rel.proofs.LevelLemmas.{changed-same}
 use Rattle.lit_rel.proofs.OrderLemmas.{IsOrder-alone, IsOrder-with_pair}
 use Rattle.lit_rel.proofs.PartLemmas.{few_bytes, IsKept-push_alone, IsKept-push_pair, IsLevel-alone, IsLevel-with_pair, IsNextByte, IsNextByte-from, left_of_part, next_known, of_given, part_of}
-use Rattle.lit_rel.proofs.RestoreLemmas.{rows_pushed}
 use Rattle.lit_rel.proofs.part.related.Related.push.Goals as goal
 use Rattle.lit_rel.proofs.part.related.Related.push.Goals.{then-adds_pair, else-adds_pair}
 
@@ -52,7 +49,7 @@ pub push-requires : goal.push-requires
 push-requires c =
     let inside = c.self.inside in
     let new = next_byte inside c.byte_reads.result.now c.len.result c.args.source c.args.self.now c.self.view_is c.requires c.byte_reads.ensures c.len.ensures.value in
-    let few : length inside.bytes.items < BYTE_READ_LIMIT = few_bytes _ inside.bytes.items (rows_of inside.orders.earlier.items) inside.orders.now.rows inside.earlier.items inside.level _ c.self.invariant new in
+    let few : length inside.bytes.items < BYTE_READ_LIMIT = few_bytes _ inside.bytes.items inside.orders.earlier inside.orders.now.rows inside.earlier.items inside.level _ c.self.invariant new in
     let one_each : length inside.earlier.items ≡ length inside.bytes.items = c.self.invariant.one_each in
     elim c.if-adds_pair.branch [
       | then-adds_pair w ↦ let e : length c.if-adds_pair.self-inside.earlier.items ≡ length inside.earlier.items = ap (λ (i : Inside). length i.earlier.items) w.self-inside-is in omega arith
@@ -63,7 +60,7 @@ pub push-requires-2 : goal.push-requires-2
 push-requires-2 c =
     let inside = c.self.inside in
     let new = next_byte inside c.byte_reads.result.now c.len.result c.args.source c.args.self.now c.self.view_is c.requires c.byte_reads.ensures c.len.ensures.value in
-    let few : length inside.bytes.items < BYTE_READ_LIMIT = few_bytes _ inside.bytes.items (rows_of inside.orders.earlier.items) inside.orders.now.rows inside.earlier.items inside.level _ c.self.invariant new in
+    let few : length inside.bytes.items < BYTE_READ_LIMIT = few_bytes _ inside.bytes.items inside.orders.earlier inside.orders.now.rows inside.earlier.items inside.level _ c.self.invariant new in
     elim c.if-adds_pair.branch [
       | then-adds_pair w ↦ let e : length c.if-adds_pair.self-inside.bytes.items ≡ length inside.bytes.items = ap (λ (i : Inside). length i.bytes.items) w.self-inside-is in omega arith
       | else-adds_pair w ↦ let e : length c.if-adds_pair.self-inside.bytes.items ≡ length inside.bytes.items = ap (λ (i : Inside). length i.bytes.items) w.self-inside-is in omega arith
@@ -82,8 +79,8 @@ invariant_of-self c =
     let bytes' = c.push-2.new.self.items in
     let earlier' = c.push.new.self.items in
     let before = inside.orders.now.rows in
-    let left = left_of_part t number bytes (rows_of inside.orders.earlier.items) inside.orders.now.rows inside.earlier.items inside.level byte c.self.invariant new in
-    let Kept : Inside → Level → Type 0 = λ i l. IsKept (record { test = i.combination.0; combination = i.combination.1; sources = sources_of bytes' }) bytes' (rows_of i.orders.earlier.items) i.orders.now.rows earlier' l in
+    let left = left_of_part t number bytes inside.orders.earlier inside.orders.now.rows inside.earlier.items inside.level byte c.self.invariant new in
+    let Kept : Inside → Level → Type 0 = λ i l. IsKept (record { test = i.combination.0; combination = i.combination.1; sources = sources_of bytes' }) bytes' i.orders.earlier i.orders.now.rows earlier' l in
     elim c.if-adds_pair.branch [
       | then-adds_pair w ↦
           let added = w.add.new.self in
@@ -98,9 +95,9 @@ invariant_of-self c =
           let changed = changed-same c.events.result.now c.as_slice.result.now (Holds now.rows) (HasEvent sides.ahead) (λ e. Holds before e byte.source ⊎ (e ≡ byte.source)) (HasEvent sides.behind) (λ e. Holds before byte.read e ⊎ (e ≡ byte.read)) w.around-sides.ensures.ahead w.around-sides.ensures.behind in
           subst (λ (i : Inside). Kept i c.if-adds_pair.level) (sym w.self-inside-is)
           (subst (λ (l : Level). Kept (record inside { orders = added }) l) (sym w.level-is)
-          (IsKept-push_pair part bytes bytes' (rows_of inside.orders.earlier.items) (rows_of added.earlier.items) inside.orders.now.rows now.rows inside.earlier.items earlier' inside.level (record { adds = true; broken = broken.result; pairs = inside.level.pairs + 1 }) byte refl c.self.invariant new pushed pushed_level
+          (IsKept-push_pair part bytes bytes' inside.orders.earlier added.earlier _ now.rows inside.earlier.items earlier' inside.level (record { adds = true; broken = broken.result; pairs = inside.level.pairs + 1 }) byte refl c.self.invariant new pushed pushed_level
           (IsOrder-with_pair (part_events part) (sources_of bytes) byte left before c.self.invariant.ordered now.rows pair.0 w.add.ensures.len closed)
-          (IsLevel-with_pair t number bytes (rows_of inside.orders.earlier.items) inside.orders.now.rows inside.earlier.items inside.level byte c.self.invariant new broken.result (inside.level.pairs + 1) now.rows pair.0 pair.1 closed
+          (IsLevel-with_pair t number bytes inside.orders.earlier inside.orders.now.rows inside.earlier.items inside.level byte c.self.invariant new broken.result (inside.level.pairs + 1) now.rows pair.0 pair.1 closed
           (of_given (λ es bs. IsTrue broken.result ↔ (IsTrue inside.level.broken ⊎ (IsCoherentRead es (Holds now.rows) byte.read byte.byte byte.source → ⊥)
           ⊎ HasByteSo bs (IsChangedByte es (Holds now.rows) (λ e. Holds before e byte.source ⊎ (e ≡ byte.source)) (λ e. Holds before byte.read e ⊎ (e ≡ byte.read)))
           ⊎ HasByteSo bs (Tears es byte))) _ _ _ _ c.events.ensures.value c.as_slice.ensures.value (
@@ -108,8 +105,7 @@ invariant_of-self c =
             (λ h. broken.ensures.1 (elim h [ inl was ↦ inl was | inr rest ↦ inr (elim rest [ inl bad ↦ inl bad | inr more ↦ inr (elim more [ inl ch ↦ inl (changed.1 ch) | inr torn ↦ inr torn ]) ]) ])),
           )))
           refl
-          (λ room. rows_pushed added.earlier.items inside.orders.earlier.items _ (w.add.ensures.kept (subst (λ (n : ℕ). n < ORDERS_KEPT) (length-map inside.orders.earlier.items (λ (o : TwoWayRows). o.rows)) room)))
-          (λ none. ap rows_of (w.add.ensures.full (subst (λ (n : ℕ). ORDERS_KEPT ≤ n) (length-map inside.orders.earlier.items (λ (o : TwoWayRows). o.rows)) none)))))
+          w.add.ensures.earlier))
       | else-adds_pair w ↦
           let broken = w.is_broken_with-broken in
           let pushed : bytes' ≡ bytes ++ byte ∷ [] = c.push-2.ensures.items ∙ ap (λ (i : Inside). i.bytes.items ++ byte ∷ []) w.self-inside-is in
@@ -117,9 +113,9 @@ invariant_of-self c =
           let no_pair : (CanSynchronize (event_at (part_events part) byte.source) (event_at (part_events part) byte.read) × (Holds before byte.source byte.read → ⊥)) → ⊥ = λ both. false≢true (w.if-adds_pair.ensures.1 (subst (λ (es : List Event). CanSynchronize (event_at es byte.source) (event_at es byte.read) × (Holds before byte.source byte.read → ⊥)) (sym c.events.ensures.value) both)) in
           subst (λ (i : Inside). Kept i c.if-adds_pair.level) (sym w.self-inside-is)
           (subst (λ (l : Level). Kept inside l) (sym w.level-is)
-          (IsKept-push_alone part bytes bytes' (rows_of inside.orders.earlier.items) inside.orders.now.rows inside.earlier.items earlier' inside.level (record { adds = false; broken = broken.result; pairs = inside.level.pairs }) byte refl c.self.invariant new pushed pushed_level
+          (IsKept-push_alone part bytes bytes' inside.orders.earlier inside.orders.now.rows inside.earlier.items earlier' inside.level (record { adds = false; broken = broken.result; pairs = inside.level.pairs }) byte refl c.self.invariant new pushed pushed_level
           (IsOrder-alone (part_events part) (sources_of bytes) byte left before c.self.invariant.ordered no_pair)
-          (IsLevel-alone t number bytes (rows_of inside.orders.earlier.items) inside.orders.now.rows inside.earlier.items inside.level byte c.self.invariant new broken.result inside.level.pairs no_pair
+          (IsLevel-alone t number bytes inside.orders.earlier inside.orders.now.rows inside.earlier.items inside.level byte c.self.invariant new broken.result inside.level.pairs no_pair
           (of_given (λ es bs. IsTrue broken.result ↔ (IsTrue inside.level.broken ⊎ (IsCoherentRead es (Holds before) byte.read byte.byte byte.source → ⊥) ⊎ HasByteSo bs (Tears es byte))) _ _ _ _ c.events.ensures.value c.as_slice.ensures.value broken.ensures))
           refl))
     ]
@@ -128,7 +124,7 @@ pub returns-clause-few : goal.returns-clause-few
 returns-clause-few c =
     let inside = c.self.inside in
     let new = next_byte inside c.byte_reads.result.now c.len.result c.args.source c.args.self.now c.self.view_is c.requires c.byte_reads.ensures c.len.ensures.value in
-    let few : length inside.bytes.items < BYTE_READ_LIMIT = few_bytes _ inside.bytes.items (rows_of inside.orders.earlier.items) inside.orders.now.rows inside.earlier.items inside.level _ c.self.invariant new in
+    let few : length inside.bytes.items < BYTE_READ_LIMIT = few_bytes _ inside.bytes.items inside.orders.earlier inside.orders.now.rows inside.earlier.items inside.level _ c.self.invariant new in
     let mapped : length (sources_of c.push-2.new.self.items) ≡ length c.push-2.new.self.items = length-map c.push-2.new.self.items (λ (b : SourcedByte). b.source) in
     let longer : length c.push-2.new.self.items ≡ length c.if-adds_pair.self-inside.bytes.items + 1 = c.push-2.ensures.len in
     elim c.if-adds_pair.branch [
