@@ -53,8 +53,17 @@ impl<'p> ForcedPart<'p> {
         ensures value { result ≡ record { test = plan.now; combination = combination; sources = [] } }
         ensures sound { AreEventsIn result.test.bytes (part_events result) }
     {
+        ForcedPart::of(plan.enter(combination))
+    }
+
+    /// A combination that was entered, of those of its test. This is `open`, but that the combination can be asked before.
+    pub fn of(combination: Combination<'p>) -> Self
+        requires { combination.1 < length (combinations_of combination.0) }
+        ensures value { result ≡ record { test = combination.entry.0; combination = combination.entry.1; sources = [] } }
+        ensures sound { AreEventsIn result.test.bytes (part_events result) }
+    {
         ForcedPart {
-            part: Part::open(plan, combination),
+            part: Part::of(combination),
             levels: Levels::unknown(),
         }
     }

@@ -1,7 +1,6 @@
 -- Relations kept one behind another: what is kept with one more, and where each stands.
-use Rattle.std.proofs.Common.{◌≡◌, ℕ, ◌+◌, ◌-◌, ◌*◌, ◌<◌, ◌≤◌, suc, zero, List, ◌∷◌, [], ◌++◌, Some, get_or, length, replicate, take, drop, refl, sym, ap, ◌∙◌, subst, arith, inl, inr, append_assoc, append-nil, add_comm, suc-mul, zero-mul}
-use Rattle.std.proofs.lemmas.Bool.{cases_lt}
-use Rattle.std.proofs.lemmas.List.{drop_at, get_or-append_right, get_or-drop, get_or-take, get_or_append_left, length-append, length-take-le, take_at}
+use Rattle.std.proofs.Common.{◌≡◌, ◌↔◌, ℕ, ◌+◌, ◌*◌, ◌<◌, ◌≤◌, suc, zero, List, ◌∷◌, [], ◌++◌, Some, get_or, length, take, drop, refl, sym, ap, ◌∙◌, subst, arith, inl, inr, append_assoc, append-nil, add_comm, suc-mul, zero-mul}
+use Rattle.std.proofs.lemmas.List.{drop_at, get_or-take, length-append, length-take-le, take_at}
 use Rattle.std.proofs.lemmas.List.Concat.{flat_map-append}
 use Rattle.std.proofs.lemmas.Option.{none-some, same_Some, slice_get_within}
 use Rattle.std.specs.List.{flat_map, slice_get}
@@ -9,11 +8,10 @@ use Rattle.lit_rel.specs.declared.event_set.EventSet.{EventSet}
 use Rattle.lit_rel.specs.declared.rows.Rows.{Rows}
 use Rattle.lit_rel.specs.declared.rows.kept_rows.KeptRows.{KeptRows}
 use Rattle.lit_rel.specs.declared.rows.two_way_rows.TwoWayRows.{TwoWayRows}
-use Rattle.lit_rel.specs.EventSet.{AreWithin, HasEvent, no_events}
-use Rattle.lit_rel.specs.KeptRows.{AreKeptRows, HasSets, IsOn, both_of, sets_of}
-use Rattle.lit_rel.specs.Rows.{rows_len}
+use Rattle.lit_rel.specs.EventSet.{HasEvent, no_events}
+use Rattle.lit_rel.specs.KeptRows.{AreKeptRows, AreSameRows, HasSets, IsOn, both_of, sets_of}
+use Rattle.lit_rel.specs.Rows.{Holds, rows_len}
 use Rattle.lit_rel.proofs.PlaceLemmas.{place-push}
-use Rattle.lit_rel.proofs.SetLemmas.{AreEmpty-replicate, HasEvent-none}
 use Rattle.lit_rel.proofs.SourceLemmas.{take_from}
 
 -- relations on so many events have twice as many sets each
@@ -43,29 +41,37 @@ AreKeptRows-push kept more orders order are wide count sets on = record {
   ];
 }
 
--- ---- the sets of a relation, put in
--- they are of its events alone, with empty ones behind them
-module _ (was : Rows) (sets more : List EventSet) (m n : ℕ) (s : EventSet) (is : HasSets was sets) (none : s.bits ≡ 0) (same : more ≡ sets) where
-  abbrev rest : List EventSet
-  rest = drop m (replicate n s)
+-- ---- the sets of a relation
+module _ (was : Rows) (sets : List EventSet) (is : HasSets was sets) where
+  set_there : (a : ℕ) → a < length sets → get_or sets a no_events ≡ get_or was.sets a no_events
+  set_there a within = ap (λ (xs : List EventSet). get_or xs a no_events) (sym is.same) ∙ get_or-take (rows_len was) was.sets a no_events (let whole : rows_len was ≡ length sets = is.len in omega (arith, within, whole))
 
-  rest_empty : (k d : ℕ) → HasEvent (get_or rest k no_events) d → ⊥
-  rest_empty k d h = HasEvent-none (replicate n s) (AreEmpty-replicate n s none) (m + k) d (subst (λ (x : EventSet). HasEvent x d) (get_or-drop m (replicate n s) k no_events) h)
+  -- they are of its events alone
+  pub set_known : (a d : ℕ) → a < length sets → HasEvent (get_or sets a no_events) d → d < length sets
+  set_known a d within h =
+      let old : d < rows_len was = was.within.second_known a d (subst (λ (x : EventSet). HasEvent x d) (set_there a within) h) in
+      let whole : rows_len was ≡ length sets = is.len in
+      omega (arith, old, whole)
 
-  both_known : (a d : ℕ) → HasEvent (get_or (more ++ rest) a no_events) d → (a < length sets) × (d < length sets)
-  both_known a d h =
-      let long : length more ≡ length sets = ap length same in
-      elim (cases_lt a (length sets)) [
-        | inl within ↦
-            let whole : rows_len was ≡ length sets = is.len in
-            let there : get_or (more ++ rest) a no_events ≡ get_or was.sets a no_events = get_or_append_left more rest no_events a (omega (arith, within, long)) ∙ ap (λ (xs : List EventSet). get_or xs a no_events) (same ∙ sym is.same) ∙ get_or-take (rows_len was) was.sets a no_events (omega (arith, within, whole)) in
-            let old : d < rows_len was = was.within.second_known a d (subst (λ (x : EventSet). HasEvent x d) there h) in
-            (within, omega (arith, old, whole))
-        | inr past ↦ absurd (rest_empty (a - length more) d (subst (λ (x : EventSet). HasEvent x d) (get_or-append_right more rest (length more) a no_events refl (omega (arith, past, long))) h))
-      ]
-
-  pub AreWithin-sets : AreWithin (length sets) (more ++ drop m (replicate n s))
-  AreWithin-sets = record { first_known = λ a d h. (both_known a d h).0; second_known = λ a d h. (both_known a d h).1 }
+  -- a relation that has them is the same
+  pub AreSameRows-sets : (rows : Rows) → rows_len rows ≡ length sets → ((a d : ℕ) → a < length sets → Holds rows a d ↔ HasEvent (get_or sets a no_events) d) → AreSameRows was rows
+  AreSameRows-sets rows len pairs = record {
+    len = len ∙ sym is.len;
+    pairs = λ a d. (
+      (λ h.
+          let within : a < length sets = (let first : a < rows_len rows = h.first_known in omega (arith, first, len)) in
+          let marked : HasEvent (get_or sets a no_events) d = (pairs a d within).0 h in
+          let whole : rows_len was ≡ length sets = is.len in
+          record {
+            first_known = omega (arith, within, whole);
+            second_known = omega (arith, set_known a d within marked, whole);
+            marked = subst (λ (x : EventSet). HasEvent x d) (set_there a within) marked;
+          }),
+      (λ h.
+          let within : a < length sets = (let first : a < rows_len was = h.first_known in let whole : rows_len was ≡ length sets = is.len in omega (arith, first, whole)) in
+          (pairs a d within).1 (subst (λ (x : EventSet). HasEvent x d) (sym (set_there a within)) h.marked)),
+    );
+  }
 
 -- ---- where a relation stands
 -- relations, of those before one, that one, and those behind it

@@ -18,6 +18,7 @@ pub use event_set::EventSet;
 pub use given::relations::can_synchronize;
 pub use given::values::payload_at;
 pub use part::Part;
+pub use part::tested_bytes::is_source_refused;
 pub use rows::Rows;
 pub use rows::closing::close;
 pub use rows::kept_rows::{KeptRows, ROWS_KEPT};

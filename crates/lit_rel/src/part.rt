@@ -72,7 +72,15 @@ impl<'p> Part<'p> {
         ensures value { result ≡ record { test = plan.now; combination = combination; sources = [] } }
         ensures sound { AreEventsIn result.test.bytes (part_events result) }
     {
-        let combination = plan.enter(combination);
+        Part::of(plan.enter(combination))
+    }
+
+    /// A combination that was entered, of those of its test. No byte read has a source yet.
+    pub fn of(combination: Combination<'p>) -> Self
+        requires { combination.1 < length (combinations_of combination.0) }
+        ensures value { result ≡ record { test = combination.entry.0; combination = combination.entry.1; sources = [] } }
+        ensures sound { AreEventsIn result.test.bytes (part_events result) }
+    {
         let refused = has_false_test(&combination, None, 0);
         let mut peers = Rows::new(0);
         put_peers(&mut peers, combination.events());

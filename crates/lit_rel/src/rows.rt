@@ -61,10 +61,12 @@ impl Rows {
         requires { (was : Rows) × HasSets was sets.now }
         ensures { (was : Rows) → HasSets was sets.now → AreSameRows was self.new }
     {
-        let mut all = [EventSet::new(); EVENT_LIMIT];
-        all[..sets.len()].copy_from_slice(sets);
-        self.len = sets.len();
-        self.sets = all;
+        if self.len != sets.len() {
+            self.begin(sets.len());
+        }
+        for event in 0..sets.len() {
+            self.set_all(event, sets[event]);
+        }
     }
 
     /// How many events it is on.

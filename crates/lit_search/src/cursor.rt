@@ -80,17 +80,17 @@ impl<'p> Cursor<'p> {
         ensures { result ≡ record { test = plan.now; combination = combination; places = [] } }
     {
         let _test = plan.test();
-        let part = ForcedPart::open(plan, combination);
+        let combination = plan.enter(combination);
         let mut refused = RefusedSources::new();
-        set_refused(&mut refused, part.part());
+        set_refused(&mut refused, &combination);
         let mut held = HeldReads::new();
-        set_held(&mut held, plan, part.part());
-        let values = no_values(part.part());
+        set_held(&mut held, plan, &combination);
+        let values = no_values();
         let repeats = no_repeats();
-        let low = part.combination().first();
-        let end = part.combination().end();
+        let low = combination.first();
+        let end = combination.end();
         Cursor {
-            part,
+            part: ForcedPart::of(combination),
             refused,
             held,
             places: ArrayVec::new(),
@@ -109,9 +109,9 @@ impl<'p> Cursor<'p> {
     {
         let _test = plan.test();
         self.part.reopen(plan, combination);
-        set_refused(&mut self.refused, self.part.part());
-        set_held(&mut self.held, plan, self.part.part());
-        self.values = no_values(self.part.part());
+        set_refused(&mut self.refused, self.part.combination());
+        set_held(&mut self.held, plan, self.part.combination());
+        self.values = no_values();
         self.places.clear();
         self.low = self.part.combination().first();
         self.end = self.part.combination().end();

@@ -38,9 +38,9 @@ fn has_false_byte(tests: &[Tested], first: u8, event: &Event, at: ByteRead, valu
     false
 }
 
-/// Whether some test of a path of the combination is false of whatever a read takes, if this byte of it has this source.
-/// Both are by event number.
-fn is_source_refused(combination: &Combination<'_>, at: ByteRead, source: u8) -> bool
+/// Whether some test of a path of the combination, one of those of its test, is false of whatever a read takes, if this byte
+/// of it has this source. Both are by event number.
+pub fn is_source_refused(combination: &Combination<'_>, at: ByteRead, source: u8) -> bool
     requires known { combination.now.1 < length (combinations_of combination.now.0) }
     requires read { at.read < length (events_in combination.now.0 combination.now.1) }
     requires source { source < length (events_in combination.now.0 combination.now.1) }

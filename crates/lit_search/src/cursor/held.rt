@@ -5,7 +5,7 @@ ghost use Rattle.lit_read.specs.declared.limits.TheConstants.{REGISTERS};
 ghost use Rattle.lit_paths.specs.ByteReads.{byte_reads};
 ghost use Rattle.lit_paths.specs.Outcome.{names_of};
 ghost use Rattle.lit_paths.specs.declared.limits.TheConstants.{NAME_LIMIT};
-ghost use Rattle.lit_rel.specs.Part.{part_events};
+ghost use Rattle.lit_rel.specs.Part.{PartModel, part_events};
 ghost use Rattle.lit_search.specs.Internal.Held.{HasWholeValues, part_outcome, read_held as read_of, reads_held, value_held as value_of, without_last};
 ghost use Rattle.lit_search.specs.Internal.Wanting.{AllKnownAfter};
 
@@ -14,19 +14,18 @@ use crate::cursor::wanted::Wanted;
 use crate::found::Outcome;
 use arrayvec::ArrayVec;
 use lit_paths::laws::combinations_are_walked;
-use lit_paths::{NAME_LIMIT, Plan};
+use lit_paths::{Combination, NAME_LIMIT, Plan};
 use lit_rel::Part;
 use lit_rel::laws::values_stay;
 
 /// The number of the read that a register holds at the end, named by agent and register; `None` where it was not
 /// written.
-fn read_held(part: &Part<'_>, name: (u8, u8)) -> Option<u8>
-    requires agent { name.0 < length part.now.test.agents }
+fn read_held(combination: &Combination<'_>, name: (u8, u8)) -> Option<u8>
+    requires agent { name.0 < length combination.now.0.agents }
     requires reg { name.1 < REGISTERS }
-    ensures { result ≡ read_of part.now.test part.now.combination name }
+    ensures { result ≡ read_of combination.now.0 combination.now.1 name }
 {
     let agent = usize::from(name.0);
-    let combination = part.combination();
     let _events = combination.events();
     let place = combination.path(agent).last(name.1)?;
     Some(combination.first_event(agent) + place)
@@ -36,14 +35,14 @@ fn read_held(part: &Part<'_>, name: (u8, u8)) -> Option<u8>
 /// written.
 pub(crate) type HeldReads = ArrayVec<Option<u8>, NAME_LIMIT>;
 
-/// Makes them those of a part's combination. The part is one of the plan's test.
-pub(crate) fn set_held(held: &mut HeldReads, plan: &Plan<'_>, part: &Part<'_>)
-    requires { part.now.test ≡ plan.now }
-    ensures { held.new.items ≡ reads_held part.now.test part.now.combination }
+/// Makes them those of a combination of the plan's test.
+pub(crate) fn set_held(held: &mut HeldReads, plan: &Plan<'_>, combination: &Combination<'_>)
+    requires { combination.now.0 ≡ plan.now }
+    ensures { held.new.items ≡ reads_held combination.now.0 combination.now.1 }
 {
     held.clear();
     for name in plan.names() {
-        held.push(read_held(part, *name));
+        held.push(read_held(combination, *name));
     }
 }
 
@@ -91,12 +90,10 @@ pub(crate) fn set_outcome(outcome: &mut Outcome, part: &Part<'_>, held: &HeldRea
 pub(crate) type Values = [u32; NAME_LIMIT];
 
 /// The values where no byte read has a source.
-pub(crate) fn no_values(part: &Part<'_>) -> Values
-    requires { part.now.sources ≡ [] }
-    ensures values { HasWholeValues part.now result }
+pub(crate) fn no_values() -> Values
+    ensures values { (part : PartModel) → part.sources ≡ [] → HasWholeValues part result }
     ensures all { length result ≡ NAME_LIMIT }
 {
-    let _len = part.len();
     [0; NAME_LIMIT]
 }
 
@@ -129,7 +126,7 @@ pub(crate) fn holds_read(part: &Part<'_>, name: (u8, u8), read: u8) -> bool
     requires reg { name.1 < REGISTERS }
     ensures { IsTrue result ↔ (read_of part.now.test part.now.combination name ≡ Some read) }
 {
-    match read_held(part, name) {
+    match read_held(part.combination(), name) {
         Some(held) => held == read,
         None => false,
     }

@@ -1,6 +1,5 @@
-use Rattle.std.proofs.Common.{rules, subst}
+use Rattle.std.proofs.Common.{rules, ap}
 use Rattle.lit_rel.specs.Part.{PartModel}
-use Rattle.lit_search.specs.Internal.Held.{HasWholeValues}
 use Rattle.lit_search.proofs.cursor.Cursor.open.Goals as goal
 
 pub invariant_of-result : goal.invariant_of-result
@@ -15,6 +14,6 @@ invariant_of-result c = record {
   last = search rules;
   refused = search rules;
   held = search rules;
-  values = subst (λ (q : PartModel). HasWholeValues q c.no_values-values.result) c.part-3.ensures c.no_values-values.ensures.values;
+  values = c.no_values-values.ensures.values c.«of».result (ap (λ (q : PartModel). q.sources) c.«of».ensures.value);
   all = search rules;
 }

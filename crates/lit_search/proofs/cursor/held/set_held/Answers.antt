@@ -18,8 +18,8 @@ read_held-requires-clause-agent c =
 
 pub loop-name-preserved : goal.loop-name-preserved
 loop-name-preserved c =
-    let part = c.args.part.now in
-    let f : ℕ × ℕ → Option ℕ = read_held part.test part.combination in
+    let e = c.args.combination.now in
+    let f : ℕ × ℕ → Option ℕ = read_held e.0 e.1 in
     let names = c.names-name-items.result.now in
     let i = c.loop-name.name-index in
     c.push.ensures.items ∙ ap₂ (λ (xs : List (Option ℕ)) (v : Option ℕ). xs ++ v ∷ []) c.loop-name.invariant c.read_held.ensures
@@ -27,6 +27,6 @@ loop-name-preserved c =
 
 pub returns : goal.returns
 returns c =
-    let part = c.args.part.now in
-    let f : ℕ × ℕ → Option ℕ = read_held part.test part.combination in
+    let e = c.args.combination.now in
+    let f : ℕ × ℕ → Option ℕ = read_held e.0 e.1 in
     c.loop-name.invariant ∙ ap (map f) (take_all c.loop-name.name-index c.names-name-items.result.now (omega (arith, c.loop-name-test.false)) ∙ c.names-name-items.ensures.value ∙ ap names_of (sym c.requires))

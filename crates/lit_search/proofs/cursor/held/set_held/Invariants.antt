@@ -3,4 +3,4 @@ use Rattle.lit_search.specs.Internal.Held.{read_held}
 use Rattle.lit_search.proofs.cursor.held.set_held.Given as goal
 
 abbrev pub invariant-loop-name : goal.invariant-loop-name
-invariant-loop-name l = l.held.items ≡ map (read_held l.part.test l.part.combination) (take l.name-index l.name-items)
+invariant-loop-name l = l.held.items ≡ map (read_held l.combination.0 l.combination.1) (take l.name-index l.name-items)
