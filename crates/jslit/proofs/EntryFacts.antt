@@ -11,7 +11,8 @@ use Rattle.lit_paths.specs.Choice.{Choice, AreSources, choices_of}
 use Rattle.jslit.specs.ChoiceEvents.{choice_at}
 use Rattle.lit_paths.specs.Outcome.{names_of}
 use Rattle.lit_paths.specs.Execution.{Execution, execution_events, execution_choice, IsCandidateExecution}
-use Rattle.lit_search.specs.Report.{Report, entry_at, Gives, HasLeastOrder, IsEntry, IsReport, in_range}
+use Rattle.lit_valid.specs.Gives.{Gives, HasLeastOrder}
+use Rattle.lit_search.specs.Report.{Report, entry_at, IsEntry, IsReport, in_range}
 
 -- an outcome has a value for each register
 pub length-outcome : (t : Litmus) (n : ℕ) (outcome : List ℕ) → Gives t n outcome → length outcome ≡ length (names_of t)

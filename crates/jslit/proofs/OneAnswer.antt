@@ -5,7 +5,7 @@ use Rattle.lit_read.specs.Syntax.{Litmus}
 use Rattle.lit_read.specs.Spelling.{Spells}
 use Rattle.lit_paths.specs.Choice.{choices_of}
 use Rattle.lit_paths.specs.Outcome.{meets}
-use Rattle.lit_search.specs.declared.class.Class.TheVariants.{Met, Unmet}
+use Rattle.lit_valid.specs.declared.class.Class.TheVariants.{Met, Unmet}
 use Rattle.lit_search.specs.Report.{Entry, Report, IsReport, in_range}
 use Rattle.jslit.specs.declared.verdict.Verdict.{Verdict}
 use Rattle.jslit.specs.declared.verdict.Verdict.TheVariants.{Always, Sometimes, Never}

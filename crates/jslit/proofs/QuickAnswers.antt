@@ -6,10 +6,11 @@ use Rattle.std.proofs.lemmas.Option.{slice_get-get_or, slice_get_within, get_or_
 use Rattle.lit_read.specs.Syntax.{Litmus}
 use Rattle.lit_paths.specs.Choice.{choices_of}
 use Rattle.lit_paths.specs.Outcome.{meets}
-use Rattle.lit_search.specs.declared.class.Class.{Class}
-use Rattle.lit_search.specs.declared.class.Class.TheVariants.{Met, Unmet}
-use Rattle.lit_search.specs.Class.{is_of_class}
-use Rattle.lit_search.specs.Report.{Entry, Report, Gives, HasEntry, HasLeastOrder, IsEntry, IsReport, in_range}
+use Rattle.lit_valid.specs.declared.class.Class.{Class}
+use Rattle.lit_valid.specs.declared.class.Class.TheVariants.{Met, Unmet}
+use Rattle.lit_valid.specs.Class.{is_of_class}
+use Rattle.lit_valid.specs.Gives.{Gives, HasLeastOrder}
+use Rattle.lit_search.specs.Report.{Entry, Report, HasEntry, IsEntry, IsReport, in_range}
 use Rattle.lit_search.proofs.Reports.{one_order}
 use Rattle.jslit.specs.QuickAnswer.{IsFirst, IsFirstEntry}
 use Rattle.jslit.specs.Verdict.{IsVerdict, verdict_of}

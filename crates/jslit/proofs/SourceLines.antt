@@ -9,7 +9,7 @@ use Rattle.lit_paths.specs.declared.event.Event.{Event}
 use Rattle.lit_paths.specs.Event.{does_read, event_at}
 use Rattle.lit_paths.specs.ByteReads.{bytes_read_by, byte_reads_from, byte_reads, pair_of}
 use Rattle.lit_paths.specs.declared.byte_reads.ByteRead.{ByteRead}
-use Rattle.lit_search.specs.ValidExecution.{read_numbers_from}
+use Rattle.lit_valid.specs.ValidExecution.{read_numbers_from}
 use Rattle.jslit.specs.ReportText.{line, event_name, names_text, source_line, from_lines}
 use Rattle.jslit.specs.Internal.ReadLine.{NoneReads, OnlyFirstReads, read_line, rest_after, lines_from, source_head, first_source_head, line_end, lines_up_to}
 

@@ -10,10 +10,11 @@ use Rattle.lit_read.specs.Spelling.{Spells}
 use Rattle.lit_paths.specs.Choice.{choices_of}
 use Rattle.lit_paths.specs.declared.fault.PlanFault.{PlanFault}
 use Rattle.lit_paths.specs.Plan.{IsRefusal}
-use Rattle.lit_search.specs.declared.class.Class.{Class}
-use Rattle.lit_search.specs.declared.class.Class.TheVariants.{Met, Unmet}
+use Rattle.lit_valid.specs.declared.class.Class.{Class}
+use Rattle.lit_valid.specs.declared.class.Class.TheVariants.{Met, Unmet}
 use Rattle.lit_search.specs.Class.{IsFirstOf}
-use Rattle.lit_search.specs.Report.{Report, Gives, IsReport, entry_at, in_range}
+use Rattle.lit_valid.specs.Gives.{Gives}
+use Rattle.lit_search.specs.Report.{Report, IsReport, entry_at, in_range}
 use Rattle.jslit.specs.declared.fault.RunFault.{RunFault}
 use Rattle.jslit.specs.declared.fault.RunFault.TheVariants.{OutputFailed}
 use Rattle.jslit.specs.declared.verdict.Verdict.{Verdict}

@@ -8,9 +8,9 @@ use Rattle.lit_paths.specs.Choice.{choices_of}
 use Rattle.lit_paths.specs.declared.fault.PlanFault.{PlanFault}
 use Rattle.lit_paths.specs.Plan.{IsRefusal}
 use Rattle.lit_search.specs.Report.{Entry, Report, IsReport, in_range}
-use Rattle.lit_search.specs.declared.class.Class.TheVariants.{Met, Unmet}
+use Rattle.lit_valid.specs.declared.class.Class.TheVariants.{Met, Unmet}
 use Rattle.lit_paths.specs.Execution.{Execution, execution_outcome}
-use Rattle.lit_search.specs.ValidExecution.{IsValidExecution}
+use Rattle.lit_valid.specs.ValidExecution.{IsValidExecution}
 use Rattle.jslit.specs.declared.fault.RunFault.{RunFault}
 use Rattle.jslit.specs.declared.fault.RunFault.TheVariants as faults
 use Rattle.jslit.specs.declared.verdict.Verdict.{Verdict}

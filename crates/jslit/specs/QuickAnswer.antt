@@ -2,9 +2,10 @@
 use Rattle.std.specs.Prelude.{◌≡◌, ℕ, List, Option, Some, None, length}
 use Rattle.lit_read.specs.Syntax.{Litmus}
 use Rattle.lit_paths.specs.Choice.{choices_of}
-use Rattle.lit_search.specs.declared.class.Class.{Class}
+use Rattle.lit_valid.specs.declared.class.Class.{Class}
 use Rattle.lit_search.specs.Class.{HasNoneOf, IsFirstOf}
-use Rattle.lit_search.specs.Report.{Entry, Gives, HasLeastOrder, in_range}
+use Rattle.lit_valid.specs.Gives.{Gives, HasLeastOrder}
+use Rattle.lit_search.specs.Report.{Entry, in_range}
 
 -- Of all choices the first with a valid execution whose outcome is in the class, with its outcome, which is its only one,
 -- and its least memory-order.

@@ -6,7 +6,7 @@ use Rattle.lit_read.specs.Syntax.{Litmus, agent_of}
 use Rattle.lit_paths.specs.declared.event.Event.{Event}
 use Rattle.lit_paths.specs.Event.{event_at}
 use Rattle.lit_paths.specs.ByteReads.{byte_reads}
-use Rattle.lit_search.specs.ValidExecution.{read_numbers}
+use Rattle.lit_valid.specs.ValidExecution.{read_numbers}
 use Rattle.jslit.specs.ChoiceEvents.{choice_at, choice_events}
 use Rattle.lit_paths.specs.Outcome.{meets, names_of}
 use Rattle.lit_search.specs.Report.{Entry, Report}

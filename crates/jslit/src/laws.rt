@@ -4,7 +4,7 @@ ghost use Rattle.std.specs.Prelude.{◌≡◌, ◌≤◌, ℕ, Bool, false, List
 ghost use Rattle.lit_read.specs.Syntax.{Litmus};
 ghost use Rattle.lit_paths.specs.Choice.{choices_of};
 ghost use Rattle.lit_search.specs.Report.{Entry, Report, HasEntry, IsReport, in_range};
-ghost use Rattle.lit_search.specs.declared.class.Class.{Class};
+ghost use Rattle.lit_valid.specs.declared.class.Class.{Class};
 ghost use Rattle.jslit.specs.Answer.{IsAnswerOn, IsComplete};
 ghost use Rattle.jslit.specs.InterleavingAnswer.{IsInterleavingOn, IsOfEntry};
 ghost use Rattle.jslit.specs.QuickAnswer.{IsFirstEntry};

@@ -33,7 +33,7 @@ impl OrderFinder for ForcedFinder {
 
 /// The least order of a relation and forbidden triples, both on the same events, or `None` exactly where there is none. It
 /// is quick where the relation has all that the triples force.
-pub(crate) fn least_of(forced: &TwoWayRows, between: &Between) -> Option<Order>
+pub fn least_of(forced: &TwoWayRows, between: &Between) -> Option<Order>
     requires { rows_len forced.now.rows ≡ between.now.len }
     ensures found { IfSome result (λ order.
         IsLeastOrderOf (rows_len forced.now.rows) (Holds forced.now.rows) (Forbids between.now) order.items) }

@@ -26,7 +26,7 @@ pub(crate) fn closed(before: &Rows) -> Option<Rows>
 
 /// Puts in what a transitive relation and forbidden triples force, both on the same events. Says no exactly where an
 /// event is forced before itself; then some of what is forced may be in.
-pub(crate) fn force(forced: &mut TwoWayRows, between: &Between) -> bool
+pub fn force(forced: &mut TwoWayRows, between: &Between) -> bool
     requires len { rows_len forced.old.rows ≡ between.now.len }
     requires transitive { IsTransitive (Holds forced.old.rows) }
     ensures cycle { (¬ IsTrue result) ↔ HasForcedCycle (Holds forced.old.rows) (Forbids between.now) }

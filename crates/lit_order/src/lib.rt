@@ -16,8 +16,8 @@ mod plain_finder;
 mod triple;
 
 pub use forced::Forced;
-pub use forced_finder::ForcedFinder;
+pub use forced_finder::{ForcedFinder, least_of};
 pub use forced_part::ForcedPart;
-pub use forcing::forced_precedence;
+pub use forcing::{force, forced_precedence};
 pub use order::{Order, OrderFinder};
 pub use plain_finder::PlainFinder;

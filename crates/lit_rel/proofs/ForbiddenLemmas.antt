@@ -8,7 +8,7 @@ use Rattle.lit_rel.specs.declared.given.SourcedByte.{SourcedByte}
 use Rattle.lit_rel.specs.Forbidden.{IsForbiddenBetween, IsForbiddenTriple}
 use Rattle.lit_rel.specs.Internal.Forbidding.{IsForbidding, RepeatsPair}
 use Rattle.lit_rel.specs.Internal.Given.{AreFirstReads, sources_of}
-use Rattle.lit_rel.specs.Internal.Peers.{ArePeers}
+use Rattle.lit_rel.specs.Peers.{ArePeers}
 use Rattle.lit_rel.specs.Rows.{Holds}
 use Rattle.lit_rel.specs.ReadsFrom.{ReadsByteFrom, ReadsFrom}
 use Rattle.lit_rel.proofs.EachLemmas.{SomeBelow, SomeBelow-again, SomeBelow-all}

@@ -5,7 +5,6 @@ pub mod Forbidding
 pub mod Given
 pub mod Levels
 pub mod PartKept
-pub mod Peers
 pub mod Pushed
 pub mod Racing
 pub mod Refused

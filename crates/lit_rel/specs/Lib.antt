@@ -10,6 +10,7 @@ pub mod HappensBefore
 pub mod Coherent
 pub mod TearFree
 pub mod Forbidden
+pub mod Peers
 pub mod Growth
 pub mod OtherSources
 pub mod InitReads

@@ -15,9 +15,14 @@ mod rows;
 
 pub use between::{Between, Pair};
 pub use event_set::EventSet;
+pub use given::forbidden::others_between;
+pub use given::peers::peers_of;
+pub use given::reads::can_read_whole;
 pub use given::relations::can_synchronize;
 pub use given::values::payload_at;
 pub use part::Part;
+pub use part::fixed_steps::unsourced_order;
+pub use part::refused::has_false_test;
 pub use part::tested_bytes::is_source_refused;
 pub use rows::Rows;
 pub use rows::closing::close;

@@ -29,20 +29,21 @@ use Rattle.lit_rel.proofs.EdgeLemmas.{HappensBeforeBy-transitive}
 use Rattle.lit_rel.proofs.OtherSourceLemmas.{alone_apart, order_stays_with_others}
 use Rattle.lit_rel.proofs.PlaceLemmas.{place-left, place_from-left}
 use Rattle.lit_search.specs.declared.cursor.Cursor.TheInside.{Inside}
-use Rattle.lit_search.specs.Completion.{Completes, IsEntered}
-use Rattle.lit_search.specs.Report.{Gives, in_range}
+use Rattle.lit_valid.specs.Completion.{Completes, IsEntered}
+use Rattle.lit_valid.specs.Gives.{Gives}
+use Rattle.lit_search.specs.Report.{in_range}
 use Rattle.lit_search.specs.StandsFor.{AreAsGood, HasOneWith}
 use Rattle.lit_search.specs.Internal.Alike.{FitsAt, HasAlike, StoresAlike, TakesEach, TakesOne}
-use Rattle.lit_search.specs.Internal.Laws.{Laws}
+use Rattle.lit_valid.specs.Laws.{Laws}
 use Rattle.lit_search.specs.Internal.Passing.{MayPass, first_places}
 use Rattle.lit_search.specs.Internal.Places.{ArePlaces, Stand, behind_at, candidates_at, low_at, part_at, passed_at, sources_at, stand_events}
 use Rattle.lit_search.specs.Internal.Shown.{NoneShow}
 use Rattle.lit_search.specs.Internal.Standing.{IsStanding}
-use Rattle.lit_search.proofs.CompletionLemmas.{carried, not_broken}
+use Rattle.lit_valid.proofs.CompletionLemmas.{carried, not_broken}
 use Rattle.lit_search.proofs.ExchangeLemmas.{others_stand, past_stays}
 use Rattle.lit_search.proofs.PassingLemmas.{at_numbers, completed}
 use Rattle.lit_search.proofs.PlaceLemmas.{length-sources, passed_more, placed_take}
-use Rattle.lit_search.proofs.RunLemmas.{maps}
+use Rattle.lit_valid.proofs.RunLemmas.{maps}
 use Rattle.lit_search.proofs.StandLemmas.{candidates_here, stand_of}
 use Rattle.lit_search.proofs.StoodForLemmas.{GivesLess, less_number, pass_lesser, sources_take}
 use Rattle.lit_search.proofs.SwappedSources.{front_stays, kept, stood, swapped, swapped_long, taken_alike, then_less}

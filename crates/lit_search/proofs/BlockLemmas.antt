@@ -15,7 +15,7 @@ use Rattle.lit_rel.specs.ReadsFrom.{composed, value_of}
 use Rattle.lit_rel.proofs.OwnByteLemmas.{only_its}
 use Rattle.lit_search.proofs.ActLemmas.{after_event, found_at}
 use Rattle.lit_search.proofs.MomentLemmas.{long_zeros}
-use Rattle.lit_search.proofs.RunLemmas.{maps}
+use Rattle.lit_valid.proofs.RunLemmas.{maps}
 use Rattle.lit_search.proofs.TimeLemmas.{IsAct, IsTimeline}
 use Rattle.lit_search.proofs.WriterLemmas.{in_front, source_at, source_of, sources_in_turn, writes_byte, written}
 

@@ -20,13 +20,14 @@ use Rattle.lit_rel.proofs.OtherSourceLemmas.{taken}
 use Rattle.lit_rel.proofs.PlaceLemmas.{place-left, place-middle}
 use Rattle.lit_search.specs.declared.cursor.coming.Coming.{Coming}
 use Rattle.lit_search.specs.declared.cursor.coming.listing.Item.{Item}
-use Rattle.lit_search.specs.Completion.{Completes, IsEntered}
+use Rattle.lit_valid.specs.Completion.{Completes, IsEntered}
 use Rattle.lit_search.specs.Internal.Coming.{AllStoreAs, AreIn, AreItems, HoldsAll, IsToCome, Takes, unsourced}
-use Rattle.lit_search.specs.Internal.Held.{part_outcome, read_held, reads_held, value_held}
-use Rattle.lit_search.specs.Internal.Laws.{Laws}
+use Rattle.lit_valid.specs.PartOutcome.{part_outcome, read_held, value_held}
+use Rattle.lit_search.specs.Internal.Held.{reads_held}
+use Rattle.lit_valid.specs.Laws.{Laws}
 use Rattle.lit_search.specs.Internal.Passing.{MayPass, NoneFrom, first_places}
 use Rattle.lit_search.specs.Internal.Places.{ArePlaces, Stand, behind_at, low_at, part_at, stand_events}
-use Rattle.lit_search.proofs.CompletionLemmas.{carried, its_outcome}
+use Rattle.lit_valid.proofs.CompletionLemmas.{carried, its_outcome}
 use Rattle.lit_search.specs.Report.{Entry}
 use Rattle.lit_search.specs.Internal.Merged.{merged}
 use Rattle.lit_search.specs.Internal.Outcomes.{HasOutcome}

@@ -14,11 +14,11 @@ use Rattle.lit_paths.specs.Outcome.{holds, names_of}
 use Rattle.lit_paths.proofs.Conditions.{member_holds, holds-Any, holds-All}
 use Rattle.lit_paths.proofs.Rising.{slice_get-map-found}
 use Rattle.lit_rel.specs.Part.{PartModel, with_sources}
-use Rattle.lit_search.specs.Completion.{Completes, IsEntered}
+use Rattle.lit_valid.specs.Completion.{Completes, IsEntered}
 use Rattle.lit_search.specs.Internal.Deciding.{AreKnownValues, HasKnown}
-use Rattle.lit_search.specs.Internal.Held.{read_held, value_held}
-use Rattle.lit_search.specs.Internal.Laws.{Laws}
-use Rattle.lit_search.proofs.CompletionLemmas.{its_outcome}
+use Rattle.lit_valid.specs.PartOutcome.{read_held, value_held}
+use Rattle.lit_valid.specs.Laws.{Laws}
+use Rattle.lit_valid.proofs.CompletionLemmas.{its_outcome}
 use Rattle.lit_search.proofs.PassingLemmas.{AreNamed, held_stays}
 
 -- the value at a place, if it is known

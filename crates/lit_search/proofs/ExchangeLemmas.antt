@@ -34,17 +34,17 @@ use Rattle.lit_rel.specs.ReadsFrom.{value_of}
 use Rattle.lit_rel.specs.Settled.{HasSettledPast}
 use Rattle.lit_rel.specs.TearFree.{HasTearFreeReads}
 use Rattle.lit_order.specs.MemoryOrder.{IsMemoryOrder}
-use Rattle.lit_search.specs.Completion.{Completes, IsEntered}
+use Rattle.lit_valid.specs.Completion.{Completes, IsEntered}
 use Rattle.lit_search.specs.StandsFor.{AreAsGood, HasOneWith, HasStandIn, IsHeld, IsOn, IsUsed, MakesNoDifference, StandsWith}
-use Rattle.lit_search.specs.ValidExecution.{IsValidExecution}
-use Rattle.lit_search.specs.Internal.Held.{part_outcome, read_held, value_held}
-use Rattle.lit_search.specs.Internal.Laws.{Laws}
+use Rattle.lit_valid.specs.ValidExecution.{IsValidExecution}
+use Rattle.lit_valid.specs.PartOutcome.{part_outcome, read_held, value_held}
+use Rattle.lit_valid.specs.Laws.{Laws}
 use Rattle.lit_paths.proofs.EventLists.{length-init_events}
 use Rattle.lit_rel.proofs.InitReadLemmas.{can_take}
 use Rattle.lit_rel.proofs.OtherSourceLemmas.{others_take_place, values_stay_with_others}
-use Rattle.lit_search.proofs.CompletionLemmas.{carried, example, example_completes, example_paths, its_events, its_outcome, not_broken}
+use Rattle.lit_valid.proofs.CompletionLemmas.{carried, example, example_completes, example_paths, its_events, its_outcome, not_broken}
 use Rattle.lit_search.proofs.PassingLemmas.{AreNamed}
-use Rattle.lit_search.proofs.RunLemmas.{maps}
+use Rattle.lit_valid.proofs.RunLemmas.{maps}
 use Rattle.lit_search.proofs.WantingLemmas.{same_maps}
 
 -- ---- the events that make a block

@@ -28,11 +28,11 @@ use Rattle.lit_order.specs.Forcing.{HasForcedCycle, IsForced}
 use Rattle.lit_order.specs.MemoryOrder.{IsMemoryOrder, IsOrderOf, StandsBefore}
 use Rattle.lit_order.specs.Refuted.{IsForcedRound}
 use Rattle.lit_order.proofs.StandingLemmas.{StandsBefore-through, never_before_itself}
-use Rattle.lit_search.specs.Completion.{Completes, IsEntered}
+use Rattle.lit_valid.specs.Completion.{Completes, IsEntered}
 use Rattle.lit_search.specs.Foreseen.{IsOut}
 use Rattle.lit_search.specs.Internal.Foreseeing.{AreForeseen, AreOfPart, GoesOnWith, NoneGoesOnWith}
-use Rattle.lit_search.specs.Internal.Laws.{Laws}
-use Rattle.lit_search.proofs.CompletionLemmas.{carried, not_refuted, order_kept}
+use Rattle.lit_valid.specs.Laws.{Laws}
+use Rattle.lit_valid.proofs.CompletionLemmas.{carried, not_refuted, order_kept}
 use Rattle.lit_search.proofs.LeftOutLemmas.{pair_there}
 
 -- the orders of a relation and triples keep what these force

@@ -27,16 +27,16 @@ use Rattle.lit_order.specs.LeftOut.{LeavesOut, LeftOutSourcesAreNone}
 use Rattle.lit_order.specs.MemoryOrder.{IsMemoryOrder}
 use Rattle.lit_order.specs.Refuted.{IsForcedRound, IsRefuted}
 use Rattle.lit_search.specs.declared.cursor.Cursor.TheInside.{Inside}
-use Rattle.lit_search.specs.Completion.{Completes, IsEntered}
+use Rattle.lit_valid.specs.Completion.{Completes, IsEntered}
 use Rattle.lit_search.specs.Report.{in_range}
-use Rattle.lit_search.specs.Internal.Laws.{Laws}
+use Rattle.lit_valid.specs.Laws.{Laws}
 use Rattle.lit_search.specs.Internal.LeftOut.{AreLeftOut, HasGoneOn, HasNoSource, HasNoneLeft, IsLeftOut, IsSeqCstRead, WouldTear, candidate_at, with_place}
 use Rattle.lit_search.specs.Internal.Others.{AddsNothing}
 use Rattle.lit_search.specs.Internal.Passing.{NoneFrom}
 use Rattle.lit_search.specs.Internal.Places.{ArePlaces, Stand, behind_at, candidates_at, low_at, part_at, sources_at, stand_events}
 use Rattle.lit_search.specs.Internal.Standing.{IsStanding}
 use Rattle.lit_search.specs.Internal.Taking.{AreBarren}
-use Rattle.lit_search.proofs.CompletionLemmas.{carried, not_refuted}
+use Rattle.lit_valid.proofs.CompletionLemmas.{carried, not_refuted}
 use Rattle.lit_search.proofs.NextLemmas.{none_at_first, smaller_enter, smaller_leave}
 use Rattle.lit_search.proofs.NumberSets.{before_end, not_below, within}
 use Rattle.lit_search.proofs.PassingLemmas.{none_here}

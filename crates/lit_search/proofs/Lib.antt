@@ -9,11 +9,8 @@ pub mod ListingLemmas
 pub mod RefusedLemmas
 pub mod LeftOutLemmas
 pub mod HeldLemmas
-pub mod Takings
-pub mod RunLemmas
 pub mod ComingLemmas
 pub mod DecidingLemmas
-pub mod CompletionLemmas
 pub mod WantingLemmas
 pub mod PassingLemmas
 pub mod ExchangeLemmas
@@ -29,7 +26,6 @@ pub mod Reports
 pub mod KeptEntries
 pub mod RacingLemmas
 pub mod Keeping
-pub mod OneOutcome
 pub mod SeenLemmas
 pub mod NextAccess
 pub mod AccessLemmas

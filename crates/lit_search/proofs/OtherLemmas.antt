@@ -25,23 +25,23 @@ use Rattle.lit_rel.specs.TearFree.{HasTearFreeReads, ReadsWholeBy}
 use Rattle.lit_rel.proofs.OtherSourceLemmas.{alone_apart}
 use Rattle.lit_rel.proofs.RefusalLemmas.{whole_from_last}
 use Rattle.lit_rel.proofs.EdgeLemmas.{HappensBeforeBy-transitive}
-use Rattle.lit_search.specs.Completion.{Completes, IsEntered}
+use Rattle.lit_valid.specs.Completion.{Completes, IsEntered}
 use Rattle.lit_search.specs.Report.{in_range}
 use Rattle.lit_search.specs.StandsFor.{AreAsGood, HasOneWith}
-use Rattle.lit_search.specs.Internal.Laws.{Laws}
+use Rattle.lit_valid.specs.Laws.{Laws}
 use Rattle.lit_search.specs.Internal.Others.{AddsNothing, AreOfRead, StandsForOthers}
 use Rattle.lit_search.specs.Internal.Passing.{first_places}
 use Rattle.lit_search.specs.Internal.Places.{ArePlaces, Stand, behind_at, low_at, part_at, sources_at, stand_events, with_places}
 use Rattle.lit_search.specs.Internal.Shown.{NoneShow}
 use Rattle.lit_search.specs.Internal.Taking.{AreBarren}
-use Rattle.lit_search.proofs.CompletionLemmas.{carried}
+use Rattle.lit_valid.proofs.CompletionLemmas.{carried}
 use Rattle.lit_search.proofs.ExchangeLemmas.{others_stand}
 use Rattle.lit_search.proofs.NextLemmas.{none_at_first}
 use Rattle.lit_search.proofs.NumberSets.{before_end, not_below, within}
 use Rattle.lit_search.proofs.PassingLemmas.{at_numbers, completed}
 use Rattle.lit_search.proofs.PlaceLemmas.{length-sources, passed_within, placed_take}
 use Rattle.lit_search.proofs.RacingLemmas.{NoneRace, race_gives}
-use Rattle.lit_search.proofs.RunLemmas.{maps}
+use Rattle.lit_valid.proofs.RunLemmas.{maps}
 use Rattle.lit_search.proofs.StoodForLemmas.{sources_take}
 
 -- ---- places of joined lists

@@ -19,17 +19,17 @@ use Rattle.lit_rel.specs.Growth.{IsGivenWhole, ValuesStay}
 use Rattle.lit_rel.specs.Part.{PartModel, part_events, with_sources}
 use Rattle.lit_rel.specs.ReadsFrom.{value_of}
 use Rattle.lit_order.specs.MemoryOrder.{IsLeastMemoryOrder, IsMemoryOrder}
-use Rattle.lit_search.specs.Completion.{Completes, IsEntered}
-use Rattle.lit_search.specs.ValidExecution.{IsValidExecution}
+use Rattle.lit_valid.specs.Completion.{Completes, IsEntered}
+use Rattle.lit_valid.specs.ValidExecution.{IsValidExecution}
 use Rattle.lit_search.specs.Internal.Examined.{IsExample}
-use Rattle.lit_search.specs.Internal.Held.{part_outcome, read_held, value_held}
-use Rattle.lit_search.specs.Internal.Laws.{Laws}
+use Rattle.lit_valid.specs.PartOutcome.{part_outcome, read_held, value_held}
+use Rattle.lit_valid.specs.Laws.{Laws}
 use Rattle.lit_search.specs.Internal.Passing.{HasAll, MayPass, NoneFrom, NoneValid, first_places}
 use Rattle.lit_search.specs.Internal.Places.{ArePlaces, Stand, behind_at, candidates_at, low_at, part_at, sources_at, stand_events, with_places}
 use Rattle.lit_search.specs.Internal.Wanting.{AllKnownAfter, GoesBy}
-use Rattle.lit_search.proofs.CompletionLemmas.{example, example_completes, example_paths, its_events, its_outcome, order_kept}
+use Rattle.lit_valid.proofs.CompletionLemmas.{example, example_completes, example_paths, its_events, its_outcome, order_kept}
 use Rattle.lit_search.proofs.PlaceLemmas.{length-sources, numbered, passed_within, placed_take, ways_end, within}
-use Rattle.lit_search.proofs.RunLemmas.{maps}
+use Rattle.lit_valid.proofs.RunLemmas.{maps}
 
 -- the registers of an outcome are registers of agents
 abbrev pub AreNamed : Litmus → Type 0

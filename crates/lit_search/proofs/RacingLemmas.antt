@@ -13,14 +13,15 @@ use Rattle.lit_paths.specs.Numbers.{ways_from}
 use Rattle.lit_rel.specs.DataRace.{HasDataRace, MayRace}
 use Rattle.lit_rel.specs.Part.{PartModel, part_events}
 use Rattle.lit_rel.proofs.RaceLemmas.{MayRace-iff}
-use Rattle.lit_search.specs.Completion.{Completes, IsEntered}
-use Rattle.lit_search.specs.Report.{Entry, Gives, GivesRace, HasRaceIn, in_either, in_range}
-use Rattle.lit_search.specs.Internal.Laws.{Laws}
+use Rattle.lit_valid.specs.Completion.{Completes, IsEntered}
+use Rattle.lit_valid.specs.Gives.{Gives, GivesRace}
+use Rattle.lit_search.specs.Report.{Entry, HasRaceIn, in_either, in_range}
+use Rattle.lit_valid.specs.Laws.{Laws}
 use Rattle.lit_search.specs.Internal.Passing.{HasAll, MayPass, first_places}
 use Rattle.lit_search.specs.Internal.Places.{ArePlaces, Stand, behind_at, low_at, part_at, stand_events}
 use Rattle.lit_search.specs.Internal.Shown.{IsNext}
 use Rattle.lit_search.specs.Internal.Taking.{AreBarren, MarksRaces}
-use Rattle.lit_search.proofs.CompletionLemmas.{carried, its_events}
+use Rattle.lit_valid.proofs.CompletionLemmas.{carried, its_events}
 use Rattle.lit_search.proofs.NumberSets.{before_end, not_below, same_range, within}
 use Rattle.lit_search.proofs.PassingLemmas.{completed, no_rest, whole_stand}
 use Rattle.lit_search.proofs.PlaceLemmas.{length-sources, ways_end}

@@ -13,7 +13,8 @@ use Rattle.lit_read.specs.Syntax.{Litmus}
 use Rattle.lit_paths.specs.Choice.{choices_of}
 use Rattle.lit_paths.specs.Execution.{execution_choice, execution_events}
 use Rattle.lit_order.specs.MemoryOrder.{IsLeastMemoryOrder}
-use Rattle.lit_search.specs.Report.{AreEntries, Entry, Gives, GivesRace, HasLeastOrder, HasRaceIn, IsEntry, IsReport, Report, example_cmp, in_either, in_none, in_range}
+use Rattle.lit_valid.specs.Gives.{Gives, GivesRace, HasLeastOrder}
+use Rattle.lit_search.specs.Report.{AreEntries, Entry, HasRaceIn, IsEntry, IsReport, Report, example_cmp, in_either, in_none, in_range}
 use Rattle.lit_search.specs.Merge.{AreMerged, HasInEither, IsMerge}
 use Rattle.lit_search.specs.Internal.Examined.{IsExample}
 use Rattle.lit_search.specs.Internal.Outcomes.{HasOutcome}

@@ -23,15 +23,15 @@ use Rattle.lit_rel.specs.ReadsFrom.{value_of}
 use Rattle.lit_search.specs.InTurn.{makers_of}
 use Rattle.lit_search.specs.Interleaving.{Progress, beginning, ending, interleaved, progress_of}
 use Rattle.lit_search.specs.Sequential.{IsSequential}
-use Rattle.lit_search.specs.ValidExecution.{HasValidChosenReads, read_numbers_from}
+use Rattle.lit_valid.specs.ValidExecution.{HasValidChosenReads, read_numbers_from}
 use Rattle.lit_search.proofs.ActLemmas.{after_event, found_at, found_in_turn, is_owned_by, same_agent}
 use Rattle.lit_search.proofs.BlockLemmas.{block_after, value_found}
 use Rattle.lit_search.proofs.FutureLemmas.{Future, ending_agents, no_progress, own_events, past_all}
 use Rattle.lit_search.proofs.MomentLemmas.{at_first}
 use Rattle.lit_search.proofs.NumberedActs.{IsOwn, kept_at, number_in_lists, own_at, owner_is, start_in, timeline}
 use Rattle.lit_search.proofs.OwnAccesses.{AreAccessesOf, accesses_of}
-use Rattle.lit_search.proofs.RunLemmas.{maps, no_run}
-use Rattle.lit_search.proofs.Takings.{read_numbers-accesses, taken_each, taken_together}
+use Rattle.lit_valid.proofs.RunLemmas.{maps, no_run}
+use Rattle.lit_valid.proofs.Takings.{read_numbers-accesses, taken_each, taken_together}
 use Rattle.lit_search.proofs.TimeLemmas.{IsTimeline, order_in_turn, owners_in_turn}
 use Rattle.lit_search.proofs.WriterLemmas.{are_sources, sequential, sources_in_turn}
 

@@ -12,9 +12,9 @@ use Rattle.lit_order.specs.MemoryOrder.{IsMemoryOrder}
 use Rattle.lit_search.specs.InTurn.{HasExecution, IsReported}
 use Rattle.lit_search.specs.Interleaving.{interleaved}
 use Rattle.lit_search.specs.Report.{IsReport, Report, in_range}
-use Rattle.lit_search.specs.Internal.Laws.{Laws}
+use Rattle.lit_valid.specs.Laws.{Laws}
 use Rattle.lit_search.specs.Sequential.{IsSequential}
-use Rattle.lit_search.specs.ValidExecution.{HasValidChosenReads, IsValidExecution}
+use Rattle.lit_valid.specs.ValidExecution.{HasValidChosenReads, IsValidExecution}
 use Rattle.lit_search.proofs.FutureLemmas.{interleaving_future}
 use Rattle.lit_search.proofs.RunsInTurn.{candidate, chosen_reads, events, execution, in_turn, its_outcome, one_order, order}
 

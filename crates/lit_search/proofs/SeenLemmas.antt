@@ -7,7 +7,8 @@ use Rattle.std.specs.declared.cmp.Ordering.TheVariants.{Less, Equal, Greater}
 use Rattle.std.proofs.lemmas.Bool.{cases_eq, cases_lt}
 use Rattle.std.proofs.lemmas.Map.Lookups.{exact_bytes}
 use Rattle.lit_read.specs.Syntax.{Litmus}
-use Rattle.lit_search.specs.Report.{Entry, Gives, example_cmp, in_range, outcome_cmp}
+use Rattle.lit_valid.specs.Gives.{Gives}
+use Rattle.lit_search.specs.Report.{Entry, example_cmp, in_range, outcome_cmp}
 use Rattle.lit_search.specs.Internal.Merged.{lesser, merged, merged_from}
 use Rattle.lit_search.specs.Internal.Outcomes.{HasOutcome}
 use Rattle.lit_search.specs.Internal.Shown.{IsNext, NoneShow, ShowsNone}

@@ -16,7 +16,7 @@ use Rattle.lit_rel.specs.ReadsFrom.{ReadsByteFrom}
 use Rattle.lit_rel.specs.TearFree.{HasTearFreeReads}
 use Rattle.lit_order.specs.MemoryOrder.{IsListOfAll, IsMemoryOrder, StandsBefore}
 use Rattle.lit_search.specs.Sequential.{IsSequential}
-use Rattle.lit_search.specs.ValidExecution.{HasValidChosenReads, IsValidExecution}
+use Rattle.lit_valid.specs.ValidExecution.{HasValidChosenReads, IsValidExecution}
 
 -- ---- places in a list of all events
 module _ (n : ℕ) (order : List ℕ) (whole : IsListOfAll n order) where

@@ -14,7 +14,7 @@ use Rattle.lit_paths.specs.Plan.{AreEventsIn, ListsCandidates, choices_before, e
 use Rattle.lit_rel.specs.Growth.{ValuesStay}
 use Rattle.lit_rel.specs.Part.{IsNextSource, PartModel, part_events, with_sources}
 use Rattle.lit_search.specs.declared.cursor.Cursor.TheInside.{Inside}
-use Rattle.lit_search.specs.Completion.{IsEntered}
+use Rattle.lit_valid.specs.Completion.{IsEntered}
 use Rattle.lit_search.specs.Internal.Places.{ArePlaces, Stand, behind_at, candidates_at, low_at, part_at, passed_at, sources_at, stand_events, with_places}
 use Rattle.lit_search.specs.Internal.Held.{HasWholeValues, reads_held, without_last}
 use Rattle.lit_search.specs.Internal.RefusedSources.{AreRefused}

@@ -30,10 +30,11 @@ use Rattle.lit_rel.specs.HappensBefore.{HappensBefore}
 use Rattle.lit_rel.specs.Part.{AreFirstSources, PartModel, part_events}
 use Rattle.lit_rel.specs.Rows.{Holds, rows_len}
 use Rattle.lit_rel.specs.Settled.{HasSettledPast}
-use Rattle.lit_search.specs.Completion.{Completes, IsEntered}
-use Rattle.lit_search.specs.Report.{Gives, in_range}
+use Rattle.lit_valid.specs.Completion.{Completes, IsEntered}
+use Rattle.lit_valid.specs.Gives.{Gives}
+use Rattle.lit_search.specs.Report.{in_range}
 use Rattle.lit_search.specs.StandsFor.{HasStandIn, IsUsed, MakesNoDifference}
-use Rattle.lit_search.specs.Internal.Laws.{Laws}
+use Rattle.lit_valid.specs.Laws.{Laws}
 use Rattle.lit_search.specs.Internal.Passing.{MayPass, NoneFrom, first_places}
 use Rattle.lit_search.specs.Internal.Places.{ArePlaces, Stand, behind_at, candidates_at, low_at, part_at, sources_at, stand_events}
 use Rattle.lit_search.specs.Internal.Shown.{NoneShow, ShowsNone}
@@ -43,7 +44,7 @@ use Rattle.lit_search.proofs.ExchangeLemmas.{past_stays, same_list, same_lists, 
 use Rattle.lit_search.proofs.PassingLemmas.{at_numbers, completed, whole_stand}
 use Rattle.lit_search.proofs.PlaceLemmas.{length-sources, placed_take}
 use Rattle.lit_search.proofs.NumberSets.{within}
-use Rattle.lit_search.proofs.RunLemmas.{maps}
+use Rattle.lit_valid.proofs.RunLemmas.{maps}
 
 -- ---- the order of choices
 flip_lists : (xs ys : List (List ℕ)) → slice_cmp (slice_cmp nat_cmp) xs ys ≡ ordering_reverse (slice_cmp (slice_cmp nat_cmp) ys xs)

@@ -14,7 +14,7 @@ use Rattle.lit_paths.proofs.Rising.{slice_get-map-found, slice_get-map-known}
 use Rattle.lit_rel.specs.AgentOrder.{IsAgentOrdered}
 use Rattle.lit_rel.specs.HappensBefore.{IsMadeBefore}
 use Rattle.lit_order.specs.MemoryOrder.{IsListOfAll, StandsBefore}
-use Rattle.lit_search.proofs.RunLemmas.{maps}
+use Rattle.lit_valid.proofs.RunLemmas.{maps}
 
 -- an access that stands at a place, with its number
 pub record IsAct (bytes : ℕ) (events : List Event) (number : ℕ) (e : Event) : Type 0 where

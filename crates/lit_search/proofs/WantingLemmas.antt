@@ -5,9 +5,9 @@ use Rattle.std.proofs.lemmas.Bool.Decides.{nat_tests}
 use Rattle.std.proofs.lemmas.Bool.{or_left, or_right}
 use Rattle.lit_read.specs.Syntax.{All, Also, Any, Condition, Conditions, Is, Litmus, NoMore, Not}
 use Rattle.lit_paths.specs.Outcome.{all_hold, any_holds, asks, holds, meets, names_of, some_asks, value_in}
-use Rattle.lit_search.specs.declared.class.Class.{Class}
-use Rattle.lit_search.specs.declared.class.Class.TheVariants.{Met, Unmet}
-use Rattle.lit_search.specs.Class.{is_of_class}
+use Rattle.lit_valid.specs.declared.class.Class.{Class}
+use Rattle.lit_valid.specs.declared.class.Class.TheVariants.{Met, Unmet}
+use Rattle.lit_valid.specs.Class.{is_of_class}
 use Rattle.lit_search.specs.Internal.Wanting.{GoesBy}
 
 -- maps that agree on a list

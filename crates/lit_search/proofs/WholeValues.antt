@@ -13,7 +13,8 @@ use Rattle.lit_paths.proofs.Rising.{slice_get-map-found}
 use Rattle.lit_rel.specs.Growth.{IsGivenWhole, ValuesStay}
 use Rattle.lit_rel.specs.Part.{IsComplete, PartModel, part_events, with_sources}
 use Rattle.lit_rel.specs.ReadsFrom.{composed, value_of}
-use Rattle.lit_search.specs.Internal.Held.{HasWholeValues, part_outcome, read_held, reads_held, value_held, without_last}
+use Rattle.lit_valid.specs.PartOutcome.{part_outcome, read_held, value_held}
+use Rattle.lit_search.specs.Internal.Held.{HasWholeValues, reads_held, without_last}
 use Rattle.lit_search.proofs.PassingLemmas.{held_stays}
 
 -- ---- no source

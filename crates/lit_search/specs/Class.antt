@@ -1,21 +1,8 @@
--- The classes of outcomes, and the first choice of a class (this project's own).
-use Rattle.std.specs.Prelude.{ℕ, ◌<◌, Bool, IsTrue, not, List}
+-- The first choice of a class of outcomes (this project's own).
+use Rattle.std.specs.Prelude.{ℕ, ◌<◌, Bool, IsTrue}
 use Rattle.lit_read.specs.Syntax.{Litmus}
-use Rattle.lit_paths.specs.Outcome.{meets}
-use Rattle.lit_search.specs.declared.class.Class.{Class}
-use Rattle.lit_search.specs.declared.class.Class.TheVariants.{Met, Unmet}
-use Rattle.lit_search.specs.Report.{Gives}
-
--- whether an outcome is in a class
-abbrev pub is_of_class : Litmus → Class → List ℕ → Bool
-is_of_class t Met outcome = meets t outcome
-is_of_class t Unmet outcome = not (meets t outcome)
-
--- Some valid execution with an outcome in the class has the choice with this number.
-pub record GivesClass (t : Litmus) (class : Class) (n : ℕ) : Type 0 where
-  pub outcome : List ℕ
-  pub gives : Gives t n outcome
-  pub of_class : IsTrue (is_of_class t class outcome)
+use Rattle.lit_valid.specs.declared.class.Class.{Class}
+use Rattle.lit_valid.specs.Class.{GivesClass}
 
 -- none of these numbers is such a choice's
 abbrev pub HasNoneOf : Litmus → Class → (ℕ → Bool) → Type 0

@@ -9,7 +9,7 @@ use Rattle.lit_rel.specs.Part.{PartModel, part_events}
 use Rattle.lit_rel.specs.SynchronizesWith.{CanSynchronize}
 use Rattle.lit_rel.specs.TestedBytes.{TestsRefuse}
 use Rattle.lit_order.specs.MemoryOrder.{IsMemoryOrder, IsOrderOf}
-use Rattle.lit_search.specs.Completion.{Completes}
+use Rattle.lit_valid.specs.Completion.{Completes}
 
 -- each memory-order of each valid execution that goes on from the part keeps these pairs, and has no v of these triples
 -- (w, r, v) between w and r

@@ -10,7 +10,7 @@ use Rattle.lit_order.specs.MemoryOrder.{IsMemoryOrder}
 use Rattle.lit_search.specs.Interleaving.{Contents, Moment, after_each, after_end, after_statement, after_turn, beginning, found_by, from_access, interleaved, progress_of}
 use Rattle.lit_search.specs.Report.{Entry, Report}
 use Rattle.lit_search.specs.Sequential.{IsSequential}
-use Rattle.lit_search.specs.ValidExecution.{IsValidExecution}
+use Rattle.lit_valid.specs.ValidExecution.{IsValidExecution}
 
 -- how many accesses a statement makes, or statements make, that are carried out to the end
 abbrev mutual

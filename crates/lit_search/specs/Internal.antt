@@ -1,5 +1,4 @@
 -- Notions of the contracts inside this crate: what is found out of one choice, and of several.
-pub mod GivenRuns
 pub mod Examined
 pub mod Outcomes
 pub mod Merged
@@ -15,7 +14,6 @@ pub mod RefusedSources
 pub mod LeftOut
 pub mod Standing
 pub mod Collecting
-pub mod Laws
 pub mod Wanting
 pub mod Passing
 pub mod StoodFor

@@ -1,5 +1,3 @@
-pub mod ValidExecution
-pub mod Completion
 pub mod Foreseen
 pub mod StandsFor
 pub mod Report

@@ -6,11 +6,7 @@ use Rattle.std.specs.Ordering.{nat_cmp, ordering_then}
 use Rattle.std.specs.declared.cmp.Ordering.{Ordering}
 use Rattle.std.specs.List.Sorted.{IsStrictlySortedBy}
 use Rattle.lit_read.specs.Syntax.{Litmus}
-use Rattle.lit_paths.specs.Choice.{choices_of}
-use Rattle.lit_rel.specs.DataRace.{HasDataRace}
-use Rattle.lit_order.specs.MemoryOrder.{IsLeastMemoryOrder}
-use Rattle.lit_paths.specs.Execution.{Execution, execution_events, execution_choice, execution_outcome}
-use Rattle.lit_search.specs.ValidExecution.{IsValidExecution}
+use Rattle.lit_valid.specs.Gives.{Gives, GivesRace, HasLeastOrder}
 
 -- an outcome with its example: the number of a choice, and a memory-order of it
 pub record Entry : Type 0 where
@@ -53,25 +49,6 @@ abbrev pub in_either : (ℕ → Bool) → (ℕ → Bool) → ℕ → Bool
 in_either some others n = some n || others n
 
 -- ---- reports
--- Some valid execution has the choice with this number, and this outcome.
-pub record Gives (t : Litmus) (n : ℕ) (outcome : List ℕ) : Type 0 where
-  pub execution : Execution
-  pub valid : IsValidExecution t execution
-  pub chosen : slice_get (choices_of t) n ≡ Some (execution_choice execution)
-  pub result : execution_outcome t execution ≡ outcome
-
--- The order is the least memory-order of every valid execution with this choice.
-abbrev pub HasLeastOrder : Litmus → ℕ → List ℕ → Type 0
-HasLeastOrder t n order =
-    (x : Execution) → IsValidExecution t x → slice_get (choices_of t) n ≡ Some (execution_choice x) → IsLeastMemoryOrder (execution_events t x) x.sources order
-
--- Some valid execution with a data race has the choice with this number.
-pub record GivesRace (t : Litmus) (n : ℕ) : Type 0 where
-  pub execution : Execution
-  pub valid : IsValidExecution t execution
-  pub chosen : slice_get (choices_of t) n ≡ Some (execution_choice execution)
-  pub races : HasDataRace (execution_events t execution) execution.sources
-
 -- one of these numbers is such a choice's
 abbrev pub HasRaceIn : Litmus → (ℕ → Bool) → Type 0
 HasRaceIn t numbers = (n : ℕ) × IsTrue (numbers n) × GivesRace t n

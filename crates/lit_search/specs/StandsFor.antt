@@ -20,7 +20,7 @@ use Rattle.lit_rel.specs.InitReads.{with_source}
 use Rattle.lit_rel.specs.OtherSources.{CanTakeOthers}
 use Rattle.lit_rel.specs.ReadsFrom.{value_of}
 use Rattle.lit_order.specs.MemoryOrder.{IsMemoryOrder}
-use Rattle.lit_search.specs.ValidExecution.{IsValidExecution}
+use Rattle.lit_valid.specs.ValidExecution.{IsValidExecution}
 
 -- ---- what is asked of a read's value
 -- a register of the outcome holds the value of read r at the end of a combination's paths

@@ -1,4 +1,4 @@
-//! The classes of outcomes.
+//! Searches for outcomes of a class.
 
 pub(crate) mod deciding;
 
@@ -7,19 +7,11 @@ ghost use Rattle.std.specs.Prelude.{IsTrue};
 use crate::class::deciding::is_decided;
 use crate::cursor::wanted::Wanted;
 use lit_paths::Plan;
-
-/// A class of outcomes, by the test's condition.
-#[derive(Clone, Copy, Debug, PartialEq, Eq)]
-pub enum Class {
-    /// The outcome meets the condition.
-    Met,
-    /// It does not.
-    Unmet,
-}
+use lit_valid::Class;
 
 impl Wanted for Class {
     ghost use Rattle.lit_paths.specs.Outcome.{asks as is_asked};
-    ghost use Rattle.lit_search.specs.Class.{is_of_class};
+    ghost use Rattle.lit_valid.specs.Class.{is_of_class};
 
     ghost IsWanted = { λ class t outcome. IsTrue (is_of_class t class outcome) };
 

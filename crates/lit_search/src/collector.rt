@@ -20,9 +20,9 @@ use crate::cursor::held::known_after;
 use crate::cursor::racing::has_race_in;
 use crate::fault::SearchFault;
 use crate::found::Found;
-use crate::laws::completions::laws;
 use lit_paths::Plan;
 use lit_rel::Part;
+use lit_valid::laws::laws_below;
 use std::alloc::{AllocError, Global};
 use std::boxed::Box;
 use std::marker::Model;
@@ -63,7 +63,7 @@ fn keep_on(
     ensures of { OnOk result (coming.new.combination ≡ coming.old.combination) }
     ensures coming { OnOk result (IsToCome plan.now cursor.old.combination (λ outcome. ¬ HasOutcome kept.new outcome) coming.new) }
 {
-    laws();
+    laws_below();
     let known = known_after(plan, cursor.part(), kept);
     let mut next = from;
     while let Some(example) = cursor.next(plan, kept, known, &*coming, since, &mut next, to) {

@@ -1,19 +1,21 @@
 //! What holds of reports, of parts and their completions, and of schedules. The functions do nothing: their contracts are
 //! theorems.
 
-pub(crate) mod completions;
+mod completions;
 mod schedules;
 mod sequential;
 
 ghost use Rattle.std.specs.Prelude.{◌≡◌, ℕ, ◌<◌, Bool, List, length};
-ghost use Rattle.lit_read.specs.Syntax.{Litmus, IsLitmus};
+ghost use Rattle.lit_read.specs.Syntax.{Litmus};
 ghost use Rattle.lit_paths.specs.Choice.{choices_of};
-ghost use Rattle.lit_search.specs.Report.{Report, Gives, IsReport};
+ghost use Rattle.lit_search.specs.Report.{Report, IsReport};
 
-use crate::laws::completions::laws;
 pub use completions::{
-    broken_parts_have_no_completion, executions_take_what_can_stand, init_stands_for_sources,
-    orders_of_completions_keep_parts, others_stand_for_sources, settled_pasts_are_final,
+    executions_take_what_can_stand, init_stands_for_sources, others_stand_for_sources,
+    settled_pasts_are_final,
+};
+pub use lit_valid::laws::{
+    broken_parts_have_no_completion, choices_have_one_outcome, orders_of_completions_keep_parts,
     whole_parts_are_decided_by_orders,
 };
 pub use schedules::{interleavings_are_reported, interleavings_are_valid, reports_have_an_entry};
@@ -29,10 +31,3 @@ pub fn reports_go_by_choices()
     ensures { (t : Litmus) (some others : ℕ → Bool) (report : Report)
         → ((n : ℕ) → n < length (choices_of t) → some n ≡ others n) → IsReport t some report → IsReport t others report }
 {}
-
-/// A choice of a test that a text can say has one outcome at most.
-pub fn choices_have_one_outcome()
-    ensures { (t : Litmus) (n : ℕ) (some other : List ℕ) → IsLitmus t → Gives t n some → Gives t n other → some ≡ other }
-{
-    laws();
-}

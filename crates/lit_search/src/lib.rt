@@ -14,10 +14,10 @@ mod interleaving;
 pub mod laws;
 mod searching;
 
-pub use class::Class;
 pub use collector::Collector;
 pub use fault::SearchFault;
 pub use found::merging::merge;
 pub use found::{Example, Found, Outcome};
 pub use interleaving::interleave;
+pub use lit_valid::Class;
 pub use searching::{first_in, search_range};

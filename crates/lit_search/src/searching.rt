@@ -5,7 +5,6 @@ ghost use Rattle.lit_paths.specs.Choice.{choices_of};
 ghost use Rattle.lit_search.specs.Class.{HasNoneOf, IsFirstOf};
 ghost use Rattle.lit_search.specs.Report.{IsReport, in_range};
 
-use crate::class::Class;
 use crate::collector::Collector;
 use crate::cursor::Cursor;
 use crate::cursor::coming::{CHOICES_FOR_ITEM, Coming};
@@ -13,6 +12,7 @@ use crate::cursor::held::known_after;
 use crate::fault::SearchFault;
 use crate::found::Found;
 use lit_paths::Plan;
+use lit_valid::Class;
 use std::alloc::Global;
 
 /// The report of the choices with numbers from `from` up to and without `to`: `from` is at most `to`, and `to` at most

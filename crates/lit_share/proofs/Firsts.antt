@@ -9,9 +9,11 @@ use Rattle.lit_desk.specs.Desk.{DeskName, PlaceLists, IsDone, IsLeastOf, draws_o
 use Rattle.lit_read.specs.Syntax.{Litmus}
 use Rattle.lit_paths.specs.Choice.{choices_of}
 use Rattle.lit_paths.specs.Execution.{execution_choice}
-use Rattle.lit_search.specs.declared.class.Class.{Class}
-use Rattle.lit_search.specs.Class.{GivesClass, HasNoneOf, IsFirstOf}
-use Rattle.lit_search.specs.Report.{Entry, Report, Gives, HasLeastOrder, IsReport, entry_at, in_range}
+use Rattle.lit_valid.specs.declared.class.Class.{Class}
+use Rattle.lit_valid.specs.Class.{GivesClass}
+use Rattle.lit_search.specs.Class.{HasNoneOf, IsFirstOf}
+use Rattle.lit_valid.specs.Gives.{Gives, HasLeastOrder}
+use Rattle.lit_search.specs.Report.{Entry, Report, IsReport, entry_at, in_range}
 use Rattle.lit_search.proofs.NumberSets.{before_end, not_below, within}
 use Rattle.lit_share.specs.Pieces.{pieces_of, in_piece, piece_start, piece_end}
 use Rattle.lit_share.specs.Hunted.{desk_class, IsHunted}

@@ -8,9 +8,9 @@ use Rattle.lit_desk.specs.declared.class.Class2.{Class2}
 use Rattle.lit_desk.specs.declared.class.Class2.TheVariants.{Met, Unmet}
 use Rattle.lit_desk.specs.Desk.{DeskName, PlaceLists, IsPlaceOf, IsDone, new_place, told_by, seen_by, with_ticket, with_told, with_seen}
 use Rattle.lit_read.specs.Syntax.{Litmus}
-use Rattle.lit_search.specs.declared.class.Class.{Class}
-use Rattle.lit_search.specs.declared.class.Class.TheVariants as of_test
-use Rattle.lit_search.specs.Class.{GivesClass}
+use Rattle.lit_valid.specs.declared.class.Class.{Class}
+use Rattle.lit_valid.specs.declared.class.Class.TheVariants as of_test
+use Rattle.lit_valid.specs.Class.{GivesClass}
 use Rattle.lit_share.specs.Drawn.{since, drawn_since}
 use Rattle.lit_share.specs.Hunted.{desk_class, IsHunted, HasTold}
 use Rattle.lit_share.specs.Internal.Workers.{IsHuntedOut}

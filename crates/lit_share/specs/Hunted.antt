@@ -5,9 +5,10 @@ use Rattle.lit_desk.specs.declared.class.Class2.TheVariants as of_desk
 use Rattle.lit_desk.specs.Desk.{PlaceLists, told_by, seen_by}
 use Rattle.lit_read.specs.Syntax.{Litmus}
 use Rattle.lit_paths.specs.Choice.{choices_of}
-use Rattle.lit_search.specs.declared.class.Class.{Class}
-use Rattle.lit_search.specs.declared.class.Class.TheVariants.{Met, Unmet}
-use Rattle.lit_search.specs.Class.{GivesClass, HasNoneOf, IsFirstOf}
+use Rattle.lit_valid.specs.declared.class.Class.{Class}
+use Rattle.lit_valid.specs.declared.class.Class.TheVariants.{Met, Unmet}
+use Rattle.lit_valid.specs.Class.{GivesClass}
+use Rattle.lit_search.specs.Class.{HasNoneOf, IsFirstOf}
 use Rattle.lit_share.specs.Pieces.{in_piece, piece_start}
 use Rattle.lit_share.specs.Drawn.{since}
 

@@ -2,10 +2,11 @@
 use Rattle.std.specs.Prelude.{length, Option, Some, None}
 use Rattle.lit_read.specs.Syntax.{Litmus}
 use Rattle.lit_paths.specs.Choice.{choices_of}
-use Rattle.lit_search.specs.declared.class.Class.{Class}
+use Rattle.lit_valid.specs.declared.class.Class.{Class}
 use Rattle.lit_search.specs.declared.found.Example.{Example}
 use Rattle.lit_search.specs.Class.{HasNoneOf, IsFirstOf}
-use Rattle.lit_search.specs.Report.{HasLeastOrder, in_range}
+use Rattle.lit_valid.specs.Gives.{HasLeastOrder}
+use Rattle.lit_search.specs.Report.{in_range}
 
 -- Of all choices the first with a valid execution whose outcome is in the class, with its least memory-order; or none has one.
 abbrev pub IsQuickAnswer : Litmus → Class → Option Example → Type 0

@@ -2,7 +2,7 @@
 use Rattle.std.specs.Prelude.{Bool, Option, IfSome, List, ℕ}
 use Rattle.std.specs.Io.KnownBytes.{Appends}
 use Rattle.lit_read.specs.Syntax.{Litmus}
-use Rattle.lit_search.specs.declared.class.Class.{Class}
+use Rattle.lit_valid.specs.declared.class.Class.{Class}
 use Rattle.lit_search.specs.Report.{Report}
 use Rattle.jslit.specs.declared.fault.RunFault.{RunFault}
 use Rattle.jslit.specs.declared.fault.RunFault.TheVariants as faults

@@ -2,7 +2,8 @@
 use Rattle.std.specs.Prelude.{◌<◌, Option, Some, None, length}
 use Rattle.lit_read.specs.Syntax.{Litmus}
 use Rattle.lit_paths.specs.Choice.{choices_of}
-use Rattle.lit_search.specs.Report.{Entry, Report, Gives, HasLeastOrder, entry_at}
+use Rattle.lit_valid.specs.Gives.{Gives, HasLeastOrder}
+use Rattle.lit_search.specs.Report.{Entry, Report, entry_at}
 
 -- it has a first entry, of a valid execution
 pub record IsOnlyEntry (t : Litmus) (report : Report) : Type 0 where

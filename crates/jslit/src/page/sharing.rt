@@ -4,7 +4,7 @@ ghost use Rattle.std.specs.Prelude.{◌≡◌, ◌+◌, ◌<◌, ◌≤◌, All,
 ghost use Rattle.lit_paths.specs.Choice.{choices_of};
 ghost use Rattle.lit_paths.specs.Outcome.{names_of};
 ghost use Rattle.lit_paths.specs.Plan.{choices_before, events_in};
-ghost use Rattle.lit_search.specs.Report.{Gives, HasLeastOrder};
+ghost use Rattle.lit_valid.specs.Gives.{Gives, HasLeastOrder};
 ghost use Rattle.jslit.specs.ReportText.{line, registers_text, entry_text};
 ghost use Rattle.jslit.specs.Internal.Names.{AreNames};
 ghost use Rattle.jslit.specs.Internal.Sharing.{HoldsOutcome, HoldsOrder, IsShared, first_head, first_value, outcome_head, outcome_text, order_line};

@@ -4,7 +4,7 @@ use Rattle.lit_paths.specs.Choice.{combinations_of}
 use Rattle.lit_rel.specs.declared.rows.Rows.{Rows}
 use Rattle.lit_rel.specs.Part.{PartModel, part_events}
 use Rattle.lit_rel.specs.Rows.{Holds}
-use Rattle.lit_rel.specs.Internal.Peers.{ArePeers}
+use Rattle.lit_rel.specs.Peers.{ArePeers}
 use Rattle.lit_rel.specs.Internal.Refused.{AreRefusals}
 
 -- the combination is one of the test's, whether a test is false with each number of sources, the sequentially consistent writes with

@@ -1,13 +1,13 @@
 //! Which events may not stand between a source and its read in the order of memory (ECMA-262, 2024, 29.7.4).
 
 ghost use Rattle.std.specs.Prelude.{◌≡◌, ◌⊎◌, ◌↔◌, ℕ, ◌+◌, ◌<◌, ◌≤◌, IsTrue, length};
-ghost use Rattle.lit_paths.specs.declared.limits.TheConstants.{BYTE_READ_LIMIT};
+ghost use Rattle.lit_paths.specs.declared.limits.TheConstants.{BYTE_READ_LIMIT, EVENT_LIMIT};
 ghost use Rattle.lit_rel.specs.Between.{Forbids};
 ghost use Rattle.lit_rel.specs.EventSet.{HasEvent};
 ghost use Rattle.lit_rel.specs.Forbidden.{IsAfterSource, IsBeforeRead, IsBetweenSynchronized, IsForbiddenBetween, IsForbiddenTriple};
 ghost use Rattle.lit_rel.specs.Internal.Forbidding.{IsForbidding, RepeatsPair};
 ghost use Rattle.lit_rel.specs.Internal.Given.{IsKnown, sources_of};
-ghost use Rattle.lit_rel.specs.Internal.Peers.{ArePeers, IsSeqCstWrite};
+ghost use Rattle.lit_rel.specs.Peers.{ArePeers, IsSeqCstWrite};
 ghost use Rattle.lit_rel.specs.ReadsFrom.{ReadsByteFrom};
 ghost use Rattle.lit_rel.specs.Rows.{Holds, rows_len};
 
@@ -17,7 +17,7 @@ use crate::given::relations::can_synchronize;
 use crate::given::{Given, SourcedByte};
 use crate::rows::Rows;
 use crate::rows::two_way_rows::TwoWayRows;
-use lit_paths::event_at;
+use lit_paths::{Event, event_at};
 
 impl Given<'_> {
     /// Makes what is there what may not stand between each source and its read, by a relation that orders the events.
@@ -148,4 +148,31 @@ impl Given<'_> {
             EventSet::new()
         }
     }
+}
+
+/// What may not stand between a source and a read in the order of memory (29.7.4), if the read has that source, by a
+/// relation that orders the events, and the sequentially consistent writes that have the range of each. Source and read
+/// are event numbers.
+pub fn others_between(
+    events: &[Event],
+    source: u8,
+    read: u8,
+    before: &TwoWayRows,
+    peers: &Rows,
+) -> EventSet
+    requires few { length events.now ≤ EVENT_LIMIT }
+    requires rows { rows_len before.now.rows ≡ length events.now }
+    requires peers { ArePeers events.now peers.now }
+    requires source { source < length events.now }
+    requires read { read < length events.now }
+    ensures { (v : ℕ) → HasEvent result v
+        ↔ ((v < length events.now) × IsForbiddenBetween events.now (Holds before.now.rows) source read v) }
+{
+    let given = Given { events, bytes: &[] };
+    let byte = SourcedByte {
+        read,
+        byte: 0,
+        source,
+    };
+    given.forbidden(byte, before, peers)
 }

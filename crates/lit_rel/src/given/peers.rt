@@ -2,7 +2,7 @@
 
 ghost use Rattle.std.specs.Prelude.{◌≡◌, ◌⊎◌, ◌↔◌, ℕ, ◌<◌, ◌≤◌, IsTrue, length};
 ghost use Rattle.lit_paths.specs.declared.limits.TheConstants.{EVENT_LIMIT};
-ghost use Rattle.lit_rel.specs.Internal.Peers.{ArePeers, IsPeer, IsSeqCstWrite};
+ghost use Rattle.lit_rel.specs.Peers.{ArePeers, IsPeer, IsSeqCstWrite};
 ghost use Rattle.lit_rel.specs.Rows.{Holds, rows_len};
 
 use crate::rows::Rows;
@@ -42,4 +42,14 @@ pub(crate) fn put_peers(peers: &mut Rows, events: &[Event])
             put_peer(peers, events, write);
         }
     }
+}
+
+/// The sequentially consistent writes that have the range of each event.
+pub fn peers_of(events: &[Event]) -> Rows
+    requires { length events.now ≤ EVENT_LIMIT }
+    ensures { ArePeers events.now result }
+{
+    let mut peers = Rows::new(0);
+    put_peers(&mut peers, events);
+    peers
 }

@@ -14,7 +14,7 @@ use crate::rows::two_way_rows::TwoWayRows;
 use lit_paths::{Event, event_at};
 
 /// Whether neither a read nor its source may tear, and their ranges are equal.
-fn can_read_whole(read: &Event, source: &Event) -> bool
+pub fn can_read_whole(read: &Event, source: &Event) -> bool
     ensures { IsTrue result ↔ CanReadWhole read.now source.now }
 {
     read.no_tear && source.no_tear && read.has_same_range(source)

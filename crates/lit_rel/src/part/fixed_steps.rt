@@ -14,7 +14,7 @@ use crate::rows::two_way_rows::TwoWayRows;
 use lit_paths::{Event, Order3, event_at};
 
 /// happens-before where no byte read has a source.
-pub(crate) fn unsourced_order(events: &[Event]) -> TwoWayRows
+pub fn unsourced_order(events: &[Event]) -> TwoWayRows
     requires { length events.now ≤ EVENT_LIMIT }
     ensures len { rows_len result.rows ≡ length events.now }
     ensures pairs { (e d : ℕ) → Holds result.rows e d ↔ HappensBefore events.now [] e d }

@@ -44,11 +44,7 @@ fn has_false(tests: &[Tested], first: u8, asked: Option<usize>, value: u32) -> b
 
 /// Whether some test of a path of the combination asks about the event, or about a register that was not written, and
 /// is false of the value.
-pub(crate) fn has_false_test(
-    combination: &Combination<'_>,
-    asked: Option<usize>,
-    value: u32,
-) -> bool
+pub fn has_false_test(combination: &Combination<'_>, asked: Option<usize>, value: u32) -> bool
     ensures value { IsTrue result ↔ HasFalseTestOn combination.now.0 combination.now.1 asked value }
     ensures walks { ¬ IsTrue result → (agent : ℕ) → agent < length combination.now.0.agents
         → IsWalkIn combination.now.0 combination.now.1 agent (walk_in combination.now.0 combination.now.1 agent) }

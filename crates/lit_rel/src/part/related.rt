@@ -61,7 +61,7 @@ impl<'p> Model for Related<'p> {
 impl<'p> Related<'p> {
     ghost use Rattle.lit_rel.specs.Broken.{HasBrokenRelations};
     ghost use Rattle.lit_rel.specs.Internal.Given.{sources_of};
-    ghost use Rattle.lit_rel.specs.Internal.Peers.{ArePeers};
+    ghost use Rattle.lit_rel.specs.Peers.{ArePeers};
 
     /// A combination. No byte read has a source yet.
     pub(crate) fn open(combination: Combination<'p>) -> Self

@@ -10,7 +10,7 @@ use Rattle.lit_rel.specs.EventSet.{HasEvent}
 use Rattle.lit_rel.specs.Part.{PartModel, part_events}
 use Rattle.lit_search.specs.declared.cursor.coming.Coming.{Coming}
 use Rattle.lit_search.specs.declared.cursor.coming.listing.Item.{Item}
-use Rattle.lit_search.specs.Completion.{Completes}
+use Rattle.lit_valid.specs.Completion.{Completes}
 use Rattle.lit_search.specs.Internal.Held.{reads_held}
 
 -- the sources of an item, for each byte read of some numbers that it has one for

@@ -5,7 +5,8 @@ use Rattle.lit_read.specs.Syntax.{Condition}
 use Rattle.lit_paths.specs.Outcome.{holds}
 use Rattle.lit_rel.specs.Growth.{IsGivenWhole}
 use Rattle.lit_rel.specs.Part.{PartModel, part_events}
-use Rattle.lit_search.specs.Internal.Held.{reads_held, value_held}
+use Rattle.lit_valid.specs.PartOutcome.{value_held}
+use Rattle.lit_search.specs.Internal.Held.{reads_held}
 
 -- an outcome of these registers has the values that are known
 pub record HasKnown (names : List (ℕ × ℕ)) (known : List (Option ℕ)) (outcome : List ℕ) : Type 0 where

@@ -8,7 +8,7 @@ use Rattle.lit_rel.specs.Part.{PartModel, part_events}
 use Rattle.lit_rel.specs.Rows.{Holds, rows_len}
 use Rattle.lit_rel.specs.SynchronizesWith.{CanSynchronize}
 use Rattle.lit_order.specs.MemoryOrder.{IsMemoryOrder, IsOrderOf}
-use Rattle.lit_search.specs.Completion.{Completes}
+use Rattle.lit_valid.specs.Completion.{Completes}
 
 -- pairs and triples of the part's events
 pub record AreOfPart (part : PartModel) (before : Rows) (between : BetweenModel) : Type 0 where

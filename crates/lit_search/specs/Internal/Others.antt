@@ -9,7 +9,7 @@ use Rattle.lit_rel.specs.Part.{PartModel, part_events}
 use Rattle.lit_rel.specs.ReadsFrom.{ReadsFrom}
 use Rattle.lit_rel.specs.Settled.{HasSettledPast}
 use Rattle.lit_rel.specs.SynchronizesWith.{MaySynchronize}
-use Rattle.lit_search.specs.Report.{Gives}
+use Rattle.lit_valid.specs.Gives.{Gives}
 use Rattle.lit_search.specs.StandsFor.{IsHeld}
 
 -- the source is not sequentially consistent, and what happens before it is the same whatever is given besides

@@ -2,7 +2,8 @@
 use Rattle.std.specs.Prelude.{◌≡◌, ℕ, ◌<◌, ◌≤◌, Bool, IsTrue, List}
 use Rattle.lit_read.specs.Syntax.{Litmus}
 use Rattle.lit_search.specs.declared.found.Example.{Example}
-use Rattle.lit_search.specs.Report.{Entry, Gives, in_range}
+use Rattle.lit_valid.specs.Gives.{Gives}
+use Rattle.lit_search.specs.Report.{Entry, in_range}
 use Rattle.lit_search.specs.Internal.Examined.{IsExample}
 
 -- the entry of an outcome and its example

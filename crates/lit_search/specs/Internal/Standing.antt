@@ -5,7 +5,7 @@ use Rattle.lit_paths.specs.ByteReads.{byte_reads}
 use Rattle.lit_paths.specs.Plan.{AreEventsIn, choices_before}
 use Rattle.lit_rel.specs.Part.{part_events}
 use Rattle.lit_search.specs.declared.cursor.Cursor.TheInside.{Inside}
-use Rattle.lit_search.specs.Completion.{IsEntered}
+use Rattle.lit_valid.specs.Completion.{IsEntered}
 use Rattle.lit_search.specs.Internal.Held.{HasWholeValues, reads_held}
 use Rattle.lit_search.specs.Internal.Places.{ArePlaces, low_at, sources_at}
 use Rattle.lit_search.specs.Internal.RefusedSources.{AreRefused}

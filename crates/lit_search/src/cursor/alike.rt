@@ -16,10 +16,10 @@ ghost use Rattle.lit_search.specs.Internal.Places.{candidates_at, low_at, part_a
 
 use crate::cursor::Cursor;
 use crate::cursor::standing_for_others::{can_stand, is_last_of_read};
-use crate::laws::completions::laws;
 use lit_paths::laws::choices_have_numbers;
 use lit_paths::{BYTE_READ_LIMIT, ByteRead, Event, event_at};
 use lit_rel::{Part, payload_at};
+use lit_valid::laws::laws_below;
 
 /// The read of a part's last source, by its event number.
 #[derive(Clone, Copy)]
@@ -92,7 +92,7 @@ fn is_stored_alike(part: &Part<'_>, place: usize, source: u8, other: u8) -> bool
     requires other { other < length (part_events part.now) }
     ensures { IsTrue result → IsStoredAlike part.now place source other }
 {
-    laws();
+    laws_below();
     let at = part.combination().byte_reads()[place];
     stores_alike(part, at, source, other)
 }
@@ -260,7 +260,7 @@ impl Cursor<'_> {
     fn last_read(&self) -> Option<LastRead>
         ensures { IfSome result (IsLastRead (part_at self.now)) }
     {
-        laws();
+        laws_below();
         let part = self.part();
         if part.len() == 0 {
             return None;
@@ -310,7 +310,7 @@ impl Cursor<'_> {
         requires left { length self.now.places < length (byte_reads (stand_events self.now)) }
         requires known { place < length (candidates_at (stand_events self.now) (length self.now.places)) }
     {
-        laws();
+        laws_below();
         let _part = self.part();
         let depth = self.places.len();
         if depth > 0 && self.repeats[depth - 1] && !self.begins_read(depth) {

@@ -14,7 +14,7 @@ ghost use Rattle.lit_paths.specs.declared.limits.TheConstants.{BYTE_READ_LIMIT};
 ghost use Rattle.lit_search.specs.Internal.Coming.{AreItems, HoldsAll, IsComing, IsToCome};
 ghost use Rattle.lit_search.specs.Report.{Entry};
 ghost use Rattle.lit_search.specs.Internal.Outcomes.{HasOutcome};
-ghost use Rattle.lit_search.specs.Internal.Held.{part_outcome};
+ghost use Rattle.lit_valid.specs.PartOutcome.{part_outcome};
 ghost use Rattle.lit_search.specs.Internal.Passing.{HasAll};
 ghost use Rattle.lit_search.specs.Internal.Places.{part_at, stand_events};
 
@@ -22,9 +22,9 @@ use crate::cursor::Cursor;
 use crate::cursor::coming::listing::{Item, list_items};
 use crate::cursor::coming::taking_out::take_out;
 use crate::cursor::held::is_held_by;
-use crate::laws::completions::laws;
 use arrayvec::ArrayVec;
 use lit_paths::{BYTE_READ_LIMIT, ByteRead, Plan};
+use lit_valid::laws::laws_below;
 use std::alloc::{AllocError, Global};
 use std::cell::Cell;
 
@@ -99,7 +99,7 @@ impl Coming {
         ensures coming { (kept : List Entry) → IsToCome cursor.now.test cursor.now.combination (λ outcome. ¬ HasOutcome kept outcome) self.old
             → IsToCome cursor.now.test cursor.now.combination (λ outcome. ¬ HasOutcome kept outcome × (outcome ≢ part_outcome (part_at cursor.now))) self.new }
     {
-        laws();
+        laws_below();
         let _names = plan.names();
         let _part = cursor.part();
         if let Some(items) = &mut self.items {
@@ -123,7 +123,7 @@ impl Cursor<'_> {
         ensures known { All (λ k. k < length (byte_reads (stand_events self.now))) result.items }
         ensures held { HoldsAll self.now.test self.now.combination result.items }
     {
-        laws();
+        laws_below();
         let mut numbers = Numbers::new();
         for number in 0..self.part.reads() {
             if is_held_by(&self.held, self.byte_read(number).read) {

@@ -13,7 +13,7 @@ ghost use Rattle.lit_rel.specs.Part.{PartModel, part_events};
 ghost use Rattle.lit_rel.specs.ReadsFrom.{ReadsFrom};
 ghost use Rattle.lit_rel.specs.TestedBytes.{TestsRefuse};
 ghost use Rattle.lit_rel.specs.Rows.{Holds, rows_len};
-ghost use Rattle.lit_search.specs.Completion.{Completes, IsEntered};
+ghost use Rattle.lit_valid.specs.Completion.{Completes, IsEntered};
 ghost use Rattle.lit_search.specs.Foreseen.{IsApart, IsOut};
 ghost use Rattle.lit_search.specs.Internal.Places.{part_at};
 ghost use Rattle.lit_search.specs.Internal.RefusedSources.{AreRefused, HasIn};
@@ -21,7 +21,6 @@ ghost use Rattle.lit_search.specs.Internal.Foreseeing.{AreAlwaysKept, AreForesee
 
 use crate::cursor::Cursor;
 use crate::cursor::refused_sources::RefusedSources;
-use crate::laws::completions::laws;
 use lit_order::forced_precedence;
 use lit_order::laws::{
     forced_rounds_have_no_order, forcing_keeps_orders, orders_keep_what_is_forced,
@@ -29,6 +28,7 @@ use lit_order::laws::{
 use lit_paths::{BYTE_READ_LIMIT, ByteRead, event_at};
 use lit_rel::laws::refused_bytes_make_tests_false;
 use lit_rel::{Between, EventSet, Part, Rows, can_synchronize};
+use lit_valid::laws::laws_below;
 
 /// Pairs and triples of events that memory-orders keep.
 #[derive(Drop)]
@@ -179,7 +179,7 @@ pub(crate) fn put_source(
     ensures kept { (x : Execution) → GoesOnWith part.now before.old between.old x → ReadsFrom (part_events part.now) x.sources read source
         → GoesOnWith part.now before.new between.new x }
 {
-    laws();
+    laws_below();
     put_pair(part, before, source, read);
     if between.pairs().len() < BYTE_READ_LIMIT {
         between.forbid(source, read, part.others_between(source, read));
@@ -202,7 +202,7 @@ fn look_at(
     ensures foreseen { OnSome result (AreForeseen part.now before.old between.old before.new between.new) }
     ensures none { IfNone result (NoneGoesOnWith part.now before.old between.old) }
 {
-    laws();
+    laws_below();
     refused_bytes_make_tests_false();
     forced_rounds_have_no_order();
     let combination = part.combination();
@@ -241,7 +241,7 @@ fn look_once(
     ensures foreseen { OnSome result (AreForeseen part.now before.old between.old before.new between.new) }
     ensures none { IfNone result (NoneGoesOnWith part.now before.old between.old) }
 {
-    laws();
+    laws_below();
     let read = usize::from(part.combination().byte_reads()[number].read);
     if done.contains(read) {
         return Some(false);
@@ -309,7 +309,7 @@ pub(crate) fn kept_at_first(part: &Part<'_>) -> Option<Foreseen>
     ensures kept { IfSome result (λ kept. AreAlwaysKept part.now kept.before kept.between) }
     ensures none { IfNone result (GoesNowhere part.now) }
 {
-    laws();
+    laws_below();
     let between = part.between();
     let mut before = part.happens_before();
     if close(part, &mut before, &between) {

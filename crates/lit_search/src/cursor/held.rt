@@ -6,7 +6,8 @@ ghost use Rattle.lit_paths.specs.ByteReads.{byte_reads};
 ghost use Rattle.lit_paths.specs.Outcome.{names_of};
 ghost use Rattle.lit_paths.specs.declared.limits.TheConstants.{NAME_LIMIT};
 ghost use Rattle.lit_rel.specs.Part.{PartModel, part_events};
-ghost use Rattle.lit_search.specs.Internal.Held.{HasWholeValues, part_outcome, read_held as read_of, reads_held, value_held as value_of, without_last};
+ghost use Rattle.lit_valid.specs.PartOutcome.{part_outcome, read_held as read_of, value_held as value_of};
+ghost use Rattle.lit_search.specs.Internal.Held.{HasWholeValues, reads_held, without_last};
 ghost use Rattle.lit_search.specs.Internal.Wanting.{AllKnownAfter};
 
 use crate::cursor::standing_for_others::is_last_of_read;

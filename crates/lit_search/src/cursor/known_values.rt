@@ -13,10 +13,10 @@ use crate::cursor::Cursor;
 use crate::cursor::held::{HeldReads, is_held_by};
 use crate::cursor::standing_for_others::is_last_of_read;
 use crate::cursor::wanted::Wanted;
-use crate::laws::completions::laws;
 use arrayvec::ArrayVec;
 use lit_paths::{NAME_LIMIT, Plan};
 use lit_rel::Part;
+use lit_valid::laws::laws_below;
 
 /// The value of each register of an outcome, where the sources given tell it.
 type KnownValues = ArrayVec<Option<u32>, NAME_LIMIT>;
@@ -77,7 +77,7 @@ impl Cursor<'_> {
         requires test { self.now.test ≡ plan.now }
         ensures { IsTrue result → MayPass plan.now (W.IsWanted wanted.now plan.now) 0 self.now (length self.now.places) }
     {
-        laws();
+        laws_below();
         let _names = plan.names();
         let part = self.part();
         let _depth = part.len();

@@ -10,10 +10,10 @@ ghost use Rattle.lit_search.specs.Report.{in_range};
 
 use crate::cursor::Cursor;
 use crate::cursor::alike::is_whole_from;
-use crate::laws::completions::laws;
 use lit_order::laws::{forced_rounds_have_no_order, left_out_sources_are_none};
 use lit_paths::event_at;
 use lit_rel::laws::refused_bytes_make_tests_false;
+use lit_valid::laws::laws_below;
 
 impl Cursor<'_> {
     /// Whether the byte read with a number has a candidate with this place among its candidates. There is such a byte read.
@@ -30,7 +30,7 @@ impl Cursor<'_> {
         requires { depth < length (byte_reads (stand_events self.now)) }
         ensures { IsTrue result ↔ IsSeqCstRead self.now depth }
     {
-        laws();
+        laws_below();
         let combination = self.part.combination();
         let read = combination.byte_reads()[depth].read;
         event_at(combination.events(), usize::from(read)).is_seq_cst()
@@ -43,7 +43,7 @@ impl Cursor<'_> {
         requires source { source < length (stand_events self.now) }
         ensures { IsTrue result ↔ WouldTear (part_at self.now) read source }
     {
-        laws();
+        laws_below();
         let part = self.part();
         if !is_whole_from(part, read, source) {
             return false;
@@ -68,7 +68,7 @@ impl Cursor<'_> {
         requires known { place < length (candidates_at (stand_events self.now) depth) }
         ensures { IsTrue result ↔ IsLeftOut self.now depth place }
     {
-        laws();
+        laws_below();
         if self.tests_refuse(depth, place) {
             return true;
         }
@@ -115,7 +115,7 @@ impl Cursor<'_> {
         ensures passed { IfSome result (λ place. AreBarren self.now.test (in_range (low_at (with_place self.now from)) (low_at (with_place self.now place)))) }
         ensures none { IfNone result (AreBarren self.now.test (in_range (low_at (with_place self.now from)) (behind_at self.now))) }
     {
-        laws();
+        laws_below();
         forced_rounds_have_no_order();
         left_out_sources_are_none();
         refused_bytes_make_tests_false();

@@ -8,7 +8,7 @@ ghost use Rattle.lit_order.specs.Refuted.{IsRefuted};
 ghost use Rattle.lit_search.specs.Report.{in_range};
 ghost use Rattle.lit_search.specs.Internal.Coming.{IsToCome};
 ghost use Rattle.lit_search.specs.Internal.Examined.{IsExample};
-ghost use Rattle.lit_search.specs.Internal.Held.{part_outcome};
+ghost use Rattle.lit_valid.specs.PartOutcome.{part_outcome};
 ghost use Rattle.lit_search.specs.Internal.Passing.{HasAll, IsOpen, MayPass, NoneValid, first_places};
 ghost use Rattle.lit_search.specs.Internal.Places.{behind_at, low_at, part_at, stand_events};
 ghost use Rattle.lit_search.specs.Internal.Shown.{IsNext, NoneShow, shown_entry};
@@ -21,10 +21,10 @@ use crate::cursor::held::set_outcome;
 use crate::cursor::standing_in::is_stood_for;
 use crate::cursor::wanted::Wanted;
 use crate::found::{Example, Outcome};
-use crate::laws::completions::laws;
 use lit_order::laws::{forced_rounds_have_no_order, left_out_sources_are_none};
 use lit_paths::Plan;
 use lit_rel::laws::refused_bytes_make_tests_false;
+use lit_valid::laws::laws_below;
 
 impl Cursor<'_> {
     /// Whether its outcome by the sources given is wanted.
@@ -50,7 +50,7 @@ impl Cursor<'_> {
         ensures passed { IsTrue result → MayPass plan.now (W.IsWanted wanted.now plan.now) 0 self.now known }
         ensures wanted { IsFalse result → known ≤ length self.now.places → W.IsWanted wanted.now plan.now (part_outcome (part_at self.now)) }
     {
-        laws();
+        laws_below();
         let _names = plan.names();
         let part = self.part();
         if part.len() < known {
@@ -97,7 +97,7 @@ impl Cursor<'_> {
             (IsOpen (W.IsWanted wanted.now plan.now) from self.now)
             (MayPass plan.now (W.IsWanted wanted.now plan.now) from self.now) }
     {
-        laws();
+        laws_below();
         forced_rounds_have_no_order();
         left_out_sources_are_none();
         refused_bytes_make_tests_false();
@@ -142,7 +142,7 @@ impl Cursor<'_> {
         ensures shows { IfSome result (λ example. IsExample plan.now (low_at self.now) (part_outcome (part_at self.now)) example.order.items) }
         ensures choice { IfSome result (λ example. example.choice ≡ low_at self.now) }
     {
-        laws();
+        laws_below();
         let _part = self.part();
         let Some(order) = self.least_order() else {
             return None;
@@ -198,7 +198,7 @@ impl Cursor<'_> {
         ensures stands { IfSome result (λ example. low_at self.new ≡ example.choice) }
         ensures all { IfSome result (λ _. HasAll self.new) }
     {
-        laws();
+        laws_below();
         let first = *from;
         while self.low() < to {
             if let Some(depth) = self.passed(plan, wanted, known, coming, since, first) {

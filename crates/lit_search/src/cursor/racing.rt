@@ -13,8 +13,8 @@ ghost use Rattle.lit_search.specs.Internal.Taking.{AreBarren};
 use crate::cursor::Cursor;
 use crate::cursor::coming::Coming;
 use crate::cursor::wanted::Wanted;
-use crate::laws::completions::laws;
 use lit_paths::Plan;
+use lit_valid::laws::laws_below;
 
 /// A search for all outcomes.
 struct All;
@@ -48,7 +48,7 @@ impl Cursor<'_> {
         requires { self.now.places ≡ [] }
         ensures { IsTrue result → ¬ HasRaceIn self.now.test (in_range (low_at self.now) (choices_before self.now.test (self.now.combination + 1))) }
     {
-        laws();
+        laws_below();
         !self.part().may_race() && self.behind() == self.end()
     }
 
@@ -67,7 +67,7 @@ impl Cursor<'_> {
         ensures barren { IsFalse result → AreBarren plan.now (in_range barren.new from.new) }
         ensures past { IsFalse result → to ≤ from.new }
     {
-        laws();
+        laws_below();
         let first = *from;
         let unknown = Coming::unknown();
         let reads = self.part().reads();

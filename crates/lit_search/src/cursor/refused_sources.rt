@@ -13,10 +13,10 @@ ghost use Rattle.lit_search.specs.Internal.RefusedSources.{AreRefused, AreRefuse
 
 use crate::cursor::Cursor;
 use crate::cursor::used::is_tested;
-use crate::laws::completions::laws;
 use arrayvec::ArrayVec;
 use lit_paths::{BYTE_READ_LIMIT, ByteRead, Combination};
 use lit_rel::{EventSet, is_source_refused};
+use lit_valid::laws::laws_below;
 
 /// For each byte read the candidates that tests refuse; `None` where no test asks about its read.
 pub(crate) type RefusedSources = ArrayVec<Option<EventSet>, BYTE_READ_LIMIT>;
@@ -45,7 +45,7 @@ fn refused_at(combination: &Combination<'_>, depth: usize) -> Option<EventSet>
     requires known { depth < length (byte_reads (events_in combination.now.0 combination.now.1)) }
     ensures { AreRefusedAt combination.now.0 combination.now.1 depth result }
 {
-    laws();
+    laws_below();
     let at = combination.byte_reads()[depth];
     if !is_tested(combination, at.read) {
         return None;

@@ -15,9 +15,9 @@ ghost use Rattle.lit_search.specs.Internal.Places.{behind_at};
 use crate::cursor::Cursor;
 use crate::cursor::held::HeldReads;
 use crate::cursor::used::is_held;
-use crate::laws::completions::laws;
 use lit_paths::{ByteRead, Plan, event_at};
 use lit_rel::Part;
+use lit_valid::laws::laws_below;
 
 /// Whether a source is not sequentially consistent, and what happens before it is settled.
 pub(crate) fn can_stand(part: &Part<'_>, source: usize) -> bool
@@ -78,7 +78,7 @@ fn stands_from(part: &Part<'_>, held: &HeldReads) -> Option<usize>
     ensures few { IfSome result (λ first. first < length part.now.sources) }
     ensures stands { IfSome result (λ first. (r : ℕ) × StandsForOthers part.now r first) }
 {
-    laws();
+    laws_below();
     let reads = part.combination().byte_reads();
     let last = part.len() - 1;
     let read = reads[last].read;
@@ -104,7 +104,7 @@ impl Cursor<'_> {
         ensures wider { IfSome result (λ depth. behind_at self.now ≤ behind_at (first_places self.now depth)) }
         ensures nothing { IfSome result (λ depth. AddsNothing _plan.now since (behind_at self.now) (behind_at (first_places self.now depth))) }
     {
-        laws();
+        laws_below();
         let part = self.part();
         if part.len() == 0 || part.broken() || self.low() < since {
             return None;

@@ -12,9 +12,9 @@ ghost use Rattle.lit_search.specs.StandsFor.{IsUsed};
 
 use crate::cursor::held::HeldReads;
 use crate::cursor::used::is_used;
-use crate::laws::completions::laws;
 use lit_paths::{ByteRead, Event, Order3, event_at};
 use lit_rel::{Part, Rows, payload_at};
+use lit_valid::laws::laws_below;
 
 /// Whether an event is unordered.
 fn is_unordered(event: &Event) -> bool
@@ -57,7 +57,7 @@ pub(crate) fn is_stood_for(part: &Part<'_>, held: &HeldReads, source: u8) -> boo
     requires whole { ¬ IsBroken part.now }
     ensures { IsTrue result ↔ IsStoodFor part.now }
 {
-    laws();
+    laws_below();
     let combination = part.combination();
     let events = combination.events();
     let place = part.len() - 1;

@@ -1,81 +1,25 @@
-//! Laws of the valid executions that go on from a part. The functions do nothing: their contracts are theorems.
+//! Laws of what can stand in for a source, and of what can still stand, in the valid executions that go on from a part. The
+//! functions do nothing: their contracts are theorems.
 
 ghost use Rattle.std.specs.Prelude.{◌↔◌, ℕ, List};
 ghost use Rattle.lit_read.specs.Syntax.{IsLitmus, Litmus};
-ghost use Rattle.lit_paths.specs.Choice.{AreSources};
 ghost use Rattle.lit_paths.specs.Execution.{Execution, execution_events};
 ghost use Rattle.lit_paths.specs.Plan.{AreEventsIn};
 ghost use Rattle.lit_rel.specs.declared.rows.Rows.{Rows};
 ghost use Rattle.lit_rel.specs.Between.{BetweenModel, Forbids};
-ghost use Rattle.lit_rel.specs.Broken.{IsBroken};
 ghost use Rattle.lit_rel.specs.HappensBefore.{HappensBefore};
 ghost use Rattle.lit_rel.specs.Part.{PartModel, part_events};
 ghost use Rattle.lit_rel.specs.ReadsFrom.{ReadsByteFrom};
 ghost use Rattle.lit_rel.specs.Rows.{Holds};
 ghost use Rattle.lit_rel.specs.Settled.{HasSettledPast};
-ghost use Rattle.lit_order.specs.MemoryOrder.{IsMemoryOrder};
-ghost use Rattle.lit_search.specs.Completion.{Completes, HasCompletion, IsEntered};
+ghost use Rattle.lit_valid.specs.Completion.{Completes, IsEntered};
 ghost use Rattle.lit_search.specs.Foreseen.{AreKept, IsOut};
-ghost use Rattle.lit_search.specs.Internal.Laws.{Laws};
 ghost use Rattle.lit_search.specs.StandsFor.{AreAsGood, HasOneWith, HasStandIn, IsOn, MakesNoDifference};
-ghost use Rattle.lit_search.specs.ValidExecution.{IsValidExecution};
+ghost use Rattle.lit_valid.specs.ValidExecution.{IsValidExecution};
 
 use lit_order::laws::forced_rounds_have_no_order;
-use lit_paths::laws::{
-    candidate_executions_have_choices, choices_are_listed, choices_are_on_combinations,
-    choices_have_numbers, combinations_are_listed, combinations_are_walked, paths_tell_their_runs,
-    runs_choose_for_each_read,
-};
-use lit_rel::laws::{
-    byte_reads_are_of_events, init_takes_place, races_are_foreseen, refused_bytes_make_tests_false,
-    relations_grow_with_bytes, settled_pasts_stay, values_keep_place, values_stay,
-};
-
-/// The laws of the crates below.
-pub(crate) fn laws()
-    ensures { Laws }
-{
-    combinations_are_walked();
-    paths_tell_their_runs();
-    runs_choose_for_each_read();
-    combinations_are_listed();
-    choices_are_listed();
-    candidate_executions_have_choices();
-    choices_have_numbers();
-    choices_are_on_combinations();
-    relations_grow_with_bytes();
-    values_stay();
-    byte_reads_are_of_events();
-    init_takes_place();
-    values_keep_place();
-    settled_pasts_stay();
-    races_are_foreseen();
-}
-
-/// No valid execution goes on from a part that is broken.
-pub fn broken_parts_have_no_completion()
-    ensures { (part : PartModel) (x : Execution) → IsEntered part → IsBroken part → ¬ Completes part x }
-{
-    laws();
-}
-
-/// Each memory-order of a valid execution that goes on from a part keeps the part's happens-before, and no event that
-/// the part forbids between a source and its read stands there.
-pub fn orders_of_completions_keep_parts()
-    ensures { (part : PartModel) (x : Execution) (order : List ℕ) → Completes part x
-        → IsMemoryOrder (execution_events part.test x) x.sources order → IsMemoryOrder (part_events part) part.sources order }
-{
-    laws();
-}
-
-/// Of a part that is not broken, and in which each byte read has a source, there is a valid execution exactly where an
-/// order keeps its happens-before and avoids what it forbids.
-pub fn whole_parts_are_decided_by_orders()
-    ensures { (part : PartModel) → IsEntered part → AreSources (part_events part) part.sources → ¬ IsBroken part
-        → HasCompletion part ↔ ((order : List ℕ) × IsMemoryOrder (part_events part) part.sources order) }
-{
-    laws();
-}
+use lit_rel::laws::refused_bytes_make_tests_false;
+use lit_valid::laws::laws_below;
 
 /// In a valid execution, the event that made a byte can stand for the byte's source where that makes no difference. It
 /// gives a valid execution on the same paths, with the same outcome and no greater choice.
@@ -83,7 +27,7 @@ pub fn init_stands_for_sources()
     ensures { (t : Litmus) (c : ℕ) (x : Execution) (k r b s : ℕ) → IsLitmus t → IsOn t c x → IsValidExecution t x
         → MakesNoDifference t c x.sources k r b s → HasStandIn t k b s x }
 {
-    laws();
+    laws_below();
 }
 
 /// In a valid execution, other sources for a read stand for those that it has, where they are as good. They give a valid
@@ -92,7 +36,7 @@ pub fn others_stand_for_sources()
     ensures { (t : Litmus) (c : ℕ) (x : Execution) (others : List ℕ) (r : ℕ) → IsLitmus t → IsOn t c x → IsValidExecution t x
         → AreAsGood t c x.sources others r → HasOneWith t others x }
 {
-    laws();
+    laws_below();
 }
 
 /// Where an event and each that happens before it are settled in a part, the same events happen before it in each valid
@@ -101,7 +45,7 @@ pub fn settled_pasts_are_final()
     ensures { (part : PartModel) (x : Execution) (e d : ℕ) → Completes part x → HasSettledPast (part_events part) part.sources e
         → HappensBefore (execution_events part.test x) x.sources d e ↔ HappensBefore (part_events part) part.sources d e }
 {
-    laws();
+    laws_below();
 }
 
 /// A valid execution that goes on from a part has for each byte a source that can still stand there, by the part and by
@@ -111,7 +55,7 @@ pub fn executions_take_what_can_stand()
         → AreEventsIn part.test.bytes (part_events part) → AreKept part (Holds before) (Forbids between) → Completes part x
         → ReadsByteFrom (part_events part) x.sources r b w → ¬ IsOut part (Holds before) r b w }
 {
-    laws();
+    laws_below();
     refused_bytes_make_tests_false();
     forced_rounds_have_no_order();
 }

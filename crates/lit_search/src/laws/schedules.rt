@@ -6,9 +6,9 @@ ghost use Rattle.lit_paths.specs.Choice.{choices_of};
 ghost use Rattle.lit_search.specs.InTurn.{HasExecution, IsReported};
 ghost use Rattle.lit_search.specs.Report.{IsReport, Report, in_range};
 
-use crate::laws::completions::laws;
 use crate::laws::sequential::sequential_executions_are_valid;
 use lit_rel::laws::byte_reads_are_of_events;
+use lit_valid::laws::laws_below;
 
 /// The outcome of a schedule is that of a valid execution. Each of its reads takes what was written last before it in
 /// the order of the turns, and that order is a memory-order of it.
@@ -24,7 +24,7 @@ pub fn interleavings_are_reported()
     ensures { (t : Litmus) (schedule : List ℕ) (report : Report) → IsLitmus t → All (λ agent. agent < length t.agents) schedule
         → IsReport t (in_range 0 (length (choices_of t))) report → IsReported t schedule report }
 {
-    laws();
+    laws_below();
     interleavings_are_valid();
 }
 

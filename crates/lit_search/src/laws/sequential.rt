@@ -5,7 +5,7 @@ ghost use Rattle.lit_read.specs.Syntax.{Litmus};
 ghost use Rattle.lit_paths.specs.Execution.{Execution, IsCandidateExecution, execution_events};
 ghost use Rattle.lit_order.specs.MemoryOrder.{IsMemoryOrder};
 ghost use Rattle.lit_search.specs.Sequential.{IsSequential};
-ghost use Rattle.lit_search.specs.ValidExecution.{HasValidChosenReads, IsValidExecution};
+ghost use Rattle.lit_valid.specs.ValidExecution.{HasValidChosenReads, IsValidExecution};
 
 use lit_rel::laws::byte_reads_are_of_events;
 

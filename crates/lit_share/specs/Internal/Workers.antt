@@ -3,8 +3,8 @@ use Rattle.std.specs.Prelude.{◌≡◌, ℕ, length, All, Result, IfOk, OnOk}
 use Rattle.lit_desk.specs.Desk.{DeskName, PlaceLists, IsPlaceOf, IsDone, draws_of, told_by, new_place}
 use Rattle.lit_read.specs.Syntax.{Litmus}
 use Rattle.lit_paths.specs.Choice.{choices_of}
-use Rattle.lit_search.specs.declared.class.Class.{Class}
-use Rattle.lit_search.specs.Class.{GivesClass}
+use Rattle.lit_valid.specs.declared.class.Class.{Class}
+use Rattle.lit_valid.specs.Class.{GivesClass}
 use Rattle.lit_search.specs.Report.{Report, IsReport}
 use Rattle.lit_share.specs.declared.fault.ShareFault.{ShareFault}
 use Rattle.lit_share.specs.declared.worker.Worker.{Worker}

@@ -3,7 +3,7 @@ use Rattle.lit_paths.specs.ByteReads.{byte_reads}
 use Rattle.lit_paths.specs.Plan.{choices_before}
 use Rattle.lit_rel.specs.Part.{PartModel, part_events}
 use Rattle.lit_search.specs.Internal.Coming.{IsToCome}
-use Rattle.lit_search.specs.Internal.Held.{part_outcome}
+use Rattle.lit_valid.specs.PartOutcome.{part_outcome}
 use Rattle.lit_search.specs.Internal.Places.{part_at}
 use Rattle.lit_search.proofs.ComingLemmas.{kept_listed, numbers_known, off_stand, on_stand}
 use Rattle.lit_search.specs.Internal.Shown.{shown_entry}
@@ -72,7 +72,7 @@ loop-next-preserved c =
       keeps = keeps_joined c.args.plan.now c.args.from c.loop-next.next _ c.args.kept.now c.loop-next.kept c.keep.new.self c.loop-next.invariant.after (omega (arith, is.after)) c.loop-next.invariant.keeps
           (keeps_next c.args.plan.now c.loop-next.next c.args.to c.loop-next.kept c.keep.new.self e is kept_is);
       marks = marks_joined c.args.plan.now c.args.from c.loop-next.next _ c.args.race.now c.loop-next.race c.mark_race.new.race c.loop-next.invariant.after (omega (arith, is.after)) c.loop-next.invariant.marks
-          (marks_next c.laws.ensures c.next.new.self c.part-in-Some.result.now c.part-in-Some.ensures.value c.part-in-Some.ensures.entered c.part-in-Some.ensures.placed c.in-Some.ensures.all c.args.plan.now c.loop-next.next c.args.to e c.in-Some.ensures.test c.in-Some.ensures.stands is c.mark_race.ensures);
+          (marks_next c.laws_below.ensures c.next.new.self c.part-in-Some.result.now c.part-in-Some.ensures.value c.part-in-Some.ensures.entered c.part-in-Some.ensures.placed c.in-Some.ensures.all c.args.plan.now c.loop-next.next c.args.to e c.in-Some.ensures.test c.in-Some.ensures.stands is c.mark_race.ensures);
       test = c.in-Some.ensures.test;
       combination = c.in-Some.ensures.combination ∙ c.loop-next.invariant.combination;
       of = c.leave.ensures.of ∙ c.loop-next.invariant.of;

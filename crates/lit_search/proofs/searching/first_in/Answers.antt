@@ -1,9 +1,9 @@
 use Rattle.std.proofs.Common.{◌<◌, ◌+◌, ap, arith}
 use Rattle.std.specs.Prelude.{IsTrue}
 use Rattle.lit_paths.specs.Plan.{choices_before}
-use Rattle.lit_search.specs.Class.{is_of_class}
+use Rattle.lit_valid.specs.Class.{is_of_class}
 use Rattle.lit_search.specs.Internal.Shown.{shown_entry}
-use Rattle.lit_search.specs.Internal.Held.{part_outcome}
+use Rattle.lit_valid.specs.PartOutcome.{part_outcome}
 use Rattle.lit_search.specs.Internal.Places.{Stand, part_at}
 use Rattle.lit_search.proofs.NextLemmas.{known_at, none_at_first}
 use Rattle.lit_search.proofs.Keeping.{none_behind, first_found}

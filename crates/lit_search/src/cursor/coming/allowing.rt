@@ -4,7 +4,7 @@ ghost use Rattle.std.specs.Prelude.{◌≡◌, ℕ, ◌<◌, ◌≤◌, All, IfN
 ghost use Rattle.lit_paths.specs.ByteReads.{byte_reads};
 ghost use Rattle.lit_paths.specs.Execution.{Execution};
 ghost use Rattle.lit_paths.specs.declared.limits.TheConstants.{BYTE_READ_LIMIT};
-ghost use Rattle.lit_search.specs.Completion.{Completes};
+ghost use Rattle.lit_valid.specs.Completion.{Completes};
 ghost use Rattle.lit_search.specs.Internal.Coming.{AreIn, IsToCome, Takes};
 ghost use Rattle.lit_search.specs.Internal.LeftOut.{IsLeftOut, candidate_at};
 ghost use Rattle.lit_search.specs.Internal.Passing.{MayPass};
@@ -15,12 +15,12 @@ use crate::cursor::Cursor;
 use crate::cursor::coming::Coming;
 use crate::cursor::coming::listing::Item;
 use crate::cursor::wanted::Wanted;
-use crate::laws::completions::laws;
 use arrayvec::ArrayVec;
 use lit_order::laws::{forced_rounds_have_no_order, left_out_sources_are_none};
 use lit_paths::{BYTE_READ_LIMIT, EVENT_LIMIT, Plan};
 use lit_rel::EventSet;
 use lit_rel::laws::refused_bytes_make_tests_false;
+use lit_valid::laws::laws_below;
 
 /// For each of some byte reads a set of sources.
 type Allowed = ArrayVec<EventSet, BYTE_READ_LIMIT>;
@@ -70,7 +70,7 @@ impl Cursor<'_> {
         ensures { (p : ℕ) → p < length (candidates_at (stand_events self.now) number) → ¬ IsLeftOut self.now number p
             → HasEvent result (candidate_at self.now number p) }
     {
-        laws();
+        laws_below();
         let mut left = EventSet::new();
         let mut place = 0;
         while self.has_candidate(number, place) {
@@ -88,7 +88,7 @@ impl Cursor<'_> {
         requires { number < length (byte_reads (stand_events self.now)) }
         ensures { (x : Execution) (s : ℕ) → Completes (part_at self.now) x → slice_get x.sources number ≡ Some s → HasEvent result s }
     {
-        laws();
+        laws_below();
         forced_rounds_have_no_order();
         left_out_sources_are_none();
         refused_bytes_make_tests_false();
@@ -118,7 +118,7 @@ impl Cursor<'_> {
         requires coming { IsToCome plan.now self.now.combination (W.IsWanted wanted.now plan.now) coming.now }
         ensures { IsTrue result → MayPass plan.now (W.IsWanted wanted.now plan.now) 0 self.now (length self.now.places) }
     {
-        laws();
+        laws_below();
         let _depth = self.part().len();
         let Some(items) = &coming.items else {
             return false;

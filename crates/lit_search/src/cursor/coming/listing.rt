@@ -9,7 +9,7 @@ ghost use Rattle.lit_rel.specs.Between.{Forbids};
 ghost use Rattle.lit_rel.specs.Part.{part_events};
 ghost use Rattle.lit_rel.specs.ReadsFrom.{ReadsByteFrom};
 ghost use Rattle.lit_rel.specs.TestedBytes.{TestsRefuse};
-ghost use Rattle.lit_search.specs.Completion.{Completes, IsEntered};
+ghost use Rattle.lit_valid.specs.Completion.{Completes, IsEntered};
 ghost use Rattle.lit_search.specs.Internal.Coming.{HasItem, items_of};
 ghost use Rattle.lit_search.specs.Internal.Foreseeing.{AreOfPart, GoesOnWith};
 ghost use Rattle.lit_search.specs.Internal.Listing.{AreListed, IsListed, StayListed};
@@ -19,11 +19,11 @@ use crate::cursor::foreseeing::{
     Foreseen, close, is_out, kept_at_first, leads_nowhere, put_source,
 };
 use crate::cursor::refused_sources::RefusedSources;
-use crate::laws::completions::laws;
 use lit_order::laws::forced_rounds_have_no_order;
 use lit_paths::{BYTE_READ_LIMIT, ByteRead, Sources};
 use lit_rel::laws::refused_bytes_make_tests_false;
 use lit_rel::{Between, EventSet, Part};
+use lit_valid::laws::laws_below;
 use std::alloc::{AllocError, Global};
 
 /// How many items are listed at the most.
@@ -86,7 +86,7 @@ fn foreseen_with(
     ensures none { IfNone result ((x : Execution) → GoesOnWith part.now foreseen.now.before foreseen.now.between x
         → ¬ ReadsByteFrom (part_events part.now) x.sources at.read at.byte source) }
 {
-    laws();
+    laws_below();
     refused_bytes_make_tests_false();
     forced_rounds_have_no_order();
     let _events = part.combination().events();
@@ -153,7 +153,7 @@ fn list_on(
     if item.len() == numbers.len() {
         return add_item(part, sets, item, foreseen, items);
     }
-    laws();
+    laws_below();
     let number = usize::from(numbers[item.len()]);
     let combination = part.combination();
     let _events = combination.events();

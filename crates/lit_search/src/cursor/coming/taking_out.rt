@@ -6,9 +6,9 @@ ghost use Rattle.lit_search.specs.Internal.Places.{part_at};
 
 use crate::cursor::Cursor;
 use crate::cursor::coming::listing::Item;
-use crate::laws::completions::laws;
 use lit_paths::event_at;
 use lit_rel::payload_at;
+use lit_valid::laws::laws_below;
 
 impl Cursor<'_> {
     /// Whether a source stores what that of a byte read does, by its number, at the byte.
@@ -16,7 +16,7 @@ impl Cursor<'_> {
         requires { number < length self.now.places }
         ensures { IsTrue result → StoresAs (part_at self.now) number source }
     {
-        laws();
+        laws_below();
         let combination = self.part.combination();
         let events = combination.events();
         if usize::from(source) >= events.len() {

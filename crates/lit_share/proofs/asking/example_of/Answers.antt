@@ -1,6 +1,7 @@
 use Rattle.std.proofs.Common.{◌≡◌, sym, ap, subst, rules}
 use Rattle.std.proofs.lemmas.List.Elements.{same_from_all_zip}
-use Rattle.lit_search.specs.Report.{Report, HasLeastOrder, entry_at}
+use Rattle.lit_valid.specs.Gives.{HasLeastOrder}
+use Rattle.lit_search.specs.Report.{Report, entry_at}
 use Rattle.lit_share.proofs.Firsts.{one_entry}
 use Rattle.lit_share.proofs.asking.example_of.Goals as goal
 

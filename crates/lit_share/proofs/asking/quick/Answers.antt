@@ -1,6 +1,6 @@
 use Rattle.std.proofs.Common.{ℕ, ap, ◌∙◌}
 use Rattle.lit_desk.specs.declared.class.Class2.TheVariants as of_desk
-use Rattle.lit_search.specs.declared.class.Class.TheVariants.{Met, Unmet}
+use Rattle.lit_valid.specs.declared.class.Class.TheVariants.{Met, Unmet}
 use Rattle.lit_share.specs.Pieces.{pieces_of}
 use Rattle.lit_share.proofs.Firsts.{first_told}
 use Rattle.lit_share.proofs.asking.quick.Goals as goal

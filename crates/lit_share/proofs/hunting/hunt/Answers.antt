@@ -2,8 +2,8 @@ use Rattle.std.proofs.Common.{◌≡◌, ℕ, List, [], ◌∷◌, ◌++◌, sym
 use Rattle.std.specs.Prelude.{All}
 use Rattle.std.proofs.lemmas.List.Elements.{All-push, All-weaker}
 use Rattle.lit_desk.specs.Desk.{draws_of}
-use Rattle.lit_search.specs.declared.class.Class.{Class}
-use Rattle.lit_search.specs.declared.class.Class.TheVariants.{Met}
+use Rattle.lit_valid.specs.declared.class.Class.{Class}
+use Rattle.lit_valid.specs.declared.class.Class.TheVariants.{Met}
 use Rattle.lit_share.specs.Drawn.{since, drawn_since}
 use Rattle.lit_share.specs.Hunted.{IsHunted, HasTold}
 use Rattle.lit_share.proofs.Rising.{above, above_least, above_last, since_more, grown_more}

@@ -1,7 +1,7 @@
 use Rattle.std.proofs.Common.{◌-◌}
 use Rattle.std.specs.Prelude.{All}
 use Rattle.lit_desk.specs.Desk.{IsPlaceOf, draws_of}
-use Rattle.lit_search.specs.declared.class.Class.{Class}
+use Rattle.lit_valid.specs.declared.class.Class.{Class}
 use Rattle.lit_share.specs.Drawn.{drawn_since, DrewOn}
 use Rattle.lit_share.specs.Hunted.{IsHunted, HasTold}
 use Rattle.lit_share.proofs.Rising.{above}

@@ -3,7 +3,7 @@ use Rattle.std.proofs.lemmas.Bool.{false≢true}
 use Rattle.lit_rel.specs.declared.event_set.EventSet.{EventSet}
 use Rattle.lit_rel.specs.EventSet.{HasEvent}
 use Rattle.lit_rel.specs.Forbidden.{IsAfterSource, IsBeforeRead, IsBetweenSynchronized}
-use Rattle.lit_rel.specs.Internal.Peers.{IsSeqCstWrite}
+use Rattle.lit_rel.specs.Peers.{IsSeqCstWrite}
 use Rattle.lit_rel.specs.Rows.{Holds}
 use Rattle.lit_rel.proofs.given.Given.forbidden.Goals as goal
 use Rattle.lit_rel.proofs.given.Given.forbidden.Goals.{then-holds, else-holds}

@@ -3,7 +3,7 @@ use Rattle.std.proofs.lemmas.Bool.{cases_lt, false≢true}
 use Rattle.lit_paths.specs.declared.event.Event.{Event}
 use Rattle.lit_paths.specs.Event.{HasSameRange, event_at}
 use Rattle.lit_rel.specs.declared.rows.Rows.{Rows}
-use Rattle.lit_rel.specs.Internal.Peers.{IsPeer, IsSeqCstWrite}
+use Rattle.lit_rel.specs.Peers.{IsPeer, IsSeqCstWrite}
 use Rattle.lit_rel.specs.Rows.{Holds, rows_len}
 use Rattle.lit_rel.proofs.given.peers.put_peer.Goals as goal
 use Rattle.lit_rel.proofs.given.peers.put_peer.Goals.{then-has_same_range, else-has_same_range}

@@ -1,7 +1,7 @@
 use Rattle.std.proofs.Common.{◌≡◌, ◌↔◌, ◌+◌, ℕ, ◌<◌, length, sym, ◌∙◌, subst, inl, inr, arith}
 use Rattle.std.proofs.lemmas.Bool.{cases_lt, false≢true}
 use Rattle.lit_rel.specs.declared.rows.Rows.{Rows}
-use Rattle.lit_rel.specs.Internal.Peers.{IsPeer, IsSeqCstWrite}
+use Rattle.lit_rel.specs.Peers.{IsPeer, IsSeqCstWrite}
 use Rattle.lit_rel.specs.Rows.{Holds, rows_len}
 use Rattle.lit_rel.proofs.given.peers.put_peers.Goals as goal
 use Rattle.lit_rel.proofs.given.peers.put_peers.Goals.{then-is_seq_cst_write, else-is_seq_cst_write}

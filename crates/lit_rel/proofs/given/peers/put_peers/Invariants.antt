@@ -1,5 +1,5 @@
 use Rattle.std.proofs.Common.{◌≡◌, ◌↔◌, ℕ, ◌<◌, length}
-use Rattle.lit_rel.specs.Internal.Peers.{IsPeer}
+use Rattle.lit_rel.specs.Peers.{IsPeer}
 use Rattle.lit_rel.specs.Rows.{Holds, rows_len}
 use Rattle.lit_rel.proofs.given.peers.put_peers.Given as goal
 

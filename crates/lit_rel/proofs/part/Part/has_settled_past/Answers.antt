@@ -1,7 +1,7 @@
 use Rattle.std.proofs.Common.{ℕ, ◌<◌, length, sym, subst}
 use Rattle.lit_rel.specs.Part.{PartModel, part_events}
 use Rattle.lit_rel.specs.SynchronizesWith.{MaySynchronize}
-use Rattle.lit_rel.specs.Internal.Peers.{IsPeer}
+use Rattle.lit_rel.specs.Peers.{IsPeer}
 use Rattle.lit_rel.proofs.SettledLemmas.{HasSettledPast-from}
 use Rattle.lit_rel.proofs.SourceLemmas.{read_known}
 use Rattle.lit_rel.proofs.part.Part.has_settled_past.Goals as goal

@@ -7,7 +7,7 @@ use Rattle.lit_paths.specs.Event.{event_at}
 use Rattle.lit_paths.specs.Plan.{events_in}
 use Rattle.lit_rel.specs.Part.{PartModel, part_events}
 use Rattle.lit_rel.specs.Rows.{Holds}
-use Rattle.lit_rel.specs.Internal.Peers.{IsPeer}
+use Rattle.lit_rel.specs.Peers.{IsPeer}
 use Rattle.lit_rel.proofs.part.Part.never_synchronizes.Goals as goal
 
 pub returns-else-not-is_seq_cst : goal.returns-else-not-is_seq_cst

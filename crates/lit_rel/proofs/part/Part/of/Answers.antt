@@ -5,7 +5,7 @@ use Rattle.lit_paths.specs.declared.event.Event.{Event}
 use Rattle.lit_paths.specs.Plan.{IsWalkIn, walk_in}
 use Rattle.lit_rel.specs.Broken.{HasFalseTestOn}
 use Rattle.lit_rel.specs.Part.{PartModel, part_events}
-use Rattle.lit_rel.specs.Internal.Peers.{ArePeers}
+use Rattle.lit_rel.specs.Peers.{ArePeers}
 use Rattle.lit_rel.proofs.RefusalLemmas.{AreRefusals-open}
 use Rattle.lit_rel.proofs.part.Part.of.Goals as goal
 

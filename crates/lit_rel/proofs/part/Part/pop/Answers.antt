@@ -1,7 +1,7 @@
 use Rattle.std.proofs.Common.{◌≡◌, ◌+◌, ◌-◌, ◌<◌, Bool, false, List, length, take, get_or, arith, ap, sym, ◌∙◌, subst}
 use Rattle.lit_paths.specs.Choice.{combinations_of}
 use Rattle.lit_rel.specs.Part.{PartModel, part_events, with_sources}
-use Rattle.lit_rel.specs.Internal.Peers.{ArePeers}
+use Rattle.lit_rel.specs.Peers.{ArePeers}
 use Rattle.lit_rel.specs.Internal.Refused.{AreRefusals}
 use Rattle.lit_rel.proofs.RefusalLemmas.{AreRefusals-pop}
 use Rattle.lit_rel.proofs.part.Part.pop.Goals as goal

@@ -4,7 +4,7 @@ use Rattle.std.specs.Bool.{IsTrue}
 use Rattle.lit_paths.specs.declared.limits.TheConstants.{BYTE_READ_LIMIT}
 use Rattle.lit_paths.specs.Choice.{combinations_of}
 use Rattle.lit_rel.specs.Part.{IsNextSource, PartModel, part_events}
-use Rattle.lit_rel.specs.Internal.Peers.{ArePeers}
+use Rattle.lit_rel.specs.Peers.{ArePeers}
 use Rattle.lit_rel.specs.Internal.Refused.{AreRefusals, IsRefusedAtLast}
 use Rattle.lit_rel.proofs.RefusalLemmas.{AreRefusals-push}
 use Rattle.lit_rel.proofs.part.Part.push.Goals as goal

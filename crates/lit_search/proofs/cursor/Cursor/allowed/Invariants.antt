@@ -3,7 +3,7 @@ use Rattle.std.specs.Prelude.{slice_get}
 use Rattle.lit_paths.specs.Execution.{Execution}
 use Rattle.lit_rel.specs.declared.event_set.EventSet.{EventSet}
 use Rattle.lit_rel.specs.EventSet.{HasEvent}
-use Rattle.lit_search.specs.Completion.{Completes}
+use Rattle.lit_valid.specs.Completion.{Completes}
 use Rattle.lit_search.specs.Internal.Places.{part_at}
 use Rattle.lit_search.proofs.cursor.Cursor.allowed.Given as goal
 

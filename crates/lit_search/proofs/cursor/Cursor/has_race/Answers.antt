@@ -5,8 +5,9 @@ use Rattle.lit_paths.specs.ByteReads.{byte_reads}
 use Rattle.lit_paths.specs.Plan.{choices_before}
 use Rattle.lit_rel.specs.DataRace.{MayRace}
 use Rattle.lit_rel.specs.Part.{PartModel, part_events}
-use Rattle.lit_search.specs.Report.{Gives, GivesRace, in_range}
-use Rattle.lit_search.specs.Internal.Held.{part_outcome}
+use Rattle.lit_valid.specs.Gives.{Gives, GivesRace}
+use Rattle.lit_search.specs.Report.{in_range}
+use Rattle.lit_valid.specs.PartOutcome.{part_outcome}
 use Rattle.lit_search.specs.Internal.Others.{AddsNothing}
 use Rattle.lit_search.specs.Internal.Passing.{HasAll, first_places}
 use Rattle.lit_search.specs.Internal.Places.{Stand, behind_at, low_at, part_at, stand_events}
@@ -113,7 +114,7 @@ returns-then-not-leave-2-clause-none c none =
     none_there t (in_range c.args.from.now c.end-then-not-leave-2.result)
     (race_up_to t c.args.from.now c.end-then-not-leave-2.result (choices_before t (s.combination + 1)) (omega (arith, c.end-then-not-leave-2.ensures, ap (λ (u : Litmus). choices_before u (c.leave-then-not-may_race.new.self.combination + 1)) (c.leave-then-not-may_race.ensures.test ∙ c.loop-self.invariant.test), ap (λ (k : ℕ). choices_before t (k + 1)) c.leave-then-not-may_race.ensures.combination))
     (race_left t c.args.from.now c.behind-behind.result (behind_at (first_places s c.len-depth.result)) (choices_before t (s.combination + 1))
-    (apart_race c.laws.ensures s c.part-in-loop-self.ensures.entered c.part-in-loop-self.ensures.placed few t c.args.from.now c.len-depth.result c.loop-self.invariant.test (c.len-depth.ensures.value ∙ long) apart c.loop-self.invariant.none)
+    (apart_race c.laws_below.ensures s c.part-in-loop-self.ensures.entered c.part-in-loop-self.ensures.placed few t c.args.from.now c.len-depth.result c.loop-self.invariant.test (c.len-depth.ensures.value ∙ long) apart c.loop-self.invariant.none)
     (barren_past t c.behind-behind.result (behind_at (first_places s c.len-depth.result)) (omega (arith, same, c.behind-behind.ensures.value))) (c.leave-then-not-may_race.ensures.last c.if-not-leave-2.true)))
 
 pub returns-then-not-leave-2-clause-barren : goal.returns-then-not-leave-2-clause-barren
@@ -150,7 +151,7 @@ loop-self-preserved-then-not-may_race c =
       test = c.leave-then-not-may_race.ensures.test ∙ c.loop-self.invariant.test;
       combination = c.leave-then-not-may_race.ensures.combination ∙ c.loop-self.invariant.combination;
       none = race_left t c.args.from.now c.behind-behind.result (behind_at (first_places s c.len-depth.result)) (low_at new)
-          (apart_race c.laws.ensures s c.part-in-loop-self.ensures.entered c.part-in-loop-self.ensures.placed few t c.args.from.now c.len-depth.result c.loop-self.invariant.test deep apart c.loop-self.invariant.none)
+          (apart_race c.laws_below.ensures s c.part-in-loop-self.ensures.entered c.part-in-loop-self.ensures.placed few t c.args.from.now c.len-depth.result c.loop-self.invariant.test deep apart c.loop-self.invariant.none)
           (barren_past t c.behind-behind.result (behind_at (first_places s c.len-depth.result)) (omega (arith, same, c.behind-behind.ensures.value))) (c.leave-then-not-may_race.ensures.nothing c.if-not-leave-2.false);
       barren = none_at_first t All c.low-then-not-may_race.result (low_at new) (omega (arith, c.low-then-not-may_race.ensures));
       earlier = none_at_first t All c.low-then-not-may_race.result c.args.from.now (omega (arith, c.low-then-not-may_race.ensures, next, ap behind_at (ap (first_places s) deep ∙ whole_stand s), c.in_default.ensures.passed.behind));
@@ -264,7 +265,7 @@ returns-in-Some-shown-clause-race c found =
     let one = ways_end (stand_events s) (length s.places) (omega (arith, all)) in
     let may : MayRace (stand_events s) (part_at s).sources = subst (λ (p : PartModel). MayRace (part_events p) p.sources) c.part-in_default.ensures.value (c.may_race.ensures.0 c.if-not-may_race.false) in
     let race : GivesRace s.test (low_at s) =
-    race_here c.laws.ensures s c.part-in-loop-self.ensures.entered c.part-in-loop-self.ensures.placed (omega (arith, all)) all _
+    race_here c.laws_below.ensures s c.part-in-loop-self.ensures.entered c.part-in-loop-self.ensures.placed (omega (arith, all)) all _
     (subst (λ (u : Litmus). Gives u (low_at s) (part_outcome (part_at s))) (sym c.loop-self.invariant.test) c.in-Some-shown.ensures.shows.gives)
     (complete_race (stand_events s) (part_at s).sources (length-sources (stand_events s) 0 s.places ∙ all) may) in
     (low_at s, within c.args.from.now c.args.to (low_at s) (omega (arith, c.in_default.ensures.passed.behind, one)) (omega (arith, c.loop-self-test.true, c.low.ensures)), subst (λ (u : Litmus). GivesRace u (low_at s)) c.loop-self.invariant.test race)

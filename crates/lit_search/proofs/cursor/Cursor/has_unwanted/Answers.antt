@@ -17,7 +17,7 @@ returns-clause-passed g c is =
     let long = length-part s c.part-part.result.now c.part-part.ensures.value in
     let few : length s.places ≤ length (byte_reads (stand_events s)) = omega (arith, long, c.len.ensures.few, c.len.ensures.value, ap (λ (p : PartModel). length (byte_reads (part_events p))) c.part-part.ensures.value) in
     let named : AreNamed s.test = are_named s.test c.args.plan.now c.requires.test _ c.names-names.ensures.value c.names-names.ensures.known in
-    pass_unwanted c.laws.ensures s c.part-part.ensures.entered c.part-part.ensures.placed few c.args.plan.now Wanted (g.W.Wanted.Asks c.args.wanted.now c.args.plan.now) c.args.known c.requires.test named
+    pass_unwanted c.laws_below.ensures s c.part-part.ensures.entered c.part-part.ensures.placed few c.args.plan.now Wanted (g.W.Wanted.Asks c.args.wanted.now c.args.plan.now) c.args.known c.requires.test named
     (omega (arith, c.if-len-known.false, c.len.ensures.value, long)) c.requires.known c.is_wanted.ensures.goes
     (λ wanted. false≢true (ap not (sym (c.is_wanted.ensures.value.1 wanted)) ∙ is))
 

@@ -17,5 +17,5 @@ returns-then-not-may_race c same one =
     let whole = eqb-true c.behind.result c.end.result same in
     let apart : ¬ MayRace (stand_events s) (part_at s).sources =
     λ may. false≢true (sym c.if-not-may_race.true ∙ c.may_race.ensures.1 (subst (λ (p : PartModel). MayRace (part_events p) p.sources) (sym c.part.ensures.value) may)) in
-    none_race c.laws.ensures s c.part.ensures.entered c.part.ensures.placed few apart one.0 (not_below (low_at s) end one.0 one.1)
+    none_race c.laws_below.ensures s c.part.ensures.entered c.part.ensures.placed few apart one.0 (not_below (low_at s) end one.0 one.1)
     (omega (arith, before_end (low_at s) end one.0 one.1, whole, c.behind.ensures.value, c.end.ensures)) one.2

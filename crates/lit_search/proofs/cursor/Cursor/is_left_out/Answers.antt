@@ -8,7 +8,7 @@ use Rattle.lit_search.proofs.cursor.Cursor.is_left_out.Goals as goal
 pub would_tear-requires-clause-read : goal.would_tear-requires-clause-read
 would_tear-requires-clause-read c =
     subst (λ (u : Stand). (get_or c.byte_reads.result.now c.args.depth (record { read = 0; byte = 0 })).read < length (stand_events u)) c.self.view_is
-    (read_known c.self.inside c.args.self.now c.self.view_is _ c.combination-combination.ensures c.args.depth c.requires.read c.byte_reads.result.now c.byte_reads.ensures (record { read = 0; byte = 0 }) (c.laws.ensures.of_events (part_events c.self.inside.part)))
+    (read_known c.self.inside c.args.self.now c.self.view_is _ c.combination-combination.ensures c.args.depth c.requires.read c.byte_reads.result.now c.byte_reads.ensures (record { read = 0; byte = 0 }) (c.laws_below.ensures.of_events (part_events c.self.inside.part)))
 
 pub would_tear-requires-clause-source : goal.would_tear-requires-clause-source
 would_tear-requires-clause-source c =
@@ -21,7 +21,7 @@ returns-then-would_tear c =
     ((λ _. inr (inl (by.0 c.if-would_tear.true))), (λ _. refl))
 
 pub leaves_out-requires-clause-read : goal.leaves_out-requires-clause-read
-leaves_out-requires-clause-read c = read_known c.self.inside c.args.self.now c.self.view_is _ c.combination-combination.ensures c.args.depth c.requires.read c.byte_reads.result.now c.byte_reads.ensures (record { read = 0; byte = 0 }) (c.laws.ensures.of_events (part_events c.self.inside.part))
+leaves_out-requires-clause-read c = read_known c.self.inside c.args.self.now c.self.view_is _ c.combination-combination.ensures c.args.depth c.requires.read c.byte_reads.result.now c.byte_reads.ensures (record { read = 0; byte = 0 }) (c.laws_below.ensures.of_events (part_events c.self.inside.part))
 
 pub leaves_out-requires-clause-source : goal.leaves_out-requires-clause-source
 leaves_out-requires-clause-source c = source_known c.self.inside c.args.self.now c.self.view_is _ c.combination-combination.ensures c.args.depth c.requires.read c.byte_reads.result.now c.byte_reads.ensures (record { read = 0; byte = 0 }) c.args.place c.requires.known c.candidates.result.now c.candidates.ensures.value c.candidates.ensures.lists

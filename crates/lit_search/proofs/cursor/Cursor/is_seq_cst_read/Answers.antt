@@ -11,7 +11,7 @@ event_at-requires c =
     omega (
       arith,
       c.from.ensures,
-      read_known c.self.inside c.args.self.now c.self.view_is _ c.combination-combination.ensures c.args.depth c.requires c.byte_reads.result.now c.byte_reads.ensures (record { read = 0; byte = 0 }) (c.laws.ensures.of_events (part_events c.self.inside.part)),
+      read_known c.self.inside c.args.self.now c.self.view_is _ c.combination-combination.ensures c.args.depth c.requires c.byte_reads.result.now c.byte_reads.ensures (record { read = 0; byte = 0 }) (c.laws_below.ensures.of_events (part_events c.self.inside.part)),
       ap (λ (es : List Event). length es) c.events.ensures.value,
       ap (λ (e : Litmus × ℕ). length (events_in e.0 e.1)) c.combination-combination.ensures,
     )

@@ -4,7 +4,7 @@ use Rattle.lit_read.specs.Syntax.{Litmus}
 use Rattle.lit_paths.specs.Outcome.{names_of}
 use Rattle.lit_paths.specs.ByteReads.{byte_reads}
 use Rattle.lit_rel.specs.Part.{IsComplete, PartModel, part_events}
-use Rattle.lit_search.specs.Internal.Held.{part_outcome}
+use Rattle.lit_valid.specs.PartOutcome.{part_outcome}
 use Rattle.lit_search.specs.Internal.Places.{Stand, part_at}
 use Rattle.lit_search.proofs.cursor.Cursor.is_wanted.Goals as goal
 

@@ -14,7 +14,7 @@ no_read = record { read = 0; byte = 0 }
 pub never_synchronizes-requires : goal.never_synchronizes-requires
 never_synchronizes-requires c =
     let p = c.part-part.result.now in
-    let last = last_read c.laws.ensures p _ (its_reads p _ c.combination.ensures _ c.byte_reads-reads.ensures) c.len-last.result c.len-last.ensures.value (omega (arith, c.if-len-eq0.false, c.len.ensures.value)) c.len-last.ensures.few no_read in
+    let last = last_read c.laws_below.ensures p _ (its_reads p _ c.combination.ensures _ c.byte_reads-reads.ensures) c.len-last.result c.len-last.ensures.value (omega (arith, c.if-len-eq0.false, c.len.ensures.value)) c.len-last.ensures.few no_read in
     omega (arith, last.known, c.from.ensures)
 
 pub returns : goal.returns
@@ -23,7 +23,7 @@ returns c =
     let reads = c.byte_reads-reads.result.now in
     let all = its_reads p _ c.combination.ensures reads c.byte_reads-reads.ensures in
     let some : 0 < length p.sources = omega (arith, c.if-len-eq0.false, c.len.ensures.value) in
-    let last = last_read c.laws.ensures p _ all c.len-last.result c.len-last.ensures.value some c.len-last.ensures.few no_read in
+    let last = last_read c.laws_below.ensures p _ all c.len-last.result c.len-last.ensures.value some c.len-last.ensures.few no_read in
     let event : ℕ = (get_or reads (c.len-last.result - 1) no_read).read in
     let read : LastRead = record { event = event; first = c.first_of-first.result; whole = c.is_last_of_read-whole.result } in
     subst (λ (q : PartModel). IsLastRead q read) c.part-part.ensures.value (record {

@@ -4,7 +4,7 @@ use Rattle.lit_paths.specs.ByteReads.{byte_reads}
 use Rattle.lit_paths.specs.Plan.{choices_before}
 use Rattle.lit_rel.specs.Part.{PartModel, part_events}
 use Rattle.lit_search.specs.Internal.Coming.{IsToCome}
-use Rattle.lit_search.specs.Internal.Held.{part_outcome}
+use Rattle.lit_valid.specs.PartOutcome.{part_outcome}
 use Rattle.lit_search.specs.Internal.Others.{AddsNothing}
 use Rattle.lit_search.specs.Internal.Passing.{HasAll, first_places}
 use Rattle.lit_search.specs.Internal.Places.{Stand, behind_at, low_at, part_at, stand_events}

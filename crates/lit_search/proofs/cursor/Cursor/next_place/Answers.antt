@@ -34,7 +34,7 @@ returns-clause-passed c =
     subst (λ (k : ℕ). IfSome c.first_left.result (λ place. (place < length (candidates_at (stand_events s) k)) × AreLeftOut s k c.args.from place)) deep
     (both_some _ _ c.first_left.result c.first_left.ensures.found c.first_left.ensures.passed) in
     IfSome-to c.first_left.result (λ place is.
-    barren_up c.laws.ensures c.left_out_sources_are_none.ensures c.refused_bytes_make_tests_false.ensures c.forced_rounds_have_no_order.ensures s c.part.ensures.entered c.part.ensures.sound
+    barren_up c.laws_below.ensures c.left_out_sources_are_none.ensures c.refused_bytes_make_tests_false.ensures c.forced_rounds_have_no_order.ensures s c.part.ensures.entered c.part.ensures.sound
     (subst AreFirstSources c.part.ensures.value c.len-depth.ensures.candidates) c.part.ensures.placed c.requires.left c.args.from place (omega (arith, is.0)) is.1) all
 
 pub returns-clause-none : goal.returns-clause-none
@@ -45,5 +45,5 @@ returns-clause-none c =
     let all = subst (λ (k : ℕ). IfNone c.first_left.result (AreLeftOut s k c.args.from (length (candidates_at (stand_events s) k)))) deep c.first_left.ensures.none in
     IfNone-to c.first_left.result (λ out.
     subst (λ (n : ℕ). AreBarren s.test (in_range (low_at (with_place s c.args.from)) n)) (low_all s c.requires.left count refl)
-    (barren_up c.laws.ensures c.left_out_sources_are_none.ensures c.refused_bytes_make_tests_false.ensures c.forced_rounds_have_no_order.ensures s c.part.ensures.entered c.part.ensures.sound
+    (barren_up c.laws_below.ensures c.left_out_sources_are_none.ensures c.refused_bytes_make_tests_false.ensures c.forced_rounds_have_no_order.ensures s c.part.ensures.entered c.part.ensures.sound
     (subst AreFirstSources c.part.ensures.value c.len-depth.ensures.candidates) c.part.ensures.placed c.requires.left c.args.from count (omega arith) out)) all

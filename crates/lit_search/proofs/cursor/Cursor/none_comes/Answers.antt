@@ -21,6 +21,6 @@ returns-in-None g c is =
     let listed : AreItems t s.combination Wanted c.args.coming.now.numbers.items c.in-Some.items.items = subst (λ (o : Option _). IfSome o (λ items. AreItems t s.combination Wanted c.args.coming.now.numbers.items items.items)) c.in-Some.is c.requires.coming in
     let here : AreItems s.test s.combination Wanted numbers c.in-Some.items.items =
     subst (λ (u : Litmus). AreItems u s.combination Wanted numbers c.in-Some.items.items) (sym c.requires.test) (subst (λ (ns : List ℕ). AreItems t s.combination Wanted ns c.in-Some.items.items) (sym c.as_slice.ensures.value) listed) in
-    pass_none c.laws.ensures s c.part.ensures.entered c.part.ensures.placed few t Wanted c.requires.test
+    pass_none c.laws_below.ensures s c.part.ensures.entered c.part.ensures.placed few t Wanted c.requires.test
     (none_allowed s Wanted numbers c.in-Some.items.items c.allowed-allowed.result.items here c.allowed-allowed.ensures
     (λ j item at in_all. c.in-None.ensures j item (ap (λ (is : List Item). slice_get is j) c.deref.ensures.value ∙ at) (subst (AreIn item.sources.items) (sym c.as_slice-2.ensures.value) in_all)))

@@ -2,7 +2,7 @@ use Rattle.std.proofs.Common.{â„•, List, Option, length, take, sym, ap, subst, â
 use Rattle.std.proofs.lemmas.List.{length-map}
 use Rattle.lit_paths.specs.Outcome.{names_of}
 use Rattle.lit_rel.specs.Part.{IsComplete}
-use Rattle.lit_search.specs.Internal.Held.{part_outcome, read_held}
+use Rattle.lit_valid.specs.PartOutcome.{part_outcome, read_held}
 use Rattle.lit_search.proofs.StandLemmas.{its_part}
 use Rattle.lit_search.proofs.WholeValues.{whole_outcome}
 use Rattle.lit_search.proofs.cursor.Cursor.outcome.Goals as goal

@@ -33,6 +33,6 @@ returns-clause-nothing c =
     let above : c.args.since ≤ c.low.result = c.if-low-since.false in
     IfSome-to c.stands_from.result (λ depth is.
     subst (λ (t : Litmus). AddsNothing t c.args.since (behind_at s) (behind_at (first_places s depth))) c.requires.test
-    (adds_nothing c.laws.ensures s c.part-part.ensures.entered c.part-part.ensures.placed few (subst AreFirstSources part c.len.ensures.candidates) whole is.1.0 depth
+    (adds_nothing c.laws_below.ensures s c.part-part.ensures.entered c.part-part.ensures.placed few (subst AreFirstSources part c.len.ensures.candidates) whole is.1.0 depth
     (subst (λ (p : PartModel). StandsForOthers p is.1.0 depth) part is.1.1) (omega (arith, is.0, long)) c.args.since (omega (arith, above, c.low.ensures))))
     (both_some _ _ c.stands_from.result c.stands_from.ensures.few c.stands_from.ensures.stands)

@@ -27,8 +27,8 @@ returns g c is =
     let named = are_named s.test t c.requires.test _ c.names-names.ensures.value c.names-names.ensures.known in
     let values : AreKnownValues (part_at s) known = subst (λ (p : PartModel). AreKnownValues p known) c.part-part.ensures.value c.known_values-known.ensures.values in
     let one_each : length known ≡ length (names_of s.test) = c.known_values-known.ensures.long ∙ ap (λ (p : PartModel). length (names_of p.test)) c.part-part.ensures.value in
-    pass_none c.laws.ensures s c.part-part.ensures.entered c.part-part.ensures.placed few t Wanted c.requires.test (λ x completes.
+    pass_none c.laws_below.ensures s c.part-part.ensures.entered c.part-part.ensures.placed few t Wanted c.requires.test (λ x completes.
     c.may_want.ensures (off c.may_want.result is) (execution_outcome s.test x)
     (subst (λ (os : List (Option ℕ)). HasKnown (names_of t) os (execution_outcome s.test x)) (sym c.as_slice.ensures.value)
     (subst (λ (u : Litmus). HasKnown (names_of u) known (execution_outcome s.test x)) c.requires.test
-    (has_known c.laws.ensures (part_at s) c.part-part.ensures.entered named known one_each values x completes))))
+    (has_known c.laws_below.ensures (part_at s) c.part-part.ensures.entered named known one_each values x completes))))

@@ -20,7 +20,7 @@ stores_alike-requires-clause-read c =
     let all = its_reads p _ c.combination.ensures reads c.byte_reads.ensures in
     let inside : k < length reads = omega (arith, c.requires.place, ap (λ (ps : List (ℕ × ℕ)). length ps) all, length-map reads pair_of) in
     let here : slice_get (byte_reads (part_events p)) k ≡ Some (pair_of (get_or reads k no_read)) = ap (λ (ps : List (ℕ × ℕ)). slice_get ps k) (sym all) ∙ read_there reads k no_read inside in
-    (c.laws.ensures.of_events (part_events p)).known k (get_or reads k no_read).read (get_or reads k no_read).byte here
+    (c.laws_below.ensures.of_events (part_events p)).known k (get_or reads k no_read).read (get_or reads k no_read).byte here
 
 pub returns : goal.returns
 returns c =

@@ -15,7 +15,7 @@ no_read = record { read = 0; byte = 0 }
 pub event_at-requires : goal.event_at-requires
 event_at-requires c =
     let p = c.args.part.now in
-    let inside = its_event p _ c.combination-combination.ensures c.byte_reads.result.now c.byte_reads.ensures no_read c.args.number c.requires.known (c.laws.ensures.of_events (part_events p)) in
+    let inside = its_event p _ c.combination-combination.ensures c.byte_reads.result.now c.byte_reads.ensures no_read c.args.number c.requires.known (c.laws_below.ensures.of_events (part_events p)) in
     omega (arith, inside, c.from.ensures, ap (λ (es : List Event). length es) (events_here p _ c.combination-combination.ensures c.events-events.result.now c.events-events.ensures.value))
 
 pub first_possible-requires-clause-known : goal.first_possible-requires-clause-known
@@ -43,7 +43,7 @@ returns-in_err-source-clause-none c =
     let reads = c.byte_reads.result.now in
     let all = c.byte_reads.ensures in
     subst (λ (o : Option Bool). IfNone o (NoneGoesOnWith p c.args.before.now c.args.between.now)) (sym c.from_residual.ensures)
-    (none_left p c.laws.ensures c.refused_bytes_make_tests_false.ensures c.forced_rounds_have_no_order.ensures c.requires.entered (sound_here p _ same c.events-events.result.now c.events-events.ensures.value c.events-events.ensures.sound)
+    (none_left p c.laws_below.ensures c.refused_bytes_make_tests_false.ensures c.forced_rounds_have_no_order.ensures c.requires.entered (sound_here p _ same c.events-events.result.now c.events-events.ensures.value c.events-events.ensures.sound)
     c.args.number _ _ (read_here p _ same reads all no_read c.args.number c.requires.known) c.candidates-candidates.result.now
     (lists_of p _ same reads all no_read c.args.number c.requires.known c.candidates-candidates.result.now c.candidates-candidates.ensures.lists) c.args.before.now c.args.between.now c.in_err-source.ensures.none)
 
@@ -53,7 +53,7 @@ returns-then-close-clause-foreseen c =
     let same = c.combination-combination.ensures in
     let reads = c.byte_reads.result.now in
     let all = c.byte_reads.ensures in
-    let always = one_left p c.laws.ensures c.refused_bytes_make_tests_false.ensures c.forced_rounds_have_no_order.ensures c.requires.entered (sound_here p _ same c.events-events.result.now c.events-events.ensures.value c.events-events.ensures.sound)
+    let always = one_left p c.laws_below.ensures c.refused_bytes_make_tests_false.ensures c.forced_rounds_have_no_order.ensures c.requires.entered (sound_here p _ same c.events-events.result.now c.events-events.ensures.value c.events-events.ensures.sound)
     c.args.number _ _ (read_here p _ same reads all no_read c.args.number c.requires.known) c.candidates-candidates.result.now
     (lists_of p _ same reads all no_read c.args.number c.requires.known c.candidates-candidates.result.now c.candidates-candidates.ensures.lists) c.args.before.now c.args.between.now c.in_ok-source.source (c.is_only.ensures c.if-not-is_only.false) in
     let closed = c.close.ensures.foreseen c.if-close.true in
@@ -65,7 +65,7 @@ returns-else-close-clause-none c x goes =
     let same = c.combination-combination.ensures in
     let reads = c.byte_reads.result.now in
     let all = c.byte_reads.ensures in
-    let always = one_left p c.laws.ensures c.refused_bytes_make_tests_false.ensures c.forced_rounds_have_no_order.ensures c.requires.entered (sound_here p _ same c.events-events.result.now c.events-events.ensures.value c.events-events.ensures.sound)
+    let always = one_left p c.laws_below.ensures c.refused_bytes_make_tests_false.ensures c.forced_rounds_have_no_order.ensures c.requires.entered (sound_here p _ same c.events-events.result.now c.events-events.ensures.value c.events-events.ensures.sound)
     c.args.number _ _ (read_here p _ same reads all no_read c.args.number c.requires.known) c.candidates-candidates.result.now
     (lists_of p _ same reads all no_read c.args.number c.requires.known c.candidates-candidates.result.now c.candidates-candidates.ensures.lists) c.args.before.now c.args.between.now c.in_ok-source.source (c.is_only.ensures c.if-not-is_only.false) in
     c.close.ensures.none c.if-close.false x (c.put_source.ensures.kept x goes (always x goes))

@@ -3,7 +3,7 @@ use Rattle.std.proofs.lemmas.Bool.{false≢true}
 use Rattle.std.proofs.lemmas.Option.{slice_get_within}
 use Rattle.lit_read.specs.Syntax.{Litmus}
 use Rattle.lit_paths.specs.Outcome.{names_of}
-use Rattle.lit_search.specs.Internal.Held.{read_held}
+use Rattle.lit_valid.specs.PartOutcome.{read_held}
 use Rattle.lit_search.proofs.NextLemmas.{one_more_name}
 use Rattle.lit_search.proofs.cursor.held.is_asked.Goals.{else-asks-via-then-asks+else-holds_read, else-asks-via-else-asks}
 use Rattle.lit_search.proofs.cursor.held.is_asked.Goals as goal

@@ -1,7 +1,7 @@
 use Rattle.std.proofs.Common.{◌≡◌, ◌≢◌, ℕ, ◌<◌, Some}
 use Rattle.std.specs.Prelude.{IsTrue, slice_get}
 use Rattle.lit_paths.specs.Outcome.{names_of}
-use Rattle.lit_search.specs.Internal.Held.{read_held}
+use Rattle.lit_valid.specs.PartOutcome.{read_held}
 use Rattle.lit_search.proofs.cursor.held.is_asked.Given as goal
 
 abbrev pub invariant-loop-name : goal.invariant-loop-name

@@ -8,7 +8,8 @@ use Rattle.lit_paths.specs.declared.byte_reads.ByteRead.{ByteRead}
 use Rattle.lit_paths.specs.ByteReads.{byte_reads, pair_of}
 use Rattle.lit_paths.specs.Plan.{events_in}
 use Rattle.lit_rel.specs.Part.{part_events}
-use Rattle.lit_search.specs.Internal.Held.{reads_held, value_held}
+use Rattle.lit_valid.specs.PartOutcome.{value_held}
+use Rattle.lit_search.specs.Internal.Held.{reads_held}
 use Rattle.lit_search.proofs.LeftOutLemmas.{pair_there}
 use Rattle.lit_search.proofs.WholeValues.{other_read}
 use Rattle.lit_search.proofs.cursor.held.put_last_value.Goals.{then-is_that, else-is_that}

@@ -3,7 +3,8 @@ use Rattle.std.specs.Prelude.{slice_get, slice_index}
 use Rattle.lit_paths.specs.declared.limits.TheConstants.{NAME_LIMIT}
 use Rattle.lit_rel.specs.Growth.{IsGivenWhole}
 use Rattle.lit_rel.specs.Part.{part_events}
-use Rattle.lit_search.specs.Internal.Held.{reads_held, value_held}
+use Rattle.lit_valid.specs.PartOutcome.{value_held}
+use Rattle.lit_search.specs.Internal.Held.{reads_held}
 use Rattle.lit_search.proofs.cursor.held.put_last_value.Given as goal
 
 abbrev pub invariant-loop-place : goal.invariant-loop-place

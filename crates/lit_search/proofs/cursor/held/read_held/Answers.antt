@@ -1,6 +1,6 @@
 use Rattle.std.proofs.Common.{None, length, ap, sym, ◌∙◌, arith}
 use Rattle.std.specs.Prelude.{slice_index_or}
-use Rattle.lit_search.proofs.HeldLemmas.{held_within}
+use Rattle.lit_valid.proofs.HeldLemmas.{held_within}
 use Rattle.lit_search.proofs.cursor.held.read_held.Goals as goal
 
 pub overflow_add-result : goal.overflow_add-result

@@ -2,7 +2,7 @@ use Rattle.std.proofs.Common.{◌≡◌, ℕ, List, Option, [], ◌∷◌, ◌++
 use Rattle.std.proofs.lemmas.List.{length-take-le, length-map, map-append, take_all, take_more}
 use Rattle.lit_read.specs.Syntax.{Litmus}
 use Rattle.lit_paths.specs.Outcome.{names_of}
-use Rattle.lit_search.specs.Internal.Held.{read_held}
+use Rattle.lit_valid.specs.PartOutcome.{read_held}
 use Rattle.lit_search.proofs.cursor.held.set_held.Goals as goal
 
 pub push-requires : goal.push-requires

@@ -1,5 +1,5 @@
 use Rattle.std.proofs.Common.{◌≡◌, map, take}
-use Rattle.lit_search.specs.Internal.Held.{read_held}
+use Rattle.lit_valid.specs.PartOutcome.{read_held}
 use Rattle.lit_search.proofs.cursor.held.set_held.Given as goal
 
 abbrev pub invariant-loop-name : goal.invariant-loop-name

@@ -1,7 +1,7 @@
 use Rattle.std.proofs.Common.{◌≡◌, ℕ, List, Option, None, [], ◌∷◌, ◌++◌, length, map, take, get_or, refl, ap, ap₂, sym, ◌∙◌, arith}
 use Rattle.std.proofs.lemmas.List.{length-take-le, length-map, map-append, take_all, take_more}
 use Rattle.lit_paths.specs.Outcome.{names_of}
-use Rattle.lit_search.specs.Internal.Held.{read_held, value_held}
+use Rattle.lit_valid.specs.PartOutcome.{read_held, value_held}
 use Rattle.lit_search.proofs.cursor.held.set_outcome.Goals as goal
 
 pub loop-read-init : goal.loop-read-init

@@ -1,5 +1,5 @@
 use Rattle.std.proofs.Common.{◌≡◌, map, take}
-use Rattle.lit_search.specs.Internal.Held.{value_held}
+use Rattle.lit_valid.specs.PartOutcome.{value_held}
 use Rattle.lit_search.proofs.cursor.held.set_outcome.Given as goal
 
 abbrev pub invariant-loop-read : goal.invariant-loop-read

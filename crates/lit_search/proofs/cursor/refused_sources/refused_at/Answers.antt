@@ -19,7 +19,7 @@ refused_among-requires-clause-known c k w at =
 
 pub refused_among-requires-clause-read : goal.refused_among-requires-clause-read
 refused_among-requires-clause-read c =
-    its_event (part_on c.args.combination.now) _ refl c.byte_reads.result.now c.byte_reads.ensures no_read c.args.depth c.requires.known (c.laws.ensures.of_events (part_events (part_on c.args.combination.now)))
+    its_event (part_on c.args.combination.now) _ refl c.byte_reads.result.now c.byte_reads.ensures no_read c.args.depth c.requires.known (c.laws_below.ensures.of_events (part_events (part_on c.args.combination.now)))
 
 pub returns : goal.returns
 returns c =

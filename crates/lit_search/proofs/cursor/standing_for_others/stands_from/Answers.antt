@@ -14,17 +14,17 @@ no_read = record { read = 0; byte = 0 }
 
 pub never_synchronizes-requires : goal.never_synchronizes-requires
 never_synchronizes-requires c =
-    let last = last_read c.laws.ensures c.args.part.now _ (its_reads c.args.part.now _ c.combination.ensures _ c.byte_reads-reads.ensures) c.len-last.result c.len-last.ensures.value c.requires.some c.len-last.ensures.few no_read in
+    let last = last_read c.laws_below.ensures c.args.part.now _ (its_reads c.args.part.now _ c.combination.ensures _ c.byte_reads-reads.ensures) c.len-last.result c.len-last.ensures.value c.requires.some c.len-last.ensures.few no_read in
     omega (arith, last.known, c.from-event.ensures)
 
 pub has_settled_past-requires : goal.has_settled_past-requires
 has_settled_past-requires c =
-    let last = last_read c.laws.ensures c.args.part.now _ (its_reads c.args.part.now _ c.combination.ensures _ c.byte_reads-reads.ensures) c.len-last.result c.len-last.ensures.value c.requires.some c.len-last.ensures.few no_read in
+    let last = last_read c.laws_below.ensures c.args.part.now _ (its_reads c.args.part.now _ c.combination.ensures _ c.byte_reads-reads.ensures) c.len-last.result c.len-last.ensures.value c.requires.some c.len-last.ensures.few no_read in
     omega (arith, last.known, c.from-event.ensures)
 
 pub all_can_stand-requires : goal.all_can_stand-requires
 all_can_stand-requires c =
-    let last = last_read c.laws.ensures c.args.part.now _ (its_reads c.args.part.now _ c.combination.ensures _ c.byte_reads-reads.ensures) c.len-last.result c.len-last.ensures.value c.requires.some c.len-last.ensures.few no_read in
+    let last = last_read c.laws_below.ensures c.args.part.now _ (its_reads c.args.part.now _ c.combination.ensures _ c.byte_reads-reads.ensures) c.len-last.result c.len-last.ensures.value c.requires.some c.len-last.ensures.few no_read in
     omega (arith, last.known, c.from-event.ensures)
 
 pub returns-then-all_can_stand-clause-stands : goal.returns-then-all_can_stand-clause-stands
@@ -32,7 +32,7 @@ returns-then-all_can_stand-clause-stands c =
     let p = c.args.part.now in
     let reads = c.byte_reads-reads.result.now in
     let all = its_reads p _ c.combination.ensures reads c.byte_reads-reads.ensures in
-    let last = last_read c.laws.ensures p _ all c.len-last.result c.len-last.ensures.value c.requires.some c.len-last.ensures.few no_read in (
+    let last = last_read c.laws_below.ensures p _ all c.len-last.result c.len-last.ensures.value c.requires.some c.len-last.ensures.few no_read in (
       (get_or reads (c.len-last.result - 1) no_read).read,
       record {
         free = record {

@@ -16,39 +16,39 @@ no_read = record { read = 0; byte = 0 }
 
 pub event_at-requires : goal.event_at-requires
 event_at-requires c =
-    let at = at_last c.laws.ensures c.args.part.now _ c.combination-combination.ensures _ c.events-events.ensures.value c.events-events.ensures.sound _ c.byte_reads.ensures _ c.len-place.ensures.value c.requires.some c.len-place.ensures.few c.len-place.ensures.candidates c.args.source no_read c.requires.last in
+    let at = at_last c.laws_below.ensures c.args.part.now _ c.combination-combination.ensures _ c.events-events.ensures.value c.events-events.ensures.sound _ c.byte_reads.ensures _ c.len-place.ensures.value c.requires.some c.len-place.ensures.few c.len-place.ensures.candidates c.args.source no_read c.requires.last in
     let len : length c.events-events.result.now ≡ length (part_events c.args.part.now) = ap (λ (es : List Event). length es) c.events-events.ensures.value ∙ ap (λ (x : Litmus × ℕ). length (events_in x.0 x.1)) c.combination-combination.ensures in
     subst (λ (n : ℕ). n < length c.events-events.result.now) (sym c.from-read.ensures) (omega (arith, at.known, len))
 
 pub returns-then-source-at : goal.returns-then-source-at
 returns-then-source-at c =
-    let at = at_last c.laws.ensures c.args.part.now _ c.combination-combination.ensures _ c.events-events.ensures.value c.events-events.ensures.sound _ c.byte_reads.ensures _ c.len-place.ensures.value c.requires.some c.len-place.ensures.few c.len-place.ensures.candidates c.args.source no_read c.requires.last in
+    let at = at_last c.laws_below.ensures c.args.part.now _ c.combination-combination.ensures _ c.events-events.ensures.value c.events-events.ensures.sound _ c.byte_reads.ensures _ c.len-place.ensures.value c.requires.some c.len-place.ensures.few c.len-place.ensures.candidates c.args.source no_read c.requires.last in
     ((λ h. absurd (false≢true h)), (λ is. absurd ((stood_here _ _ _ _ at is).1 c.if-source-at.true)))
 
 pub tells_nothing-requires-clause-known : goal.tells_nothing-requires-clause-known
 tells_nothing-requires-clause-known c =
-    let at = at_last c.laws.ensures c.args.part.now _ c.combination-combination.ensures _ c.events-events.ensures.value c.events-events.ensures.sound _ c.byte_reads.ensures _ c.len-place.ensures.value c.requires.some c.len-place.ensures.few c.len-place.ensures.candidates c.args.source no_read c.requires.last in
+    let at = at_last c.laws_below.ensures c.args.part.now _ c.combination-combination.ensures _ c.events-events.ensures.value c.events-events.ensures.sound _ c.byte_reads.ensures _ c.len-place.ensures.value c.requires.some c.len-place.ensures.few c.len-place.ensures.candidates c.args.source no_read c.requires.last in
     at.candidate.known
 
 pub is_first-requires-clause-read : goal.is_first-requires-clause-read
 is_first-requires-clause-read c =
-    let at = at_last c.laws.ensures c.args.part.now _ c.combination-combination.ensures _ c.events-events.ensures.value c.events-events.ensures.sound _ c.byte_reads.ensures _ c.len-place.ensures.value c.requires.some c.len-place.ensures.few c.len-place.ensures.candidates c.args.source no_read c.requires.last in
+    let at = at_last c.laws_below.ensures c.args.part.now _ c.combination-combination.ensures _ c.events-events.ensures.value c.events-events.ensures.sound _ c.byte_reads.ensures _ c.len-place.ensures.value c.requires.some c.len-place.ensures.few c.len-place.ensures.candidates c.args.source no_read c.requires.last in
     omega (arith, at.known, c.order.ensures.len)
 
 pub is_first-requires-clause-known : goal.is_first-requires-clause-known
 is_first-requires-clause-known c k w here =
-    let at = at_last c.laws.ensures c.args.part.now _ c.combination-combination.ensures _ c.events-events.ensures.value c.events-events.ensures.sound _ c.byte_reads.ensures _ c.len-place.ensures.value c.requires.some c.len-place.ensures.few c.len-place.ensures.candidates c.args.source no_read c.requires.last in
+    let at = at_last c.laws_below.ensures c.args.part.now _ c.combination-combination.ensures _ c.events-events.ensures.value c.events-events.ensures.sound _ c.byte_reads.ensures _ c.len-place.ensures.value c.requires.some c.len-place.ensures.few c.len-place.ensures.candidates c.args.source no_read c.requires.last in
     let lists = lists_last c.args.part.now _ c.combination-combination.ensures c.len-place.result c.len-place.ensures.value _ _ at.is_read c.candidates.result.now c.candidates.ensures.lists in
     omega (arith, (lists.only k w here).known, c.order.ensures.len)
 
 pub has_settled_past-requires : goal.has_settled_past-requires
 has_settled_past-requires c =
-    let at = at_last c.laws.ensures c.args.part.now _ c.combination-combination.ensures _ c.events-events.ensures.value c.events-events.ensures.sound _ c.byte_reads.ensures _ c.len-place.ensures.value c.requires.some c.len-place.ensures.few c.len-place.ensures.candidates c.args.source no_read c.requires.last in
+    let at = at_last c.laws_below.ensures c.args.part.now _ c.combination-combination.ensures _ c.events-events.ensures.value c.events-events.ensures.sound _ c.byte_reads.ensures _ c.len-place.ensures.value c.requires.some c.len-place.ensures.few c.len-place.ensures.candidates c.args.source no_read c.requires.last in
     subst (λ (n : ℕ). n < length (part_events c.args.part.now)) (sym c.from-read.ensures) at.known
 
 pub returns-then-not-is_unordered : goal.returns-then-not-is_unordered
 returns-then-not-is_unordered c =
-    let at = at_last c.laws.ensures c.args.part.now _ c.combination-combination.ensures _ c.events-events.ensures.value c.events-events.ensures.sound _ c.byte_reads.ensures _ c.len-place.ensures.value c.requires.some c.len-place.ensures.few c.len-place.ensures.candidates c.args.source no_read c.requires.last in
+    let at = at_last c.laws_below.ensures c.args.part.now _ c.combination-combination.ensures _ c.events-events.ensures.value c.events-events.ensures.sound _ c.byte_reads.ensures _ c.len-place.ensures.value c.requires.some c.len-place.ensures.few c.len-place.ensures.candidates c.args.source no_read c.requires.last in
     let events_are : c.events-events.result.now ≡ part_events c.args.part.now = c.events-events.ensures.value ∙ ap (λ (x : Litmus × ℕ). events_in x.0 x.1) c.combination-combination.ensures in
     let order : c.event_at.result.now ≡ event_at (part_events c.args.part.now) (get_or c.byte_reads.result.now (c.len-place.result - 1) no_read).read =
     c.event_at.ensures ∙ ap (λ (es : List Event). event_at es c.from-read.result) events_are ∙ ap (event_at (part_events c.args.part.now)) c.from-read.ensures in
@@ -56,12 +56,12 @@ returns-then-not-is_unordered c =
 
 pub returns-then-not-tells_nothing : goal.returns-then-not-tells_nothing
 returns-then-not-tells_nothing c =
-    let at = at_last c.laws.ensures c.args.part.now _ c.combination-combination.ensures _ c.events-events.ensures.value c.events-events.ensures.sound _ c.byte_reads.ensures _ c.len-place.ensures.value c.requires.some c.len-place.ensures.few c.len-place.ensures.candidates c.args.source no_read c.requires.last in
+    let at = at_last c.laws_below.ensures c.args.part.now _ c.combination-combination.ensures _ c.events-events.ensures.value c.events-events.ensures.sound _ c.byte_reads.ensures _ c.len-place.ensures.value c.requires.some c.len-place.ensures.few c.len-place.ensures.candidates c.args.source no_read c.requires.last in
     ((λ h. absurd (false≢true h)), (λ is. c.if-not-tells_nothing.ensures.1 (stood_here _ _ _ _ at is).0.stored))
 
 pub returns-then-not-is_first : goal.returns-then-not-is_first
 returns-then-not-is_first c =
-    let at = at_last c.laws.ensures c.args.part.now _ c.combination-combination.ensures _ c.events-events.ensures.value c.events-events.ensures.sound _ c.byte_reads.ensures _ c.len-place.ensures.value c.requires.some c.len-place.ensures.few c.len-place.ensures.candidates c.args.source no_read c.requires.last in
+    let at = at_last c.laws_below.ensures c.args.part.now _ c.combination-combination.ensures _ c.events-events.ensures.value c.events-events.ensures.sound _ c.byte_reads.ensures _ c.len-place.ensures.value c.requires.some c.len-place.ensures.few c.len-place.ensures.candidates c.args.source no_read c.requires.last in
     let lists = lists_last c.args.part.now _ c.combination-combination.ensures c.len-place.result c.len-place.ensures.value _ _ at.is_read c.candidates.result.now c.candidates.ensures.lists in (
       (λ h. absurd (false≢true h)),
       (λ is. c.if-not-is_first.ensures.1 (first_here _ _ _ _ at c.requires.whole c.order.result.now.rows c.order.ensures.len c.order.ensures.pairs c.candidates.result.now lists is)),
@@ -69,7 +69,7 @@ returns-then-not-is_first c =
 
 pub returns : goal.returns
 returns c =
-    let at = at_last c.laws.ensures c.args.part.now _ c.combination-combination.ensures _ c.events-events.ensures.value c.events-events.ensures.sound _ c.byte_reads.ensures _ c.len-place.ensures.value c.requires.some c.len-place.ensures.few c.len-place.ensures.candidates c.args.source no_read c.requires.last in
+    let at = at_last c.laws_below.ensures c.args.part.now _ c.combination-combination.ensures _ c.events-events.ensures.value c.events-events.ensures.sound _ c.byte_reads.ensures _ c.len-place.ensures.value c.requires.some c.len-place.ensures.few c.len-place.ensures.candidates c.args.source no_read c.requires.last in
     let events_are : c.events-events.result.now ≡ part_events c.args.part.now = c.events-events.ensures.value ∙ ap (λ (x : Litmus × ℕ). events_in x.0 x.1) c.combination-combination.ensures in
     let order : c.event_at.result.now ≡ event_at (part_events c.args.part.now) (get_or c.byte_reads.result.now (c.len-place.result - 1) no_read).read =
     c.event_at.ensures ∙ ap (λ (es : List Event). event_at es c.from-read.result) events_are ∙ ap (event_at (part_events c.args.part.now)) c.from-read.ensures in

@@ -18,5 +18,5 @@ returns-in-Some-clause-coming c kept h =
     let named : AreNamed s.test = subst (λ (t : Litmus). P t (names_of t)) (sym c.requires.test) (subst (P c.args.plan.now) c.names-names.ensures.value c.names-names.ensures.known) in
     let numbers = c.args.self.now.numbers.items in
     let listed : AreItems s.test s.combination (λ outcome. ¬ HasOutcome kept outcome) numbers c.in-Some.items.items = subst (λ (o : Option _). IfSome o (λ items. AreItems s.test s.combination (λ outcome. ¬ HasOutcome kept outcome) numbers items.items)) c.in-Some.is h in
-    still_listed c.laws.ensures s c.part-part.ensures.entered named (length-sources (stand_events s) 0 s.places ∙ c.requires.all) (λ outcome. ¬ HasOutcome kept outcome) numbers c.in-Some.items.items c.take_out.new.items.items
+    still_listed c.laws_below.ensures s c.part-part.ensures.entered named (length-sources (stand_events s) 0 s.places ∙ c.requires.all) (λ outcome. ¬ HasOutcome kept outcome) numbers c.in-Some.items.items c.take_out.new.items.items
     (λ j item at. subst (λ (ns : List ℕ). AllStoreAs (part_at s) ns item.sources.items ⊎ ((i : ℕ) × (slice_get c.take_out.new.items.items i ≡ Some item))) c.as_slice.ensures.value (c.take_out.ensures j item at)) listed

@@ -61,7 +61,7 @@ foreseen_with-more-requires-clause-read t c =
     let p = c.args.part.now in
     let number = c.from-number.result in
     let known : number < length (byte_reads (part_events p)) = omega (arith, c.from-number.ensures, All-get_or (λ (k : ℕ). k < length (byte_reads (part_events p))) c.args.numbers.now c.len-2.result 0 (omega arith) c.requires.numbers) in
-    its_event p _ c.combination-combination.ensures c.byte_reads.result.now c.byte_reads.ensures no_read number known (c.laws.ensures.of_events (part_events p))
+    its_event p _ c.combination-combination.ensures c.byte_reads.result.now c.byte_reads.ensures no_read number known (c.laws_below.ensures.of_events (part_events p))
 
 pub list_on-requires : goal.list_on-requires
 list_on-requires t c =

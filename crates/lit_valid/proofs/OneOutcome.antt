@@ -11,11 +11,11 @@ use Rattle.lit_paths.specs.Path.{Path}
 use Rattle.lit_paths.specs.Plan.{choices_before}
 use Rattle.lit_paths.proofs.NameSteps.{names_from-within}
 use Rattle.lit_rel.specs.Part.{PartModel, with_sources}
-use Rattle.lit_search.specs.Completion.{Completes, IsEntered}
-use Rattle.lit_search.specs.Report.{Gives}
-use Rattle.lit_search.specs.Internal.Held.{part_outcome}
-use Rattle.lit_search.specs.Internal.Laws.{Laws}
-use Rattle.lit_search.proofs.CompletionLemmas.{its_outcome}
+use Rattle.lit_valid.specs.Completion.{Completes, IsEntered}
+use Rattle.lit_valid.specs.Gives.{Gives}
+use Rattle.lit_valid.specs.PartOutcome.{part_outcome}
+use Rattle.lit_valid.specs.Laws.{Laws}
+use Rattle.lit_valid.proofs.CompletionLemmas.{its_outcome}
 
 -- where a number stands among others that begin at 0
 stands : (f : ℕ → ℕ) (k n : ℕ) → f 0 ≤ n → n < f k → (c : ℕ) × (c < k) × (f c ≤ n) × (n < f (c + 1))

@@ -10,10 +10,10 @@ use Rattle.lit_paths.specs.Path.{Path}
 use Rattle.lit_paths.specs.Plan.{accesses_on, combination_at, events_in, first_event}
 use Rattle.lit_paths.specs.Run.{Run, IsRun, run_path}
 use Rattle.lit_rel.specs.ReadsFrom.{value_of}
-use Rattle.lit_search.specs.ValidExecution.{read_numbers, read_numbers_from}
-use Rattle.lit_search.specs.Internal.Laws.{ChooseForEachRead}
-use Rattle.lit_search.specs.Internal.GivenRuns.{AreGivenRuns, path_at}
-use Rattle.lit_search.proofs.Takings.{AreTaken, AreCounted, taken_apart, taken_together, taken_at, taken_each, counted_each, read_numbers-accesses}
+use Rattle.lit_valid.specs.ValidExecution.{read_numbers, read_numbers_from}
+use Rattle.lit_valid.specs.Laws.{ChooseForEachRead}
+use Rattle.lit_valid.specs.Internal.GivenRuns.{AreGivenRuns, path_at}
+use Rattle.lit_valid.proofs.Takings.{AreTaken, AreCounted, taken_apart, taken_together, taken_at, taken_each, counted_each, read_numbers-accesses}
 
 abbrev pub no_run : Run
 no_run = record { values = []; decisions = []; events = []; registers = [] }

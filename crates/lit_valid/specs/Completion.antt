@@ -6,7 +6,7 @@ use Rattle.lit_paths.specs.Execution.{Execution}
 use Rattle.lit_paths.specs.Plan.{combination_at}
 use Rattle.lit_paths.specs.Run.{run_path}
 use Rattle.lit_rel.specs.Part.{PartModel}
-use Rattle.lit_search.specs.ValidExecution.{IsValidExecution}
+use Rattle.lit_valid.specs.ValidExecution.{IsValidExecution}
 
 -- a part of a combination of a test that a text can say
 pub record IsEntered (part : PartModel) : Type 0 where

@@ -25,14 +25,14 @@ use Rattle.lit_rel.specs.ReadsFrom.{value_of}
 use Rattle.lit_rel.specs.TearFree.{HasTearFreeReads}
 use Rattle.lit_order.specs.MemoryOrder.{IsMemoryOrder}
 use Rattle.lit_order.specs.Refuted.{IsForcedRound, IsRefuted}
-use Rattle.lit_search.specs.Completion.{Completes, IsEntered}
-use Rattle.lit_search.specs.ValidExecution.{IsValidExecution, read_numbers}
-use Rattle.lit_search.specs.Internal.GivenRuns.{AreGivenRuns, HasGivenRun, IsGivenRun}
-use Rattle.lit_search.specs.Internal.Laws.{ChooseForEachRead, Laws}
-use Rattle.lit_search.specs.Internal.Held.{part_outcome, value_held}
-use Rattle.lit_search.proofs.HeldLemmas.{held_by_run, holds, run_where_true, true_of_run}
-use Rattle.lit_search.proofs.RunLemmas.{given_apart, given_together, made, no_path, no_run}
-use Rattle.lit_search.proofs.Takings.{gathered}
+use Rattle.lit_valid.specs.Completion.{Completes, IsEntered}
+use Rattle.lit_valid.specs.ValidExecution.{IsValidExecution, read_numbers}
+use Rattle.lit_valid.specs.Internal.GivenRuns.{AreGivenRuns, HasGivenRun, IsGivenRun}
+use Rattle.lit_valid.specs.Laws.{ChooseForEachRead, Laws}
+use Rattle.lit_valid.specs.PartOutcome.{part_outcome, value_held}
+use Rattle.lit_valid.proofs.HeldLemmas.{held_by_run, holds, run_where_true, true_of_run}
+use Rattle.lit_valid.proofs.RunLemmas.{given_apart, given_together, made, no_path, no_run}
+use Rattle.lit_valid.proofs.Takings.{gathered}
 
 -- ---- laws of the crates below
 -- an agent's runs, by the laws

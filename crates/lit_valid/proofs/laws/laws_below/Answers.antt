@@ -1,4 +1,4 @@
-use Rattle.lit_search.proofs.laws.completions.laws.Goals as goal
+use Rattle.lit_valid.proofs.laws.laws_below.Goals as goal
 
 pub returns : goal.returns
 returns c = record {

@@ -5,7 +5,7 @@ use Rattle.lit_paths.specs.Path.{Path}
 use Rattle.lit_paths.specs.Plan.{combination_at, events_in, first_event}
 use Rattle.lit_paths.specs.Run.{Run, IsRun, run_path}
 use Rattle.lit_rel.specs.ReadsFrom.{value_of}
-use Rattle.lit_search.specs.ValidExecution.{read_numbers_from}
+use Rattle.lit_valid.specs.ValidExecution.{read_numbers_from}
 
 -- the path of an agent in a combination; past the last agent, a path of nothing
 abbrev pub path_at : Litmus → ℕ → ℕ → Path

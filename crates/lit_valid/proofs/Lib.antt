@@ -1,0 +1,5 @@
+pub mod HeldLemmas
+pub mod Takings
+pub mod RunLemmas
+pub mod CompletionLemmas
+pub mod OneOutcome

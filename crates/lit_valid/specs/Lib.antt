@@ -1,0 +1,7 @@
+pub mod ValidExecution
+pub mod Completion
+pub mod Gives
+pub mod Class
+pub mod PartOutcome
+pub mod Laws
+pub mod Internal

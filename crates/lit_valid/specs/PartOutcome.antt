@@ -1,0 +1,21 @@
+-- What the registers hold at the end of a combination's paths, by the sources of a part (this project's own).
+use Rattle.std.specs.Prelude.{ℕ, Option, Some, None, List, map, slice_index_or}
+use Rattle.lit_read.specs.Syntax.{Litmus}
+use Rattle.lit_paths.specs.Outcome.{names_of}
+use Rattle.lit_paths.specs.Plan.{first_event, path_in}
+use Rattle.lit_rel.specs.Broken.{number_on}
+use Rattle.lit_rel.specs.Part.{PartModel, part_events}
+use Rattle.lit_rel.specs.ReadsFrom.{value_of}
+
+-- the number of the read that a register, named by agent and register, holds
+abbrev pub read_held : Litmus → ℕ → ℕ × ℕ → Option ℕ
+read_held t c name = number_on (first_event t c name.0) (slice_index_or (path_in t c name.0).last name.1 None)
+
+-- the value of a read by the sources given, or 0 where there is none
+abbrev pub value_held : PartModel → Option ℕ → ℕ
+value_held part None = 0
+value_held part (Some r) = value_of (part_events part) part.sources r
+
+-- what the registers of an outcome hold by the sources given
+abbrev pub part_outcome : PartModel → List ℕ
+part_outcome part = map (λ name. value_held part (read_held part.test part.combination name)) (names_of part.test)
