@@ -12,7 +12,7 @@ use Rattle.lit_paths.specs.declared.fault.PlanFault.{PlanFault}
 use Rattle.lit_paths.specs.Plan.{IsRefusal}
 use Rattle.lit_valid.specs.declared.class.Class.{Class}
 use Rattle.lit_valid.specs.declared.class.Class.TheVariants.{Met, Unmet}
-use Rattle.lit_search.specs.Class.{IsFirstOf}
+use Rattle.lit_search.specs.FirstOfClass.{IsFirstOf}
 use Rattle.lit_valid.specs.Gives.{Gives}
 use Rattle.lit_search.specs.Report.{Report, IsReport, entry_at, in_range}
 use Rattle.jslit.specs.declared.fault.RunFault.{RunFault}

@@ -3,7 +3,7 @@ use Rattle.std.specs.Prelude.{◌≡◌, ℕ, List, Option, Some, None, length}
 use Rattle.lit_read.specs.Syntax.{Litmus}
 use Rattle.lit_paths.specs.Choice.{choices_of}
 use Rattle.lit_valid.specs.declared.class.Class.{Class}
-use Rattle.lit_search.specs.Class.{HasNoneOf, IsFirstOf}
+use Rattle.lit_search.specs.FirstOfClass.{HasNoneOf, IsFirstOf}
 use Rattle.lit_valid.specs.Gives.{Gives, HasLeastOrder}
 use Rattle.lit_search.specs.Report.{Entry, in_range}
 

@@ -9,7 +9,7 @@ use Rattle.std.proofs.lemmas.Map.Lookups.{exact_bytes}
 use Rattle.lit_read.specs.Syntax.{Litmus}
 use Rattle.lit_valid.specs.declared.class.Class.{Class}
 use Rattle.lit_valid.specs.Class.{GivesClass, is_of_class}
-use Rattle.lit_search.specs.Class.{HasNoneOf, IsFirstOf}
+use Rattle.lit_search.specs.FirstOfClass.{HasNoneOf, IsFirstOf}
 use Rattle.lit_search.specs.Collected.{Collected, HasTaken}
 use Rattle.lit_search.specs.Report.{Entry, HasRaceIn, IsReport, in_either, in_range}
 use Rattle.lit_search.specs.Internal.Examined.{IsExample}

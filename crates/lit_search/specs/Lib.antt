@@ -3,7 +3,7 @@ pub mod StandsFor
 pub mod Report
 pub mod Merge
 pub mod Collected
-pub mod Class
+pub mod FirstOfClass
 pub mod Internal
 pub mod Examples
 pub mod Ranked

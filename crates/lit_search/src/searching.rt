@@ -2,7 +2,7 @@
 
 ghost use Rattle.std.specs.Prelude.{◌≡◌, ◌+◌, ◌<◌, ◌≤◌, length, IfOk, MatchOption};
 ghost use Rattle.lit_paths.specs.Choice.{choices_of};
-ghost use Rattle.lit_search.specs.Class.{HasNoneOf, IsFirstOf};
+ghost use Rattle.lit_search.specs.FirstOfClass.{HasNoneOf, IsFirstOf};
 ghost use Rattle.lit_search.specs.Report.{IsReport, in_range};
 
 use crate::collector::Collector;

@@ -11,7 +11,7 @@ use Rattle.lit_paths.specs.Choice.{choices_of}
 use Rattle.lit_paths.specs.Execution.{execution_choice}
 use Rattle.lit_valid.specs.declared.class.Class.{Class}
 use Rattle.lit_valid.specs.Class.{GivesClass}
-use Rattle.lit_search.specs.Class.{HasNoneOf, IsFirstOf}
+use Rattle.lit_search.specs.FirstOfClass.{HasNoneOf, IsFirstOf}
 use Rattle.lit_valid.specs.Gives.{Gives, HasLeastOrder}
 use Rattle.lit_search.specs.Report.{Entry, Report, IsReport, entry_at, in_range}
 use Rattle.lit_search.proofs.NumberSets.{before_end, not_below, within}

@@ -8,7 +8,7 @@ use Rattle.lit_paths.specs.Choice.{choices_of}
 use Rattle.lit_valid.specs.declared.class.Class.{Class}
 use Rattle.lit_valid.specs.declared.class.Class.TheVariants.{Met, Unmet}
 use Rattle.lit_valid.specs.Class.{GivesClass}
-use Rattle.lit_search.specs.Class.{HasNoneOf, IsFirstOf}
+use Rattle.lit_search.specs.FirstOfClass.{HasNoneOf, IsFirstOf}
 use Rattle.lit_share.specs.Pieces.{in_piece, piece_start}
 use Rattle.lit_share.specs.Drawn.{since}
 

@@ -4,7 +4,7 @@ use Rattle.lit_read.specs.Syntax.{Litmus}
 use Rattle.lit_paths.specs.Choice.{choices_of}
 use Rattle.lit_valid.specs.declared.class.Class.{Class}
 use Rattle.lit_search.specs.declared.found.Example.{Example}
-use Rattle.lit_search.specs.Class.{HasNoneOf, IsFirstOf}
+use Rattle.lit_search.specs.FirstOfClass.{HasNoneOf, IsFirstOf}
 use Rattle.lit_valid.specs.Gives.{HasLeastOrder}
 use Rattle.lit_search.specs.Report.{in_range}
 

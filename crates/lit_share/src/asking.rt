@@ -6,7 +6,7 @@ ghost use Rattle.lit_paths.specs.Choice.{choices_of};
 ghost use Rattle.lit_paths.specs.declared.limits.TheConstants.{CHOICE_LIMIT};
 ghost use Rattle.lit_desk.specs.declared.limits.TheConstants.{MOST_SEATS};
 ghost use Rattle.lit_valid.specs.declared.class.Class.TheVariants as of_class;
-ghost use Rattle.lit_search.specs.Class.{HasNoneOf, IsFirstOf};
+ghost use Rattle.lit_search.specs.FirstOfClass.{HasNoneOf, IsFirstOf};
 ghost use Rattle.lit_valid.specs.Gives.{Gives, HasLeastOrder};
 ghost use Rattle.lit_search.specs.Report.{in_range};
 ghost use Rattle.lit_share.specs.Pieces.{pieces_of};

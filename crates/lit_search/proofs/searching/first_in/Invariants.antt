@@ -1,5 +1,5 @@
 use Rattle.std.proofs.Common.{◌-◌, ◌≤◌}
-use Rattle.lit_search.specs.Class.{HasNoneOf}
+use Rattle.lit_search.specs.FirstOfClass.{HasNoneOf}
 use Rattle.lit_search.specs.Report.{in_range}
 use Rattle.lit_search.proofs.searching.first_in.Given as goal
 

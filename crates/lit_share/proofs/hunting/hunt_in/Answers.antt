@@ -2,7 +2,7 @@ use Rattle.std.proofs.Common.{◌≡◌, ◌<◌, ℕ, Bool, inl, inr, length, s
 use Rattle.std.specs.Prelude.{Contains}
 use Rattle.lit_desk.specs.Desk.{PlaceLists, told_by, seen_by, with_told, with_seen}
 use Rattle.lit_paths.specs.Choice.{choices_of}
-use Rattle.lit_search.specs.Class.{IsFirstOf}
+use Rattle.lit_search.specs.FirstOfClass.{IsFirstOf}
 use Rattle.lit_share.specs.Pieces.{piece_start}
 use Rattle.lit_share.specs.Hunted.{desk_class, HasTold}
 use Rattle.lit_share.proofs.Cutting.{same_piece}
