@@ -1,0 +1,127 @@
+-- Completions of a box take what it gives, keep what it forces, and have nothing that it leaves out.
+use Rattle.std.proofs.Common.{◌≡◌, inl, inr, ℕ, ◌<◌, Some, List, [], length, get_or, sym, ap, subst, ◌∙◌, arith, append-nil}
+use Rattle.std.specs.Prelude.{slice_get}
+use Rattle.std.proofs.lemmas.Option.{slice_get-get_or, slice_get_within}
+use Rattle.lit_paths.specs.declared.event.Event.{Event}
+use Rattle.lit_paths.specs.ByteReads.{byte_reads}
+use Rattle.lit_paths.specs.Choice.{AreSources}
+use Rattle.lit_paths.specs.Execution.{Execution, execution_events}
+use Rattle.lit_paths.specs.Plan.{AreEventsIn}
+use Rattle.lit_rel.specs.Broken.{IsBroken}
+use Rattle.lit_rel.specs.Coherent.{HasCoherentReads}
+use Rattle.lit_rel.specs.Forbidden.{IsForbidden}
+use Rattle.lit_rel.specs.Growth.{Grows, IsGivenWhole}
+use Rattle.lit_rel.specs.HappensBefore.{HappensBefore}
+use Rattle.lit_rel.specs.InitReads.{AreOfEvents}
+use Rattle.lit_rel.specs.Part.{PartModel}
+use Rattle.lit_rel.specs.ReadsFrom.{ReadsByteFrom}
+use Rattle.lit_rel.specs.TearFree.{HasTearFreeReads, ReadsWholeBy}
+use Rattle.lit_rel.specs.TestedBytes.{RefusedBytesMakeFalse}
+use Rattle.lit_rel.proofs.GrowthLemmas.{Grows-from}
+use Rattle.lit_rel.proofs.SameRelations.{between_by, coherent_read_by}
+use Rattle.lit_order.specs.Forcing.{Given}
+use Rattle.lit_order.specs.MemoryOrder.{IsMemoryOrder, StandsBefore}
+use Rattle.lit_order.proofs.ForcedLemmas.{keeps_forced}
+use Rattle.lit_order.proofs.LevelLemmas.{IsForced-grow}
+use Rattle.lit_order.proofs.PartLemmas.{triples_below}
+use Rattle.lit_order.proofs.StandingLemmas.{StandsBefore-through, never_before_itself}
+use Rattle.lit_valid.specs.Completion.{Completes}
+use Rattle.lit_valid.specs.Laws.{Laws}
+use Rattle.lit_valid.proofs.CompletionLemmas.{its_events, not_broken}
+use Rattle.lit_solve.specs.Box.{Box, IsBox, box_events}
+use Rattle.lit_solve.specs.Completion.{IsCompletion}
+use Rattle.lit_solve.specs.Given.{GivenIn, HappensBeforeIn, IsForbiddenIn, IsForcedIn}
+use Rattle.lit_solve.specs.Out.{IsOut, IsRefuted}
+
+-- the box's combination with these sources
+abbrev pub part_of : Box → List ℕ → PartModel
+part_of box sources = record { test = box.test; combination = box.combination; sources = sources }
+
+module _ (box : Box) (x : Execution) (is : IsCompletion box x) where
+  abbrev events : List Event
+  events = box_events box
+
+  pub completes : Completes (part_of box x.sources) x
+  completes = record { valid = is.valid; on_paths = is.on_paths; rest = []; begun = sym (append-nil x.sources) }
+
+  pub events_same : execution_events box.test x ≡ events
+  events_same = its_events (part_of box x.sources) x completes
+
+  pub sourced : AreSources events x.sources
+  sourced = subst (λ (es : List Event). AreSources es x.sources) events_same is.valid.candidate.sourced
+
+  -- it takes what is given
+  pub given_taken : (r b w : ℕ) → GivenIn box r b w → ReadsByteFrom events x.sources r b w
+  given_taken r b w g = (g.place, g.is_read, there ∙ ap (λ (v : ℕ). Some v) (g.alone.alone (get_or x.sources g.place 0) (is.within g.place (get_or x.sources g.place 0) there)))
+    where
+      inside : g.place < length x.sources
+      inside = omega (arith, sourced.one_each, slice_get_within (byte_reads events) g.place (r, b) g.is_read)
+
+      there : slice_get x.sources g.place ≡ Some (get_or x.sources g.place 0)
+      there = slice_get-get_or x.sources g.place 0 inside
+
+  grows : Grows events (GivenIn box) (ReadsByteFrom events x.sources)
+  grows = Grows-from events (GivenIn box) (ReadsByteFrom events x.sources) given_taken
+
+  pub order_here : (order : List ℕ) → IsMemoryOrder (execution_events box.test x) x.sources order → IsMemoryOrder events x.sources order
+  order_here order o = subst (λ (es : List Event). IsMemoryOrder es x.sources order) events_same o
+
+  -- its memory-orders keep what is forced
+  pub forced_kept : AreOfEvents events → (order : List ℕ) → IsMemoryOrder events x.sources order → (a d : ℕ) → IsForcedIn box a d → StandsBefore order a d
+  forced_kept of_events order o a d f =
+      keeps_forced (length events) (HappensBefore events x.sources) (IsForbidden events x.sources) (triples_below (part_of box x.sources) sourced.each of_events) order o a d
+      (IsForced-grow (HappensBeforeIn box) (HappensBefore events x.sources) (IsForbiddenIn box) (IsForbidden events x.sources) (λ y z h. Given (grows.happens_before y z h)) grows.forbidden a d f)
+
+  coherent : HasCoherentReads events x.sources
+  coherent = subst (λ (es : List Event). HasCoherentReads es x.sources) events_same is.valid.coherent_reads
+
+  tear_free : HasTearFreeReads events x.sources
+  tear_free = subst (λ (es : List Event). HasTearFreeReads es x.sources) events_same is.valid.tear_free_reads
+
+  abbrev its_order : List ℕ
+  its_order = is.valid.ordered.0
+
+  module _ (laws : Laws) (entered : IsBox box) where
+    ordered : IsMemoryOrder events x.sources its_order
+    ordered = order_here its_order is.valid.ordered.1
+
+    stands : (a d : ℕ) → IsForcedIn box a d → StandsBefore its_order a d
+    stands = forced_kept (laws.of_events events) its_order ordered
+
+    whole : ¬ IsBroken (part_of box x.sources)
+    whole = not_broken (part_of box x.sources) x completes laws laws.grow laws.stay (record { litmus = entered.litmus; known = entered.known })
+
+    -- it has no source that is out
+    pub not_out : RefusedBytesMakeFalse → AreEventsIn box.test.bytes events → (k r b w : ℕ) → slice_get (byte_reads events) k ≡ Some (r, b) → slice_get x.sources k ≡ Some w → IsOut box r b w → ⊥
+    not_out false_of sound k r b w is_read source (inl refused) =
+        whole (inr (false_of (part_of box x.sources) r b w sound sourced.one_each (k, is_read, source) refused))
+    not_out false_of sound k r b w is_read source (inr (inl incoherent)) =
+        incoherent (coherent_read_by events (HappensBefore events x.sources) (HappensBeforeIn box) grows.happens_before r b w (coherent r b w (k, is_read, source)))
+    not_out false_of sound k r b w is_read source (inr (inr (inl later))) =
+        let synchronized : HappensBefore events x.sources w r = record { middles = []; chain = inr (inl record { reads = (b, (k, is_read, source)); can = later.can }) } in
+        never_before_itself its_order ordered.complete.once w (StandsBefore-through its_order ordered.complete.once w r w (ordered.keeps w r synchronized) (stands r w later.later))
+    not_out false_of sound k r b w is_read source (inr (inr (inr (inl (v, between))))) =
+        ordered.avoids w r v record {
+          reads = (b, (k, is_read, source));
+          between = between_by events (HappensBeforeIn box) (HappensBefore events x.sources) grows.happens_before w r v between.between;
+        } (stands w v between.after_source) (stands v r between.before_read)
+    not_out false_of sound k r b w is_read source (inr (inr (inr (inr tears)))) =
+        tears.other (tear_free r w tears.source (record { reads = (b, (k, is_read, source)); can = tears.can })
+        (record { reads = (tears.byte, given_taken r tears.byte tears.source tears.is_given); can = tears.can_other }))
+
+    -- the box is not refuted
+    pub not_refuted : IsRefuted box → ⊥
+    not_refuted (inl (e, cycle)) = never_before_itself its_order ordered.complete.once e (stands e e cycle)
+    not_refuted (inr (inl (k, inside, none))) =
+        let here : k < length x.sources = omega (arith, sourced.one_each, inside) in
+        none (get_or x.sources k 0) (is.within k (get_or x.sources k 0) (slice_get-get_or x.sources k 0 here))
+    not_refuted (inr (inr (inl torn))) =
+        torn.two_sources (tear_free torn.read torn.source torn.other (taken torn.read torn.source torn.first) (taken torn.read torn.other torn.second))
+      where
+        taken : (r w : ℕ) → ReadsWholeBy events (GivenIn box) r w → ReadsWholeBy events (ReadsByteFrom events x.sources) r w
+        taken r w reads = record { reads = (reads.reads.0, given_taken r reads.reads.0 w reads.reads.1); can = reads.can }
+    not_refuted (inr (inr (inr (inl unwritten)))) = whole (inr (inl unwritten))
+    not_refuted (inr (inr (inr (inr (r, given, is_false))))) = whole (inr (inr (r, all_given, is_false x.sources sourced is.within)))
+      where
+        all_given : IsGivenWhole events x.sources r
+        all_given i b at = omega (arith, sourced.one_each, slice_get_within (byte_reads events) i (r, b) at)

@@ -1,0 +1,46 @@
+-- What a condition comes to by its members, one after the other.
+use Rattle.std.proofs.Common.{◌≡◌, ℕ, ◌<◌, Bool, true, false, List, length, get_or, ◌∙◌, subst, Vec, Global}
+use Rattle.std.specs.List.{list_all, list_any, zip}
+use Rattle.std.proofs.lemmas.List.Folds.{list_all_at, list_any_at}
+use Rattle.lit_read.specs.declared.syntax.Cond.{Cond}
+use Rattle.lit_read.specs.declared.syntax.Cond as code
+use Rattle.lit_read.specs.Litmus.{condition_of}
+use Rattle.lit_read.specs.Syntax.{Condition}
+use Rattle.lit_paths.specs.Execution.{Execution, execution_outcome}
+use Rattle.lit_paths.specs.Outcome.{holds, names_of}
+use Rattle.lit_paths.proofs.Conditions.{member_holds, holds-All, holds-Any}
+use Rattle.lit_solve.specs.declared.deciding.Decided.{Decided}
+use Rattle.lit_solve.specs.declared.deciding.Decided.TheVariants.{Comes, Hangs}
+use Rattle.lit_solve.specs.Box.{Box}
+use Rattle.lit_solve.specs.Completion.{IsCompletion}
+use Rattle.lit_solve.specs.Internal.Deciding.{IsUndecidedAt}
+
+-- the registers of an outcome with their values
+abbrev pub values_of : Box → Execution → List ((ℕ × ℕ) × ℕ)
+values_of box x = zip (names_of box.test) (execution_outcome box.test x)
+
+-- of an Any, with these members left: none of those before is met, or it hangs
+abbrev pub IsAnyLeft : Box → Condition → List Cond → Decided → Type 0
+IsAnyLeft box condition left (Comes false) = (x : Execution) → IsCompletion box x → holds (values_of box x) condition ≡ list_any (member_holds (values_of box x)) left
+IsAnyLeft box condition left (Comes true) = ⊥
+IsAnyLeft box condition left (Hangs k) = IsUndecidedAt box k
+
+-- of an All: each of those before is met, or it hangs
+abbrev pub IsAllLeft : Box → Condition → List Cond → Decided → Type 0
+IsAllLeft box condition left (Comes true) = (x : Execution) → IsCompletion box x → holds (values_of box x) condition ≡ list_all (member_holds (values_of box x)) left
+IsAllLeft box condition left (Comes false) = ⊥
+IsAllLeft box condition left (Hangs k) = IsUndecidedAt box k
+
+-- ---- members that decide alone
+module _ (values : List ((ℕ × ℕ) × ℕ)) (members : Vec Cond Global) (items : List Cond) (is : items ≡ members.items) (i : ℕ) (member : Cond) (inside : i < length items) (at : member ≡ get_or items i member) where
+  its_member : (met : Bool) → holds values (condition_of member) ≡ met → holds values (condition_of (get_or members.items i member)) ≡ met
+  its_member met h = subst (λ (cs : List Cond). holds values (condition_of (get_or cs i member)) ≡ met) is (subst (λ (c : Cond). holds values (condition_of c) ≡ met) at h)
+
+  within : i < length members.items
+  within = subst (λ (cs : List Cond). i < length cs) is inside
+
+  pub met_by_one : holds values (condition_of member) ≡ true → holds values (condition_of (code.Any members)) ≡ true
+  met_by_one h = holds-Any values members ∙ list_any_at (member_holds values) members.items i member within (its_member true h)
+
+  pub unmet_by_one : holds values (condition_of member) ≡ false → holds values (condition_of (code.All members)) ≡ false
+  unmet_by_one h = holds-All values members ∙ list_all_at (member_holds values) members.items i member within (its_member false h)

@@ -1,0 +1,130 @@
+-- Data races of completions, by what a box gives.
+use Rattle.std.proofs.Common.{◌≡◌, ◌≢◌, ◌⊎◌, inl, inr, ℕ, ◌<◌, Some, List, length, refl, sym, ap, subst, ◌∙◌}
+use Rattle.std.specs.Prelude.{slice_get}
+use Rattle.std.proofs.lemmas.Bool.{cases_eq}
+use Rattle.lit_paths.specs.declared.event.Event.{Event}
+use Rattle.lit_paths.specs.ByteReads.{byte_reads}
+use Rattle.lit_paths.specs.Event.{event_at}
+use Rattle.lit_paths.specs.Execution.{Execution, execution_events}
+use Rattle.lit_rel.specs.DataRace.{HasDataRace, WriteOneByte}
+use Rattle.lit_rel.specs.HappensBefore.{HappensBefore}
+use Rattle.lit_rel.specs.ReadsFrom.{ReadsFrom}
+use Rattle.lit_rel.proofs.RaceLemmas.{HasDataRaceOf-wider}
+use Rattle.lit_valid.specs.Laws.{Laws}
+use Rattle.lit_solve.specs.declared.goal.Goal.TheVariants.{Race}
+use Rattle.lit_solve.specs.Box.{Box, IsBox, box_events}
+use Rattle.lit_solve.specs.Completion.{HasSolution, IsCompletion}
+use Rattle.lit_solve.specs.Fill.{AreCoherentSources, AreSourcesIn, IsFilled, IsQuiet}
+use Rattle.lit_solve.specs.Given.{HappensBeforeIn}
+use Rattle.lit_solve.specs.DataRace.{CanFillFrom, CanRaceIn, HasSourceOf, MayRaceIn}
+use Rattle.lit_solve.proofs.CompletionLemmas.{events_same}
+use Rattle.lit_solve.proofs.FillLemmas.{before_back, completion_of_filled, filled_by, grows_in, no_cycle_given, order_given, sources_lie, unwritten_true}
+use Rattle.lit_solve.proofs.TogetherLemmas.{together, together_agrees, together_fills, together_lies}
+
+-- what can be filled may be read
+pub can_race_may : (box : Box) → CanRaceIn box → MayRaceIn box
+can_race_may box =
+    HasDataRaceOf-wider (box_events box) (HappensBeforeIn box) (HappensBeforeIn box) (CanFillFrom box) (HasSourceOf box) (λ e d h. h)
+    (λ r w can. record { place = can.place; byte = can.byte; is_read = can.is_read; there = can.lie.within can.place w can.takes })
+
+module _ (box : Box) (laws : Laws) (entered : IsBox box) where
+  abbrev events : List Event
+  events = box_events box
+
+  -- a completion's data race is one by what is given
+  pub race_given : (x : Execution) → IsCompletion box x → HasDataRace (execution_events box.test x) x.sources → CanRaceIn box
+  race_given x is race =
+      HasDataRaceOf-wider events (HappensBefore events x.sources) (HappensBeforeIn box) (ReadsFrom events x.sources) (CanFillFrom box)
+      (grows_in box x.sources (sources_lie box x is)).happens_before
+      (λ r w reads. record {
+        place = reads.1.0;
+        byte = reads.0;
+        is_read = reads.1.1;
+        sources = x.sources;
+        lie = sources_lie box x is;
+        takes = reads.1.2;
+        filled = filled_by box x is laws entered r;
+      })
+      (subst (λ (es : List Event). HasDataRace es x.sources) (events_same box x is) race)
+
+  -- ---- in a quiet box that has a completion
+  module _ (quiet : IsQuiet box) (coherent : AreCoherentSources box) (x : Execution) (is : IsCompletion box x) where
+    -- another takes the sources of one read from elsewhere
+    module _ (r : ℕ) (others : List ℕ) (lie : AreSourcesIn box others) (filled : IsFilled box r others) where
+      pick : (q : ℕ) → (q ≡ r) ⊎ (q ≢ r) → List ℕ
+      pick q (inl here) = others
+      pick q (inr elsewhere) = x.sources
+
+      picked : ℕ → List ℕ
+      picked q = pick q (cases_eq q r)
+
+      picked_lies : (q : ℕ) → q < length events → AreSourcesIn box (picked q)
+      unfolding pick picked
+      picked_lies q known = by (cases_eq q r)
+        where
+          by : (same_or : (q ≡ r) ⊎ (q ≢ r)) → AreSourcesIn box (pick q same_or)
+          by (inl here) = lie
+          by (inr elsewhere) = sources_lie box x is
+
+      picked_fills : (q : ℕ) → q < length events → IsFilled box q (picked q)
+      unfolding pick picked
+      picked_fills q known = by (cases_eq q r)
+        where
+          by : (same_or : (q ≡ r) ⊎ (q ≢ r)) → IsFilled box q (pick q same_or)
+          by (inl here) = subst (λ (p : ℕ). IsFilled box p others) (sym here) filled
+          by (inr elsewhere) = filled_by box x is laws entered q
+
+      picked_here : picked r ≡ others
+      unfolding pick picked
+      picked_here = by (cases_eq r r)
+        where
+          by : (same_or : (r ≡ r) ⊎ (r ≢ r)) → pick r same_or ≡ others
+          by (inl here) = refl
+          by (inr elsewhere) = absurd (elsewhere refl)
+
+      with_fill : (y : Execution) × IsCompletion box y × (y.sources ≡ together box picked)
+      with_fill =
+          completion_of_filled box (together box picked) (together_lies box picked (laws.of_events events) picked_lies) quiet laws entered
+          coherent (no_cycle_given box x is) (together_fills box picked (laws.of_events events) picked_lies picked_fills)
+          (unwritten_true box x is laws entered) (order_given box x is)
+
+      reads_as_well : (k b w : ℕ) → slice_get (byte_reads events) k ≡ Some (r, b) → slice_get others k ≡ Some w → ReadsFrom events with_fill.0.sources r w
+      reads_as_well k b w at takes =
+          let known = (laws.of_events events).known k r b at in
+          let agrees = together_agrees box picked (laws.of_events events) picked_lies r known k b at in
+          (b, (k, at, ap (λ (ws : List ℕ). slice_get ws k) with_fill.2 ∙ agrees ∙ ap (λ (ws : List ℕ). slice_get ws k) picked_here ∙ takes))
+
+    -- two events that race by what is given do so in each completion in which they conflict
+    raced : (h : CanRaceIn box) (y : Execution) → IsCompletion box y
+        → (WriteOneByte (event_at events h.first) (event_at events h.second) ⊎ ReadsFrom events y.sources h.first h.second ⊎ ReadsFrom events y.sources h.second h.first)
+        → HasSolution box Race
+    raced h y it conflict =
+        let race = h.is_race.race in
+        let found : HasDataRace events y.sources = record {
+          first = h.first;
+          second = h.second;
+          is_race = record {
+            race = record {
+              first_known = race.first_known;
+              second_known = race.second_known;
+              distinct = race.distinct;
+              not_before = λ b. race.not_before (before_back box y.sources (sources_lie box y it) quiet h.first h.second b);
+              not_after = λ b. race.not_after (before_back box y.sources (sources_lie box y it) quiet h.second h.first b);
+              conflict = conflict;
+            };
+            unguarded = h.is_race.unguarded;
+          };
+        } in
+        (y, record { completes = it; meets = subst (λ (es : List Event). HasDataRace es y.sources) (sym (events_same box y it)) found })
+
+    pub race_found : CanRaceIn box → HasSolution box Race
+    race_found h = by h.is_race.race.conflict
+      where
+        by : (WriteOneByte (event_at events h.first) (event_at events h.second) ⊎ CanFillFrom box h.first h.second ⊎ CanFillFrom box h.second h.first) → HasSolution box Race
+        by (inl writes) = raced h x is (inl writes)
+        by (inr (inl can)) =
+            let found = with_fill h.first can.sources can.lie can.filled in
+            raced h found.0 found.1 (inr (inl (reads_as_well h.first can.sources can.lie can.filled can.place can.byte h.second can.is_read can.takes)))
+        by (inr (inr can)) =
+            let found = with_fill h.second can.sources can.lie can.filled in
+            raced h found.0 found.1 (inr (inr (reads_as_well h.second can.sources can.lie can.filled can.place can.byte h.first can.is_read can.takes)))

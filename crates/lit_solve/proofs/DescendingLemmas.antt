@@ -1,0 +1,126 @@
+-- What is passed over on the way down.
+use Rattle.std.proofs.Common.{◌≡◌, ◌≢◌, ◌⊎◌, ◌↔◌, inl, inr, ℕ, ◌+◌, ◌<◌, ◌≤◌, List, Some, length, get_or, sym, subst, ◌∙◌, arith}
+use Rattle.std.specs.Prelude.{slice_get}
+use Rattle.std.specs.Cmp.Lexicographic.{slice_cmp}
+use Rattle.std.specs.Ordering.{nat_cmp}
+use Rattle.std.specs.declared.cmp.Ordering.TheVariants.{Less}
+use Rattle.std.proofs.lemmas.Bool.{cases_eq, cases_lt}
+use Rattle.std.proofs.lemmas.Option.{get_or_from_slice_get, slice_get-get_or}
+use Rattle.lit_read.specs.Syntax.{Litmus}
+use Rattle.lit_paths.specs.declared.event.Event.{Event}
+use Rattle.lit_paths.specs.ByteReads.{byte_reads}
+use Rattle.lit_paths.specs.Choice.{AreSources}
+use Rattle.lit_paths.specs.Execution.{Execution}
+use Rattle.lit_rel.specs.declared.event_set.EventSet.{EventSet}
+use Rattle.lit_rel.specs.EventSet.{HasEvent, IsSplit}
+use Rattle.lit_solve.specs.declared.goal.Goal.{Goal}
+use Rattle.lit_solve.specs.Box.{Box, HasEmptyDomain, HasSource, IsWithin, box_events}
+use Rattle.lit_solve.specs.Completion.{IsCompletion, IsSolution}
+use Rattle.lit_solve.specs.Given.{HasAlone}
+use Rattle.lit_solve.specs.Fill.{AreSourcesIn}
+use Rattle.lit_solve.specs.Goal.{Meets}
+use Rattle.lit_solve.specs.Internal.Descending.{AreAloneBelow, IsLowest, IsLowestAt, IsPassedAt}
+use Rattle.lit_solve.specs.Internal.Settled.{IsCut}
+use Rattle.lit_solve.proofs.BoxLemmas.{has_source, same_events}
+use Rattle.lit_solve.proofs.CompletionLemmas.{sourced}
+use Rattle.lit_solve.proofs.FrameLemmas.{below_or_last}
+use Rattle.lit_solve.proofs.LexLemmas.{less_from_place}
+use Rattle.lit_solve.proofs.SearchingLemmas.{takes_some}
+
+-- a box cut to one source has it alone
+pub cut_alone : (old new : Box) (k source : ℕ) (set : EventSet) → ((w : ℕ) → HasEvent set w → w ≡ source) → IsCut old k set new → k < length (byte_reads (box_events new)) → ¬ HasEmptyDomain new → HasAlone new k source
+cut_alone old new k source set one cut inside some = record { there = there (has_source new k source); alone = λ v h. one v (cut.inside v h) }
+  where
+    there : HasSource new k source ⊎ ¬ HasSource new k source → HasSource new k source
+    there (inl h) = h
+    there (inr absent) = absurd (some (k, inside, λ w h. absent (subst (λ (v : ℕ). HasSource new k v) (one w (cut.inside w h)) h)))
+
+-- the least source that is left, where no solution takes another that is not
+module _ (old new : Box) (goal : Goal) (k : ℕ) (inside : k < length (byte_reads (box_events old))) (left others set : EventSet) (source : ℕ) (split : IsSplit left source others)
+    (taken : (x : Execution) → IsSolution old goal x → (w : ℕ) → slice_get x.sources k ≡ Some w → HasEvent left w) (one : (w : ℕ) → HasEvent set w ↔ (w ≡ source)) (cut : IsCut old k set new) (alone : HasAlone new k source) where
+  passed_or_kept : (x : Execution) → IsSolution old goal x → IsCompletion new x ⊎ IsPassedAt new k x
+  passed_or_kept x is = by (cases_eq some.0 source)
+    where
+      some : (w : ℕ) × (slice_get x.sources k ≡ Some w)
+      some = takes_some old goal k inside x is
+
+      by : (some.0 ≡ source) ⊎ (some.0 ≢ source) → IsCompletion new x ⊎ IsPassedAt new k x
+      by (inl same) = inl (cut.kept x is.completes (λ v at. (one v).1 ((let e : Some v ≡ Some some.0 = sym at ∙ some.1 in let f : v ≡ some.0 = cc in f) ∙ same)))
+      by (inr other) = inr record { source = source; taken = some.0; alone = alone; takes = some.1; greater = greater (cases_lt source some.0) }
+        where
+          greater : (source < some.0) ⊎ (some.0 ≤ source) → source < some.0
+          greater (inl less) = less
+          greater (inr most) = absurd (split.least some.0 (omega (arith, most, other)) (taken x is some.0 some.1))
+
+  pub lowest_at : IsLowestAt old goal k new
+  lowest_at = record { within = cut.within; passed = passed_or_kept }
+
+-- ---- the way down
+-- what is alone stays so in a box within, no domain of which is empty
+pub alone_stays : (now was : Box) → IsWithin now was → ¬ HasEmptyDomain now → (k w : ℕ) → k < length (byte_reads (box_events now)) → HasAlone was k w → HasAlone now k w
+alone_stays now was within some k w inside alone = record { there = there (has_source now k w); alone = λ v h. alone.alone v (within.domains k v h) }
+  where
+    there : HasSource now k w ⊎ ¬ HasSource now k w → HasSource now k w
+    there (inl h) = h
+    there (inr absent) = absurd (some (k, inside, λ v h. absent (subst (λ (u : ℕ). HasSource now k u) (alone.alone v (within.domains k v h)) h)))
+
+pub alone_kept : (now was : Box) (n : ℕ) → IsWithin now was → ¬ HasEmptyDomain now → n ≤ length (byte_reads (box_events now)) → AreAloneBelow was n → AreAloneBelow now n
+alone_kept now was n within some few alone k below = let one = alone k below in (one.0, alone_stays now was within some k one.0 (omega (arith, below, few)) one.1)
+
+pub alone_more : (box : Box) (n : ℕ) → AreAloneBelow box n → (w : ℕ) × HasAlone box n w → AreAloneBelow box (n + 1)
+alone_more box n alone one k below = elim (below_or_last k n below) [ inl less ↦ alone k less | inr last ↦ subst (λ (j : ℕ). (w : ℕ) × HasAlone box j w) (sym last) one ]
+
+module _ (first was now : Box) (goal : Goal) (k : ℕ) (to : IsLowest first goal was) (on : IsLowestAt was goal k now) (alone : AreAloneBelow was k) (inside : k < length (byte_reads (box_events was))) where
+  events_now : box_events was ≡ box_events now
+  events_now = same_events now was on.within
+
+  -- sources that lie in the box within lie in the other
+  lie_out : (sources : List ℕ) → AreSourcesIn now sources → AreSourcesIn was sources
+  lie_out sources lie = record {
+    sourced = subst (λ (es : List Event). AreSources es sources) (sym events_now) lie.sourced;
+    within = λ j w at. on.within.domains j w (lie.within j w at);
+  }
+
+  -- where a solution is passed at the place, all sources that lie in the box are less than its own
+  less_than_passed : (x : Execution) → IsCompletion was x → IsPassedAt now k x → (sources : List ℕ) → AreSourcesIn now sources → slice_cmp nat_cmp sources x.sources ≡ Less
+  less_than_passed x is passed sources lie =
+      less_from_place sources x.sources k long within record { same = same; greater = λ _. greater }
+    where
+      long : length sources ≡ length x.sources
+      long = (lie_out sources lie).sourced.one_each ∙ sym (sourced was x is).one_each
+
+      within : k < length sources
+      within = omega (arith, inside, (lie_out sources lie).sourced.one_each)
+
+      same : (j : ℕ) → j < k → get_or x.sources j 0 ≡ get_or sources j 0
+      same j below =
+          let here : j < length sources = omega (arith, below, within) in
+          let there : j < length x.sources = omega (arith, below, within, long) in
+          let one = alone j below in
+          one.1.alone (get_or x.sources j 0) (is.within j (get_or x.sources j 0) (slice_get-get_or x.sources j 0 there))
+          ∙ sym (one.1.alone (get_or sources j 0) ((lie_out sources lie).within j (get_or sources j 0) (slice_get-get_or sources j 0 here)))
+
+      greater : get_or sources k 0 < get_or x.sources k 0
+      greater =
+          let least : get_or sources k 0 ≡ passed.source = passed.alone.alone (get_or sources k 0) (lie.within k (get_or sources k 0) (slice_get-get_or sources k 0 within)) in
+          let other : get_or x.sources k 0 ≡ passed.taken = get_or_from_slice_get x.sources k passed.taken 0 passed.takes in
+          let less = passed.greater in
+          omega (arith, least, other, less)
+
+  pub lowest_on : IsLowest first goal now
+  lowest_on = record {
+    within = record {
+      test = on.within.test ∙ to.within.test;
+      combination = on.within.combination ∙ to.within.combination;
+      domains = λ j w h. to.within.domains j w (on.within.domains j w h);
+    };
+    passed = λ x is. by x is (to.passed x is);
+  }
+    where
+      by : (x : Execution) → IsSolution first goal x → IsCompletion was x ⊎ ((sources : List ℕ) → AreSourcesIn was sources → slice_cmp nat_cmp sources x.sources ≡ Less)
+          → IsCompletion now x ⊎ ((sources : List ℕ) → AreSourcesIn now sources → slice_cmp nat_cmp sources x.sources ≡ Less)
+      by x is (inr less) = inr (λ sources lie. less sources (lie_out sources lie))
+      by x is (inl here) = elim (on.passed x record { completes = here; meets = subst (λ (t : Litmus). Meets t goal x) (sym to.within.test) is.meets }) [
+        | inl kept ↦ inl kept
+        | inr passed ↦ inr (less_than_passed x here passed)
+      ]

@@ -1,0 +1,145 @@
+-- What becomes of a box where one domain is narrowed to what is not out.
+use Rattle.std.proofs.Common.{◌≡◌, ◌≢◌, inl, inr, ℕ, ◌<◌, ◌≤◌, ◌+◌, Some, length, get_or, refl, sym, subst, ◌∙◌, arith}
+use Rattle.std.specs.Prelude.{slice_get, slice_index_or, slice_set}
+use Rattle.std.specs.Int.{bit_at}
+use Rattle.std.specs.List.{sum_by}
+use Rattle.std.proofs.lemmas.Bool.{cases_eq}
+use Rattle.std.proofs.lemmas.List.{get_or-set_other, get_or-set_same}
+use Rattle.std.proofs.lemmas.List.Sums.{sum-map, sum_by-set}
+use Rattle.std.proofs.lemmas.Option.{slice_get-get_or}
+use Rattle.lit_paths.specs.ByteReads.{byte_read_at, byte_reads}
+use Rattle.lit_paths.specs.Execution.{Execution}
+use Rattle.lit_paths.specs.Plan.{AreEventsIn}
+use Rattle.lit_rel.specs.declared.event_set.EventSet.{EventSet}
+use Rattle.lit_rel.specs.EventSet.{HasEvent, no_events}
+use Rattle.lit_rel.proofs.SetLemmas.{event_or_not, within_le}
+use Rattle.lit_solve.specs.declared.frame.Frame.{Frame}
+use Rattle.lit_solve.specs.Box.{Box, HasEmptyDomain, HasSource, IsBox, IsWithin, box_events}
+use Rattle.lit_solve.specs.Completion.{IsCompletion}
+use Rattle.lit_solve.specs.Out.{IsOut}
+use Rattle.lit_solve.specs.Internal.Frames.{IsContained}
+use Rattle.lit_solve.specs.Internal.Narrowing.{HasNoCompletion, Narrows, size_of}
+use Rattle.lit_solve.proofs.BoxLemmas.{before_grows, forced_grows}
+use Rattle.lit_solve.proofs.CompletionLemmas.{sourced}
+use Rattle.lit_solve.proofs.NarrowingLemmas.{read_here}
+
+-- the box with this domain for the byte read at a place
+abbrev pub narrowed_at : Box → ℕ → EventSet → Box
+narrowed_at box place left = record { test = box.test; combination = box.combination; domains = slice_set box.domains place left }
+
+-- the frame too
+abbrev pub frame_at : Frame → ℕ → EventSet → Frame
+frame_at frame place left = record { happens_before = frame.happens_before; forced = frame.forced; domains = slice_set frame.domains place left }
+
+-- no completion has a source that is out, as the law says
+abbrev pub LeavesOut : Box → Type 0
+LeavesOut box = (x : Execution) (k r b w : ℕ) → IsBox box → AreEventsIn box.test.bytes (box_events box) → IsCompletion box x
+    → slice_get (byte_reads (box_events box)) k ≡ Some (r, b) → slice_get x.sources k ≡ Some w → ¬ IsOut box r b w
+
+module _ (box : Box) (place : ℕ) (left : EventSet) (room : place < length box.domains) where
+  pub domain_here : slice_index_or (slice_set box.domains place left) place no_events ≡ left
+  domain_here = get_or-set_same box.domains place left no_events room
+
+  domain_other : (k : ℕ) → k ≢ place → slice_index_or (slice_set box.domains place left) k no_events ≡ slice_index_or box.domains k no_events
+  domain_other k other = get_or-set_other box.domains place k left no_events other
+
+  -- an event is in a domain of the new box exactly where it is in that of the old one, and in what is left at the place
+  source_here : (w : ℕ) → HasEvent left w → HasSource (narrowed_at box place left) place w
+  source_here w there = subst (λ (set : EventSet). HasEvent set w) (sym domain_here) there
+
+  source_other : (k w : ℕ) → k ≢ place → HasSource box k w → HasSource (narrowed_at box place left) k w
+  source_other k w other there = subst (λ (set : EventSet). HasEvent set w) (sym (domain_other k other)) there
+
+  module _ (within : (w : ℕ) → HasEvent left w → HasSource box place w) where
+    source_before : (k w : ℕ) → HasSource (narrowed_at box place left) k w → HasSource box k w
+    source_before k w there = elim (cases_eq k place) [
+      | inl is ↦
+          let here : HasSource (narrowed_at box place left) place w = subst (λ (j : ℕ). HasSource (narrowed_at box place left) j w) is there in
+          subst (λ (j : ℕ). HasSource box j w) (sym is) (within w (subst (λ (set : EventSet). HasEvent set w) domain_here here))
+      | inr other ↦ subst (λ (set : EventSet). HasEvent set w) (domain_other k other) there
+    ]
+
+    pub narrowed_within : IsWithin (narrowed_at box place left) box
+    narrowed_within = record { test = refl; combination = refl; domains = source_before }
+
+    -- less is left, where something was taken out
+    pub size_less : ¬ ((w : ℕ) → HasSource box place w → HasEvent left w) → size_of (slice_set box.domains place left) < size_of box.domains
+    size_less not_all =
+        let was = slice_index_or box.domains place no_events in
+        let at_most : left.bits ≤ was.bits = within_le left was within in
+        let other : left.bits ≡ was.bits → ⊥ = λ same. not_all (λ w there. subst (λ (word : ℕ). bit_at word w ≡ 1) (sym same) there) in
+        let sums : sum_by (λ (set : EventSet). set.bits) (slice_set box.domains place left) + was.bits ≡ sum_by (λ (set : EventSet). set.bits) box.domains + left.bits =
+        sum_by-set (λ (set : EventSet). set.bits) box.domains place left no_events room in
+        omega (arith, sums, sum-map (λ (set : EventSet). set.bits) box.domains, sum-map (λ (set : EventSet). set.bits) (slice_set box.domains place left))
+
+    -- what a frame has is so of the new box, where something is left
+    module _ (frame : Frame) (is : IsContained box frame) (some : (w : ℕ) × HasEvent left w) where
+      none_empty : ¬ HasEmptyDomain (narrowed_at box place left)
+      none_empty (k, inside, none) = elim (cases_eq k place) [
+        | inl at ↦ none some.0 (subst (λ (j : ℕ). HasSource (narrowed_at box place left) j some.0) (sym at) (source_here some.0 some.1))
+        | inr other ↦ is.some (k, inside, λ w there. none w (source_other k w other there))
+      ]
+
+      pub narrowed_contained : IsContained (narrowed_at box place left) (frame_at frame place left)
+      narrowed_contained = record {
+        is_box = record {
+          litmus = is.is_box.litmus;
+          known = is.is_box.known;
+          candidates = λ k r b w at there. is.is_box.candidates k r b w at (source_before k w there);
+        };
+        some = none_empty;
+        before_len = is.before_len;
+        forced_len = is.forced_len;
+        before_closed = is.before_closed;
+        forced_closed = is.forced_closed;
+        unsourced = is.unsourced;
+        both = is.both;
+        before_in = λ a d h. before_grows (narrowed_at box place left) box narrowed_within none_empty a d (is.before_in a d h);
+        forced_in = λ a d h. forced_grows (narrowed_at box place left) box narrowed_within none_empty a d (is.forced_in a d h);
+      }
+
+  -- a completion whose source at the place is left is one of the new box
+  pub completion_at : (x : Execution) → IsCompletion box x → ((w : ℕ) → slice_get x.sources place ≡ Some w → HasEvent left w) → IsCompletion (narrowed_at box place left) x
+  completion_at x is source_left = record {
+    valid = is.valid;
+    on_paths = is.on_paths;
+    within = λ k w source. elim (cases_eq k place) [
+      | inl at ↦
+          let here : slice_get x.sources place ≡ Some w = subst (λ (j : ℕ). slice_get x.sources j ≡ Some w) at source in
+          subst (λ (j : ℕ). HasSource (narrowed_at box place left) j w) (sym at) (source_here w (source_left w here))
+      | inr other ↦ source_other k w other (is.within k w source)
+    ];
+  }
+
+  -- there is none where nothing is left
+  pub none_at : place < length (byte_reads (box_events box)) → (x : Execution) → IsCompletion box x → ((w : ℕ) → slice_get x.sources place ≡ Some w → HasEvent left w) → ((w : ℕ) → ¬ HasEvent left w) → ⊥
+  none_at inside x is source_left none =
+      let here : place < length x.sources = omega (arith, (sourced box x is).one_each, inside) in
+      none (get_or x.sources place 0) (source_left (get_or x.sources place 0) (slice_get-get_or x.sources place 0 here))
+
+  -- the sources of completions are left
+  module _ (is_box : IsBox box) (sound : AreEventsIn box.test.bytes (box_events box)) (law : LeavesOut box) (inside : place < length (byte_reads (box_events box)))
+      (out : (w : ℕ) → HasSource box place w → ¬ HasEvent left w → IsOut box (byte_read_at (box_events box) place).0 (byte_read_at (box_events box) place).1 w) where
+    source_left : (x : Execution) → IsCompletion box x → (w : ℕ) → slice_get x.sources place ≡ Some w → HasEvent left w
+    source_left x is w source = elim (event_or_not left w) [
+      | inl there ↦ there
+      | inr lost ↦
+          absurd (law x place (byte_read_at (box_events box) place).0 (byte_read_at (box_events box) place).1 w is_box sound is (read_here (box_events box) place inside) source (out w (is.within place w source) lost))
+    ]
+
+    pub none_if_empty : ((w : ℕ) → ¬ HasEvent left w) → HasNoCompletion box
+    none_if_empty none x is = none_at inside x is (source_left x is) none
+
+    pub narrows : ((w : ℕ) → HasEvent left w → HasSource box place w) → Narrows box (narrowed_at box place left)
+    narrows within = record { within = narrowed_within within; kept = λ x is. completion_at x is (source_left x is) }
+
+-- narrowed, and narrowed on
+pub narrows_on : (first was now : Box) → Narrows first was → Narrows was now → Narrows first now
+narrows_on first was now to on = record {
+  within = record {
+    test = on.within.test ∙ to.within.test;
+    combination = on.within.combination ∙ to.within.combination;
+    domains = λ k w there. to.within.domains k w (on.within.domains k w there);
+  };
+  kept = λ x is. on.kept x (to.kept x is);
+}

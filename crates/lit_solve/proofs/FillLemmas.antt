@@ -1,0 +1,217 @@
+-- Quiet boxes: the relations of sources that lie in one are those of what it gives, so that sources are a completion's exactly
+-- where they fill each read and there is an order of what is given.
+use Rattle.std.proofs.Common.{◌≡◌, ◌≢◌, ◌⊎◌, inl, inr, ℕ, ◌+◌, ◌<◌, Option, Some, None, List, length, get_or, refl, sym, ap, subst, ◌∙◌, arith}
+use Rattle.std.specs.Prelude.{IsTrue, slice_get}
+use Rattle.std.proofs.lemmas.Option.{none-some, same_Some, slice_get-get_or, slice_get_within}
+use Rattle.lit_paths.specs.declared.event.Event.{Event}
+use Rattle.lit_paths.specs.ByteReads.{IsCandidate, byte_reads}
+use Rattle.lit_paths.specs.Event.{does_write, event_at}
+use Rattle.lit_paths.specs.Execution.{Execution}
+use Rattle.lit_paths.specs.Plan.{IsWalkIn, first_event, walk_in}
+use Rattle.lit_rel.specs.Broken.{HasFalseTestOn, IsBroken, number_on}
+use Rattle.lit_rel.specs.Forbidden.{IsForbidden, IsForbiddenBetween}
+use Rattle.lit_rel.specs.Growth.{Grows, IsGivenWhole}
+use Rattle.lit_rel.specs.HappensBefore.{HappensBefore, StepBy}
+use Rattle.lit_rel.specs.ReadsFrom.{ReadsByteFrom}
+use Rattle.lit_rel.specs.SynchronizesWith.{CanSynchronize, SynchronizesBy}
+use Rattle.lit_rel.specs.TearFree.{HasTearFreeReads}
+use Rattle.lit_rel.proofs.ChainLemmas.{Chain-same}
+use Rattle.lit_rel.proofs.GrowthLemmas.{Grows-from}
+use Rattle.lit_rel.proofs.SameRelations.{between_by, coherent_read_by}
+use Rattle.lit_order.specs.MemoryOrder.{HasOrder, IsMemoryOrder, IsOrderOf}
+use Rattle.lit_order.proofs.SameOrders.{IsOrderOf-same}
+use Rattle.lit_valid.specs.Completion.{IsEntered}
+use Rattle.lit_valid.specs.Laws.{Laws}
+use Rattle.lit_valid.proofs.CompletionLemmas.{example, example_paths, example_valid, not_broken}
+use Rattle.lit_solve.specs.Box.{Box, HasSource, IsBox, box_events}
+use Rattle.lit_solve.specs.Completion.{IsCompletion}
+use Rattle.lit_solve.specs.Fill.{AreCoherentSources, AreSourcesIn, HasEffect, IsFilled, IsIdle, IsQuiet}
+use Rattle.lit_solve.specs.Given.{GivenIn, HappensBeforeIn, HasAlone, IsForbiddenIn}
+use Rattle.lit_solve.proofs.CompletionLemmas.{completes, events_same, order_here, part_of, sourced}
+
+-- ---- what has an effect
+-- a source that writes, and can synchronize with its read
+effect_synchronized : (events : List Event) (w r : ℕ) → IsTrue (does_write (event_at events w).kind) → w ≢ r
+    → CanSynchronize (event_at events w) (event_at events r) → HasEffect events w r
+effect_synchronized events w r writes other can = record {
+  write = w;
+  writes = writes;
+  ordered = can.writer;
+  not_read = other;
+  pattern = inl (can.reader, can.same_range);
+}
+
+-- a source and its read, between which some event may not stand
+effect_between : (events : List Event) (before : ℕ → ℕ → Type 0) (w r v : ℕ) → IsForbiddenBetween events before w r v → HasEffect events w r
+effect_between events before w r v between = record {
+  write = v;
+  writes = between.writes;
+  ordered = between.ordered;
+  not_read = between.not_read;
+  pattern = elim between.pattern [
+    | inl one ↦ inl (one.synchronized.reader, one.same_range)
+    | inr rest ↦ elim rest [
+      | inl two ↦ inr (between.not_source, two.source, two.same_range)
+      | inr three ↦ inl (three.reader, three.same_range)
+    ]
+  ];
+}
+
+-- ---- sources that lie in a box
+module _ (box : Box) (sources : List ℕ) (lie : AreSourcesIn box sources) where
+  abbrev events : List Event
+  events = box_events box
+
+  abbrev from : ℕ → ℕ → ℕ → Type 0
+  from = ReadsByteFrom events sources
+
+  -- they take what is given
+  pub takes_given : (r b w : ℕ) → GivenIn box r b w → ReadsByteFrom events sources r b w
+  takes_given r b w g = (g.place, g.is_read, there ∙ ap (λ (v : ℕ). Some v) same)
+    where
+      inside : g.place < length sources
+      inside = omega (arith, lie.sourced.one_each, slice_get_within (byte_reads events) g.place (r, b) g.is_read)
+
+      there : slice_get sources g.place ≡ Some (get_or sources g.place 0)
+      there = slice_get-get_or sources g.place 0 inside
+
+      same : get_or sources g.place 0 ≡ w
+      same = g.alone.alone (get_or sources g.place 0) (lie.within g.place (get_or sources g.place 0) there)
+
+  pub grows_in : Grows events (GivenIn box) (ReadsByteFrom events sources)
+  grows_in = Grows-from events (GivenIn box) from takes_given
+
+  -- so an order of theirs is one of what is given
+  pub order_in : (order : List ℕ) → IsMemoryOrder events sources order → IsOrderOf (length events) (HappensBeforeIn box) (IsForbiddenIn box) order
+  order_in order o =
+      IsOrderOf-same (length events) (length events) (HappensBefore events sources) (HappensBeforeIn box) (IsForbidden events sources)
+      (IsForbiddenIn box) refl grows_in.happens_before grows_in.forbidden order o
+
+  -- ---- in a quiet box they add nothing
+  module _ (quiet : IsQuiet box) where
+    -- a source is given, or has no effect
+    given_or_idle : (r b w : ℕ) → from r b w → GivenIn box r b w ⊎ ¬ HasEffect events w r
+    given_or_idle r b w f = by (quiet f.0 (slice_get_within (byte_reads events) f.0 (r, b) f.1))
+      where
+        there : HasSource box f.0 w
+        there = lie.within f.0 w f.2
+
+        by : ((u : ℕ) × HasAlone box f.0 u) ⊎ IsIdle box f.0 → GivenIn box r b w ⊎ ¬ HasEffect events w r
+        by (inl one) = inl record {
+          place = f.0;
+          is_read = f.1;
+          alone = subst (λ (u : ℕ). HasAlone box f.0 u) (sym (one.1.alone w there)) one.1;
+        }
+        by (inr idle) = inr (idle r b w f.1 there)
+
+    synchronizes_back : (w r : ℕ) → SynchronizesBy events from w r → SynchronizesBy events (GivenIn box) w r
+    synchronizes_back w r s = by (given_or_idle r s.reads.0 w s.reads.1)
+      where
+        candidate : IsCandidate events r s.reads.0 w
+        candidate = let read = s.reads.1 in lie.sourced.each read.0 r s.reads.0 w read.1 read.2
+
+        by : GivenIn box r s.reads.0 w ⊎ ¬ HasEffect events w r → SynchronizesBy events (GivenIn box) w r
+        by (inl given) = record { reads = (s.reads.0, given); can = s.can }
+        by (inr idle) = absurd (idle (effect_synchronized events w r candidate.writes candidate.other s.can))
+
+    step_back : (e d : ℕ) → StepBy events from e d → StepBy events (GivenIn box) e d
+    step_back e d (inl ordered) = inl ordered
+    step_back e d (inr (inl s)) = inr (inl (synchronizes_back e d s))
+    step_back e d (inr (inr made)) = inr (inr made)
+
+    pub before_back : (e d : ℕ) → HappensBefore events sources e d → HappensBeforeIn box e d
+    before_back e d h = record {
+      middles = h.middles;
+      chain = Chain-same (StepBy events from) (StepBy events (GivenIn box)) step_back e h.middles d h.chain;
+    }
+
+    pub forbidden_back : (w r v : ℕ) → IsForbidden events sources w r v → IsForbiddenIn box w r v
+    forbidden_back w r v f = by (given_or_idle r f.reads.0 w f.reads.1)
+      where
+        between : IsForbiddenBetween events (HappensBeforeIn box) w r v
+        between = between_by events (HappensBefore events sources) (HappensBeforeIn box) before_back w r v f.between
+
+        by : GivenIn box r f.reads.0 w ⊎ ¬ HasEffect events w r → IsForbiddenIn box w r v
+        by (inl given) = record { reads = (f.reads.0, given); between = between }
+        by (inr idle) = absurd (idle (effect_between events (HappensBeforeIn box) w r v between))
+
+    -- an order of what is given is one of theirs
+    pub order_back_in : (order : List ℕ) → IsOrderOf (length events) (HappensBeforeIn box) (IsForbiddenIn box) order → IsMemoryOrder events sources order
+    order_back_in order o =
+        IsOrderOf-same (length events) (length events) (HappensBeforeIn box) (HappensBefore events sources) (IsForbiddenIn box)
+        (IsForbidden events sources) refl before_back forbidden_back order o
+
+    -- ---- sources that fill each read are a completion's
+    module _ (laws : Laws) (entered : IsBox box) (coherent : AreCoherentSources box) (no_cycle : (e : ℕ) → ¬ HappensBeforeIn box e e)
+        (filled : (r : ℕ) → r < length (box_events box) → IsFilled box r sources) (unwritten : ¬ HasFalseTestOn box.test box.combination None 0) where
+      read_known : (r b w : ℕ) → from r b w → r < length events
+      read_known r b w f = (laws.of_events events).known f.0 r b f.1
+
+      -- a test asks about an event of the combination
+      asked_known : (r value : ℕ) → HasFalseTestOn box.test box.combination (Some r) value → r < length events
+      asked_known r value bad = by bad.test.on refl bad.asks
+        where
+          walk : IsWalkIn box.test box.combination bad.agent (walk_in box.test box.combination bad.agent)
+          walk = laws.walked box.test box.combination bad.agent entered.litmus entered.known bad.known
+
+          by : (on : Option ℕ) → bad.test.on ≡ on → number_on (first_event box.test box.combination bad.agent) on ≡ Some r → r < length events
+          by None is asks = absurd (none-some r asks)
+          by (Some place) is asks =
+              let same : first_event box.test box.combination bad.agent + place ≡ r = same_Some (first_event box.test box.combination bad.agent + place) r asks in
+              omega (arith, same, (walk.tests_reads bad.place place bad.test bad.at_place is).0, walk.within)
+
+      not_broken_in : ¬ IsBroken (part_of box sources)
+      not_broken_in (inl (inl cycle)) = no_cycle cycle.0 (before_back cycle.0 cycle.0 cycle.1)
+      not_broken_in (inl (inr (inl bad))) =
+          bad.incoherent (coherent_read_by events (HappensBeforeIn box) (HappensBefore events sources) before_back bad.read bad.byte bad.source
+          (coherent bad.is_given.0 bad.read bad.byte bad.source bad.is_given.1 (lie.within bad.is_given.0 bad.source bad.is_given.2)))
+      not_broken_in (inl (inr (inr torn))) =
+          torn.two_sources ((filled torn.read (read_known torn.read torn.first.reads.0 torn.source torn.first.reads.1)).tear_free torn.source torn.other torn.first torn.second)
+      not_broken_in (inr (inl bad)) = unwritten bad
+      not_broken_in (inr (inr (r, given, bad))) = (filled r (asked_known r _ bad)).tests bad
+
+      pub completion_of_filled : HasOrder (length events) (HappensBeforeIn box) (IsForbiddenIn box) → (x : Execution) × IsCompletion box x × (x.sources ≡ sources)
+      completion_of_filled ordered =
+          let known : IsEntered (part_of box sources) = record { litmus = entered.litmus; known = entered.known } in (
+            example (part_of box sources) known laws lie.sourced not_broken_in,
+            record {
+              valid = example_valid (part_of box sources) known laws lie.sourced not_broken_in ordered.0 (order_back_in ordered.0 ordered.1);
+              on_paths = example_paths (part_of box sources) known laws lie.sourced not_broken_in;
+              within = lie.within;
+            },
+            refl,
+          )
+
+-- ---- completions of a box
+module _ (box : Box) (x : Execution) (is : IsCompletion box x) where
+  abbrev its : List Event
+  its = box_events box
+
+  -- its sources lie there
+  pub sources_lie : AreSourcesIn box x.sources
+  sources_lie = record { sourced = sourced box x is; within = is.within }
+
+  pub no_cycle_given : (e : ℕ) → ¬ HappensBeforeIn box e e
+  no_cycle_given e h =
+      subst (λ (es : List Event). (d : ℕ) → ¬ HappensBefore es x.sources d d) (events_same box x is) is.valid.no_cycle e
+      ((grows_in box x.sources sources_lie).happens_before e e h)
+
+  pub order_given : HasOrder (length its) (HappensBeforeIn box) (IsForbiddenIn box)
+  order_given = (is.valid.ordered.0, order_in box x.sources sources_lie is.valid.ordered.0 (order_here box x is is.valid.ordered.0 is.valid.ordered.1))
+
+  module _ (laws : Laws) (entered : IsBox box) where
+    whole : ¬ IsBroken (part_of box x.sources)
+    whole = not_broken (part_of box x.sources) x (completes box x is) laws laws.grow laws.stay (record { litmus = entered.litmus; known = entered.known })
+
+    -- it fills each read
+    pub filled_by : (r : ℕ) → IsFilled box r x.sources
+    filled_by r = record {
+      tear_free = λ w v first second. subst (λ (es : List Event). HasTearFreeReads es x.sources) (events_same box x is) is.valid.tear_free_reads r w v first second;
+      tests = λ bad. whole (inr (inr (r, all_given, bad)));
+    }
+      where
+        all_given : IsGivenWhole its x.sources r
+        all_given i b at = omega (arith, sources_lie.sourced.one_each, slice_get_within (byte_reads its) i (r, b) at)
+
+    pub unwritten_true : ¬ HasFalseTestOn box.test box.combination None 0
+    unwritten_true bad = whole (inr (inl bad))

@@ -1,0 +1,74 @@
+-- Leaves: what a settled and quiet frame has completions by.
+use Rattle.std.proofs.Common.{◌≡◌, ◌↔◌, ℕ, ◌<◌, Option, Some, None, List, length, refl}
+use Rattle.std.specs.Prelude.{IfNone, IfSome, IsTrue}
+use Rattle.std.specs.Option.{is_some}
+use Rattle.std.proofs.lemmas.Bool.{false≢true}
+use Rattle.lit_paths.specs.Execution.{Execution}
+use Rattle.lit_rel.specs.Broken.{HasFalseTestOn}
+use Rattle.lit_rel.specs.Rows.{Holds}
+use Rattle.lit_rel.proofs.SameRelations.{coherent_read_by}
+use Rattle.lit_order.specs.Forcing.{Given}
+use Rattle.lit_order.specs.MemoryOrder.{HasOrder, IsLeastOrderOf, IsOrderOf}
+use Rattle.lit_solve.specs.declared.frame.Frame.{Frame}
+use Rattle.lit_solve.specs.declared.goal.Goal.TheVariants.{Any}
+use Rattle.lit_solve.specs.Box.{Box, IsBox, box_events}
+use Rattle.lit_solve.specs.Completion.{HasSolution, IsCompletion}
+use Rattle.lit_solve.specs.Fill.{AreCoherentSources, AreSourcesIn, CanFill, IsFilled, IsQuiet}
+use Rattle.lit_solve.specs.Given.{HappensBeforeIn, IsForbiddenIn}
+use Rattle.lit_solve.specs.Internal.Settled.{IsSettled}
+use Rattle.lit_solve.proofs.FillLemmas.{sources_lie}
+
+-- what sources have to be so that they are a completion's
+abbrev pub AreFilling : Box → List ℕ → Type 0
+AreFilling box sources =
+    ((r : ℕ) → r < length (box_events box) → IsFilled box r sources)
+    × (¬ HasFalseTestOn box.test box.combination None 0)
+    × HasOrder (length (box_events box)) (HappensBeforeIn box) (IsForbiddenIn box)
+
+-- so it is, as the law says
+abbrev pub IsFilledReadByRead : Box → Type 0
+IsFilledReadByRead box =
+    (sources : List ℕ) → IsBox box → IsQuiet box → AreCoherentSources box → ((e : ℕ) → ¬ HappensBeforeIn box e e) → AreSourcesIn box sources
+    → ((x : Execution) × IsCompletion box x × (x.sources ≡ sources)) ↔ AreFilling box sources
+
+module _ (box : Box) (frame : Frame) (settled : IsSettled box frame) where
+  -- its sources are coherent by what the box gives, and no event happens before itself by that
+  pub coherent_sources : AreCoherentSources box
+  coherent_sources k r b w at there =
+      coherent_read_by (box_events box) (Holds frame.happens_before.rows) (HappensBeforeIn box) settled.exact.before r b w (settled.coherent k r b w at there)
+
+  pub no_cycle : (e : ℕ) → ¬ HappensBeforeIn box e e
+  no_cycle e h = settled.calm e (Given h)
+
+  module _ (quiet : IsQuiet box) (law : IsFilledReadByRead box) where
+    by_law : (sources : List ℕ) → AreSourcesIn box sources → ((x : Execution) × IsCompletion box x × (x.sources ≡ sources)) ↔ AreFilling box sources
+    by_law sources lie = law sources settled.exact.contained.is_box quiet coherent_sources no_cycle lie
+
+    -- sources that fill each read are those of a completion
+    pub completion_found : ¬ HasFalseTestOn box.test box.combination None 0
+        → ((sources : List ℕ) × AreSourcesIn box sources × ((r : ℕ) → r < length (box_events box) → IsFilled box r sources))
+        → HasOrder (length (box_events box)) (HappensBeforeIn box) (IsForbiddenIn box) → HasSolution box Any
+    completion_found unwritten fills ordered =
+        let found = (by_law fills.0 fills.1).1 (fills.2, unwritten, ordered) in
+        (found.0, record { completes = found.1; meets = tt })
+
+    -- what a completion tells
+    module _ (h : HasSolution box Any) where
+      parts : AreFilling box h.0.sources
+      parts = (by_law h.0.sources (sources_lie box h.0 h.1.completes)).0 (h.0, h.1.completes, refl)
+
+      pub no_false_unwritten : ¬ HasFalseTestOn box.test box.combination None 0
+      no_false_unwritten = parts.1
+
+      pub fills_each : (r : ℕ) → r < length (box_events box) → CanFill box r
+      fills_each r known = (h.0.sources, sources_lie box h.0 h.1.completes, parts.0 r known)
+
+      pub has_order : HasOrder (length (box_events box)) (HappensBeforeIn box) (IsForbiddenIn box)
+      has_order = parts.2
+
+-- where a least order is given if there is any, there is one exactly where it is given
+pub order_is_some : {A : Type 0} (found : Option A) (items : A → List ℕ) (n : ℕ) (before : ℕ → ℕ → Type 0) (forbidden : ℕ → ℕ → ℕ → Type 0)
+    → IfSome found (λ order. IsLeastOrderOf n before forbidden (items order)) → IfNone found ((order : List ℕ) → ¬ IsOrderOf n before forbidden order)
+    → IsTrue (is_some found) ↔ HasOrder n before forbidden
+order_is_some (Some order) items n before forbidden least none = ((λ _. (items order, least.is_order)), (λ _. refl))
+order_is_some None items n before forbidden least none = ((λ never. absurd (false≢true never)), (λ some. absurd (none some.0 some.1)))

@@ -1,0 +1,132 @@
+-- What the tests of narrowing find, and what becomes of a box where a domain is narrowed.
+use Rattle.std.proofs.Common.{◌≡◌, ◌≢◌, ◌⊎◌, ◌↔◌, inl, inr, ℕ, zero, suc, ◌+◌, ◌^◌, ◌<◌, Bool, true, false, not, refl, Some, List, length, get_or, map, ap, sym, subst, arith}
+use Rattle.std.specs.Prelude.{IsTrue, slice_get}
+use Rattle.std.specs.Int.{bit_at}
+use Rattle.std.proofs.lemmas.Bool.{cases_eq, cases_lt, false≢true}
+use Rattle.std.proofs.lemmas.Nat.Bits.{bit_at_above}
+use Rattle.std.proofs.Math.Nat.{two-pow-succ}
+use Rattle.std.proofs.lemmas.List.{length-map}
+use Rattle.std.proofs.lemmas.Option.{get_or_from_slice_get, slice_get-get_or}
+use Rattle.lit_paths.specs.declared.byte_reads.ByteRead.{ByteRead}
+use Rattle.lit_paths.specs.declared.event.Event.{Event}
+use Rattle.lit_paths.specs.ByteReads.{byte_read_at, byte_reads, IsCandidate, pair_of}
+use Rattle.lit_paths.specs.Event.{event_at}
+use Rattle.lit_paths.proofs.Rising.{slice_get-map-found}
+use Rattle.lit_rel.specs.declared.event_set.EventSet.{EventSet}
+use Rattle.lit_rel.specs.declared.rows.Rows.{Rows}
+use Rattle.lit_rel.specs.Coherent.{IsCoherentRead}
+use Rattle.lit_rel.specs.EventSet.{HasEvent}
+use Rattle.lit_rel.specs.Forbidden.{IsForbiddenBetween}
+use Rattle.lit_rel.specs.InitReads.{AreOfEvents}
+use Rattle.lit_rel.specs.Rows.{Holds, rows_len}
+use Rattle.lit_rel.specs.SynchronizesWith.{CanSynchronize}
+use Rattle.lit_rel.specs.TearFree.{CanReadWhole, ReadsWholeBy}
+use Rattle.lit_rel.proofs.SameRelations.{between_by, coherent_read_by}
+use Rattle.lit_rel.proofs.SetLemmas.{event_or_not}
+use Rattle.lit_solve.specs.declared.frame.Frame.{Frame}
+use Rattle.lit_solve.specs.Box.{Box, HasSource, IsBox, box_events}
+use Rattle.lit_solve.specs.Given.{GivenIn, HappensBeforeIn}
+use Rattle.lit_solve.specs.Out.{IsOut}
+use Rattle.lit_solve.specs.Internal.Frames.{IsContained}
+
+-- ---- sets
+below_power : (n : ℕ) → n < 2 ^ n
+below_power zero = omega arith
+below_power (suc n) = let double : 2 ^ suc n ≡ 2 ^ n + 2 ^ n = two-pow-succ n in omega (arith, below_power n, double)
+
+some_below : (set : EventSet) (n : ℕ) → ((e : ℕ) × HasEvent set e) ⊎ ((e : ℕ) → e < n → ¬ HasEvent set e)
+some_below set zero = inr (λ e below. absurd (omega (arith, below)))
+some_below set (suc n) = by (event_or_not set n) (some_below set n)
+  where
+    by : HasEvent set n ⊎ ¬ HasEvent set n → ((e : ℕ) × HasEvent set e) ⊎ ((e : ℕ) → e < n → ¬ HasEvent set e) → ((e : ℕ) × HasEvent set e) ⊎ ((e : ℕ) → e < suc n → ¬ HasEvent set e)
+    by (inl here) earlier = inl (n, here)
+    by (inr absent) (inl found) = inl found
+    by (inr absent) (inr none) = inr (λ e below there. elim (cases_eq e n) [ inl same ↦ absent (subst (λ (m : ℕ). HasEvent set m) same there) | inr other ↦ none e (omega (arith, below, other)) there ])
+
+-- a set has no event, or some
+pub none_or_some : (set : EventSet) → ((e : ℕ) → ¬ HasEvent set e) ⊎ ((e : ℕ) × HasEvent set e)
+none_or_some set = by (some_below set set.bits)
+  where
+    by : ((e : ℕ) × HasEvent set e) ⊎ ((e : ℕ) → e < set.bits → ¬ HasEvent set e) → ((e : ℕ) → ¬ HasEvent set e) ⊎ ((e : ℕ) × HasEvent set e)
+    by (inl found) = inr found
+    by (inr none) =
+        inl (λ e there. elim (cases_lt e set.bits) [
+          | inl below ↦ none e below there
+          | inr above ↦ (let zero_there : bit_at set.bits e ≡ 0 = bit_at_above set.bits set.bits e (below_power set.bits) above in absurd (omega (arith, zero_there, there)))
+        ])
+
+-- what is not found to have no event has some
+pub some_exactly : (set : EventSet) (empty : Bool) → IsTrue empty ↔ ((e : ℕ) → ¬ HasEvent set e) → IsTrue (not empty) ↔ ((e : ℕ) × HasEvent set e)
+some_exactly set true tells = ((λ h. absurd (false≢true h)), (λ (e, there). absurd (tells.0 refl e there)))
+some_exactly set false tells = ((λ _. elim (none_or_some set) [ inl none ↦ absurd (false≢true (tells.1 none)) | inr found ↦ found ]), (λ _. refl))
+
+-- ---- byte reads
+-- the byte read at a place
+pub read_there : (events : List Event) (k : ℕ) (p : ByteRead) → slice_get (byte_reads events) k ≡ Some (pair_of p) → pair_of p ≡ byte_read_at events k
+read_there events k p at = sym (get_or_from_slice_get (byte_reads events) k (pair_of p) (0, 0) at)
+
+pub read_here : (events : List Event) (k : ℕ) → k < length (byte_reads events) → slice_get (byte_reads events) k ≡ Some (byte_read_at events k)
+read_here events k inside = slice_get-get_or (byte_reads events) k (0, 0) inside
+
+-- the read of a byte read is one of the events
+pub read_known : (events : List Event) → AreOfEvents events → (reads : List ByteRead) (k : ℕ) (d : ByteRead) → map pair_of reads ≡ byte_reads events → k < length (byte_reads events) → (get_or reads k d).read < length events
+read_known events of_events reads k d listed inside =
+    let same : length (map pair_of reads) ≡ length (byte_reads events) = ap length listed in
+    let within : k < length reads = omega (arith, length-map reads pair_of) in
+    let found : slice_get (map pair_of reads) k ≡ Some (pair_of (get_or reads k d)) = slice_get-map-found pair_of reads k (get_or reads k d) (slice_get-get_or reads k d within) in
+    of_events.known k (get_or reads k d).read (get_or reads k d).byte (subst (λ (ps : List (ℕ × ℕ)). slice_get ps k ≡ Some (pair_of (get_or reads k d))) listed found)
+
+-- what is in a domain is one of the events
+pub source_known : (box : Box) → IsBox box → (k w : ℕ) → k < length (byte_reads (box_events box)) → HasSource box k w → w < length (box_events box)
+source_known box is k w inside there = (is.candidates k (byte_read_at (box_events box) k).0 (byte_read_at (box_events box) k).1 w (read_here (box_events box) k inside) there).known
+
+-- ---- coherent reads
+-- The candidates of a byte of read r that are before r and after w, of which there is none where r has w, coherently.
+module _ (events : List Event) (rows : Rows) (len : rows_len rows ≡ length events) (r b w : ℕ) (shared : EventSet)
+    (both : (v : ℕ) → HasEvent shared v ↔ (IsCandidate events r b v × Holds rows w v × Holds rows v r)) where
+  pub coherent_if_none : ((e : ℕ) → ¬ Holds rows e e) → ¬ Holds rows r w → ((v : ℕ) → ¬ HasEvent shared v) → IsCoherentRead events (Holds rows) r b w
+  coherent_if_none calm not_later none = record {
+    not_later = not_later;
+    not_hidden = λ v hides.
+        none v ((both v).1 (
+          record {
+            known = subst (λ (n : ℕ). v < n) len hides.before_read.first_known;
+            writes = hides.writes;
+            in_range = hides.in_range;
+            other = λ same. calm r (subst (λ (e : ℕ). Holds rows e r) same hides.before_read);
+          },
+          hides.after_source,
+          hides.before_read,
+        ));
+  }
+
+  pub none_if_coherent : IsCoherentRead events (Holds rows) r b w → (v : ℕ) → ¬ HasEvent shared v
+  none_if_coherent coherent v there =
+      let is = (both v).0 there in
+      coherent.not_hidden v record { writes = is.0.writes; in_range = is.0.in_range; after_source = is.1; before_read = is.2 }
+
+-- ---- sources that are out
+-- what is so of the frame's relations is so of those of its box
+module _ (box : Box) (frame : Frame) (is : IsContained box frame) (r b w : ℕ) where
+  pub incoherent_out : ¬ IsCoherentRead (box_events box) (Holds frame.happens_before.rows) r b w → IsOut box r b w
+  incoherent_out incoherent =
+      inr (inl (λ coherent. incoherent (coherent_read_by (box_events box) (HappensBeforeIn box) (Holds frame.happens_before.rows) is.before_in r b w coherent)))
+
+  pub later_out : CanSynchronize (event_at (box_events box) w) (event_at (box_events box) r) → Holds frame.forced.rows r w → IsOut box r b w
+  later_out can later = inr (inr (inl (record { can = can; later = is.forced_in r w later })))
+
+  pub between_out : (v : ℕ) → IsForbiddenBetween (box_events box) (Holds frame.happens_before.rows) w r v → Holds frame.forced.rows w v → Holds frame.forced.rows v r → IsOut box r b w
+  between_out v between after before =
+      inr (inr (inr (inl (
+        v,
+        record {
+          between = between_by (box_events box) (Holds frame.happens_before.rows) (HappensBeforeIn box) is.before_in w r v between;
+          after_source = is.forced_in w v after;
+          before_read = is.forced_in v r before;
+        },
+      ))))
+
+  -- another event, from which the read is given a byte
+  pub tear_out : CanReadWhole (event_at (box_events box) r) (event_at (box_events box) w) → (u : ℕ) → ReadsWholeBy (box_events box) (GivenIn box) r u → u ≢ w → IsOut box r b w
+  tear_out can u whole other =
+      inr (inr (inr (inr (record { source = u; byte = whole.reads.0; is_given = whole.reads.1; can = can; can_other = whole.can; other = other }))))

@@ -1,0 +1,68 @@
+-- Frames before anything follows from them, and boxes cut.
+use Rattle.std.proofs.Common.{◌≡◌, ◌↔◌, ℕ, ◌<◌, [], ◌∷◌, ◌++◌, Some, length, subst}
+use Rattle.std.specs.Prelude.{slice_get}
+use Rattle.lit_paths.specs.Execution.{Execution}
+use Rattle.lit_rel.specs.declared.event_set.EventSet.{EventSet}
+use Rattle.lit_rel.specs.declared.rows.two_way_rows.TwoWayRows.{TwoWayRows}
+use Rattle.lit_rel.specs.EventSet.{HasEvent}
+use Rattle.lit_rel.specs.HappensBefore.{HappensBefore, StepBy}
+use Rattle.lit_rel.specs.ReadsFrom.{ReadsByteFrom}
+use Rattle.lit_rel.specs.Rows.{Holds, IsTransitive, rows_len}
+use Rattle.lit_rel.proofs.ChainLemmas.{Chain-append}
+use Rattle.lit_rel.proofs.GrowthLemmas.{Grows-from}
+use Rattle.lit_order.specs.Forcing.{Given}
+use Rattle.lit_solve.specs.Box.{Box, HasEmptyDomain, HasSource, IsBox, box_events}
+use Rattle.lit_solve.specs.Completion.{IsCompletion}
+use Rattle.lit_solve.specs.Given.{GivenIn, HappensBeforeIn}
+use Rattle.lit_solve.specs.Internal.Frames.{IsContained}
+use Rattle.lit_solve.specs.Internal.Narrowing.{Narrows}
+use Rattle.lit_solve.specs.Internal.Settled.{IsCut, TakesFrom}
+use Rattle.lit_solve.proofs.DomainLemmas.{completion_at, domain_here, narrowed_at, narrowed_within}
+
+module _ (box : Box) (order : TwoWayRows) (len : rows_len order.rows ≡ length (box_events box)) (pairs : (e d : ℕ) → Holds order.rows e d ↔ HappensBefore (box_events box) [] e d) where
+  no_byte : (r b w : ℕ) → ReadsByteFrom (box_events box) [] r b w → GivenIn box r b w
+  no_byte r b w read = absurd (let none = read.2 in cc)
+
+  before_in : (e d : ℕ) → Holds order.rows e d → HappensBeforeIn box e d
+  before_in e d h = (Grows-from (box_events box) (ReadsByteFrom (box_events box) []) (GivenIn box) no_byte).happens_before e d ((pairs e d).0 h)
+
+  through : IsTransitive (Holds order.rows)
+  through x y z p q =
+      let first = (pairs x y).0 p in
+      let second = (pairs y z).0 q in
+      (pairs x z).1 (record { middles = first.middles ++ y ∷ second.middles; chain = Chain-append (StepBy (box_events box) (ReadsByteFrom (box_events box) [])) x first.middles y second.middles z first.chain second.chain })
+
+  -- happens-before where no byte read has a source is contained in what follows from any box
+  pub unsourced_contained : IsBox box → ¬ HasEmptyDomain box → IsContained box (record { happens_before = order; forced = order; domains = box.domains })
+  unsourced_contained is_box some = record {
+    is_box = is_box;
+    some = some;
+    before_len = len;
+    forced_len = len;
+    before_closed = through;
+    forced_closed = through;
+    unsourced = λ a d h. (pairs a d).1 h;
+    both = λ a d h. h;
+    before_in = before_in;
+    forced_in = λ a d h. Given (before_in a d h);
+  }
+
+-- ---- a domain cut down to a set
+module _ (box : Box) (place : ℕ) (set left : EventSet) (room : place < length box.domains) (left_is : (w : ℕ) → HasEvent left w ↔ (HasSource box place w × HasEvent set w)) where
+  pub left_within : (w : ℕ) → HasEvent left w → HasSource box place w
+  left_within w there = ((left_is w).0 there).0
+
+  pub source_taken : (x : Execution) → IsCompletion box x → TakesFrom x place set → (w : ℕ) → slice_get x.sources place ≡ Some w → HasEvent left w
+  source_taken x is takes w source = (left_is w).1 (is.within place w source, takes w source)
+
+  -- narrowed further it is the cut
+  pub cut_on : (now : Box) → Narrows (narrowed_at box place left) now → IsCut box place set now
+  cut_on now on = record {
+    within = record {
+      test = on.within.test;
+      combination = on.within.combination;
+      domains = λ k w h. (narrowed_within box place left room left_within).domains k w (on.within.domains k w h);
+    };
+    inside = λ w h. ((left_is w).0 (subst (λ (s : EventSet). HasEvent s w) (domain_here box place left room) (on.within.domains place w h))).1;
+    kept = λ x is takes. on.kept x (completion_at box place left room x is (source_taken x is takes));
+  }

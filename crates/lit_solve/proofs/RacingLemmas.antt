@@ -1,0 +1,166 @@
+-- Data races that a frame foresees, place by place of the byte reads; a read filled with one source of a byte.
+use Rattle.std.proofs.Common.{◌≡◌, ◌⊎◌, ◌≢◌, ◌↔◌, inl, inr, ℕ, ◌<◌, Some, List, length, get_or, arith, refl, sym, ap, subst, ◌∙◌}
+use Rattle.std.specs.Prelude.{slice_get}
+use Rattle.std.proofs.lemmas.Bool.{cases_eq}
+use Rattle.std.proofs.lemmas.List.{get_or-set_other}
+use Rattle.std.proofs.lemmas.Option.{same_Some, slice_get-get_or, slice_get_within}
+use Rattle.lit_paths.specs.declared.byte_reads.ByteRead.{ByteRead}
+use Rattle.lit_paths.specs.declared.event.Event.{Event}
+use Rattle.lit_paths.specs.ByteReads.{byte_read_at, byte_reads, pair_of}
+use Rattle.lit_rel.specs.declared.event_set.EventSet.{EventSet}
+use Rattle.lit_rel.specs.DataRace.{HasDataRaceOf}
+use Rattle.lit_rel.specs.EventSet.{HasEvent, no_events}
+use Rattle.lit_rel.specs.Internal.Racing.{AreApart, HasApartPair, WritesWith}
+use Rattle.lit_rel.specs.Rows.{Holds}
+use Rattle.lit_rel.proofs.RaceLemmas.{HasDataRaceOf-iff, HasDataRaceOf-wider}
+use Rattle.lit_solve.specs.declared.frame.Frame.{Frame}
+use Rattle.lit_solve.specs.Box.{Box, HasSource, box_events}
+use Rattle.lit_solve.specs.DataRace.{CanFillFrom, CanRaceIn, HasSourceOf, MayRaceIn}
+use Rattle.lit_solve.specs.Fill.{AreSourcesIn, CanFill, IsFilled}
+use Rattle.lit_solve.specs.Given.{HappensBeforeIn}
+use Rattle.lit_solve.specs.Internal.Frames.{IsExact}
+use Rattle.lit_solve.specs.Internal.Leaves.{CanFillAt, RacesAt}
+use Rattle.lit_solve.proofs.DomainLemmas.{domain_here, narrowed_at, narrowed_within}
+use Rattle.lit_solve.proofs.NarrowingLemmas.{read_there}
+use Rattle.lit_solve.proofs.ReadByteLemmas.{byte_read_there}
+
+-- the read at a place
+read_at : (box : Box) (k r b : ℕ) → slice_get (byte_reads (box_events box)) k ≡ Some (r, b) → r ≡ (byte_read_at (box_events box) k).0
+read_at box k r b at =
+    let inside = slice_get_within (byte_reads (box_events box)) k (r, b) at in
+    ap (λ (q : ℕ × ℕ). q.0) (same_Some (r, b) (byte_read_at (box_events box) k) (sym at ∙ byte_read_there (box_events box) k inside))
+
+-- by its byte read, as a number of its own
+pub read_number : (events : List Event) (k : ℕ) (p : ByteRead) (r : ℕ) → r ≡ p.read → slice_get (byte_reads events) k ≡ Some (pair_of p) → r ≡ (byte_read_at events k).0
+read_number events k p r same at = same ∙ ap (λ (q : ℕ × ℕ). q.0) (read_there events k p at)
+
+-- some byte read is in a data race with a source that it may have
+abbrev pub RacesSomewhere : Box → (before may : ℕ → ℕ → Type 0) → Type 0
+RacesSomewhere box before may = (k : ℕ) × (k < length (byte_reads (box_events box))) × RacesAt box before may k
+
+-- ---- a data race by the relation that a frame has
+module _ (box : Box) (frame : Frame) (exact : IsExact box frame) where
+  abbrev before : ℕ → ℕ → Type 0
+  before = Holds frame.happens_before.rows
+
+  module _ (reads may : ℕ → ℕ → Type 0)
+      (to : (k b r w : ℕ) → slice_get (byte_reads (box_events box)) k ≡ Some (r, b) → r ≡ (byte_read_at (box_events box) k).0 → may k w → reads r w)
+      (from : (r w : ℕ) → reads r w → (k : ℕ) × (b : ℕ) × (slice_get (byte_reads (box_events box)) k ≡ Some (r, b)) × may k w) where
+    apart_pair_of : RacesSomewhere box before may → HasApartPair (box_events box) before reads
+    apart_pair_of (k, inside, race) =
+        let read = byte_read_at (box_events box) k in record {
+          first = read.0;
+          second = race.source;
+          apart = race.apart;
+          is_pair = to k read.1 read.0 race.source (byte_read_there (box_events box) k inside) refl race.may_have;
+        }
+
+    place_racing : HasApartPair (box_events box) before reads → RacesSomewhere box before may
+    place_racing h =
+        let found = from h.first h.second h.is_pair in (
+          found.0,
+          slice_get_within (byte_reads (box_events box)) found.0 (h.first, found.1) found.2,
+          record {
+            source = h.second;
+            may_have = found.3;
+            apart = subst (λ (r : ℕ). AreApart (box_events box) before r h.second) (read_at box found.0 h.first found.1 found.2) h.apart;
+          },
+        )
+
+    race_from : RacesSomewhere box before may ⊎ HasApartPair (box_events box) before (WritesWith (box_events box)) → HasDataRaceOf (box_events box) (HappensBeforeIn box) reads
+    race_from h =
+        HasDataRaceOf-wider (box_events box) before (HappensBeforeIn box) reads reads exact.before (λ r w there. there)
+        ((HasDataRaceOf-iff (box_events box) before reads).1 (either h))
+      where
+        either : RacesSomewhere box before may ⊎ HasApartPair (box_events box) before (WritesWith (box_events box))
+            → HasApartPair (box_events box) before reads ⊎ HasApartPair (box_events box) before (WritesWith (box_events box))
+        either (inl read) = inl (apart_pair_of read)
+        either (inr writes) = inr writes
+
+    race_to : HasDataRaceOf (box_events box) (HappensBeforeIn box) reads → RacesSomewhere box before may ⊎ HasApartPair (box_events box) before (WritesWith (box_events box))
+    race_to h =
+        either ((HasDataRaceOf-iff (box_events box) before reads).0
+        (HasDataRaceOf-wider (box_events box) (HappensBeforeIn box) before reads reads exact.contained.before_in (λ r w there. there) h))
+      where
+        either : HasApartPair (box_events box) before reads ⊎ HasApartPair (box_events box) before (WritesWith (box_events box))
+            → RacesSomewhere box before may ⊎ HasApartPair (box_events box) before (WritesWith (box_events box))
+        either (inl read) = inl (place_racing read)
+        either (inr writes) = inr writes
+
+  pub may_race_iff : MayRaceIn box ↔ (RacesSomewhere box before (HasSource box) ⊎ HasApartPair (box_events box) before (WritesWith (box_events box)))
+  may_race_iff = (race_to (HasSourceOf box) (HasSource box) to from, race_from (HasSourceOf box) (HasSource box) to from)
+    where
+      to : (k b r w : ℕ) → slice_get (byte_reads (box_events box)) k ≡ Some (r, b) → r ≡ (byte_read_at (box_events box) k).0 → HasSource box k w → HasSourceOf box r w
+      to k b r w at is there = record { place = k; byte = b; is_read = at; there = there }
+
+      from : (r w : ℕ) → HasSourceOf box r w → (k : ℕ) × (b : ℕ) × (slice_get (byte_reads (box_events box)) k ≡ Some (r, b)) × HasSource box k w
+      from r w h = (h.place, h.byte, h.is_read, h.there)
+
+  pub can_race_iff : CanRaceIn box ↔ (RacesSomewhere box before (CanFillAt box) ⊎ HasApartPair (box_events box) before (WritesWith (box_events box)))
+  can_race_iff = (race_to (CanFillFrom box) (CanFillAt box) to from, race_from (CanFillFrom box) (CanFillAt box) to from)
+    where
+      to : (k b r w : ℕ) → slice_get (byte_reads (box_events box)) k ≡ Some (r, b) → r ≡ (byte_read_at (box_events box) k).0 → CanFillAt box k w → CanFillFrom box r w
+      to k b r w at is can = record {
+        place = k;
+        byte = b;
+        is_read = at;
+        sources = can.sources;
+        lie = can.lie;
+        takes = can.takes;
+        filled = subst (λ (q : ℕ). IsFilled box q can.sources) (sym is) can.filled;
+      }
+
+      from : (r w : ℕ) → CanFillFrom box r w → (k : ℕ) × (b : ℕ) × (slice_get (byte_reads (box_events box)) k ≡ Some (r, b)) × CanFillAt box k w
+      from r w h = (
+        h.place,
+        h.byte,
+        h.is_read,
+        record {
+          sources = h.sources;
+          lie = h.lie;
+          takes = h.takes;
+          filled = subst (λ (q : ℕ). IsFilled box q h.sources) (read_at box h.place r h.byte h.is_read) h.filled;
+        },
+      )
+
+-- ---- a read filled with one source of a byte
+-- the set of one event
+pub one_alone : (none one : EventSet) (w : ℕ) → ((v : ℕ) → ¬ HasEvent none v) → ((v : ℕ) → HasEvent one v ↔ (HasEvent none v ⊎ (v ≡ w))) → (v : ℕ) → HasEvent one v ↔ (v ≡ w)
+one_alone none one w empty with_it v = ((λ h. elim ((with_it v).0 h) [ inl there ↦ absurd (empty v there) | inr same ↦ same ]), (λ same. (with_it v).1 (inr same)))
+
+module _ (box : Box) (place w : ℕ) (one : EventSet) (is_one : (v : ℕ) → HasEvent one v ↔ (v ≡ w)) (room : place < length box.domains) where
+  pub one_within : HasSource box place w → (v : ℕ) → HasEvent one v → HasSource box place v
+  one_within there v h = subst (λ (u : ℕ). HasSource box place u) (sym ((is_one v).0 h)) there
+
+  -- sources with it lie in the box where it is alone at the place
+  lie_alone : (sources : List ℕ) → AreSourcesIn box sources → slice_get sources place ≡ Some w → AreSourcesIn (narrowed_at box place one) sources
+  lie_alone sources lie takes = record { sourced = lie.sourced; within = λ k v at. by k v at (cases_eq k place) }
+    where
+      by : (k v : ℕ) → slice_get sources k ≡ Some v → (k ≡ place) ⊎ (k ≢ place) → HasSource (narrowed_at box place one) k v
+      by k v at (inl is) =
+          let here : slice_get sources place ≡ Some v = subst (λ (j : ℕ). slice_get sources j ≡ Some v) is at in
+          let same : v ≡ w = same_Some v w (sym here ∙ takes) in
+          let there : HasSource (narrowed_at box place one) place v = subst (λ (set : EventSet). HasEvent set v) (sym (domain_here box place one room)) ((is_one v).1 same) in
+          subst (λ (j : ℕ). HasSource (narrowed_at box place one) j v) (sym is) there
+      by k v at (inr other) = subst (λ (set : EventSet). HasEvent set v) (sym (get_or-set_other box.domains place k one no_events other)) (lie.within k v at)
+
+  -- those that lie there have it
+  takes_alone : place < length (byte_reads (box_events box)) → (sources : List ℕ) → AreSourcesIn (narrowed_at box place one) sources → slice_get sources place ≡ Some w
+  takes_alone inside sources lie =
+      let long : place < length sources = omega (arith, lie.sourced.one_each, inside) in
+      let first = get_or sources place 0 in
+      let at : slice_get sources place ≡ Some first = slice_get-get_or sources place 0 long in
+      let there : HasEvent one first = subst (λ (set : EventSet). HasEvent set first) (domain_here box place one room) (lie.within place first at) in
+      at ∙ ap (λ (v : ℕ). Some v) ((is_one first).0 there)
+
+  pub can_fill_alone : place < length (byte_reads (box_events box)) → HasSource box place w
+      → CanFill (narrowed_at box place one) (byte_read_at (box_events box) place).0 ↔ CanFillAt box place w
+  can_fill_alone inside there = (
+    (λ can. record {
+      sources = can.0;
+      lie = record { sourced = can.1.sourced; within = λ k v at. (narrowed_within box place one room (one_within there)).domains k v (can.1.within k v at) };
+      takes = takes_alone inside can.0 can.1;
+      filled = record { tear_free = can.2.tear_free; tests = can.2.tests };
+    }),
+    (λ can. (can.sources, lie_alone can.sources can.lie can.takes, record { tear_free = can.filled.tear_free; tests = can.filled.tests })),
+  )

@@ -1,0 +1,232 @@
+-- The choices of a range on a combination are those of its boxes.
+use Rattle.std.proofs.Common.{◌≡◌, ◌↔◌, ℕ, ◌+◌, ◌-◌, ◌<◌, ◌≤◌, List, length, Option, Some, None, slice_get, refl, sym, ap, ap₂, subst, ◌∙◌, ⊎_elim, arith}
+use Rattle.std.specs.Prelude.{IfSome, slice_index}
+use Rattle.std.specs.Cmp.Lexicographic.{slice_cmp}
+use Rattle.std.specs.Ordering.{nat_cmp, ordering_then}
+use Rattle.std.specs.declared.cmp.Ordering.{Ordering}
+use Rattle.std.specs.declared.cmp.Ordering.TheVariants.{Less, Equal}
+use Rattle.std.proofs.lemmas.Bool.{cases_order, cases_lt}
+use Rattle.std.proofs.lemmas.Option.{same_Some, slice_get-get_or, slice_get_within}
+use Rattle.lit_read.specs.Syntax.{Litmus}
+use Rattle.lit_paths.specs.ByteReads.{byte_reads, byte_read_at}
+use Rattle.lit_paths.specs.Choice.{AreSources, Choice, ListsChoices, choice_cmp, choices_of, combinations_of}
+use Rattle.lit_paths.specs.Plan.{HasSources, IsOfCombination, choices_before, events_in}
+use Rattle.lit_paths.proofs.Rising.{nat_cmp-same, slice_cmp-same}
+use Rattle.lit_paths.proofs.Totals.{before_all}
+use Rattle.lit_solve.specs.Boxes.{BoxesModel, CutsRange, IsAbove, IsBelow, LiesInBox, boxes_events, boxes_len, parting_in}
+use Rattle.lit_solve.specs.Internal.Cut.{IsCut, IsGreaterAt, IsHighEnd, IsLowEnd}
+use Rattle.lit_solve.proofs.CutLemmas.{IsBetween, IsInCut, between, few_boxes, found, rises}
+use Rattle.lit_solve.proofs.LexLemmas.{less_from_place, place_of_less}
+
+-- a combination with a first choice is one of the test
+pub known_by_first : (t : Litmus) (c first : ℕ) → first ≡ choices_before t c → first < length (choices_of t) → c < length (combinations_of t)
+known_by_first t c first same known =
+    ⊎_elim (λ less. less) (λ past. absurd (omega (arith, same, known, before_all t c past))) (cases_lt c (length (combinations_of t)))
+
+-- ---- the sources of a choice
+module _ (t : Litmus) (c n : ℕ) (a : List ℕ) (of : IsOfCombination t n c) (has : HasSources t n a) where
+  pub sources_are : of.choice.sources ≡ a
+  sources_are = ap (λ (ch : Choice). ch.sources) (same_Some of.choice has.choice (sym of.listed ∙ has.listed)) ∙ has.same
+
+  pub sourced : AreSources (events_in t c) a
+  sourced = subst (λ (ws : List ℕ). AreSources (events_in t c) ws) sources_are of.sourced
+
+one_sources : (t : Litmus) (n : ℕ) (a b : List ℕ) → HasSources t n a → HasSources t n b → a ≡ b
+one_sources t n a b first second = sym first.same ∙ ap (λ (ch : Choice). ch.sources) (same_Some first.choice second.choice (sym first.listed ∙ second.listed)) ∙ second.same
+
+-- ---- two choices on a combination
+module _ (t : Litmus) (c n m : ℕ) (a b : List ℕ) (lists : ListsChoices t) (first : IsOfCombination t n c) (second : IsOfCombination t m c)
+    (has : HasSources t n a) (has_too : HasSources t m b) where
+  -- sources rise with the numbers of choices
+  pub sources_rise : n < m → slice_cmp nat_cmp a b ≡ Less
+  sources_rise less =
+      let before : choice_cmp first.choice second.choice ≡ Less = lists.rising n m first.choice second.choice less first.listed second.listed in
+      let decided : first.choice.decisions ≡ second.choice.decisions = sym first.decided ∙ second.decided in
+      let equal : slice_cmp (slice_cmp nat_cmp) first.choice.decisions second.choice.decisions ≡ Equal =
+      ap (λ (l : List (List ℕ)). slice_cmp (slice_cmp nat_cmp) first.choice.decisions l) (sym decided)
+      ∙ slice_cmp-same (slice_cmp nat_cmp) (λ xs. slice_cmp-same nat_cmp nat_cmp-same xs) first.choice.decisions in
+      let by_sources : slice_cmp nat_cmp first.choice.sources second.choice.sources ≡ Less =
+      sym (ap (λ (o : Ordering). ordering_then o (slice_cmp nat_cmp first.choice.sources second.choice.sources)) equal) ∙ before in
+      sym (ap₂ (λ (x y : List ℕ). slice_cmp nat_cmp x y) (sources_are t c n a first has) (sources_are t c m b second has_too)) ∙ by_sources
+
+  long : length a ≡ length b
+  long = (sourced t c n a first has).one_each ∙ sym (sourced t c m b second has_too).one_each
+
+  -- where no lesser sources are left
+  pub reaches : n ≤ m → (k : ℕ) × (k ≤ length (byte_reads (events_in t c))) × IsGreaterAt a k b
+  reaches le =
+      ⊎_elim
+      (λ same.
+      let one : b ≡ a = one_sources t m b a has_too (subst (λ (j : ℕ). HasSources t j a) same has) in (
+        length a,
+        omega (arith, (sourced t c n a first has).one_each),
+        record {
+          same = λ k _. ap (λ (ws : List ℕ). slice_index ws k) one;
+          greater = λ past. absurd (omega (arith, past));
+        },
+      ))
+      (λ apart. ⊎_elim
+      (λ less.
+      let at = place_of_less a b long (sources_rise less) in
+      (at.0, omega (arith, at.1, (sourced t c n a first has).one_each), at.2))
+      (λ more. absurd (omega (arith, more, le)))
+      apart)
+      (cases_order n m)
+
+-- no list is greater than another that is greater than it
+not_both : (a b : List ℕ) (k e : ℕ) → length a ≡ length b → e < length b → IsGreaterAt a k b → IsGreaterAt b e a → ⊥
+not_both a b k e long inside up down =
+    ⊎_elim
+    (λ less. omega (arith, up.same e less, down.greater inside))
+    (λ not_less. ⊎_elim
+    (λ more. omega (arith, down.same k more, up.greater (omega (arith, more, inside, long))))
+    (λ not_more.
+    let same : k ≡ e = omega (arith, not_less, not_more) in
+    let both : IsGreaterAt a e b = subst (λ (j : ℕ). IsGreaterAt a j b) same up in
+    omega (arith, both.greater (omega (arith, inside, long)), down.greater inside))
+    (cases_lt k e))
+    (cases_lt e k)
+
+module _ (t : Litmus) (c n m : ℕ) (a b : List ℕ) (lists : ListsChoices t) (first : IsOfCombination t n c) (second : IsOfCombination t m c)
+    (has : HasSources t n a) (has_too : HasSources t m b) where
+  pub not_behind : (k : ℕ) → IsGreaterAt a k b → n ≤ m
+  not_behind k up =
+      ⊎_elim
+      (λ less.
+      let at = place_of_less b a (sym (long t c n m a b lists first second has has_too)) (sources_rise t c m n b a lists second first has_too has less) in
+      absurd (not_both a b k at.0 (long t c n m a b lists first second has has_too) at.1 up at.2))
+      (λ not_less. not_less)
+      (cases_lt m n)
+
+-- ---- the ends of a range
+module _ (t : Litmus) (c : ℕ) (lists : ListsChoices t) (of : (n : ℕ) → choices_before t c ≤ n → n < choices_before t (c + 1) → IsOfCombination t n c) (from to : ℕ) (some : 0 < to)
+    (n : ℕ) (s : List ℕ) (low_in : choices_before t c ≤ n) (high_in : n < choices_before t (c + 1)) (has : HasSources t n s) where
+  abbrev len : ℕ
+  len = length (byte_reads (events_in t c))
+
+  above_low : (low : Option (List ℕ)) → IsLowEnd t c from low → from ≤ n → IfSome low (λ l. (k : ℕ) × (k ≤ len) × IsGreaterAt l k s)
+  above_low None end le = tt
+  above_low (Some l) end le = reaches t c from n l s lists (of from end.low end.high) (of n low_in high_in) end.has has le
+
+  from_low : (low : Option (List ℕ)) → IsLowEnd t c from low → IfSome low (λ l. (k : ℕ) × (k ≤ len) × IsGreaterAt l k s) → from ≤ n
+  from_low None end is = omega (arith, end, low_in)
+  from_low (Some l) end is = not_behind t c from n l s lists (of from end.low end.high) (of n low_in high_in) end.has has is.0 is.2
+
+  below_high : (high : Option (List ℕ)) → IsHighEnd t c to high → n < to → IfSome high (λ h. (k : ℕ) × (k ≤ len) × IsGreaterAt s k h)
+  below_high None end le = tt
+  below_high (Some h) end le = reaches t c n (to - 1) s h lists (of n low_in high_in) (of (to - 1) end.low end.high) has end.has (omega (arith, le))
+
+  from_high : (high : Option (List ℕ)) → IsHighEnd t c to high → IfSome high (λ h. (k : ℕ) × (k ≤ len) × IsGreaterAt s k h) → n < to
+  from_high None end is = omega (arith, end, high_in)
+  from_high (Some h) end is =
+      let le : n ≤ to - 1 = not_behind t c n (to - 1) s h lists (of n low_in high_in) (of (to - 1) end.low end.high) has end.has is.0 is.2 in
+      omega (arith, le, some)
+
+  pub range_between : (low high : Option (List ℕ)) → IsLowEnd t c from low → IsHighEnd t c to high → ((from ≤ n) × (n < to)) ↔ IsBetween len low high s
+  range_between low high low_is high_is = (
+    λ inside. record { above = above_low low low_is inside.0; below = below_high high high_is inside.1 },
+    λ is. (from_low low low_is is.above, from_high high high_is is.below),
+  )
+
+-- ---- sources that lie in a box
+above_known : (low : Option (List ℕ)) (place : ℕ) (s : List ℕ) → place ≤ length s → IfSome low (λ l. length l ≡ length s)
+    → ((k : ℕ) → k < length s → IfSome low (λ l. IsAbove l place k (slice_index s k))) → IfSome low (λ l. IsGreaterAt l place s)
+above_known None place s fits long each = tt
+above_known (Some l) place s fits long each = record {
+  same = λ k inside. (each k (omega (arith, inside, fits))).0 inside;
+  greater = λ inside. (each place (omega (arith, inside, long))).1 refl;
+}
+
+below_known : (high : Option (List ℕ)) (place : ℕ) (s : List ℕ) → place ≤ length s
+    → ((k : ℕ) → k < length s → IfSome high (λ h. IsBelow h place k (slice_index s k))) → IfSome high (λ h. IsGreaterAt s place h)
+below_known None place s fits each = tt
+below_known (Some h) place s fits each = record {
+  same = λ k inside. sym ((each k (omega (arith, inside, fits))).0 inside);
+  greater = λ inside. (each place inside).1 refl;
+}
+
+above_from : (low : Option (List ℕ)) (place : ℕ) (s : List ℕ) (k w : ℕ) → IfSome low (λ l. length l ≡ length s) → k < length s → w ≡ slice_index s k → IfSome low (λ l. IsGreaterAt l place s)
+    → IfSome low (λ l. IsAbove l place k w)
+above_from None place s k w long inside here is = tt
+above_from (Some l) place s k w long inside here is = (
+  λ before. here ∙ is.same k before,
+  λ at.
+      let less : slice_index l k < slice_index s k = subst (λ (j : ℕ). slice_index l j < slice_index s j) (sym at) (is.greater (omega (arith, at, inside, long))) in
+      omega (arith, less, here),
+)
+
+below_from : (high : Option (List ℕ)) (place : ℕ) (s : List ℕ) (k w : ℕ) → k < length s → w ≡ slice_index s k → IfSome high (λ h. IsGreaterAt s place h)
+    → IfSome high (λ h. IsBelow h place k w)
+below_from None place s k w inside here is = tt
+below_from (Some h) place s k w inside here is = (
+  λ before. here ∙ sym (is.same k before),
+  λ at.
+      let less : slice_index s k < slice_index h k = subst (λ (j : ℕ). slice_index s j < slice_index h j) (sym at) (is.greater (omega (arith, at, inside))) in
+      omega (arith, less, here),
+)
+
+-- the place where a box parts is one of a byte read, or behind the last one
+parting_fits : (len shared lows highs : ℕ) (low high : Option (List ℕ)) (i : ℕ) → IsCut len low high shared lows highs → i < lows + 1 + highs → shared + ((lows - i) + (i - lows)) ≤ len
+parting_fits len shared lows highs None None i cut inside = omega (arith, inside, cut.before.fits, cut.before.count, cut.behind.count)
+parting_fits len shared lows highs None (Some h) i cut inside = omega (arith, inside, cut.before.fits, cut.before.count, cut.behind.count)
+parting_fits len shared lows highs (Some l) None i cut inside = omega (arith, inside, cut.behind.fits, cut.before.count, cut.behind.count)
+parting_fits len shared lows highs (Some l) (Some h) i cut inside = omega (arith, inside, cut.before.fits, cut.before.count, cut.behind.count)
+
+low_long : (n : ℕ) (s : List ℕ) (low : Option (List ℕ)) → length s ≡ n → IfSome low (λ l. length l ≡ n) → IfSome low (λ l. length l ≡ length s)
+low_long n s None same is = tt
+low_long n s (Some l) same is = is ∙ sym same
+
+module _ (boxes : BoxesModel) (cut : IsCut (length (byte_reads (boxes_events boxes))) boxes.low boxes.high boxes.shared boxes.lows boxes.highs)
+    (s : List ℕ) (are : AreSources (boxes_events boxes) s) (i : ℕ) (inside : i < boxes_len boxes) where
+  at_place : (k : ℕ) → k < length s → slice_get s k ≡ Some (slice_index s k)
+  at_place k within = slice_get-get_or s k 0 within
+
+  fits : parting_in boxes i ≤ length s
+  fits = omega (arith, are.one_each, parting_fits (length (byte_reads (boxes_events boxes))) boxes.shared boxes.lows boxes.highs boxes.low boxes.high i cut inside)
+
+  pub in_cut : LiesInBox boxes i s → IsInCut boxes.low boxes.high boxes.shared boxes.lows i s
+  in_cut lies = record {
+    above = λ early. above_known boxes.low (parting_in boxes i) s fits (low_long (length (byte_reads (boxes_events boxes))) s boxes.low are.one_each cut.before.long)
+        (λ k within. (lies k (slice_index s k) (at_place k within)).above early);
+    below = λ late. below_known boxes.high (parting_in boxes i) s fits (λ k within. (lies k (slice_index s k) (at_place k within)).below late);
+  }
+
+  pub from_cut : IsInCut boxes.low boxes.high boxes.shared boxes.lows i s → LiesInBox boxes i s
+  from_cut is = λ k w at.
+      let within : k < length s = slice_get_within s k w at in
+      let known : k < length (byte_reads (boxes_events boxes)) = omega (arith, within, are.one_each) in
+      let here : w ≡ slice_index s k = sym (same_Some (slice_index s k) w (sym (at_place k within) ∙ at)) in
+      record {
+        known = known;
+        candidate = are.each k (byte_read_at (boxes_events boxes) k).0 (byte_read_at (boxes_events boxes) k).1 w (slice_get-get_or (byte_reads (boxes_events boxes)) k (0, 0) known) at;
+        above = λ early. above_from boxes.low (parting_in boxes i) s k w (low_long (length (byte_reads (boxes_events boxes))) s boxes.low are.one_each cut.before.long) within here (is.above early);
+        below = λ late. below_from boxes.high (parting_in boxes i) s k w within here (is.below late);
+      }
+
+-- ---- the range
+module _ (boxes : BoxesModel) (cut : IsCut (length (byte_reads (boxes_events boxes))) boxes.low boxes.high boxes.shared boxes.lows boxes.highs) (from to : ℕ) (some : 0 < to)
+    (low_is : IsLowEnd boxes.test boxes.combination from boxes.low) (high_is : IsHighEnd boxes.test boxes.combination to boxes.high) (lists : ListsChoices boxes.test)
+    (of : (n : ℕ) → choices_before boxes.test boxes.combination ≤ n → n < choices_before boxes.test (boxes.combination + 1) → IsOfCombination boxes.test n boxes.combination) where
+  abbrev reads : ℕ
+  reads = length (byte_reads (boxes_events boxes))
+
+  covered : (n : ℕ) (s : List ℕ) → choices_before boxes.test boxes.combination ≤ n → n < choices_before boxes.test (boxes.combination + 1)
+      → HasSources boxes.test n s → ((from ≤ n) × (n < to)) ↔ ((i : ℕ) × (i < boxes_len boxes) × LiesInBox boxes i s)
+  covered n s low_in high_in has =
+      let are : AreSources (boxes_events boxes) s = sourced boxes.test boxes.combination n s (of n low_in high_in) has in
+      let range = range_between boxes.test boxes.combination lists of from to some n s low_in high_in has boxes.low boxes.high low_is high_is in (
+        λ inside.
+            let there = found reads boxes.shared boxes.lows boxes.highs s are.one_each boxes.low boxes.high cut (range.0 inside) in
+            (there.0, there.1, from_cut boxes cut s are there.0 there.1 there.2),
+        λ lies. range.1 (between reads boxes.shared boxes.lows boxes.highs s are.one_each boxes.low boxes.high cut lies.0 lies.1 (in_cut boxes cut s are lies.0 lies.1 lies.2)),
+      )
+
+  risen : (i j : ℕ) (a b : List ℕ) → i < j → j < boxes_len boxes → AreSources (boxes_events boxes) a → AreSources (boxes_events boxes) b
+      → LiesInBox boxes i a → LiesInBox boxes j b → slice_cmp nat_cmp a b ≡ Less
+  risen i j a b less inside a_are b_are first second =
+      let at = rises reads boxes.shared boxes.lows boxes.highs a b a_are.one_each b_are.one_each i j less inside boxes.low boxes.high cut
+      (in_cut boxes cut a a_are i (omega (arith, less, inside)) first) (in_cut boxes cut b b_are j inside second) in
+      less_from_place a b at.0 (omega (arith, a_are.one_each, b_are.one_each)) (omega (arith, at.1, a_are.one_each)) at.2
+
+  pub cuts_range : CutsRange boxes from to
+  cuts_range = record { few = few_boxes reads boxes.shared boxes.lows boxes.highs boxes.low boxes.high cut; covers = covered; rising = risen }

@@ -1,0 +1,151 @@
+-- Sources put together: each byte read takes what a list of sources of its own read has there.
+use Rattle.std.proofs.Common.{◌≡◌, ◌≢◌, ◌⊎◌, inl, inr, ℕ, zero, suc, ◌+◌, ◌<◌, ◌≤◌, ◌==◌, Bool, false, cond, Some, List, [], ◌∷◌, filter, length, map, get_or, refl, sym, ap, subst, ◌∙◌, arith}
+use Rattle.std.specs.Prelude.{slice_get}
+use Rattle.std.specs.List.{zip}
+use Rattle.std.proofs.lemmas.Bool.{cases_eq, cases_lt}
+use Rattle.std.proofs.lemmas.Bool.Decides.{nat_tests}
+use Rattle.std.proofs.lemmas.Option.{none-some, same_Some, slice_get-get_or, slice_get_within}
+use Rattle.lit_paths.specs.declared.event.Event.{Event}
+use Rattle.lit_paths.specs.ByteReads.{byte_reads, byte_read_at}
+use Rattle.lit_paths.specs.Choice.{AreSources}
+use Rattle.lit_paths.specs.Event.{event_at, payload_at}
+use Rattle.lit_rel.specs.Broken.{HasFalseTestOn}
+use Rattle.lit_rel.specs.InitReads.{AreOfEvents}
+use Rattle.lit_rel.specs.ReadsFrom.{ReadsByteFrom, composed, value_of}
+use Rattle.lit_rel.specs.TearFree.{ReadsWholeBy}
+use Rattle.lit_solve.specs.Box.{Box, box_events}
+use Rattle.lit_solve.specs.Fill.{AreSourcesIn, CanFill, IsFilled}
+
+-- ---- a read goes by its own bytes alone
+-- the byte reads of one read, each with its source
+of_read : ℕ → List (ℕ × ℕ) → List ℕ → List ((ℕ × ℕ) × ℕ)
+of_read r reads sources = filter (λ p. p.0.0 == r) (zip reads sources)
+
+of_read-same : (r : ℕ) (reads : List (ℕ × ℕ)) (sources others : List ℕ) → length sources ≡ length reads → length others ≡ length reads
+    → ((i b : ℕ) → slice_get reads i ≡ Some (r, b) → slice_get sources i ≡ slice_get others i) → of_read r reads sources ≡ of_read r reads others
+unfolding of_read
+of_read-same r [] sources others long other_long agree = refl
+of_read-same r (p ∷ reads) [] others long other_long agree = absurd (omega (arith, long))
+of_read-same r (p ∷ reads) (v ∷ sources) [] long other_long agree = absurd (omega (arith, other_long))
+of_read-same r (p ∷ reads) (v ∷ sources) (o ∷ others) long other_long agree =
+    by (cases_eq p.0 r) (of_read-same r reads sources others (omega (arith, long)) (omega (arith, other_long)) (λ i b at. agree (suc i) b at))
+  where
+    by : (p.0 ≡ r) ⊎ (p.0 ≢ r) → of_read r reads sources ≡ of_read r reads others
+        → of_read r (p ∷ reads) (v ∷ sources) ≡ of_read r (p ∷ reads) (o ∷ others)
+    by (inl is) later =
+        let head : v ≡ o = same_Some v o (agree 0 p.1 (ap (λ (k : ℕ). Some (k, p.1)) is)) in
+        ap (λ (w : ℕ). cond (p.0 == r) ((p, w) ∷ of_read r reads sources) (of_read r reads sources)) head
+        ∙ ap (λ (qs : List ((ℕ × ℕ) × ℕ)). cond (p.0 == r) ((p, o) ∷ qs) qs) later
+    by (inr other) later =
+        let no_test : (p.0 == r) ≡ false = grind (arith, nat_tests) in
+        ap (λ (t : Bool). cond t ((p, v) ∷ of_read r reads sources) (of_read r reads sources)) no_test
+        ∙ later
+        ∙ sym (ap (λ (t : Bool). cond t ((p, o) ∷ of_read r reads others) (of_read r reads others)) no_test)
+
+-- two lists of sources have the same source for each byte of read r
+abbrev pub AgreeOn : List Event → ℕ → List ℕ → List ℕ → Type 0
+AgreeOn events r sources others = (k b : ℕ) → slice_get (byte_reads events) k ≡ Some (r, b) → slice_get sources k ≡ slice_get others k
+
+value_agrees : (events : List Event) (r : ℕ) (sources others : List ℕ) → AreSources events sources → AreSources events others
+    → AgreeOn events r sources others → value_of events sources r ≡ value_of events others r
+unfolding of_read
+value_agrees events r sources others sourced other_sourced agree =
+    ap (λ (ps : List ((ℕ × ℕ) × ℕ)). composed (map (λ p. payload_at (event_at events p.1) p.0.1) ps))
+    (of_read-same r (byte_reads events) sources others sourced.one_each other_sourced.one_each agree)
+
+-- what fills a read does so beside any sources of other reads
+pub fills_as_well : (box : Box) (r : ℕ) (sources others : List ℕ) → AreSources (box_events box) sources → AreSources (box_events box) others
+    → AgreeOn (box_events box) r sources others → IsFilled box r sources → IsFilled box r others
+fills_as_well box r sources others sourced other_sourced agree filled = record {
+  tear_free = λ w v first second. filled.tear_free w v (back w first) (back v second);
+  tests = λ bad. filled.tests (subst (λ (value : ℕ). HasFalseTestOn box.test box.combination (Some r) value) (sym same_value) bad);
+}
+  where
+    same_value : value_of (box_events box) sources r ≡ value_of (box_events box) others r
+    same_value = value_agrees (box_events box) r sources others sourced other_sourced agree
+
+    back : (w : ℕ) → ReadsWholeBy (box_events box) (ReadsByteFrom (box_events box) others) r w
+        → ReadsWholeBy (box_events box) (ReadsByteFrom (box_events box) sources) r w
+    back w h =
+        let byte = h.reads.1 in
+        record { reads = (h.reads.0, (byte.0, byte.1, agree byte.0 h.reads.0 byte.1 ∙ byte.2)); can = h.can }
+
+-- ---- a list for each read
+module _ (box : Box) (chosen : ℕ → List ℕ) where
+  abbrev events : List Event
+  events = box_events box
+
+  -- the sources of byte reads, of which the first has the place k, each as the list of its read has it
+  abbrev pub together_from : ℕ → List (ℕ × ℕ) → List ℕ
+  together_from k [] = []
+  together_from k (p ∷ reads) = get_or (chosen p.0) k 0 ∷ together_from (k + 1) reads
+
+  abbrev pub together : List ℕ
+  together = together_from 0 (byte_reads events)
+
+  length-together_from : (k : ℕ) (reads : List (ℕ × ℕ)) → length (together_from k reads) ≡ length reads
+  length-together_from k [] = refl
+  length-together_from k (p ∷ reads) = ap suc (length-together_from (k + 1) reads)
+
+  together_from-at : (k i : ℕ) (reads : List (ℕ × ℕ)) (p : ℕ × ℕ) → slice_get reads i ≡ Some p
+      → slice_get (together_from k reads) i ≡ Some (get_or (chosen p.0) (k + i) 0)
+  together_from-at k i [] p at = absurd (none-some p at)
+  together_from-at k zero (q ∷ reads) p at =
+      let next : k ≡ k + 0 = omega arith in
+      ap (λ (x : ℕ × ℕ). Some (get_or (chosen x.0) k 0)) (same_Some q p at) ∙ ap (λ (j : ℕ). Some (get_or (chosen p.0) j 0)) next
+  together_from-at k (suc i) (q ∷ reads) p at =
+      let next : (k + 1) + i ≡ k + suc i = omega arith in
+      together_from-at (k + 1) i reads p at ∙ ap (λ (j : ℕ). Some (get_or (chosen p.0) j 0)) next
+
+  module _ (of_events : AreOfEvents events) (lie : (r : ℕ) → r < length events → AreSourcesIn box (chosen r)) where
+    pub together_agrees : (r : ℕ) → r < length events → AgreeOn events r together (chosen r)
+    together_agrees r known k b at =
+        let inside : k < length (chosen r) = omega (arith, (lie r known).sourced.one_each, slice_get_within (byte_reads events) k (r, b) at) in
+        let next : 0 + k ≡ k = omega arith in
+        together_from-at 0 k (byte_reads events) (r, b) at
+        ∙ ap (λ (j : ℕ). Some (get_or (chosen r) j 0)) next
+        ∙ sym (slice_get-get_or (chosen r) k 0 inside)
+
+    pub together_lies : AreSourcesIn box together
+    together_lies = record {
+      sourced = record {
+        one_each = length-together_from 0 (byte_reads events);
+        each = λ k r b w at source.
+            let known : r < length events = of_events.known k r b at in
+            (lie r known).sourced.each k r b w at (sym (together_agrees r known k b at) ∙ source);
+      };
+      within = λ k w source.
+          let inside : k < length (byte_reads events) = omega (arith, length-together_from 0 (byte_reads events), slice_get_within together k w source) in
+          let read = byte_read_at events k in
+          let at : slice_get (byte_reads events) k ≡ Some read = slice_get-get_or (byte_reads events) k (0, 0) inside in
+          let known : read.0 < length events = of_events.known k read.0 read.1 at in
+          (lie read.0 known).within k w (sym (together_agrees read.0 known k read.1 at) ∙ source);
+    }
+
+    pub together_fills : ((r : ℕ) → r < length events → IsFilled box r (chosen r)) → (r : ℕ) → r < length events → IsFilled box r together
+    together_fills filled r known =
+        fills_as_well box r (chosen r) together (lie r known).sourced together_lies.sourced (λ k b at. sym (together_agrees r known k b at)) (filled r known)
+
+-- ---- where each read can be filled
+module _ (box : Box) (of_events : AreOfEvents (box_events box)) (fills : (r : ℕ) → r < length (box_events box) → CanFill box r) where
+  pick : (r : ℕ) → (r < length (box_events box)) ⊎ (length (box_events box) ≤ r) → List ℕ
+  pick r (inl known) = (fills r known).0
+  pick r (inr past) = []
+
+  picked : ℕ → List ℕ
+  picked r = pick r (cases_lt r (length (box_events box)))
+
+  pick_fills : (r : ℕ) → r < length (box_events box) → AreSourcesIn box (picked r) × IsFilled box r (picked r)
+  unfolding pick picked
+  pick_fills r known = by (cases_lt r (length (box_events box)))
+    where
+      by : (known_or : (r < length (box_events box)) ⊎ (length (box_events box) ≤ r)) → AreSourcesIn box (pick r known_or) × IsFilled box r (pick r known_or)
+      by (inl here) = ((fills r here).1, (fills r here).2)
+      by (inr past) = absurd (omega (arith, known, past))
+
+  pub filled_together : (sources : List ℕ) × AreSourcesIn box sources × ((r : ℕ) → r < length (box_events box) → IsFilled box r sources)
+  filled_together = (
+    together box picked,
+    together_lies box picked of_events (λ r known. (pick_fills r known).0),
+    together_fills box picked of_events (λ r known. (pick_fills r known).0) (λ r known. (pick_fills r known).1),
+  )

@@ -1,0 +1,9 @@
+use Rattle.std.proofs.Common.{arith, ap, length}
+use Rattle.lit_paths.specs.ByteReads.{byte_reads}
+use Rattle.lit_solve.specs.Boxes.{BoxesModel, boxes_events}
+use Rattle.lit_solve.proofs.PartedLemmas.{high_fits}
+use Rattle.lit_solve.proofs.boxes.Boxes.below.Goals as goal
+
+pub below-requires : goal.below-requires
+below-requires c =
+    high_fits _ c.self.invariant c.args.place (omega (arith, c.requires.place, ap (λ (b : BoxesModel). length (byte_reads (boxes_events b))) c.self.view_is))

@@ -1,0 +1,13 @@
+use Rattle.std.proofs.Common.{◌≡◌, ◌↔◌, ℕ}
+use Rattle.lit_paths.specs.Event.{event_at, payload_at}
+use Rattle.lit_rel.specs.EventSet.{HasEvent}
+use Rattle.lit_solve.proofs.filling.storing.Given as goal
+
+abbrev pub invariant-loop-event : goal.invariant-loop-event
+invariant-loop-event l = record {
+  left : (v : ℕ) → HasEvent l.left v → HasEvent l.fn.among v;
+  alike : (v : ℕ) → HasEvent l.alike v ↔ (HasEvent l.fn.among v × (payload_at (event_at l.events v) l.byte ≡ l.stored) × ¬ HasEvent l.left v);
+}
+
+abbrev pub decreases-loop-event : goal.decreases-loop-event
+decreases-loop-event l = l.left.bits

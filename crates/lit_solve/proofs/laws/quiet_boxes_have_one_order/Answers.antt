@@ -1,0 +1,12 @@
+use Rattle.std.proofs.Common.{List, sym, subst}
+use Rattle.lit_paths.specs.declared.event.Event.{Event}
+use Rattle.lit_order.specs.MemoryOrder.{IsMemoryOrder}
+use Rattle.lit_solve.proofs.CompletionLemmas.{events_same, order_here}
+use Rattle.lit_solve.proofs.FillLemmas.{order_back_in, order_in, sources_lie}
+use Rattle.lit_solve.proofs.laws.quiet_boxes_have_one_order.Goals as goal
+
+pub returns : goal.returns
+returns c box x order is_box quiet is = (
+  (λ o. order_in box x.sources (sources_lie box x is) order (order_here box x is order o)),
+  (λ o. subst (λ (es : List Event). IsMemoryOrder es x.sources order) (sym (events_same box x is)) (order_back_in box x.sources (sources_lie box x is) quiet order o)),
+)

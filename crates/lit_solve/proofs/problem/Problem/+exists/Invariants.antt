@@ -1,0 +1,21 @@
+use Rattle.std.proofs.Common.{◌≡◌, ℕ, Some}
+use Rattle.std.specs.Prelude.{slice_get}
+use Rattle.lit_paths.specs.Execution.{Execution}
+use Rattle.lit_rel.specs.EventSet.{HasEvent}
+use Rattle.lit_solve.specs.Box.{HasSource}
+use Rattle.lit_solve.specs.Completion.{IsSolution}
+use Rattle.lit_solve.specs.Internal.Frames.{box_of}
+use Rattle.lit_solve.specs.Internal.Narrowing.{size_of}
+use Rattle.lit_solve.proofs.problem.Problem.+exists.Given as goal
+
+abbrev pub decreases-exists : goal.decreases-exists
+decreases-exists l = size_of l.frame.now.domains
+
+abbrev pub invariant-loop-source : goal.invariant-loop-source
+invariant-loop-source l = record {
+  within : (w : ℕ) → HasEvent l.left w → HasSource (box_of l.self l.frame) l.branch.place w;
+  taken : (x : Execution) → IsSolution (box_of l.self l.frame) l.goal x → (w : ℕ) → slice_get x.sources l.branch.place ≡ Some w → HasEvent l.left w;
+}
+
+abbrev pub decreases-loop-source : goal.decreases-loop-source
+decreases-loop-source l = l.left.bits

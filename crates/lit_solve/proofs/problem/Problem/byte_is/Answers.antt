@@ -1,0 +1,21 @@
+use Rattle.std.proofs.Common.{inl, inr, sym, ◌∙◌, eq-eqb, refl}
+use Rattle.lit_rel.proofs.SetLemmas.{event_or_not}
+use Rattle.lit_solve.specs.Box.{box_with}
+use Rattle.lit_solve.proofs.DecidingLemmas.{undecided_by}
+use Rattle.lit_solve.proofs.problem.Problem.byte_is.Goals as goal
+
+pub returns-in_default-split_first : goal.returns-in_default-split_first
+returns-in_default-split_first c w there =
+    elim (event_or_not c.storing-storing.result w) [
+      | inl stores ↦ eq-eqb _ _ ((c.storing-storing.ensures w).0 stores).1
+      | inr other ↦ absurd (c.in_default-split_first.ensures w ((c.difference.ensures w).1 (there, other)))
+    ]
+
+pub returns : goal.returns
+returns c =
+    let box = box_with c.args.self.now c.args.domains.now in
+    let some = c.in-Some._some.0 in
+    let other = c.in-Some-split_first._other.0 in
+    let stores = (c.storing-storing.ensures some).0 c.in-Some.ensures.there in
+    let differs = (c.difference.ensures other).0 c.in-Some-split_first.ensures.there in
+    (refl, undecided_by box c.args.place some other c.requires.place stores.0 differs.0 (λ same. differs.1 ((c.storing-storing.ensures other).1 (differs.0, sym same ∙ stores.1))))

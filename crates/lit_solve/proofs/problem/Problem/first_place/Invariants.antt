@@ -1,0 +1,8 @@
+use Rattle.std.proofs.Common.{◌≡◌, ℕ, ◌<◌, Some}
+use Rattle.std.specs.Prelude.{slice_get}
+use Rattle.lit_paths.specs.ByteReads.{byte_reads}
+use Rattle.lit_solve.specs.Box.{events_on}
+use Rattle.lit_solve.proofs.problem.Problem.first_place.Given as goal
+
+abbrev pub invariant-loop-place : goal.invariant-loop-place
+invariant-loop-place l = (k q b : ℕ) → k < l.place → slice_get (byte_reads (events_on l.self)) k ≡ Some (q, b) → q < l.read

@@ -1,0 +1,52 @@
+use Rattle.std.proofs.Common.{◌≡◌, ◌↔◌, ℕ, Some, ap, sym, subst, ◌∙◌}
+use Rattle.std.specs.Prelude.{slice_get, Bool, true, false, IsTrue, not}
+use Rattle.std.proofs.lemmas.Bool.{false≢true}
+use Rattle.lit_read.specs.Syntax.{Litmus}
+use Rattle.lit_paths.specs.ByteReads.{byte_read_at, byte_reads, IsCandidate}
+use Rattle.lit_rel.specs.Coherent.{IsCoherentRead}
+use Rattle.lit_rel.specs.EventSet.{HasEvent}
+use Rattle.lit_rel.specs.Rows.{Holds}
+use Rattle.lit_solve.specs.Box.{events_on}
+use Rattle.lit_solve.specs.Internal.Frames.{IsProblem}
+use Rattle.lit_solve.proofs.NarrowingLemmas.{coherent_if_none, none_if_coherent, read_there}
+use Rattle.lit_solve.proofs.problem.Problem.is_coherent.Goals as goal
+
+pub returns-then-not-holds : goal.returns-then-not-holds
+returns-then-not-holds c =
+    let events = events_on c.args.self.now in
+    let order = c.args.frame.now.happens_before in
+    let read = c.from-read.result in
+    let byte = c.byte_read.result.byte in
+    let is : IsProblem c.args.self.now c.self.inside.candidates c.self.inside.peers = subst (λ (p : Litmus × ℕ). IsProblem p c.self.inside.candidates c.self.inside.peers) c.self.view_is c.self.invariant in
+    let at : slice_get (byte_reads events) c.args.place ≡ Some (read, byte) = c.byte_read.ensures.at ∙ ap (λ (r : ℕ). Some (r, byte)) (sym c.from-read.ensures) in
+    let both : (v : ℕ) → HasEvent c.intersection.result v ↔ (IsCandidate events read byte v × Holds order.rows c.args.source v × Holds order.rows v read) = λ v. (
+      (λ there.
+          let parts = (c.intersection.ensures v).0 there in
+          let between = (c.intersection-between.ensures v).0 parts.1 in (
+            (is.all c.args.place read byte v at).0 parts.0,
+            (c.successors.ensures v).0 between.0,
+            (order.same.pairs v read).0 ((c.successors-2.ensures v).0 between.1),
+          )),
+      (λ h. (c.intersection.ensures v).1 (
+        (is.all c.args.place read byte v at).1 h.0,
+        (c.intersection-between.ensures v).1 ((c.successors.ensures v).1 h.1, (c.successors-2.ensures v).1 ((order.same.pairs v read).1 h.2)),
+      )),
+    ) in
+    let is_read : (read, byte) ≡ byte_read_at events c.args.place = ap (λ (r : ℕ). (r, byte)) c.from-read.ensures ∙ read_there events c.args.place c.byte_read.result c.byte_read.ensures.at in
+    let not_later : ¬ Holds order.rows read c.args.source = λ later. false≢true (sym c.if-not-holds.true ∙ c.holds.ensures.1 later) in
+    subst (λ (q : ℕ × ℕ). IsTrue c.is_empty.result ↔ IsCoherentRead events (Holds order.rows) q.0 q.1 c.args.source) is_read (
+      (λ empty. coherent_if_none events order.rows c.requires.contained.before_len read byte c.args.source c.intersection.result both c.requires.calm not_later (c.is_empty.ensures.0 empty)),
+      (λ coherent. c.is_empty.ensures.1 (none_if_coherent events order.rows c.requires.contained.before_len read byte c.args.source c.intersection.result both coherent)),
+    )
+
+never : (b : Bool) → b ≡ true → IsTrue (not b) → ⊥
+never true _ h = false≢true h
+never false h _ = false≢true h
+
+pub returns-else-not-holds : goal.returns-else-not-holds
+returns-else-not-holds c =
+    let later : Holds c.args.frame.now.happens_before.rows c.from-read.result c.args.source = c.holds.ensures.0 c.if-not-holds.false in
+    let is_read : (c.from-read.result, c.byte_read.result.byte) ≡ byte_read_at (events_on c.args.self.now) c.args.place = ap (λ (r : ℕ). (r, c.byte_read.result.byte)) c.from-read.ensures ∙ read_there (events_on c.args.self.now) c.args.place c.byte_read.result c.byte_read.ensures.at in (
+      (λ t. absurd (never c.holds.result c.if-not-holds.false t)),
+      (λ coherent. absurd (coherent.not_later (subst (λ (q : ℕ × ℕ). Holds c.args.frame.now.happens_before.rows q.0 c.args.source) is_read later))),
+    )

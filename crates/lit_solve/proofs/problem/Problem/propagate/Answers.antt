@@ -1,0 +1,19 @@
+use Rattle.std.proofs.Common.{arith, inl, refl, subst, sym}
+use Rattle.lit_solve.specs.declared.frame.Frame.{Frame}
+use Rattle.lit_solve.specs.Internal.Frames.{AreCoherentAt, box_of}
+use Rattle.lit_solve.proofs.problem.Problem.propagate.Goals as goal
+
+pub propagating-init : goal.propagating-init
+propagating-init c = record {
+  contained = c.requires;
+  narrows = record { within = record { test = refl; combination = refl; domains = λ k w h. h }; kept = λ x is. is };
+  size = omega arith;
+}
+
+pub returns-in-Same-clause-coherent : goal.returns-in-Same-clause-coherent
+returns-in-Same-clause-coherent c done =
+    subst (λ (frame : Frame). AreCoherentAt (box_of c.args.self.now frame) frame) (sym (c.in-Same.ensures.same refl)) (c.in-Same.ensures.coherent refl)
+
+pub returns-clause-none : goal.returns-clause-none
+returns-clause-none c failed x is =
+    c.refuted_boxes_have_no_completion.ensures (box_of c.args.self.now c.propagating.frame) x c.propagating.invariant.contained.is_box (inl (c.force.ensures.cycle c.propagating-test.false)) (c.propagating.invariant.narrows.kept x is)

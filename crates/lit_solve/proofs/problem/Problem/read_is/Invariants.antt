@@ -1,0 +1,6 @@
+use Rattle.lit_solve.specs.Box.{box_with}
+use Rattle.lit_solve.proofs.DecidingLemmas.{IsDecidedBelow}
+use Rattle.lit_solve.proofs.problem.Problem.read_is.Given as goal
+
+abbrev pub invariant-loop-place : goal.invariant-loop-place
+invariant-loop-place l = IsDecidedBelow (box_with l.self l.domains) l.read l.value l.place l.decided

@@ -1,0 +1,11 @@
+use Rattle.std.proofs.Common.{ℕ}
+use Rattle.lit_paths.specs.ByteReads.{byte_read_at}
+use Rattle.lit_rel.specs.EventSet.{HasEvent}
+use Rattle.lit_rel.specs.TearFree.{ReadsWholeBy}
+use Rattle.lit_solve.specs.Given.{GivenIn}
+use Rattle.lit_solve.specs.Box.{events_on}
+use Rattle.lit_solve.specs.Internal.Frames.{box_of}
+use Rattle.lit_solve.proofs.problem.Problem.whole_sources.Given as goal
+
+abbrev pub invariant-loop-other : goal.invariant-loop-other
+invariant-loop-other l = (u : ℕ) → HasEvent l.whole u → ReadsWholeBy (events_on l.self) (GivenIn (box_of l.self l.frame)) (byte_read_at (events_on l.self) l.place).0 u

@@ -1,0 +1,17 @@
+use Rattle.std.proofs.Common.{◌≡◌, ℕ, Some}
+use Rattle.std.specs.Prelude.{slice_get}
+use Rattle.lit_paths.specs.Execution.{Execution}
+use Rattle.lit_rel.specs.EventSet.{HasEvent}
+use Rattle.lit_solve.specs.Box.{HasSource}
+use Rattle.lit_solve.specs.Completion.{IsSolution}
+use Rattle.lit_solve.specs.Internal.Frames.{box_of}
+use Rattle.lit_solve.proofs.problem.Problem.with_least.Given as goal
+
+abbrev pub invariant-loop-source : goal.invariant-loop-source
+invariant-loop-source l = record {
+  within : (w : ℕ) → HasEvent l.left w → HasSource (box_of l.self l.frame) l.place w;
+  taken : (x : Execution) → IsSolution (box_of l.self l.frame) l.goal x → (w : ℕ) → slice_get x.sources l.place ≡ Some w → HasEvent l.left w;
+}
+
+abbrev pub decreases-loop-source : goal.decreases-loop-source
+decreases-loop-source l = l.left.bits

@@ -1,0 +1,9 @@
+use Rattle.lit_solve.specs.Box.{box_with}
+use Rattle.lit_solve.specs.Internal.Frames.{box_of}
+use Rattle.lit_solve.proofs.LeastLemmas.{least_told}
+use Rattle.lit_solve.proofs.solver.least.Goals as goal
+
+pub returns-in-Some : goal.returns-in-Some
+returns-in-Some c =
+    least_told (box_with c.args.problem.now c.args.domains.now) (box_of c.args.problem.now c.in-Some.frame) c.args.goal c.in-Some.ensures.narrows
+    c.least.result (λ one. one.sources.items) (λ one. one.order.items) c.least.ensures

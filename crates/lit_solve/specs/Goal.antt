@@ -1,0 +1,14 @@
+-- What a search is for among valid executions (this project's own).
+use Rattle.std.specs.Prelude.{IsTrue, ⊤}
+use Rattle.lit_read.specs.Syntax.{Litmus}
+use Rattle.lit_paths.specs.Execution.{Execution, execution_events, execution_outcome}
+use Rattle.lit_rel.specs.DataRace.{HasDataRace}
+use Rattle.lit_valid.specs.Class.{is_of_class}
+use Rattle.lit_solve.specs.declared.goal.Goal.{Goal}
+use Rattle.lit_solve.specs.declared.goal.Goal.TheVariants.{Any, OfClass, Race}
+
+-- the execution is what is looked for
+abbrev pub Meets : Litmus → Goal → Execution → Type 0
+Meets t Any x = ⊤
+Meets t (OfClass class) x = IsTrue (is_of_class t class (execution_outcome t x))
+Meets t Race x = HasDataRace (execution_events t x) x.sources

@@ -1,0 +1,19 @@
+-- Data races of a byte read and a source, by what a box leaves to read.
+use Rattle.std.specs.Prelude.{◌≡◌, ℕ, List, Some, slice_get}
+use Rattle.lit_paths.specs.ByteReads.{byte_read_at}
+use Rattle.lit_rel.specs.Internal.Racing.{AreApart}
+use Rattle.lit_solve.specs.Box.{Box, box_events}
+use Rattle.lit_solve.specs.Fill.{AreSourcesIn, IsFilled}
+
+-- the read at the k-th byte read can be filled with w as the source there
+pub record CanFillAt (box : Box) (k w : ℕ) : Type 0 where
+  pub sources : List ℕ
+  pub lie : AreSourcesIn box sources
+  pub takes : slice_get sources k ≡ Some w
+  pub filled : IsFilled box (byte_read_at (box_events box) k).0 sources
+
+-- the read at the k-th byte read is in a data race with a source that it may have there
+pub record RacesAt (box : Box) (before may : ℕ → ℕ → Type 0) (k : ℕ) : Type 0 where
+  pub source : ℕ
+  pub may_have : may k source
+  pub apart : AreApart (box_events box) before (byte_read_at (box_events box) k).0 source

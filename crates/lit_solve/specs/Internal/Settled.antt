@@ -1,0 +1,26 @@
+-- Frames from which nothing more follows.
+use Rattle.std.specs.Prelude.{◌≡◌, ℕ, Some, slice_get}
+use Rattle.lit_paths.specs.Execution.{Execution}
+use Rattle.lit_rel.specs.declared.event_set.EventSet.{EventSet}
+use Rattle.lit_rel.specs.EventSet.{HasEvent}
+use Rattle.lit_solve.specs.declared.frame.Frame.{Frame}
+use Rattle.lit_solve.specs.Box.{Box, HasSource, IsWithin}
+use Rattle.lit_solve.specs.Completion.{IsCompletion}
+use Rattle.lit_solve.specs.Given.{IsForcedIn}
+use Rattle.lit_solve.specs.Internal.Frames.{AreCoherentAt, IsExact}
+
+-- The frame's relations are those of its box, no event is forced before itself, and each source in a domain is coherent there.
+pub record IsSettled (box : Box) (frame : Frame) : Type 0 where
+  pub exact : IsExact box frame
+  pub calm : (e : ℕ) → ¬ IsForcedIn box e e
+  pub coherent : AreCoherentAt box frame
+
+-- the execution has a source of a set for the k-th byte read
+abbrev pub TakesFrom : Execution → ℕ → EventSet → Type 0
+TakesFrom x k set = (w : ℕ) → slice_get x.sources k ≡ Some w → HasEvent set w
+
+-- the box within another whose completions are those of that with a source of a set for the k-th byte read
+pub record IsCut (old : Box) (k : ℕ) (set : EventSet) (new : Box) : Type 0 where
+  pub within : IsWithin new old
+  pub inside : (w : ℕ) → HasSource new k w → HasEvent set w
+  pub kept : (x : Execution) → IsCompletion old x → TakesFrom x k set → IsCompletion new x

@@ -1,0 +1,9 @@
+pub mod Box
+pub mod Goal
+pub mod Completion
+pub mod Given
+pub mod Out
+pub mod Fill
+pub mod DataRace
+pub mod Boxes
+pub mod Internal

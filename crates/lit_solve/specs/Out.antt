@@ -1,0 +1,64 @@
+-- When what a box gives leaves a source out, and when it leaves no completion (this project's own).
+use Rattle.std.specs.Prelude.{◌≢◌, ◌⊎◌, ℕ, List, Some, None}
+use Rattle.lit_paths.specs.Choice.{AreSources}
+use Rattle.lit_paths.specs.Event.{event_at, payload_at}
+use Rattle.lit_rel.specs.Broken.{HasFalseTestOn, HasTornReadBy}
+use Rattle.lit_rel.specs.Coherent.{IsCoherentRead}
+use Rattle.lit_rel.specs.Forbidden.{IsForbiddenBetween}
+use Rattle.lit_rel.specs.Growth.{IsGivenWholeBy}
+use Rattle.lit_rel.specs.ReadsFrom.{value_of}
+use Rattle.lit_rel.specs.SynchronizesWith.{CanSynchronize}
+use Rattle.lit_rel.specs.TearFree.{CanReadWhole}
+use Rattle.lit_rel.specs.TestedBytes.{HasFalseByteOn}
+use Rattle.lit_order.specs.Forcing.{HasForcedCycle}
+use Rattle.lit_solve.specs.Box.{Box, HasEmptyDomain, LiesIn, box_events}
+use Rattle.lit_solve.specs.Given.{GivenIn, HappensBeforeIn, IsForbiddenIn, IsForcedIn}
+
+-- a test is false whatever r reads, if byte b of it has the source w
+abbrev pub IsRefused : Box → ℕ → ℕ → ℕ → Type 0
+IsRefused box r b w = HasFalseByteOn box.test box.combination r b (payload_at (event_at (box_events box) w) b)
+
+-- w and r can synchronize, and r is forced before w
+pub record IsForcedLater (box : Box) (w r : ℕ) : Type 0 where
+  pub can : CanSynchronize (event_at (box_events box) w) (event_at (box_events box) r)
+  pub later : IsForcedIn box r w
+
+-- v may not stand between w and r, and is forced to
+pub record IsForcedBetween (box : Box) (w r v : ℕ) : Type 0 where
+  pub between : IsForbiddenBetween (box_events box) (HappensBeforeIn box) w r v
+  pub after_source : IsForcedIn box w v
+  pub before_read : IsForcedIn box v r
+
+-- r can read whole from w, and from another event from which it is given a byte
+pub record WouldTear (box : Box) (r w : ℕ) : Type 0 where
+  pub source : ℕ
+  pub byte : ℕ
+  pub is_given : GivenIn box r byte source
+  pub can : CanReadWhole (event_at (box_events box) r) (event_at (box_events box) w)
+  pub can_other : CanReadWhole (event_at (box_events box) r) (event_at (box_events box) source)
+  pub other : source ≢ w
+
+-- no completion has w as the source of byte b of read r, by what is given
+abbrev pub IsOut : Box → ℕ → ℕ → ℕ → Type 0
+IsOut box r b w =
+    IsRefused box r b w
+    ⊎ (¬ IsCoherentRead (box_events box) (HappensBeforeIn box) r b w)
+    ⊎ IsForcedLater box w r
+    ⊎ ((v : ℕ) × IsForcedBetween box w r v)
+    ⊎ WouldTear box r w
+
+-- A test is false of a register that was not written, or of a read all of whose bytes are given: of its value by any sources
+-- that lie in the box.
+abbrev pub HasFalseTestIn : Box → Type 0
+HasFalseTestIn box =
+    HasFalseTestOn box.test box.combination None 0
+    ⊎ ((r : ℕ) × IsGivenWholeBy (box_events box) (GivenIn box) r
+    × ((sources : List ℕ) → AreSources (box_events box) sources → LiesIn box sources → HasFalseTestOn box.test box.combination (Some r) (value_of (box_events box) sources r)))
+
+-- there is no completion, by what is given
+abbrev pub IsRefuted : Box → Type 0
+IsRefuted box =
+    HasForcedCycle (HappensBeforeIn box) (IsForbiddenIn box)
+    ⊎ HasEmptyDomain box
+    ⊎ HasTornReadBy (box_events box) (GivenIn box)
+    ⊎ HasFalseTestIn box

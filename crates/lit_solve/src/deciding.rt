@@ -1,0 +1,205 @@
+//! What a condition comes to, by what the domains of a box leave of each register's value.
+
+ghost use Rattle.std.specs.Prelude.{◌≡◌, ◌⊎◌, ◌↔◌, ℕ, ◌^◌, ◌<◌, IfSome, IsTrue, length, true};
+ghost use Rattle.lit_read.specs.Litmus.{condition_of};
+ghost use Rattle.lit_read.specs.Syntax.{Is};
+ghost use Rattle.lit_paths.specs.ByteReads.{byte_reads};
+ghost use Rattle.lit_paths.specs.Event.{does_read, event_at as event_of};
+ghost use Rattle.lit_rel.specs.EventSet.{HasEvent};
+ghost use Rattle.lit_valid.specs.PartOutcome.{read_held as read_of};
+ghost use Rattle.lit_solve.specs.declared.goal.Goal.TheVariants.{OfClass};
+ghost use Rattle.lit_solve.specs.Box.{HasSource, IsBox, box_with, events_on};
+ghost use Rattle.lit_solve.specs.Internal.Deciding.{IsByteDecided, IsDecided, IsProspect, IsReadDecided, opposite_of, stored_for};
+
+use crate::domains::Domains;
+use crate::problem::Problem;
+use crate::prospect::Prospect;
+use lit_paths::event_at;
+use lit_read::{Cond, REGISTERS};
+use lit_rel::{EventSet, payload_at};
+use lit_valid::Class;
+use lit_valid::laws::laws_below;
+
+/// What a condition comes to.
+#[derive(Clone, Copy, Debug, PartialEq, Eq)]
+pub(crate) enum Decided {
+    /// This, with the outcome of each completion.
+    Comes(bool),
+    /// It hangs on what the byte read at a place is read as.
+    Hangs(usize),
+}
+
+impl Decided {
+    /// What the opposite of a condition comes to.
+    fn opposite(self) -> Self
+        ensures { result ≡ opposite_of self }
+    {
+        match self {
+            Decided::Comes(value) => Decided::Comes(!value),
+            Decided::Hangs(place) => Decided::Hangs(place),
+        }
+    }
+}
+
+/// Whether a number fits into so many bytes: one, two or four.
+fn fits(value: u32, size: u8) -> bool
+    requires { (size ≡ 1) ⊎ ((size ≡ 2) ⊎ (size ≡ 4)) }
+    ensures { IsTrue result ↔ (value < 256 ^ size) }
+{
+    match size {
+        1 => value < 0x100,
+        2 => value < 0x1_0000,
+        _ => true,
+    }
+}
+
+impl Problem<'_> {
+    /// The sources in the domain of the byte read at a place that store this byte for it.
+    fn storing(&self, domains: &Domains, place: usize, value: u8) -> EventSet
+        requires place { place < length (byte_reads (events_on self.now)) }
+        requires is_box { IsBox (box_with self.now domains.now) }
+        ensures { (w : ℕ) → HasEvent result w ↔ (HasSource (box_with self.now domains.now) place w
+            × (stored_for (box_with self.now domains.now) place w ≡ value)) }
+    {
+        let byte = self.byte_read(place).byte;
+        let events = self.combination.events();
+        let mut storing = EventSet::new();
+        let mut left = domains[place];
+        while let Some((source, others)) = left.split_first() {
+            if payload_at(event_at(events, source), byte) == value {
+                storing = storing.with(source);
+            }
+            left = others;
+        }
+        storing
+    }
+
+    /// Whether the byte read at a place is read as this byte, by the sources in its domain.
+    fn byte_is(&self, domains: &Domains, place: usize, value: u8) -> Decided
+        requires place { place < length (byte_reads (events_on self.now)) }
+        requires is_box { IsBox (box_with self.now domains.now) }
+        ensures { IsByteDecided (box_with self.now domains.now) place value result }
+    {
+        let _events = self.combination.events();
+        let storing = self.storing(domains, place, value);
+        let Some(_some) = storing.split_first() else {
+            return Decided::Comes(false);
+        };
+        let Some(_other) = domains[place].difference(storing).split_first() else {
+            return Decided::Comes(true);
+        };
+        Decided::Hangs(place)
+    }
+
+    /// Whether a read has a value, by the sources in the domains of its bytes.
+    fn read_is(&self, domains: &Domains, read: usize, value: u32) -> Decided
+        requires known { read < length (events_on self.now) }
+        requires reads { IsTrue (does_read (event_of (events_on self.now) read).kind) }
+        requires is_box { IsBox (box_with self.now domains.now) }
+        ensures { IsReadDecided (box_with self.now domains.now) read value result }
+    {
+        laws_below();
+        let event = event_at(self.combination.events(), read);
+        if !fits(value, event.size) {
+            return Decided::Comes(false);
+        }
+        let bytes = value.to_le_bytes();
+        let mut decided = Decided::Comes(true);
+        for place in 0..self.reads() {
+            let at = self.byte_read(place);
+            if usize::from(at.read) == read {
+                match self.byte_is(domains, place, bytes[usize::from(at.byte - event.first)]) {
+                    Decided::Comes(true) => {}
+                    Decided::Comes(false) => return Decided::Comes(false),
+                    Decided::Hangs(open) => decided = Decided::Hangs(open),
+                }
+            }
+        }
+        decided
+    }
+
+    /// The read that a register of an agent holds at the end of the agent's path, by number; `None` where it was not
+    /// written.
+    fn read_held(&self, agent: u8, reg: u8) -> Option<usize>
+        ensures value { result ≡ read_of self.now.0 self.now.1 (agent, reg) }
+        ensures reads { IfSome result (λ r. (r < length (events_on self.now))
+            × IsTrue (does_read (event_of (events_on self.now) r).kind)) }
+    {
+        let agent = usize::from(agent);
+        if agent >= self.combination.test().agents() || usize::from(reg) >= REGISTERS {
+            return None;
+        }
+        let place = self.combination.path(agent).last(reg)?;
+        Some(usize::from(self.combination.first_event(agent)) + usize::from(place))
+    }
+
+    /// Whether a register has a value in the outcome of each completion.
+    fn register_is(&self, domains: &Domains, agent: u8, reg: u8, value: u32) -> Decided
+        requires { IsBox (box_with self.now domains.now) }
+        ensures { IsDecided (box_with self.now domains.now) (Is agent reg true value) result }
+    {
+        laws_below();
+        match self.read_held(agent, reg) {
+            Some(read) => self.read_is(domains, read, value),
+            None => Decided::Comes(value == 0),
+        }
+    }
+
+    /// What a condition comes to, by the domains of the bytes that its registers hold.
+    pub(crate) fn decide(&self, domains: &Domains, condition: &Cond) -> Decided
+        requires { IsBox (box_with self.now domains.now) }
+        ensures { IsDecided (box_with self.now domains.now) (condition_of condition.now) result }
+    {
+        match condition {
+            Cond::Any(members) => {
+                let mut decided = Decided::Comes(false);
+                'any: for member in members {
+                    match self.decide(domains, member) {
+                        Decided::Comes(true) => return Decided::Comes(true),
+                        Decided::Comes(false) => {}
+                        Decided::Hangs(place) => decided = Decided::Hangs(place),
+                    }
+                }
+                decided
+            }
+            Cond::All(members) => {
+                let mut decided = Decided::Comes(true);
+                'all: for member in members {
+                    match self.decide(domains, member) {
+                        Decided::Comes(false) => return Decided::Comes(false),
+                        Decided::Comes(true) => {}
+                        Decided::Hangs(place) => decided = Decided::Hangs(place),
+                    }
+                }
+                decided
+            }
+            Cond::Not(member) => self.decide(domains, member).opposite(),
+            Cond::Is {
+                agent,
+                reg,
+                equal,
+                value,
+            } => {
+                let decided = self.register_is(domains, *agent, *reg, *value);
+                if *equal { decided } else { decided.opposite() }
+            }
+        }
+    }
+
+    /// What a box says of the outcomes of its completions, where one of a class is looked for.
+    pub(crate) fn prospect_of(&self, domains: &Domains, class: Class) -> Prospect
+        requires { IsBox (box_with self.now domains.now) }
+        ensures { IsProspect (box_with self.now domains.now) (OfClass class) result }
+    {
+        match self.decide(domains, self.combination.test().check()) {
+            Decided::Hangs(place) => Prospect::Open(place),
+            Decided::Comes(met) => {
+                if met == (class == Class::Met) {
+                    Prospect::Each
+                } else {
+                    Prospect::Nothing
+                }
+            }
+        }
+    }
+}

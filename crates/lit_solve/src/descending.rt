@@ -1,0 +1,81 @@
+//! Going down to the least completion that is looked for: each byte read in turn takes its least source that is not refuted.
+
+ghost use Rattle.std.specs.Prelude.{◌≡◌, ℕ, ◌<◌, IfNone, IfSome, IsTrue, length};
+ghost use Rattle.lit_paths.specs.ByteReads.{byte_reads};
+ghost use Rattle.lit_solve.specs.Completion.{HasSolution};
+ghost use Rattle.lit_solve.specs.Given.{HasAlone};
+ghost use Rattle.lit_solve.specs.Internal.Descending.{AreAloneBelow, IsLowest, IsLowestAt};
+ghost use Rattle.lit_solve.specs.Box.{events_on};
+ghost use Rattle.lit_solve.specs.Internal.Frames.{box_of};
+ghost use Rattle.lit_solve.specs.Internal.Settled.{IsSettled};
+
+use crate::frame::Frame;
+use crate::goal::Goal;
+use crate::problem::Problem;
+use crate::stepping::Step;
+use lit_rel::EventSet;
+
+impl Problem<'_> {
+    /// Whether a frame may have a completion that is what is looked for, as far as it shows; where `sure`, whether it has one.
+    fn is_promising(&self, frame: &Frame, goal: Goal, sure: bool) -> bool
+        requires { IsSettled (box_of self.now frame.now) frame.now }
+        ensures none { ¬ IsTrue result → ¬ HasSolution (box_of self.now frame.now) goal }
+        ensures sure { IsTrue sure → IsTrue result → HasSolution (box_of self.now frame.now) goal }
+    {
+        if sure {
+            return self.exists(frame, goal);
+        }
+        match self.step(frame, goal) {
+            Step::Refuted => false,
+            Step::Leaf | Step::Parted(_) => true,
+        }
+    }
+
+    /// The frame with the least source of the byte read at a place that is not refuted, or, where `sure`, with which there is a
+    /// completion that is what is looked for. `None` where there is no such source.
+    fn with_least(&self, frame: &Frame, goal: Goal, sure: bool, place: usize) -> Option<Frame>
+        requires place { place < length (byte_reads (events_on self.now)) }
+        requires settled { IsSettled (box_of self.now frame.now) frame.now }
+        ensures settled { IfSome result (λ next. IsSettled (box_of self.now next) next) }
+        ensures alone { IfSome result (λ next. (w : ℕ) × HasAlone (box_of self.now next) place w) }
+        ensures lowest { IfSome result (λ next. IsLowestAt (box_of self.now frame.now) goal place (box_of self.now next)) }
+        ensures sure { IfSome result (λ next. IsTrue sure → HasSolution (box_of self.now next) goal) }
+        ensures none { IfNone result (¬ HasSolution (box_of self.now frame.now) goal) }
+    {
+        let _ = &self.combination;
+        let mut left = self.sources_left(frame, place);
+        while let Some((source, others)) = left.split_first() {
+            let mut next = *frame;
+            if self.cut(&mut next, place, EventSet::new().with(source))
+                && self.is_promising(&next, goal, sure)
+            {
+                return Some(next);
+            }
+            left = others;
+        }
+        None
+    }
+
+    /// Gives each byte read in turn its least source that is not refuted, or, where `sure`, with which there is a completion
+    /// that is what is looked for: there is one at first.
+    pub(crate) fn descend(&self, frame: &mut Frame, goal: Goal, sure: bool) -> bool
+        requires settled { IsSettled (box_of self.now frame.old) frame.old }
+        requires sure { IsTrue sure → HasSolution (box_of self.now frame.old) goal }
+        ensures settled { IsTrue result → IsSettled (box_of self.now frame.new) frame.new }
+        ensures alone { IsTrue result → AreAloneBelow (box_of self.now frame.new) (length (byte_reads (events_on self.now))) }
+        ensures lowest { IsTrue result → IsLowest (box_of self.now frame.old) goal (box_of self.now frame.new) }
+        ensures found { IsTrue sure → IsTrue result }
+        ensures sure { IsTrue sure → HasSolution (box_of self.now frame.new) goal }
+    {
+        for place in 0..self.reads() {
+            if let Some(_source) = self.given(&*frame, place) {
+                continue;
+            }
+            match self.with_least(&*frame, goal, sure, place) {
+                Some(next) => *frame = next,
+                None => return false,
+            }
+        }
+        true
+    }
+}

@@ -1,0 +1,149 @@
+//! What a frame's given bytes force: the least relation that each memory-order of each completion keeps.
+
+ghost use Rattle.std.specs.Prelude.{◌≡◌, ◌⊎◌, ◌↔◌, ℕ, ◌+◌, ◌<◌, ◌≤◌, IsFalse, IsTrue, MatchOption, length};
+ghost use Rattle.lit_paths.specs.ByteReads.{byte_reads};
+ghost use Rattle.lit_paths.specs.declared.limits.TheConstants.{BYTE_READ_LIMIT, EVENT_LIMIT};
+ghost use Rattle.lit_paths.specs.Event.{event_at as event_of};
+ghost use Rattle.lit_rel.specs.Between.{Forbids};
+ghost use Rattle.lit_rel.specs.EventSet.{HasEvent};
+ghost use Rattle.lit_rel.specs.Forbidden.{IsForbiddenBetween};
+ghost use Rattle.lit_rel.specs.Rows.{Holds};
+ghost use Rattle.lit_rel.specs.SynchronizesWith.{CanSynchronize};
+ghost use Rattle.lit_order.specs.Forcing.{HasForcedCycle};
+ghost use Rattle.lit_solve.specs.Given.{HappensBeforeIn, HasAlone, IsForbiddenIn, IsForcedIn};
+ghost use Rattle.lit_solve.specs.Box.{events_on};
+ghost use Rattle.lit_solve.specs.Internal.Frames.{IsContained, IsExact, IsForbiddenAt, IsSynchronizedAt, box_of};
+
+use crate::domains::only_one;
+use crate::frame::Frame;
+use crate::problem::Problem;
+use lit_order::force;
+use lit_paths::event_at;
+use lit_rel::{Between, EventSet, can_synchronize, others_between};
+
+impl Problem<'_> {
+    /// The source that the byte read at a place has alone; `None` where it has several.
+    pub(crate) fn given(&self, frame: &Frame, place: usize) -> Option<usize>
+        requires place { place < length (byte_reads (events_on self.now)) }
+        requires contained { IsContained (box_of self.now frame.now) frame.now }
+        ensures { MatchOption result
+            ((w : ℕ) → ¬ HasAlone (box_of self.now frame.now) place w)
+            (λ w. HasAlone (box_of self.now frame.now) place w × (w < length (events_on self.now)) × (w < EVENT_LIMIT)) }
+    {
+        let _read = self.byte_read(place);
+        let _events = self.combination.events();
+        match only_one(frame.domains[place]) {
+            Some(source) => Some(source),
+            None => None,
+        }
+    }
+
+    /// Whether one event synchronizes with another that reads from it, both by number.
+    fn can_synchronize(&self, source: usize, read: usize) -> bool
+        requires source { source < length (events_on self.now) }
+        requires read { read < length (events_on self.now) }
+        ensures { IsTrue result ↔ CanSynchronize (event_of (events_on self.now) source) (event_of (events_on self.now) read) }
+    {
+        let events = self.combination.events();
+        can_synchronize(event_at(events, source), event_at(events, read))
+    }
+
+    /// Puts the only source of a byte read before its read, where it has one that synchronizes with that.
+    fn put_synchronized(&self, frame: &mut Frame, place: usize)
+        requires place { place < length (byte_reads (events_on self.now)) }
+        requires contained { IsContained (box_of self.now frame.old) frame.old }
+        ensures domains { frame.new.domains ≡ frame.old.domains }
+        ensures contained { IsContained (box_of self.now frame.new) frame.new }
+        ensures there { IsSynchronizedAt (box_of self.now frame.new) (Holds frame.new.happens_before.rows) place }
+        ensures grows { (a d : ℕ) → Holds frame.old.happens_before.rows a d → Holds frame.new.happens_before.rows a d }
+    {
+        let read = self.byte_read(place).read as usize;
+        let Some(source) = self.given(&*frame, place) else {
+            return;
+        };
+        if !self.can_synchronize(source, read) {
+            return;
+        }
+        if !frame.happens_before.rows.holds(source, read) {
+            frame.happens_before.close_with(source, read);
+            frame.forced.close_with(source, read);
+        }
+    }
+
+    /// Makes happens-before that of the bytes given.
+    fn synchronize(&self, frame: &mut Frame)
+        requires contained { IsContained (box_of self.now frame.old) frame.old }
+        ensures domains { frame.new.domains ≡ frame.old.domains }
+        ensures contained { IsContained (box_of self.now frame.new) frame.new }
+        ensures exact { (a d : ℕ) → HappensBeforeIn (box_of self.now frame.new) a d → Holds frame.new.happens_before.rows a d }
+    {
+        for place in 0..self.reads() {
+            self.put_synchronized(frame, place);
+        }
+    }
+
+    /// What may not stand between a source and a read in the order of memory (29.7.4), if the read has that source, by a
+    /// frame's happens-before. Both are event numbers.
+    pub(crate) fn others_between(&self, frame: &Frame, source: usize, read: usize) -> EventSet
+        requires contained { IsContained (box_of self.now frame.now) frame.now }
+        requires source { source < length (events_on self.now) }
+        requires read { read < length (events_on self.now) }
+        ensures { (v : ℕ) → HasEvent result v
+            ↔ ((v < length (events_on self.now))
+            × IsForbiddenBetween (events_on self.now) (Holds frame.now.happens_before.rows) source read v) }
+    {
+        let events = self.combination.events();
+        let (before, peers) = (&frame.happens_before, &self.peers);
+        others_between(events, source as u8, read as u8, before, peers)
+    }
+
+    /// Forbids what may not stand between the only source of a byte read and its read, where it has one.
+    fn forbid(&self, frame: &Frame, between: &mut Between, place: usize)
+        requires place { place < length (byte_reads (events_on self.now)) }
+        requires contained { IsContained (box_of self.now frame.now) frame.now }
+        requires exact { (a d : ℕ) → HappensBeforeIn (box_of self.now frame.now) a d → Holds frame.now.happens_before.rows a d }
+        requires len { between.old.len ≡ length (events_on self.now) }
+        requires room { length between.old.pairs < BYTE_READ_LIMIT }
+        ensures len { between.new.len ≡ between.old.len }
+        ensures count { length between.new.pairs ≤ length between.old.pairs + 1 }
+        ensures triples { (w r v : ℕ) → Forbids between.new w r v
+            ↔ (Forbids between.old w r v ⊎ IsForbiddenAt (box_of self.now frame.now) place w r v) }
+    {
+        let read = self.byte_read(place).read;
+        let Some(source) = self.given(frame, place) else {
+            return;
+        };
+        let others = self.others_between(frame, source, read as usize);
+        if !others.is_empty() {
+            between.forbid(source as u8, read, others);
+        }
+    }
+
+    /// Makes what is there what may not stand between each given source and its read.
+    pub(crate) fn put_between(&self, frame: &Frame, between: &mut Between)
+        requires contained { IsContained (box_of self.now frame.now) frame.now }
+        requires exact { (a d : ℕ) → HappensBeforeIn (box_of self.now frame.now) a d → Holds frame.now.happens_before.rows a d }
+        ensures len { between.new.len ≡ length (events_on self.now) }
+        ensures triples { (w r v : ℕ) → Forbids between.new w r v ↔ IsForbiddenIn (box_of self.now frame.now) w r v }
+    {
+        between.begin(self.combination.events().len());
+        for place in 0..self.reads() {
+            self.forbid(frame, between, place);
+        }
+    }
+
+    /// Makes the relations of a frame those of its box. Says no exactly where an event is forced before itself.
+    pub(crate) fn force(&self, frame: &mut Frame) -> bool
+        requires contained { IsContained (box_of self.now frame.old) frame.old }
+        ensures domains { frame.new.domains ≡ frame.old.domains }
+        ensures exact { IsTrue result → IsExact (box_of self.now frame.new) frame.new }
+        ensures calm { IsTrue result → (e : ℕ) → ¬ IsForcedIn (box_of self.now frame.new) e e }
+        ensures cycle { IsFalse result → HasForcedCycle (HappensBeforeIn (box_of self.now frame.old))
+            (IsForbiddenIn (box_of self.now frame.old)) }
+    {
+        self.synchronize(frame);
+        let mut between = Between::new(0);
+        self.put_between(&*frame, &mut between);
+        force(&mut frame.forced, &between)
+    }
+}

@@ -1,0 +1,81 @@
+//! The least completion that is looked for: down by least sources, and again, surely, where that did not end at one.
+
+ghost use Rattle.std.specs.Prelude.{◌≡◌, ◌↔◌, ℕ, IfNone, IfSome, IsFalse, IsTrue, MatchOption, length};
+ghost use Rattle.lit_paths.specs.ByteReads.{byte_reads};
+ghost use Rattle.lit_solve.specs.Box.{LiesIn, events_on};
+ghost use Rattle.lit_solve.specs.Completion.{HasSolution, IsLeastSolution};
+ghost use Rattle.lit_solve.specs.Internal.Descending.{AreAloneBelow, IsLowest};
+ghost use Rattle.lit_solve.specs.Internal.Frames.{IsContained, box_of};
+ghost use Rattle.lit_solve.specs.Internal.Settled.{IsSettled};
+
+use crate::frame::Frame;
+use crate::goal::Goal;
+use crate::laws::quiet_boxes_have_one_order;
+use crate::problem::Problem;
+use lit_order::Order;
+use lit_paths::Sources;
+
+/// The least completion that is looked for: its sources, in the order of the byte reads, and its least memory-order.
+#[derive(Drop)]
+pub struct Least {
+    pub sources: Sources,
+    pub order: Order,
+}
+
+impl Problem<'_> {
+    /// The one source that is left of each byte read.
+    fn sources_of(&self, frame: &Frame) -> Sources
+        requires contained { IsContained (box_of self.now frame.now) frame.now }
+        requires alone { AreAloneBelow (box_of self.now frame.now) (length (byte_reads (events_on self.now))) }
+        ensures one_each { length result.items ≡ length (byte_reads (events_on self.now)) }
+        ensures within { LiesIn (box_of self.now frame.now) result.items }
+    {
+        let mut sources = Sources::new();
+        for place in 0..self.reads() {
+            if let Some(source) = self.given(frame, place) {
+                sources.push(source as u8);
+            }
+        }
+        sources
+    }
+
+    /// Goes down to a frame that leaves one source to each byte read, those of the least completion that is looked for. Says
+    /// whether there is one.
+    fn lead(&self, frame: &mut Frame, goal: Goal) -> bool
+        requires { IsSettled (box_of self.now frame.old) frame.old }
+        ensures settled { IsTrue result → IsSettled (box_of self.now frame.new) frame.new }
+        ensures alone { IsTrue result → AreAloneBelow (box_of self.now frame.new) (length (byte_reads (events_on self.now))) }
+        ensures lowest { IsTrue result → IsLowest (box_of self.now frame.old) goal (box_of self.now frame.new) }
+        ensures found { IsTrue result → HasSolution (box_of self.now frame.new) goal }
+        ensures none { IsFalse result → ¬ HasSolution (box_of self.now frame.old) goal }
+    {
+        let mut down = *frame;
+        if self.descend(&mut down, goal, false) && self.exists(&down, goal) {
+            *frame = down;
+            return true;
+        }
+        // A source that is not refuted may still have no completion with it.
+        self.exists(&*frame, goal) && self.descend(frame, goal, true)
+    }
+
+    /// The least completion of a frame that is what is looked for, or `None` exactly where there is none.
+    pub(crate) fn least(&self, frame: &Frame, goal: Goal) -> Option<Least>
+        requires { IsSettled (box_of self.now frame.now) frame.now }
+        ensures { MatchOption result
+            (¬ HasSolution (box_of self.now frame.now) goal)
+            (λ least. IsLeastSolution (box_of self.now frame.now) goal least.sources.items least.order.items) }
+    {
+        quiet_boxes_have_one_order();
+        let mut down = *frame;
+        if !self.lead(&mut down, goal) {
+            return None;
+        }
+        match self.least_order(&down) {
+            Some(order) => Some(Least {
+                sources: self.sources_of(&down),
+                order,
+            }),
+            None => None,
+        }
+    }
+}

@@ -1,0 +1,199 @@
+//! Leaves of a search: whether a settled frame in which nothing that is left can force anything has a completion, and
+//! which data races (ECMA-262, 2024, 29.8 and 29.9) a frame foresees.
+
+ghost use Rattle.std.specs.Prelude.{◌≡◌, ◌↔◌, ℕ, ◌<◌, IsTrue, length};
+ghost use Rattle.lit_paths.specs.ByteReads.{byte_read_at, byte_reads};
+ghost use Rattle.lit_rel.specs.DataRace.{AreUnguarded, WriteOneByte};
+ghost use Rattle.lit_rel.specs.Internal.Racing.{AreApart, HasApartPair, WritesWith};
+ghost use Rattle.lit_rel.specs.Rows.{Holds};
+ghost use Rattle.lit_solve.specs.Box.{HasEmptyDomain, HasSource, IsBox, box_with, events_on};
+ghost use Rattle.lit_solve.specs.Completion.{HasSolution};
+ghost use Rattle.lit_solve.specs.DataRace.{CanRaceIn, MayRaceIn};
+ghost use Rattle.lit_solve.specs.Fill.{CanFill, IsQuiet};
+ghost use Rattle.lit_solve.specs.declared.goal.Goal.TheVariants.{Any};
+ghost use Rattle.lit_solve.specs.Internal.Frames.{IsContained, IsExact, box_of};
+ghost use Rattle.lit_solve.specs.Internal.Leaves.{CanFillAt, RacesAt};
+ghost use Rattle.lit_solve.specs.Internal.Settled.{IsSettled};
+
+use crate::domains::Domains;
+use crate::frame::Frame;
+use crate::laws::{quiet_boxes_are_filled_read_by_read, reads_are_filled_together};
+use crate::problem::Problem;
+use lit_paths::{Event, event_at};
+use lit_rel::{EventSet, has_false_test};
+
+/// Whether two events write a byte that is in both ranges.
+fn write_one_byte(first: &Event, second: &Event) -> bool
+    ensures { IsTrue result ↔ WriteOneByte first.now second.now }
+{
+    first.kind.does_write() && second.kind.does_write() && first.shares_byte(second)
+}
+
+/// Whether one of two events is not sequentially consistent, or their ranges overlap.
+fn are_unguarded(first: &Event, second: &Event) -> bool
+    ensures { IsTrue result ↔ AreUnguarded first.now second.now }
+{
+    !first.is_seq_cst()
+        || !second.is_seq_cst()
+        || (first.shares_byte(second) && !first.has_same_range(second))
+}
+
+impl Problem<'_> {
+    /// Whether each event can be filled. One that does not read has no byte to fill.
+    fn can_fill_each(&self, domains: &Domains) -> bool
+        requires is_box { IsBox (box_with self.now domains.now) }
+        requires some { ¬ HasEmptyDomain (box_with self.now domains.now) }
+        ensures { IsTrue result ↔ ((r : ℕ) → r < length (events_on self.now) → CanFill (box_with self.now domains.now) r) }
+    {
+        for read in 0..self.combination.events().len() {
+            if !self.can_fill(domains, read as u8) {
+                return false;
+            }
+        }
+        true
+    }
+
+    /// Whether there is a completion of a settled frame in which no source that is left beside others can force anything.
+    /// Its reads are filled one by one there, and all orders of what is given are orders of it.
+    pub(crate) fn has_completion(&self, frame: &Frame) -> bool
+        requires settled { IsSettled (box_of self.now frame.now) frame.now }
+        requires quiet { IsQuiet (box_of self.now frame.now) }
+        ensures { IsTrue result ↔ HasSolution (box_of self.now frame.now) Any }
+    {
+        reads_are_filled_together();
+        quiet_boxes_are_filled_read_by_read();
+        if has_false_test(&self.combination, None, 0) {
+            return false;
+        }
+        self.can_fill_each(&frame.domains) && self.least_order(frame).is_some()
+    }
+
+    /// Whether two events are in a data race where both write a byte or one reads from the other, by a frame's
+    /// happens-before.
+    fn are_apart(&self, frame: &Frame, first: usize, second: usize) -> bool
+        requires first { first < length (events_on self.now) }
+        requires second { second < length (events_on self.now) }
+        requires contained { IsContained (box_of self.now frame.now) frame.now }
+        ensures { IsTrue result ↔ AreApart (events_on self.now) (Holds frame.now.happens_before.rows) first second }
+    {
+        let events = self.combination.events();
+        let before = &frame.happens_before.rows;
+        first != second
+            && !before.holds(first, second)
+            && !before.holds(second, first)
+            && are_unguarded(event_at(events, first), event_at(events, second))
+    }
+
+    /// Whether a write is in a data race with one of a lesser number.
+    fn races_with_lesser(&self, frame: &Frame, write: usize) -> bool
+        requires write { write < length (events_on self.now) }
+        requires contained { IsContained (box_of self.now frame.now) frame.now }
+        ensures { IsTrue result ↔ ((d : ℕ) × (d < write) × WritesWith (events_on self.now) write d
+            × AreApart (events_on self.now) (Holds frame.now.happens_before.rows) write d) }
+    {
+        let events = self.combination.events();
+        for other in 0..write {
+            if write_one_byte(event_at(events, write), event_at(events, other))
+                && self.are_apart(frame, write, other)
+            {
+                return true;
+            }
+        }
+        false
+    }
+
+    /// Whether two writes are in a data race.
+    fn has_racing_writes(&self, frame: &Frame) -> bool
+        requires { IsContained (box_of self.now frame.now) frame.now }
+        ensures { IsTrue result
+            ↔ HasApartPair (events_on self.now) (Holds frame.now.happens_before.rows) (WritesWith (events_on self.now)) }
+    {
+        for write in 0..self.combination.events().len() {
+            if self.races_with_lesser(frame, write) {
+                return true;
+            }
+        }
+        false
+    }
+
+    /// Whether the read at a place is in a data race with some source in the domain there.
+    fn may_race_at(&self, frame: &Frame, place: usize) -> bool
+        requires place { place < length (byte_reads (events_on self.now)) }
+        requires contained { IsContained (box_of self.now frame.now) frame.now }
+        ensures { IsTrue result ↔ RacesAt (box_of self.now frame.now) (Holds frame.now.happens_before.rows)
+            (HasSource (box_of self.now frame.now)) place }
+    {
+        let _reads = self.reads();
+        let read = usize::from(self.byte_read(place).read);
+        let mut left = frame.domains[place];
+        while let Some((source, others)) = left.split_first() {
+            if self.are_apart(frame, read, source) {
+                return true;
+            }
+            left = others;
+        }
+        false
+    }
+
+    /// Whether a data race may come of a frame: two writes are in one, or a byte read and a source in its domain are.
+    pub(crate) fn may_race(&self, frame: &Frame) -> bool
+        requires { IsExact (box_of self.now frame.now) frame.now }
+        ensures { IsTrue result ↔ MayRaceIn (box_of self.now frame.now) }
+    {
+        for place in 0..self.reads() {
+            if self.may_race_at(frame, place) {
+                return true;
+            }
+        }
+        self.has_racing_writes(frame)
+    }
+
+    /// Whether the read at a place can be filled with this source in the domain there: where it is alone in it.
+    fn can_fill_from(&self, frame: &Frame, place: usize, source: usize) -> bool
+        requires contained { IsContained (box_of self.now frame.now) frame.now }
+        requires place { place < length (byte_reads (events_on self.now)) }
+        requires there { HasSource (box_of self.now frame.now) place source }
+        ensures { IsTrue result ↔ CanFillAt (box_of self.now frame.now) place source }
+    {
+        // A set has room for each event of a combination.
+        let _ = &self.combination;
+        let _reads = self.reads();
+        let read = self.byte_read(place).read;
+        let mut alone = frame.domains;
+        alone[place] = EventSet::new().with(source);
+        self.can_fill(&alone, read)
+    }
+
+    /// Whether the read at a place is in a data race with some source with which it can be filled there.
+    fn can_race_at(&self, frame: &Frame, place: usize) -> bool
+        requires place { place < length (byte_reads (events_on self.now)) }
+        requires contained { IsContained (box_of self.now frame.now) frame.now }
+        ensures { IsTrue result ↔ RacesAt (box_of self.now frame.now) (Holds frame.now.happens_before.rows)
+            (CanFillAt (box_of self.now frame.now)) place }
+    {
+        let _reads = self.reads();
+        let read = usize::from(self.byte_read(place).read);
+        let mut left = frame.domains[place];
+        while let Some((source, others)) = left.split_first() {
+            if self.are_apart(frame, read, source) && self.can_fill_from(frame, place, source) {
+                return true;
+            }
+            left = others;
+        }
+        false
+    }
+
+    /// Whether a data race comes of a frame by what its reads can be filled with: two writes are in one, or a read and a
+    /// source with which it can be filled are.
+    pub(crate) fn can_race(&self, frame: &Frame) -> bool
+        requires { IsExact (box_of self.now frame.now) frame.now }
+        ensures { IsTrue result ↔ CanRaceIn (box_of self.now frame.now) }
+    {
+        for place in 0..self.reads() {
+            if self.can_race_at(frame, place) {
+                return true;
+            }
+        }
+        self.has_racing_writes(frame)
+    }
+}

@@ -1,0 +1,39 @@
+//! A finite-domain solver for litmus tests: which valid executions a box has. A box is a combination of paths with a set of
+//! candidates, the domain, for each byte read; a completion of it is a valid execution on the combination whose every
+//! source lies in its domain.
+//!
+//! The definitions stand in `specs/`: `Box`, `Completion` and `Goal`.
+#![tactic(auto)]
+
+mod boxes;
+mod branching;
+mod deciding;
+mod descending;
+mod domains;
+mod effect;
+mod filling;
+mod forcing;
+mod frame;
+mod goal;
+pub mod laws;
+mod leading;
+mod leaves;
+mod narrowing;
+mod numbering;
+mod opening;
+mod ordering;
+mod problem;
+mod propagating;
+mod prospect;
+mod searching;
+mod solver;
+mod stepping;
+
+pub use boxes::Boxes;
+pub use boxes::candidates::candidates_of;
+pub use domains::Domains;
+pub use goal::Goal;
+pub use leading::Least;
+pub use numbering::number_of;
+pub use problem::Problem;
+pub use solver::{exists, least};

@@ -1,0 +1,243 @@
+//! Narrowing: candidates that what a frame has leaves out are taken out of the domains.
+
+ghost use Rattle.std.specs.Prelude.{◌≡◌, ◌≢◌, ◌↔◌, ℕ, ◌<◌, IsFalse, IsTrue, length};
+ghost use Rattle.lit_paths.specs.ByteReads.{byte_read_at, byte_reads};
+ghost use Rattle.lit_paths.specs.Event.{event_at as event_of};
+ghost use Rattle.lit_rel.specs.Coherent.{IsCoherentRead};
+ghost use Rattle.lit_rel.specs.EventSet.{HasEvent};
+ghost use Rattle.lit_rel.specs.Forbidden.{IsForbiddenBetween};
+ghost use Rattle.lit_rel.specs.Rows.{Holds};
+ghost use Rattle.lit_rel.specs.SynchronizesWith.{CanSynchronize};
+ghost use Rattle.lit_rel.specs.TearFree.{CanReadWhole, ReadsWholeBy};
+ghost use Rattle.lit_solve.specs.Box.{HasSource, events_on};
+ghost use Rattle.lit_solve.specs.Given.{GivenIn, HasAlone};
+ghost use Rattle.lit_solve.specs.Out.{IsOut};
+ghost use Rattle.lit_solve.specs.Internal.Frames.{AreCoherentAt, IsContained, box_of};
+ghost use Rattle.lit_solve.specs.Internal.Narrowing.{HasNoCompletion, Narrows, size_of};
+ghost use Rattle.lit_solve.specs.declared.narrowing.Narrowed.TheVariants.{Empty, Less, Same};
+
+use crate::domains::only_one;
+use crate::frame::Frame;
+use crate::laws::completions_have_no_source_that_is_out;
+use crate::problem::Problem;
+use lit_paths::event_at;
+use lit_rel::{EventSet, can_read_whole, can_synchronize, others_between};
+
+/// What narrowing comes to.
+#[derive(Clone, Copy, Debug, PartialEq, Eq)]
+pub(crate) enum Narrowed {
+    /// Nothing was taken out.
+    Same,
+    /// Some sources were, and each domain has some left.
+    Less,
+    /// All sources of some byte read were.
+    Empty,
+}
+
+impl Problem<'_> {
+    /// Whether the byte read at a place is coherent (29.7.2) with a source, by happens-before of what is given, in which no
+    /// event comes before itself.
+    fn is_coherent(&self, frame: &Frame, place: usize, source: usize) -> bool
+        requires place { place < length (byte_reads (events_on self.now)) }
+        requires contained { IsContained (box_of self.now frame.now) frame.now }
+        requires source { source < length (events_on self.now) }
+        requires calm { (e : ℕ) → ¬ Holds frame.now.happens_before.rows e e }
+        ensures { IsTrue result ↔ IsCoherentRead (events_on self.now) (Holds frame.now.happens_before.rows)
+            (byte_read_at (events_on self.now) place).0
+            (byte_read_at (events_on self.now) place).1 source }
+    {
+        let read = usize::from(self.byte_read(place).read);
+        let before = &frame.happens_before;
+        let between = before
+            .rows
+            .successors(source)
+            .intersection(before.converse.successors(read));
+        !before.rows.holds(read, source) && self.candidates[place].intersection(between).is_empty()
+    }
+
+    /// Whether a source that could synchronize with a read is forced after it.
+    fn is_forced_later(&self, frame: &Frame, read: usize, source: usize) -> bool
+        requires contained { IsContained (box_of self.now frame.now) frame.now }
+        requires read { read < length (events_on self.now) }
+        requires source { source < length (events_on self.now) }
+        ensures { IsTrue result ↔ (CanSynchronize (event_of (events_on self.now) source)
+            (event_of (events_on self.now) read) × Holds frame.now.forced.rows read source) }
+    {
+        let events = self.combination.events();
+        can_synchronize(event_at(events, source), event_at(events, read))
+            && frame.forced.rows.holds(read, source)
+    }
+
+    /// Whether an event is forced between a source and a read that may not stand there if the read has that source.
+    fn is_forced_between(&self, frame: &Frame, read: usize, source: usize) -> bool
+        requires contained { IsContained (box_of self.now frame.now) frame.now }
+        requires read { read < length (events_on self.now) }
+        requires source { source < length (events_on self.now) }
+        ensures { IsTrue result ↔ ((v : ℕ) × IsForbiddenBetween (events_on self.now) (Holds frame.now.happens_before.rows) source read v
+            × Holds frame.now.forced.rows source v × Holds frame.now.forced.rows v read) }
+    {
+        let between = frame
+            .forced
+            .rows
+            .successors(source)
+            .intersection(frame.forced.converse.successors(read));
+        if between.is_empty() {
+            return false;
+        }
+        let events = self.combination.events();
+        let (before, peers) = (&frame.happens_before, &self.peers);
+        let others = others_between(events, source as u8, read as u8, before, peers);
+        !others.intersection(between).is_empty()
+    }
+
+    /// The only source of a byte read, where it has one from which its read can read whole.
+    fn whole_source(&self, frame: &Frame, place: usize) -> EventSet
+        requires place { place < length (byte_reads (events_on self.now)) }
+        requires contained { IsContained (box_of self.now frame.now) frame.now }
+        ensures { (u : ℕ) → HasEvent result u → HasAlone (box_of self.now frame.now) place u
+            × CanReadWhole (event_of (events_on self.now) (byte_read_at (events_on self.now) place).0) (event_of (events_on self.now) u) }
+    {
+        let events = self.combination.events();
+        let read = usize::from(self.byte_read(place).read);
+        let Some(source) = only_one(frame.domains[place]) else {
+            return EventSet::new();
+        };
+        if can_read_whole(event_at(events, read), event_at(events, source)) {
+            EventSet::new().with(source)
+        } else {
+            EventSet::new()
+        }
+    }
+
+    /// The events from which a read is given a byte, and from which it can read whole, by one of its byte reads. Of a read
+    /// of one byte there is no need to ask.
+    fn whole_sources(&self, frame: &Frame, place: usize) -> EventSet
+        requires place { place < length (byte_reads (events_on self.now)) }
+        requires contained { IsContained (box_of self.now frame.now) frame.now }
+        ensures { (u : ℕ) → HasEvent result u → ReadsWholeBy (events_on self.now) (GivenIn (box_of self.now frame.now))
+            (byte_read_at (events_on self.now) place).0 u }
+    {
+        let read = self.byte_read(place).read;
+        let mut whole = EventSet::new();
+        if event_at(self.combination.events(), usize::from(read)).size == 1 {
+            return whole;
+        }
+        for other in 0..self.reads() {
+            if self.byte_read(other).read == read {
+                whole = whole.union(self.whole_source(frame, other));
+            }
+        }
+        whole
+    }
+
+    /// Whether a source would tear a read that is given bytes from these, whole each: it can read whole from the source too,
+    /// and one of these is another.
+    fn would_tear(&self, read: usize, source: usize, whole: EventSet) -> bool
+        requires read { read < length (events_on self.now) }
+        requires source { source < length (events_on self.now) }
+        ensures { IsTrue result ↔ (CanReadWhole (event_of (events_on self.now) read) (event_of (events_on self.now) source)
+            × ((u : ℕ) × HasEvent whole u × (u ≢ source))) }
+    {
+        let events = self.combination.events();
+        let others = whole.difference(EventSet::new().with(source));
+        !others.is_empty() && can_read_whole(event_at(events, read), event_at(events, source))
+    }
+
+    /// Whether no completion has a source for the byte read at a place, by what the frame has. `whole` are events from which
+    /// its read is given a byte, whole each. No event happens before itself.
+    fn is_out(&self, frame: &Frame, place: usize, source: usize, whole: EventSet) -> bool
+        requires place { place < length (byte_reads (events_on self.now)) }
+        requires source { source < length (events_on self.now) }
+        requires contained { IsContained (box_of self.now frame.now) frame.now }
+        requires calm { (e : ℕ) → ¬ Holds frame.now.happens_before.rows e e }
+        requires whole { (u : ℕ) → HasEvent whole u → ReadsWholeBy (events_on self.now) (GivenIn (box_of self.now frame.now))
+            (byte_read_at (events_on self.now) place).0 u }
+        ensures out { IsTrue result → IsOut (box_of self.now frame.now) (byte_read_at (events_on self.now) place).0
+            (byte_read_at (events_on self.now) place).1 source }
+        ensures coherent { IsFalse result → IsCoherentRead (events_on self.now) (Holds frame.now.happens_before.rows)
+            (byte_read_at (events_on self.now) place).0 (byte_read_at (events_on self.now) place).1 source }
+    {
+        let read = usize::from(self.byte_read(place).read);
+        !self.is_coherent(frame, place, source)
+            || self.is_forced_later(frame, read, source)
+            || self.is_forced_between(frame, read, source)
+            || self.would_tear(read, source, whole)
+    }
+
+    /// The sources in the domain of the byte read at a place that the frame does not leave out. No event happens before
+    /// itself.
+    fn left(&self, frame: &Frame, place: usize) -> EventSet
+        requires place { place < length (byte_reads (events_on self.now)) }
+        requires contained { IsContained (box_of self.now frame.now) frame.now }
+        requires calm { (e : ℕ) → ¬ Holds frame.now.happens_before.rows e e }
+        ensures within { (w : ℕ) → HasEvent result w → HasSource (box_of self.now frame.now) place w }
+        ensures out { (w : ℕ) → HasSource (box_of self.now frame.now) place w → ¬ HasEvent result w
+            → IsOut (box_of self.now frame.now) (byte_read_at (events_on self.now) place).0
+            (byte_read_at (events_on self.now) place).1 w }
+        ensures coherent { (w : ℕ) → HasEvent result w → IsCoherentRead (events_on self.now) (Holds frame.now.happens_before.rows)
+            (byte_read_at (events_on self.now) place).0 (byte_read_at (events_on self.now) place).1 w }
+    {
+        let _ = &self.combination;
+        let whole = self.whole_sources(frame, place);
+        let mut left = EventSet::new();
+        let mut rest = frame.domains[place];
+        while let Some((source, others)) = rest.split_first() {
+            if !self.is_out(frame, place, source, whole) {
+                left = left.with(source);
+            }
+            rest = others;
+        }
+        left
+    }
+
+    /// Takes out of the domain of the byte read at a place the sources that the frame leaves out. No event happens before
+    /// itself.
+    fn narrow_at(&self, frame: &mut Frame, place: usize) -> Narrowed
+        requires place { place < length (byte_reads (events_on self.now)) }
+        requires contained { IsContained (box_of self.now frame.old) frame.old }
+        requires calm { (e : ℕ) → ¬ Holds frame.old.happens_before.rows e e }
+        ensures before { frame.new.happens_before ≡ frame.old.happens_before }
+        ensures contained { result ≢ Empty → IsContained (box_of self.now frame.new) frame.new }
+        ensures narrows { result ≢ Empty → Narrows (box_of self.now frame.old) (box_of self.now frame.new) }
+        ensures same { result ≡ Same → frame.new ≡ frame.old }
+        ensures coherent { result ≡ Same → (w : ℕ) → HasSource (box_of self.now frame.old) place w
+            → IsCoherentRead (events_on self.now) (Holds frame.old.happens_before.rows)
+            (byte_read_at (events_on self.now) place).0 (byte_read_at (events_on self.now) place).1 w }
+        ensures less { result ≡ Less → size_of frame.new.domains < size_of frame.old.domains }
+        ensures empty { result ≡ Empty → HasNoCompletion (box_of self.now frame.old) }
+    {
+        completions_have_no_source_that_is_out();
+        let _ = &self.combination;
+        let left = self.left(&*frame, place);
+        if left.is_empty() {
+            return Narrowed::Empty;
+        }
+        if frame.domains[place].is_within(left) {
+            return Narrowed::Same;
+        }
+        frame.domains[place] = left;
+        Narrowed::Less
+    }
+
+    /// Takes out of each domain the sources that the frame leaves out. No event happens before itself.
+    pub(crate) fn narrow(&self, frame: &mut Frame) -> Narrowed
+        requires contained { IsContained (box_of self.now frame.old) frame.old }
+        requires calm { (e : ℕ) → ¬ Holds frame.old.happens_before.rows e e }
+        ensures contained { result ≢ Empty → IsContained (box_of self.now frame.new) frame.new }
+        ensures narrows { result ≢ Empty → Narrows (box_of self.now frame.old) (box_of self.now frame.new) }
+        ensures same { result ≡ Same → frame.new ≡ frame.old }
+        ensures coherent { result ≡ Same → AreCoherentAt (box_of self.now frame.old) frame.old }
+        ensures less { result ≡ Less → size_of frame.new.domains < size_of frame.old.domains }
+        ensures empty { result ≡ Empty → HasNoCompletion (box_of self.now frame.old) }
+    {
+        let mut narrowed = Narrowed::Same;
+        for place in 0..self.reads() {
+            match self.narrow_at(frame, place) {
+                Narrowed::Same => {}
+                Narrowed::Less => narrowed = Narrowed::Less,
+                Narrowed::Empty => return Narrowed::Empty,
+            }
+        }
+        narrowed
+    }
+}

@@ -1,0 +1,40 @@
+//! From sources back to the number of their choice.
+
+ghost use Rattle.std.specs.Prelude.{◌≡◌, ℕ, ◌+◌, ◌<◌, ◌≤◌, Some, slice_get};
+ghost use Rattle.lit_paths.specs.Choice.{AreSources};
+ghost use Rattle.lit_paths.specs.Plan.{HasSources, choices_before, events_in};
+
+use lit_paths::Combination;
+use lit_paths::laws::{choices_are_on_combinations, choices_have_numbers};
+
+/// The place of an event in a list that has it.
+fn place_of(events: &[u8], event: u8) -> usize
+    requires { (k : ℕ) × (slice_get events.now k ≡ Some event) }
+    ensures { slice_get events.now result ≡ Some event }
+{
+    for (place, other) in events.iter().enumerate() {
+        if *other == event {
+            return place;
+        }
+    }
+    unreachable!()
+}
+
+/// The number of the choice on the combination that has these sources, a candidate for each byte read.
+pub fn number_of(combination: &Combination<'_>, sources: &[u8]) -> u64
+    requires { AreSources (events_in combination.now.0 combination.now.1) sources.now }
+    ensures low { choices_before combination.now.0 combination.now.1 ≤ result }
+    ensures high { result < choices_before combination.now.0 (combination.now.1 + 1) }
+    ensures has { HasSources combination.now.0 result sources.now }
+{
+    choices_have_numbers();
+    choices_are_on_combinations();
+    // That the numbers are small is known of the last one.
+    let _end = combination.end();
+    let mut number = combination.first();
+    for (place, source) in sources.iter().enumerate() {
+        let index = place_of(combination.candidates(place), *source);
+        number += index as u64 * combination.ways_after(place);
+    }
+    number
+}

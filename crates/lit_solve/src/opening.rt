@@ -1,0 +1,94 @@
+//! Frames, opened and cut.
+
+ghost use Rattle.std.specs.Prelude.{◌≡◌, ◌↔◌, ℕ, ◌<◌, IfNone, IfSome, IsFalse, IsTrue, length};
+ghost use Rattle.lit_paths.specs.ByteReads.{byte_reads};
+ghost use Rattle.lit_paths.specs.Execution.{Execution};
+ghost use Rattle.lit_rel.specs.EventSet.{HasEvent};
+ghost use Rattle.lit_solve.specs.Box.{HasEmptyDomain, HasSource, IsBox, box_with, events_on};
+ghost use Rattle.lit_solve.specs.Completion.{IsCompletion};
+ghost use Rattle.lit_solve.specs.Internal.Frames.{IsContained, box_of};
+ghost use Rattle.lit_solve.specs.Internal.Narrowing.{HasNoCompletion, Narrows, size_of};
+ghost use Rattle.lit_solve.specs.Internal.Settled.{IsCut, IsSettled, TakesFrom};
+
+use crate::domains::Domains;
+use crate::frame::Frame;
+use crate::laws::refuted_boxes_have_no_completion;
+use crate::problem::Problem;
+use lit_rel::{EventSet, unsourced_order};
+
+impl Problem<'_> {
+    /// Whether some byte read has an empty domain.
+    fn has_empty(&self, domains: &Domains) -> bool
+        ensures { IsTrue result ↔ HasEmptyDomain (box_with self.now domains.now) }
+    {
+        for place in 0..self.reads() {
+            if domains[place].is_empty() {
+                return true;
+            }
+        }
+        false
+    }
+
+    /// A frame of a box, no domain of which is empty, before anything follows from it.
+    fn unsettled(&self, domains: &Domains) -> Frame
+        requires is_box { IsBox (box_with self.now domains.now) }
+        requires some { ¬ HasEmptyDomain (box_with self.now domains.now) }
+        ensures domains { result.domains ≡ domains.now }
+        ensures contained { IsContained (box_of self.now result) result }
+    {
+        let before = unsourced_order(self.combination.events());
+        Frame {
+            happens_before: before,
+            forced: before,
+            domains: *domains,
+        }
+    }
+
+    /// The frame of a box, from which nothing more follows. `None` where it is found that there is no completion.
+    pub(crate) fn settle(&self, domains: &Domains) -> Option<Frame>
+        requires { IsBox (box_with self.now domains.now) }
+        ensures settled { IfSome result (λ frame. IsSettled (box_of self.now frame) frame) }
+        ensures narrows { IfSome result (λ frame. Narrows (box_with self.now domains.now) (box_of self.now frame)) }
+        ensures none { IfNone result (HasNoCompletion (box_with self.now domains.now)) }
+    {
+        refuted_boxes_have_no_completion();
+        if self.has_empty(domains) {
+            return None;
+        }
+        let mut frame = self.unsettled(domains);
+        if self.propagate(&mut frame) {
+            Some(frame)
+        } else {
+            None
+        }
+    }
+
+    /// The sources that a frame leaves to the byte read at a place.
+    pub(crate) fn sources_left(&self, frame: &Frame, place: usize) -> EventSet
+        requires { place < length (byte_reads (events_on self.now)) }
+        ensures { (w : ℕ) → HasEvent result w ↔ HasSource (box_of self.now frame.now) place w }
+    {
+        let _reads = self.reads();
+        frame.domains[place]
+    }
+
+    /// Cuts the domain of the byte read at a place down to a set, and lets what follows follow. Says no where no completion
+    /// has a source of the set there.
+    pub(crate) fn cut(&self, frame: &mut Frame, place: usize, set: EventSet) -> bool
+        requires place { place < length (byte_reads (events_on self.now)) }
+        requires settled { IsSettled (box_of self.now frame.old) frame.old }
+        ensures settled { IsTrue result → IsSettled (box_of self.now frame.new) frame.new }
+        ensures cut { IsTrue result → IsCut (box_of self.now frame.old) place set (box_of self.now frame.new) }
+        ensures less { IsTrue result → ¬ ((w : ℕ) → HasSource (box_of self.now frame.old) place w → HasEvent set w)
+            → size_of frame.new.domains < size_of frame.old.domains }
+        ensures none { IsFalse result → (x : Execution) → IsCompletion (box_of self.now frame.old) x → ¬ TakesFrom x place set }
+    {
+        let _reads = self.reads();
+        let left = frame.domains[place].intersection(set);
+        if left.is_empty() {
+            return false;
+        }
+        frame.domains[place] = left;
+        self.propagate(frame)
+    }
+}

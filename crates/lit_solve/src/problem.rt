@@ -1,0 +1,99 @@
+//! What the boxes of one combination share.
+
+ghost use Rattle.std.specs.Prelude.{◌≡◌, ◌↔◌, ℕ, ◌<◌, ◌≤◌, Some, length, slice_get};
+ghost use Rattle.lit_paths.specs.ByteReads.{byte_reads, pair_of};
+ghost use Rattle.lit_paths.specs.Choice.{combinations_of};
+ghost use Rattle.lit_paths.specs.declared.limits.TheConstants.{BYTE_READ_LIMIT, EVENT_LIMIT};
+ghost use Rattle.lit_rel.specs.EventSet.{HasEvent};
+ghost use Rattle.lit_solve.specs.Box.{events_on};
+
+use crate::domains::Domains;
+use lit_paths::{BYTE_READ_LIMIT, ByteRead, Combination, Plan};
+use lit_rel::laws::byte_reads_are_of_events;
+use lit_rel::{EventSet, Rows, peers_of};
+use std::marker::Model;
+
+/// A combination of paths as a constraint problem: its byte reads are the variables. A clause sees it as the test's value and
+/// the combination's number.
+#[derive(Drop)]
+pub struct Problem<'p> {
+    pub(crate) combination: Combination<'p>,
+    /// All candidates of each byte read.
+    pub(crate) candidates: Domains,
+    /// The sequentially consistent writes that have the range of each event.
+    pub(crate) peers: Rows,
+}
+
+impl<'p> Model for Problem<'p> {
+    ghost use Rattle.std.specs.Prelude.{ℕ};
+    ghost use Rattle.std.specs.Coded.{coded×, coded_ℕ};
+    ghost use Rattle.lit_read.specs.Syntax.{Litmus};
+    ghost use Rattle.lit_read.specs.SyntaxCodes.{coded_litmus};
+    ghost use Rattle.lit_solve.specs.Internal.Frames.{IsProblem};
+
+    ghost Value = { Litmus × ℕ };
+
+    ghost coded = { coded× coded_litmus coded_ℕ };
+
+    ghost view = { λ p. p.combination };
+
+    ghost invariant = { λ p. IsProblem p.combination p.candidates p.peers };
+}
+
+/// The set of events with these numbers.
+fn set_of(numbers: &[u8]) -> EventSet
+    requires { (k w : ℕ) → slice_get numbers.now k ≡ Some w → w < EVENT_LIMIT }
+    ensures { (w : ℕ) → HasEvent result w ↔ ((k : ℕ) × (slice_get numbers.now k ≡ Some w)) }
+{
+    let mut set = EventSet::new();
+    for number in numbers {
+        set = set.with(usize::from(*number));
+    }
+    set
+}
+
+impl<'p> Problem<'p> {
+    /// A combination of a plan's test, by its number: below `combinations`.
+    pub fn open(plan: &'p Plan<'p>, combination: usize) -> Self
+        requires { combination < length (combinations_of plan.now) }
+        ensures { result ≡ (plan.now, combination) }
+    {
+        let _test = plan.test();
+        let combination = plan.enter(combination);
+        let peers = peers_of(combination.events());
+        let mut candidates = [EventSet::new(); BYTE_READ_LIMIT];
+        for place in 0..combination.byte_reads().len() {
+            candidates[place] = set_of(combination.candidates(place));
+        }
+        Problem {
+            combination,
+            candidates,
+            peers,
+        }
+    }
+
+    /// The combination.
+    pub fn combination(&self) -> &Combination<'p>
+        ensures { result.now ≡ self.now }
+    {
+        &self.combination
+    }
+
+    /// How many byte reads there are.
+    pub(crate) fn reads(&self) -> usize
+        ensures value { result ≡ length (byte_reads (events_on self.now)) }
+        ensures few { result ≤ BYTE_READ_LIMIT }
+    {
+        self.combination.byte_reads().len()
+    }
+
+    /// The byte read at a place.
+    pub(crate) fn byte_read(&self, place: usize) -> ByteRead
+        requires { place < length (byte_reads (events_on self.now)) }
+        ensures at { slice_get (byte_reads (events_on self.now)) place ≡ Some (pair_of result) }
+        ensures read { result.read < length (events_on self.now) }
+    {
+        byte_reads_are_of_events();
+        self.combination.byte_reads()[place]
+    }
+}

@@ -1,0 +1,87 @@
+//! What a search does at a frame: the constraint solver's choice of a variable.
+
+ghost use Rattle.std.specs.Prelude.{◌≡◌, ◌<◌, ℕ, [], length};
+ghost use Rattle.lit_paths.specs.ByteReads.{byte_reads};
+ghost use Rattle.lit_rel.specs.EventSet.{HasEvent};
+ghost use Rattle.lit_solve.specs.Internal.Deciding.{IsProspect};
+ghost use Rattle.lit_solve.specs.Box.{box_with, events_on};
+ghost use Rattle.lit_solve.specs.Internal.Frames.{box_of};
+ghost use Rattle.lit_solve.specs.Internal.Searching.{GoesWith, IsStep};
+ghost use Rattle.lit_solve.specs.Internal.Settled.{IsSettled};
+
+use crate::frame::Frame;
+use crate::goal::Goal;
+use crate::problem::Problem;
+use crate::prospect::Prospect;
+use lit_rel::EventSet;
+
+/// A byte read whose domain is parted.
+#[derive(Clone, Copy, Debug, PartialEq, Eq)]
+pub(crate) struct Branch {
+    /// The byte read's place.
+    pub place: usize,
+    /// Whether sources that store the same stay together.
+    pub by_value: bool,
+}
+
+/// What is to be done at a frame.
+#[derive(Clone, Copy, Debug, PartialEq, Eq)]
+pub(crate) enum Step {
+    /// Nothing: no completion is what is looked for.
+    Refuted,
+    /// No open byte read can force anything, and the outcome of each completion is what is looked for.
+    Leaf,
+    /// The domain of a byte read is parted.
+    Parted(Branch),
+}
+
+impl Problem<'_> {
+    /// What a frame says of a goal.
+    fn prospect(&self, frame: &Frame, goal: Goal) -> Prospect
+        requires { IsSettled (box_of self.now frame.now) frame.now }
+        ensures { IsProspect (box_of self.now frame.now) goal result }
+    {
+        match goal {
+            Goal::Any | Goal::Race => Prospect::Each,
+            Goal::OfClass(class) => self.prospect_of(&frame.domains, class),
+        }
+    }
+
+    /// What is to be done at a frame.
+    pub(crate) fn step(&self, frame: &Frame, goal: Goal) -> Step
+        requires { IsSettled (box_of self.now frame.now) frame.now }
+        ensures { IsStep (box_of self.now frame.now) goal result }
+    {
+        match self.prospect(frame, goal) {
+            Prospect::Nothing => Step::Refuted,
+            Prospect::Open(place) => Step::Parted(Branch {
+                place,
+                by_value: true,
+            }),
+            Prospect::Each => match self.branch(frame) {
+                Some(place) => Step::Parted(Branch {
+                    place,
+                    by_value: false,
+                }),
+                None => Step::Leaf,
+            },
+        }
+    }
+
+    /// The part of a set of sources that goes with one of them.
+    pub(crate) fn part(&self, branch: Branch, among: EventSet, source: usize) -> EventSet
+        requires place { branch.place < length (byte_reads (events_on self.now)) }
+        requires known { (w : ℕ) → HasEvent among w → w < length (events_on self.now) }
+        requires there { HasEvent among source }
+        ensures there { HasEvent result source }
+        ensures within { (w : ℕ) → HasEvent result w → HasEvent among w }
+        ensures apart { (w : ℕ) → HasEvent result w → GoesWith (box_with self.now []) branch source w }
+    {
+        if branch.by_value {
+            self.storing_alike(among, branch.place, source)
+        } else {
+            let _ = &self.combination;
+            EventSet::new().with(source)
+        }
+    }
+}

@@ -1,0 +1,5 @@
+//! The tests of `lit_solve`, through its public calls.
+#![tactic(auto)]
+
+#[cfg(test)]
+mod solver;
