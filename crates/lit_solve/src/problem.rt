@@ -1,12 +1,12 @@
 //! What the boxes of one combination share.
 
-ghost use Rattle.std.specs.Prelude.{◌≡◌, ◌↔◌, ℕ, ◌<◌, ◌≤◌, Some, length, slice_get};
+ghost use Rattle.std.specs.Prelude.{◌≡◌, ℕ, ◌<◌, ◌≤◌, Some, length, slice_get};
 ghost use Rattle.lit_paths.specs.ByteReads.{byte_reads, pair_of};
 ghost use Rattle.lit_paths.specs.Choice.{combinations_of};
-ghost use Rattle.lit_paths.specs.declared.limits.TheConstants.{BYTE_READ_LIMIT, EVENT_LIMIT};
-ghost use Rattle.lit_rel.specs.EventSet.{HasEvent};
+ghost use Rattle.lit_paths.specs.declared.limits.TheConstants.{BYTE_READ_LIMIT};
 ghost use Rattle.lit_solve.specs.Box.{events_on};
 
+use crate::boxes::candidates::candidates_of;
 use crate::domains::Domains;
 use lit_paths::{BYTE_READ_LIMIT, ByteRead, Combination, Plan};
 use lit_rel::laws::byte_reads_are_of_events;
@@ -40,18 +40,6 @@ impl<'p> Model for Problem<'p> {
     ghost invariant = { λ p. IsProblem p.combination p.candidates p.peers };
 }
 
-/// The set of events with these numbers.
-fn set_of(numbers: &[u8]) -> EventSet
-    requires { (k w : ℕ) → slice_get numbers.now k ≡ Some w → w < EVENT_LIMIT }
-    ensures { (w : ℕ) → HasEvent result w ↔ ((k : ℕ) × (slice_get numbers.now k ≡ Some w)) }
-{
-    let mut set = EventSet::new();
-    for number in numbers {
-        set = set.with(usize::from(*number));
-    }
-    set
-}
-
 impl<'p> Problem<'p> {
     /// A combination of a plan's test, by its number: below `combinations`.
     pub fn open(plan: &'p Plan<'p>, combination: usize) -> Self
@@ -63,7 +51,7 @@ impl<'p> Problem<'p> {
         let peers = peers_of(combination.events());
         let mut candidates = [EventSet::new(); BYTE_READ_LIMIT];
         for place in 0..combination.byte_reads().len() {
-            candidates[place] = set_of(combination.candidates(place));
+            candidates[place] = candidates_of(&combination, place);
         }
         Problem {
             combination,

@@ -11,6 +11,7 @@ ghost use Rattle.lit_solve.specs.Internal.Settled.{IsSettled};
 
 use crate::frame::Frame;
 use crate::goal::Goal;
+use crate::laws::boxes_foresee_races;
 use crate::problem::Problem;
 use crate::prospect::Prospect;
 use lit_rel::EventSet;
@@ -41,9 +42,17 @@ impl Problem<'_> {
         requires { IsSettled (box_of self.now frame.now) frame.now }
         ensures { IsProspect (box_of self.now frame.now) goal result }
     {
+        boxes_foresee_races();
         match goal {
-            Goal::Any | Goal::Race => Prospect::Each,
+            Goal::Any => Prospect::Each,
             Goal::OfClass(class) => self.prospect_of(&frame.domains, class),
+            Goal::Race => {
+                if self.may_race(frame) {
+                    Prospect::Each
+                } else {
+                    Prospect::Nothing
+                }
+            }
         }
     }
 

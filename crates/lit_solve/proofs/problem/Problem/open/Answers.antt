@@ -1,5 +1,5 @@
-use Rattle.std.proofs.Common.{◌≡◌, ◌↔◌, ◌<◌, ◌≤◌, ℕ, Some, List, inl, inr, arith, ap, sym, subst, length, length-set, map, ◌∙◌}
-use Rattle.std.specs.Prelude.{slice_get, slice_index_or, slice_set}
+use Rattle.std.proofs.Common.{◌≡◌, ◌↔◌, ◌<◌, ◌≤◌, ℕ, List, inl, inr, arith, ap, sym, subst, length, length-set, map, ◌∙◌}
+use Rattle.std.specs.Prelude.{slice_index_or, slice_set}
 use Rattle.std.proofs.lemmas.Bool.{cases_eq}
 use Rattle.std.proofs.lemmas.List.{get_or-set_other, get_or-set_same, length-map}
 use Rattle.std.proofs.lemmas.Option.{get_or_from_slice_get, slice_get_within}
@@ -7,28 +7,18 @@ use Rattle.lit_read.specs.Syntax.{IsLitmus, Litmus}
 use Rattle.lit_paths.specs.declared.event.Event.{Event}
 use Rattle.lit_paths.specs.ByteReads.{byte_read_at, byte_reads, IsCandidate, pair_of}
 use Rattle.lit_paths.specs.Choice.{combinations_of}
-use Rattle.lit_paths.specs.declared.limits.TheConstants.{BYTE_READ_LIMIT, EVENT_LIMIT}
-use Rattle.lit_paths.specs.Plan.{AreEventsIn, ListsCandidates}
+use Rattle.lit_paths.specs.declared.limits.TheConstants.{BYTE_READ_LIMIT}
+use Rattle.lit_paths.specs.Plan.{AreEventsIn}
 use Rattle.lit_rel.specs.declared.event_set.EventSet.{EventSet}
 use Rattle.lit_rel.specs.EventSet.{HasEvent, no_events}
 use Rattle.lit_rel.specs.Peers.{ArePeers}
 use Rattle.lit_solve.specs.Box.{events_on}
 use Rattle.lit_solve.proofs.problem.Problem.open.Goals as goal
 
-pub set_of-requires : goal.set_of-requires
-set_of-requires c k w at =
-    let few : length c.events.result.now ≤ EVENT_LIMIT = c.events.ensures.sound.few in
-    let same : length c.events.result.now ≡ length (events_on c.enter-combination.result) = ap length c.events.ensures.value in
-    let known : w < length (events_on c.enter-combination.result) = (c.candidates.ensures.lists.only k w at).known in
-    omega arith
-
--- the set of all candidates that are listed
-listed : (events : List Event) (r b : ℕ) (list : List ℕ) (set : EventSet) → ListsCandidates events r b list → ((w : ℕ) → HasEvent set w ↔ ((k : ℕ) × (slice_get list k ≡ Some w))) → (w : ℕ)
-    → HasEvent set w ↔ IsCandidate events r b w
-listed events r b list set lists has w = (
-  (λ there. let found = (has w).0 there in lists.only found.0 w found.1),
-  (λ is. (has w).1 (lists.all w is)),
-)
+pub candidates_of-requires : goal.candidates_of-requires
+candidates_of-requires c =
+    let as_many : length (map pair_of c.byte_reads-place-end.result.now) ≡ length (byte_reads (events_on c.enter-combination.result)) = ap length c.byte_reads-place-end.ensures in
+    omega (arith, c.loop-place-test.true, as_many, length-map c.byte_reads-place-end.result.now pair_of)
 
 pub loop-place-preserved : goal.loop-place-preserved
 loop-place-preserved c =
@@ -38,18 +28,18 @@ loop-place-preserved c =
     let as_many : length (map pair_of c.byte_reads-place-end.result.now) ≡ length (byte_reads events) = ap length c.byte_reads-place-end.ensures in
     let few : length (byte_reads events) ≤ BYTE_READ_LIMIT = subst (λ (es : List Event). length (byte_reads es) ≤ BYTE_READ_LIMIT) c.events.ensures.value c.events.ensures.sound.few_reads in
     let room : place < length sets = omega (arith, length-map c.byte_reads-place-end.result.now pair_of) in record {
-      len = length-set sets place c.set_of.result ∙ c.loop-place.invariant.len;
+      len = length-set sets place c.candidates_of.result ∙ c.loop-place.invariant.len;
       all = λ k r b w below at.
           elim (cases_eq k place) [
             | inl is ↦
-                let here : slice_index_or (slice_set sets place c.set_of.result) k no_events ≡ c.set_of.result =
-                ap (λ (j : ℕ). slice_index_or (slice_set sets place c.set_of.result) j no_events) is ∙ get_or-set_same sets place c.set_of.result no_events room in
+                let here : slice_index_or (slice_set sets place c.candidates_of.result) k no_events ≡ c.candidates_of.result =
+                ap (λ (j : ℕ). slice_index_or (slice_set sets place c.candidates_of.result) j no_events) is ∙ get_or-set_same sets place c.candidates_of.result no_events room in
                 let read : byte_read_at events place ≡ (r, b) = ap (byte_read_at events) (sym is) ∙ get_or_from_slice_get (byte_reads events) k (r, b) (0, 0) at in
                 subst (λ (set : EventSet). HasEvent set w ↔ IsCandidate events r b w) (sym here)
-                (subst (λ (p : ℕ × ℕ). HasEvent c.set_of.result w ↔ IsCandidate events p.0 p.1 w) read
-                (listed events (byte_read_at events place).0 (byte_read_at events place).1 c.candidates.result.now c.set_of.result c.candidates.ensures.lists c.set_of.ensures w))
+                (subst (λ (p : ℕ × ℕ). HasEvent c.candidates_of.result w ↔ IsCandidate events p.0 p.1 w) read
+                (c.candidates_of.ensures w))
             | inr other ↦
-                subst (λ (set : EventSet). HasEvent set w ↔ IsCandidate events r b w) (sym (get_or-set_other sets place k c.set_of.result no_events other))
+                subst (λ (set : EventSet). HasEvent set w ↔ IsCandidate events r b w) (sym (get_or-set_other sets place k c.candidates_of.result no_events other))
                 (c.loop-place.invariant.all k r b w (omega (arith, below, other)) at)
           ];
     }
