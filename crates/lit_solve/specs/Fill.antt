@@ -34,11 +34,14 @@ IsQuiet box = (k : ℕ) → k < length (byte_reads (box_events box)) → ((w : �
 
 -- each source in a domain is coherent there, by what is given
 abbrev pub AreCoherentSources : Box → Type 0
-AreCoherentSources box = (k r b w : ℕ) → slice_get (byte_reads (box_events box)) k ≡ Some (r, b) → HasSource box k w → IsCoherentRead (box_events box) (HappensBeforeIn box) r b w
+AreCoherentSources box =
+    (k r b w : ℕ) → slice_get (byte_reads (box_events box)) k ≡ Some (r, b) → HasSource box k w
+    → IsCoherentRead (box_events box) (HappensBeforeIn box) r b w
 
 -- read r is tear free by these sources, and its tests are true of its value
 pub record IsFilled (box : Box) (r : ℕ) (sources : List ℕ) : Type 0 where
-  pub tear_free : (w v : ℕ) → ReadsWholeBy (box_events box) (ReadsByteFrom (box_events box) sources) r w → ReadsWholeBy (box_events box) (ReadsByteFrom (box_events box) sources) r v → v ≡ w
+  pub tear_free : (w v : ℕ) → ReadsWholeBy (box_events box) (ReadsByteFrom (box_events box) sources) r w
+      → ReadsWholeBy (box_events box) (ReadsByteFrom (box_events box) sources) r v → v ≡ w
   pub tests : ¬ HasFalseTestOn box.test box.combination (Some r) (value_of (box_events box) sources r)
 
 -- sources of all byte reads that lie in the box

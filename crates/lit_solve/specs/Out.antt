@@ -53,7 +53,8 @@ abbrev pub HasFalseTestIn : Box → Type 0
 HasFalseTestIn box =
     HasFalseTestOn box.test box.combination None 0
     ⊎ ((r : ℕ) × IsGivenWholeBy (box_events box) (GivenIn box) r
-    × ((sources : List ℕ) → AreSources (box_events box) sources → LiesIn box sources → HasFalseTestOn box.test box.combination (Some r) (value_of (box_events box) sources r)))
+    × ((sources : List ℕ) → AreSources (box_events box) sources → LiesIn box sources
+    → HasFalseTestOn box.test box.combination (Some r) (value_of (box_events box) sources r)))
 
 -- there is no completion, by what is given
 abbrev pub IsRefuted : Box → Type 0

@@ -45,7 +45,9 @@ IsReadDecided box r number (Hangs k) = IsUndecidedAt box k
 
 -- the condition comes to a value with the outcome of each completion, or it hangs on what a byte is read as
 abbrev pub IsDecided : Box → Condition → Decided → Type 0
-IsDecided box condition (Comes value) = (x : Execution) → IsCompletion box x → holds (zip (names_of box.test) (execution_outcome box.test x)) condition ≡ value
+IsDecided box condition (Comes value) =
+    (x : Execution) → IsCompletion box x
+    → holds (zip (names_of box.test) (execution_outcome box.test x)) condition ≡ value
 IsDecided box condition (Hangs k) = IsUndecidedAt box k
 
 -- the execution is what is looked for, as far as its outcome goes: of data races that says nothing

@@ -30,4 +30,5 @@ pub record IsLowestAt (old : Box) (goal : Goal) (k : ℕ) (new : Box) : Type 0 w
 -- a box within another, that has each solution of that whose sources are not greater than all that lie in it
 pub record IsLowest (old : Box) (goal : Goal) (new : Box) : Type 0 where
   pub within : IsWithin new old
-  pub passed : (x : Execution) → IsSolution old goal x → IsCompletion new x ⊎ ((sources : List ℕ) → AreSourcesIn new sources → slice_cmp nat_cmp sources x.sources ≡ Less)
+  pub passed : (x : Execution) → IsSolution old goal x → IsCompletion new x
+      ⊎ ((sources : List ℕ) → AreSourcesIn new sources → slice_cmp nat_cmp sources x.sources ≡ Less)

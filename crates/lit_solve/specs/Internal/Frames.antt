@@ -45,11 +45,14 @@ pub record IsExact (box : Box) (frame : Frame) : Type 0 where
 -- each source in a domain is coherent there, by the frame's happens-before
 abbrev pub AreCoherentAt : Box → Frame → Type 0
 AreCoherentAt box frame =
-    (k r b w : ℕ) → slice_get (byte_reads (box_events box)) k ≡ Some (r, b) → HasSource box k w → IsCoherentRead (box_events box) (Holds frame.happens_before.rows) r b w
+    (k r b w : ℕ) → slice_get (byte_reads (box_events box)) k ≡ Some (r, b) → HasSource box k w
+    → IsCoherentRead (box_events box) (Holds frame.happens_before.rows) r b w
 
 -- all candidates of each byte read of these events
 abbrev pub AreCandidates : List Event → List EventSet → Type 0
-AreCandidates events domains = (k r b w : ℕ) → slice_get (byte_reads events) k ≡ Some (r, b) → HasEvent (slice_index_or domains k no_events) w ↔ IsCandidate events r b w
+AreCandidates events domains =
+    (k r b w : ℕ) → slice_get (byte_reads events) k ≡ Some (r, b)
+    → HasEvent (slice_index_or domains k no_events) w ↔ IsCandidate events r b w
 
 -- what is kept of a combination
 pub record IsProblem (c : Litmus × ℕ) (candidates : List EventSet) (peers : Rows) : Type 0 where
@@ -62,7 +65,8 @@ pub record IsProblem (c : Litmus × ℕ) (candidates : List EventSet) (peers : R
 -- where the k-th byte read has one source left that synchronizes with its read, that is before the read
 abbrev pub IsSynchronizedAt : Box → (ℕ → ℕ → Type 0) → ℕ → Type 0
 IsSynchronizedAt box before k =
-    (r b w : ℕ) → slice_get (byte_reads (box_events box)) k ≡ Some (r, b) → HasAlone box k w → CanSynchronize (event_at (box_events box) w) (event_at (box_events box) r) → before w r
+    (r b w : ℕ) → slice_get (byte_reads (box_events box)) k ≡ Some (r, b) → HasAlone box k w
+    → CanSynchronize (event_at (box_events box) w) (event_at (box_events box) r) → before w r
 
 -- the k-th byte read, of read r, has w as its one source left, and v may not stand between the two
 pub record IsForbiddenAt (box : Box) (k w r v : ℕ) : Type 0 where
