@@ -22,7 +22,8 @@ use Rattle.jslit.specs.Verdict.{IsVerdict, verdict_of}
 
 -- each valid execution of the test has its outcome in the report
 abbrev pub IsComplete : Litmus → Report → Type 0
-IsComplete t report = (x : Execution) → IsValidExecution t x → Contains (map (λ entry. entry.outcome) report.entries) (execution_outcome t x)
+IsComplete t report =
+    (x : Execution) → IsValidExecution t x → Contains (map (λ entry. entry.outcome) report.entries) (execution_outcome t x)
 
 -- The answer is the text of the test's report on all its choices and of the verdict that is true of it.
 pub record IsReportOf (test : Litmus) (answer : List ℕ) : Type 0 where
@@ -39,7 +40,8 @@ pub record IsQuickReportOf (test : Litmus) (answer : List ℕ) : Type 0 where
   pub unmet : Option Entry
   pub first_met : IsFirst test Met met
   pub first_unmet : IsFirst test Unmet unmet
-  pub judged : (report : Report) → IsReport test (in_range 0 (length (choices_of test))) report → IsVerdict test report (verdict_of (is_some met) (is_some unmet))
+  pub judged : (report : Report) → IsReport test (in_range 0 (length (choices_of test))) report
+      → IsVerdict test report (verdict_of (is_some met) (is_some unmet))
   pub is : answer ≡ quick_text test met unmet (verdict_of (is_some met) (is_some unmet))
 
 -- of both the one that is asked for

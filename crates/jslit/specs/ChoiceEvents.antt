@@ -15,7 +15,8 @@ choice_at t n = slice_index_or (choices_of t) n (record { decisions = []; source
 abbrev pub paths_with : List (List ℕ) → List (List Path) → List Path
 paths_with decisions [] = []
 paths_with decisions (paths ∷ combinations) =
-    if is_eq (slice_cmp (slice_cmp nat_cmp) (map (λ path. path.decisions) paths) decisions) then paths else paths_with decisions combinations
+    if is_eq (slice_cmp (slice_cmp nat_cmp) (map (λ path. path.decisions) paths) decisions) then paths
+    else paths_with decisions combinations
 
 -- all events of a choice
 abbrev pub choice_events : Litmus → Choice → List Event

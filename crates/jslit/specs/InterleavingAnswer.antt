@@ -22,7 +22,8 @@ pub record IsInterleavingOn (schedule text answer : List ℕ) : Type 0 where
 
 -- the answer is that of an outcome in the report
 abbrev pub IsOfEntry : Litmus → Report → List ℕ → Type 0
-IsOfEntry t report answer = (i : ℕ) × (entry : Entry) × (slice_get report.entries i ≡ Some entry) × (answer ≡ interleaving_text t entry.outcome)
+IsOfEntry t report answer =
+    (i : ℕ) × (entry : Entry) × (slice_get report.entries i ≡ Some entry) × (answer ≡ interleaving_text t entry.outcome)
 
 -- the text spells a test, and the schedule names no agents of it
 pub record IsScheduleRefused (schedule text : List ℕ) : Type 0 where

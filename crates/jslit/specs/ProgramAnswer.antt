@@ -20,9 +20,11 @@ IsFaultBy (Some schedule) text fault = IsScheduleFaultOn schedule text fault
 
 -- What a run on what a reader tells comes to, by the program's status: with 0 the output took the whole answer, and no write
 -- failed; with 1 the line of the refusal, or a beginning of it where a write failed; with 4 a beginning of the answer or nothing.
-pub record HasServed {W : Type 0} (contents : W → Option (List ℕ)) (told : Option (List ℕ)) (input_failed : Type 0) (quick : Bool) (schedule : Option Text)
+pub record HasServed {W : Type 0} (contents : W → Option (List ℕ)) (told : Option (List ℕ)) (input_failed : Type 0) (quick : Bool)
+    (schedule : Option Text)
     (status : ℕ) (old new : Counted W) : Type 0 where
-  pub answered : status ≡ 0 → OfToldText told (λ text. HasGrown (IsAnswerBy quick schedule text) (contents (device_of old)) (contents (device_of new)))
+  pub answered : status ≡ 0 → OfToldText told
+      (λ text. HasGrown (IsAnswerBy quick schedule text) (contents (device_of old)) (contents (device_of new)))
   pub refused : status ≡ 1 → OfToldText told (λ text.
       HasGrownRefusal (IsFaultBy schedule text) (contents (device_of old)) (contents (device_of new)) (failures_of old < failures_of new))
   pub unfailed : status ≡ 0 → failures_of new ≡ failures_of old
@@ -38,6 +40,7 @@ pub record HasAnswered {R W : Type 0} (remaining : R → Option (List ℕ)) (con
     (old_input new_input : Counted R) (old new : Counted W) : Type 0 where
   pub asked : ((status ≡ 0) × AsksHelp words) ⊎ ((status ≡ 2) × IsRefused words) ⊎ (status ≡ 3) ⊎ (AsksRun words × IsCheckStatus status)
   pub on_input : AsksRun words → file_in words ≡ None
-      → HasServed contents (remaining (device_of old_input)) (failures_of old_input < failures_of new_input) (quick_in words) (schedule_in words) status old new
+      → HasServed contents (remaining (device_of old_input)) (failures_of old_input < failures_of new_input) (quick_in words)
+      (schedule_in words) status old new
   pub on_file : AsksRun words → is_some (file_in words) ≡ true
       → (new_input ≡ old_input) × HasServed contents None ((status ≡ 4) × (new ≡ old)) (quick_in words) (schedule_in words) status old new

@@ -54,7 +54,8 @@ file_in words = first_of (codes "file") (matches_of jslit_command words)
 
 -- what the words are refused for, or answered with help; they ask for a run exactly where that is nothing
 abbrev pub faults_of : List Text → Kinds
-faults_of words = or_else (fault_of jslit_command words) (if is_excluded (matches_of jslit_command words) then kinds.ArgumentConflict ∷ [] else [])
+faults_of words =
+    or_else (fault_of jslit_command words) (if is_excluded (matches_of jslit_command words) then kinds.ArgumentConflict ∷ [] else [])
 
 abbrev pub AsksHelp : List Text → Type 0
 AsksHelp words = IsAmong kinds.DisplayHelp (faults_of words)

@@ -108,7 +108,8 @@ fn serve<T: Threads + Sync, R: Read, W: Write, E: Write, G: Watch<Pass = ()>>(
     requires output { failures_of output.old < 2 ^ 64 - 1 }
     ensures status { IsCheckStatus result }
     ensures memory { result ≡ 3 → output.new ≡ output.old }
-    ensures served { HasServed W.contents (R.remaining (device_of input.old)) (failures_of input.old < failures_of input.new) line.now.options.quick
+    ensures served { HasServed W.contents (R.remaining (device_of input.old))
+        (failures_of input.old < failures_of input.new) line.now.options.quick
         (option_map (λ text. text.now) line.now.schedule) result output.old output.new }
 {
     match line.schedule {
@@ -135,7 +136,8 @@ pub fn check<T: Threads + Sync, R: Read, W: Write, E: Write>(
 
     // The output takes the line of the refusal, or a beginning of it where a write failed.
     ensures refused { result ≡ 1 → OfToldText (R.remaining (device_of input.old)) (λ text.
-        HasRefused text (W.contents (device_of output.old)) (W.contents (device_of output.new)) (failures_of output.old < failures_of output.new)) }
+        HasRefused text (W.contents (device_of output.old)) (W.contents (device_of output.new))
+        (failures_of output.old < failures_of output.new)) }
     ensures memory { result ≡ 3 → output.new ≡ output.old }
     ensures input_failed { failures_of input.old < failures_of input.new → (result ≡ 4) × (output.new ≡ output.old) }
 
@@ -172,7 +174,8 @@ pub fn check_watched<T: Threads + Sync, R: Read, W: Write, E: Write, G: Watch<Pa
 
     // The output takes the line of the refusal, or a beginning of it where a write failed.
     ensures refused { result ≡ 1 → OfToldText (R.remaining (device_of input.old)) (λ text.
-        HasRefused text (W.contents (device_of output.old)) (W.contents (device_of output.new)) (failures_of output.old < failures_of output.new)) }
+        HasRefused text (W.contents (device_of output.old)) (W.contents (device_of output.new))
+        (failures_of output.old < failures_of output.new)) }
     ensures memory { result ≡ 3 → output.new ≡ output.old }
     ensures input_failed { failures_of input.old < failures_of input.new → (result ≡ 4) × (output.new ≡ output.old) }
 
@@ -213,7 +216,8 @@ pub fn check_schedule<R: Read, W: Write, E: Write>(
 
     // The output takes the line of the refusal, or a beginning of it where a write failed.
     ensures refused { result ≡ 1 → OfToldText (R.remaining (device_of input.old)) (λ text.
-        HasRefusedSchedule schedule.now text (W.contents (device_of output.old)) (W.contents (device_of output.new)) (failures_of output.old < failures_of output.new)) }
+        HasRefusedSchedule schedule.now text (W.contents (device_of output.old)) (W.contents (device_of output.new))
+        (failures_of output.old < failures_of output.new)) }
     ensures memory { result ≡ 3 → output.new ≡ output.old }
     ensures input_failed { failures_of input.old < failures_of input.new → (result ≡ 4) × (output.new ≡ output.old) }
 
@@ -241,7 +245,8 @@ fn finish<W: Write, E: Write>(
 ) -> u8
     requires { IfErr ran (λ fault. status_of fault ≡ 1 → failures_of output.old < 2 ^ 64 - 1) }
     ensures counted { OnOk ran (failures_of output.new ≡ failures_of output.old) }
-    ensures flushed { OnOk ran (((result ≡ 0) ⊎ (result ≡ 4)) × Keeps (W.contents (device_of output.old)) (W.contents (device_of output.new))) }
+    ensures flushed { OnOk ran
+        (((result ≡ 0) ⊎ (result ≡ 4)) × Keeps (W.contents (device_of output.old)) (W.contents (device_of output.new))) }
     ensures said { IfErr ran (IsSaid W.contents result output.old output.new) }
 {
     match ran {
@@ -257,7 +262,8 @@ fn finish<W: Write, E: Write>(
 fn say<W: Write, E: Write>(output: &mut Counted<W>, errors: &mut E, fault: RunFault) -> u8
     requires { status_of fault ≡ 1 → failures_of output.old < 2 ^ 64 - 1 }
     ensures status { result ≡ status_of fault }
-    ensures refused { result ≡ 1 → HasSaid fault (W.contents (device_of output.old)) (W.contents (device_of output.new)) (failures_of output.old < failures_of output.new) }
+    ensures refused { result ≡ 1 → HasSaid fault (W.contents (device_of output.old)) (W.contents (device_of output.new))
+        (failures_of output.old < failures_of output.new) }
     ensures kept { result ≢ 1 → output.new ≡ output.old }
 {
     match fault {

@@ -78,7 +78,8 @@ impl<W: Write> Write for Counted<W> {
     fn write(&mut self, buf: &[u8]) -> io::Result<usize>
         ensures bound { WritesAtMost result buf.now }
         ensures bytes { WriteAppends (W.contents (device_of self.old)) (W.contents (device_of self.new)) result buf.now }
-        ensures counted { failures_of self.new ≡ (if is_failed_write result buf.now then one_more (failures_of self.old) else failures_of self.old) }
+        ensures counted { failures_of self.new
+            ≡ (if is_failed_write result buf.now then one_more (failures_of self.old) else failures_of self.old) }
     {
         let result = self.device.write(buf);
         let failed = match &result {

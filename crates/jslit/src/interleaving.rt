@@ -31,9 +31,12 @@ fn write_interleaving<W: Write>(
     outcome: &[u32],
 ) -> Result<(), RunFault>
     requires one_each { length outcome.now ≡ length (names_of test.now) }
-    ensures written { OnOk result (Appends (W.contents (device_of output.old)) (W.contents (device_of output.new)) (interleaving_text test.now outcome.now)) }
+    ensures written { OnOk result
+        (Appends (W.contents (device_of output.old)) (W.contents (device_of output.new)) (interleaving_text test.now outcome.now)) }
     ensures not_failed { OnOk result (failures_of output.new ≡ failures_of output.old) }
-    ensures begun { OnErr result (AppendsBeginning (W.contents (device_of output.old)) (W.contents (device_of output.new)) (interleaving_text test.now outcome.now)) }
+    ensures begun { OnErr result
+        (AppendsBeginning (W.contents (device_of output.old)) (W.contents (device_of output.new))
+        (interleaving_text test.now outcome.now)) }
     ensures failed { OnErr result (failures_of output.new ≡ one_more (failures_of output.old)) }
     ensures fault { IfErr result (λ fault. fault ≡ RunFault.OutputFailed) }
 {
@@ -55,9 +58,11 @@ fn answer_schedule<W: Write>(
     output: &mut Counted<W>,
     schedule: &[u8],
 ) -> Result<(), RunFault>
-    ensures answered { OnOk result (HasInterleaved schedule.now text.now (W.contents (device_of output.old)) (W.contents (device_of output.new))) }
+    ensures answered { OnOk result
+        (HasInterleaved schedule.now text.now (W.contents (device_of output.old)) (W.contents (device_of output.new))) }
     ensures not_failed { OnOk result (failures_of output.new ≡ failures_of output.old) }
-    ensures begun { IsErrOf result RunFault.OutputFailed → HasInterleavedSome schedule.now text.now (W.contents (device_of output.old)) (W.contents (device_of output.new)) }
+    ensures begun { IsErrOf result RunFault.OutputFailed
+        → HasInterleavedSome schedule.now text.now (W.contents (device_of output.old)) (W.contents (device_of output.new)) }
     ensures failed { IsErrOf result RunFault.OutputFailed → failures_of output.new ≡ one_more (failures_of output.old) }
     ensures unwritten { IfErr result (λ fault. fault ≢ RunFault.OutputFailed → output.new ≡ output.old) }
     ensures refused { IfErr result (IsScheduleFaultOn schedule.now text.now) }
@@ -92,7 +97,8 @@ pub fn run_schedule<R: Read, W: Write>(
         HasInterleaved schedule.now text (W.contents (device_of output.old)) (W.contents (device_of output.new)))) }
 
     // A text is refused for its first fault, and a schedule where it names no agents of the test.
-    ensures refused { IfErr result (λ fault. OfToldText (R.remaining (device_of input.old)) (λ text. IsScheduleFaultOn schedule.now text fault)) }
+    ensures refused { IfErr result
+        (λ fault. OfToldText (R.remaining (device_of input.old)) (λ text. IsScheduleFaultOn schedule.now text fault)) }
 
     // A device is said to have failed exactly where it did, in this call.
     ensures input_failed { IsErrOf result RunFault.InputFailed ↔ (failures_of input.old < failures_of input.new) }

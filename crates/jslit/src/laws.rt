@@ -37,7 +37,8 @@ pub fn quick_answers_are_reported()
 
 /// What a schedule comes to on a text is that of an outcome in the text's report, and no report is empty.
 pub fn schedules_are_reported()
-    ensures reported { (schedule text answer whole : List ℕ) → IsInterleavingOn schedule text answer → (on : IsAnswerOn false text whole) → IsOfEntry on.test on.of_test.report answer }
+    ensures reported { (schedule text answer whole : List ℕ) → IsInterleavingOn schedule text answer → (on : IsAnswerOn false text whole)
+        → IsOfEntry on.test on.of_test.report answer }
     ensures some { (text whole : List ℕ) → (on : IsAnswerOn false text whole) → 1 ≤ length on.of_test.report.entries }
 {
     spells_one_test();

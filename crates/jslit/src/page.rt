@@ -61,7 +61,8 @@ impl Page {
     #[inline]
     pub(crate) fn put_short<W: Write>(&mut self, output: &mut Counted<W>, text: &ShortText)
         requires { text.now.length ≤ length text.now.bytes }
-        ensures { HasPut (writing_of W.contents output.old self.old) (writing_of W.contents output.new self.new) (take text.now.length text.now.bytes) }
+        ensures { HasPut (writing_of W.contents output.old self.old) (writing_of W.contents output.new self.new)
+            (take text.now.length text.now.bytes) }
     {
         if self.waiting.try_put_short(text) {
             return;
@@ -113,8 +114,10 @@ impl Page {
 
     /// Writes what waits, and answers whether all that was put has been written.
     pub(crate) fn finish<W: Write>(mut self, output: &mut Counted<W>) -> Result<(), RunFault>
-        ensures written { OnOk result (IsFinished (writing_of W.contents output.old self) (W.contents (device_of output.new)) (failures_of output.new)) }
-        ensures failed { OnErr result (IsStopped (writing_of W.contents output.old self) (W.contents (device_of output.new)) (failures_of output.new)) }
+        ensures written { OnOk result
+            (IsFinished (writing_of W.contents output.old self) (W.contents (device_of output.new)) (failures_of output.new)) }
+        ensures failed { OnErr result
+            (IsStopped (writing_of W.contents output.old self) (W.contents (device_of output.new)) (failures_of output.new)) }
         ensures fault { IfErr result (λ fault. fault ≡ RunFault.OutputFailed) }
     {
         self.flush(output);

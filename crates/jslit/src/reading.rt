@@ -27,7 +27,8 @@ fn read_some<R: Read>(
 ) -> Result<usize, RunFault>
     requires some { 0 < length room.old }
     requires count { failures_of input.old < 2 ^ 64 - 1 }
-    ensures bytes { IfOk result (HasRead (R.remaining (device_of input.old)) (R.remaining (device_of input.new)) text.old.items text.new.items) }
+    ensures bytes { IfOk result
+        (HasRead (R.remaining (device_of input.old)) (R.remaining (device_of input.new)) text.old.items text.new.items) }
     ensures few { IfOk result (λ taken. taken ≤ length room.old) }
     ensures not_failed { OnOk result (failures_of input.new ≡ failures_of input.old) }
     ensures consumed { ConsumesBeginning (R.remaining (device_of input.old)) (R.remaining (device_of input.new)) (length room.old) }

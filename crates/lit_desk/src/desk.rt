@@ -1,6 +1,7 @@
 //! The desk.
 
-ghost use Rattle.std.specs.Prelude.{◌≡◌, ◌≢◌, ◌<◌, ◌≤◌, ◌↔◌, ◌⊎◌, ℕ, [], ◌∷◌, ◌++◌, length, All, AllPairs, Any, Contains, IfSome, IfNone, IfOk, None, replicate};
+ghost use Rattle.std.specs.Prelude.{◌≡◌, ◌≢◌, ◌<◌, ◌≤◌, ◌↔◌, ◌⊎◌, ℕ, [], ◌∷◌, ◌++◌, length, All, AllPairs};
+ghost use Rattle.std.specs.Prelude.{Any, Contains, IfSome, IfNone, IfOk, None, replicate};
 
 use crate::class::Class2;
 use crate::fault::DeskFault;
@@ -41,7 +42,8 @@ impl Model for Desk {
 }
 
 impl Desk {
-    ghost use Rattle.lit_desk.specs.Desk.{IsPlaceOf, IsDone, IsLeastOf, new_place, draws_of, told_by, seen_by, with_ticket, with_told, with_seen, all_draws, all_told, all_seen};
+    ghost use Rattle.lit_desk.specs.Desk.{IsPlaceOf, IsDone, IsLeastOf, new_place, draws_of, told_by, seen_by};
+    ghost use Rattle.lit_desk.specs.Desk.{with_ticket, with_told, with_seen, all_draws, all_told, all_seen};
     ghost use Rattle.lit_desk.specs.Internal.Gathered.{gathered_account};
 
     /// Opens a desk of `pieces` numbers with `seats` places.

@@ -34,5 +34,8 @@ LeavesOut part r b w =
 
 -- where reads are coherent and there is a memory-order, none has a source that its first sources leave out
 abbrev pub LeftOutSourcesAreNone : Type 0
-LeftOutSourcesAreNone = (part : PartModel) (rest order : List ℕ) (r b w : ℕ) → AreFirstSources (with_sources part (part.sources ++ rest)) → HasCoherentReads (part_events part) (part.sources ++ rest)
-    → IsMemoryOrder (part_events part) (part.sources ++ rest) order → ReadsByteFrom (part_events part) (part.sources ++ rest) r b w → ¬ LeavesOut part r b w
+LeftOutSourcesAreNone =
+    (part : PartModel) (rest order : List ℕ) (r b w : ℕ) → AreFirstSources (with_sources part (part.sources ++ rest))
+    → HasCoherentReads (part_events part) (part.sources ++ rest)
+    → IsMemoryOrder (part_events part) (part.sources ++ rest) order → ReadsByteFrom (part_events part) (part.sources ++ rest) r b w
+    → ¬ LeavesOut part r b w

@@ -57,10 +57,12 @@ pub fn least_of(forced: &TwoWayRows, between: &Between) -> Option<Order>
 /// until none can. Says whether all events are placed then: the order is the least that begins so.
 fn walk(order: &mut Order, placed: EventSet, constraints: &Constraints<'_>) -> bool
     requires fits { array_vec_len order.old ≤ constrained_len constraints.now }
-    requires begins { IsBeginning (constrained_len constraints.now) (ComesBefore constraints.now) (MayNotStand constraints.now) order.old.items }
+    requires begins { IsBeginning (constrained_len constraints.now) (ComesBefore constraints.now)
+        (MayNotStand constraints.now) order.old.items }
     requires placed { (e : ℕ) → HasEvent placed e ↔ Stands order.old.items e }
     ensures { IsTrue result →
-        IsLeastFrom (constrained_len constraints.now) (ComesBefore constraints.now) (MayNotStand constraints.now) order.old.items order.new.items }
+        IsLeastFrom (constrained_len constraints.now) (ComesBefore constraints.now)
+        (MayNotStand constraints.now) order.old.items order.new.items }
 {
     if order.len() == constraints.len() {
         return true;
@@ -85,12 +87,15 @@ fn complete(
     constraints: &Constraints<'_>,
 ) -> bool
     requires fits { array_vec_len order.old ≤ constrained_len constraints.now }
-    requires begins { IsBeginning (constrained_len constraints.now) (ComesBefore constraints.now) (MayNotStand constraints.now) order.old.items }
+    requires begins { IsBeginning (constrained_len constraints.now) (ComesBefore constraints.now)
+        (MayNotStand constraints.now) order.old.items }
     requires placed { (e : ℕ) → HasEvent placed e ↔ Stands order.old.items e }
     requires len { rows_len narrow.now ≡ constrained_len constraints.now }
-    requires narrowed { IsNarrowed (constrained_len constraints.now) (ComesBefore constraints.now) (MayNotStand constraints.now) (Holds narrow.now) order.old.items }
+    requires narrowed { IsNarrowed (constrained_len constraints.now) (ComesBefore constraints.now) (MayNotStand constraints.now)
+        (Holds narrow.now) order.old.items }
     ensures found { IsTrue result →
-        IsLeastFrom (constrained_len constraints.now) (ComesBefore constraints.now) (MayNotStand constraints.now) order.old.items order.new.items }
+        IsLeastFrom (constrained_len constraints.now) (ComesBefore constraints.now)
+        (MayNotStand constraints.now) order.old.items order.new.items }
     ensures none { ¬ IsTrue result →
         HasNoOrder (constrained_len constraints.now) (ComesBefore constraints.now) (MayNotStand constraints.now) order.old.items }
 {

@@ -42,7 +42,8 @@ impl<'p> Model for ForcedPart<'p> {
 
     ghost view = { λ p. p.part };
 
-    ghost invariant = { λ p. HasForcedLevels p.part p.levels.earlier p.levels.now × IsKeptBetween p.part p.levels.forbidden × IsKeptBetween p.part p.levels.fewer × IsKeptOrder p.part p.levels.order };
+    ghost invariant = { λ p. HasForcedLevels p.part p.levels.earlier p.levels.now × IsKeptBetween p.part p.levels.forbidden
+        × IsKeptBetween p.part p.levels.fewer × IsKeptOrder p.part p.levels.order };
 }
 
 impl<'p> ForcedPart<'p> {

@@ -32,8 +32,10 @@ pub fn forcing_keeps_orders()
 /// The orders of chains, with the same triples, are those of the pairs that the chains are of: of a relation, as
 /// `Forced::open` takes it, and of what is before in a `Forced` with one pair more, as `Forced::with` adds it.
 pub fn chains_keep_orders()
-    ensures opened { (before : Rows) (between : BetweenModel) → HaveSameOrders (rows_len before) (Holds before) (HasChain (Holds before)) (Forbids between) }
-    ensures extended { (forced : Forced) (a d : ℕ) → HaveSameOrders (forced_len forced) (AndPair (IsBefore forced) a d) (HasChain (AndPair (IsBefore forced) a d)) (Refuses forced) }
+    ensures opened { (before : Rows) (between : BetweenModel)
+        → HaveSameOrders (rows_len before) (Holds before) (HasChain (Holds before)) (Forbids between) }
+    ensures extended { (forced : Forced) (a d : ℕ)
+        → HaveSameOrders (forced_len forced) (AndPair (IsBefore forced) a d) (HasChain (AndPair (IsBefore forced) a d)) (Refuses forced) }
 {}
 
 /// A source that a part leaves out is that of no byte in a candidate execution that goes on from the part, is coherent and
@@ -47,7 +49,8 @@ pub fn left_out_sources_are_none()
 
 /// Where a part forces an event before itself, there is no memory-order of it.
 pub fn forced_rounds_have_no_order()
-    ensures { (part : PartModel) → AreFirstSources part → IsForcedRound part → (order : List ℕ) → ¬ IsMemoryOrder (part_events part) part.sources order }
+    ensures { (part : PartModel) → AreFirstSources part → IsForcedRound part → (order : List ℕ)
+        → ¬ IsMemoryOrder (part_events part) part.sources order }
 {
     byte_reads_are_of_events();
 }

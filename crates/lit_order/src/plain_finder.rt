@@ -31,10 +31,12 @@ impl OrderFinder for PlainFinder {
 /// there is one. If not, the beginning stays.
 fn extend(order: &mut Order, placed: EventSet, constraints: &Constraints<'_>) -> bool
     requires fits { array_vec_len order.old ≤ constrained_len constraints.now }
-    requires begins { IsBeginning (constrained_len constraints.now) (ComesBefore constraints.now) (MayNotStand constraints.now) order.old.items }
+    requires begins { IsBeginning (constrained_len constraints.now) (ComesBefore constraints.now)
+        (MayNotStand constraints.now) order.old.items }
     requires placed { (e : ℕ) → HasEvent placed e ↔ Stands order.old.items e }
     ensures found { IsTrue result →
-        IsLeastFrom (constrained_len constraints.now) (ComesBefore constraints.now) (MayNotStand constraints.now) order.old.items order.new.items }
+        IsLeastFrom (constrained_len constraints.now) (ComesBefore constraints.now)
+        (MayNotStand constraints.now) order.old.items order.new.items }
     ensures none { ¬ IsTrue result →
         HasNoOrder (constrained_len constraints.now) (ComesBefore constraints.now) (MayNotStand constraints.now) order.old.items }
     ensures kept { ¬ IsTrue result → order.new.items ≡ order.old.items }

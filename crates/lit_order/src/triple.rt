@@ -5,7 +5,8 @@ ghost use Rattle.lit_paths.specs.declared.limits.TheConstants.{EVENT_LIMIT};
 ghost use Rattle.lit_rel.specs.Between.{Forbids};
 ghost use Rattle.lit_rel.specs.EventSet.{HasEvent};
 ghost use Rattle.lit_rel.specs.Rows.{rows_len, Holds};
-ghost use Rattle.lit_order.specs.Internal.Deciding.{AreDecided, Forces, HasAllForced, HasForced, IsDecided, IsForcedByPair, IsForcedNext, IsOtherOf, IsUndecided};
+ghost use Rattle.lit_order.specs.Internal.Deciding.{AreDecided, Forces, HasAllForced, HasForced, IsDecided};
+ghost use Rattle.lit_order.specs.Internal.Deciding.{IsForcedByPair, IsForcedNext, IsOtherOf, IsUndecided};
 
 use lit_rel::{Between, EventSet, Pair, Rows, TwoWayRows};
 

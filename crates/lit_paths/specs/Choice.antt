@@ -1,6 +1,7 @@
 -- The choices of a test, and their order (this project's own): a path for each agent, and a source for each byte of
 -- each read (ECMA-262, 2024, 29.4 and 29.6.2).
-use Rattle.std.specs.Prelude.{◌≡◌, ℕ, ◌+◌, ◌<◌, ◌==◌, Bool, ◌&&◌, not, nat_lt, nat_le, List, [], ◌∷◌, ◌++◌, length, map, filter, Some, slice_get}
+use Rattle.std.specs.Prelude.{◌≡◌, ℕ, ◌+◌, ◌<◌, ◌==◌, Bool, ◌&&◌, not, nat_lt, nat_le, List}
+use Rattle.std.specs.Prelude.{[], ◌∷◌, ◌++◌, length, map, filter, Some, slice_get}
 use Rattle.std.specs.List.{flat_map, enumerate_from}
 use Rattle.std.specs.Cmp.Lexicographic.{slice_cmp}
 use Rattle.std.specs.Ordering.{nat_cmp, ordering_then}
@@ -71,7 +72,8 @@ combinations_of t = product (paths_of_agents 0 t.agents)
 -- the choices of one combination
 abbrev pub choices_on : ℕ → List Path → List Choice
 choices_on bytes paths =
-    map (λ sources. record { decisions = map (λ path. path.decisions) paths; sources = sources }) (sources_of (events_of bytes (map (λ path. path.events) paths)))
+    map (λ sources. record { decisions = map (λ path. path.decisions) paths; sources = sources })
+    (sources_of (events_of bytes (map (λ path. path.events) paths)))
 
 -- the combinations are exactly what is combined of paths, each once, and rise strictly by their decisions
 pub record ListsCombinations (t : Litmus) : Type 0 where

@@ -45,7 +45,8 @@ event_at events n = slice_index_or events n no_event
 
 -- the write that makes byte b (CreateSharedByteDataBlock); that these are a list of their own is this project's own
 abbrev pub init_event : ℕ → Event
-init_event b = record { kind = Write; order = Init; no_tear = true; first = b; size = 1; payload = 0 ∷ 0 ∷ 0 ∷ 0 ∷ []; owner = None; place = b }
+init_event b =
+    record { kind = Write; order = Init; no_tear = true; first = b; size = 1; payload = 0 ∷ 0 ∷ 0 ∷ 0 ∷ []; owner = None; place = b }
 
 -- the events that make a block of so many bytes, by byte
 abbrev pub init_events : ℕ → List Event

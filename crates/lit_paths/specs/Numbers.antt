@@ -39,7 +39,10 @@ pub record AreGiven (events : List Event) (given : List ℕ) : Type 0 where
 pub record NumbersChoices (t : Litmus) (c : ℕ) : Type 0 where
   pub whole : AreNumbered t c [] (choices_before t c) (ways_from (events_in t c) 0)
   pub behind : choices_before t c + ways_from (events_in t c) 0 ≡ choices_before t (c + 1)
-  pub begun : (given : List ℕ) → AreGiven (events_in t c) given → (low : ℕ) × AreNumbered t c given low (ways_from (events_in t c) (length given))
-  pub next : (given : List ℕ) (low i w : ℕ) → AreNumbered t c given low (ways_from (events_in t c) (length given)) → length given < length (byte_reads (events_in t c))
+  pub begun : (given : List ℕ) → AreGiven (events_in t c) given
+      → (low : ℕ) × AreNumbered t c given low (ways_from (events_in t c) (length given))
+  pub next : (given : List ℕ) (low i w : ℕ) → AreNumbered t c given low (ways_from (events_in t c) (length given))
+      → length given < length (byte_reads (events_in t c))
       → slice_get (candidates_of (events_in t c) (byte_read_at (events_in t c) (length given))) i ≡ Some w
-      → AreNumbered t c (given ++ w ∷ []) (low + i * ways_from (events_in t c) (length given + 1)) (ways_from (events_in t c) (length given + 1))
+      → AreNumbered t c (given ++ w ∷ []) (low + i * ways_from (events_in t c) (length given + 1))
+      (ways_from (events_in t c) (length given + 1))

@@ -1,6 +1,7 @@
 -- The outcome of an execution: the last value of each register that is written anywhere in its agent's text, and the
 -- value of the condition on it (this project's own).
-use Rattle.std.specs.Prelude.{ℕ, ◌+◌, ◌==◌, Bool, true, false, cond, not, ◌&&◌, ◌||◌, List, [], ◌∷◌, ◌++◌, map, filter, slice_index, slice_index_or}
+use Rattle.std.specs.Prelude.{ℕ, ◌+◌, ◌==◌, Bool, true, false, cond, not, ◌&&◌, ◌||◌, List}
+use Rattle.std.specs.Prelude.{[], ◌∷◌, ◌++◌, map, filter, slice_index, slice_index_or}
 use Rattle.std.specs.List.{range_with_len, zip}
 use Rattle.lit_read.specs.declared.limits.TheConstants.{REGISTERS}
 use Rattle.lit_read.specs.Syntax.{Litmus, Agent, writes, Condition, Conditions, Any, All, Not, Is, NoMore, Also}

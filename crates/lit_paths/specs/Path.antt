@@ -2,7 +2,8 @@
 -- path may go either way at a decision is this project's own).
 use Rattle.std.specs.Prelude.{◌≡◌, ◌⊎◌, ℕ, ◌+◌, ◌*◌, ◌/◌, ◌%◌, Bool, true, false, not, if◌then◌else◌, Some, List, [], ◌∷◌, ◌++◌, map}
 use Rattle.std.specs.List.{flat_map}
-use Rattle.lit_read.specs.Syntax.{Window, window_size, is_data_view, Statement, Statements, Load, Store, Exchange, CompareExchange, If, End, Then}
+use Rattle.lit_read.specs.Syntax.{Window, window_size, is_data_view, Statement, Statements}
+use Rattle.lit_read.specs.Syntax.{Load, Store, Exchange, CompareExchange, If, End, Then}
 use Rattle.lit_paths.specs.declared.event.Kind.TheVariants.{Read, Write, Modify}
 use Rattle.lit_paths.specs.declared.event.Order3.{Order3}
 use Rattle.lit_paths.specs.declared.event.Order3.TheVariants.{SeqCst, Unordered}
@@ -107,9 +108,12 @@ compare_exchange_event owner place window index value false = read_event owner p
 -- the events made on the way, of which the first gets this place; an `if` makes none
 abbrev pub events_on : ℕ → ℕ → List Step → List Event
 events_on owner place [] = []
-events_on owner place (LoadMet reg window index atomic ∷ steps) = read_event owner place window index atomic ∷ events_on owner (place + 1) steps
-events_on owner place (StoreMet window index value atomic ∷ steps) = write_event owner place window index value atomic ∷ events_on owner (place + 1) steps
-events_on owner place (ExchangeMet reg window index value ∷ steps) = modify_event owner place window index value ∷ events_on owner (place + 1) steps
+events_on owner place (LoadMet reg window index atomic ∷ steps) =
+    read_event owner place window index atomic ∷ events_on owner (place + 1) steps
+events_on owner place (StoreMet window index value atomic ∷ steps) =
+    write_event owner place window index value atomic ∷ events_on owner (place + 1) steps
+events_on owner place (ExchangeMet reg window index value ∷ steps) =
+    modify_event owner place window index value ∷ events_on owner (place + 1) steps
 events_on owner place (CompareExchangeMet reg window index expected value succeeds ∷ steps) =
     compare_exchange_event owner place window index value succeeds ∷ events_on owner (place + 1) steps
 events_on owner place (IfMet reg equal value holds ∷ steps) = events_on owner place steps

@@ -1,6 +1,7 @@
 -- What a path asks of the values that are read on it, and which read each register holds at its end (this project's
 -- own). A place is that of an access in the agent's event list, from 0.
-use Rattle.std.specs.Prelude.{ℕ, ◌+◌, ◌<◌, ◌==◌, Bool, true, false, not, if◌then◌else◌, IsTrue, Option, Some, None, List, [], ◌∷◌, ◌++◌, length, map}
+use Rattle.std.specs.Prelude.{ℕ, ◌+◌, ◌<◌, ◌==◌, Bool, true, false, not, if◌then◌else◌, IsTrue}
+use Rattle.std.specs.Prelude.{Option, Some, None, List, [], ◌∷◌, ◌++◌, length, map}
 use Rattle.std.specs.List.{range_with_len}
 use Rattle.std.specs.Option.{option_or}
 use Rattle.lit_read.specs.declared.limits.TheConstants.{REGISTERS}
@@ -40,7 +41,8 @@ reads_into r (IfMet reg equal value holds) = false
 -- later steps, or else it is the first one
 abbrev pub last_read_from : (place : ℕ) → List Step → ℕ → Option ℕ
 last_read_from place [] r = None
-last_read_from place (step ∷ steps) r = option_or (last_read_from (place + accesses_of step) steps r) (if reads_into r step then Some place else None)
+last_read_from place (step ∷ steps) r =
+    option_or (last_read_from (place + accesses_of step) steps r) (if reads_into r step then Some place else None)
 
 -- the place of the last read on the way that goes into a register, `None` where there is none
 abbrev pub last_read : List Step → ℕ → Option ℕ
@@ -58,7 +60,8 @@ abbrev pub tests_at : List Step → Step → List Tested
 tests_at before (LoadMet reg window index atomic) = []
 tests_at before (StoreMet window index value atomic) = []
 tests_at before (ExchangeMet reg window index value) = []
-tests_at before (CompareExchangeMet reg window index expected value succeeds) = record { on = Some (access_count before); equal = succeeds; value = expected } ∷ []
+tests_at before (CompareExchangeMet reg window index expected value succeeds) =
+    record { on = Some (access_count before); equal = succeeds; value = expected } ∷ []
 tests_at before (IfMet reg equal value holds) = record { on = last_read before reg; equal = asked equal holds; value = value } ∷ []
 
 -- what the steps after some ask

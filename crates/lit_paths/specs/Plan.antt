@@ -83,7 +83,8 @@ pub record IsOfCombination (t : Litmus) (n c : ℕ) : Type 0 where
   pub known : c < length (combinations_of t)
   pub decided : map (λ path. path.decisions) (combination_at t c) ≡ choice.decisions
   pub sourced : AreSources (events_in t c) choice.sources
-  pub on_paths : (x : Execution) → IsCandidateExecution t x → slice_get (choices_of t) n ≡ Some (execution_choice x) → map run_path x.runs ≡ combination_at t c
+  pub on_paths : (x : Execution) → IsCandidateExecution t x → slice_get (choices_of t) n ≡ Some (execution_choice x)
+      → map run_path x.runs ≡ combination_at t c
 
 -- The events of a combination, in a block of so many bytes: first one event a byte, which makes it, and then accesses
 -- that lie in the block.
@@ -93,7 +94,8 @@ pub record AreEventsIn (bytes : ℕ) (events : List Event) : Type 0 where
   pub few_accesses : length events ≤ bytes + ACCESS_LIMIT
   pub made : bytes ≤ length events
   pub making : (b : ℕ) → b < bytes → event_at events b ≡ init_event b
-  pub sized : (n : ℕ) → n < length events → ((event_at events n).size ≡ 1) ⊎ (((event_at events n).size ≡ 2) ⊎ ((event_at events n).size ≡ 4))
+  pub sized : (n : ℕ) → n < length events
+      → ((event_at events n).size ≡ 1) ⊎ (((event_at events n).size ≡ 2) ⊎ ((event_at events n).size ≡ 4))
   pub in_block : (n : ℕ) → n < length events → (event_at events n).first + (event_at events n).size ≤ bytes
   pub payload : (n : ℕ) → n < length events → All (λ b. b < 256) (event_at events n).payload
   pub owned : (n : ℕ) → bytes ≤ n → n < length events → IsSome (event_at events n).owner
@@ -108,7 +110,8 @@ pub record IsWalkIn (t : Litmus) (c agent : ℕ) (steps : List Step) : Type 0 wh
   pub walked : IsWalk (agent_of t agent).body steps
   pub listed : slice_get (combination_at t c) agent ≡ Some (path_on agent steps)
   pub one_test_each : length (tests_on steps) ≡ length (decisions_on steps)
-  pub tests_reads : (k place : ℕ) (test : Tested) → slice_get (tests_on steps) k ≡ Some test → test.on ≡ Some place → IsReadAt (path_on agent steps).events place
+  pub tests_reads : (k place : ℕ) (test : Tested) → slice_get (tests_on steps) k ≡ Some test → test.on ≡ Some place
+      → IsReadAt (path_on agent steps).events place
   pub holds_reads : (r place : ℕ) → last_read steps r ≡ Some place → IsReadAt (path_on agent steps).events place
   pub within : first_event t c agent + length (path_on agent steps).events ≤ length (events_in t c)
   pub numbered : (place : ℕ) → place < length (path_on agent steps).events

@@ -22,7 +22,8 @@ AgreesWith (StoreMet window index stored atomic ∷ steps) before values after =
 AgreesWith (ExchangeMet reg window index stored ∷ steps) before values after =
     (value : ℕ) × (others : List ℕ) × (values ≡ value ∷ others) × AgreesWith steps (slice_set before reg value) others after
 AgreesWith (CompareExchangeMet reg window index expected stored succeeds ∷ steps) before values after =
-    (value : ℕ) × (others : List ℕ) × (values ≡ value ∷ others) × (succeeds ≡ (value == expected)) × AgreesWith steps (slice_set before reg value) others after
+    (value : ℕ) × (others : List ℕ) × (values ≡ value ∷ others) × (succeeds ≡ (value == expected))
+    × AgreesWith steps (slice_set before reg value) others after
 AgreesWith (IfMet reg equal value holds ∷ steps) before values after =
     (holds ≡ compares equal (slice_index before reg) value) × AgreesWith steps before values after
 

@@ -3,12 +3,14 @@
 pub(crate) mod joined;
 
 ghost use Rattle.std.specs.Prelude.{◌≡◌, ℕ, ◌+◌, ◌/◌, ◌%◌, ◌<◌, ◌≤◌, length, map, Some, slice_get};
-ghost use Rattle.lit_paths.specs.declared.limits.TheConstants.{BYTE_READ_LIMIT as READS, CANDIDATE_LIMIT as CANDIDATES, CHOICE_LIMIT, EVENT_LIMIT};
+ghost use Rattle.lit_paths.specs.declared.limits.TheConstants.{BYTE_READ_LIMIT as READS, CANDIDATE_LIMIT as CANDIDATES};
+ghost use Rattle.lit_paths.specs.declared.limits.TheConstants.{CHOICE_LIMIT, EVENT_LIMIT};
 ghost use Rattle.lit_paths.specs.ByteReads.{byte_reads, byte_read_at, pair_of};
 ghost use Rattle.lit_paths.specs.Choice.{product, AreSources, candidates_of as candidates_among, choices_of, combinations_of};
 ghost use Rattle.lit_paths.specs.Numbers.{ways_from};
 ghost use Rattle.lit_paths.specs.declared.byte_reads.ByteRead.{ByteRead as Read};
-ghost use Rattle.lit_paths.specs.Plan.{events_in, choices_before, first_event, path_in, walk_in, AreEventsIn, HasSources, IsOfCombination, IsWalkIn, ListsCandidates};
+ghost use Rattle.lit_paths.specs.Plan.{events_in, choices_before, first_event, path_in, walk_in, AreEventsIn};
+ghost use Rattle.lit_paths.specs.Plan.{HasSources, IsOfCombination, IsWalkIn, ListsCandidates};
 ghost use Rattle.lit_paths.specs.Internal.CandidateLists.{candidate_lists, candidates_for, ways_after};
 ghost use Rattle.lit_paths.specs.Internal.Entered.{IsFormed};
 ghost use Rattle.lit_paths.specs.Internal.Walks.{IsInLimits};
@@ -211,8 +213,10 @@ impl<'p> Combination<'p> {
     /// The candidates of a byte read, by its place in `byte_reads`: by rising event number, and at least one.
     pub fn candidates(&self, place: usize) -> &[u8]
         requires { place < length (byte_reads (events_in self.now.0 self.now.1)) }
-        ensures value { result.now ≡ candidates_among (events_in self.now.0 self.now.1) (byte_read_at (events_in self.now.0 self.now.1) place) }
-        ensures lists { ListsCandidates (events_in self.now.0 self.now.1) (byte_read_at (events_in self.now.0 self.now.1) place).0 (byte_read_at (events_in self.now.0 self.now.1) place).1 result.now }
+        ensures value { result.now
+            ≡ candidates_among (events_in self.now.0 self.now.1) (byte_read_at (events_in self.now.0 self.now.1) place) }
+        ensures lists { ListsCandidates (events_in self.now.0 self.now.1) (byte_read_at (events_in self.now.0 self.now.1) place).0
+            (byte_read_at (events_in self.now.0 self.now.1) place).1 result.now }
         ensures some { 1 ≤ length result.now }
     {
         self.formed.ways.candidates.as_slice()[place].as_slice()

@@ -32,12 +32,14 @@ pub fn choices_have_numbers()
 /// The numbers of a combination's choices are those after the choices of the combinations before it: such a choice has
 /// the combination's decisions, and its executions run on the combination's paths.
 pub fn choices_are_on_combinations()
-    ensures { (t : Litmus) (n c : ℕ) → c < length (combinations_of t) → choices_before t c ≤ n → n < choices_before t (c + 1) → IsOfCombination t n c }
+    ensures { (t : Litmus) (n c : ℕ) → c < length (combinations_of t) → choices_before t c ≤ n → n < choices_before t (c + 1)
+        → IsOfCombination t n c }
 {}
 
 /// On a combination of a test that a text can say, each agent's path is that of a walk through its statements.
 pub fn combinations_are_walked()
-    ensures { (t : Litmus) (c agent : ℕ) → IsLitmus t → c < length (combinations_of t) → agent < length t.agents → IsWalkIn t c agent (walk_in t c agent) }
+    ensures { (t : Litmus) (c agent : ℕ) → IsLitmus t → c < length (combinations_of t) → agent < length t.agents
+        → IsWalkIn t c agent (walk_in t c agent) }
 {}
 
 /// Of statements that a text can say: there is a run on a path with given values exactly where each test of the path is
@@ -61,5 +63,6 @@ pub fn candidate_executions_have_choices()
 /// The values that the agents chose, with the sources, belong to one choice at most.
 pub fn values_have_one_choice()
     ensures { (t : Litmus) (x y : Execution) → IsCandidateExecution t x → IsCandidateExecution t y
-        → map (λ run. run.values) x.runs ≡ map (λ run. run.values) y.runs → x.sources ≡ y.sources → execution_choice x ≡ execution_choice y }
+        → map (λ run. run.values) x.runs ≡ map (λ run. run.values) y.runs → x.sources ≡ y.sources
+        → execution_choice x ≡ execution_choice y }
 {}

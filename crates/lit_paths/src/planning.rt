@@ -11,7 +11,8 @@ ghost use Rattle.lit_paths.specs.Choice.{choices_of, combinations_of};
 ghost use Rattle.lit_paths.specs.declared.limits.TheConstants.{CHOICE_LIMIT, COMBINATION_LIMIT, NAME_LIMIT};
 ghost use Rattle.lit_paths.specs.Event.{event_at};
 ghost use Rattle.lit_paths.specs.Outcome.{asks as is_asked, names_of, meets as is_met};
-ghost use Rattle.lit_paths.specs.Plan.{events_in, choices_before, path_in, walk_in, AreEventsIn, HasSources, IsOfCombination, IsWalkIn, ListsCandidates};
+ghost use Rattle.lit_paths.specs.Plan.{events_in, choices_before, path_in, walk_in, AreEventsIn};
+ghost use Rattle.lit_paths.specs.Plan.{HasSources, IsOfCombination, IsWalkIn, ListsCandidates};
 
 use crate::byte_reads::{ByteRead, Candidates, candidates_of};
 use crate::combination::Combination;
@@ -193,7 +194,8 @@ impl<'t> Plan<'t> {
         requires combination { combination < length (combinations_of self.now) }
         requires known { read < length (events_in self.now combination) }
         requires byte { byte < (event_at (events_in self.now combination) read).size }
-        ensures { ListsCandidates (events_in self.now combination) read ((event_at (events_in self.now combination) read).first + byte) result.items }
+        ensures { ListsCandidates (events_in self.now combination) read
+            ((event_at (events_in self.now combination) read).first + byte) result.items }
     {
         let events = self.events(combination);
         let events = events.as_slice();

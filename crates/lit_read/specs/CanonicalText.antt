@@ -4,7 +4,8 @@ use Rattle.std.specs.Fmt.{decimal}
 use Rattle.lit_read.specs.Syntax.{Window, DataView8, DataView16, DataView32, Statement, Load, Store, Exchange, CompareExchange, If, Litmus}
 use Rattle.lit_read.specs.Lines.{ended_lines}
 use Rattle.lit_read.specs.Written.{Comparison, Operand, Compared, Negated, Grouped, Conjunction, Lone, Both, Written, Single, Either}
-use Rattle.lit_read.specs.Forms.{Form, Blank, TestLine, BytesLine, AgentLine, StatementLine, IfLine, ElseLine, EndLine, CheckLine, window_word}
+use Rattle.lit_read.specs.Forms.{Form, Blank, TestLine, BytesLine, AgentLine, StatementLine}
+use Rattle.lit_read.specs.Forms.{IfLine, ElseLine, EndLine, CheckLine, window_word}
 use Rattle.lit_read.specs.Canonical.{canonical_forms}
 
 -- pieces of text, one after the other
@@ -60,13 +61,17 @@ store_text window index value = joined (window_word window ∷ codes "[" ∷ dec
 -- the line of an access
 abbrev pub statement_text : Statement → List ℕ
 statement_text (Load reg window index false) = joined (register_text reg ∷ codes " = " ∷ read_text window index ∷ [])
-statement_text (Load reg window index true) = joined (register_text reg ∷ codes " = Atomics.load(" ∷ window_word window ∷ codes ", " ∷ decimal index ∷ codes ")" ∷ [])
+statement_text (Load reg window index true) =
+    joined (register_text reg ∷ codes " = Atomics.load(" ∷ window_word window ∷ codes ", " ∷ decimal index ∷ codes ")" ∷ [])
 statement_text (Store window index value false) = store_text window index value
-statement_text (Store window index value true) = joined (codes "Atomics.store(" ∷ window_word window ∷ codes ", " ∷ decimal index ∷ codes ", " ∷ decimal value ∷ codes ")" ∷ [])
+statement_text (Store window index value true) =
+    joined (codes "Atomics.store(" ∷ window_word window ∷ codes ", " ∷ decimal index ∷ codes ", " ∷ decimal value ∷ codes ")" ∷ [])
 statement_text (Exchange reg window index value) =
-    joined (register_text reg ∷ codes " = Atomics.exchange(" ∷ window_word window ∷ codes ", " ∷ decimal index ∷ codes ", " ∷ decimal value ∷ codes ")" ∷ [])
+    joined (register_text reg ∷ codes " = Atomics.exchange(" ∷ window_word window ∷ codes ", " ∷ decimal index ∷ codes ", " ∷ decimal value
+    ∷ codes ")" ∷ [])
 statement_text (CompareExchange reg window index expected value) =
-    joined (register_text reg ∷ codes " = Atomics.compareExchange(" ∷ window_word window ∷ codes ", " ∷ decimal index ∷ codes ", " ∷ decimal expected ∷ codes ", " ∷ decimal value ∷ codes ")" ∷ [])
+    joined (register_text reg ∷ codes " = Atomics.compareExchange(" ∷ window_word window ∷ codes ", " ∷ decimal index ∷ codes ", "
+    ∷ decimal expected ∷ codes ", " ∷ decimal value ∷ codes ")" ∷ [])
 statement_text (If reg equal value body other) = []
 
 -- ---- lines

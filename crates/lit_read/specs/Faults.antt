@@ -1,14 +1,18 @@
 -- The faults of a text (this project's own). The first faulty line decides, and of one line's faults the lowest number.
-use Rattle.std.specs.Prelude.{◌≡◌, ◌⊎◌, ℕ, ◌-◌, ◌<◌, ◌≤◌, ◌==◌, ◌&&◌, ◌||◌, nat_lt, nat_le, Bool, true, false, IsTrue, if◌then◌else◌, List, [], ◌∷◌, ◌++◌, length, slice_index_or, take, not, fold}
+use Rattle.std.specs.Prelude.{◌≡◌, ◌⊎◌, ℕ, ◌-◌, ◌<◌, ◌≤◌, ◌==◌, ◌&&◌, ◌||◌, nat_lt, nat_le, Bool, true, false, IsTrue}
+use Rattle.std.specs.Prelude.{if◌then◌else◌, List, [], ◌∷◌, ◌++◌, length, slice_index_or, take, not, fold}
 use Rattle.std.specs.List.{list_any, list_all}
 use Rattle.std.specs.Str.{bytes_eq}
 use Rattle.lit_read.specs.declared.fault.ReadKind.{ReadKind}
-use Rattle.lit_read.specs.declared.fault.ReadKind.TheVariants.{TooLong, NotAscii, Syntax, Misplaced, BlockSize, TooManyAgents, DuplicateAgent, LiteralRange, OutOfBlock, UnknownName, TooDeep, MissingPart, OutOfMemory}
+use Rattle.lit_read.specs.declared.fault.ReadKind.TheVariants.{TooLong, NotAscii, Syntax, Misplaced, BlockSize, TooManyAgents}
+use Rattle.lit_read.specs.declared.fault.ReadKind.TheVariants.{DuplicateAgent, LiteralRange, OutOfBlock}
+use Rattle.lit_read.specs.declared.fault.ReadKind.TheVariants.{UnknownName, TooDeep, MissingPart, OutOfMemory}
 use Rattle.lit_read.specs.declared.limits.TheConstants.{TEXT_LIMIT, BLOCK_LIMIT, AGENT_LIMIT, COMPARED_LIMIT, IF_LIMIT}
 use Rattle.lit_read.specs.Syntax.{is_in_block, fits_window, Statement, Load, Store, Exchange, CompareExchange, If, statement_writes}
 use Rattle.lit_read.specs.Lines.{lines_of}
 use Rattle.lit_read.specs.Written.{Written, written_depths, is_shallow}
-use Rattle.lit_read.specs.Forms.{Form, Blank, TestLine, BytesLine, AgentLine, StatementLine, IfLine, ElseLine, EndLine, CheckLine, HasForm, HaveForms, without_blanks}
+use Rattle.lit_read.specs.Forms.{Form, Blank, TestLine, BytesLine, AgentLine, StatementLine, IfLine}
+use Rattle.lit_read.specs.Forms.{ElseLine, EndLine, CheckLine, HasForm, HaveForms, without_blanks}
 
 -- the numbers of the faults
 abbrev pub number_of : ReadKind → ℕ
@@ -202,7 +206,8 @@ HasFault text TooLong line = (TEXT_LIMIT < length text) × (line ≡ 1)
 HasFault text MissingPart line =
     (line ≡ length (lines_of text)) × ((forms : List Form) × HaveForms (lines_of text) forms × (list_any is_check_line forms ≡ false))
 HasFault text OutOfMemory line = ⊥
-HasFault text kind line = (before : List Form) × AreFormsBefore text line before × HasLineFault kind before (slice_index_or (lines_of text) (line - 1) [])
+HasFault text kind line =
+    (before : List Form) × AreFormsBefore text line before × HasLineFault kind before (slice_index_or (lines_of text) (line - 1) [])
 
 pub record IsFirstFault (text : List ℕ) (kind : ReadKind) (line : ℕ) : Type 0 where
   pub there : HasFault text kind line

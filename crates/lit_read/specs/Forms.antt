@@ -1,9 +1,11 @@
 -- The forms of a line (this project's own). A line's form is a function of that line alone.
 use Rattle.std.specs.Prelude.{◌≡◌, ℕ, ◌<◌, Bool, true, false, IsTrue, if◌then◌else◌, List, [], ◌∷◌, ◌++◌, codes}
 use Rattle.std.specs.List.{AllByRecursion}
-use Rattle.lit_read.specs.declared.tokens.symbols.Symbol.TheVariants.{Same, Differs, Gives, OpenBracket, CloseBracket, OpenParen, CloseParen, OpenBrace, CloseBrace, Comma, Dot}
+use Rattle.lit_read.specs.declared.tokens.symbols.Symbol.TheVariants.{Same, Differs, Gives, OpenBracket, CloseBracket, OpenParen}
+use Rattle.lit_read.specs.declared.tokens.symbols.Symbol.TheVariants.{CloseParen, OpenBrace, CloseBrace, Comma, Dot}
 use Rattle.lit_read.specs.declared.limits.TheConstants.{REGISTERS}
-use Rattle.lit_read.specs.Syntax.{Window, Uint8, Uint16, Uint32, DataView8, DataView16, DataView32, is_data_view, Statement, Load, Store, Exchange, CompareExchange, If}
+use Rattle.lit_read.specs.Syntax.{Window, Uint8, Uint16, Uint32, DataView8, DataView16, DataView32, is_data_view}
+use Rattle.lit_read.specs.Syntax.{Statement, Load, Store, Exchange, CompareExchange, If}
 use Rattle.lit_read.specs.Tokens.{Token, Word, Number, Sign, CutsInto}
 use Rattle.lit_read.specs.Written.{Written, register_word, written_tokens, written_depths}
 
@@ -32,7 +34,8 @@ element_tokens window index = Word (window_word window) ∷ Sign OpenBracket ∷
 
 -- Atomics.NAME(VIEW, NUM
 abbrev pub atomic_tokens : List ℕ → Window → ℕ → List Token
-atomic_tokens name window index = Word (codes "Atomics") ∷ Sign Dot ∷ Word name ∷ Sign OpenParen ∷ Word (window_word window) ∷ Sign Comma ∷ Number index ∷ []
+atomic_tokens name window index =
+    Word (codes "Atomics") ∷ Sign Dot ∷ Word name ∷ Sign OpenParen ∷ Word (window_word window) ∷ Sign Comma ∷ Number index ∷ []
 
 -- DV.NAME(NUM
 abbrev pub data_view_tokens : List ℕ → ℕ → List Token
@@ -59,12 +62,18 @@ store_tokens window index value = element_tokens window index ++ Sign Gives ∷ 
 -- the line of an access
 abbrev pub statement_tokens : Statement → List Token
 statement_tokens (Load reg window index false) = Word (register_word reg) ∷ Sign Gives ∷ read_tokens window index
-statement_tokens (Load reg window index true) = Word (register_word reg) ∷ Sign Gives ∷ (atomic_tokens (codes "load") window index ++ Sign CloseParen ∷ [])
+statement_tokens (Load reg window index true) =
+    Word (register_word reg) ∷ Sign Gives ∷ (atomic_tokens (codes "load") window index ++ Sign CloseParen ∷ [])
 statement_tokens (Store window index value false) = store_tokens window index value
-statement_tokens (Store window index value true) = atomic_tokens (codes "store") window index ++ Sign Comma ∷ Number value ∷ Sign CloseParen ∷ []
-statement_tokens (Exchange reg window index value) = Word (register_word reg) ∷ Sign Gives ∷ (atomic_tokens (codes "exchange") window index ++ Sign Comma ∷ Number value ∷ Sign CloseParen ∷ [])
+statement_tokens (Store window index value true) =
+    atomic_tokens (codes "store") window index ++ Sign Comma ∷ Number value ∷ Sign CloseParen ∷ []
+statement_tokens (Exchange reg window index value) =
+    Word (register_word reg) ∷ Sign Gives
+    ∷ (atomic_tokens (codes "exchange") window index ++ Sign Comma ∷ Number value ∷ Sign CloseParen ∷ [])
 statement_tokens (CompareExchange reg window index expected value) =
-    Word (register_word reg) ∷ Sign Gives ∷ (atomic_tokens (codes "compareExchange") window index ++ Sign Comma ∷ Number expected ∷ Sign Comma ∷ Number value ∷ Sign CloseParen ∷ [])
+    Word (register_word reg) ∷ Sign Gives
+    ∷ (atomic_tokens (codes "compareExchange") window index ++ Sign Comma ∷ Number expected ∷ Sign Comma ∷ Number value ∷ Sign CloseParen
+    ∷ [])
 statement_tokens (If reg equal value body other) = []
 
 -- the tokens that spell a form
@@ -74,7 +83,8 @@ spelled (TestLine name) = Word (codes "test") ∷ Word name ∷ []
 spelled (BytesLine bytes) = Word (codes "bytes") ∷ Number bytes ∷ []
 spelled (AgentLine name) = Word (codes "agent") ∷ Word name ∷ []
 spelled (StatementLine s) = statement_tokens s
-spelled (IfLine reg equal value) = Word (codes "if") ∷ Word (register_word reg) ∷ Sign (if equal then Same else Differs) ∷ Number value ∷ Sign OpenBrace ∷ []
+spelled (IfLine reg equal value) =
+    Word (codes "if") ∷ Word (register_word reg) ∷ Sign (if equal then Same else Differs) ∷ Number value ∷ Sign OpenBrace ∷ []
 spelled ElseLine = Sign CloseBrace ∷ Word (codes "else") ∷ Sign OpenBrace ∷ []
 spelled EndLine = Sign CloseBrace ∷ []
 spelled (CheckLine w) = Word (codes "check") ∷ written_tokens w

@@ -49,4 +49,10 @@ abbrev mutual
   conditions_of (more_of-Cond c rest) = Also (condition_of c) (conditions_of rest)
 
 abbrev pub litmus_of : Inside → Litmus
-litmus_of t = record { name = string_bytes t.name; bytes = t.bytes; agents = map (λ e. record { name = string_bytes e.0; body = statements_of e.1.items }) t.agents.entries; check = condition_of t.check }
+litmus_of t =
+    record {
+      name = string_bytes t.name;
+      bytes = t.bytes;
+      agents = map (λ e. record { name = string_bytes e.0; body = statements_of e.1.items }) t.agents.entries;
+      check = condition_of t.check;
+    }

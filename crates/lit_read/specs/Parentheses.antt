@@ -7,7 +7,8 @@ use Rattle.lit_read.specs.Written.{Comparison, Operand, Compared, Negated, Group
 
 -- a comparison with the agent's name in place of its number
 abbrev pub named : List Agent → ℕ → ℕ → Bool → ℕ → Comparison
-named agents agent reg equal value = record { agent = (slice_index_or agents agent (record { name = []; body = End })).name; reg = reg; equal = equal; value = value }
+named agents agent reg equal value =
+    record { agent = (slice_index_or agents agent (record { name = []; body = End })).name; reg = reg; equal = equal; value = value }
 
 -- A condition as it is written with parentheses round an Any that is a member of an All or Any or under a Not, round an
 -- All that is a member of an All or under a Not, and nowhere else. An Any or All has two members at least.

@@ -8,11 +8,13 @@ use Rattle.lit_read.specs.Forms.{Form, AgentLine, StatementLine, IfLine, ElseLin
 abbrev mutual
   pub IsStatement : List Form → Statement → Type 0
   IsStatement forms (If reg equal value body other) =
-      (thens elses : List Form) × (forms ≡ IfLine reg equal value ∷ (thens ++ (elses ++ EndLine ∷ []))) × AreStatements thens body × AreElse elses other
+      (thens elses : List Form) × (forms ≡ IfLine reg equal value ∷ (thens ++ (elses ++ EndLine ∷ []))) × AreStatements thens body
+      × AreElse elses other
   IsStatement forms (Load reg window index atomic) = forms ≡ StatementLine (Load reg window index atomic) ∷ []
   IsStatement forms (Store window index value atomic) = forms ≡ StatementLine (Store window index value atomic) ∷ []
   IsStatement forms (Exchange reg window index value) = forms ≡ StatementLine (Exchange reg window index value) ∷ []
-  IsStatement forms (CompareExchange reg window index expected value) = forms ≡ StatementLine (CompareExchange reg window index expected value) ∷ []
+  IsStatement forms (CompareExchange reg window index expected value) =
+      forms ≡ StatementLine (CompareExchange reg window index expected value) ∷ []
 
   pub AreStatements : List Form → Statements → Type 0
   AreStatements forms End = forms ≡ []
@@ -21,12 +23,14 @@ abbrev mutual
   -- the else line and the else-part
   pub AreElse : List Form → Statements → Type 0
   AreElse forms End = (forms ≡ []) ⊎ (forms ≡ ElseLine ∷ [])
-  AreElse forms (Then s ss) = (first others : List Form) × (forms ≡ ElseLine ∷ (first ++ others)) × IsStatement first s × AreStatements others ss
+  AreElse forms (Then s ss) =
+      (first others : List Form) × (forms ≡ ElseLine ∷ (first ++ others)) × IsStatement first s × AreStatements others ss
 
 -- each agent has its line and the lines of its statements
 abbrev pub AreAgents : List Form → List Agent → Type 0
 AreAgents forms [] = forms ≡ []
-AreAgents forms (a ∷ others) = (body rest : List Form) × (forms ≡ AgentLine a.name ∷ (body ++ rest)) × AreStatements body a.body × AreAgents rest others
+AreAgents forms (a ∷ others) =
+    (body rest : List Form) × (forms ≡ AgentLine a.name ∷ (body ++ rest)) × AreStatements body a.body × AreAgents rest others
 
 -- a line that can stand among an agent's statements
 abbrev pub is_body_line : Form → Bool
@@ -40,11 +44,14 @@ is_body_line _ = false
 -- line, and the statements of the else-part so far.
 abbrev pub IsOpenPart : Bool → List Form → Type 0
 IsOpenPart false forms = (body : Statements) × AreStatements forms body
-IsOpenPart true forms = (thens elses : List Form) × (body other : Statements) × (forms ≡ thens ++ ElseLine ∷ elses) × AreStatements thens body × AreStatements elses other
+IsOpenPart true forms =
+    (thens elses : List Form) × (body other : Statements) × (forms ≡ thens ++ ElseLine ∷ elses) × AreStatements thens body
+    × AreStatements elses other
 
 -- The forms leave these `if`s open, the innermost first, each with whether its else line has come: they are statements,
 -- and then, for each of these, the outermost first, its line and its open part.
 abbrev pub LeaveOpen : List Bool → List Form → Type 0
 LeaveOpen [] forms = (body : Statements) × AreStatements forms body
 LeaveOpen (in_else ∷ opened) forms =
-    (outer inner : List Form) × (reg : ℕ) × (equal : Bool) × (value : ℕ) × (forms ≡ outer ++ IfLine reg equal value ∷ inner) × LeaveOpen opened outer × IsOpenPart in_else inner
+    (outer inner : List Form) × (reg : ℕ) × (equal : Bool) × (value : ℕ) × (forms ≡ outer ++ IfLine reg equal value ∷ inner)
+    × LeaveOpen opened outer × IsOpenPart in_else inner

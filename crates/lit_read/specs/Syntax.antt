@@ -1,8 +1,11 @@
 -- What a text can say: the limits and rules of a test.
-use Rattle.std.specs.Prelude.{◌≡◌, ◌≢◌, ℕ, ◌+◌, ◌/◌, ◌^◌, ◌<◌, ◌≤◌, ◌==◌, nat_lt, nat_le, max, Bool, true, false, IsTrue, ◌||◌, [], length, slice_index_or}
+use Rattle.std.specs.Prelude.{◌≡◌, ◌≢◌, ℕ, ◌+◌, ◌/◌, ◌^◌, ◌<◌, ◌≤◌, ◌==◌, nat_lt, nat_le, max}
+use Rattle.std.specs.Prelude.{Bool, true, false, IsTrue, ◌||◌, [], length, slice_index_or}
 use Rattle.lit_read.specs.declared.limits.TheConstants.{BLOCK_LIMIT, AGENT_LIMIT, REGISTERS, COMPARED_LIMIT, IF_LIMIT}
 use Rattle.lit_read.specs.Tokens.{IsWord}
-pub use Rattle.lit_read.specs.Trees.{Window, Uint8, Uint16, Uint32, DataView8, DataView16, DataView32, Statement, Load, Store, Exchange, CompareExchange, If, Statements, End, Then, Condition, Any, All, Not, Is, Conditions, NoMore, Also, Agent, Litmus}
+pub use Rattle.lit_read.specs.Trees.{Window, Uint8, Uint16, Uint32, DataView8, DataView16, DataView32, Statement}
+pub use Rattle.lit_read.specs.Trees.{Load, Store, Exchange, CompareExchange, If, Statements, End, Then}
+pub use Rattle.lit_read.specs.Trees.{Condition, Any, All, Not, Is, Conditions, NoMore, Also, Agent, Litmus}
 use Rattle.lit_read.specs.Written.{is_shallow}
 use Rattle.lit_read.specs.Parentheses.{written_of}
 
@@ -44,11 +47,17 @@ fits_window window value = nat_lt value (256 ^ window_size window)
 -- what a text can say in an agent, over a block of so many bytes
 abbrev mutual
   pub IsStatementIn : ℕ → Statement → Type 0
-  IsStatementIn bytes (Load reg window index atomic) = (reg < REGISTERS) × IsTrue (is_in_block bytes window index) × (IsTrue atomic → is_data_view window ≡ false)
-  IsStatementIn bytes (Store window index value atomic) = IsTrue (is_in_block bytes window index) × IsTrue (fits_window window value) × (IsTrue atomic → is_data_view window ≡ false)
-  IsStatementIn bytes (Exchange reg window index value) = (reg < REGISTERS) × IsTrue (is_in_block bytes window index) × IsTrue (fits_window window value) × (is_data_view window ≡ false)
-  IsStatementIn bytes (CompareExchange reg window index expected value) = (reg < REGISTERS) × IsTrue (is_in_block bytes window index) × IsTrue (fits_window window expected) × IsTrue (fits_window window value) × (is_data_view window ≡ false)
-  IsStatementIn bytes (If reg equal value body other) = (reg < REGISTERS) × (value ≤ COMPARED_LIMIT) × AreStatementsIn bytes body × AreStatementsIn bytes other
+  IsStatementIn bytes (Load reg window index atomic) =
+      (reg < REGISTERS) × IsTrue (is_in_block bytes window index) × (IsTrue atomic → is_data_view window ≡ false)
+  IsStatementIn bytes (Store window index value atomic) =
+      IsTrue (is_in_block bytes window index) × IsTrue (fits_window window value) × (IsTrue atomic → is_data_view window ≡ false)
+  IsStatementIn bytes (Exchange reg window index value) =
+      (reg < REGISTERS) × IsTrue (is_in_block bytes window index) × IsTrue (fits_window window value) × (is_data_view window ≡ false)
+  IsStatementIn bytes (CompareExchange reg window index expected value) =
+      (reg < REGISTERS) × IsTrue (is_in_block bytes window index) × IsTrue (fits_window window expected) × IsTrue (fits_window window value)
+      × (is_data_view window ≡ false)
+  IsStatementIn bytes (If reg equal value body other) =
+      (reg < REGISTERS) × (value ≤ COMPARED_LIMIT) × AreStatementsIn bytes body × AreStatementsIn bytes other
 
   pub AreStatementsIn : ℕ → Statements → Type 0
   AreStatementsIn bytes End = Unit {0}
@@ -90,7 +99,8 @@ abbrev mutual
   IsConditionOn t (Any cs) = (2 ≤ condition_count cs) × AreConditionsOn t cs
   IsConditionOn t (All cs) = (2 ≤ condition_count cs) × AreConditionsOn t cs
   IsConditionOn t (Not c) = IsConditionOn t c
-  IsConditionOn t (Is agent reg equal value) = (agent < length t.agents) × (reg < REGISTERS) × IsTrue (writes (agent_of t agent).body reg) × (value ≤ COMPARED_LIMIT)
+  IsConditionOn t (Is agent reg equal value) =
+      (agent < length t.agents) × (reg < REGISTERS) × IsTrue (writes (agent_of t agent).body reg) × (value ≤ COMPARED_LIMIT)
 
   pub AreConditionsOn : Litmus → Conditions → Type 0
   AreConditionsOn t NoMore = Unit {0}

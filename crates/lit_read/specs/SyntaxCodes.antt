@@ -63,11 +63,16 @@ window_back DataView32 = refl
 -- a statement's tag and fields, and then its two parts
 abbrev mutual
   pub statement_tree : Statement → Gv
-  statement_tree (Load r w i a) = gcons (gcons (gnum 0) (gcons (gnum r) (gcons (window_tree w) (gcons (gnum i) (bool_tree a))))) (gcons gnil gnil)
-  statement_tree (Store w i v a) = gcons (gcons (gnum 1) (gcons (window_tree w) (gcons (gnum i) (gcons (gnum v) (bool_tree a))))) (gcons gnil gnil)
-  statement_tree (Exchange r w i v) = gcons (gcons (gnum 2) (gcons (gnum r) (gcons (window_tree w) (gcons (gnum i) (gnum v))))) (gcons gnil gnil)
-  statement_tree (CompareExchange r w i e v) = gcons (gcons (gnum 3) (gcons (gnum r) (gcons (window_tree w) (gcons (gnum i) (gcons (gnum e) (gnum v)))))) (gcons gnil gnil)
-  statement_tree (If r e v b o) = gcons (gcons (gnum 4) (gcons (gnum r) (gcons (bool_tree e) (gnum v)))) (gcons (statements_tree b) (statements_tree o))
+  statement_tree (Load r w i a) =
+      gcons (gcons (gnum 0) (gcons (gnum r) (gcons (window_tree w) (gcons (gnum i) (bool_tree a))))) (gcons gnil gnil)
+  statement_tree (Store w i v a) =
+      gcons (gcons (gnum 1) (gcons (window_tree w) (gcons (gnum i) (gcons (gnum v) (bool_tree a))))) (gcons gnil gnil)
+  statement_tree (Exchange r w i v) =
+      gcons (gcons (gnum 2) (gcons (gnum r) (gcons (window_tree w) (gcons (gnum i) (gnum v))))) (gcons gnil gnil)
+  statement_tree (CompareExchange r w i e v) =
+      gcons (gcons (gnum 3) (gcons (gnum r) (gcons (window_tree w) (gcons (gnum i) (gcons (gnum e) (gnum v)))))) (gcons gnil gnil)
+  statement_tree (If r e v b o) =
+      gcons (gcons (gnum 4) (gcons (gnum r) (gcons (bool_tree e) (gnum v)))) (gcons (statements_tree b) (statements_tree o))
 
   pub statements_tree : Statements → Gv
   statements_tree End = gnil
@@ -75,9 +80,13 @@ abbrev mutual
 
 abbrev pub statement_from : ℕ → Gv → Statements → Statements → Statement
 statement_from zero f b o = Load (num (first f)) (window_at (first (rest f))) (num (first (rest (rest f)))) (bool_at (rest (rest (rest f))))
-statement_from (suc zero) f b o = Store (window_at (first f)) (num (first (rest f))) (num (first (rest (rest f)))) (bool_at (rest (rest (rest f))))
-statement_from (suc (suc zero)) f b o = Exchange (num (first f)) (window_at (first (rest f))) (num (first (rest (rest f)))) (num (rest (rest (rest f))))
-statement_from (suc (suc (suc zero))) f b o = CompareExchange (num (first f)) (window_at (first (rest f))) (num (first (rest (rest f)))) (num (first (rest (rest (rest f))))) (num (rest (rest (rest (rest f)))))
+statement_from (suc zero) f b o =
+    Store (window_at (first f)) (num (first (rest f))) (num (first (rest (rest f)))) (bool_at (rest (rest (rest f))))
+statement_from (suc (suc zero)) f b o =
+    Exchange (num (first f)) (window_at (first (rest f))) (num (first (rest (rest f)))) (num (rest (rest (rest f))))
+statement_from (suc (suc (suc zero))) f b o =
+    CompareExchange (num (first f)) (window_at (first (rest f))) (num (first (rest (rest f)))) (num (first (rest (rest (rest f)))))
+    (num (rest (rest (rest (rest f)))))
 statement_from (suc (suc (suc (suc n)))) f b o = If (num (first f)) (bool_at (first (rest f))) (num (rest (rest f))) b o
 
 abbrev mutual
@@ -91,8 +100,10 @@ abbrev mutual
 
 mutual
   pub statement_back : (s : Statement) → statement_at (statement_tree s) ≡ s
-  statement_back (Load r w i a) = ap (λ (x : Window). Load r x i (bool_at (bool_tree a))) (window_back w) ∙ ap (λ (x : Bool). Load r w i x) (bool_back a)
-  statement_back (Store w i v a) = ap (λ (x : Window). Store x i v (bool_at (bool_tree a))) (window_back w) ∙ ap (λ (x : Bool). Store w i v x) (bool_back a)
+  statement_back (Load r w i a) =
+      ap (λ (x : Window). Load r x i (bool_at (bool_tree a))) (window_back w) ∙ ap (λ (x : Bool). Load r w i x) (bool_back a)
+  statement_back (Store w i v a) =
+      ap (λ (x : Window). Store x i v (bool_at (bool_tree a))) (window_back w) ∙ ap (λ (x : Bool). Store w i v x) (bool_back a)
   statement_back (Exchange r w i v) = ap (λ (x : Window). Exchange r x i v) (window_back w)
   statement_back (CompareExchange r w i e v) = ap (λ (x : Window). CompareExchange r x i e v) (window_back w)
   statement_back (If r e v b o) =
@@ -102,7 +113,9 @@ mutual
 
   pub statements_back : (ss : Statements) → statements_at (statements_tree ss) ≡ ss
   statements_back End = refl
-  statements_back (Then s ss) = ap (λ (x : Statement). Then x (statements_at (statements_tree ss))) (statement_back s) ∙ ap (λ (x : Statements). Then s x) (statements_back ss)
+  statements_back (Then s ss) =
+      ap (λ (x : Statement). Then x (statements_at (statements_tree ss))) (statement_back s)
+      ∙ ap (λ (x : Statements). Then s x) (statements_back ss)
 
 -- a condition's tag and numbers, and then its members
 abbrev mutual
@@ -146,7 +159,9 @@ mutual
 
   pub conditions_back : (cs : Conditions) → conditions_at (conditions_tree cs) ≡ cs
   conditions_back NoMore = refl
-  conditions_back (Also c cs) = ap (λ (x : Condition). Also x (conditions_at (conditions_tree cs))) (condition_back c) ∙ ap (λ (x : Conditions). Also c x) (conditions_back cs)
+  conditions_back (Also c cs) =
+      ap (λ (x : Condition). Also x (conditions_at (conditions_tree cs))) (condition_back c)
+      ∙ ap (λ (x : Conditions). Also c x) (conditions_back cs)
 
 abbrev pub coded_statements : Coded Statements
 coded_statements = code_by Gv coded_tree statements_tree statements_at statements_back
@@ -155,7 +170,9 @@ abbrev pub coded_condition : Coded Condition
 coded_condition = code_by Gv coded_tree condition_tree condition_at condition_back
 
 abbrev pub coded_agent : Coded Agent
-coded_agent = code_by (List ℕ × Statements) (coded× (coded_list coded_ℕ) coded_statements) (λ a. (a.name, a.body)) (λ p. record { name = p.0; body = p.1 }) (λ _. refl)
+coded_agent =
+    code_by (List ℕ × Statements) (coded× (coded_list coded_ℕ) coded_statements) (λ a. (a.name, a.body))
+    (λ p. record { name = p.0; body = p.1 }) (λ _. refl)
 
 abbrev pub coded_litmus : Coded Litmus
 coded_litmus =

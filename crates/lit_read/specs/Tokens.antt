@@ -1,9 +1,11 @@
 -- The tokens of a line (this project's own).
-use Rattle.std.specs.Prelude.{◌≡◌, ℕ, ◌+◌, ◌-◌, ◌*◌, ◌≤◌, ◌==◌, ◌||◌, ◌&&◌, Bool, true, false, IsTrue, List, [], ◌∷◌, ◌++◌, length, fold, codes, not}
+use Rattle.std.specs.Prelude.{◌≡◌, ℕ, ◌+◌, ◌-◌, ◌*◌, ◌≤◌, ◌==◌, ◌||◌, ◌&&◌, Bool, true, false}
+use Rattle.std.specs.Prelude.{IsTrue, List, [], ◌∷◌, ◌++◌, length, fold, codes, not}
 use Rattle.std.specs.List.{list_all}
 use Rattle.std.specs.Char.{is_ascii_alphabetic, is_ascii_alphanumeric, is_ascii_digit}
 use Rattle.lit_read.specs.declared.tokens.symbols.Symbol.{Symbol}
-use Rattle.lit_read.specs.declared.tokens.symbols.Symbol.TheVariants.{Same, Differs, And, Or, Gives, Not, OpenBracket, CloseBracket, OpenParen, CloseParen, OpenBrace, CloseBrace, Comma, Dot}
+use Rattle.lit_read.specs.declared.tokens.symbols.Symbol.TheVariants.{Same, Differs, And, Or, Gives, Not, OpenBracket, CloseBracket}
+use Rattle.lit_read.specs.declared.tokens.symbols.Symbol.TheVariants.{OpenParen, CloseParen, OpenBrace, CloseBrace, Comma, Dot}
 use Rattle.lit_read.specs.declared.limits.TheConstants.{WORD_LIMIT, DIGIT_LIMIT}
 
 pub data Token : Type 0 where

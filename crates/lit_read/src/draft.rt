@@ -8,7 +8,8 @@ ghost use Rattle.std.specs.Prelude.{◌≡◌, ◌<◌, string_bytes, false, IfO
 ghost use Rattle.std.specs.List.{list_any};
 ghost use Rattle.std.specs.Str.{bytes_eq};
 ghost use Rattle.lit_read.specs.Litmus.{statements_of};
-ghost use Rattle.lit_read.specs.Internal.State.{test_step, block_step, agent_step, statement_step, if_step, else_step, end_step, step, check_step, with_agent, followed_by, IsState};
+ghost use Rattle.lit_read.specs.Internal.State.{test_step, block_step, agent_step, statement_step, if_step, else_step};
+ghost use Rattle.lit_read.specs.Internal.State.{end_step, step, check_step, with_agent, followed_by, IsState};
 ghost use Rattle.lit_read.specs.Internal.Views.{Returns, state_view, form_view, open_view, agents_view};
 
 use crate::draft::accesses::checked_access;
@@ -62,7 +63,8 @@ fn with_last(
     body: Vec<Stmt>,
 ) -> Result<IndexMap<String, Vec<Stmt>>, AllocError>
     requires { list_any (λ a. bytes_eq (string_bytes agent) a.name) (agents_view agents.entries) ≡ false }
-    ensures { IfOk result (λ more. agents_view more.entries ≡ with_agent (agents_view agents.entries) (string_bytes agent) (statements_of body.items)) }
+    ensures { IfOk result
+        (λ more. agents_view more.entries ≡ with_agent (agents_view agents.entries) (string_bytes agent) (statements_of body.items)) }
 {
     let mut agents = agents;
     agents.insert(agent, body)?;
@@ -76,7 +78,10 @@ impl Level {
 
     /// The `if` whose part this is the last of, behind the statements before it.
     fn ended(self, alloc: Global, body: Vec<Stmt>) -> Result<Vec<Stmt>, AllocError>
-        ensures { IfOk result (λ all. statements_of all.items ≡ followed_by (statements_of self.before.items) (ended_if (level_view self) (statements_of body.items) (part_view self.then_part))) }
+        ensures { IfOk result
+            (λ all. statements_of all.items
+            ≡ followed_by (statements_of self.before.items)
+            (ended_if (level_view self) (statements_of body.items) (part_view self.then_part))) }
     {
         let Level {
             reg,
@@ -198,7 +203,8 @@ impl Open {
 
     /// Whether an agent so far has this name.
     fn has_agent(&self, name: &str) -> bool
-        ensures { result ≡ list_any (λ a. bytes_eq name.now a.name) (with_agent (agents_view self.now.agents.entries) (string_bytes self.now.agent) (statements_of self.now.body.items)) }
+        ensures { result ≡ list_any (λ a. bytes_eq name.now a.name)
+            (with_agent (agents_view self.now.agents.entries) (string_bytes self.now.agent) (statements_of self.now.body.items)) }
     {
         self.agents.contains_key(name) || name == self.agent.as_str()
     }

@@ -6,7 +6,8 @@ pub(crate) mod marks;
 
 ghost use Rattle.std.specs.Prelude.{◌≡◌, option_map, IfSome, IfNone, IfOk};
 ghost use Rattle.lit_read.specs.Internal.Marks.{SpellsForm, SpellsNothing, SpellsNoCheck};
-ghost use Rattle.lit_read.specs.Internal.FormOfTokens.{test_line, agent_line, bytes_line, if_line, else_line, end_line, frame_form, array_form, view_form, fixed_form};
+ghost use Rattle.lit_read.specs.Internal.FormOfTokens.{test_line, agent_line, bytes_line, if_line, else_line, end_line};
+ghost use Rattle.lit_read.specs.Internal.FormOfTokens.{frame_form, array_form, view_form, fixed_form};
 ghost use Rattle.lit_read.specs.Internal.Views.{token_views, form_view, Shows};
 
 use crate::forms::access_forms::{array_form, view_form};

@@ -54,20 +54,25 @@ pub fn has_canonical_forms()
 /// After an agent's line and forms of statements, none of them misplaced, those `if`s are open that the forms leave open:
 /// so none is open exactly where the forms are those of whole statements. Forms that leave `if`s open are not misplaced.
 pub fn leaves_ifs_open()
-    ensures left { (given forms : List Form) → is_begun given ≡ true → open_ifs given ≡ [] → list_all is_body_line forms ≡ true → AllByRecursion IsForm forms → none_misplaced given forms ≡ true → LeaveOpen (open_ifs (given ++ forms)) forms }
-    ensures told { (given forms : List Form) → is_begun given ≡ true → open_ifs given ≡ [] → (opened : List Bool) → LeaveOpen opened forms → (none_misplaced given forms ≡ true) × (open_ifs (given ++ forms) ≡ opened) }
+    ensures left { (given forms : List Form) → is_begun given ≡ true → open_ifs given ≡ [] → list_all is_body_line forms ≡ true
+        → AllByRecursion IsForm forms → none_misplaced given forms ≡ true → LeaveOpen (open_ifs (given ++ forms)) forms }
+    ensures told { (given forms : List Form) → is_begun given ≡ true → open_ifs given ≡ [] → (opened : List Bool) → LeaveOpen opened forms
+        → (none_misplaced given forms ≡ true) × (open_ifs (given ++ forms) ≡ opened) }
 {}
 
 /// Forms of one test differ by else lines with an empty part alone, and in their check lines by parentheses alone.
 pub fn differ_by_nothing_else()
-    ensures elses { (forms others : List Form) (t : Litmus) → (a : AreFormsOf forms t) → (b : AreFormsOf others t) → without_empty_elses a.agents ≡ without_empty_elses b.agents }
-    ensures parentheses { (forms others : List Form) (t : Litmus) → IsLitmus t → (a : AreFormsOf forms t) → (b : AreFormsOf others t) → without_parentheses (written_tokens a.check) ≡ without_parentheses (written_tokens b.check) }
+    ensures elses { (forms others : List Form) (t : Litmus) → (a : AreFormsOf forms t) → (b : AreFormsOf others t)
+        → without_empty_elses a.agents ≡ without_empty_elses b.agents }
+    ensures parentheses { (forms others : List Form) (t : Litmus) → IsLitmus t → (a : AreFormsOf forms t) → (b : AreFormsOf others t)
+        → without_parentheses (written_tokens a.check) ≡ without_parentheses (written_tokens b.check) }
 {}
 
 /// A text spells a test wherever it can: it is no longer than a text may be, its bytes may stand there, its forms, blank
 /// ones left out, are those of the test, and no comparison of its check line stands too deep.
 pub fn spells_where_it_can()
-    ensures { (text : List ℕ) (forms : List Form) (t : Litmus) → IsLitmus t → length text ≤ TEXT_LIMIT → list_all is_allowed text ≡ true → HaveForms (lines_of text) forms → (are : AreFormsOf (without_blanks forms) t) → is_shallow are.check ≡ true → Spells text t }
+    ensures { (text : List ℕ) (forms : List Form) (t : Litmus) → IsLitmus t → length text ≤ TEXT_LIMIT → list_all is_allowed text ≡ true
+        → HaveForms (lines_of text) forms → (are : AreFormsOf (without_blanks forms) t) → is_shallow are.check ≡ true → Spells text t }
 {}
 
 /// What a text spells keeps the limits and rules of a test.
@@ -82,7 +87,8 @@ pub fn spells_or_is_faulty()
 
 /// No text has two first faults.
 pub fn has_one_first_fault()
-    ensures { (text : List ℕ) (kind other : ReadKind) (line n : ℕ) → IsFirstFault text kind line → IsFirstFault text other n → (kind ≡ other) × (line ≡ n) }
+    ensures { (text : List ℕ) (kind other : ReadKind) (line n : ℕ) → IsFirstFault text kind line → IsFirstFault text other n
+        → (kind ≡ other) × (line ≡ n) }
 {}
 
 /// Each text spells a test or has a first fault.
@@ -93,8 +99,10 @@ pub fn each_text_is_told()
 /// The lines of a test's canonical text have its canonical forms. So they have forms of that test, and of no other.
 pub fn has_canonical_text()
     ensures lines { (t : Litmus) → IsLitmus t → HaveForms (lines_of (canonical t)) (canonical_forms t) }
-    ensures its { (t : Litmus) → IsLitmus t → (forms : List Form) × HaveForms (lines_of (canonical t)) forms × AreFormsOf (without_blanks forms) t }
-    ensures only { (t u : Litmus) (forms : List Form) → IsLitmus t → HaveForms (lines_of (canonical t)) forms → AreFormsOf (without_blanks forms) u → u ≡ t }
+    ensures its { (t : Litmus) → IsLitmus t
+        → (forms : List Form) × HaveForms (lines_of (canonical t)) forms × AreFormsOf (without_blanks forms) t }
+    ensures only { (t u : Litmus) (forms : List Form) → IsLitmus t → HaveForms (lines_of (canonical t)) forms
+        → AreFormsOf (without_blanks forms) u → u ≡ t }
 {}
 
 /// The canonical text of a test spells the test, where it is no longer than a text may be.

@@ -18,7 +18,8 @@ use std::alloc::{AllocError, Global};
 
 /// Writes the first two lines.
 fn put_head(out: &mut String, test: &Test) -> Result<(), AllocError>
-    ensures { OnOk result (string_bytes out.new ≡ string_bytes out.old ++ forms_text (TestLine test.now.name ∷ BytesLine test.now.bytes ∷ [])) }
+    ensures { OnOk result
+        (string_bytes out.new ≡ string_bytes out.old ++ forms_text (TestLine test.now.name ∷ BytesLine test.now.bytes ∷ [])) }
 {
     write!(out, "test {}\nbytes {}\n", test.name(), test.bytes())
 }
@@ -43,7 +44,8 @@ fn put_agents(out: &mut String, test: &Test) -> Result<(), AllocError>
 
 /// Writes the last line.
 fn put_check(out: &mut String, test: &Test) -> Result<(), AllocError>
-    ensures { OnOk result (string_bytes out.new ≡ string_bytes out.old ++ forms_text (CheckLine (written_of test.now.agents test.now.check) ∷ [])) }
+    ensures { OnOk result
+        (string_bytes out.new ≡ string_bytes out.old ++ forms_text (CheckLine (written_of test.now.agents test.now.check) ∷ [])) }
 {
     out.push_str("check ")?;
     put_condition(out, test, test.check())?;

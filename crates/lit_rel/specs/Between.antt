@@ -17,7 +17,9 @@ coded_pair =
     (λ x. record { source = x.0; read = x.1.0; others = record { bits = x.1.1 } }) (λ _. refl)
 
 abbrev pub coded_between : Coded BetweenModel
-coded_between = code_by (ℕ × List Pair) (coded× coded_ℕ (coded_list coded_pair)) (λ b. (b.len, b.pairs)) (λ x. record { len = x.0; pairs = x.1 }) (λ _. refl)
+coded_between =
+    code_by (ℕ × List Pair) (coded× coded_ℕ (coded_list coded_pair)) (λ b. (b.len, b.pairs)) (λ x. record { len = x.0; pairs = x.1 })
+    (λ _. refl)
 
 -- the pair is of this source and this read
 pub record IsPairOf (w r : ℕ) (pair : Pair) : Type 0 where

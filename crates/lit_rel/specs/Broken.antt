@@ -60,7 +60,8 @@ pub record HasFalseTestOn (t : Litmus) (c : ℕ) (asked : Option ℕ) (value : �
 abbrev pub HasFalseTest : PartModel → Type 0
 HasFalseTest part =
     HasFalseTestOn part.test part.combination None 0
-    ⊎ ((r : ℕ) × IsGivenWhole (part_events part) part.sources r × HasFalseTestOn part.test part.combination (Some r) (value_of (part_events part) part.sources r))
+    ⊎ ((r : ℕ) × IsGivenWhole (part_events part) part.sources r
+    × HasFalseTestOn part.test part.combination (Some r) (value_of (part_events part) part.sources r))
 
 abbrev pub IsBroken : PartModel → Type 0
 IsBroken part = HasBrokenRelations part ⊎ HasFalseTest part
@@ -71,5 +72,8 @@ StaysBroken = (part : PartModel) (rest : List ℕ) → IsBroken part → IsBroke
 
 -- any bytes given whose relations are broken are so with any bytes more, and in each list of sources that has them
 pub record BytesStayBroken : Type 0 where
-  pub sets : (events : List Event) (less more : ℕ → ℕ → ℕ → Bool) → ((r b w : ℕ) → GivenBy less r b w → GivenBy more r b w) → IsBrokenBy events (GivenBy less) → IsBrokenBy events (GivenBy more)
-  pub into_lists : (events : List Event) (less : ℕ → ℕ → ℕ → Bool) (sources : List ℕ) → ((r b w : ℕ) → GivenBy less r b w → ReadsByteFrom events sources r b w) → IsBrokenBy events (GivenBy less) → IsBrokenBy events (ReadsByteFrom events sources)
+  pub sets : (events : List Event) (less more : ℕ → ℕ → ℕ → Bool) → ((r b w : ℕ) → GivenBy less r b w → GivenBy more r b w)
+      → IsBrokenBy events (GivenBy less) → IsBrokenBy events (GivenBy more)
+  pub into_lists : (events : List Event) (less : ℕ → ℕ → ℕ → Bool) (sources : List ℕ)
+      → ((r b w : ℕ) → GivenBy less r b w → ReadsByteFrom events sources r b w) → IsBrokenBy events (GivenBy less)
+      → IsBrokenBy events (ReadsByteFrom events sources)

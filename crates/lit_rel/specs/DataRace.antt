@@ -69,4 +69,6 @@ MayRace events sources = HasDataRaceOf events (HappensBefore events sources) (Ma
 
 -- a data race that comes with further sources could be foreseen
 abbrev pub RacesAreForeseen : Type 0
-RacesAreForeseen = (events : List Event) (sources rest : List ℕ) → AreGiven events (sources ++ rest) → HasDataRace events (sources ++ rest) → MayRace events sources
+RacesAreForeseen =
+    (events : List Event) (sources rest : List ℕ) → AreGiven events (sources ++ rest) → HasDataRace events (sources ++ rest)
+    → MayRace events sources

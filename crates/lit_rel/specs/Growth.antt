@@ -24,9 +24,12 @@ GivenBy given r b w = IsTrue (given r b w)
 
 -- from any set of bytes to any that has it, also to that of a list of sources, and from a list to any longer one
 pub record GrowWithBytes : Type 0 where
-  pub sets : (events : List Event) (less more : ℕ → ℕ → ℕ → Bool) → ((r b w : ℕ) → GivenBy less r b w → GivenBy more r b w) → Grows events (GivenBy less) (GivenBy more)
-  pub into_lists : (events : List Event) (less : ℕ → ℕ → ℕ → Bool) (sources : List ℕ) → ((r b w : ℕ) → GivenBy less r b w → ReadsByteFrom events sources r b w) → Grows events (GivenBy less) (ReadsByteFrom events sources)
-  pub lists : (events : List Event) (sources rest : List ℕ) → Grows events (ReadsByteFrom events sources) (ReadsByteFrom events (sources ++ rest))
+  pub sets : (events : List Event) (less more : ℕ → ℕ → ℕ → Bool) → ((r b w : ℕ) → GivenBy less r b w → GivenBy more r b w)
+      → Grows events (GivenBy less) (GivenBy more)
+  pub into_lists : (events : List Event) (less : ℕ → ℕ → ℕ → Bool) (sources : List ℕ)
+      → ((r b w : ℕ) → GivenBy less r b w → ReadsByteFrom events sources r b w) → Grows events (GivenBy less) (ReadsByteFrom events sources)
+  pub lists : (events : List Event) (sources rest : List ℕ)
+      → Grows events (ReadsByteFrom events sources) (ReadsByteFrom events (sources ++ rest))
 
 -- all bytes of read r have a source
 abbrev pub IsGivenWhole : List Event → List ℕ → ℕ → Type 0
@@ -34,7 +37,9 @@ IsGivenWhole events sources r = (i b : ℕ) → slice_get (byte_reads events) i 
 
 -- the value of a read all of whose bytes have a source does not change with further ones
 abbrev pub ValuesStay : Type 0
-ValuesStay = (events : List Event) (sources rest : List ℕ) (r : ℕ) → IsGivenWhole events sources r → value_of events (sources ++ rest) r ≡ value_of events sources r
+ValuesStay =
+    (events : List Event) (sources rest : List ℕ) (r : ℕ) → IsGivenWhole events sources r
+    → value_of events (sources ++ rest) r ≡ value_of events sources r
 
 -- all bytes of read r are given a source
 abbrev pub IsGivenWholeBy : List Event → (ℕ → ℕ → ℕ → Type 0) → ℕ → Type 0
@@ -42,5 +47,7 @@ IsGivenWholeBy events given r = (i b : ℕ) → slice_get (byte_reads events) i 
 
 -- the value of a read all of whose bytes are given is the same in all lists of sources that have these bytes of it
 abbrev pub GivenValuesAgree : Type 0
-GivenValuesAgree = (events : List Event) (given : ℕ → ℕ → ℕ → Bool) (sources others : List ℕ) (r : ℕ) → IsGivenWholeBy events (GivenBy given) r
-    → ((b w : ℕ) → GivenBy given r b w → ReadsByteFrom events sources r b w) → ((b w : ℕ) → GivenBy given r b w → ReadsByteFrom events others r b w) → value_of events others r ≡ value_of events sources r
+GivenValuesAgree =
+    (events : List Event) (given : ℕ → ℕ → ℕ → Bool) (sources others : List ℕ) (r : ℕ) → IsGivenWholeBy events (GivenBy given) r
+    → ((b w : ℕ) → GivenBy given r b w → ReadsByteFrom events sources r b w)
+    → ((b w : ℕ) → GivenBy given r b w → ReadsByteFrom events others r b w) → value_of events others r ≡ value_of events sources r

@@ -46,10 +46,12 @@ pub record HasRoom (kept : KeptRows) (len : ℕ) : Type 0 where
 
 -- what is kept once a relation is put behind the others, where there is room, and else what was kept
 pub data IsKeptWith (kept more : KeptRows) (order : TwoWayRows) : Type 0 where
-  Put : HasRoom kept (rows_len order.rows) → ((orders : List TwoWayRows) → AreKeptRows kept orders → AreKeptRows more (orders ++ order ∷ [])) → IsKeptWith kept more order
+  Put : HasRoom kept (rows_len order.rows)
+      → ((orders : List TwoWayRows) → AreKeptRows kept orders → AreKeptRows more (orders ++ order ∷ [])) → IsKeptWith kept more order
   Full : ¬ HasRoom kept (rows_len order.rows) → more ≡ kept → IsKeptWith kept more order
 
 -- what is kept, and a relation, once the one that was kept at this place is taken out with those behind it
 pub record IsTakenBack (kept less : KeptRows) (place : ℕ) (order : Rows) : Type 0 where
   pub before : (orders : List TwoWayRows) → AreKeptRows kept orders → AreKeptRows less (take place orders)
-  pub same : (orders : List TwoWayRows) (was : TwoWayRows) → AreKeptRows kept orders → slice_get orders place ≡ Some was → AreSameRows was.rows order
+  pub same : (orders : List TwoWayRows) (was : TwoWayRows) → AreKeptRows kept orders → slice_get orders place ≡ Some was
+      → AreSameRows was.rows order

@@ -15,5 +15,6 @@ AddsNone part = (e d : ℕ) → HappensBefore (part_events part) part.sources e 
 -- this pair of events, which was not there, and what leads through it
 abbrev pub AddsPair : PartModel → ℕ → ℕ → Type 0
 AddsPair part a d =
-    (a < length (part_events part)) × (d < length (part_events part)) × ((x y : ℕ) → HappensBefore (part_events part) part.sources x y ↔ WithPair (HappensBeforeLast part) a d x y)
+    (a < length (part_events part)) × (d < length (part_events part))
+    × ((x y : ℕ) → HappensBefore (part_events part) part.sources x y ↔ WithPair (HappensBeforeLast part) a d x y)
     × (¬ HappensBeforeLast part a d)

@@ -14,7 +14,8 @@ use Rattle.lit_rel.specs.TearFree.{HasTearFreeReads, ReadsWholeBy}
 
 -- other sources differ at most in bytes of read r
 abbrev pub AreSameBut : List Event → ℕ → List ℕ → List ℕ → Type 0
-AreSameBut events r sources others = (i q b : ℕ) → slice_get (byte_reads events) i ≡ Some (q, b) → q ≢ r → slice_get others i ≡ slice_get sources i
+AreSameBut events r sources others =
+    (i q b : ℕ) → slice_get (byte_reads events) i ≡ Some (q, b) → q ≢ r → slice_get others i ≡ slice_get sources i
 
 -- w is not sequentially consistent, and byte b of read r is coherent with it
 pub record IsPlainSource (events : List Event) (before : ℕ → ℕ → Type 0) (r b w : ℕ) : Type 0 where
@@ -29,8 +30,10 @@ pub record CanTakeOthers (events : List Event) (sources others : List ℕ) (r : 
   pub elsewhere : AreSameBut events r sources others
   pub alone : ¬ MaySynchronize events r
   pub apart : SynchronizesWithNone events sources r
-  pub plain : (b w : ℕ) → ReadsByteFrom events others r b w → ReadsByteFrom events sources r b w ⊎ IsPlainSource events (HappensBefore events others) r b w
-  pub whole : HasTearFreeReads events sources → (w v : ℕ) → ReadsWholeBy events (ReadsByteFrom events others) r w → ReadsWholeBy events (ReadsByteFrom events others) r v → v ≡ w
+  pub plain : (b w : ℕ) → ReadsByteFrom events others r b w
+      → ReadsByteFrom events sources r b w ⊎ IsPlainSource events (HappensBefore events others) r b w
+  pub whole : HasTearFreeReads events sources → (w v : ℕ) → ReadsWholeBy events (ReadsByteFrom events others) r w
+      → ReadsWholeBy events (ReadsByteFrom events others) r v → v ≡ w
 
 -- Synchronizes-with and happens-before are the same with other sources, no further triple is forbidden, and the reads
 -- are coherent and tear free where they were.
@@ -44,14 +47,18 @@ pub record StaysAllowed (events : List Event) (sources others : List ℕ) : Type
 
 -- it is so where one read takes others
 abbrev pub OthersTakePlace : Type 0
-OthersTakePlace = (events : List Event) (sources others : List ℕ) (r : ℕ) → CanTakeOthers events sources others r → StaysAllowed events sources others
+OthersTakePlace =
+    (events : List Event) (sources others : List ℕ) (r : ℕ) → CanTakeOthers events sources others r → StaysAllowed events sources others
 
 -- the same events happen before each other whatever sources a read has, if it synchronizes with none of them
 abbrev pub OrderStaysWithOthers : Type 0
-OrderStaysWithOthers = (events : List Event) (sources others : List ℕ) (r : ℕ) → SynchronizesWithNone events sources r → SynchronizesWithNone events others r → AreSameBut events r sources others
+OrderStaysWithOthers =
+    (events : List Event) (sources others : List ℕ) (r : ℕ) → SynchronizesWithNone events sources r → SynchronizesWithNone events others r
+    → AreSameBut events r sources others
     → (e d : ℕ) → HappensBefore events others e d ↔ HappensBefore events sources e d
 
 -- and another read keeps its value
 abbrev pub ValuesStayWithOthers : Type 0
-ValuesStayWithOthers = (events : List Event) (sources others : List ℕ) (r q : ℕ) → length others ≡ length sources → AreSameBut events r sources others → q ≢ r
+ValuesStayWithOthers =
+    (events : List Event) (sources others : List ℕ) (r q : ℕ) → length others ≡ length sources → AreSameBut events r sources others → q ≢ r
     → value_of events others q ≡ value_of events sources q

@@ -37,7 +37,9 @@ pub record IsNextSource (part : PartModel) (w : ℕ) : Type 0 where
 
 -- each source given is a candidate of its byte read
 abbrev pub AreFirstSources : PartModel → Type 0
-AreFirstSources part = (i r b w : ℕ) → slice_get (byte_reads (part_events part)) i ≡ Some (r, b) → slice_get part.sources i ≡ Some w → IsCandidate (part_events part) r b w
+AreFirstSources part =
+    (i r b w : ℕ) → slice_get (byte_reads (part_events part)) i ≡ Some (r, b) → slice_get part.sources i ≡ Some w
+    → IsCandidate (part_events part) r b w
 
 -- each byte read has a source
 abbrev pub IsComplete : PartModel → Type 0

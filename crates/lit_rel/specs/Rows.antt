@@ -19,7 +19,9 @@ IsTransitive before = (x y z : ℕ) → before x y → before y z → before x z
 
 -- each transitive relation that has the pairs of one and a pair more has those of the other
 abbrev pub IsLeastWith : (ℕ → ℕ → Type 0) → ℕ → ℕ → (ℕ → ℕ → Type 0) → Type 0
-IsLeastWith before a d closed = (other : Rows) → IsTransitive (Holds other) → ((x y : ℕ) → before x y → Holds other x y) → Holds other a d → (x y : ℕ) → closed x y → Holds other x y
+IsLeastWith before a d closed =
+    (other : Rows) → IsTransitive (Holds other) → ((x y : ℕ) → before x y → Holds other x y) → Holds other a d → (x y : ℕ) → closed x y
+    → Holds other x y
 
 -- The relation with one more pair, closed: what is before a, and a itself, is now before d, and before what is after d.
 -- Of a transitive relation this is the least transitive one that has it and the pair.

@@ -26,7 +26,8 @@ pub record HasSettledPast (events : List Event) (sources : List ℕ) (e : ℕ) :
 
 -- whatever is given besides, the same events happen before it
 abbrev pub SettledPastsStay : Type 0
-SettledPastsStay = (events : List Event) (sources rest : List ℕ) (e : ℕ) → AreGiven events (sources ++ rest) → HasSettledPast events sources e
+SettledPastsStay =
+    (events : List Event) (sources rest : List ℕ) (e : ℕ) → AreGiven events (sources ++ rest) → HasSettledPast events sources e
     → (d : ℕ) → HappensBefore events (sources ++ rest) d e ↔ HappensBefore events sources d e
 
 -- ---- the same of any bytes given
@@ -53,7 +54,10 @@ pub record AreCandidatesBy (events : List Event) (given : ℕ → ℕ → ℕ �
 
 -- with any bytes more, and in each list of sources that has them, the same events happen before it
 pub record BytesKeepSettledPasts : Type 0 where
-  pub sets : (events : List Event) (less more : ℕ → ℕ → ℕ → Bool) (e : ℕ) → ((r b w : ℕ) → GivenBy less r b w → GivenBy more r b w) → AreCandidatesBy events (GivenBy more)
-      → HasSettledPastBy events (GivenBy less) e → (d : ℕ) → HappensBeforeBy events (GivenBy more) d e ↔ HappensBeforeBy events (GivenBy less) d e
-  pub into_lists : (events : List Event) (less : ℕ → ℕ → ℕ → Bool) (sources : List ℕ) (e : ℕ) → ((r b w : ℕ) → GivenBy less r b w → ReadsByteFrom events sources r b w) → AreGiven events sources
+  pub sets : (events : List Event) (less more : ℕ → ℕ → ℕ → Bool) (e : ℕ) → ((r b w : ℕ) → GivenBy less r b w → GivenBy more r b w)
+      → AreCandidatesBy events (GivenBy more)
+      → HasSettledPastBy events (GivenBy less) e → (d : ℕ)
+      → HappensBeforeBy events (GivenBy more) d e ↔ HappensBeforeBy events (GivenBy less) d e
+  pub into_lists : (events : List Event) (less : ℕ → ℕ → ℕ → Bool) (sources : List ℕ) (e : ℕ)
+      → ((r b w : ℕ) → GivenBy less r b w → ReadsByteFrom events sources r b w) → AreGiven events sources
       → HasSettledPastBy events (GivenBy less) e → (d : ℕ) → HappensBefore events sources d e ↔ HappensBeforeBy events (GivenBy less) d e

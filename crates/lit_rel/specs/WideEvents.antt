@@ -33,10 +33,14 @@ two_stores =
     ∷ []
 
 abbrev pub typed_load : List Event
-typed_load = two_stores ++ record { kind = Read; order = Unordered; no_tear = true; first = 0; size = 2; payload = 0 ∷ 0 ∷ 0 ∷ 0 ∷ []; owner = Some 2; place = 0 } ∷ []
+typed_load =
+    two_stores
+    ++ record { kind = Read; order = Unordered; no_tear = true; first = 0; size = 2; payload = 0 ∷ 0 ∷ 0 ∷ 0 ∷ []; owner = Some 2; place = 0 } ∷ []
 
 abbrev pub viewed_load : List Event
-viewed_load = two_stores ++ record { kind = Read; order = Unordered; no_tear = false; first = 0; size = 2; payload = 0 ∷ 0 ∷ 0 ∷ 0 ∷ []; owner = Some 2; place = 0 } ∷ []
+viewed_load =
+    two_stores
+    ++ record { kind = Read; order = Unordered; no_tear = false; first = 0; size = 2; payload = 0 ∷ 0 ∷ 0 ∷ 0 ∷ []; owner = Some 2; place = 0 } ∷ []
 
 -- For a load through a typed array, tear free reads allow no mix of the two stores. They allow a mix of one of them and
 -- the event that made a byte, which is one byte wide.

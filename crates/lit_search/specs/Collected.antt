@@ -15,7 +15,8 @@ pub record Collected : Type 0 where
 -- codes, by which a proof tells two of them apart
 abbrev coded_entry : Coded Entry
 coded_entry =
-    code_by (List ℕ × (ℕ × List ℕ)) (coded× (coded_list coded_ℕ) (coded× coded_ℕ (coded_list coded_ℕ))) (λ e. (e.outcome, (e.choice, e.order)))
+    code_by (List ℕ × (ℕ × List ℕ)) (coded× (coded_list coded_ℕ) (coded× coded_ℕ (coded_list coded_ℕ)))
+    (λ e. (e.outcome, (e.choice, e.order)))
     (λ x. record { outcome = x.0; choice = x.1.0; order = x.1.1 }) (λ _. refl)
 
 abbrev pub coded_collected : Coded Collected

@@ -14,7 +14,9 @@ use Rattle.lit_valid.specs.Completion.{Completes}
 -- each memory-order of each valid execution that goes on from the part keeps these pairs, and has no v of these triples
 -- (w, r, v) between w and r
 abbrev pub AreKept : PartModel → (ℕ → ℕ → Type 0) → (ℕ → ℕ → ℕ → Type 0) → Type 0
-AreKept part before forbidden = (x : Execution) (order : List ℕ) → Completes part x → IsMemoryOrder (execution_events part.test x) x.sources order → IsOrderOf (length (part_events part)) before forbidden order
+AreKept part before forbidden =
+    (x : Execution) (order : List ℕ) → Completes part x → IsMemoryOrder (execution_events part.test x) x.sources order
+    → IsOrderOf (length (part_events part)) before forbidden order
 
 -- v always stands between w and r, where it may not if r reads from w
 pub record IsAlwaysBetween (part : PartModel) (before : ℕ → ℕ → Type 0) (w r v : ℕ) : Type 0 where
@@ -33,4 +35,6 @@ IsApart part before w r = IsAlwaysLater part before w r ⊎ ((v : ℕ) × IsAlwa
 -- w is not among what can still stand for byte b of read r: a test refuses it, the byte is not coherent with it, or w and
 -- r stand apart in each memory-order
 abbrev pub IsOut : PartModel → (ℕ → ℕ → Type 0) → ℕ → ℕ → ℕ → Type 0
-IsOut part before r b w = TestsRefuse part r b w ⊎ (¬ IsCoherentRead (part_events part) (HappensBefore (part_events part) part.sources) r b w) ⊎ IsApart part before w r
+IsOut part before r b w =
+    TestsRefuse part r b w ⊎ (¬ IsCoherentRead (part_events part) (HappensBefore (part_events part) part.sources) r b w)
+    ⊎ IsApart part before w r

@@ -7,7 +7,8 @@ use Rattle.lit_paths.specs.Event.{event_at}
 use Rattle.lit_paths.specs.Execution.{Execution, execution_events, execution_outcome}
 use Rattle.lit_paths.specs.Run.{compares}
 use Rattle.lit_order.specs.MemoryOrder.{IsMemoryOrder}
-use Rattle.lit_search.specs.Interleaving.{Contents, Moment, after_each, after_end, after_statement, after_turn, beginning, found_by, from_access, interleaved, progress_of}
+use Rattle.lit_search.specs.Interleaving.{Contents, Moment, after_each, after_end, after_statement, after_turn}
+use Rattle.lit_search.specs.Interleaving.{beginning, found_by, from_access, interleaved, progress_of}
 use Rattle.lit_search.specs.Report.{Entry, Report}
 use Rattle.lit_search.specs.Sequential.{IsSequential}
 use Rattle.lit_valid.specs.ValidExecution.{IsValidExecution}
@@ -19,7 +20,8 @@ abbrev mutual
   statement_accesses (Store window index value atomic) c = 1
   statement_accesses (Exchange reg window index value) c = 1
   statement_accesses (CompareExchange reg window index expected value) c = 1
-  statement_accesses (If reg equal value body other) c = if compares equal (slice_index c.registers reg) value then accesses body c else accesses other c
+  statement_accesses (If reg equal value body other) c =
+      if compares equal (slice_index c.registers reg) value then accesses body c else accesses other c
 
   pub accesses : Statements → Contents → ℕ
   accesses End c = 0
@@ -58,7 +60,8 @@ pub record IsOfSchedule (t : Litmus) (schedule : List ℕ) (x : Execution) (orde
   pub result : execution_outcome t x ≡ interleaved t schedule
   pub sequential : IsSequential (execution_events t x) x.sources order
   pub ordered : IsMemoryOrder (execution_events t x) x.sources order
-  pub in_turn : map (λ e. (event_at (execution_events t x) e).owner) order ≡ replicate t.bytes None ++ map (λ agent. Some agent) (makers_of t schedule)
+  pub in_turn : map (λ e. (event_at (execution_events t x) e).owner) order
+      ≡ replicate t.bytes None ++ map (λ agent. Some agent) (makers_of t schedule)
 
 -- there is one
 abbrev pub HasExecution : Litmus → List ℕ → Type 0
@@ -66,4 +69,5 @@ HasExecution t schedule = (x : Execution) × (order : List ℕ) × IsOfSchedule 
 
 -- the report has the outcome of the schedule
 abbrev pub IsReported : Litmus → List ℕ → Report → Type 0
-IsReported t schedule report = (i : ℕ) × (entry : Entry) × (slice_get report.entries i ≡ Some entry) × (entry.outcome ≡ interleaved t schedule)
+IsReported t schedule report =
+    (i : ℕ) × (entry : Entry) × (slice_get report.entries i ≡ Some entry) × (entry.outcome ≡ interleaved t schedule)

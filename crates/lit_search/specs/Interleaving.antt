@@ -1,9 +1,11 @@
 -- Interleavings (this project's own): the agents of a test carry out their statements in turns, each access at once and
 -- on the bytes of the block themselves. A schedule is a list of agents, by their numbers.
-use Rattle.std.specs.Prelude.{ℕ, ◌+◌, ◌==◌, if◌then◌else◌, List, [], ◌∷◌, ◌++◌, length, map, take, drop, replicate, slice_index, slice_index_or, slice_set}
+use Rattle.std.specs.Prelude.{ℕ, ◌+◌, ◌==◌, if◌then◌else◌, List, [], ◌∷◌, ◌++◌, length, map}
+use Rattle.std.specs.Prelude.{take, drop, replicate, slice_index, slice_index_or, slice_set}
 use Rattle.std.specs.List.{range_with_len}
 use Rattle.lit_read.specs.declared.limits.TheConstants.{REGISTERS}
-use Rattle.lit_read.specs.Syntax.{Window, window_size, Statement, Statements, Load, Store, Exchange, CompareExchange, If, End, Then, Agent, Litmus}
+use Rattle.lit_read.specs.Syntax.{Window, window_size, Statement, Statements, Load, Store}
+use Rattle.lit_read.specs.Syntax.{Exchange, CompareExchange, If, End, Then, Agent, Litmus}
 use Rattle.lit_paths.specs.Outcome.{outcome_of}
 use Rattle.lit_paths.specs.Path.{first_byte, payload_of}
 use Rattle.lit_paths.specs.Run.{compares}
@@ -17,7 +19,8 @@ number_in block window index = composed (take (window_size window) (drop (first_
 -- the block after an access put a number into its bytes
 abbrev pub with_number : List ℕ → Window → ℕ → ℕ → List ℕ
 with_number block window index value =
-    take (first_byte window index) block ++ (take (window_size window) (payload_of value) ++ drop (first_byte window index + window_size window) block)
+    take (first_byte window index) block
+    ++ (take (window_size window) (payload_of value) ++ drop (first_byte window index + window_size window) block)
 
 -- ---- what a statement does
 -- the block's bytes, and what the registers of an agent hold
@@ -28,7 +31,8 @@ pub record Contents : Type 0 where
 -- after a statement, or statements, were carried out to the end
 abbrev mutual
   pub after_statement : Statement → Contents → Contents
-  after_statement (Load reg window index atomic) c = record { block = c.block; registers = slice_set c.registers reg (number_in c.block window index) }
+  after_statement (Load reg window index atomic) c =
+      record { block = c.block; registers = slice_set c.registers reg (number_in c.block window index) }
   after_statement (Store window index value atomic) c = record { block = with_number c.block window index value; registers = c.registers }
   after_statement (Exchange reg window index value) c =
       record { block = with_number c.block window index value; registers = slice_set c.registers reg (number_in c.block window index) }
@@ -37,7 +41,8 @@ abbrev mutual
         block = if number_in c.block window index == expected then with_number c.block window index value else c.block;
         registers = slice_set c.registers reg (number_in c.block window index);
       }
-  after_statement (If reg equal value body other) c = if compares equal (slice_index c.registers reg) value then after body c else after other c
+  after_statement (If reg equal value body other) c =
+      if compares equal (slice_index c.registers reg) value then after body c else after other c
 
   pub after : Statements → Contents → Contents
   after End c = c

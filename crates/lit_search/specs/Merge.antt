@@ -14,7 +14,8 @@ HasInEither a b entry = HasEntry a entry ⊎ HasEntry b entry
 pub record AreMerged (a b merged : List Entry) : Type 0 where
   pub rising : IsStrictlySortedBy outcome_cmp merged
   pub of_either : (entry : Entry) → HasEntry merged entry → HasInEither a b entry
-  pub least : (entry other : Entry) → HasEntry merged entry → HasInEither a b other → other.outcome ≡ entry.outcome → IsFalse (is_gt (example_cmp entry other))
+  pub least : (entry other : Entry) → HasEntry merged entry → HasInEither a b other → other.outcome ≡ entry.outcome
+      → IsFalse (is_gt (example_cmp entry other))
   pub whole : (other : Entry) → HasInEither a b other → (entry : Entry) × HasEntry merged entry × (entry.outcome ≡ other.outcome)
 
 pub record IsMerge (a b merged : Report) : Type 0 where

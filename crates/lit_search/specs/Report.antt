@@ -65,7 +65,8 @@ pub record IsEntry (t : Litmus) (numbers : ℕ → Bool) (entry : Entry) : Type 
 pub record AreEntries (t : Litmus) (numbers : ℕ → Bool) (entries : List Entry) : Type 0 where
   pub rising : IsStrictlySortedBy outcome_cmp entries
   pub each : (i : ℕ) (entry : Entry) → slice_get entries i ≡ Some entry → IsEntry t numbers entry
-  pub whole : (n : ℕ) (outcome : List ℕ) → IsTrue (numbers n) → Gives t n outcome → (i : ℕ) × (entry : Entry) × (slice_get entries i ≡ Some entry) × (entry.outcome ≡ outcome)
+  pub whole : (n : ℕ) (outcome : List ℕ) → IsTrue (numbers n) → Gives t n outcome
+      → (i : ℕ) × (entry : Entry) × (slice_get entries i ≡ Some entry) × (entry.outcome ≡ outcome)
 
 -- The report of the choices with these numbers: their entries, marked exactly where a valid execution that has one of
 -- these choices has a data race.

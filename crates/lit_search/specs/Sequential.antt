@@ -10,7 +10,8 @@ use Rattle.lit_order.specs.MemoryOrder.{IsListOfAll, StandsBefore}
 -- w stands before read r, and no event that writes byte b stands between them
 pub record IsLastWrite (events : List Event) (order : List ℕ) (r b w : ℕ) : Type 0 where
   pub earlier : StandsBefore order w r
-  pub last : (v : ℕ) → IsTrue (does_write (event_at events v).kind) → HasByte (event_at events v) b → StandsBefore order w v → StandsBefore order v r → ⊥
+  pub last : (v : ℕ) → IsTrue (does_write (event_at events v).kind) → HasByte (event_at events v) b → StandsBefore order w v
+      → StandsBefore order v r → ⊥
 
 -- A list of all events that keeps agent-order, and in which each byte is made before all else that is done to it, and is
 -- read from what wrote it last.

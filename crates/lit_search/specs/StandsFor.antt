@@ -53,7 +53,8 @@ pub record MakesNoDifference (t : Litmus) (c : ℕ) (sources : List ℕ) (k r b 
   pub in_block : b < t.bytes
   pub source : slice_get sources k ≡ Some s
   pub unordered : (event_at (events_in t c) r).order ≡ Unordered
-  pub first : (v : ℕ) → IsTrue (does_write (event_at (events_in t c) v).kind) → HasByte (event_at (events_in t c) v) b → HappensBefore (events_in t c) sources v r → v ≡ b
+  pub first : (v : ℕ) → IsTrue (does_write (event_at (events_in t c) v).kind) → HasByte (event_at (events_in t c) v) b
+      → HappensBefore (events_in t c) sources v r → v ≡ b
   pub stored : (payload_at (event_at (events_in t c) s) b ≡ 0) ⊎ ¬ IsUsed t c r
 
 -- the execution is on a combination's paths
@@ -75,7 +76,8 @@ pub record StandsWith (t : Litmus) (others : List ℕ) (x y : Execution) : Type 
   pub on_paths : map run_path y.runs ≡ map run_path x.runs
   pub sources : y.sources ≡ others
   pub outcome : execution_outcome t y ≡ execution_outcome t x
-  pub orders : (order : List ℕ) → IsMemoryOrder (execution_events t x) x.sources order → IsMemoryOrder (execution_events t y) y.sources order
+  pub orders : (order : List ℕ) → IsMemoryOrder (execution_events t x) x.sources order
+      → IsMemoryOrder (execution_events t y) y.sources order
   pub choice : choice_cmp (execution_choice y) (execution_choice x) ≡ slice_cmp nat_cmp others x.sources
 
 -- there is such an execution
@@ -89,7 +91,8 @@ pub record StandsFor (t : Litmus) (k b s : ℕ) (x y : Execution) : Type 0 where
   pub on_paths : map run_path y.runs ≡ map run_path x.runs
   pub sources : y.sources ≡ with_source x.sources k b
   pub outcome : execution_outcome t y ≡ execution_outcome t x
-  pub orders : (order : List ℕ) → IsMemoryOrder (execution_events t x) x.sources order → IsMemoryOrder (execution_events t y) y.sources order
+  pub orders : (order : List ℕ) → IsMemoryOrder (execution_events t x) x.sources order
+      → IsMemoryOrder (execution_events t y) y.sources order
   pub not_greater : IsFalse (is_gt (choice_cmp (execution_choice y) (execution_choice x)))
   pub less : s ≢ b → choice_cmp (execution_choice y) (execution_choice x) ≡ Less
 

@@ -80,7 +80,8 @@ fn keep_on(
 fn stays_calm(calm: bool, cursor: &Cursor<'_>) -> bool
     requires { cursor.now.places ≡ [] }
     ensures before { IsTrue result → IsTrue calm }
-    ensures here { IsTrue result → ¬ HasRaceIn cursor.now.test (in_range (low_at cursor.now) (choices_before cursor.now.test (cursor.now.combination + 1))) }
+    ensures here { IsTrue result → ¬ HasRaceIn cursor.now.test
+        (in_range (low_at cursor.now) (choices_before cursor.now.test (cursor.now.combination + 1))) }
 {
     calm && cursor.is_calm()
 }

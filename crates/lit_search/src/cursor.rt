@@ -14,7 +14,8 @@ pub(crate) mod standing_in;
 pub(crate) mod used;
 pub(crate) mod wanted;
 
-ghost use Rattle.std.specs.Prelude.{◌≡◌, ◌↔◌, ℕ, ◌+◌, ◌-◌, ◌<◌, ◌≤◌, List, Some, IfNone, IfSome, IsTrue, IsFalse, [], ◌∷◌, ◌++◌, length, slice_get, take};
+ghost use Rattle.std.specs.Prelude.{◌≡◌, ◌↔◌, ℕ, ◌+◌, ◌-◌, ◌<◌, ◌≤◌, List, Some, IfNone, IfSome};
+ghost use Rattle.std.specs.Prelude.{IsTrue, IsFalse, [], ◌∷◌, ◌++◌, length, slice_get, take};
 ghost use Rattle.lit_paths.specs.ByteReads.{byte_reads};
 ghost use Rattle.lit_paths.specs.Choice.{combinations_of};
 ghost use Rattle.lit_paths.specs.declared.limits.TheConstants.{EVENT_LIMIT, NAME_LIMIT};
@@ -302,7 +303,8 @@ impl<'p> Cursor<'p> {
         ensures combination { self.new.combination ≡ self.old.combination }
         ensures next { IsTrue result → behind_at (first_places self.old depth) ≤ low_at self.new }
         ensures nothing { IsTrue result → AddsNothing plan.now since (behind_at (first_places self.old depth)) (low_at self.new) }
-        ensures last { IsFalse result → AddsNothing plan.now since (behind_at (first_places self.old depth)) (choices_before plan.now (self.old.combination + 1)) }
+        ensures last { IsFalse result
+            → AddsNothing plan.now since (behind_at (first_places self.old depth)) (choices_before plan.now (self.old.combination + 1)) }
     {
         choices_have_numbers();
         self.back(depth);

@@ -30,6 +30,8 @@ IsHunted t cut class place piece =
 
 -- Since an earlier moment the place told choices of the class alone, and keeps what it told and saw before.
 pub record HasTold (t : Litmus) (class : Class) (before after : PlaceLists) : Type 0 where
-  pub told : told_by (desk_class class) after ≡ told_by (desk_class class) before ++ since (told_by (desk_class class) before) (told_by (desk_class class) after)
-  pub seen : seen_by (desk_class class) after ≡ seen_by (desk_class class) before ++ since (seen_by (desk_class class) before) (seen_by (desk_class class) after)
+  pub told : told_by (desk_class class) after
+      ≡ told_by (desk_class class) before ++ since (told_by (desk_class class) before) (told_by (desk_class class) after)
+  pub seen : seen_by (desk_class class) after
+      ≡ seen_by (desk_class class) before ++ since (seen_by (desk_class class) before) (seen_by (desk_class class) after)
   pub valid : All (GivesClass t class) (since (told_by (desk_class class) before) (told_by (desk_class class) after))

@@ -11,4 +11,5 @@ use Rattle.lit_search.specs.Report.{in_range}
 -- Of all choices the first with a valid execution whose outcome is in the class, with its least memory-order; or none has one.
 abbrev pub IsQuickAnswer : Litmus → Class → Option Example → Type 0
 IsQuickAnswer t class None = HasNoneOf t class (in_range 0 (length (choices_of t)))
-IsQuickAnswer t class (Some example) = IsFirstOf t class (in_range 0 (length (choices_of t))) example.choice × HasLeastOrder t example.choice example.order.items
+IsQuickAnswer t class (Some example) =
+    IsFirstOf t class (in_range 0 (length (choices_of t))) example.choice × HasLeastOrder t example.choice example.order.items

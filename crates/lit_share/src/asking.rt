@@ -71,12 +71,14 @@ fn hunt_all<R: Threads + Sync, P: Send + Drop, G: Gate<Pass = P>>(
     join_mut(
         rt,
         &mut ||
-            requires { IsSync R.row × (0 < cut.now) × (cut.now ≤ CUT_LIMIT) × (desk.now.pieces ≡ pieces_of (length (choices_of plan.now)) cut.now)
+            requires { IsSync R.row × (0 < cut.now) × (cut.now ≤ CUT_LIMIT)
+                × (desk.now.pieces ≡ pieces_of (length (choices_of plan.now)) cut.now)
                 × (0 < length front.now) × All (IsReady desk.now) front.now }
             ensures { All (HasHunted plan.entry.now cut.entry.now desk.entry.now) front.exit.now }
         { hunt_all(rt, plan, cut, desk, gate, front) },
         &mut ||
-            requires { IsSync R.row × (0 < cut.now) × (cut.now ≤ CUT_LIMIT) × (desk.now.pieces ≡ pieces_of (length (choices_of plan.now)) cut.now)
+            requires { IsSync R.row × (0 < cut.now) × (cut.now ≤ CUT_LIMIT)
+                × (desk.now.pieces ≡ pieces_of (length (choices_of plan.now)) cut.now)
                 × (0 < length back.now) × All (IsReady desk.now) back.now }
             ensures { All (HasHunted plan.entry.now cut.entry.now desk.entry.now) back.exit.now }
         { hunt_all(rt, plan, cut, desk, gate, back) },

@@ -36,7 +36,8 @@ HasSource box k w = HasEvent (slice_index_or box.domains k no_events) w
 pub record IsBox (box : Box) : Type 0 where
   pub litmus : IsLitmus box.test
   pub known : box.combination < length (combinations_of box.test)
-  pub candidates : (k r b w : ℕ) → slice_get (byte_reads (box_events box)) k ≡ Some (r, b) → HasSource box k w → IsCandidate (box_events box) r b w
+  pub candidates : (k r b w : ℕ) → slice_get (byte_reads (box_events box)) k ≡ Some (r, b) → HasSource box k w
+      → IsCandidate (box_events box) r b w
 
 -- each source is in the domain of its byte read
 abbrev pub LiesIn : Box → List ℕ → Type 0

@@ -84,13 +84,16 @@ LiesInBox boxes i sources = (k w : ℕ) → slice_get sources k ≡ Some w → I
 -- these are the domains of the i-th box
 abbrev pub AreDomainsIn : BoxesModel → ℕ → List EventSet → Type 0
 AreDomainsIn boxes i domains =
-    (k w : ℕ) → k < length (byte_reads (boxes_events boxes)) → HasSource (box_with (boxes.test, boxes.combination) domains) k w ↔ IsInBox boxes i k w
+    (k w : ℕ) → k < length (byte_reads (boxes_events boxes))
+    → HasSource (box_with (boxes.test, boxes.combination) domains) k w ↔ IsInBox boxes i k w
 
 -- The choices of [from, to) on the combination are exactly those of the boxes, of which there are few, and sources rise
 -- from box to box.
 pub record CutsRange (boxes : BoxesModel) (from to : ℕ) : Type 0 where
   pub few : boxes_len boxes ≤ 2 * length (byte_reads (boxes_events boxes)) + 1
-  pub covers : (n : ℕ) (sources : List ℕ) → choices_before boxes.test boxes.combination ≤ n → n < choices_before boxes.test (boxes.combination + 1)
+  pub covers : (n : ℕ) (sources : List ℕ) → choices_before boxes.test boxes.combination ≤ n
+      → n < choices_before boxes.test (boxes.combination + 1)
       → HasSources boxes.test n sources → ((from ≤ n) × (n < to)) ↔ ((i : ℕ) × (i < boxes_len boxes) × LiesInBox boxes i sources)
-  pub rising : (i j : ℕ) (a b : List ℕ) → i < j → j < boxes_len boxes → AreSources (boxes_events boxes) a → AreSources (boxes_events boxes) b
+  pub rising : (i j : ℕ) (a b : List ℕ) → i < j → j < boxes_len boxes → AreSources (boxes_events boxes) a
+      → AreSources (boxes_events boxes) b
       → LiesInBox boxes i a → LiesInBox boxes j b → slice_cmp nat_cmp a b ≡ Less

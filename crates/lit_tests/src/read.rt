@@ -218,7 +218,8 @@ fn small_faults(rt: HostRuntime) -> Result<(), Fail> {
     );
     refused(
         &rt,
-        b"test sb\nbytes 2\nagent A\nAtomics.store(U8, 0, 1)\nr0 = Atomics.load(U8, 1)\nagent B\nAtomics.store(U8, 1, 1)\nr0 = Atomics.load(U8, 0)\ncheck A.r0 == 0 && B.r0 == \n",
+        b"test sb\nbytes 2\nagent A\nAtomics.store(U8, 0, 1)\nr0 = Atomics.load(U8, 1)\nagent B\nAtomics.store(U8, 1, 1)\n\
+          r0 = Atomics.load(U8, 0)\ncheck A.r0 == 0 && B.r0 == \n",
         ReadKind::Syntax,
         9,
     );

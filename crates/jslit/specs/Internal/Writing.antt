@@ -14,7 +14,8 @@ pub record Writing : Type 0 where
   pub failed : Bool
 
 abbrev pub writing_of : {W : Type 0} → (W → Option (List ℕ)) → Counted W → Page → Writing
-writing_of contents output page = record { known = contents (device_of output); failures = failures_of output; waiting = page.waiting; failed = page.failed }
+writing_of contents output page =
+    record { known = contents (device_of output); failures = failures_of output; waiting = page.waiting; failed = page.failed }
 
 -- a text was put, and no write failed: it stands behind what waited, of which a beginning was written
 pub record GoesOn (old new : Writing) (text : List ℕ) : Type 0 where

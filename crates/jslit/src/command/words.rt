@@ -3,7 +3,8 @@
 ghost use Rattle.std.specs.Prelude.{◌≡◌, [], false, map, is_some, IfOk, IfErr, codes};
 ghost use Rattle.clap.specs.Words.{HasKind, app_of, found_of, kind_of, rows_of, rule_of};
 ghost use Rattle.jslit.specs.Internal.Command.{IsCommand, ReadsNumber};
-ghost use Rattle.jslit.specs.Words.{bare_flag, faults_of, is_excluded, is_quick as quick_of, jslit_command, names_report, number_flag, valued_flag, IsAsked};
+ghost use Rattle.jslit.specs.Words.{bare_flag, faults_of, is_excluded, is_quick as quick_of, jslit_command};
+ghost use Rattle.jslit.specs.Words.{names_report, number_flag, valued_flag, IsAsked};
 ghost use Rattle.jslit.specs.Words.{file_argument as file_rule};
 ghost use Rattle.lit_share.specs.declared.limits.TheConstants.{CUT_LIMIT as CUTS, WORKER_LIMIT as WORKERS};
 

@@ -75,7 +75,8 @@ fn report<T: Threads + Sync, W: Write, G: Watch>(
     requires { length passes.items ≡ options.workers }
     ensures written { OnOk result (HasWritten false plan.now (W.contents (device_of output.old)) (W.contents (device_of output.new))) }
     ensures not_failed { OnOk result (failures_of output.new ≡ failures_of output.old) }
-    ensures begun { IsErrOf result RunFault.OutputFailed → HasWrittenSome false plan.now (W.contents (device_of output.old)) (W.contents (device_of output.new)) }
+    ensures begun { IsErrOf result RunFault.OutputFailed
+        → HasWrittenSome false plan.now (W.contents (device_of output.old)) (W.contents (device_of output.new)) }
     ensures failed { IsErrOf result RunFault.OutputFailed → failures_of output.new ≡ one_more (failures_of output.old) }
     ensures unwritten { IsErrOf result RunFault.OutOfMemory → output.new ≡ output.old }
     ensures fault { IfErr result IsOfWriting }
@@ -124,7 +125,8 @@ fn quick_report<T: Threads + Sync, W: Write, G: Watch>(
     requires { length passes.items ≡ options.workers }
     ensures written { OnOk result (HasWritten true plan.now (W.contents (device_of output.old)) (W.contents (device_of output.new))) }
     ensures not_failed { OnOk result (failures_of output.new ≡ failures_of output.old) }
-    ensures begun { IsErrOf result RunFault.OutputFailed → HasWrittenSome true plan.now (W.contents (device_of output.old)) (W.contents (device_of output.new)) }
+    ensures begun { IsErrOf result RunFault.OutputFailed
+        → HasWrittenSome true plan.now (W.contents (device_of output.old)) (W.contents (device_of output.new)) }
     ensures failed { IsErrOf result RunFault.OutputFailed → failures_of output.new ≡ one_more (failures_of output.old) }
     ensures unwritten { IsErrOf result RunFault.OutOfMemory → output.new ≡ output.old }
     ensures fault { IfErr result IsOfWriting }
@@ -151,9 +153,11 @@ pub(crate) fn answer<T: Threads + Sync, W: Write, G: Watch>(
     passes: Vec<G::Pass>,
 ) -> Result<(), RunFault>
     requires { length passes.items ≡ options.workers }
-    ensures reported { OnOk result (HasReported options.quick text.now (W.contents (device_of output.old)) (W.contents (device_of output.new))) }
+    ensures reported { OnOk result
+        (HasReported options.quick text.now (W.contents (device_of output.old)) (W.contents (device_of output.new))) }
     ensures not_failed { OnOk result (failures_of output.new ≡ failures_of output.old) }
-    ensures begun { IsErrOf result RunFault.OutputFailed → HasBegun options.quick text.now (W.contents (device_of output.old)) (W.contents (device_of output.new)) }
+    ensures begun { IsErrOf result RunFault.OutputFailed
+        → HasBegun options.quick text.now (W.contents (device_of output.old)) (W.contents (device_of output.new)) }
     ensures failed { IsErrOf result RunFault.OutputFailed → failures_of output.new ≡ one_more (failures_of output.old) }
     ensures unwritten { IfErr result (λ fault. fault ≢ RunFault.OutputFailed → output.new ≡ output.old) }
     ensures refused { IfErr result (IsFaultOn text.now) }

@@ -72,7 +72,8 @@ fn last_read(events: &[Event]) -> (usize, usize)
 /// Puts the line of the first of these events up to its sources, if there is one.
 fn put_first_head<W: Write>(page: &mut Page, output: &mut Counted<W>, test: &Test, events: &[Event])
     requires owned { All (λ e. IfSome e.owner (λ agent. agent < length test.now.agents)) events.now }
-    ensures { HasPut (writing_of W.contents output.old page.old) (writing_of W.contents output.new page.new) (first_source_head test.now events.now) }
+    ensures { HasPut (writing_of W.contents output.old page.old) (writing_of W.contents output.new page.new)
+        (first_source_head test.now events.now) }
 {
     if let [read, ..] = events {
         put_source_head(page, output, test, read);
@@ -94,7 +95,8 @@ fn put_front<W: Write>(
     requires part { part ≤ length events.now }
     requires one_each { length sources.now ≡ length (byte_reads (take part events.now)) }
     requires names { AreNames test.now names.now.names }
-    ensures { HasPut (writing_of W.contents output.old page.old) (writing_of W.contents output.new page.new) (lines_up_to test.now events.now part sources.now) }
+    ensures { HasPut (writing_of W.contents output.old page.old) (writing_of W.contents output.new page.new)
+        (lines_up_to test.now events.now part sources.now) }
 {
     let (first, last) = events.split_at(part);
     put_sources(page, output, test, events, first, sources, names);
@@ -133,7 +135,8 @@ fn make_lines(
 /// Keeps the lines of all reads of a choice, the last up to its sources, unless they are too long. They are made anew
 /// unless those that are kept are the choice's.
 fn keep_lines(kept: &mut KeptLines, combination: &Combination<'_>, choice: u64, names: &Names)
-    requires owned { All (λ e. IfSome e.owner (λ agent. agent < length combination.now.0.agents)) (events_in combination.now.0 combination.now.1) }
+    requires owned { All (λ e. IfSome e.owner (λ agent. agent < length combination.now.0.agents))
+        (events_in combination.now.0 combination.now.1) }
     requires of { IsOfCombination combination.now.0 choice combination.now.1 }
     requires low { choices_before combination.now.0 combination.now.1 ≤ choice }
     requires high { choice < choices_before combination.now.0 (combination.now.1 + 1) }
@@ -181,7 +184,8 @@ fn put_kept_lines<W: Write>(
     requires one_each { length kept.now.sources.items ≡ length (byte_reads (take kept.now.part events.now)) }
     requires names { AreNames test.now names.now.names }
     requires kept { Holds kept.now.text (lines_up_to test.now events.now kept.now.part kept.now.sources.items) }
-    ensures { HasPut (writing_of W.contents output.old page.old) (writing_of W.contents output.new page.new) (lines_up_to test.now events.now kept.now.part kept.now.sources.items) }
+    ensures { HasPut (writing_of W.contents output.old page.old) (writing_of W.contents output.new page.new)
+        (lines_up_to test.now events.now kept.now.part kept.now.sources.items) }
 {
     if kept.text.is_kept() {
         page.put(output, kept.text.text());
@@ -211,7 +215,8 @@ fn put_line_end<W: Write>(
     requires owned { All (λ e. IfSome e.owner (λ agent. agent < length test.now.agents)) events.now }
     requires known { All (λ n. n < length events.now) sources.now }
     requires names { AreNames test.now names.now.names }
-    ensures { HasPut (writing_of W.contents output.old page.old) (writing_of W.contents output.new page.new) (line_end test.now events.now last.now sources.now) }
+    ensures { HasPut (writing_of W.contents output.old page.old) (writing_of W.contents output.new page.new)
+        (line_end test.now events.now last.now sources.now) }
 {
     if let [_read, ..] = last {
         put_names(page, output, test, events, sources, names);
@@ -229,7 +234,8 @@ pub(crate) fn put_lines<W: Write>(
     kept: &mut KeptLines,
     names: &Names,
 )
-    requires owned { All (λ e. IfSome e.owner (λ agent. agent < length combination.now.0.agents)) (events_in combination.now.0 combination.now.1) }
+    requires owned { All (λ e. IfSome e.owner (λ agent. agent < length combination.now.0.agents))
+        (events_in combination.now.0 combination.now.1) }
     requires of { IsOfCombination combination.now.0 choice combination.now.1 }
     requires low { choices_before combination.now.0 combination.now.1 ≤ choice }
     requires high { choice < choices_before combination.now.0 (combination.now.1 + 1) }
@@ -237,7 +243,8 @@ pub(crate) fn put_lines<W: Write>(
     requires names { AreNames combination.now.0 names.now.names }
     ensures kept { HoldsLines combination.now.0 combination.now.1 kept.new }
     ensures text { (sources : List ℕ) → HasSources combination.now.0 choice sources
-        → HasPut (writing_of W.contents output.old page.old) (writing_of W.contents output.new page.new) (from_lines combination.now.0 (events_in combination.now.0 combination.now.1) sources) }
+        → HasPut (writing_of W.contents output.old page.old) (writing_of W.contents output.new page.new)
+        (from_lines combination.now.0 (events_in combination.now.0 combination.now.1) sources) }
 {
     keep_lines(kept, combination, choice, names);
     let (test, events) = (combination.test(), combination.events());

@@ -131,7 +131,8 @@ pub(crate) fn put_name<W: Write>(
     requires owned { All (λ e. IfSome e.owner (λ agent. agent < length test.now.agents)) events.now }
     requires known { number < length events.now }
     requires kept { AreNames test.now names.now.names }
-    ensures { HasPut (writing_of W.contents output.old page.old) (writing_of W.contents output.new page.new) (codes " " ++ event_name test.now (event_at events.now number)) }
+    ensures { HasPut (writing_of W.contents output.old page.old) (writing_of W.contents output.new page.new)
+        (codes " " ++ event_name test.now (event_at events.now number)) }
 {
     let event = &events[number];
     if number < EVENT_LIMIT && names.names[number].is_of(event) {
@@ -153,7 +154,8 @@ pub(crate) fn put_names<W: Write>(
     requires owned { All (λ e. IfSome e.owner (λ agent. agent < length test.now.agents)) events.now }
     requires known { All (λ n. n < length events.now) numbers.now }
     requires kept { AreNames test.now names.now.names }
-    ensures { HasPut (writing_of W.contents output.old page.old) (writing_of W.contents output.new page.new) (names_text test.now events.now numbers.now) }
+    ensures { HasPut (writing_of W.contents output.old page.old) (writing_of W.contents output.new page.new)
+        (names_text test.now events.now numbers.now) }
 {
     for number in numbers {
         put_name(page, output, test, events, *number as usize, names);

@@ -15,9 +15,11 @@ use std::io::Write;
 
 /// Writes the line on a schedule of which a member is no agent's name. Takes no memory.
 pub(crate) fn write_unknown_agent<W: Write>(output: &mut Counted<W>) -> Result<(), RunFault>
-    ensures written { OnOk result (Appends (W.contents (device_of output.old)) (W.contents (device_of output.new)) (refusal_line RunFault.UnknownAgent)) }
+    ensures written { OnOk result
+        (Appends (W.contents (device_of output.old)) (W.contents (device_of output.new)) (refusal_line RunFault.UnknownAgent)) }
     ensures not_failed { OnOk result (failures_of output.new ≡ failures_of output.old) }
-    ensures begun { OnErr result (AppendsBeginning (W.contents (device_of output.old)) (W.contents (device_of output.new)) (refusal_line RunFault.UnknownAgent)) }
+    ensures begun { OnErr result
+        (AppendsBeginning (W.contents (device_of output.old)) (W.contents (device_of output.new)) (refusal_line RunFault.UnknownAgent)) }
     ensures failed { OnErr result (failures_of output.new ≡ one_more (failures_of output.old)) }
 {
     let mut page = Page::new();
@@ -30,9 +32,11 @@ pub(crate) fn write_read_fault<W: Write>(
     output: &mut Counted<W>,
     fault: ReadFault,
 ) -> Result<(), RunFault>
-    ensures written { OnOk result (Appends (W.contents (device_of output.old)) (W.contents (device_of output.new)) (read_fault_line fault)) }
+    ensures written { OnOk result
+        (Appends (W.contents (device_of output.old)) (W.contents (device_of output.new)) (read_fault_line fault)) }
     ensures not_failed { OnOk result (failures_of output.new ≡ failures_of output.old) }
-    ensures begun { OnErr result (AppendsBeginning (W.contents (device_of output.old)) (W.contents (device_of output.new)) (read_fault_line fault)) }
+    ensures begun { OnErr result
+        (AppendsBeginning (W.contents (device_of output.old)) (W.contents (device_of output.new)) (read_fault_line fault)) }
     ensures failed { OnErr result (failures_of output.new ≡ one_more (failures_of output.old)) }
 {
     let mut page = Page::new();
@@ -49,9 +53,11 @@ pub(crate) fn write_plan_fault<W: Write>(
     output: &mut Counted<W>,
     fault: PlanFault,
 ) -> Result<(), RunFault>
-    ensures written { OnOk result (Appends (W.contents (device_of output.old)) (W.contents (device_of output.new)) (plan_fault_line fault)) }
+    ensures written { OnOk result
+        (Appends (W.contents (device_of output.old)) (W.contents (device_of output.new)) (plan_fault_line fault)) }
     ensures not_failed { OnOk result (failures_of output.new ≡ failures_of output.old) }
-    ensures begun { OnErr result (AppendsBeginning (W.contents (device_of output.old)) (W.contents (device_of output.new)) (plan_fault_line fault)) }
+    ensures begun { OnErr result
+        (AppendsBeginning (W.contents (device_of output.old)) (W.contents (device_of output.new)) (plan_fault_line fault)) }
     ensures failed { OnErr result (failures_of output.new ≡ one_more (failures_of output.old)) }
 {
     let mut page = Page::new();

@@ -10,7 +10,8 @@ ghost use Rattle.lit_paths.specs.ByteReads.{byte_reads};
 ghost use Rattle.lit_search.specs.Report.{IsReport, entry_at, in_range};
 ghost use Rattle.jslit.specs.Counted.{device_of, failures_of, one_more};
 ghost use Rattle.jslit.specs.Devices.{AppendsBeginning};
-ghost use Rattle.jslit.specs.ReportText.{line, verdict_text, event_name, source_line, register_text, registers_text, entry_text, class_text, report_text, quick_text, yes_or_no};
+ghost use Rattle.jslit.specs.ReportText.{line, verdict_text, event_name, source_line, register_text, registers_text};
+ghost use Rattle.jslit.specs.ReportText.{entry_text, class_text, report_text, quick_text, yes_or_no};
 ghost use Rattle.jslit.specs.Internal.FirstEntry.{IsOnlyEntry, entry_of_option};
 ghost use Rattle.jslit.specs.Internal.Sharing.{register_head};
 ghost use Rattle.jslit.specs.Internal.Names.{AreNames};
@@ -30,7 +31,8 @@ use std::io::Write;
 
 /// Puts a blank and the name of an access, by its agent's name and its place. A short one is put at once.
 fn put_access<W: Write>(page: &mut Page, output: &mut Counted<W>, agent: &[u8], place: u8)
-    ensures { HasPut (writing_of W.contents output.old page.old) (writing_of W.contents output.new page.new) (codes " " ++ agent.now ++ codes "." ++ decimal place) }
+    ensures { HasPut (writing_of W.contents output.old page.old) (writing_of W.contents output.new page.new)
+        (codes " " ++ agent.now ++ codes "." ++ decimal place) }
 {
     if agent.len() == 1 && place < 10 {
         page.put(output, &[b' ', agent[0], b'.', b'0' + place]);
@@ -50,7 +52,8 @@ pub(crate) fn put_event<W: Write>(
     event: &Event,
 )
     requires { IfSome event.now.owner (λ agent. agent < length test.now.agents) }
-    ensures { HasPut (writing_of W.contents output.old page.old) (writing_of W.contents output.new page.new) (codes " " ++ event_name test.now event.now) }
+    ensures { HasPut (writing_of W.contents output.old page.old) (writing_of W.contents output.new page.new)
+        (codes " " ++ event_name test.now event.now) }
 {
     let Some(agent) = event.owner else {
         page.put(output, b" init[");
@@ -74,7 +77,8 @@ pub(crate) fn put_source_head<W: Write>(
     read: &Event,
 )
     requires { IfSome read.now.owner (λ agent. agent < length test.now.agents) }
-    ensures { HasPut (writing_of W.contents output.old page.old) (writing_of W.contents output.new page.new) (source_head test.now read.now) }
+    ensures { HasPut (writing_of W.contents output.old page.old) (writing_of W.contents output.new page.new)
+        (source_head test.now read.now) }
 {
     page.put(output, b"  from");
     put_event(page, output, test, read);
@@ -94,7 +98,8 @@ fn put_source_line<W: Write>(
     requires owned { All (λ e. IfSome e.owner (λ agent. agent < length test.now.agents)) events.now }
     requires known { All (λ n. n < length events.now) sources.now }
     requires names { AreNames test.now names.now.names }
-    ensures { HasPut (writing_of W.contents output.old page.old) (writing_of W.contents output.new page.new) (source_line test.now events.now read.now sources.now) }
+    ensures { HasPut (writing_of W.contents output.old page.old) (writing_of W.contents output.new page.new)
+        (source_line test.now events.now read.now sources.now) }
 {
     put_source_head(page, output, test, read);
     put_names(page, output, test, events, sources, names);
@@ -116,7 +121,8 @@ fn put_read<'s, W: Write>(
     requires known { All (λ n. n < length events.now) sources.now }
     requires names { AreNames test.now names.now.names }
     requires room { does_read event.now.kind ≡ true → event.now.size ≤ length sources.now }
-    ensures text { HasPut (writing_of W.contents output.old page.old) (writing_of W.contents output.new page.new) (read_line test.now events.now event.now sources.now) }
+    ensures text { HasPut (writing_of W.contents output.old page.old) (writing_of W.contents output.new page.new)
+        (read_line test.now events.now event.now sources.now) }
     ensures rest { result.now ≡ rest_after event.now sources.now }
 {
     match event.kind {
@@ -144,7 +150,8 @@ pub(crate) fn put_sources<W: Write>(
     requires known { All (λ n. n < length events.now) sources.now }
     requires names { AreNames test.now names.now.names }
     requires one_each { length sources.now ≡ length (byte_reads part.now) }
-    ensures { HasPut (writing_of W.contents output.old page.old) (writing_of W.contents output.new page.new) (lines_from test.now events.now part.now sources.now) }
+    ensures { HasPut (writing_of W.contents output.old page.old) (writing_of W.contents output.new page.new)
+        (lines_from test.now events.now part.now sources.now) }
 {
     let mut rest = sources;
     for event in part {
@@ -154,7 +161,8 @@ pub(crate) fn put_sources<W: Write>(
 
 /// Puts a blank and the name of a register, by its agent's name and its number. A short one is put at once.
 fn put_register_name<W: Write>(page: &mut Page, output: &mut Counted<W>, agent: &[u8], register: u8)
-    ensures { HasPut (writing_of W.contents output.old page.old) (writing_of W.contents output.new page.new) (codes " " ++ agent.now ++ codes ".r" ++ decimal register) }
+    ensures { HasPut (writing_of W.contents output.old page.old) (writing_of W.contents output.new page.new)
+        (codes " " ++ agent.now ++ codes ".r" ++ decimal register) }
 {
     if agent.len() == 1 && register < 10 {
         page.put(output, &[b' ', agent[0], b'.', b'r', b'0' + register]);
@@ -194,7 +202,8 @@ fn put_register<W: Write>(
     value: u32,
 )
     requires { name.0 < length test.now.agents }
-    ensures { HasPut (writing_of W.contents output.old page.old) (writing_of W.contents output.new page.new) (register_text test.now (name, value)) }
+    ensures { HasPut (writing_of W.contents output.old page.old) (writing_of W.contents output.new page.new)
+        (register_text test.now (name, value)) }
 {
     put_register_head(page, output, test, name);
     page.put_number(output, value as u64);
@@ -210,7 +219,8 @@ pub(crate) fn put_registers<W: Write>(
 )
     requires known { All (λ name. name.0 < length test.now.agents) names.now }
     requires named { length values.now ≤ length names.now }
-    ensures { HasPut (writing_of W.contents output.old page.old) (writing_of W.contents output.new page.new) (registers_text test.now names.now values.now) }
+    ensures { HasPut (writing_of W.contents output.old page.old) (writing_of W.contents output.new page.new)
+        (registers_text test.now names.now values.now) }
 {
     for (place, value) in values.iter().enumerate() {
         put_register(page, output, test, names[place], *value);
@@ -219,7 +229,8 @@ pub(crate) fn put_registers<W: Write>(
 
 /// Puts the first line of a report.
 pub(crate) fn put_head<W: Write>(page: &mut Page, output: &mut Counted<W>, test: &Test)
-    ensures { HasPut (writing_of W.contents output.old page.old) (writing_of W.contents output.new page.new) (line (codes "test " ++ test.now.name)) }
+    ensures { HasPut (writing_of W.contents output.old page.old) (writing_of W.contents output.new page.new)
+        (line (codes "test " ++ test.now.name)) }
 {
     page.put(output, b"test ");
     page.put(output, test.name().as_bytes());
@@ -228,7 +239,8 @@ pub(crate) fn put_head<W: Write>(page: &mut Page, output: &mut Counted<W>, test:
 
 /// Puts the line of the verdict.
 fn put_verdict<W: Write>(page: &mut Page, output: &mut Counted<W>, verdict: Verdict)
-    ensures { HasPut (writing_of W.contents output.old page.old) (writing_of W.contents output.new page.new) (line (codes "verdict " ++ verdict_text verdict)) }
+    ensures { HasPut (writing_of W.contents output.old page.old) (writing_of W.contents output.new page.new)
+        (line (codes "verdict " ++ verdict_text verdict)) }
 {
     page.put(output, b"verdict ");
     page.put(output, verdict.as_str().as_bytes());
@@ -244,7 +256,8 @@ pub(crate) fn word_for(answer: bool) -> &'static [u8]
 
 /// Puts the line that says whether some valid execution has a data race.
 fn put_race<W: Write>(page: &mut Page, output: &mut Counted<W>, race: bool)
-    ensures { HasPut (writing_of W.contents output.old page.old) (writing_of W.contents output.new page.new) (line (codes "data race " ++ yes_or_no race)) }
+    ensures { HasPut (writing_of W.contents output.old page.old) (writing_of W.contents output.new page.new)
+        (line (codes "data race " ++ yes_or_no race)) }
 {
     page.put(output, b"data race ");
     page.put(output, word_for(race));
@@ -266,7 +279,8 @@ fn choice_at(found: &Found, place: usize) -> u64
 /// one entry before it is put: till then the memory is at hand.
 fn put_entries<W: Write>(page: &mut Page, output: &mut Counted<W>, plan: &Plan<'_>, found: &Found)
     requires report { IsReport plan.now (in_range 0 (length (choices_of plan.now))) found.now }
-    ensures { HasPut (writing_of W.contents output.old page.old) (writing_of W.contents output.new page.new) (flat_map (entry_text plan.now) found.now.entries) }
+    ensures { HasPut (writing_of W.contents output.old page.old) (writing_of W.contents output.new page.new)
+        (flat_map (entry_text plan.now) found.now.entries) }
 {
     let _some = plan.combinations();
     let mut combination = plan.enter(0);
@@ -297,9 +311,12 @@ pub(crate) fn write_report<W: Write>(
     verdict: Verdict,
 ) -> Result<(), RunFault>
     requires report { IsReport plan.now (in_range 0 (length (choices_of plan.now))) found.now }
-    ensures written { OnOk result (Appends (W.contents (device_of output.old)) (W.contents (device_of output.new)) (report_text plan.now found.now verdict)) }
+    ensures written { OnOk result
+        (Appends (W.contents (device_of output.old)) (W.contents (device_of output.new)) (report_text plan.now found.now verdict)) }
     ensures not_failed { OnOk result (failures_of output.new ≡ failures_of output.old) }
-    ensures begun { OnErr result (AppendsBeginning (W.contents (device_of output.old)) (W.contents (device_of output.new)) (report_text plan.now found.now verdict)) }
+    ensures begun { OnErr result
+        (AppendsBeginning (W.contents (device_of output.old)) (W.contents (device_of output.new))
+        (report_text plan.now found.now verdict)) }
     ensures failed { OnErr result (failures_of output.new ≡ one_more (failures_of output.old)) }
     ensures fault { IfErr result (λ fault. fault ≡ RunFault.OutputFailed) }
 {
@@ -324,7 +341,8 @@ fn put_class<W: Write>(
     first: &Option<Found>,
 )
     requires first { IfSome first.now (IsOnlyEntry plan.now) }
-    ensures { HasPut (writing_of W.contents output.old page.old) (writing_of W.contents output.new page.new) (class_text plan.now word.now (entry_of_option first.now)) }
+    ensures { HasPut (writing_of W.contents output.old page.old) (writing_of W.contents output.new page.new)
+        (class_text plan.now word.now (entry_of_option first.now)) }
 {
     page.put(output, word);
     let Some(found) = first else {
@@ -358,9 +376,13 @@ pub(crate) fn write_quick_report<W: Write>(
 ) -> Result<(), RunFault>
     requires met { IfSome met.now (IsOnlyEntry plan.now) }
     requires unmet { IfSome unmet.now (IsOnlyEntry plan.now) }
-    ensures written { OnOk result (Appends (W.contents (device_of output.old)) (W.contents (device_of output.new)) (quick_text plan.now (entry_of_option met.now) (entry_of_option unmet.now) verdict)) }
+    ensures written { OnOk result
+        (Appends (W.contents (device_of output.old)) (W.contents (device_of output.new))
+        (quick_text plan.now (entry_of_option met.now) (entry_of_option unmet.now) verdict)) }
     ensures not_failed { OnOk result (failures_of output.new ≡ failures_of output.old) }
-    ensures begun { OnErr result (AppendsBeginning (W.contents (device_of output.old)) (W.contents (device_of output.new)) (quick_text plan.now (entry_of_option met.now) (entry_of_option unmet.now) verdict)) }
+    ensures begun { OnErr result
+        (AppendsBeginning (W.contents (device_of output.old)) (W.contents (device_of output.new))
+        (quick_text plan.now (entry_of_option met.now) (entry_of_option unmet.now) verdict)) }
     ensures failed { OnErr result (failures_of output.new ≡ one_more (failures_of output.old)) }
     ensures fault { IfErr result (λ fault. fault ≡ RunFault.OutputFailed) }
 {

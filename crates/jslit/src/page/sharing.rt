@@ -7,7 +7,8 @@ ghost use Rattle.lit_paths.specs.Plan.{choices_before, events_in};
 ghost use Rattle.lit_valid.specs.Gives.{Gives, HasLeastOrder};
 ghost use Rattle.jslit.specs.ReportText.{line, registers_text, entry_text};
 ghost use Rattle.jslit.specs.Internal.Names.{AreNames};
-ghost use Rattle.jslit.specs.Internal.Sharing.{HoldsOutcome, HoldsOrder, IsShared, first_head, first_value, outcome_head, outcome_text, order_line};
+ghost use Rattle.jslit.specs.Internal.Sharing.{HoldsOutcome, HoldsOrder, IsShared, first_head, first_value};
+ghost use Rattle.jslit.specs.Internal.Sharing.{outcome_head, outcome_text, order_line};
 ghost use Rattle.jslit.specs.Internal.Writing.{HasPut, writing_of};
 
 use crate::counted::Counted;
@@ -76,7 +77,8 @@ impl<'f> Shared<'f> {
 /// Puts the first of these registers up to its value, if there is one.
 fn put_first<W: Write>(page: &mut Page, output: &mut Counted<W>, test: &Test, names: &[(u8, u8)])
     requires known { All (λ name. name.0 < length test.now.agents) names.now }
-    ensures { HasPut (writing_of W.contents output.old page.old) (writing_of W.contents output.new page.new) (first_head test.now names.now) }
+    ensures { HasPut (writing_of W.contents output.old page.old) (writing_of W.contents output.new page.new)
+        (first_head test.now names.now) }
 {
     if let [name, ..] = names {
         put_register_head(page, output, test, *name);
@@ -93,7 +95,8 @@ fn put_values<W: Write>(
 )
     requires known { All (λ name. name.0 < length test.now.agents) names.now }
     requires named { length values.now ≤ length names.now }
-    ensures { HasPut (writing_of W.contents output.old page.old) (writing_of W.contents output.new page.new) (outcome_head test.now names.now values.now) }
+    ensures { HasPut (writing_of W.contents output.old page.old) (writing_of W.contents output.new page.new)
+        (outcome_head test.now names.now values.now) }
 {
     page.put(output, b"outcome");
     put_registers(page, output, test, names, values);
@@ -135,7 +138,8 @@ fn put_kept_values<'f, W: Write>(
     requires named { length values.now ≤ length names.now }
     requires kept { HoldsOutcome test.now names.now kept.old }
     ensures kept { HoldsOutcome test.now names.now kept.new }
-    ensures text { HasPut (writing_of W.contents output.old page.old) (writing_of W.contents output.new page.new) (outcome_head test.now names.now values.now) }
+    ensures text { HasPut (writing_of W.contents output.old page.old) (writing_of W.contents output.new page.new)
+        (outcome_head test.now names.now values.now) }
 {
     keep_values(kept, test, names, values);
     if kept.text.is_kept() {
@@ -167,7 +171,8 @@ fn put_outcome<'f, W: Write>(
     requires one_each { length outcome.now ≡ length names.now }
     requires kept { HoldsOutcome test.now names.now kept.old }
     ensures kept { HoldsOutcome test.now names.now kept.new }
-    ensures text { HasPut (writing_of W.contents output.old page.old) (writing_of W.contents output.new page.new) (line (outcome_text test.now names.now outcome.now)) }
+    ensures text { HasPut (writing_of W.contents output.old page.old) (writing_of W.contents output.new page.new)
+        (line (outcome_text test.now names.now outcome.now)) }
 {
     let count = outcome.len().saturating_sub(1);
     let (values, last) = outcome.split_at(count);
@@ -188,7 +193,8 @@ fn put_order<W: Write>(
     requires owned { All (λ e. IfSome e.owner (λ agent. agent < length test.now.agents)) events.now }
     requires known { All (λ n. n < length events.now) order.now }
     requires names { AreNames test.now names.now.names }
-    ensures { HasPut (writing_of W.contents output.old page.old) (writing_of W.contents output.new page.new) (order_line test.now events.now order.now) }
+    ensures { HasPut (writing_of W.contents output.old page.old) (writing_of W.contents output.new page.new)
+        (order_line test.now events.now order.now) }
 {
     page.put(output, b"  order");
     put_names(page, output, test, events, order, names);
@@ -240,7 +246,8 @@ fn put_kept_order<'f, W: Write>(
     requires names { AreNames test.now names.now.names }
     requires kept { HoldsOrder test.now events.now kept.old }
     ensures kept { HoldsOrder test.now events.now kept.new }
-    ensures text { HasPut (writing_of W.contents output.old page.old) (writing_of W.contents output.new page.new) (order_line test.now events.now order.now) }
+    ensures text { HasPut (writing_of W.contents output.old page.old) (writing_of W.contents output.new page.new)
+        (order_line test.now events.now order.now) }
 {
     keep_order(kept, test, events, order, names);
     if kept.text.is_kept() {
@@ -277,7 +284,8 @@ fn enter_for<'p>(
 /// Keeps the names of a combination's events, unless that was done. The order that is kept is let go.
 fn name_events(plan: &Plan<'_>, combination: &Combination<'_>, shared: &mut Shared<'_>)
     requires plan { combination.now.0 ≡ plan.now }
-    requires owned { All (λ e. IfSome e.owner (λ agent. agent < length combination.now.0.agents)) (events_in combination.now.0 combination.now.1) }
+    requires owned { All (λ e. IfSome e.owner (λ agent. agent < length combination.now.0.agents))
+        (events_in combination.now.0 combination.now.1) }
     requires shared { IsShared plan.now combination.now.1 shared.old }
     ensures { IsShared plan.now combination.now.1 shared.new }
 {

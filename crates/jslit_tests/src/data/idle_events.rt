@@ -8,15 +8,18 @@ pub(crate) const WIDE: Reported = (
 outcome A.r0=0 B.r0=1
   from A.1 init[1]
   from B.1 A.0
-  order init[0] init[1] init[2] init[3] init[4] init[5] init[6] init[7] init[8] init[9] init[10] init[11] init[12] init[13] init[14] init[15] A.0 A.1 B.0 B.1 C.0 C.1 C.2 C.3 D.0 D.1 D.2 D.3
+  order init[0] init[1] init[2] init[3] init[4] init[5] init[6] init[7] init[8] init[9] init[10] init[11] init[12] init[13] \
+    init[14] init[15] A.0 A.1 B.0 B.1 C.0 C.1 C.2 C.3 D.0 D.1 D.2 D.3
 outcome A.r0=1 B.r0=0
   from A.1 B.0
   from B.1 init[0]
-  order init[0] init[1] init[2] init[3] init[4] init[5] init[6] init[7] init[8] init[9] init[10] init[11] init[12] init[13] init[14] init[15] B.0 B.1 A.0 A.1 C.0 C.1 C.2 C.3 D.0 D.1 D.2 D.3
+  order init[0] init[1] init[2] init[3] init[4] init[5] init[6] init[7] init[8] init[9] init[10] init[11] init[12] init[13] \
+    init[14] init[15] B.0 B.1 A.0 A.1 C.0 C.1 C.2 C.3 D.0 D.1 D.2 D.3
 outcome A.r0=1 B.r0=1
   from A.1 B.0
   from B.1 A.0
-  order init[0] init[1] init[2] init[3] init[4] init[5] init[6] init[7] init[8] init[9] init[10] init[11] init[12] init[13] init[14] init[15] A.0 B.0 A.1 B.1 C.0 C.1 C.2 C.3 D.0 D.1 D.2 D.3
+  order init[0] init[1] init[2] init[3] init[4] init[5] init[6] init[7] init[8] init[9] init[10] init[11] init[12] init[13] \
+    init[14] init[15] A.0 B.0 A.1 B.1 C.0 C.1 C.2 C.3 D.0 D.1 D.2 D.3
 outcomes 3
 verdict never
 data race no
@@ -50,15 +53,18 @@ check A.r0 == 0 && B.r0 == 0
 outcome A.r0=0 B.r0=1
   from A.1 init[1]
   from B.1 A.0
-  order init[0] init[1] init[2] init[3] init[4] init[5] init[6] init[7] init[8] init[9] init[10] init[11] init[12] init[13] init[14] init[15] A.0 A.1 B.0 B.1 C.0 C.1 C.2 C.3 D.0 D.1 D.2 D.3 D.4
+  order init[0] init[1] init[2] init[3] init[4] init[5] init[6] init[7] init[8] init[9] init[10] init[11] init[12] init[13] \
+    init[14] init[15] A.0 A.1 B.0 B.1 C.0 C.1 C.2 C.3 D.0 D.1 D.2 D.3 D.4
 outcome A.r0=1 B.r0=0
   from A.1 B.0
   from B.1 init[0]
-  order init[0] init[1] init[2] init[3] init[4] init[5] init[6] init[7] init[8] init[9] init[10] init[11] init[12] init[13] init[14] init[15] B.0 B.1 A.0 A.1 C.0 C.1 C.2 C.3 D.0 D.1 D.2 D.3 D.4
+  order init[0] init[1] init[2] init[3] init[4] init[5] init[6] init[7] init[8] init[9] init[10] init[11] init[12] init[13] \
+    init[14] init[15] B.0 B.1 A.0 A.1 C.0 C.1 C.2 C.3 D.0 D.1 D.2 D.3 D.4
 outcome A.r0=1 B.r0=1
   from A.1 B.0
   from B.1 A.0
-  order init[0] init[1] init[2] init[3] init[4] init[5] init[6] init[7] init[8] init[9] init[10] init[11] init[12] init[13] init[14] init[15] A.0 B.0 A.1 B.1 C.0 C.1 C.2 C.3 D.0 D.1 D.2 D.3 D.4
+  order init[0] init[1] init[2] init[3] init[4] init[5] init[6] init[7] init[8] init[9] init[10] init[11] init[12] init[13] \
+    init[14] init[15] A.0 B.0 A.1 B.1 C.0 C.1 C.2 C.3 D.0 D.1 D.2 D.3 D.4
 outcomes 3
 verdict never
 data race no
@@ -78,10 +84,14 @@ check B.r0 == 1
     "test edge
 outcome B.r0=0
   from B.0 init[28] init[29] init[30] init[31]
-  order init[0] init[1] init[2] init[3] init[4] init[5] init[6] init[7] init[8] init[9] init[10] init[11] init[12] init[13] init[14] init[15] init[16] init[17] init[18] init[19] init[20] init[21] init[22] init[23] init[24] init[25] init[26] init[27] init[28] init[29] init[30] init[31] A.0 B.0
+  order init[0] init[1] init[2] init[3] init[4] init[5] init[6] init[7] init[8] init[9] init[10] init[11] init[12] init[13] \
+    init[14] init[15] init[16] init[17] init[18] init[19] init[20] init[21] init[22] init[23] init[24] init[25] init[26] \
+    init[27] init[28] init[29] init[30] init[31] A.0 B.0
 outcome B.r0=1
   from B.0 A.0 init[29] init[30] init[31]
-  order init[0] init[1] init[2] init[3] init[4] init[5] init[6] init[7] init[8] init[9] init[10] init[11] init[12] init[13] init[14] init[15] init[16] init[17] init[18] init[19] init[20] init[21] init[22] init[23] init[24] init[25] init[26] init[27] init[28] init[29] init[30] init[31] A.0 B.0
+  order init[0] init[1] init[2] init[3] init[4] init[5] init[6] init[7] init[8] init[9] init[10] init[11] init[12] init[13] \
+    init[14] init[15] init[16] init[17] init[18] init[19] init[20] init[21] init[22] init[23] init[24] init[25] init[26] \
+    init[27] init[28] init[29] init[30] init[31] A.0 B.0
 outcomes 2
 verdict sometimes
 data race yes

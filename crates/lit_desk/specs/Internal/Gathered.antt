@@ -10,7 +10,8 @@ joined_numbers xs ys = numbers (xs.told ++ ys.told) (xs.seen ++ ys.seen)
 
 -- what both did, the first one's lists before the other's
 abbrev pub joined : Account → Account → Account
-joined a b = record { tickets = a.tickets ++ b.tickets; met = joined_numbers a.met b.met; unmet = joined_numbers a.unmet b.unmet; places = a.places + b.places }
+joined a b =
+    record { tickets = a.tickets ++ b.tickets; met = joined_numbers a.met b.met; unmet = joined_numbers a.unmet b.unmet; places = a.places + b.places }
 
 abbrev pub gathered_account : List PlaceLists → Account
 gathered_account [] = new_account 0

@@ -18,7 +18,9 @@ pub record AreEarlierLevels (kept : EarlierLevels) (levels : List ForcedLevel) :
 
 -- what is kept once a level is put behind the others, where there is room, and else what was kept
 pub data IsLevelKept (kept more : EarlierLevels) (level : ForcedLevel) : Type 0 where
-  Put : HasRoom kept.forced (rows_len level.forced.rows) → ((levels : List ForcedLevel) → AreEarlierLevels kept levels → AreEarlierLevels more (levels ++ level ∷ [])) → IsLevelKept kept more level
+  Put : HasRoom kept.forced (rows_len level.forced.rows)
+      → ((levels : List ForcedLevel) → AreEarlierLevels kept levels → AreEarlierLevels more (levels ++ level ∷ []))
+      → IsLevelKept kept more level
   Full : ¬ HasRoom kept.forced (rows_len level.forced.rows) → more ≡ kept → IsLevelKept kept more level
 
 -- the last level is of so many sources at the most
@@ -38,4 +40,5 @@ pub record AreSameLevels (was level : ForcedLevel) : Type 0 where
 -- what is kept, and a level, once the last one that was kept is taken out
 pub record IsLastTaken (kept less : EarlierLevels) (level : ForcedLevel) : Type 0 where
   pub before : (levels : List ForcedLevel) → AreEarlierLevels kept levels → AreEarlierLevels less (take (length levels - 1) levels)
-  pub same : (levels : List ForcedLevel) (was : ForcedLevel) → AreEarlierLevels kept levels → slice_get levels (length levels - 1) ≡ Some was → AreSameLevels was level
+  pub same : (levels : List ForcedLevel) (was : ForcedLevel) → AreEarlierLevels kept levels
+      → slice_get levels (length levels - 1) ≡ Some was → AreSameLevels was level

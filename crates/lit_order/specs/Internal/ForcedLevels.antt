@@ -1,5 +1,6 @@
 -- What a part forces with each number of sources.
-use Rattle.std.specs.Prelude.{◌≡◌, ◌↔◌, ◌⊎◌, ℕ, ◌-◌, ◌<◌, ◌≤◌, false, Option, IfNone, IfSome, IsTrue, List, ◌∷◌, ◌++◌, [], length, take, Some, slice_get}
+use Rattle.std.specs.Prelude.{◌≡◌, ◌↔◌, ◌⊎◌, ℕ, ◌-◌, ◌<◌, ◌≤◌, false, Option, IfNone, IfSome}
+use Rattle.std.specs.Prelude.{IsTrue, List, ◌∷◌, ◌++◌, [], length, take, Some, slice_get}
 use Rattle.arrayvec.specs.ArrayVec.{ArrayVec}
 use Rattle.lit_paths.specs.Plan.{AreEventsIn}
 use Rattle.lit_rel.specs.Between.{BetweenModel, Forbids}
@@ -51,12 +52,14 @@ IsKeptOrder part kept = HoldsOfFirst (λ p. ¬ IsRefuted p → IsLeastOf p kept.
 
 -- its last source forbids nothing that is not forbidden without it
 abbrev pub ForbidsNone : PartModel → Type 0
-ForbidsNone part = (w r v : ℕ) → IsForbidden (part_events part) part.sources w r v → IsForbidden (part_events part) (less_of part).sources w r v
+ForbidsNone part =
+    (w r v : ℕ) → IsForbidden (part_events part) part.sources w r v → IsForbidden (part_events part) (less_of part).sources w r v
 
 -- the pairs that it forces
 pub record HasForcedPairs (part : PartModel) (level : ForcedLevel) : Type 0 where
   pub len : rows_len level.forced.rows ≡ length (part_events part)
-  pub pairs : (a d : ℕ) → Holds level.forced.rows a d ↔ IsForced (HappensBefore (part_events part) part.sources) (IsForbidden (part_events part) part.sources) a d
+  pub pairs : (a d : ℕ) → Holds level.forced.rows a d
+      ↔ IsForced (HappensBefore (part_events part) part.sources) (IsForbidden (part_events part) part.sources) a d
 
 -- whether it is refuted, and where it isn't, the pairs that it forces
 pub record IsForcedLevel (part : PartModel) (level : ForcedLevel) : Type 0 where
@@ -80,9 +83,11 @@ pub record AreForcedLevels (part : PartModel) (earlier : List ForcedLevel) (now 
   pub straight : length part.sources < now.least → now.round ≡ false
   pub kept : (i : ℕ) (level : ForcedLevel) → slice_get earlier i ≡ Some level → IsOfFirst part level level.most
   pub ordered : (i : ℕ) (level : ForcedLevel) → slice_get earlier i ≡ Some level → level.least ≤ level.most
-  pub rising : (i j : ℕ) (level more : ForcedLevel) → i < j → slice_get earlier i ≡ Some level → slice_get earlier j ≡ Some more → level.most < more.least
+  pub rising : (i j : ℕ) (level more : ForcedLevel) → i < j → slice_get earlier i ≡ Some level → slice_get earlier j ≡ Some more
+      → level.most < more.least
   pub lower : (i : ℕ) (level : ForcedLevel) → slice_get earlier i ≡ Some level → level.most < now.least
-  pub apart : length part.sources < now.least → (i : ℕ) (level : ForcedLevel) → slice_get earlier i ≡ Some level → level.most < length part.sources
+  pub apart : length part.sources < now.least → (i : ℕ) (level : ForcedLevel) → slice_get earlier i ≡ Some level
+      → level.most < length part.sources
 
 -- so of the levels that are kept
 pub record HasForcedLevels (part : PartModel) (earlier : EarlierLevels) (now : ForcedLevel) : Type 0 where

@@ -3,7 +3,8 @@
 ghost use Rattle.std.specs.Prelude.{◌≡◌, ◌-◌, ◌<◌, false, Some, List, [], length, slice_get};
 ghost use Rattle.lit_order.specs.declared.forced_part.level.ForcedLevel.{ForcedLevel as Level};
 ghost use Rattle.lit_order.specs.Internal.EarlierLevels.{AreEarlierLevels, IsLevelKept};
-ghost use Rattle.lit_order.specs.Internal.ForcedLevels.{HasForcedLevels, IsForcedLevel, IsKeptBetween, IsKeptOrder, IsLeastOf, WereForcedLevels, less_of};
+ghost use Rattle.lit_order.specs.Internal.ForcedLevels.{HasForcedLevels, IsForcedLevel, IsKeptBetween, IsKeptOrder};
+ghost use Rattle.lit_order.specs.Internal.ForcedLevels.{IsLeastOf, WereForcedLevels, less_of};
 ghost use Rattle.lit_order.specs.Refuted.{IsRefuted};
 
 use crate::forced_part::earlier_levels::EarlierLevels;
@@ -131,7 +132,8 @@ impl Levels {
         ensures forbidden { self.new.forbidden ≡ self.old.forbidden }
         ensures fewer { self.new.fewer ≡ self.old.fewer }
         ensures order { self.new.order ≡ self.old.order }
-        ensures now { self.new.now ≡ record { forced = self.old.now.forced; round = self.old.now.round; least = self.old.now.least; most = most } }
+        ensures now { self.new.now
+            ≡ record { forced = self.old.now.forced; round = self.old.now.round; least = self.old.now.least; most = most } }
         ensures earlier { IsLevelKept self.old.earlier self.new.earlier self.new.now }
     {
         self.now.most = most;

@@ -3,7 +3,8 @@ use Rattle.std.specs.Prelude.{ℕ, Some, None, List, [], ◌∷◌, ◌++◌, le
 use Rattle.lit_read.specs.declared.limits.TheConstants.{REGISTERS}
 use Rattle.lit_paths.specs.declared.event.Event.{Event}
 use Rattle.lit_paths.specs.declared.path.Tested.{Tested}
-use Rattle.lit_paths.specs.Path.{Step, LoadMet, StoreMet, ExchangeMet, CompareExchangeMet, IfMet, read_event, write_event, modify_event, compare_exchange_event}
+use Rattle.lit_paths.specs.Path.{Step, LoadMet, StoreMet, ExchangeMet, CompareExchangeMet, IfMet}
+use Rattle.lit_paths.specs.Path.{read_event, write_event, modify_event, compare_exchange_event}
 use Rattle.lit_paths.specs.PathModel.{PathModel, asked}
 
 -- before the first step
@@ -16,7 +17,8 @@ with_access path e = record { events = path.events ++ e ∷ []; tests = path.tes
 
 -- an access more, whose value goes into a register
 abbrev pub with_read : PathModel → ℕ → Event → PathModel
-with_read path reg e = record { events = path.events ++ e ∷ []; tests = path.tests; last = slice_set path.last reg (Some (length path.events)) }
+with_read path reg e =
+    record { events = path.events ++ e ∷ []; tests = path.tests; last = slice_set path.last reg (Some (length path.events)) }
 
 -- a test more
 abbrev pub with_test : PathModel → Tested → PathModel
@@ -25,7 +27,8 @@ with_test path test = record { events = path.events; tests = path.tests ++ test 
 -- a step more
 abbrev pub with_step : ℕ → PathModel → Step → PathModel
 with_step owner path (LoadMet reg window index atomic) = with_read path reg (read_event owner (length path.events) window index atomic)
-with_step owner path (StoreMet window index value atomic) = with_access path (write_event owner (length path.events) window index value atomic)
+with_step owner path (StoreMet window index value atomic) =
+    with_access path (write_event owner (length path.events) window index value atomic)
 with_step owner path (ExchangeMet reg window index value) = with_read path reg (modify_event owner (length path.events) window index value)
 with_step owner path (CompareExchangeMet reg window index expected value succeeds) =
     with_test (with_read path reg (compare_exchange_event owner (length path.events) window index value succeeds))

@@ -67,7 +67,9 @@ fn compare_exchange(
     requires room { length path.old.events < ACCESS_LIMIT }
     requires register { reg < REGISTERS }
     requires block { IsAccess (window_of access.view) access.index }
-    ensures { IfOk result (λ _. path.new ≡ with_step access.owner path.old (CompareExchangeMet reg (window_of access.view) access.index expected value succeeds)) }
+    ensures { IfOk result
+        (λ _. path.new ≡ with_step access.owner path.old
+        (CompareExchangeMet reg (window_of access.view) access.index expected value succeeds)) }
 {
     let place = next_place(path);
     let met = if succeeds {

@@ -2,7 +2,8 @@
 
 ghost use Rattle.std.specs.Prelude.{◌≡◌, ◌↔◌, ◌⊎◌, ◌<◌, ◌≤◌, length, min, IsTrue, IfOk, IfErr, OnOk, MatchOption};
 ghost use Rattle.lit_read.specs.Syntax.{IsLitmus};
-ghost use Rattle.lit_paths.specs.declared.limits.TheConstants.{ACCESS_LIMIT as ACCESSES, COMBINATION_LIMIT as COMBINATIONS, CHOICE_LIMIT as CHOICES};
+ghost use Rattle.lit_paths.specs.declared.limits.TheConstants.{ACCESS_LIMIT as ACCESSES, COMBINATION_LIMIT as COMBINATIONS};
+ghost use Rattle.lit_paths.specs.declared.limits.TheConstants.{CHOICE_LIMIT as CHOICES};
 ghost use Rattle.lit_paths.specs.declared.fault.PlanFault.TheVariants.{OutOfMemory, TooManyChoices};
 ghost use Rattle.lit_paths.specs.Choice.{sources_of, combinations_of, choices_of};
 ghost use Rattle.lit_paths.specs.Plan.{events_in, HasFewEvents, IsPlanFault};

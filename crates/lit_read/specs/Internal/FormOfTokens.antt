@@ -1,9 +1,11 @@
 -- The form that tokens spell, computed. Private contracts alone cite this: `Forms` says what is meant.
-use Rattle.std.specs.Prelude.{ℕ, ◌-◌, ◌==◌, ◌&&◌, nat_lt, nat_le, Bool, true, false, if◌then◌else◌, List, [], ◌∷◌, Option, Some, None, codes}
+use Rattle.std.specs.Prelude.{ℕ, ◌-◌, ◌==◌, ◌&&◌, nat_lt, nat_le, Bool, true, false, if◌then◌else◌}
+use Rattle.std.specs.Prelude.{List, [], ◌∷◌, Option, Some, None, codes}
 use Rattle.std.specs.Option.{option_map}
 use Rattle.std.specs.Str.{bytes_eq}
 use Rattle.lit_read.specs.declared.tokens.symbols.Symbol.{Symbol}
-use Rattle.lit_read.specs.declared.tokens.symbols.Symbol.TheVariants.{Same, Differs, And, Or, Gives, Not, OpenBracket, CloseBracket, OpenParen, CloseParen, OpenBrace, CloseBrace, Comma, Dot}
+use Rattle.lit_read.specs.declared.tokens.symbols.Symbol.TheVariants.{Same, Differs, And, Or, Gives, Not, OpenBracket, CloseBracket}
+use Rattle.lit_read.specs.declared.tokens.symbols.Symbol.TheVariants.{OpenParen, CloseParen, OpenBrace, CloseBrace, Comma, Dot}
 use Rattle.lit_read.specs.declared.limits.TheConstants.{REGISTERS}
 use Rattle.lit_read.specs.Syntax.{Window, Uint8, Uint16, Uint32, DataView8, DataView16, DataView32, Load, Store, Exchange, CompareExchange}
 use Rattle.lit_read.specs.Tokens.{Token, Word, Number, Sign}
@@ -76,7 +78,8 @@ view_of ts = do
   Some (view, word.1)
 
 unfoldable pub relation_of : List Token → Option (Bool × List Token)
-relation_of ts = or_else (option_map (λ rest. (true, rest)) (after_sign ts Same)) (option_map (λ rest. (false, rest)) (after_sign ts Differs))
+relation_of ts =
+    or_else (option_map (λ rest. (true, rest)) (after_sign ts Same)) (option_map (λ rest. (false, rest)) (after_sign ts Differs))
 
 abbrev pub ended : {A : Type 0} → List Token → A → Option A
 ended [] x = Some x
@@ -347,7 +350,9 @@ frame_form ts =
     (or_else (if_line ts) (or_else (else_line ts) (end_line ts))))))
 
 unfoldable pub array_form : List Token → Option Form
-array_form ts = or_else (plain_load ts) (or_else (plain_store ts) (or_else (atomic_load ts) (or_else (atomic_store ts) (or_else (exchange ts) (compare_exchange ts)))))
+array_form ts =
+    or_else (plain_load ts)
+    (or_else (plain_store ts) (or_else (atomic_load ts) (or_else (atomic_store ts) (or_else (exchange ts) (compare_exchange ts)))))
 
 unfoldable pub view_form : List Token → Option Form
 view_form ts =

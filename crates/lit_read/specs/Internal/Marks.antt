@@ -5,7 +5,8 @@ use Rattle.std.specs.List.{AllByRecursion}
 use Rattle.lit_read.specs.declared.tokens.symbols.Symbol.TheVariants.{And, Or, Not, OpenParen, CloseParen}
 use Rattle.lit_read.specs.declared.limits.TheConstants.{REGISTERS, COMPARED_LIMIT}
 use Rattle.lit_read.specs.Tokens.{Token, Sign}
-use Rattle.lit_read.specs.Written.{Comparison, Operand, Compared, Negated, Grouped, Conjunction, Lone, Both, Written, Single, Either, comparison_tokens, written_tokens, written_depths}
+use Rattle.lit_read.specs.Written.{Comparison, Operand, Compared, Negated, Grouped, Conjunction, Lone, Both, Written}
+use Rattle.lit_read.specs.Written.{Single, Either, comparison_tokens, written_tokens, written_depths}
 use Rattle.lit_read.specs.Forms.{Form, CheckLine, IsSpelling}
 use Rattle.lit_read.specs.Internal.FirstToken.{or_else}
 use Rattle.lit_read.specs.Internal.FormOfTokens.{after_sign, comparison_of}
@@ -48,8 +49,11 @@ abbrev mutual
 -- the mark at the front, and the tokens behind it
 unfoldable pub mark_of : List Token → Option (Mark × List Token)
 mark_of ts =
-    or_else (option_map (λ rest. (Bang, rest)) (after_sign ts Not)) (or_else (option_map (λ rest. (Opens, rest)) (after_sign ts OpenParen)) (or_else (option_map (λ rest. (Closes, rest)) (after_sign ts CloseParen))
-    (or_else (option_map (λ rest. (Joins, rest)) (after_sign ts And)) (or_else (option_map (λ rest. (Parts, rest)) (after_sign ts Or)) (option_map (λ p. (Compares p.0, p.1)) (comparison_of ts))))))
+    or_else (option_map (λ rest. (Bang, rest)) (after_sign ts Not))
+    (or_else (option_map (λ rest. (Opens, rest)) (after_sign ts OpenParen))
+    (or_else (option_map (λ rest. (Closes, rest)) (after_sign ts CloseParen))
+    (or_else (option_map (λ rest. (Joins, rest)) (after_sign ts And))
+    (or_else (option_map (λ rest. (Parts, rest)) (after_sign ts Or)) (option_map (λ p. (Compares p.0, p.1)) (comparison_of ts))))))
 
 abbrev pub one_less : ℕ → Option (Bool × ℕ)
 one_less zero = None
@@ -67,7 +71,8 @@ follow _ _ _ = None
 
 -- the tokens are those of a condition with these marks
 abbrev pub SpellsMarks : List Token → List Mark → Type 0
-SpellsMarks tokens marks = (w : Written) × (marks ≡ written_marks w) × (tokens ≡ written_tokens w) × AllByRecursion (λ p. p.0.reg < REGISTERS) (written_depths 0 w)
+SpellsMarks tokens marks =
+    (w : Written) × (marks ≡ written_marks w) × (tokens ≡ written_tokens w) × AllByRecursion (λ p. p.0.reg < REGISTERS) (written_depths 0 w)
 
 abbrev pub SpellsNoCondition : List Token → Type 0
 SpellsNoCondition tokens = (w : Written) → tokens ≡ written_tokens w → AllByRecursion (λ p. p.0.reg < REGISTERS) (written_depths 0 w) → ⊥

@@ -1,9 +1,11 @@
 -- What the lines so far say, and what one form more makes of it.
-use Rattle.std.specs.Prelude.{◌≢◌, ℕ, ◌+◌, ◌≤◌, ◌<◌, ◌==◌, ◌||◌, nat_lt, nat_le, Bool, true, if◌then◌else◌, List, [], ◌∷◌, ◌++◌, length, Option, Some, None, Result, Ok, Err, IfSome}
+use Rattle.std.specs.Prelude.{◌≢◌, ℕ, ◌+◌, ◌≤◌, ◌<◌, ◌==◌, ◌||◌, nat_lt, nat_le, Bool, true, if◌then◌else◌}
+use Rattle.std.specs.Prelude.{List, [], ◌∷◌, ◌++◌, length, Option, Some, None, Result, Ok, Err, IfSome}
 use Rattle.std.specs.List.{list_any, list_all, AllByRecursion}
 use Rattle.std.specs.Str.{bytes_eq}
 use Rattle.lit_read.specs.declared.fault.ReadKind.{ReadKind}
-use Rattle.lit_read.specs.declared.fault.ReadKind.TheVariants.{Misplaced, BlockSize, TooManyAgents, DuplicateAgent, LiteralRange, OutOfBlock, UnknownName, TooDeep}
+use Rattle.lit_read.specs.declared.fault.ReadKind.TheVariants.{Misplaced, BlockSize, TooManyAgents, DuplicateAgent}
+use Rattle.lit_read.specs.declared.fault.ReadKind.TheVariants.{LiteralRange, OutOfBlock, UnknownName, TooDeep}
 use Rattle.lit_read.specs.declared.limits.TheConstants.{BLOCK_LIMIT, AGENT_LIMIT, COMPARED_LIMIT, REGISTERS, IF_LIMIT}
 use Rattle.lit_read.specs.Syntax.{Statement, Statements, If, End, Then, Agent, Litmus, IsLitmus, AreStatementsIn, nesting, writes}
 use Rattle.lit_read.specs.Tokens.{IsWord}
@@ -95,7 +97,8 @@ unfoldable pub if_step : State → ℕ → Bool → ℕ → Result State ReadKin
 if_step (Open name bytes agents agent levels body) reg equal value =
     if nat_lt COMPARED_LIMIT value then Err LiteralRange
     else (if nat_le IF_LIMIT (length levels) then Err TooDeep
-    else Ok (Open name bytes agents agent (record { reg = reg; equal = equal; value = value; before = body; then_part = None } ∷ levels) End))
+    else Ok (Open name bytes agents agent
+    (record { reg = reg; equal = equal; value = value; before = body; then_part = None } ∷ levels) End))
 if_step _ reg equal value = Err Misplaced
 
 -- the level behind its else line
@@ -116,7 +119,8 @@ ended_if l body None = If l.reg l.equal l.value body End
 ended_if l body (Some part) = If l.reg l.equal l.value part body
 
 unfoldable pub end_step : State → Result State ReadKind
-end_step (Open name bytes agents agent (l ∷ levels) body) = Ok (Open name bytes agents agent levels (followed_by l.before (ended_if l body l.then_part)))
+end_step (Open name bytes agents agent (l ∷ levels) body) =
+    Ok (Open name bytes agents agent levels (followed_by l.before (ended_if l body l.then_part)))
 end_step _ = Err Misplaced
 
 unfoldable pub test_of : List ℕ → ℕ → List Agent → Written → Result Litmus ReadKind
@@ -182,7 +186,8 @@ AreLevels bytes (l ∷ levels) = IsLevel bytes (length levels) l × AreLevels by
 unfoldable pub IsState : State → Type 0
 IsState (Named name) = IsWord name
 IsState (Sized name bytes) = IsWord name × (1 ≤ bytes) × (bytes ≤ BLOCK_LIMIT)
-IsState (Open name bytes agents agent levels body) = IsWord name × AreAgentsIn bytes (with_agent agents agent End) × AreLevels bytes levels × IsPart bytes (length levels) body
+IsState (Open name bytes agents agent levels body) =
+    IsWord name × AreAgentsIn bytes (with_agent agents agent End) × AreLevels bytes levels × IsPart bytes (length levels) body
 IsState Empty = Unit {0}
 IsState (Whole t) = IsLitmus t
 

@@ -99,10 +99,13 @@ part_view None = None
 part_view (Some part) = Some (statements_of part.items)
 
 abbrev pub level_view : levels.Level → Level
-level_view l = record { reg = l.reg; equal = l.equal; value = l.value; before = statements_of l.before.items; then_part = part_view l.then_part }
+level_view l =
+    record { reg = l.reg; equal = l.equal; value = l.value; before = statements_of l.before.items; then_part = part_view l.then_part }
 
 abbrev pub open_view : opens.Open → State
-open_view o = Open (string_bytes o.name) o.bytes (agents_view o.agents.entries) (string_bytes o.agent) (map level_view (reverse o.levels.items)) (statements_of o.body.items)
+open_view o =
+    Open (string_bytes o.name) o.bytes (agents_view o.agents.entries) (string_bytes o.agent) (map level_view (reverse o.levels.items))
+    (statements_of o.body.items)
 
 abbrev pub state_view : drafts.Draft → State
 state_view draft.Empty = Empty

@@ -4,7 +4,8 @@ ghost use Rattle.std.specs.Prelude.{◌≡◌, ◌+◌, ◌≤◌, nat_le, IfOk,
 ghost use Rattle.std.specs.List.{list_all};
 ghost use Rattle.lit_read.specs.Litmus.{condition_of};
 ghost use Rattle.lit_read.specs.Spelling.{place_of};
-ghost use Rattle.lit_read.specs.Internal.Built.{negated, all_of, any_of, with_operand, parted, asked, build_step, build, begun, HasSmallNumber};
+ghost use Rattle.lit_read.specs.Internal.Built.{negated, all_of, any_of, with_operand, parted, asked};
+ghost use Rattle.lit_read.specs.Internal.Built.{build_step, build, begun, HasSmallNumber};
 ghost use Rattle.lit_read.specs.Internal.Marks.{is_small};
 ghost use Rattle.lit_read.specs.Internal.Views.{Returns, conditions_view, frame_view, frames_view, mark_view, mark_views, agents_view};
 

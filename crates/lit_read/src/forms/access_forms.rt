@@ -2,7 +2,8 @@
 
 ghost use Rattle.std.specs.Prelude.{◌≡◌, option_map};
 ghost use Rattle.lit_read.specs.Litmus.{window_of};
-ghost use Rattle.lit_read.specs.Internal.FormOfTokens.{plain_load, plain_store, atomic_load, atomic_store, exchange, compare_exchange, byte_load, byte_store, wide_load, wide_store, array_form, view_form};
+ghost use Rattle.lit_read.specs.Internal.FormOfTokens.{plain_load, plain_store, atomic_load, atomic_store, exchange, compare_exchange};
+ghost use Rattle.lit_read.specs.Internal.FormOfTokens.{byte_load, byte_store, wide_load, wide_store, array_form, view_form};
 ghost use Rattle.lit_read.specs.Internal.Views.{token_views, form_view};
 
 use crate::forms::access_parts::{

@@ -2,7 +2,8 @@
 
 ghost use Rattle.std.specs.Prelude.{◌≡◌, option_map};
 ghost use Rattle.lit_read.specs.Litmus.{window_of};
-ghost use Rattle.lit_read.specs.Internal.FormOfTokens.{front, given_to, element, stored, atomic_call, view_call, argument, closed, little_endian};
+ghost use Rattle.lit_read.specs.Internal.FormOfTokens.{front, given_to, element, stored, atomic_call};
+ghost use Rattle.lit_read.specs.Internal.FormOfTokens.{view_call, argument, closed, little_endian};
 ghost use Rattle.lit_read.specs.Internal.Views.{token_views};
 
 use crate::syntax::View;
@@ -47,7 +48,8 @@ pub fn atomic_call<'t, 'a>(
     tokens: &'t [Token<'a>],
     name: &str,
 ) -> Option<(View, u64, &'t [Token<'a>])>
-    ensures { option_map (λ p. ((window_of p.0, (p.1, tt)), token_views p.2.now)) result ≡ front (atomic_call name.now) (token_views tokens.now) }
+    ensures { option_map (λ p. ((window_of p.0, (p.1, tt)), token_views p.2.now)) result
+        ≡ front (atomic_call name.now) (token_views tokens.now) }
 {
     let rest = after_word(tokens, "Atomics")?;
     let rest = after_sign(rest, Symbol::Dot)?;

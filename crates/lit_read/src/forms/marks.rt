@@ -93,7 +93,8 @@ fn follow(behind: bool, opened: usize, mark: Mark<'_>) -> Option<(bool, usize)>
 /// The mark at a place, and the place behind it.
 fn mark_at<'a>(tokens: &[Token<'a>], at: usize) -> Option<(Mark<'a>, usize)>
     requires { at ≤ length tokens.now }
-    ensures value { option_map (λ p. (mark_view p.0, token_views (drop p.1 tokens.now))) result ≡ mark_of (token_views (drop at tokens.now)) }
+    ensures value { option_map (λ p. (mark_view p.0, token_views (drop p.1 tokens.now))) result
+        ≡ mark_of (token_views (drop at tokens.now)) }
     ensures later { IfSome result (λ p. (at < p.1) × (p.1 ≤ length tokens.now)) }
 {
     let (_, left) = tokens.split_at(at);

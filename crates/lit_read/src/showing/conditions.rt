@@ -46,7 +46,8 @@ fn put_between(out: &mut String, place: usize, sign: &str) -> Result<(), AllocEr
 #[cycle(conditions)]
 fn put_operand(out: &mut String, test: &Test, cond: &Cond) -> Result<(), AllocError>
     requires { IsConditionOn test.now (condition_of cond.now) }
-    ensures { OnOk result (string_bytes out.new ≡ string_bytes out.old ++ operand_text (operand_of test.now.agents (condition_of cond.now))) }
+    ensures { OnOk result
+        (string_bytes out.new ≡ string_bytes out.old ++ operand_text (operand_of test.now.agents (condition_of cond.now))) }
 {
     match cond {
         Cond::Is {
@@ -76,7 +77,8 @@ fn put_operand(out: &mut String, test: &Test, cond: &Cond) -> Result<(), AllocEr
 #[cycle(conditions)]
 fn put_conjunction(out: &mut String, test: &Test, cond: &Cond) -> Result<(), AllocError>
     requires { IsConditionOn test.now (condition_of cond.now) }
-    ensures { OnOk result (string_bytes out.new ≡ string_bytes out.old ++ conjunction_text (conjunction_of test.now.agents (condition_of cond.now))) }
+    ensures { OnOk result
+        (string_bytes out.new ≡ string_bytes out.old ++ conjunction_text (conjunction_of test.now.agents (condition_of cond.now))) }
 {
     match cond {
         Cond::All(members) => put_all(out, test, members),
@@ -89,7 +91,8 @@ fn put_conjunction(out: &mut String, test: &Test, cond: &Cond) -> Result<(), All
 fn put_all(out: &mut String, test: &Test, members: &[Cond]) -> Result<(), AllocError>
     requires some { 1 ≤ length members.now }
     requires on { AreConditionsOn test.now (conditions_view members.now) }
-    ensures { OnOk result (string_bytes out.new ≡ string_bytes out.old ++ conjunction_text (all_written test.now.agents (conditions_view members.now))) }
+    ensures { OnOk result
+        (string_bytes out.new ≡ string_bytes out.old ++ conjunction_text (all_written test.now.agents (conditions_view members.now))) }
 {
     for (place, member) in members.iter().enumerate() {
         put_between(out, place, " && ")?;
@@ -103,7 +106,8 @@ fn put_all(out: &mut String, test: &Test, members: &[Cond]) -> Result<(), AllocE
 fn put_any(out: &mut String, test: &Test, members: &[Cond]) -> Result<(), AllocError>
     requires some { 1 ≤ length members.now }
     requires on { AreConditionsOn test.now (conditions_view members.now) }
-    ensures { OnOk result (string_bytes out.new ≡ string_bytes out.old ++ written_text (any_written test.now.agents (conditions_view members.now))) }
+    ensures { OnOk result
+        (string_bytes out.new ≡ string_bytes out.old ++ written_text (any_written test.now.agents (conditions_view members.now))) }
 {
     for (place, member) in members.iter().enumerate() {
         put_between(out, place, " || ")?;
@@ -115,7 +119,8 @@ fn put_any(out: &mut String, test: &Test, members: &[Cond]) -> Result<(), AllocE
 /// Writes a whole condition.
 pub fn put_condition(out: &mut String, test: &Test, cond: &Cond) -> Result<(), AllocError>
     requires { IsConditionOn test.now (condition_of cond.now) }
-    ensures { OnOk result (string_bytes out.new ≡ string_bytes out.old ++ written_text (written_of test.now.agents (condition_of cond.now))) }
+    ensures { OnOk result
+        (string_bytes out.new ≡ string_bytes out.old ++ written_text (written_of test.now.agents (condition_of cond.now))) }
 {
     match cond {
         Cond::Any(members) => put_any(out, test, members),

@@ -112,7 +112,8 @@ fn put_compare_exchange(
     expected: u32,
     value: u32,
 ) -> Result<(), AllocError>
-    ensures { OnOk result (string_bytes out.new ≡ string_bytes out.old ++ statement_text (CompareExchange reg (window_of view) index expected value)) }
+    ensures { OnOk result
+        (string_bytes out.new ≡ string_bytes out.old ++ statement_text (CompareExchange reg (window_of view) index expected value)) }
 {
     write!(
         out,

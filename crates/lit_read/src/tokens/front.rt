@@ -2,7 +2,8 @@
 
 ghost use Rattle.std.specs.Prelude.{◌≡◌, option_map};
 ghost use Rattle.lit_read.specs.Litmus.{window_of};
-ghost use Rattle.lit_read.specs.Internal.FormOfTokens.{after_sign, word_of, number_of, after_word, register_number, register_of, window_named, view_of, relation_of, ended};
+ghost use Rattle.lit_read.specs.Internal.FormOfTokens.{after_sign, word_of, number_of, after_word, register_number};
+ghost use Rattle.lit_read.specs.Internal.FormOfTokens.{register_of, window_named, view_of, relation_of, ended};
 ghost use Rattle.lit_read.specs.Internal.Views.{token_views};
 
 use crate::limits::REGISTERS;

@@ -44,4 +44,5 @@ pub record IsRefusedAtLast (part : PartModel) : Type 0 where
 pub record AreRefusals (part : PartModel) (earlier : List Bool) (now : Bool) : Type 0 where
   pub one_each : length earlier ≡ length part.sources
   pub at_all : IsTrue now ↔ HasFalseTest part
-  pub at_less : (k : ℕ) (refused : Bool) → slice_get earlier k ≡ Some refused → IsTrue refused ↔ HasFalseTest (with_sources part (take k part.sources))
+  pub at_less : (k : ℕ) (refused : Bool) → slice_get earlier k ≡ Some refused
+      → IsTrue refused ↔ HasFalseTest (with_sources part (take k part.sources))

@@ -89,7 +89,8 @@ impl Given<'_> {
     fn is_changed_by(&self, sides: Sides, before: &TwoWayRows) -> bool
         requires { rows_len before.now.rows ≡ length self.now.events.now }
         ensures { IsTrue result
-            ↔ HasByteSo self.now.bytes.now (IsChangedByte self.now.events.now (Holds before.now.rows) (HasEvent sides.ahead) (HasEvent sides.behind)) }
+            ↔ HasByteSo self.now.bytes.now
+            (IsChangedByte self.now.events.now (Holds before.now.rows) (HasEvent sides.ahead) (HasEvent sides.behind)) }
     {
         for byte in self.bytes {
             if can_change(*byte, sides) && !is_coherent_byte(self.events, *byte, before) {
@@ -125,7 +126,8 @@ impl Given<'_> {
         requires len { rows_len now.now.rows ≡ length self.now.events.now }
         ensures { IsTrue result
             ↔ (IsTrue was ⊎ (¬ IsCoherentRead self.now.events.now (Holds now.now.rows) byte.read byte.byte byte.source)
-            ⊎ HasByteSo self.now.bytes.now (IsChangedByte self.now.events.now (Holds now.now.rows) (HasEvent sides.ahead) (HasEvent sides.behind))
+            ⊎ HasByteSo self.now.bytes.now
+            (IsChangedByte self.now.events.now (Holds now.now.rows) (HasEvent sides.ahead) (HasEvent sides.behind))
             ⊎ HasByteSo self.now.bytes.now (Tears self.now.events.now byte)) }
     {
         was || !is_coherent_byte(self.events, byte, now)

@@ -26,7 +26,8 @@ impl Given<'_> {
         requires peers { ArePeers self.now.events.now peers.now }
         ensures len { between.new.len ≡ length self.now.events.now }
         ensures triples { (w r v : ℕ) → Forbids between.new w r v
-            ↔ IsForbiddenTriple self.now.events.now (ReadsByteFrom self.now.events.now (sources_of self.now.bytes.now)) (Holds before.now.rows) w r v }
+            ↔ IsForbiddenTriple self.now.events.now (ReadsByteFrom self.now.events.now (sources_of self.now.bytes.now))
+            (Holds before.now.rows) w r v }
     {
         between.begin(self.events.len());
         for place in 0..self.bytes.len() {

@@ -69,7 +69,8 @@ fn has_racing_writes(events: &[Event], before: &Rows) -> bool
 impl Given<'_> {
     /// Whether a read and its source are in a data race.
     fn has_racing_read(&self, before: &Rows) -> bool
-        ensures { IsTrue result ↔ HasApartPair self.now.events.now (Holds before.now) (ReadsFrom self.now.events.now (sources_of self.now.bytes.now)) }
+        ensures { IsTrue result ↔ HasApartPair self.now.events.now (Holds before.now)
+            (ReadsFrom self.now.events.now (sources_of self.now.bytes.now)) }
     {
         for byte in self.bytes {
             if are_apart(
@@ -86,7 +87,8 @@ impl Given<'_> {
 
     /// Whether some two events are in a data race, by a relation that orders the events.
     pub(crate) fn has_data_race(&self, before: &Rows) -> bool
-        ensures { IsTrue result ↔ HasDataRaceOf self.now.events.now (Holds before.now) (ReadsFrom self.now.events.now (sources_of self.now.bytes.now)) }
+        ensures { IsTrue result ↔ HasDataRaceOf self.now.events.now (Holds before.now)
+            (ReadsFrom self.now.events.now (sources_of self.now.bytes.now)) }
     {
         self.has_racing_read(before) || has_racing_writes(self.events, before)
     }

@@ -52,7 +52,8 @@ impl Given<'_> {
     /// Coherent reads (29.7.2), by a relation that orders the events.
     pub(crate) fn is_coherent(&self, before: &TwoWayRows) -> bool
         requires { rows_len before.now.rows ≡ length self.now.events.now }
-        ensures { IsTrue result ↔ AreCoherentReads self.now.events.now (ReadsByteFrom self.now.events.now (sources_of self.now.bytes.now)) (Holds before.now.rows) }
+        ensures { IsTrue result ↔ AreCoherentReads self.now.events.now (ReadsByteFrom self.now.events.now (sources_of self.now.bytes.now))
+            (Holds before.now.rows) }
     {
         for byte in self.bytes {
             if !is_coherent_byte(self.events, *byte, before) {

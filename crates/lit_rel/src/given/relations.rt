@@ -52,7 +52,8 @@ impl Given<'_> {
     pub(crate) fn with_synchronized(&self, rows: Rows) -> Rows
         requires { rows_len rows ≡ length self.now.events.now }
         ensures len { rows_len result ≡ length self.now.events.now }
-        ensures pairs { (w r : ℕ) → Holds result w r ↔ (Holds rows w r ⊎ Synchronizes self.now.events.now (sources_of self.now.bytes.now) w r) }
+        ensures pairs { (w r : ℕ) → Holds result w r
+            ↔ (Holds rows w r ⊎ Synchronizes self.now.events.now (sources_of self.now.bytes.now) w r) }
     {
         let mut rows = rows;
         for byte in self.bytes {

@@ -17,7 +17,8 @@ impl Part<'_> {
     pub fn is_coherent_with(&self, at: ByteRead, source: u8) -> bool
         requires read { at.read < length (part_events self.now) }
         requires source { source < length (part_events self.now) }
-        ensures { IsTrue result ↔ IsCoherentRead (part_events self.now) (HappensBefore (part_events self.now) self.now.sources) at.read at.byte source }
+        ensures { IsTrue result ↔ IsCoherentRead (part_events self.now)
+            (HappensBefore (part_events self.now) self.now.sources) at.read at.byte source }
     {
         self.related.is_coherent_with(at, source)
     }
@@ -28,7 +29,8 @@ impl Part<'_> {
         requires source { source < length (part_events self.now) }
         requires read { read < length (part_events self.now) }
         ensures { (v : ℕ) → HasEvent result v
-            ↔ ((v < length (part_events self.now)) × IsForbiddenBetween (part_events self.now) (HappensBefore (part_events self.now) self.now.sources) source read v) }
+            ↔ ((v < length (part_events self.now))
+            × IsForbiddenBetween (part_events self.now) (HappensBefore (part_events self.now) self.now.sources) source read v) }
     {
         if self.peerless {
             return EventSet::new();

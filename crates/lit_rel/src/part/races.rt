@@ -29,7 +29,8 @@ fn races_with_source(events: &[Event], before: &Rows, read: usize, sources: &[u8
 impl Part<'_> {
     /// Whether some byte has no source yet, and one of its candidates would be in a data race with its read.
     fn may_read_racing(&self) -> bool
-        ensures { IsTrue result ↔ HasApartPair (part_events self.now) (HappensBefore (part_events self.now) self.now.sources) (HasCandidateLeft (part_events self.now) self.now.sources) }
+        ensures { IsTrue result ↔ HasApartPair (part_events self.now) (HappensBefore (part_events self.now) self.now.sources)
+            (HasCandidateLeft (part_events self.now) self.now.sources) }
     {
         let combination = self.combination();
         let before = &self.order().rows;

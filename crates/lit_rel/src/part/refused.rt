@@ -86,7 +86,8 @@ pub(crate) fn asking_agent(combination: &Combination<'_>, event: u8) -> Option<u
     requires { combination.now.1 < length (combinations_of combination.now.0) }
     ensures known { (agent : ℕ) → result ≡ Some agent → agent < length combination.now.0.agents }
     ensures only { (agent : ℕ) → agent < length combination.now.0.agents
-        → Asks (path_in combination.now.0 combination.now.1 agent).tests (first_event combination.now.0 combination.now.1 agent) (Some event)
+        → Asks (path_in combination.now.0 combination.now.1 agent).tests (first_event combination.now.0 combination.now.1 agent)
+        (Some event)
         → result ≡ Some agent }
 {
     combinations_are_walked();
@@ -101,7 +102,9 @@ pub(crate) fn asking_agent(combination: &Combination<'_>, event: u8) -> Option<u
 /// Whether the byte read at a place is the last of its read.
 fn is_last_of_read(reads: &[ByteRead], place: usize) -> bool
     requires { place < length reads.now }
-    ensures { IsTrue result ↔ ((here next : Read) → slice_get reads.now place ≡ Some here → slice_get reads.now (place + 1) ≡ Some next → next.read ≢ here.read) }
+    ensures { IsTrue result
+        ↔ ((here next : Read) → slice_get reads.now place ≡ Some here → slice_get reads.now (place + 1) ≡ Some next
+        → next.read ≢ here.read) }
 {
     match reads.get(place + 1) {
         Some(next) => next.read != reads[place].read,

@@ -55,7 +55,9 @@ impl<'p> Model for Related<'p> {
 
     ghost view = { λ p. record { test = p.combination.0; combination = p.combination.1; sources = sources_of p.bytes.items } };
 
-    ghost invariant = { λ p. IsKept (record { test = p.combination.0; combination = p.combination.1; sources = sources_of p.bytes.items }) p.bytes.items p.orders.earlier p.orders.now.rows p.earlier.items p.level };
+    ghost invariant = { λ p. IsKept
+        (record { test = p.combination.0; combination = p.combination.1; sources = sources_of p.bytes.items })
+        p.bytes.items p.orders.earlier p.orders.now.rows p.earlier.items p.level };
 }
 
 impl<'p> Related<'p> {
@@ -265,7 +267,8 @@ impl<'p> Related<'p> {
     pub(crate) fn is_coherent_with(&self, at: ByteRead, source: u8) -> bool
         requires read { at.read < length (part_events self.now) }
         requires source { source < length (part_events self.now) }
-        ensures { IsTrue result ↔ IsCoherentRead (part_events self.now) (HappensBefore (part_events self.now) self.now.sources) at.read at.byte source }
+        ensures { IsTrue result ↔ IsCoherentRead (part_events self.now)
+            (HappensBefore (part_events self.now) self.now.sources) at.read at.byte source }
     {
         let byte = SourcedByte {
             read: at.read,
@@ -282,7 +285,8 @@ impl<'p> Related<'p> {
         requires source { source < length (part_events self.now) }
         requires read { read < length (part_events self.now) }
         ensures { (v : ℕ) → HasEvent result v
-            ↔ ((v < length (part_events self.now)) × IsForbiddenBetween (part_events self.now) (HappensBefore (part_events self.now) self.now.sources) source read v) }
+            ↔ ((v < length (part_events self.now))
+            × IsForbiddenBetween (part_events self.now) (HappensBefore (part_events self.now) self.now.sources) source read v) }
     {
         let byte = SourcedByte {
             read,

@@ -34,11 +34,14 @@ unsourced t c = record { test = t; combination = c; sources = [] }
 
 -- each valid execution on a combination with an outcome that is wanted has one of the items
 abbrev pub AreComing : Litmus → ℕ → (List ℕ → Type 0) → List ℕ → List (List ℕ) → Type 0
-AreComing t c Wanted numbers items = (x : Execution) → Completes (unsourced t c) x → Wanted (execution_outcome t x) → HasItem numbers items x.sources
+AreComing t c Wanted numbers items =
+    (x : Execution) → Completes (unsourced t c) x → Wanted (execution_outcome t x) → HasItem numbers items x.sources
 
 -- each byte of a read that a register holds at the end has its number there
 abbrev pub HoldsAll : Litmus → ℕ → List ℕ → Type 0
-HoldsAll t c numbers = (i r k b : ℕ) → slice_get (reads_held t c) i ≡ Some (Some r) → slice_get (byte_reads (events_in t c)) k ≡ Some (r, b) → (j : ℕ) × (slice_get numbers j ≡ Some k)
+HoldsAll t c numbers =
+    (i r k b : ℕ) → slice_get (reads_held t c) i ≡ Some (Some r) → slice_get (byte_reads (events_in t c)) k ≡ Some (r, b)
+    → (j : ℕ) × (slice_get numbers j ≡ Some k)
 
 -- these byte reads are those that registers hold, and their items are what is coming
 pub record AreItems (t : Litmus) (c : ℕ) (Wanted : List ℕ → Type 0) (numbers : List ℕ) (items : List Item) : Type 0 where
@@ -60,7 +63,10 @@ AreIn item sets = (j s : ℕ) (set : EventSet) → slice_get item j ≡ Some s �
 
 -- event v stores what the source of the k-th byte read does, at the byte
 abbrev pub StoresAs : PartModel → ℕ → ℕ → Type 0
-StoresAs part k v = (u : ℕ) → slice_get part.sources k ≡ Some u → payload_at (event_at (part_events part) v) (byte_read_at (part_events part) k).1 ≡ payload_at (event_at (part_events part) u) (byte_read_at (part_events part) k).1
+StoresAs part k v =
+    (u : ℕ) → slice_get part.sources k ≡ Some u
+    → payload_at (event_at (part_events part) v) (byte_read_at (part_events part) k).1
+    ≡ payload_at (event_at (part_events part) u) (byte_read_at (part_events part) k).1
 
 -- so does each source of an item for byte reads with these numbers
 abbrev pub AllStoreAs : PartModel → List ℕ → List ℕ → Type 0

@@ -24,4 +24,6 @@ pub record IsKnownValue (part : PartModel) (held : Option ℕ) (value : ℕ) : T
 
 -- those of what the registers of an outcome hold, where they are known
 abbrev pub AreKnownValues : PartModel → List (Option ℕ) → Type 0
-AreKnownValues part known = (i v : ℕ) (held : Option ℕ) → slice_get known i ≡ Some (Some v) → slice_get (reads_held part.test part.combination) i ≡ Some held → IsKnownValue part held v
+AreKnownValues part known =
+    (i v : ℕ) (held : Option ℕ) → slice_get known i ≡ Some (Some v) → slice_get (reads_held part.test part.combination) i ≡ Some held
+    → IsKnownValue part held v

@@ -18,7 +18,8 @@ pub record AreOfPart (part : PartModel) (before : Rows) (between : BetweenModel)
 -- a valid execution that goes on from the part, of which each memory-order keeps these pairs and triples
 pub record GoesOnWith (part : PartModel) (before : Rows) (between : BetweenModel) (x : Execution) : Type 0 where
   pub goes_on : Completes part x
-  pub kept : (order : List ℕ) → IsMemoryOrder (execution_events part.test x) x.sources order → IsOrderOf (length (part_events part)) (Holds before) (Forbids between) order
+  pub kept : (order : List ℕ) → IsMemoryOrder (execution_events part.test x) x.sources order
+      → IsOrderOf (length (part_events part)) (Holds before) (Forbids between) order
 
 -- more pairs and other triples, which each execution that goes on with the first keeps too
 pub record AreForeseen (part : PartModel) (before : Rows) (between : BetweenModel) (more : Rows) (others : BetweenModel) : Type 0 where

@@ -14,7 +14,9 @@ reads_held t c = map (read_held t c) (names_of t)
 
 -- each register that holds no read, or one all of whose bytes have a source, has its value among these
 abbrev pub HasWholeValues : PartModel → List ℕ → Type 0
-HasWholeValues part values = (i : ℕ) (held : Option ℕ) → slice_get (reads_held part.test part.combination) i ≡ Some held → ((r : ℕ) → held ≡ Some r → IsGivenWhole (part_events part) part.sources r)
+HasWholeValues part values =
+    (i : ℕ) (held : Option ℕ) → slice_get (reads_held part.test part.combination) i ≡ Some held
+    → ((r : ℕ) → held ≡ Some r → IsGivenWhole (part_events part) part.sources r)
     → slice_index values i ≡ value_held part held
 
 -- the part without its last source

@@ -22,7 +22,9 @@ candidate_at s k p = slice_index (candidates_at (stand_events s) k) p
 
 -- the source with this place is another event than w, and read r can be whole from it
 abbrev pub IsOtherWhole : PartModel → ℕ → ℕ → ℕ → Type 0
-IsOtherWhole part r w place = (slice_index part.sources place ≢ w) × CanReadWhole (event_at (part_events part) r) (event_at (part_events part) (slice_index part.sources place))
+IsOtherWhole part r w place =
+    (slice_index part.sources place ≢ w)
+    × CanReadWhole (event_at (part_events part) r) (event_at (part_events part) (slice_index part.sources place))
 
 -- Read r can be whole from w, and from another event, which is the source of a byte of it: from this one on, all bytes that
 -- have a source are bytes of r.
@@ -36,7 +38,9 @@ pub record WouldTear (part : PartModel) (r w : ℕ) : Type 0 where
 -- w can't be the source of byte b of read r: a test refuses it, or r would tear, or r is sequentially consistent, and the part
 -- is refuted, or it leaves w out
 abbrev pub HasNoSource : PartModel → ℕ → ℕ → ℕ → Type 0
-HasNoSource part r b w = TestsRefuse part r b w ⊎ (WouldTear part r w ⊎ (((event_at (part_events part) r).order ≡ SeqCst) × (IsRefuted part ⊎ LeavesOut part r b w)))
+HasNoSource part r b w =
+    TestsRefuse part r b w
+    ⊎ (WouldTear part r w ⊎ (((event_at (part_events part) r).order ≡ SeqCst) × (IsRefuted part ⊎ LeavesOut part r b w)))
 
 -- that candidate can't be the source of the k-th byte read
 abbrev pub IsLeftOut : Stand → ℕ → ℕ → Type 0

@@ -17,4 +17,5 @@ StayListed items more = (item : List ℕ) → IsListed items item → IsListed m
 
 -- each valid execution that goes on with these pairs and triples and takes the sources of an item has one of the items
 abbrev pub AreListed : PartModel → Rows → BetweenModel → List ℕ → List ℕ → List (List ℕ) → Type 0
-AreListed part before between numbers item items = (x : Execution) → GoesOnWith part before between x → Takes numbers item x.sources → HasItem numbers items x.sources
+AreListed part before between numbers item items =
+    (x : Execution) → GoesOnWith part before between x → Takes numbers item x.sources → HasItem numbers items x.sources

@@ -17,7 +17,8 @@ IsTestedAt t c k = IsTested t c (byte_read_at (events_in t c) k).0
 -- tests refuse event w as the source of the k-th byte read
 abbrev pub IsRefusedAt : Litmus → ℕ → ℕ → ℕ → Type 0
 IsRefusedAt t c k w =
-    HasFalseByteOn t c (byte_read_at (events_in t c) k).0 (byte_read_at (events_in t c) k).1 (payload_at (event_at (events_in t c) w) (byte_read_at (events_in t c) k).1)
+    HasFalseByteOn t c (byte_read_at (events_in t c) k).0 (byte_read_at (events_in t c) k).1
+    (payload_at (event_at (events_in t c) w) (byte_read_at (events_in t c) k).1)
 
 -- of the candidates of the k-th byte read, about whose read a test asks, the set has those that tests refuse
 pub record HasRefused (t : Litmus) (c k : ℕ) (set : EventSet) : Type 0 where

@@ -22,7 +22,8 @@ progress r = record { left = joined_all r.left.items End; registers = r.register
 -- a code, by which a proof tells two of them apart
 abbrev pub coded_progress : Coded Progress
 coded_progress =
-    code_by (Statements × List ℕ) (coded× coded_statements (coded_list coded_ℕ)) (λ p. (p.left, p.registers)) (λ x. record { left = x.0; registers = x.1 }) (λ _. refl)
+    code_by (Statements × List ℕ) (coded× coded_statements (coded_list coded_ℕ)) (λ p. (p.left, p.registers))
+    (λ x. record { left = x.0; registers = x.1 }) (λ _. refl)
 
 -- whether a statement is an access
 abbrev pub is_access : Statement → Bool
@@ -45,4 +46,5 @@ pub record ChoosesPart (registers : List ℕ) (s : Statement) (part : Statements
 -- the next access of statements, and what is left behind it
 abbrev pub IsNext : List ℕ → Statements → Option (Bor Stmt) → Statements → Type 0
 IsNext registers before None left = (from_access registers before ≡ End) × (left ≡ End)
-IsNext registers before (Some access) left = (is_access (statement_of access.now) ≡ true) × (from_access registers before ≡ Then (statement_of access.now) left)
+IsNext registers before (Some access) left =
+    (is_access (statement_of access.now) ≡ true) × (from_access registers before ≡ Then (statement_of access.now) left)

@@ -8,7 +8,8 @@ use Rattle.lit_search.specs.Internal.Shown.{NoneShow}
 -- From the entries of lesser numbers, if they were these, they became those of these and the range.
 abbrev pub KeepsRange : Litmus → ℕ → ℕ → List Entry → List Entry → Type 0
 KeepsRange t from to old new =
-    (taken : ℕ → Bool) → ((n : ℕ) → IsTrue (taken n) → n < from) → AreEntries t taken old → AreEntries t (in_either taken (in_range from to)) new
+    (taken : ℕ → Bool) → ((n : ℕ) → IsTrue (taken n) → n < from) → AreEntries t taken old
+    → AreEntries t (in_either taken (in_range from to)) new
 
 -- A mark that was there stays, and one that is new is that of a data race in the range.
 pub record MarksRaces (t : Litmus) (from to : ℕ) (old new : Bool) : Type 0 where

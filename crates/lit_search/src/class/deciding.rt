@@ -11,7 +11,8 @@ use lit_read::Cond;
 /// What a register has in each outcome with the values that are known, if that is known: 0 where it isn't named.
 fn known_in(names: &[(u8, u8)], known: &[Option<u32>], agent: u8, register: u8) -> Option<u32>
     requires { length known.now ≡ length names.now }
-    ensures { IfSome result (λ value. (outcome : List ℕ) → HasKnown names.now known.now outcome → value_in (zip names.now outcome) agent register ≡ value) }
+    ensures { IfSome result
+        (λ value. (outcome : List ℕ) → HasKnown names.now known.now outcome → value_in (zip names.now outcome) agent register ≡ value) }
 {
     for (place, name) in names.iter().enumerate() {
         if name.0 == agent && name.1 == register {

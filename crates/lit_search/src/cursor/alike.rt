@@ -10,7 +10,8 @@ ghost use Rattle.lit_paths.specs.ByteReads.{byte_reads, pair_of};
 ghost use Rattle.lit_paths.specs.Event.{HasByte, event_at, payload_at};
 ghost use Rattle.lit_rel.specs.Part.{part_events};
 ghost use Rattle.lit_rel.specs.TearFree.{CanReadWhole};
-ghost use Rattle.lit_search.specs.Internal.Alike.{AllFit, AreOfOthers, FitsAt, HasAlike, HasAlikeAt, HasLesser, IsLastRead, IsStoredAlike, IsWholeFrom, StoresAlike, TakesEach, TakesOne};
+ghost use Rattle.lit_search.specs.Internal.Alike.{AllFit, AreOfOthers, FitsAt, HasAlike, HasAlikeAt, HasLesser, IsLastRead};
+ghost use Rattle.lit_search.specs.Internal.Alike.{IsStoredAlike, IsWholeFrom, StoresAlike, TakesEach, TakesOne};
 ghost use Rattle.lit_search.specs.Internal.Passing.{first_places};
 ghost use Rattle.lit_search.specs.Internal.Places.{candidates_at, low_at, part_at, stand_events};
 
@@ -64,7 +65,8 @@ fn stores_same(part: &Part<'_>, byte: u8, source: u8, other: u8) -> bool
     requires source { source < length (part_events part.now) }
     requires other { other < length (part_events part.now) }
     ensures in_range { IsTrue result → HasByte (event_at (part_events part.now) other) byte }
-    ensures same { IsTrue result → payload_at (event_at (part_events part.now) other) byte ≡ payload_at (event_at (part_events part.now) source) byte }
+    ensures same { IsTrue result → payload_at (event_at (part_events part.now) other) byte
+        ≡ payload_at (event_at (part_events part.now) source) byte }
 {
     let events = part.combination().events();
     let old = event_at(events, usize::from(source));
@@ -174,7 +176,8 @@ impl Cursor<'_> {
         requires place { place < length self.now.places }
         requires source { source < length (stand_events self.now) }
         requires other { other < length (stand_events self.now) }
-        ensures { IsTrue result → TakesOne (part_at self.now) read.event place read.first source other ⊎ TakesEach (part_at self.now) read.event read.first source other }
+        ensures { IsTrue result → TakesOne (part_at self.now) read.event place read.first source other
+            ⊎ TakesEach (part_at self.now) read.event read.first source other }
     {
         let part = self.part();
         if is_whole_from(part, read.event, other) {
@@ -333,7 +336,8 @@ impl Cursor<'_> {
 
     /// Whether a lesser event that is alike stands for a source of its last read, with choices from number `since` on.
     pub(crate) fn has_alike(&self, since: u64) -> bool
-        ensures { IsTrue result → (first : ℕ) × (first ≤ length self.now.places) × HasAlike (part_at self.now) first × (since ≤ low_at (first_places self.now first)) }
+        ensures { IsTrue result → (first : ℕ) × (first ≤ length self.now.places) × HasAlike (part_at self.now) first
+            × (since ≤ low_at (first_places self.now first)) }
     {
         let depth = self.places.len();
         if depth == 0 || !self.repeats[depth - 1] {

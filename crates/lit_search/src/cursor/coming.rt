@@ -76,7 +76,9 @@ impl Coming {
         requires combination { cursor.now.combination ≡ combination }
         requires beginning { cursor.now.places ≡ [] }
         ensures of { OnOk result (self.new.combination ≡ Some combination) }
-        ensures coming { OnOk result ((kept : List Entry) → IsComing cursor.now.test (λ outcome. ¬ HasOutcome kept outcome) self.old → IsComing cursor.now.test (λ outcome. ¬ HasOutcome kept outcome) self.new) }
+        ensures coming { OnOk result
+            ((kept : List Entry) → IsComing cursor.now.test (λ outcome. ¬ HasOutcome kept outcome) self.old
+            → IsComing cursor.now.test (λ outcome. ¬ HasOutcome kept outcome) self.new) }
     {
         if self.combination == Some(combination) {
             return Ok(());
@@ -96,8 +98,10 @@ impl Coming {
         requires all { HasAll cursor.now }
         requires known { IfSome self.old.items (λ _. All (λ k. k < length (byte_reads (stand_events cursor.now))) self.old.numbers.items) }
         ensures of { self.new.combination ≡ self.old.combination }
-        ensures coming { (kept : List Entry) → IsToCome cursor.now.test cursor.now.combination (λ outcome. ¬ HasOutcome kept outcome) self.old
-            → IsToCome cursor.now.test cursor.now.combination (λ outcome. ¬ HasOutcome kept outcome × (outcome ≢ part_outcome (part_at cursor.now))) self.new }
+        ensures coming { (kept : List Entry)
+            → IsToCome cursor.now.test cursor.now.combination (λ outcome. ¬ HasOutcome kept outcome) self.old
+            → IsToCome cursor.now.test cursor.now.combination
+            (λ outcome. ¬ HasOutcome kept outcome × (outcome ≢ part_outcome (part_at cursor.now))) self.new }
     {
         laws_below();
         let _names = plan.names();
@@ -159,7 +163,8 @@ impl Cursor<'_> {
         requires known { All (λ k. k < length (byte_reads (stand_events self.now))) numbers.now }
         requires held { HoldsAll self.now.test self.now.combination numbers.now }
         requires few { length numbers.now ≤ BYTE_READ_LIMIT }
-        ensures { IfOk result (λ items. IfSome items (λ items. AreItems self.now.test self.now.combination (λ _. Unit {0}) numbers.now items.items)) }
+        ensures { IfOk result
+            (λ items. IfSome items (λ items. AreItems self.now.test self.now.combination (λ _. Unit {0}) numbers.now items.items)) }
     {
         list_items(alloc, self.part(), &self.refused, numbers)
     }

@@ -17,7 +17,8 @@ ghost use Rattle.lit_valid.specs.Completion.{Completes, IsEntered};
 ghost use Rattle.lit_search.specs.Foreseen.{IsApart, IsOut};
 ghost use Rattle.lit_search.specs.Internal.Places.{part_at};
 ghost use Rattle.lit_search.specs.Internal.RefusedSources.{AreRefused, HasIn};
-ghost use Rattle.lit_search.specs.Internal.Foreseeing.{AreAlwaysKept, AreForeseen, AreOfPart, GoesNowhere, GoesOnWith, MaySynchronize, NoneGoesOnWith};
+ghost use Rattle.lit_search.specs.Internal.Foreseeing.{AreAlwaysKept, AreForeseen, AreOfPart, GoesNowhere};
+ghost use Rattle.lit_search.specs.Internal.Foreseeing.{GoesOnWith, MaySynchronize, NoneGoesOnWith};
 
 use crate::cursor::Cursor;
 use crate::cursor::refused_sources::RefusedSources;
@@ -122,7 +123,8 @@ fn is_only(
     requires known { (k c : ℕ) → slice_get candidates.now k ≡ Some c → c < length (part_events part.now) }
     requires read { at.read < length (part_events part.now) }
     requires len { rows_len before.now ≡ length (part_events part.now) }
-    ensures { IsTrue result → (k c : ℕ) → slice_get candidates.now k ≡ Some c → c ≢ source → IsOut part.now (Holds before.now) at.read at.byte c }
+    ensures { IsTrue result → (k c : ℕ) → slice_get candidates.now k ≡ Some c → c ≢ source
+        → IsOut part.now (Holds before.now) at.read at.byte c }
 {
     for candidate in candidates {
         if *candidate != source && !is_out(part, refused, before, at, *candidate) {
@@ -154,7 +156,8 @@ fn put_pair(part: &Part<'_>, before: &mut Rows, source: u8, read: u8)
     requires read { read < length (part_events part.now) }
     requires len { rows_len before.old ≡ length (part_events part.now) }
     ensures len { rows_len before.new ≡ rows_len before.old }
-    ensures pairs { (a d : ℕ) → Holds before.new a d ↔ (Holds before.old a d ⊎ ((a ≡ source) × (d ≡ read) × MaySynchronize part.now source read)) }
+    ensures pairs { (a d : ℕ) → Holds before.new a d
+        ↔ (Holds before.old a d ⊎ ((a ≡ source) × (d ≡ read) × MaySynchronize part.now source read)) }
 {
     let events = part.combination().events();
     let (w, r) = (usize::from(source), usize::from(read));

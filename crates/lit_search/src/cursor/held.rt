@@ -136,7 +136,8 @@ pub(crate) fn holds_read(part: &Part<'_>, name: (u8, u8), read: u8) -> bool
 /// Whether some register that a search asks about holds a read.
 fn is_asked<W: Wanted>(plan: &Plan<'_>, part: &Part<'_>, wanted: &W, read: u8) -> bool
     requires { part.now.test ≡ plan.now }
-    ensures { IsFalse result → (k : ℕ) (name : ℕ × ℕ) → slice_get (names_of plan.now) k ≡ Some name → IsTrue (W.Asks wanted.now plan.now name)
+    ensures { IsFalse result → (k : ℕ) (name : ℕ × ℕ) → slice_get (names_of plan.now) k ≡ Some name
+        → IsTrue (W.Asks wanted.now plan.now name)
         → read_of part.now.test part.now.combination name ≢ Some read }
 {
     for name in plan.names() {

@@ -3,7 +3,8 @@
 ghost use Rattle.std.specs.Prelude.{◌≡◌, ◌↔◌, ◌<◌, ◌≤◌, [], ◌∷◌, ◌++◌, IfNone, IfSome, IsTrue, length};
 ghost use Rattle.lit_paths.specs.ByteReads.{byte_reads};
 ghost use Rattle.lit_paths.specs.declared.limits.TheConstants.{EVENT_LIMIT};
-ghost use Rattle.lit_search.specs.Internal.LeftOut.{AreLeftOut, HasNoneLeft, HasNoneLeftAt, IsLeftOut, IsSeqCstRead, IsWorthAsking, WouldTear, with_place};
+ghost use Rattle.lit_search.specs.Internal.LeftOut.{AreLeftOut, HasNoneLeft, HasNoneLeftAt, IsLeftOut, IsSeqCstRead};
+ghost use Rattle.lit_search.specs.Internal.LeftOut.{IsWorthAsking, WouldTear, with_place};
 ghost use Rattle.lit_search.specs.Internal.Places.{behind_at, candidates_at, low_at, part_at, stand_events};
 ghost use Rattle.lit_search.specs.Internal.Taking.{AreBarren};
 ghost use Rattle.lit_search.specs.Report.{in_range};
@@ -112,7 +113,8 @@ impl Cursor<'_> {
         requires from { from ≤ length (candidates_at (stand_events self.now) (length self.now.places)) }
         ensures found { IfSome result (λ place. place < length (candidates_at (stand_events self.now) (length self.now.places))) }
         ensures later { IfSome result (λ place. from ≤ place) }
-        ensures passed { IfSome result (λ place. AreBarren self.now.test (in_range (low_at (with_place self.now from)) (low_at (with_place self.now place)))) }
+        ensures passed { IfSome result
+            (λ place. AreBarren self.now.test (in_range (low_at (with_place self.now from)) (low_at (with_place self.now place)))) }
         ensures none { IfNone result (AreBarren self.now.test (in_range (low_at (with_place self.now from)) (behind_at self.now))) }
     {
         laws_below();

@@ -48,7 +48,8 @@ impl Cursor<'_> {
         requires test { self.now.test ≡ plan.now }
         requires known { AllKnownAfter self.now.test self.now.combination known (W.Asks wanted.now plan.now) }
         ensures passed { IsTrue result → MayPass plan.now (W.IsWanted wanted.now plan.now) 0 self.now known }
-        ensures wanted { IsFalse result → known ≤ length self.now.places → W.IsWanted wanted.now plan.now (part_outcome (part_at self.now)) }
+        ensures wanted { IsFalse result → known ≤ length self.now.places
+            → W.IsWanted wanted.now plan.now (part_outcome (part_at self.now)) }
     {
         laws_below();
         let _names = plan.names();
@@ -139,7 +140,8 @@ impl Cursor<'_> {
         requires all { HasAll self.now }
         requires whole { ¬ IsRefuted (part_at self.now) }
         ensures none { IfNone result (NoneValid plan.now self.now) }
-        ensures shows { IfSome result (λ example. IsExample plan.now (low_at self.now) (part_outcome (part_at self.now)) example.order.items) }
+        ensures shows { IfSome result
+            (λ example. IsExample plan.now (low_at self.now) (part_outcome (part_at self.now)) example.order.items) }
         ensures choice { IfSome result (λ example. example.choice ≡ low_at self.now) }
     {
         laws_below();
@@ -160,7 +162,8 @@ impl Cursor<'_> {
         requires whole { ¬ IsRefuted (part_at self.old) }
         ensures same { self.new ≡ self.old }
         ensures none { IfNone result (NoneValid plan.now self.old) }
-        ensures shows { IfSome result (λ example. IsExample plan.now (low_at self.old) (part_outcome (part_at self.old)) example.order.items) }
+        ensures shows { IfSome result
+            (λ example. IsExample plan.now (low_at self.old) (part_outcome (part_at self.old)) example.order.items) }
         ensures choice { IfSome result (λ example. example.choice ≡ low_at self.old) }
     {
         self.keep_order();
@@ -193,7 +196,8 @@ impl Cursor<'_> {
         ensures combination { self.new.combination ≡ self.old.combination }
         ensures shows { MatchOption result
             (NoneShow plan.now (W.IsWanted wanted.now plan.now) (in_range from.old from.new))
-            (λ example. IsNext plan.now (W.IsWanted wanted.now plan.now) from.old to (shown_entry (part_outcome (part_at self.new)) example)) }
+            (λ example. IsNext plan.now (W.IsWanted wanted.now plan.now) from.old to
+            (shown_entry (part_outcome (part_at self.new)) example)) }
         ensures past { IfNone result (to ≤ from.new) }
         ensures stands { IfSome result (λ example. low_at self.new ≡ example.choice) }
         ensures all { IfSome result (λ _. HasAll self.new) }

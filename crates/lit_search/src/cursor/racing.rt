@@ -46,7 +46,8 @@ impl Cursor<'_> {
     /// has.
     pub(crate) fn is_calm(&self) -> bool
         requires { self.now.places ≡ [] }
-        ensures { IsTrue result → ¬ HasRaceIn self.now.test (in_range (low_at self.now) (choices_before self.now.test (self.now.combination + 1))) }
+        ensures { IsTrue result → ¬ HasRaceIn self.now.test
+            (in_range (low_at self.now) (choices_before self.now.test (self.now.combination + 1))) }
     {
         laws_below();
         !self.part().may_race() && self.behind() == self.end()

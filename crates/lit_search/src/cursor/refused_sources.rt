@@ -27,7 +27,8 @@ fn refused_among(combination: &Combination<'_>, at: ByteRead, candidates: &[u8])
     requires known { (p w : ℕ) → slice_get candidates.now p ≡ Some w → w < length (events_in combination.now.0 combination.now.1) }
     requires read { at.read < length (events_in combination.now.0 combination.now.1) }
     ensures { (p w : ℕ) → slice_get candidates.now p ≡ Some w
-        → HasEvent result w ↔ HasFalseByteOn combination.now.0 combination.now.1 at.read at.byte (payload_at (event_at (events_in combination.now.0 combination.now.1) w) at.byte) }
+        → HasEvent result w ↔ HasFalseByteOn combination.now.0 combination.now.1 at.read at.byte
+        (payload_at (event_at (events_in combination.now.0 combination.now.1) w) at.byte) }
 {
     let _events = combination.events();
     let mut refused = EventSet::new();

@@ -102,7 +102,8 @@ impl Cursor<'_> {
         requires test { self.now.test ≡ _plan.now }
         ensures few { IfSome result (λ depth. depth < length self.now.places) }
         ensures wider { IfSome result (λ depth. behind_at self.now ≤ behind_at (first_places self.now depth)) }
-        ensures nothing { IfSome result (λ depth. AddsNothing _plan.now since (behind_at self.now) (behind_at (first_places self.now depth))) }
+        ensures nothing { IfSome result
+            (λ depth. AddsNothing _plan.now since (behind_at self.now) (behind_at (first_places self.now depth))) }
     {
         laws_below();
         let part = self.part();

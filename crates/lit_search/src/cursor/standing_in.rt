@@ -42,7 +42,8 @@ fn is_first(candidates: &[u8], at: ByteRead, before: &Rows) -> bool
 fn tells_nothing(part: &Part<'_>, held: &HeldReads, at: ByteRead, source: u8) -> bool
     requires held { held.now.items ≡ reads_held part.now.test part.now.combination }
     requires known { source < length (part_events part.now) }
-    ensures { IsTrue result ↔ (payload_at (event_at (part_events part.now) source) at.byte ≡ 0 ⊎ ¬ IsUsed part.now.test part.now.combination at.read) }
+    ensures { IsTrue result
+        ↔ (payload_at (event_at (part_events part.now) source) at.byte ≡ 0 ⊎ ¬ IsUsed part.now.test part.now.combination at.read) }
 {
     let events = part.combination().events();
     payload_at(event_at(events, usize::from(source)), at.byte) == 0 || !is_used(part, held, at.read)

@@ -30,5 +30,6 @@ pub(crate) trait Wanted {
     /// Whether it may be for an outcome of which these values are known: one for each of the plan's `names`.
     fn may_want(&self, plan: &Plan<'_>, known: &[Option<u32>]) -> bool
         requires { length known.now ≡ length (names_of plan.now) }
-        ensures { IsFalse result → (outcome : List ℕ) → HasKnown (names_of plan.now) known.now outcome → ¬ IsWanted self.now plan.now outcome };
+        ensures { IsFalse result → (outcome : List ℕ) → HasKnown (names_of plan.now) known.now outcome
+            → ¬ IsWanted self.now plan.now outcome };
 }

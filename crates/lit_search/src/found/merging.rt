@@ -21,7 +21,8 @@ use std::collections::VecDeque;
 fn lesser(parts: &[Examples], a: Rank, b: Rank) -> Rank
     requires first { IsRank (joined parts.now) a }
     requires second { IsRank (joined parts.now) b }
-    ensures lesser { ranked_entry (joined parts.now) result ≡ lesser_of (ranked_entry (joined parts.now) a) (ranked_entry (joined parts.now) b) }
+    ensures lesser { ranked_entry (joined parts.now) result
+        ≡ lesser_of (ranked_entry (joined parts.now) a) (ranked_entry (joined parts.now) b) }
     ensures rank { IsRank (joined parts.now) result }
 {
     let (Some((_, first)), Some((_, second))) = (find(parts, a.place), find(parts, b.place)) else {
@@ -51,12 +52,14 @@ fn take_least(parts: &[Examples], a: &mut VecDeque<Rank>, b: &mut VecDeque<Rank>
     requires first { AreRanks (joined parts.now) a.old.items }
     requires second { AreRanks (joined parts.now) b.old.items }
     ensures taken { merged (map (ranked_entry (joined parts.now)) a.old.items) (map (ranked_entry (joined parts.now)) b.old.items)
-        ≡ option_to_list (option_map (ranked_entry (joined parts.now)) result) ++ merged (map (ranked_entry (joined parts.now)) a.new.items) (map (ranked_entry (joined parts.now)) b.new.items) }
+        ≡ option_to_list (option_map (ranked_entry (joined parts.now)) result)
+        ++ merged (map (ranked_entry (joined parts.now)) a.new.items) (map (ranked_entry (joined parts.now)) b.new.items) }
     ensures rank { IfSome result (IsRank (joined parts.now)) }
     ensures first { AreRanks (joined parts.now) a.new.items }
     ensures second { AreRanks (joined parts.now) b.new.items }
     ensures fewer { OnSome result (length a.new.items + length b.new.items < length a.old.items + length b.old.items) }
-    ensures end { IfNone result (merged (map (ranked_entry (joined parts.now)) a.new.items) (map (ranked_entry (joined parts.now)) b.new.items) ≡ []) }
+    ensures end { IfNone result
+        (merged (map (ranked_entry (joined parts.now)) a.new.items) (map (ranked_entry (joined parts.now)) b.new.items) ≡ []) }
 {
     match compared(parts, a, b) {
         Ordering::Less => a.pop_front(),

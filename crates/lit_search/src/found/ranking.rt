@@ -88,7 +88,8 @@ fn cmp_outcomes(parts: &[Examples], a: &Rank, b: &Rank) -> Ordering
 /// How they compare by their large values packed, and then value by value.
 #[inline(always)]
 fn cmp_large(parts: &[Examples], a: &Rank, b: &Rank) -> Ordering
-    ensures { result ≡ slice_cmp nat_cmp (a.now.large ∷ (ranked_entry (joined parts.now) a.now).outcome) (b.now.large ∷ (ranked_entry (joined parts.now) b.now).outcome) }
+    ensures { result ≡ slice_cmp nat_cmp (a.now.large ∷ (ranked_entry (joined parts.now) a.now).outcome)
+        (b.now.large ∷ (ranked_entry (joined parts.now) b.now).outcome) }
 {
     match a.large.cmp(&b.large) {
         Ordering::Equal => cmp_outcomes(parts, a, b),
@@ -148,7 +149,8 @@ pub(crate) fn all_behind(
     count: usize,
 ) -> Result<Vec<Rank>, AllocError>
     requires { All (λ rank. rank.place + count < 2 ^ 64) ranks.items }
-    ensures { IfOk result (λ moved. moved.items ≡ map (λ rank. record { large = rank.large; small = rank.small; place = rank.place + count }) ranks.items) }
+    ensures { IfOk result
+        (λ moved. moved.items ≡ map (λ rank. record { large = rank.large; small = rank.small; place = rank.place + count }) ranks.items) }
 {
     let mut moved = Vec::with_capacity(alloc, ranks.len())?;
     for rank in ranks {

@@ -60,7 +60,8 @@ impl<'t> Runner<'t> {
         requires said { IsStatementIn (length block.old) (statement_of access.now) }
         requires access { is_access (statement_of access.now) ≡ true }
         ensures left { self.new.left ≡ self.old.left }
-        ensures done { record { block = block.new; registers = self.new.registers } ≡ after_statement (statement_of access.now) (record { block = block.old; registers = self.old.registers }) }
+        ensures done { record { block = block.new; registers = self.new.registers }
+            ≡ after_statement (statement_of access.now) (record { block = block.old; registers = self.old.registers }) }
     {
         match access {
             Stmt::Load {
@@ -106,7 +107,10 @@ impl<'t> Runner<'t> {
     /// A turn: the statements up to and including the next access, on the block.
     pub(crate) fn turn(&mut self, block: &mut [u8]) -> Result<(), AllocError>
         requires { AreStatementsIn (length block.old) self.old.left }
-        ensures left { IfOk result (λ _. self.new.left ≡ (accessed (from_access self.old.registers self.old.left) (record { block = block.old; registers = self.old.registers })).0) }
+        ensures left { IfOk result
+            (λ _. self.new.left
+            ≡ (accessed (from_access self.old.registers self.old.left)
+            (record { block = block.old; registers = self.old.registers })).0) }
         ensures done { IfOk result (λ _. record { block = block.new; registers = self.new.registers }
             ≡ (accessed (from_access self.old.registers self.old.left) (record { block = block.old; registers = self.old.registers })).1) }
     {
@@ -120,7 +124,9 @@ impl<'t> Runner<'t> {
     pub(crate) fn finish(&mut self, block: &mut [u8]) -> Result<(), AllocError>
         requires { AreStatementsIn (length block.old) self.old.left }
         ensures left { IfOk result (λ _. self.new.left ≡ End) }
-        ensures done { IfOk result (λ _. record { block = block.new; registers = self.new.registers } ≡ after self.old.left (record { block = block.old; registers = self.old.registers })) }
+        ensures done { IfOk result
+            (λ _. record { block = block.new; registers = self.new.registers }
+            ≡ after self.old.left (record { block = block.old; registers = self.old.registers })) }
     {
         'accesses: while let Some(next) = next_access(&mut self.left, &self.registers)? {
             self.carry_out(next, block);

@@ -30,7 +30,8 @@ pub fn interleavings_are_reported()
 
 /// The report of all choices of a test has an entry.
 pub fn reports_have_an_entry()
-    ensures { (t : Litmus) (report : Report) → IsLitmus t → IsReport t (in_range 0 (length (choices_of t))) report → 1 ≤ length report.entries }
+    ensures { (t : Litmus) (report : Report) → IsLitmus t → IsReport t (in_range 0 (length (choices_of t))) report
+        → 1 ≤ length report.entries }
 {
     interleavings_are_reported();
 }

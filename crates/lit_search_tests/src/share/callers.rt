@@ -86,7 +86,8 @@ fn call_all<R: Threads>(
             ensures { IfSome first.exit.now.place (IsPlaceOf desk.entry.now) }
         { first.call(*alloc, plan, desk) },
         &mut ||
-            requires { (desk.now.pieces ≡ pieces_of (length (choices_of plan.now)) 1) × IfSome second.now.place (IsPlaceOf desk.now) × IfSome third.now.place (IsPlaceOf desk.now) }
+            requires { (desk.now.pieces ≡ pieces_of (length (choices_of plan.now)) 1) × IfSome second.now.place (IsPlaceOf desk.now)
+                × IfSome third.now.place (IsPlaceOf desk.now) }
             ensures { IfSome second.exit.now.place (IsPlaceOf desk.entry.now) × IfSome third.exit.now.place (IsPlaceOf desk.entry.now) }
         { call_both(rt, alloc, plan, desk, second, third) },
     );

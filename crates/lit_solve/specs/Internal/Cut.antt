@@ -1,5 +1,6 @@
 -- What the ends of a range of choices are, and how many boxes lie before and after the middle one.
-use Rattle.std.specs.Prelude.{◌≡◌, ◌≢◌, ℕ, ◌+◌, ◌-◌, ◌<◌, ◌≤◌, IfNone, IfSome, List, MatchOption, Option, Some, length, option_map, slice_index}
+use Rattle.std.specs.Prelude.{◌≡◌, ◌≢◌, ℕ, ◌+◌, ◌-◌, ◌<◌, ◌≤◌, IfNone, IfSome, List, MatchOption}
+use Rattle.std.specs.Prelude.{Option, Some, length, option_map, slice_index}
 use Rattle.lit_read.specs.Syntax.{Litmus}
 use Rattle.lit_paths.specs.declared.event.Event.{Event}
 use Rattle.lit_paths.specs.Choice.{AreSources}

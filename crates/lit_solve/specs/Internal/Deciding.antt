@@ -40,7 +40,8 @@ IsByteDecided box k byte (Hangs at) = (at ≡ k) × IsUndecidedAt box k
 
 -- read r has this number by any sources that lie in the box, or by none; or that hangs on what a byte is read as
 abbrev pub IsReadDecided : Box → (r number : ℕ) → Decided → Type 0
-IsReadDecided box r number (Comes value) = (sources : List ℕ) → AreSourcesIn box sources → (value_of (box_events box) sources r == number) ≡ value
+IsReadDecided box r number (Comes value) =
+    (sources : List ℕ) → AreSourcesIn box sources → (value_of (box_events box) sources r == number) ≡ value
 IsReadDecided box r number (Hangs k) = IsUndecidedAt box k
 
 -- the condition comes to a value with the outcome of each completion, or it hangs on what a byte is read as

@@ -37,7 +37,8 @@ bytes_taken events reads sources r = map (λ p. payload_at (event_at events p.1)
 pub record FillsBytes (box : Box) (r : ℕ) (reads : List (ℕ × ℕ)) (whole : ℕ → Type 0) (value bytes : ℕ) (sources : List ℕ) : Type 0 where
   pub tear_free : (w v : ℕ) → TakesWhole (box_events box) reads sources r w
       → whole v ⊎ TakesWhole (box_events box) reads sources r v → v ≡ w
-  pub tests : ¬ HasFalseTestOn box.test box.combination (Some r) (value + 256 ^ bytes * composed (bytes_taken (box_events box) reads sources r))
+  pub tests : ¬ HasFalseTestOn box.test box.combination (Some r)
+      (value + 256 ^ bytes * composed (bytes_taken (box_events box) reads sources r))
 
 -- there are such sources of the byte reads from the k-th on
 abbrev pub CanFillOn : Box → ℕ → ℕ → (ℕ → Type 0) → ℕ → ℕ → Type 0
@@ -56,7 +57,8 @@ WholeWith events r whole w v = whole v ⊎ ((v ≡ w) × CanReadWhole (event_at 
 abbrev pub CanFillWith : Box → ℕ → ℕ → ℕ → (ℕ → Type 0) → ℕ → ℕ → ℕ → Type 0
 CanFillWith box r k b whole value bytes w =
     WouldNotTear (box_events box) r whole w
-    × CanFillOn box r (k + 1) (WholeWith (box_events box) r whole w) (value + 256 ^ bytes * payload_at (event_at (box_events box) w) b) (bytes + 1)
+    × CanFillOn box r (k + 1) (WholeWith (box_events box) r whole w) (value + 256 ^ bytes * payload_at (event_at (box_events box) w) b)
+    (bytes + 1)
 
 -- From the k-th byte read on there are reads from r on alone, and what was taken for r leaves room for its bytes there.
 pub record HasRoom (events : List Event) (r k : ℕ) (taken : Taken) : Type 0 where

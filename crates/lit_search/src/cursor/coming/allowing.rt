@@ -42,7 +42,8 @@ fn is_allowed(item: &Item, allowed: &[EventSet]) -> bool
 /// The place of the first item that is so, of those from one place up to and without another.
 fn allowed_from(items: &[Item], allowed: &[EventSet], from: usize, to: usize) -> Option<usize>
     requires { to ≤ length items.now }
-    ensures { IfNone result ((j : ℕ) (item : Item) → from ≤ j → j < to → slice_get items.now j ≡ Some item → ¬ AreIn item.sources.items allowed.now) }
+    ensures { IfNone result
+        ((j : ℕ) (item : Item) → from ≤ j → j < to → slice_get items.now j ≡ Some item → ¬ AreIn item.sources.items allowed.now) }
 {
     for place in from..to {
         if is_allowed(&items[place], allowed) {
@@ -103,7 +104,8 @@ impl Cursor<'_> {
     fn allowed(&self, numbers: &[u8]) -> Allowed
         requires known { All (λ k. k < length (byte_reads (stand_events self.now))) numbers.now }
         requires few { length numbers.now ≤ BYTE_READ_LIMIT }
-        ensures { (x : Execution) (item : List ℕ) → Completes (part_at self.now) x → Takes numbers.now item x.sources → AreIn item result.items }
+        ensures { (x : Execution) (item : List ℕ) → Completes (part_at self.now) x → Takes numbers.now item x.sources
+            → AreIn item result.items }
     {
         let mut allowed = Allowed::new();
         for number in numbers {
