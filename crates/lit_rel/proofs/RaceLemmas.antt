@@ -13,7 +13,7 @@ use Rattle.lit_rel.specs.DataRace.{AreUnguarded, HasCandidateLeft, HasDataRace, 
 use Rattle.lit_rel.specs.declared.given.SourcedByte.{SourcedByte}
 use Rattle.lit_rel.specs.HappensBefore.{HappensBefore}
 use Rattle.lit_rel.specs.Internal.Given.{AreFirstReads, sources_of}
-use Rattle.lit_rel.specs.Internal.Racing.{AreApart, HasApartPair, WritesWith}
+use Rattle.lit_rel.specs.Racing.{AreApart, HasApartPair, WritesWith}
 use Rattle.lit_rel.specs.ReadsFrom.{ReadsFrom}
 use Rattle.lit_rel.proofs.GrowthLemmas.{grow_with_bytes}
 use Rattle.lit_rel.proofs.PlaceLemmas.{place_from-left}

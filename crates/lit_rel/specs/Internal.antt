@@ -6,6 +6,5 @@ pub mod Given
 pub mod Levels
 pub mod PartKept
 pub mod Pushed
-pub mod Racing
 pub mod Refused
 pub mod Steps

@@ -16,6 +16,7 @@ pub mod OtherSources
 pub mod InitReads
 pub mod Settled
 pub mod DataRace
+pub mod Racing
 pub mod Part
 pub mod Broken
 pub mod TestedBytes

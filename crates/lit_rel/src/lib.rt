@@ -17,6 +17,7 @@ pub use between::{Between, Pair};
 pub use event_set::EventSet;
 pub use given::forbidden::others_between;
 pub use given::peers::peers_of;
+pub use given::races::{are_apart, has_racing_writes};
 pub use given::reads::can_read_whole;
 pub use given::relations::can_synchronize;
 pub use given::values::payload_at;

@@ -10,7 +10,7 @@ use Rattle.lit_paths.specs.ByteReads.{byte_read_at, byte_reads, pair_of}
 use Rattle.lit_rel.specs.declared.event_set.EventSet.{EventSet}
 use Rattle.lit_rel.specs.DataRace.{HasDataRaceOf}
 use Rattle.lit_rel.specs.EventSet.{HasEvent, no_events}
-use Rattle.lit_rel.specs.Internal.Racing.{AreApart, HasApartPair, WritesWith}
+use Rattle.lit_rel.specs.Racing.{AreApart, HasApartPair, WritesWith}
 use Rattle.lit_rel.specs.Rows.{Holds}
 use Rattle.lit_rel.proofs.RaceLemmas.{HasDataRaceOf-iff, HasDataRaceOf-wider}
 use Rattle.lit_solve.specs.declared.frame.Frame.{Frame}

@@ -3,8 +3,7 @@
 
 ghost use Rattle.std.specs.Prelude.{◌≡◌, ◌↔◌, ℕ, ◌<◌, IsTrue, length};
 ghost use Rattle.lit_paths.specs.ByteReads.{byte_read_at, byte_reads};
-ghost use Rattle.lit_rel.specs.DataRace.{AreUnguarded, WriteOneByte};
-ghost use Rattle.lit_rel.specs.Internal.Racing.{AreApart, HasApartPair, WritesWith};
+ghost use Rattle.lit_rel.specs.Racing.{AreApart, HasApartPair, WritesWith};
 ghost use Rattle.lit_rel.specs.Rows.{Holds};
 ghost use Rattle.lit_solve.specs.Box.{HasEmptyDomain, HasSource, IsBox, box_with, events_on};
 ghost use Rattle.lit_solve.specs.Completion.{HasSolution};
@@ -19,24 +18,7 @@ use crate::domains::Domains;
 use crate::frame::Frame;
 use crate::laws::{quiet_boxes_are_filled_read_by_read, reads_are_filled_together};
 use crate::problem::Problem;
-use lit_paths::{Event, event_at};
-use lit_rel::{EventSet, has_false_test};
-
-/// Whether two events write a byte that is in both ranges.
-fn write_one_byte(first: &Event, second: &Event) -> bool
-    ensures { IsTrue result ↔ WriteOneByte first.now second.now }
-{
-    first.kind.does_write() && second.kind.does_write() && first.shares_byte(second)
-}
-
-/// Whether one of two events is not sequentially consistent, or their ranges overlap.
-fn are_unguarded(first: &Event, second: &Event) -> bool
-    ensures { IsTrue result ↔ AreUnguarded first.now second.now }
-{
-    !first.is_seq_cst()
-        || !second.is_seq_cst()
-        || (first.shares_byte(second) && !first.has_same_range(second))
-}
+use lit_rel::{EventSet, are_apart, has_false_test, has_racing_writes};
 
 impl Problem<'_> {
     /// Whether each event can be filled. One that does not read has no byte to fill.
@@ -73,47 +55,22 @@ impl Problem<'_> {
     fn are_apart(&self, frame: &Frame, first: usize, second: usize) -> bool
         requires first { first < length (events_on self.now) }
         requires second { second < length (events_on self.now) }
-        requires contained { IsContained (box_of self.now frame.now) frame.now }
         ensures { IsTrue result ↔ AreApart (events_on self.now) (Holds frame.now.happens_before.rows) first second }
     {
-        let events = self.combination.events();
-        let before = &frame.happens_before.rows;
-        first != second
-            && !before.holds(first, second)
-            && !before.holds(second, first)
-            && are_unguarded(event_at(events, first), event_at(events, second))
+        are_apart(
+            self.combination.events(),
+            &frame.happens_before.rows,
+            first,
+            second,
+        )
     }
 
-    /// Whether a write is in a data race with one of a lesser number.
-    fn races_with_lesser(&self, frame: &Frame, write: usize) -> bool
-        requires write { write < length (events_on self.now) }
-        requires contained { IsContained (box_of self.now frame.now) frame.now }
-        ensures { IsTrue result ↔ ((d : ℕ) × (d < write) × WritesWith (events_on self.now) write d
-            × AreApart (events_on self.now) (Holds frame.now.happens_before.rows) write d) }
-    {
-        let events = self.combination.events();
-        for other in 0..write {
-            if write_one_byte(event_at(events, write), event_at(events, other))
-                && self.are_apart(frame, write, other)
-            {
-                return true;
-            }
-        }
-        false
-    }
-
-    /// Whether two writes are in a data race.
+    /// Whether two events that write a byte are in a data race.
     fn has_racing_writes(&self, frame: &Frame) -> bool
-        requires { IsContained (box_of self.now frame.now) frame.now }
         ensures { IsTrue result
             ↔ HasApartPair (events_on self.now) (Holds frame.now.happens_before.rows) (WritesWith (events_on self.now)) }
     {
-        for write in 0..self.combination.events().len() {
-            if self.races_with_lesser(frame, write) {
-                return true;
-            }
-        }
-        false
+        has_racing_writes(self.combination.events(), &frame.happens_before.rows)
     }
 
     /// Whether the read at a place is in a data race with some source in the domain there.

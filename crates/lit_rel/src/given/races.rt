@@ -3,7 +3,7 @@
 ghost use Rattle.std.specs.Prelude.{◌↔◌, ℕ, ◌<◌, IsTrue, length};
 ghost use Rattle.lit_rel.specs.DataRace.{AreUnguarded, HasDataRaceOf, WriteOneByte};
 ghost use Rattle.lit_rel.specs.Internal.Given.{sources_of};
-ghost use Rattle.lit_rel.specs.Internal.Racing.{AreApart, HasApartPair, WritesWith};
+ghost use Rattle.lit_rel.specs.Racing.{AreApart, HasApartPair, WritesWith};
 ghost use Rattle.lit_rel.specs.ReadsFrom.{ReadsFrom};
 ghost use Rattle.lit_rel.specs.Rows.{Holds};
 
@@ -27,8 +27,9 @@ fn are_unguarded(first: &Event, second: &Event) -> bool
         || (first.shares_byte(second) && !first.has_same_range(second))
 }
 
-/// Whether two events are in a data race where both write a byte or one reads from the other.
-pub(crate) fn are_apart(events: &[Event], before: &Rows, first: usize, second: usize) -> bool
+/// Whether two events, by number, are in a data race where both write a byte or one reads from the other, by a relation that
+/// orders the events.
+pub fn are_apart(events: &[Event], before: &Rows, first: usize, second: usize) -> bool
     requires first { first < length events.now }
     requires second { second < length events.now }
     ensures { IsTrue result ↔ AreApart events.now (Holds before.now) first second }
@@ -54,8 +55,8 @@ fn races_with_lesser(events: &[Event], before: &Rows, write: usize) -> bool
     false
 }
 
-/// Whether two writes are in a data race.
-fn has_racing_writes(events: &[Event], before: &Rows) -> bool
+/// Whether two events that write a byte are in a data race, by a relation that orders the events.
+pub fn has_racing_writes(events: &[Event], before: &Rows) -> bool
     ensures { IsTrue result ↔ HasApartPair events.now (Holds before.now) (WritesWith events.now) }
 {
     for write in 0..events.len() {

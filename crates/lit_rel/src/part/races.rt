@@ -4,7 +4,7 @@ ghost use Rattle.std.specs.Prelude.{◌≡◌, ◌↔◌, ℕ, ◌<◌, IsTrue, 
 ghost use Rattle.lit_rel.specs.DataRace.{HasCandidateLeft, MayRace};
 ghost use Rattle.lit_rel.specs.HappensBefore.{HappensBefore};
 ghost use Rattle.lit_rel.specs.Part.{part_events};
-ghost use Rattle.lit_rel.specs.Internal.Racing.{AreApart, HasApartPair};
+ghost use Rattle.lit_rel.specs.Racing.{AreApart, HasApartPair};
 ghost use Rattle.lit_rel.specs.Rows.{Holds};
 
 use crate::given::races::are_apart;

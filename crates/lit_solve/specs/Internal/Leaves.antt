@@ -1,7 +1,7 @@
 -- Data races of a byte read and a source, by what a box leaves to read.
 use Rattle.std.specs.Prelude.{◌≡◌, ℕ, List, Some, slice_get}
 use Rattle.lit_paths.specs.ByteReads.{byte_read_at}
-use Rattle.lit_rel.specs.Internal.Racing.{AreApart}
+use Rattle.lit_rel.specs.Racing.{AreApart}
 use Rattle.lit_solve.specs.Box.{Box, box_events}
 use Rattle.lit_solve.specs.Fill.{AreSourcesIn, IsFilled}
 

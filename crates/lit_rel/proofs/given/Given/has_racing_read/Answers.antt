@@ -2,7 +2,7 @@ use Rattle.std.proofs.Common.{get_or, refl, sym}
 use Rattle.std.proofs.lemmas.Bool.{false≢true}
 use Rattle.std.proofs.lemmas.Option.{slice_get-get_or}
 use Rattle.lit_rel.specs.declared.given.SourcedByte.{SourcedByte}
-use Rattle.lit_rel.specs.Internal.Racing.{AreApart}
+use Rattle.lit_rel.specs.Racing.{AreApart}
 use Rattle.lit_rel.specs.Rows.{Holds}
 use Rattle.lit_rel.proofs.EachLemmas.{EachBelow-more, each_from_EachBelow}
 use Rattle.lit_rel.proofs.RaceLemmas.{AreApart-at, racing_read_from, racing_read_to}

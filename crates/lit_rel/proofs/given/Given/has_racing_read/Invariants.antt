@@ -1,5 +1,5 @@
 use Rattle.lit_rel.specs.declared.given.SourcedByte.{SourcedByte}
-use Rattle.lit_rel.specs.Internal.Racing.{AreApart}
+use Rattle.lit_rel.specs.Racing.{AreApart}
 use Rattle.lit_rel.specs.Rows.{Holds}
 use Rattle.lit_rel.proofs.EachLemmas.{EachBelow}
 use Rattle.lit_rel.proofs.given.Given.has_racing_read.Given as goal

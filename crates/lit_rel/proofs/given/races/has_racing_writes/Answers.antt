@@ -1,6 +1,6 @@
 use Rattle.std.proofs.Common.{ℕ, ◌<◌, below_more, arith}
 use Rattle.std.proofs.lemmas.Bool.{false≢true}
-use Rattle.lit_rel.specs.Internal.Racing.{AreApart, WritesWith}
+use Rattle.lit_rel.specs.Racing.{AreApart, WritesWith}
 use Rattle.lit_rel.specs.Rows.{Holds}
 use Rattle.lit_rel.proofs.RaceLemmas.{racing_writes_to}
 use Rattle.lit_rel.proofs.given.races.has_racing_writes.Goals as goal

@@ -1,6 +1,6 @@
 use Rattle.std.proofs.Common.{below_more}
 use Rattle.std.proofs.lemmas.Bool.{false≢true}
-use Rattle.lit_rel.specs.Internal.Racing.{AreApart, WritesWith}
+use Rattle.lit_rel.specs.Racing.{AreApart, WritesWith}
 use Rattle.lit_rel.specs.Rows.{Holds}
 use Rattle.lit_rel.proofs.given.races.races_with_lesser.Goals as goal
 use Rattle.lit_rel.proofs.given.races.races_with_lesser.Goals.{else-write_one_byte-via-then-write_one_byte+else-are_apart, else-write_one_byte-via-else-write_one_byte}

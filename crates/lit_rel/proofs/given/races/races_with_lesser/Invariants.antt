@@ -1,5 +1,5 @@
 use Rattle.std.proofs.Common.{ℕ, ◌<◌}
-use Rattle.lit_rel.specs.Internal.Racing.{AreApart, WritesWith}
+use Rattle.lit_rel.specs.Racing.{AreApart, WritesWith}
 use Rattle.lit_rel.specs.Rows.{Holds}
 use Rattle.lit_rel.proofs.given.races.races_with_lesser.Given as goal
 

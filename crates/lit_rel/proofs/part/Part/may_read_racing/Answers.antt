@@ -9,7 +9,7 @@ use Rattle.lit_paths.specs.Plan.{ListsCandidates, events_in}
 use Rattle.lit_rel.specs.DataRace.{HasCandidateLeft}
 use Rattle.lit_rel.specs.HappensBefore.{HappensBefore}
 use Rattle.lit_rel.specs.Part.{part_events}
-use Rattle.lit_rel.specs.Internal.Racing.{AreApart}
+use Rattle.lit_rel.specs.Racing.{AreApart}
 use Rattle.lit_rel.specs.Rows.{Holds}
 use Rattle.lit_rel.proofs.RaceLemmas.{AreApart-at, AreApart-same, HasApartPair-same, byte_read_there, racing_candidate_from, racing_candidate_to}
 use Rattle.lit_rel.proofs.SourceLemmas.{read_known}

@@ -2,7 +2,7 @@ use Rattle.std.proofs.Common.{◌≡◌, ℕ, ◌<◌, ◌≤◌, Some, length}
 use Rattle.std.specs.List.{slice_get}
 use Rattle.lit_paths.specs.ByteReads.{byte_reads, IsCandidate}
 use Rattle.lit_rel.specs.Part.{part_events}
-use Rattle.lit_rel.specs.Internal.Racing.{AreApart}
+use Rattle.lit_rel.specs.Racing.{AreApart}
 use Rattle.lit_rel.specs.Rows.{Holds}
 use Rattle.lit_rel.proofs.part.Part.may_read_racing.Given as goal
 

@@ -1,5 +1,5 @@
 use Rattle.std.proofs.Common.{ℕ}
-use Rattle.lit_rel.specs.Internal.Racing.{AreApart}
+use Rattle.lit_rel.specs.Racing.{AreApart}
 use Rattle.lit_rel.specs.Rows.{Holds}
 use Rattle.lit_rel.proofs.EachLemmas.{EachBelow}
 use Rattle.lit_rel.proofs.part.races.races_with_source.Given as goal

@@ -1,4 +1,4 @@
--- Two events that are in a data race where both write a byte or one reads from the other.
+-- Two events that are in a data race where both write a byte or one reads from the other (this project's own).
 use Rattle.std.specs.Prelude.{◌≢◌, ℕ, ◌<◌, List, length}
 use Rattle.lit_paths.specs.declared.event.Event.{Event}
 use Rattle.lit_paths.specs.Event.{event_at}
