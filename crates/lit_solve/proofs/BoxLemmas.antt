@@ -27,7 +27,12 @@ module _ (inner outer : Box) (within : IsWithin inner outer) where
   module _ (some : ¬ HasEmptyDomain inner) where
     -- what is given stays so
     pub given_stays : (r b w : ℕ) → GivenIn outer r b w → GivenIn inner r b w
-    given_stays r b w g = record { place = g.place; is_read = is_read; alone = record { there = there (has_source inner g.place w); alone = λ v h. g.alone.alone v (within.domains g.place v h) } }
+    given_stays r b w g =
+        record {
+          place = g.place;
+          is_read = is_read;
+          alone = record { there = there (has_source inner g.place w); alone = λ v h. g.alone.alone v (within.domains g.place v h) };
+        }
       where
         is_read : slice_get (byte_reads (box_events inner)) g.place ≡ Some (r, b)
         is_read = subst (λ (es : List Event). slice_get (byte_reads es) g.place ≡ Some (r, b)) same_events g.is_read
@@ -35,7 +40,12 @@ module _ (inner outer : Box) (within : IsWithin inner outer) where
         there : HasSource inner g.place w ⊎ ¬ HasSource inner g.place w → HasSource inner g.place w
         there (inl h) = h
         there (inr absent) =
-            absurd (some (g.place, slice_get_within (byte_reads (box_events inner)) g.place (r, b) is_read, λ v h. absent (subst (λ (u : ℕ). HasSource inner g.place u) (g.alone.alone v (within.domains g.place v h)) h)))
+            absurd (some (
+              g.place,
+              slice_get_within (byte_reads (box_events inner)) g.place (r, b) is_read,
+              λ v h. absent
+                  (subst (λ (u : ℕ). HasSource inner g.place u) (g.alone.alone v (within.domains g.place v h)) h),
+            ))
 
     grows : Grows (box_events inner) (GivenIn outer) (GivenIn inner)
     grows = Grows-from (box_events inner) (GivenIn outer) (GivenIn inner) given_stays
@@ -47,4 +57,6 @@ module _ (inner outer : Box) (within : IsWithin inner outer) where
     forbidden_grows w r v f = grows.forbidden w r v (subst (λ (es : List Event). IsForbiddenBy es (GivenIn outer) w r v) same_events f)
 
     pub forced_grows : (a d : ℕ) → IsForcedIn outer a d → IsForcedIn inner a d
-    forced_grows = IsForced-grow (HappensBeforeIn outer) (HappensBeforeIn inner) (IsForbiddenIn outer) (IsForbiddenIn inner) (λ a d h. Given (before_grows a d h)) forbidden_grows
+    forced_grows =
+        IsForced-grow (HappensBeforeIn outer) (HappensBeforeIn inner) (IsForbiddenIn outer) (IsForbiddenIn inner)
+        (λ a d h. Given (before_grows a d h)) forbidden_grows

@@ -34,8 +34,10 @@ one_domain_more boxes i domains count domain are within is = record {
 }
 
 -- a domain by its parts
-pub domain_exact : (boxes : BoxesModel) (i place : ℕ) (candidates above below both all : EventSet) → AreEventsIn boxes.test.bytes (boxes_events boxes) → place < length (byte_reads (boxes_events boxes))
-    → ((w : ℕ) → HasEvent candidates w ↔ IsCandidate (boxes_events boxes) (byte_read_at (boxes_events boxes) place).0 (byte_read_at (boxes_events boxes) place).1 w)
+pub domain_exact : (boxes : BoxesModel) (i place : ℕ) (candidates above below both all : EventSet) → AreEventsIn boxes.test.bytes (boxes_events boxes)
+    → place < length (byte_reads (boxes_events boxes))
+    → ((w : ℕ) → HasEvent candidates w
+    ↔ IsCandidate (boxes_events boxes) (byte_read_at (boxes_events boxes) place).0 (byte_read_at (boxes_events boxes) place).1 w)
     → ((w : ℕ) → w < EVENT_LIMIT → HasEvent above w ↔ (i ≤ boxes.lows → IfSome boxes.low (λ low. IsAbove low (parting_in boxes i) place w)))
     → ((w : ℕ) → w < EVENT_LIMIT → HasEvent below w ↔ (boxes.lows ≤ i → IfSome boxes.high (λ high. IsBelow high (parting_in boxes i) place w)))
     → ((w : ℕ) → HasEvent both w ↔ (HasEvent candidates w × HasEvent above w)) → ((w : ℕ) → HasEvent all w ↔ (HasEvent both w × HasEvent below w))

@@ -9,7 +9,8 @@ use Rattle.lit_solve.specs.Given.{HasAlone}
 use Rattle.lit_solve.proofs.FrameLemmas.{below_or_last}
 
 -- where no source of the byte read at a place has an effect on its read
-pub idle_at : (box : Box) (k r b : ℕ) → slice_get (byte_reads (box_events box)) k ≡ Some (r, b) → ((w : ℕ) → HasSource box k w → ¬ HasEffect (box_events box) w r) → IsIdle box k
+pub idle_at : (box : Box) (k r b : ℕ) → slice_get (byte_reads (box_events box)) k ≡ Some (r, b)
+    → ((w : ℕ) → HasSource box k w → ¬ HasEffect (box_events box) w r) → IsIdle box k
 idle_at box k r b is_read none q c w is_read_too there effect =
     let read : q ≡ r = ap (λ (p : ℕ × ℕ). p.0) (same_Some (q, c) (r, b) (sym is_read_too ∙ is_read)) in
     none w there (subst (λ (x : ℕ). HasEffect (box_events box) w x) read effect)
@@ -22,7 +23,8 @@ pub record IsBestBelow (box : Box) (best : Option ℕ) (n : ℕ) : Type 0 where
 
 module _ (box : Box) (best : Option ℕ) (n : ℕ) (is : IsBestBelow box best n) where
   -- one more that has several sources, one of which can force something
-  pub best_more : n < length (byte_reads (box_events box)) → ((w : ℕ) → ¬ HasAlone box n w) → (k : ℕ) → (k ≡ n) ⊎ (best ≡ Some k) → IsBestBelow box (Some k) (n + 1)
+  pub best_more : n < length (byte_reads (box_events box)) → ((w : ℕ) → ¬ HasAlone box n w) → (k : ℕ) → (k ≡ n) ⊎ (best ≡ Some k)
+      → IsBestBelow box (Some k) (n + 1)
   best_more below several k which = record { known = known which; several = several_there which; quiet = tt }
     where
       known : (k ≡ n) ⊎ (best ≡ Some k) → k < length (byte_reads (box_events box))
@@ -37,7 +39,8 @@ module _ (box : Box) (best : Option ℕ) (n : ℕ) (is : IsBestBelow box best n)
   pub best_kept : ((w : ℕ) × HasAlone box n w) ⊎ IsIdle box n → IsBestBelow box best (n + 1)
   best_kept quiet_there = record { known = is.known; several = is.several; quiet = by best is.quiet }
     where
-      by : (b : Option ℕ) → IfNone b ((k : ℕ) → k < n → ((w : ℕ) × HasAlone box k w) ⊎ IsIdle box k) → IfNone b ((k : ℕ) → k < n + 1 → ((w : ℕ) × HasAlone box k w) ⊎ IsIdle box k)
+      by : (b : Option ℕ) → IfNone b ((k : ℕ) → k < n → ((w : ℕ) × HasAlone box k w) ⊎ IsIdle box k)
+          → IfNone b ((k : ℕ) → k < n + 1 → ((w : ℕ) × HasAlone box k w) ⊎ IsIdle box k)
       by (Some k) earlier = tt
       by None earlier = λ k below. at k (below_or_last k n below)
         where

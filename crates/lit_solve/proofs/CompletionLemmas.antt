@@ -52,7 +52,12 @@ module _ (box : Box) (x : Execution) (is : IsCompletion box x) where
 
   -- it takes what is given
   pub given_taken : (r b w : ℕ) → GivenIn box r b w → ReadsByteFrom events x.sources r b w
-  given_taken r b w g = (g.place, g.is_read, there ∙ ap (λ (v : ℕ). Some v) (g.alone.alone (get_or x.sources g.place 0) (is.within g.place (get_or x.sources g.place 0) there)))
+  given_taken r b w g = (
+    g.place,
+    g.is_read,
+    there
+        ∙ ap (λ (v : ℕ). Some v) (g.alone.alone (get_or x.sources g.place 0) (is.within g.place (get_or x.sources g.place 0) there)),
+  )
     where
       inside : g.place < length x.sources
       inside = omega (arith, sourced.one_each, slice_get_within (byte_reads events) g.place (r, b) g.is_read)
@@ -69,8 +74,10 @@ module _ (box : Box) (x : Execution) (is : IsCompletion box x) where
   -- its memory-orders keep what is forced
   pub forced_kept : AreOfEvents events → (order : List ℕ) → IsMemoryOrder events x.sources order → (a d : ℕ) → IsForcedIn box a d → StandsBefore order a d
   forced_kept of_events order o a d f =
-      keeps_forced (length events) (HappensBefore events x.sources) (IsForbidden events x.sources) (triples_below (part_of box x.sources) sourced.each of_events) order o a d
-      (IsForced-grow (HappensBeforeIn box) (HappensBefore events x.sources) (IsForbiddenIn box) (IsForbidden events x.sources) (λ y z h. Given (grows.happens_before y z h)) grows.forbidden a d f)
+      keeps_forced (length events) (HappensBefore events x.sources) (IsForbidden events x.sources)
+      (triples_below (part_of box x.sources) sourced.each of_events) order o a d
+      (IsForced-grow (HappensBeforeIn box) (HappensBefore events x.sources) (IsForbiddenIn box) (IsForbidden events x.sources)
+      (λ y z h. Given (grows.happens_before y z h)) grows.forbidden a d f)
 
   coherent : HasCoherentReads events x.sources
   coherent = subst (λ (es : List Event). HasCoherentReads es x.sources) events_same is.valid.coherent_reads
@@ -92,14 +99,18 @@ module _ (box : Box) (x : Execution) (is : IsCompletion box x) where
     whole = not_broken (part_of box x.sources) x completes laws laws.grow laws.stay (record { litmus = entered.litmus; known = entered.known })
 
     -- it has no source that is out
-    pub not_out : RefusedBytesMakeFalse → AreEventsIn box.test.bytes events → (k r b w : ℕ) → slice_get (byte_reads events) k ≡ Some (r, b) → slice_get x.sources k ≡ Some w → IsOut box r b w → ⊥
+    pub not_out : RefusedBytesMakeFalse → AreEventsIn box.test.bytes events → (k r b w : ℕ) → slice_get (byte_reads events) k ≡ Some (r, b)
+        → slice_get x.sources k ≡ Some w → IsOut box r b w → ⊥
     not_out false_of sound k r b w is_read source (inl refused) =
         whole (inr (false_of (part_of box x.sources) r b w sound sourced.one_each (k, is_read, source) refused))
     not_out false_of sound k r b w is_read source (inr (inl incoherent)) =
-        incoherent (coherent_read_by events (HappensBefore events x.sources) (HappensBeforeIn box) grows.happens_before r b w (coherent r b w (k, is_read, source)))
+        incoherent (coherent_read_by events (HappensBefore events x.sources) (HappensBeforeIn box) grows.happens_before r b w
+        (coherent r b w (k, is_read, source)))
     not_out false_of sound k r b w is_read source (inr (inr (inl later))) =
-        let synchronized : HappensBefore events x.sources w r = record { middles = []; chain = inr (inl record { reads = (b, (k, is_read, source)); can = later.can }) } in
-        never_before_itself its_order ordered.complete.once w (StandsBefore-through its_order ordered.complete.once w r w (ordered.keeps w r synchronized) (stands r w later.later))
+        let synchronized : HappensBefore events x.sources w
+        r = record { middles = []; chain = inr (inl record { reads = (b, (k, is_read, source)); can = later.can }) } in
+        never_before_itself its_order ordered.complete.once w
+        (StandsBefore-through its_order ordered.complete.once w r w (ordered.keeps w r synchronized) (stands r w later.later))
     not_out false_of sound k r b w is_read source (inr (inr (inr (inl (v, between))))) =
         ordered.avoids w r v record {
           reads = (b, (k, is_read, source));

@@ -23,7 +23,8 @@ not_later l h p q first second inside less = omega (arith, first.greater (omega 
 
 one_parting : (l h : List ℕ) (p q : ℕ) → IsGreaterAt l p h → IsGreaterAt l q h → p ≤ length l → q ≤ length l → p ≡ q
 one_parting l h p q first second p_in q_in =
-    ⊎_elim (λ same. same) (λ apart. ⊎_elim (λ less. absurd (not_later l h p q first second q_in less)) (λ more. absurd (not_later l h q p second first p_in more)) apart)
+    ⊎_elim (λ same. same)
+    (λ apart. ⊎_elim (λ less. absurd (not_later l h p q first second q_in less)) (λ more. absurd (not_later l h q p second first p_in more)) apart)
     (cases_order p q)
 
 -- of what is above l and below h, l and h part where the first of both is left
@@ -77,8 +78,11 @@ module _ (len shared lows highs : ℕ) (s : List ℕ) (long : length s ≡ len) 
 
   found_behind : (low : Option (List ℕ)) (h : List ℕ) (k : ℕ) → Down h k → shared < k → k ≤ shared + highs → IsFound low (Some h)
   found_behind low h k down late inside =
-      let at : k ≡ parting shared lows (lows + (k - shared)) = omega (arith, late) in
-      (lows + (k - shared), omega (arith, late, inside), record { above = λ early. absurd (omega (arith, early, late)); below = λ _. subst (λ (j : ℕ). Down h j) at down })
+      let at : k ≡ parting shared lows (lows + (k - shared)) = omega (arith, late) in (
+        lows + (k - shared),
+        omega (arith, late, inside),
+        record { above = λ early. absurd (omega (arith, early, late)); below = λ _. subst (λ (j : ℕ). Down h j) at down },
+      )
 
   found_middle : (low high : Option (List ℕ)) → IfSome low (λ l. Up l shared) → IfSome high (λ h. Down h shared) → IsFound low high
   found_middle low high up down =
@@ -106,12 +110,14 @@ module _ (len shared lows highs : ℕ) (s : List ℕ) (long : length s ≡ len) 
       (cases_lt shared k)
 
   -- k is where the list leaves the low end, and e where it leaves the high one
-  found_from_both : (l h : List ℕ) → IsCut len (Some l) (Some h) shared lows highs → (k : ℕ) → k ≤ len → Up l k → (e : ℕ) → e ≤ len → Down h e → IsFound (Some l) (Some h)
+  found_from_both : (l h : List ℕ) → IsCut len (Some l) (Some h) shared lows highs → (k : ℕ) → k ≤ len → Up l k → (e : ℕ) → e ≤ len → Down h e
+      → IsFound (Some l) (Some h)
   found_from_both l h cut k k_in up e e_in down =
       let part : IsGreaterAt l shared h = cut.parting l h refl refl in
       let low_long : length l ≡ len = cut.before.long in
       let fits : shared ≤ len = cut.before.fits in
-      let one : (p : ℕ) → p ≤ len → IsGreaterAt l p h → shared ≡ p = λ p p_in is. one_parting l h shared p part is (omega (arith, low_long, fits)) (omega (arith, low_long, p_in)) in
+      let one : (p : ℕ) → p ≤ len → IsGreaterAt l p h
+      → shared ≡ p = λ p p_in is. one_parting l h shared p part is (omega (arith, low_long, fits)) (omega (arith, low_long, p_in)) in
       ⊎_elim
       (λ same.
       let down_too : Down h k = subst (λ (j : ℕ). Down h j) (sym same) down in
@@ -134,7 +140,8 @@ module _ (len shared lows highs : ℕ) (s : List ℕ) (long : length s ≡ len) 
   found (Some l) (Some h) cut is = found_from_both l h cut is.above.0 is.above.1 is.above.2 is.below.0 is.below.1 is.below.2
 
   -- ---- back from a box
-  between_both : (l h : List ℕ) → IsCut len (Some l) (Some h) shared lows highs → (i : ℕ) → i < lows + 1 + highs → IsInCut (Some l) (Some h) shared lows i s → IsBetween len (Some l) (Some h) s
+  between_both : (l h : List ℕ) → IsCut len (Some l) (Some h) shared lows highs → (i : ℕ) → i < lows + 1 + highs
+      → IsInCut (Some l) (Some h) shared lows i s → IsBetween len (Some l) (Some h) s
   between_both l h cut i inside is =
       let part : IsGreaterAt l shared h = cut.parting l h refl refl in
       let low_long : length l ≡ len = cut.before.long in
@@ -148,19 +155,39 @@ module _ (len shared lows highs : ℕ) (s : List ℕ) (long : length s ≡ len) 
       (λ apart. ⊎_elim
       (λ less.
       let up : IsGreaterAt l place s = is.above (omega (arith, less)) in
-      record { above = (place, fits, up); below = (shared, omega (arith, low_count), below_as_low l h s shared place (omega (arith, low_long, long)) part up (omega (arith, less))) })
+      record {
+        above = (place, fits, up);
+        below = (shared, omega (arith, low_count), below_as_low l h s shared place (omega (arith, low_long, long)) part up (omega (arith, less)));
+      })
       (λ more.
       let down : IsGreaterAt s place h = is.below (omega (arith, more)) in
       record { above = (shared, omega (arith, low_count), above_as_high l h s shared place part down (omega (arith, more))); below = (place, fits, down) })
       apart)
       (cases_order i lows)
 
-  pub between : (low high : Option (List ℕ)) → IsCut len low high shared lows highs → (i : ℕ) → i < lows + 1 + highs → IsInCut low high shared lows i s → IsBetween len low high s
+  pub between : (low high : Option (List ℕ)) → IsCut len low high shared lows highs → (i : ℕ) → i < lows + 1 + highs
+      → IsInCut low high shared lows i s → IsBetween len low high s
   between None None cut i inside is = record { above = tt; below = tt }
   between None (Some h) cut i inside is =
-      record { above = tt; below = (parting shared lows i, omega (arith, inside, cut.before.count, cut.behind.count), is.below (omega (arith, cut.before.count))) }
+      record {
+        above = tt;
+        below = (
+          parting shared lows i,
+          omega (arith, inside, cut.before.count, cut.behind.count),
+          is.below
+              (omega (arith, cut.before.count)),
+        );
+      }
   between (Some l) None cut i inside is =
-      record { above = (parting shared lows i, omega (arith, inside, cut.before.count, cut.behind.count), is.above (omega (arith, inside, cut.behind.count))); below = tt }
+      record {
+        above = (
+          parting shared lows i,
+          omega (arith, inside, cut.before.count, cut.behind.count),
+          is.above
+              (omega (arith, inside, cut.behind.count)),
+        );
+        below = tt;
+      }
   between (Some l) (Some h) cut i inside is = between_both l h cut i inside is
 
 -- ---- from box to box
@@ -177,7 +204,8 @@ module _ (len shared lows highs : ℕ) (s u : List ℕ) (long : length s ≡ len
       let later : parting shared lows j < parting shared lows i = omega (arith, less, low) in (
         parting shared lows j,
         omega (arith, count, less, low),
-        below_as_low l u s (parting shared lows j) (parting shared lows i) (omega (arith, low_long, long)) (second.above low) (first.above (omega (arith, less, low))) later,
+        below_as_low l u s (parting shared lows j) (parting shared lows i) (omega (arith, low_long, long)) (second.above low)
+            (first.above (omega (arith, less, low))) later,
       )
 
   -- both behind it or there
@@ -187,7 +215,8 @@ module _ (len shared lows highs : ℕ) (s u : List ℕ) (long : length s ≡ len
       let count : shared + highs ≡ len = cut.behind.count in (
         parting shared lows i,
         omega (arith, count, less, inside, high),
-        above_as_high s h u (parting shared lows i) (parting shared lows j) (first.below high) (second.below (omega (arith, less, high))) (omega (arith, less, high)),
+        above_as_high s h u (parting shared lows i) (parting shared lows j) (first.below high) (second.below (omega (arith, less, high)))
+            (omega (arith, less, high)),
       )
 
   -- one before it and one behind
@@ -197,8 +226,13 @@ module _ (len shared lows highs : ℕ) (s u : List ℕ) (long : length s ≡ len
       let low_long : length l ≡ len = cut.before.long in
       let count : shared + lows ≡ len = cut.before.count in
       let under : IsGreaterAt s shared h =
-      below_as_low l h s shared (parting shared lows i) (omega (arith, low_long, long)) (cut.parting l h refl refl) (first.above (omega (arith, before))) (omega (arith, before)) in
-      (shared, omega (arith, count, before), above_as_high s h u shared (parting shared lows j) under (second.below (omega (arith, behind))) (omega (arith, behind)))
+      below_as_low l h s shared (parting shared lows i) (omega (arith, low_long, long)) (cut.parting l h refl refl)
+      (first.above (omega (arith, before))) (omega (arith, before)) in (
+        shared,
+        omega (arith, count, before),
+        above_as_high s h u shared (parting shared lows j) under (second.below (omega (arith, behind)))
+            (omega (arith, behind)),
+      )
 
   pub rises : (low high : Option (List ℕ)) → IsCut len low high shared lows highs → IsInCut low high shared lows i s → IsInCut low high shared lows j u → IsLess
   rises None None cut first second = absurd (omega (arith, less, inside, cut.before.count, cut.behind.count))
@@ -206,7 +240,8 @@ module _ (len shared lows highs : ℕ) (s u : List ℕ) (long : length s ≡ len
   rises (Some l) None cut first second = rises_before l None cut (omega (arith, inside, cut.behind.count)) first second
   rises (Some l) (Some h) cut first second =
       ⊎_elim
-      (λ before. ⊎_elim (λ behind. rises_across l h cut before behind first second) (λ not_behind. rises_before l (Some h) cut not_behind first second) (cases_lt lows j))
+      (λ before. ⊎_elim (λ behind. rises_across l h cut before behind first second)
+      (λ not_behind. rises_before l (Some h) cut not_behind first second) (cases_lt lows j))
       (λ not_before. rises_behind (Some l) h cut not_before first second)
       (cases_lt i lows)
 

@@ -96,7 +96,8 @@ module _ (box : Box) (laws : Laws) (entered : IsBox box) where
 
     -- two events that race by what is given do so in each completion in which they conflict
     raced : (h : CanRaceIn box) (y : Execution) → IsCompletion box y
-        → (WriteOneByte (event_at events h.first) (event_at events h.second) ⊎ ReadsFrom events y.sources h.first h.second ⊎ ReadsFrom events y.sources h.second h.first)
+        → (WriteOneByte (event_at events h.first) (event_at events h.second) ⊎ ReadsFrom events y.sources h.first h.second
+        ⊎ ReadsFrom events y.sources h.second h.first)
         → HasSolution box Race
     raced h y it conflict =
         let race = h.is_race.race in
@@ -120,7 +121,8 @@ module _ (box : Box) (laws : Laws) (entered : IsBox box) where
     pub race_found : CanRaceIn box → HasSolution box Race
     race_found h = by h.is_race.race.conflict
       where
-        by : (WriteOneByte (event_at events h.first) (event_at events h.second) ⊎ CanFillFrom box h.first h.second ⊎ CanFillFrom box h.second h.first) → HasSolution box Race
+        by : (WriteOneByte (event_at events h.first) (event_at events h.second) ⊎ CanFillFrom box h.first h.second ⊎ CanFillFrom box h.second h.first)
+            → HasSolution box Race
         by (inl writes) = raced h x is (inl writes)
         by (inr (inl can)) =
             let found = with_fill h.first can.sources can.lie can.filled in

@@ -23,7 +23,8 @@ use Rattle.lit_solve.specs.Fill.{AreSourcesIn}
 use Rattle.lit_solve.specs.Internal.Deciding.{IsByteDecided, IsReadDecided, IsUndecidedAt, stored_for}
 
 -- two sources that store different bytes
-pub undecided_by : (box : Box) (k some other : ℕ) → k < length (byte_reads (box_events box)) → HasSource box k some → HasSource box k other → stored_for box k some ≢ stored_for box k other → IsUndecidedAt box k
+pub undecided_by : (box : Box) (k some other : ℕ) → k < length (byte_reads (box_events box)) → HasSource box k some → HasSource box k other
+    → stored_for box k some ≢ stored_for box k other → IsUndecidedAt box k
 undecided_by box k some other inside some_there other_there apart =
     let read = byte_read_at (box_events box) k in record {
       read = read.0;
@@ -40,7 +41,8 @@ same_if : (a b : ℕ) → (a == b) ≡ true → a ≡ b
 same_if a b is = grind (arith, nat_tests)
 
 -- the byte at a place in a number's four bytes
-pub byte_at : (number : ℕ) (bytes : List ℕ) (offset b first same_first : ℕ) → bytes ≡ to_le_bytes w32 number → offset ≡ b - same_first → same_first ≡ first → slice_index bytes offset ≡ slice_index (payload_of number) (b - first)
+pub byte_at : (number : ℕ) (bytes : List ℕ) (offset b first same_first : ℕ) → bytes ≡ to_le_bytes w32 number → offset ≡ b - same_first
+    → same_first ≡ first → slice_index bytes offset ≡ slice_index (payload_of number) (b - first)
 byte_at number bytes offset b first same_first is at same = ap₂ (λ (bs : List ℕ) (i : ℕ). slice_index bs i) is (at ∙ ap (λ (f : ℕ). b - f) same)
 
 -- ---- the bytes that one read takes
@@ -54,7 +56,8 @@ matched r g f (q ∷ reads) (w ∷ sources) long same =
     by (q.0 == r) refl (matched r g f reads sources (omega (arith, long)) (λ i p v at is source. same (suc i) p v at is source))
   where
     by : (t : Bool) → (q.0 == r) ≡ t → map g (filter (λ p. p.0.0 == r) (zip reads sources)) ≡ map f (only r reads)
-        → map g (cond t ((q, w) ∷ filter (λ p. p.0.0 == r) (zip reads sources)) (filter (λ p. p.0.0 == r) (zip reads sources))) ≡ map f (cond t (q ∷ only r reads) (only r reads))
+        → map g (cond t ((q, w) ∷ filter (λ p. p.0.0 == r) (zip reads sources)) (filter (λ p. p.0.0 == r) (zip reads sources))) ≡ map f
+        (cond t (q ∷ only r reads) (only r reads))
     by true is later =
         let its : q.0 ≡ r = grind (arith, nat_tests) in
         ap₂ (λ (x : ℕ) (xs : List ℕ). x ∷ xs) (same 0 q w refl its refl) later
@@ -93,7 +96,8 @@ composed_again number size (inl one) fits =
 composed_again number size (inr (inl two)) fits =
     ap (λ (n : ℕ). composed (map (slice_index (payload_of number)) (range_with_len 0 n))) two ∙ two_bytes number (subst (λ (n : ℕ). number < 256 ^ n) two fits)
 composed_again number size (inr (inr four)) fits =
-    ap (λ (n : ℕ). composed (map (slice_index (payload_of number)) (range_with_len 0 n))) four ∙ four_bytes number (subst (λ (n : ℕ). number < 256 ^ n) four fits)
+    ap (λ (n : ℕ). composed (map (slice_index (payload_of number)) (range_with_len 0 n))) four
+    ∙ four_bytes number (subst (λ (n : ℕ). number < 256 ^ n) four fits)
 
 -- bytes compose a number below so many
 composed_below : {X : Type 0} (g : X → ℕ) (xs : List X) → ((x : X) → g x < 256) → composed (map g xs) < 256 ^ length xs
@@ -131,14 +135,20 @@ module _ (box : Box) (r number : ℕ) where
     payload_small w b = by (cases_lt w (length events))
       where
         inside : (xs : List ℕ) (i : ℕ) → All (λ x. x < 256) xs → slice_index xs i < 256
-        inside xs i small = elim (cases_lt i (length xs)) [ inl within ↦ small i 0 within | inr past ↦ (let none : slice_index xs i ≡ 0 = get_or_past xs i 0 past in omega (arith, none)) ]
+        inside xs i small =
+            elim (cases_lt i (length xs)) [
+              | inl within ↦ small i 0 within
+              | inr past ↦
+                  (let none : slice_index xs i ≡ 0 = get_or_past xs i 0 past in omega (arith, none))
+            ]
 
         by : (w < length events) ⊎ (length events ≤ w) → payload_at (event_at events w) b < 256
         by (inl there) = inside (event_at events w).payload (b - (event_at events w).first) (sound.payload w there)
         by (inr past) = subst (λ (d : Event). payload_at d b < 256) (sym (get_or_past events w no_event past)) (omega arith)
 
     module _ (sources : List ℕ) (lie : AreSourcesIn box sources) where
-      same_number : number < 256 ^ e.size → ((k b w : ℕ) → slice_get (byte_reads events) k ≡ Some (r, b) → HasSource box k w → StoresIt b w) → value_of events sources r ≡ number
+      same_number : number < 256 ^ e.size → ((k b w : ℕ) → slice_get (byte_reads events) k ≡ Some (r, b) → HasSource box k w → StoresIt b w)
+          → value_of events sources r ≡ number
       same_number fits each =
           ap composed (matched r (λ p. payload_at (event_at events p.1) p.0.1) (λ q. byte_for q.1) (byte_reads events) sources lie.sourced.one_each
           (λ i q w at is source. each i q.1 w (at ∙ ap (λ (n : ℕ). Some (n, q.1)) is) (lie.within i w source)))
@@ -147,9 +157,11 @@ module _ (box : Box) (r number : ℕ) where
           ∙ composed_again number e.size (sound.sized r known) fits
 
       -- another number, as its byte is another at one place
-      other_number : (k b w : ℕ) → slice_get (byte_reads events) k ≡ Some (r, b) → slice_get sources k ≡ Some w → ¬ StoresIt b w → (value_of events sources r == number) ≡ false
+      other_number : (k b w : ℕ) → slice_get (byte_reads events) k ≡ Some (r, b) → slice_get sources k ≡ Some w → ¬ StoresIt b w
+          → (value_of events sources r == number) ≡ false
       other_number k b w at source other =
-          false_of box.test.bytes events sound sources lie.sourced.one_each r b w (record { on = None; equal = true; value = number }) (k, at, source) (inl (refl, (λ same. other (sym same))))
+          false_of box.test.bytes events sound sources lie.sourced.one_each r b w (record { on = None; equal = true; value = number }) (k, at, source)
+          (inl (refl, (λ same. other (sym same))))
 
       -- how many bytes it takes, and so how great its value can be
       count : length (filter (λ (p : (ℕ × ℕ) × ℕ). p.0.0 == r) (zip (byte_reads events) sources)) ≡ e.size
@@ -163,7 +175,8 @@ module _ (box : Box) (r number : ℕ) where
       value_below : value_of events sources r < 256 ^ e.size
       value_below =
           subst (λ (n : ℕ). value_of events sources r < 256 ^ n) count
-          (composed_below (λ (p : (ℕ × ℕ) × ℕ). payload_at (event_at events p.1) p.0.1) (filter (λ (p : (ℕ × ℕ) × ℕ). p.0.0 == r) (zip (byte_reads events) sources)) (λ p. payload_small p.1 p.0.1))
+          (composed_below (λ (p : (ℕ × ℕ) × ℕ). payload_at (event_at events p.1) p.0.1)
+          (filter (λ (p : (ℕ × ℕ) × ℕ). p.0.0 == r) (zip (byte_reads events) sources)) (λ p. payload_small p.1 p.0.1))
 
     -- ---- what is decided
     -- a number that does not fit
@@ -173,7 +186,8 @@ module _ (box : Box) (r number : ℕ) where
         ne_eqb (value_of events sources r) number (λ same. absurd (omega (arith, below, large, same)))
 
     -- another byte at one place
-    pub other_byte : (k b : ℕ) → slice_get (byte_reads events) k ≡ Some (r, b) → IsByteDecided box k (byte_for b) (Comes false) → IsReadDecided box r number (Comes false)
+    pub other_byte : (k b : ℕ) → slice_get (byte_reads events) k ≡ Some (r, b) → IsByteDecided box k (byte_for b) (Comes false)
+        → IsReadDecided box r number (Comes false)
     other_byte k b at none sources lie =
         let inside : k < length sources = omega (arith, slice_get_within (byte_reads events) k (r, b) at, lie.sourced.one_each) in
         let w = get_or sources k 0 in
@@ -189,10 +203,12 @@ module _ (box : Box) (r number : ℕ) where
     decided_all fits (Hangs k) hangs = hangs
 
     -- one place more, of another read or of a byte that is the number's
-    pub decided_next : (place : ℕ) (q : ℕ × ℕ) (decided : Decided) → slice_get (byte_reads events) place ≡ Some q → (q.0 ≢ r) ⊎ IsByteDecided box place (byte_for q.1) (Comes true) → IsDecidedBelow place decided → IsDecidedBelow (place + 1) decided
+    pub decided_next : (place : ℕ) (q : ℕ × ℕ) (decided : Decided) → slice_get (byte_reads events) place ≡ Some q
+        → (q.0 ≢ r) ⊎ IsByteDecided box place (byte_for q.1) (Comes true) → IsDecidedBelow place decided → IsDecidedBelow (place + 1) decided
     decided_next place q (Comes true) at same each = λ k b w below here there. by k b w here there (cases_lt k place) (cases_eq k place) below
       where
-        by : (k b w : ℕ) → slice_get (byte_reads events) k ≡ Some (r, b) → HasSource box k w → (k < place) ⊎ (place ≤ k) → (k ≡ place) ⊎ (k ≢ place) → k < place + 1 → StoresIt b w
+        by : (k b w : ℕ) → slice_get (byte_reads events) k ≡ Some (r, b) → HasSource box k w → (k < place) ⊎ (place ≤ k) → (k ≡ place) ⊎ (k ≢ place)
+            → k < place + 1 → StoresIt b w
         by k b w here there (inl before) is below = each k b w before here there
         by k b w here there (inr past) (inr other) below = absurd (omega (arith, past, other, below))
         by k b w here there (inr past) (inl is) below = last same

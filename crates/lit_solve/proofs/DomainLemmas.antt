@@ -62,13 +62,17 @@ module _ (box : Box) (place : ℕ) (left : EventSet) (room : place < length box.
     pub narrowed_within : IsWithin (narrowed_at box place left) box
     narrowed_within = record { test = refl; combination = refl; domains = source_before }
 
+    pub narrowed_is_box : IsBox box → IsBox (narrowed_at box place left)
+    narrowed_is_box is = record { litmus = is.litmus; known = is.known; candidates = λ k r b w at there. is.candidates k r b w at (source_before k w there) }
+
     -- less is left, where something was taken out
     pub size_less : ¬ ((w : ℕ) → HasSource box place w → HasEvent left w) → size_of (slice_set box.domains place left) < size_of box.domains
     size_less not_all =
         let was = slice_index_or box.domains place no_events in
         let at_most : left.bits ≤ was.bits = within_le left was within in
         let other : left.bits ≡ was.bits → ⊥ = λ same. not_all (λ w there. subst (λ (word : ℕ). bit_at word w ≡ 1) (sym same) there) in
-        let sums : sum_by (λ (set : EventSet). set.bits) (slice_set box.domains place left) + was.bits ≡ sum_by (λ (set : EventSet). set.bits) box.domains + left.bits =
+        let sums : sum_by (λ (set : EventSet). set.bits) (slice_set box.domains place left) + was.bits ≡ sum_by (λ (set : EventSet). set.bits)
+        box.domains + left.bits =
         sum_by-set (λ (set : EventSet). set.bits) box.domains place left no_events room in
         omega (arith, sums, sum-map (λ (set : EventSet). set.bits) box.domains, sum-map (λ (set : EventSet). set.bits) (slice_set box.domains place left))
 
@@ -82,11 +86,7 @@ module _ (box : Box) (place : ℕ) (left : EventSet) (room : place < length box.
 
       pub narrowed_contained : IsContained (narrowed_at box place left) (frame_at frame place left)
       narrowed_contained = record {
-        is_box = record {
-          litmus = is.is_box.litmus;
-          known = is.is_box.known;
-          candidates = λ k r b w at there. is.is_box.candidates k r b w at (source_before k w there);
-        };
+        is_box = narrowed_is_box is.is_box;
         some = none_empty;
         before_len = is.before_len;
         forced_len = is.forced_len;
@@ -99,7 +99,8 @@ module _ (box : Box) (place : ℕ) (left : EventSet) (room : place < length box.
       }
 
   -- a completion whose source at the place is left is one of the new box
-  pub completion_at : (x : Execution) → IsCompletion box x → ((w : ℕ) → slice_get x.sources place ≡ Some w → HasEvent left w) → IsCompletion (narrowed_at box place left) x
+  pub completion_at : (x : Execution) → IsCompletion box x → ((w : ℕ) → slice_get x.sources place ≡ Some w → HasEvent left w)
+      → IsCompletion (narrowed_at box place left) x
   completion_at x is source_left = record {
     valid = is.valid;
     on_paths = is.on_paths;
@@ -112,19 +113,22 @@ module _ (box : Box) (place : ℕ) (left : EventSet) (room : place < length box.
   }
 
   -- there is none where nothing is left
-  pub none_at : place < length (byte_reads (box_events box)) → (x : Execution) → IsCompletion box x → ((w : ℕ) → slice_get x.sources place ≡ Some w → HasEvent left w) → ((w : ℕ) → ¬ HasEvent left w) → ⊥
+  pub none_at : place < length (byte_reads (box_events box)) → (x : Execution) → IsCompletion box x
+      → ((w : ℕ) → slice_get x.sources place ≡ Some w → HasEvent left w) → ((w : ℕ) → ¬ HasEvent left w) → ⊥
   none_at inside x is source_left none =
       let here : place < length x.sources = omega (arith, (sourced box x is).one_each, inside) in
       none (get_or x.sources place 0) (source_left (get_or x.sources place 0) (slice_get-get_or x.sources place 0 here))
 
   -- the sources of completions are left
   module _ (is_box : IsBox box) (sound : AreEventsIn box.test.bytes (box_events box)) (law : LeavesOut box) (inside : place < length (byte_reads (box_events box)))
-      (out : (w : ℕ) → HasSource box place w → ¬ HasEvent left w → IsOut box (byte_read_at (box_events box) place).0 (byte_read_at (box_events box) place).1 w) where
+      (out : (w : ℕ) → HasSource box place w → ¬ HasEvent left w
+      → IsOut box (byte_read_at (box_events box) place).0 (byte_read_at (box_events box) place).1 w) where
     source_left : (x : Execution) → IsCompletion box x → (w : ℕ) → slice_get x.sources place ≡ Some w → HasEvent left w
     source_left x is w source = elim (event_or_not left w) [
       | inl there ↦ there
       | inr lost ↦
-          absurd (law x place (byte_read_at (box_events box) place).0 (byte_read_at (box_events box) place).1 w is_box sound is (read_here (box_events box) place inside) source (out w (is.within place w source) lost))
+          absurd (law x place (byte_read_at (box_events box) place).0 (byte_read_at (box_events box) place).1 w is_box sound is
+          (read_here (box_events box) place inside) source (out w (is.within place w source) lost))
     ]
 
     pub none_if_empty : ((w : ℕ) → ¬ HasEvent left w) → HasNoCompletion box

@@ -35,13 +35,28 @@ module _ (events : List Event) (w r : ℕ) (w_known : w < length events) (r_know
           ⊎ ((effect.write ≢ w) × ((event_at events w).order ≡ SeqCst) × HasSameRange (event_at events w) (event_at events effect.write))
           → HasPeerBeside events r reader ⊎ HasPeerBeside events w both
       by (inl (ordered, same)) =
-          inl (ordered, (effect.write, record { known = r_known; write = record { known = write_known events effect.write effect.writes; writes = effect.writes; ordered = effect.ordered }; same_range = same }, λ there. effect.not_read ((one effect.write).0 there)))
+          inl (
+            ordered,
+            (
+              effect.write,
+              record {
+                known = r_known;
+                write = record { known = write_known events effect.write effect.writes; writes = effect.writes; ordered = effect.ordered };
+                same_range = same;
+              },
+              λ there. effect.not_read ((one effect.write).0 there),
+            ),
+          )
       by (inr (not_source, ordered, same)) =
           inr (
             ordered,
             (
               effect.write,
-              record { known = w_known; write = record { known = write_known events effect.write effect.writes; writes = effect.writes; ordered = effect.ordered }; same_range = same_range_back (event_at events w) (event_at events effect.write) same },
+              record {
+                known = w_known;
+                write = record { known = write_known events effect.write effect.writes; writes = effect.writes; ordered = effect.ordered };
+                same_range = same_range_back (event_at events w) (event_at events effect.write) same;
+              },
               λ there. elim ((two effect.write).0 there) [ inl read ↦ effect.not_read read | inr source ↦ not_source source ],
             ),
           )

@@ -157,7 +157,8 @@ module _ (box : Box) (sources : List ℕ) (lie : AreSourcesIn box sources) where
           by : (on : Option ℕ) → bad.test.on ≡ on → number_on (first_event box.test box.combination bad.agent) on ≡ Some r → r < length events
           by None is asks = absurd (none-some r asks)
           by (Some place) is asks =
-              let same : first_event box.test box.combination bad.agent + place ≡ r = same_Some (first_event box.test box.combination bad.agent + place) r asks in
+              let same : first_event box.test box.combination bad.agent + place ≡ r = same_Some
+              (first_event box.test box.combination bad.agent + place) r asks in
               omega (arith, same, (walk.tests_reads bad.place place bad.test bad.at_place is).0, walk.within)
 
       not_broken_in : ¬ IsBroken (part_of box sources)
@@ -166,11 +167,13 @@ module _ (box : Box) (sources : List ℕ) (lie : AreSourcesIn box sources) where
           bad.incoherent (coherent_read_by events (HappensBeforeIn box) (HappensBefore events sources) before_back bad.read bad.byte bad.source
           (coherent bad.is_given.0 bad.read bad.byte bad.source bad.is_given.1 (lie.within bad.is_given.0 bad.source bad.is_given.2)))
       not_broken_in (inl (inr (inr torn))) =
-          torn.two_sources ((filled torn.read (read_known torn.read torn.first.reads.0 torn.source torn.first.reads.1)).tear_free torn.source torn.other torn.first torn.second)
+          torn.two_sources ((filled torn.read (read_known torn.read torn.first.reads.0 torn.source torn.first.reads.1)).tear_free torn.source
+          torn.other torn.first torn.second)
       not_broken_in (inr (inl bad)) = unwritten bad
       not_broken_in (inr (inr (r, given, bad))) = (filled r (asked_known r _ bad)).tests bad
 
-      pub completion_of_filled : HasOrder (length events) (HappensBeforeIn box) (IsForbiddenIn box) → (x : Execution) × IsCompletion box x × (x.sources ≡ sources)
+      pub completion_of_filled : HasOrder (length events) (HappensBeforeIn box) (IsForbiddenIn box)
+          → (x : Execution) × IsCompletion box x × (x.sources ≡ sources)
       completion_of_filled ordered =
           let known : IsEntered (part_of box sources) = record { litmus = entered.litmus; known = entered.known } in (
             example (part_of box sources) known laws lie.sourced not_broken_in,
@@ -206,7 +209,9 @@ module _ (box : Box) (x : Execution) (is : IsCompletion box x) where
     -- it fills each read
     pub filled_by : (r : ℕ) → IsFilled box r x.sources
     filled_by r = record {
-      tear_free = λ w v first second. subst (λ (es : List Event). HasTearFreeReads es x.sources) (events_same box x is) is.valid.tear_free_reads r w v first second;
+      tear_free =
+          λ w v first second. subst (λ (es : List Event). HasTearFreeReads es x.sources) (events_same box x is) is.valid.tear_free_reads r w v first
+          second;
       tests = λ bad. whole (inr (inr (r, all_given, bad)));
     }
       where

@@ -30,12 +30,14 @@ module _ (events : List Event) (p : ℕ × ℕ) (reads : List (ℕ × ℕ)) (w :
   taken_same : p.0 ≡ r → bytes_taken events (p ∷ reads) (w ∷ sources) r ≡ payload_at (event_at events w) p.1 ∷ bytes_taken events reads sources r
   taken_same same =
       let is_test : (p.0 == r) ≡ true = eq-eqb p.0 r same in
-      ap (λ (b : Bool). map {A = (ℕ × ℕ) × ℕ} {B = ℕ} (λ q. payload_at (event_at events q.1) q.0.1) (cond b ((p, w) ∷ filter {X = (ℕ × ℕ) × ℕ} (λ q. q.0.0 == r) (zip reads sources)) (filter (λ q. q.0.0 == r) (zip reads sources)))) is_test
+      ap (λ (b : Bool). map {A = (ℕ × ℕ) × ℕ} {B = ℕ} (λ q. payload_at (event_at events q.1) q.0.1)
+      (cond b ((p, w) ∷ filter {X = (ℕ × ℕ) × ℕ} (λ q. q.0.0 == r) (zip reads sources)) (filter (λ q. q.0.0 == r) (zip reads sources)))) is_test
 
   taken_other : p.0 ≢ r → bytes_taken events (p ∷ reads) (w ∷ sources) r ≡ bytes_taken events reads sources r
   taken_other other =
       let no_test : (p.0 == r) ≡ false = grind (arith, nat_tests) in
-      ap (λ (b : Bool). map {A = (ℕ × ℕ) × ℕ} {B = ℕ} (λ q. payload_at (event_at events q.1) q.0.1) (cond b ((p, w) ∷ filter {X = (ℕ × ℕ) × ℕ} (λ q. q.0.0 == r) (zip reads sources)) (filter (λ q. q.0.0 == r) (zip reads sources)))) no_test
+      ap (λ (b : Bool). map {A = (ℕ × ℕ) × ℕ} {B = ℕ} (λ q. payload_at (event_at events q.1) q.0.1)
+      (cond b ((p, w) ∷ filter {X = (ℕ × ℕ) × ℕ} (λ q. q.0.0 == r) (zip reads sources)) (filter (λ q. q.0.0 == r) (zip reads sources)))) no_test
 
   whole_later : (x : ℕ) → TakesWhole events reads sources r x → TakesWhole events (p ∷ reads) (w ∷ sources) r x
   whole_later x t = record { place = suc t.place; byte = t.byte; is_read = t.is_read; takes = t.takes; can = t.can }
@@ -51,7 +53,12 @@ module _ (events : List Event) (p : ℕ × ℕ) (reads : List (ℕ × ℕ)) (w :
           → TakesHere events p w r x ⊎ TakesWhole events reads sources r x
       by zero is_read takes =
           let same : w ≡ x = same_Some w x takes in
-          inl (ap (λ (q : ℕ × ℕ). q.0) (same_Some p (r, t.byte) is_read), sym same, subst (λ (y : ℕ). CanReadWhole (event_at events r) (event_at events y)) (sym same) t.can)
+          inl (
+            ap (λ (q : ℕ × ℕ). q.0) (same_Some p (r, t.byte) is_read),
+            sym same,
+            subst
+                (λ (y : ℕ). CanReadWhole (event_at events r) (event_at events y)) (sym same) t.can,
+          )
       by (suc i) is_read takes = inr record { place = i; byte = t.byte; is_read = is_read; takes = takes; can = t.can }
 
 -- ---- what fills the bytes of a read
@@ -83,7 +90,9 @@ module _ (box : Box) (r : ℕ) where
 
     fills_past_back : p.0 ≢ r → FillsBytes box r (p ∷ reads) whole value bytes (w ∷ sources) → FillsBytes box r reads whole value bytes sources
     fills_past_back other f = record {
-      tear_free = λ x v t h. f.tear_free x v (whole_later events p reads w sources r x t) (elim h [ inl given ↦ inl given | inr u ↦ inr (whole_later events p reads w sources r v u) ]);
+      tear_free =
+          λ x v t h. f.tear_free x v (whole_later events p reads w sources r x t)
+          (elim h [ inl given ↦ inl given | inr u ↦ inr (whole_later events p reads w sources r v u) ]);
       tests = subst (λ (bs : List ℕ). ¬ has_false (value + 256 ^ bytes * composed bs)) (taken_other events p reads w sources r other) f.tests;
     }
 
@@ -102,11 +111,14 @@ module _ (box : Box) (r : ℕ) where
           → FillsBytes box r reads (WholeWith events r whole w) (value + 256 ^ bytes * payload_at (event_at events w) p.1) (bytes + 1) sources
           → FillsBytes box r (p ∷ reads) whole value bytes (w ∷ sources)
       fills_with free f = record {
-        tear_free = λ x v t h. by x v (whole_split events p reads w sources r x t) (elim h [ inl given ↦ inl given | inr u ↦ inr (whole_split events p reads w sources r v u) ]);
+        tear_free =
+            λ x v t h. by x v (whole_split events p reads w sources r x t)
+            (elim h [ inl given ↦ inl given | inr u ↦ inr (whole_split events p reads w sources r v u) ]);
         tests = subst (λ (n : ℕ). ¬ has_false n) same_number f.tests;
       }
         where
-          by : (x v : ℕ) → TakesHere events p w r x ⊎ TakesWhole events reads sources r x → whole v ⊎ (TakesHere events p w r v ⊎ TakesWhole events reads sources r v) → v ≡ x
+          by : (x v : ℕ) → TakesHere events p w r x ⊎ TakesWhole events reads sources r x
+              → whole v ⊎ (TakesHere events p w r v ⊎ TakesWhole events reads sources r v) → v ≡ x
           by x v (inl here) (inl given) = free here.2 v given ∙ sym here.1
           by x v (inl here) (inr (inl other)) = other.1 ∙ sym here.1
           by x v (inl here) (inr (inr later)) = sym (here.1 ∙ f.tear_free v w later (inl (inr (refl, here.2))))
@@ -212,7 +224,8 @@ module _ (box : Box) (r : ℕ) where
   abbrev reads : List (ℕ × ℕ)
   reads = byte_reads (box_events box)
 
-  pub CanFillOn-same : (k : ℕ) (one other : ℕ → Type 0) (value bytes new_value new_bytes : ℕ) → ((v : ℕ) → other v → one v) → new_value ≡ value → new_bytes ≡ bytes
+  pub CanFillOn-same : (k : ℕ) (one other : ℕ → Type 0) (value bytes new_value new_bytes : ℕ) → ((v : ℕ) → other v → one v) → new_value ≡ value
+      → new_bytes ≡ bytes
       → CanFillOn box r k one value bytes → CanFillOn box r k other new_value new_bytes
   CanFillOn-same k one other value bytes new_value new_bytes within same_value same_bytes (sources, lie, f) = (
     sources,
@@ -258,7 +271,8 @@ module _ (box : Box) (r : ℕ) where
           → CanFillWith box r k b whole value bytes v → CanFillWith box r k b whole value bytes w
       filled_no_better w v free within same (_, can) = (
         free,
-        CanFillOn-same (k + 1) (WholeWith (box_events box) r whole v) (WholeWith (box_events box) r whole w) (value + 256 ^ bytes * payload_at (event_at (box_events box) v) b)
+        CanFillOn-same (k + 1) (WholeWith (box_events box) r whole v) (WholeWith (box_events box) r whole w)
+            (value + 256 ^ bytes * payload_at (event_at (box_events box) v) b)
             (bytes + 1) (value + 256 ^ bytes * payload_at (event_at (box_events box) w) b) (bytes + 1) (λ u h. inl (within u h))
             (ap (λ (byte : ℕ). value + 256 ^ bytes * byte) (sym same)) refl can,
       )
@@ -284,24 +298,29 @@ module _ (box : Box) (r : ℕ) where
 
   -- what is taken next
   module _ (k b w : ℕ) (taken next : Taken) (takes : TakesOn (box_events box) r k b w taken next) where
-    pub next_filled : CanFillOn box r (k + 1) (HasEvent next.whole) next.value next.bytes → CanFillWith box r k b (HasEvent taken.whole) taken.value taken.bytes w
+    pub next_filled : CanFillOn box r (k + 1) (HasEvent next.whole) next.value next.bytes
+        → CanFillWith box r k b (HasEvent taken.whole) taken.value taken.bytes w
     next_filled can = (
       takes.free,
       CanFillOn-same (k + 1) (HasEvent next.whole) (WholeWith (box_events box) r (HasEvent taken.whole) w) next.value next.bytes
-          (taken.value + 256 ^ taken.bytes * payload_at (event_at (box_events box) w) b) (taken.bytes + 1) (λ v. (takes.whole v).1) (sym takes.value) (sym takes.bytes) can,
+          (taken.value + 256 ^ taken.bytes * payload_at (event_at (box_events box) w) b) (taken.bytes + 1) (λ v. (takes.whole v).1) (sym takes.value)
+          (sym takes.bytes) can,
     )
 
-    pub next_filled_back : CanFillWith box r k b (HasEvent taken.whole) taken.value taken.bytes w → CanFillOn box r (k + 1) (HasEvent next.whole) next.value next.bytes
+    pub next_filled_back : CanFillWith box r k b (HasEvent taken.whole) taken.value taken.bytes w
+        → CanFillOn box r (k + 1) (HasEvent next.whole) next.value next.bytes
     next_filled_back (_, can) =
         CanFillOn-same (k + 1) (WholeWith (box_events box) r (HasEvent taken.whole) w) (HasEvent next.whole)
-        (taken.value + 256 ^ taken.bytes * payload_at (event_at (box_events box) w) b) (taken.bytes + 1) next.value next.bytes (λ v. (takes.whole v).0) takes.value takes.bytes can
+        (taken.value + 256 ^ taken.bytes * payload_at (event_at (box_events box) w) b) (taken.bytes + 1) next.value next.bytes
+        (λ v. (takes.whole v).0) takes.value takes.bytes can
 
     -- in vain after it: what stores the same, where it left the read whole from no others than before
     pub left_out_in_vain : (at : slice_get reads k ≡ Some (r, b)) (v : ℕ) → ¬ CanFillOn box r (k + 1) (HasEvent next.whole) next.value next.bytes
         → ((u : ℕ) → HasEvent next.whole u → HasEvent taken.whole u) → payload_at (event_at (box_events box) v) b ≡ payload_at (event_at (box_events box) w) b
         → ¬ CanFillWith box r k b (HasEvent taken.whole) taken.value taken.bytes v
     left_out_in_vain at v in_vain within same can =
-        in_vain (next_filled_back (filled_no_better k (HasEvent taken.whole) taken.value taken.bytes b at w v takes.free (λ u h. within u ((takes.whole u).1 h)) same can))
+        in_vain (next_filled_back
+        (filled_no_better k (HasEvent taken.whole) taken.value taken.bytes b at w v takes.free (λ u h. within u ((takes.whole u).1 h)) same can))
 
   module _ (is_box : IsBox box) (some : ¬ HasEmptyDomain box) where
     -- where no byte of the read is left its tests decide
@@ -319,7 +338,8 @@ module _ (box : Box) (r : ℕ) where
 
     -- from the first byte read on
     module _ (whole : ℕ → Type 0) (not_yet : (v : ℕ) → ¬ whole v) where
-      same_value : (sources : List ℕ) → 0 + 256 ^ 0 * composed (bytes_taken (box_events box) (reads_on (box_events box) 0) sources r) ≡ value_of (box_events box) sources r
+      same_value : (sources : List ℕ)
+          → 0 + 256 ^ 0 * composed (bytes_taken (box_events box) (reads_on (box_events box) 0) sources r) ≡ value_of (box_events box) sources r
       same_value sources = once (value_of (box_events box) sources r)
         where
           once : (n : ℕ) → 0 + 256 ^ 0 * n ≡ n
@@ -364,7 +384,8 @@ module _ (box : Box) (r : ℕ) where
           takes_whole w h = record { place = h.reads.1.0; byte = h.reads.0; is_read = h.reads.1.1; takes = h.reads.1.2; can = h.can }
 
       -- past the bytes of earlier reads
-      to_place : (k : ℕ) → k ≤ length reads → ((j q b : ℕ) → j < k → slice_get reads j ≡ Some (q, b) → q ≢ r) → CanFillOn box r 0 whole 0 0 ↔ CanFillOn box r k whole 0 0
+      to_place : (k : ℕ) → k ≤ length reads → ((j q b : ℕ) → j < k → slice_get reads j ≡ Some (q, b) → q ≢ r)
+          → CanFillOn box r 0 whole 0 0 ↔ CanFillOn box r k whole 0 0
       to_place zero within others = (λ h. h, λ h. h)
       to_place (suc k) within others =
           let p : ℕ × ℕ = get_or reads k (0, 0) in
@@ -377,7 +398,8 @@ module _ (box : Box) (r : ℕ) where
             (λ can. before.1 (fill_past k whole 0 0 p.0 p.1 at other source.0 source.1 (subst (λ (j : ℕ). CanFillOn box r j whole 0 0) (sym next) can))),
           )
 
-      pub filled_from : (k : ℕ) → k ≤ length reads → ((j q b : ℕ) → j < k → slice_get reads j ≡ Some (q, b) → q < r) → CanFillOn box r k whole 0 0 ↔ CanFill box r
+      pub filled_from : (k : ℕ) → k ≤ length reads → ((j q b : ℕ) → j < k → slice_get reads j ≡ Some (q, b) → q < r)
+          → CanFillOn box r k whole 0 0 ↔ CanFill box r
       filled_from k within before =
           let to = to_place k within (λ j q b below at same. omega (arith, before j q b below at, same)) in (
             (λ can. fill_from_start (to.1 can)),

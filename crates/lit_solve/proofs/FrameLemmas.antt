@@ -32,7 +32,8 @@ pub not_true : (b : Bool) → b ≡ false → ¬ IsTrue b
 not_true b is holds = absurd (let e : true ≡ false = sym holds ∙ is in cc)
 
 -- what leads through a pair of a transitive relation is of that relation
-pub with_pair_within : (before more : ℕ → ℕ → Type 0) → IsTransitive more → ((x y : ℕ) → before x y → more x y) → (a d : ℕ) → more a d → (x y : ℕ) → WithPair before a d x y → more x y
+pub with_pair_within : (before more : ℕ → ℕ → Type 0) → IsTransitive more → ((x y : ℕ) → before x y → more x y) → (a d : ℕ) → more a d → (x y : ℕ)
+    → WithPair before a d x y → more x y
 with_pair_within before more through within a d pair x y (inl old) = within x y old
 with_pair_within before more through within a d pair x y (inr led) = to_y led.1
   where
@@ -44,14 +45,21 @@ with_pair_within before more through within a d pair x y (inr led) = to_y led.1
     to_y (inr same) = subst (λ (e : ℕ). more x e) (sym same) to_d
 
 pub before_through : (box : Box) → IsTransitive (HappensBeforeIn box)
-before_through box x y z p q = record { middles = p.middles ++ y ∷ q.middles; chain = Chain-append (StepBy (box_events box) (GivenIn box)) x p.middles y q.middles z p.chain q.chain }
+before_through box x y z p q =
+    record {
+      middles = p.middles ++ y ∷ q.middles;
+      chain = Chain-append (StepBy (box_events box) (GivenIn box)) x p.middles y q.middles z p.chain
+          q.chain;
+    }
 
 pub forced_through : (box : Box) → IsTransitive (IsForcedIn box)
 forced_through box x y z p q = Through y p q
 
 -- a given source that synchronizes with its read happens before it
-pub synchronized_before : (box : Box) (k r b w : ℕ) → slice_get (byte_reads (box_events box)) k ≡ Some (r, b) → HasAlone box k w → CanSynchronize (event_at (box_events box) w) (event_at (box_events box) r) → HappensBeforeIn box w r
-synchronized_before box k r b w is_read alone can = record { middles = []; chain = inr (inl record { reads = (b, record { place = k; is_read = is_read; alone = alone }); can = can }) }
+pub synchronized_before : (box : Box) (k r b w : ℕ) → slice_get (byte_reads (box_events box)) k ≡ Some (r, b) → HasAlone box k w
+    → CanSynchronize (event_at (box_events box) w) (event_at (box_events box) r) → HappensBeforeIn box w r
+synchronized_before box k r b w is_read alone can =
+    record { middles = []; chain = inr (inl record { reads = (b, record { place = k; is_read = is_read; alone = alone }); can = can }) }
 
 module _ (box : Box) (before : ℕ → ℕ → Type 0) (k r b w : ℕ) (is_read : slice_get (byte_reads (box_events box)) k ≡ Some (r, b)) (alone : HasAlone box k w) where
   same_pair : (q c v : ℕ) → slice_get (byte_reads (box_events box)) k ≡ Some (q, c) → HasAlone box k v → (v ≡ w) × (q ≡ r)
@@ -68,8 +76,10 @@ module _ (box : Box) (before : ℕ → ℕ → Type 0) (k r b w : ℕ) (is_read 
       let same = same_pair q c v is_read_too alone_too in
       subst (λ (x : ℕ). before x q) (sym same.0) (subst (λ (x : ℕ). before w x) (sym same.1) there)
 
-pub synchronized_kept : (box other : Box) (before more : ℕ → ℕ → Type 0) (k : ℕ) → box ≡ other → ((a d : ℕ) → before a d → more a d) → IsSynchronizedAt box before k → IsSynchronizedAt other more k
-synchronized_kept box other before more k same grows is = subst (λ (b : Box). IsSynchronizedAt b more k) same (λ r b w is_read alone can. grows w r (is r b w is_read alone can))
+pub synchronized_kept : (box other : Box) (before more : ℕ → ℕ → Type 0) (k : ℕ) → box ≡ other → ((a d : ℕ) → before a d → more a d)
+    → IsSynchronizedAt box before k → IsSynchronizedAt other more k
+synchronized_kept box other before more k same grows is =
+    subst (λ (b : Box). IsSynchronizedAt b more k) same (λ r b w is_read alone can. grows w r (is r b w is_read alone can))
 
 -- what is so below a number, and at it
 pub one_more : (P : ℕ → Type 0) (n : ℕ) (Old New : Type 0) → Old ↔ ((k : ℕ) × (k < n) × P k) → New ↔ (Old ⊎ P n) → New ↔ ((k : ℕ) × (k < n + 1) × P k)
@@ -107,7 +117,8 @@ pub record IsClosedWith (was now : TwoWayRows) (a d : ℕ) : Type 0 where
   pub pairs : (x y : ℕ) → Holds now.rows x y ↔ WithPair (Holds was.rows) a d x y
   pub transitive : IsTransitive (Holds was.rows) → IsTransitive (Holds now.rows)
 
-pub contained_with : (box : Box) (was now : Frame) (a d : ℕ) → IsContained box was → HappensBeforeIn box a d → IsClosedWith was.happens_before now.happens_before a d → IsClosedWith was.forced now.forced a d → IsContained box now
+pub contained_with : (box : Box) (was now : Frame) (a d : ℕ) → IsContained box was → HappensBeforeIn box a d
+    → IsClosedWith was.happens_before now.happens_before a d → IsClosedWith was.forced now.forced a d → IsContained box now
 contained_with box was now a d is pair before forced = record {
   is_box = is.is_box;
   some = is.some;
@@ -117,8 +128,12 @@ contained_with box was now a d is pair before forced = record {
   forced_closed = forced.transitive is.forced_closed;
   unsourced = λ x y h. (before.pairs x y).1 (inl (is.unsourced x y h));
   both = λ x y h. (forced.pairs x y).1 (with_pair_more (Holds was.happens_before.rows) (Holds was.forced.rows) is.both a d x y ((before.pairs x y).0 h));
-  before_in = λ x y h. with_pair_within (Holds was.happens_before.rows) (HappensBeforeIn box) (before_through box) is.before_in a d pair x y ((before.pairs x y).0 h);
-  forced_in = λ x y h. with_pair_within (Holds was.forced.rows) (IsForcedIn box) (forced_through box) is.forced_in a d (Given pair) x y ((forced.pairs x y).0 h);
+  before_in =
+      λ x y h. with_pair_within (Holds was.happens_before.rows) (HappensBeforeIn box) (before_through box) is.before_in a d pair x y
+      ((before.pairs x y).0 h);
+  forced_in =
+      λ x y h. with_pair_within (Holds was.forced.rows) (IsForcedIn box) (forced_through box) is.forced_in a d (Given pair) x y
+      ((forced.pairs x y).0 h);
 }
 
 -- a frame whose happens-before has each given source before the read with which it synchronizes, has all of that
@@ -127,7 +142,8 @@ module _ (box : Box) (frame : Frame) (is : IsContained box frame) (pairs : (k : 
   step_there e d (inl agent) = is.unsourced e d (record { middles = []; chain = inl agent })
   step_there e d (inr (inl sync)) =
       let given = sync.reads.1 in
-      pairs given.place (slice_get_within (byte_reads (box_events box)) given.place (d, sync.reads.0) given.is_read) d sync.reads.0 e given.is_read given.alone sync.can
+      pairs given.place (slice_get_within (byte_reads (box_events box)) given.place (d, sync.reads.0) given.is_read) d sync.reads.0 e given.is_read
+      given.alone sync.can
   step_there e d (inr (inr made)) = is.unsourced e d (record { middles = []; chain = inr (inr made) })
 
   chain_there : (e : ℕ) (middles : List ℕ) (d : ℕ) → Chain (StepBy (box_events box) (GivenIn box)) e middles d → Holds frame.happens_before.rows e d
@@ -140,7 +156,8 @@ module _ (box : Box) (frame : Frame) (is : IsContained box frame) (pairs : (k : 
 -- ---- what may not stand between a given source and its read
 module _ (box : Box) (before : ℕ → ℕ → Type 0) (within : (a d : ℕ) → before a d → HappensBeforeIn box a d) (exact : (a d : ℕ) → HappensBeforeIn box a d → before a d) where
   module _ (k r b w : ℕ) (is_read : slice_get (byte_reads (box_events box)) k ≡ Some (r, b)) (alone : HasAlone box k w) where
-    pub forbidden_at : (x y v : ℕ) → IsForbiddenAt box k x y v → (x ≡ w) × (y ≡ r) × (v < length (box_events box)) × IsForbiddenBetween (box_events box) before w r v
+    pub forbidden_at : (x y v : ℕ) → IsForbiddenAt box k x y v
+        → (x ≡ w) × (y ≡ r) × (v < length (box_events box)) × IsForbiddenBetween (box_events box) before w r v
     forbidden_at x y v f =
         let source : x ≡ w = alone.alone x f.alone.there in
         let both : (y, f.byte) ≡ (r, b) = same_Some (y, f.byte) (r, b) (sym f.is_read ∙ is_read) in
@@ -149,7 +166,8 @@ module _ (box : Box) (before : ℕ → ℕ → Type 0) (within : (a d : ℕ) →
           source,
           read,
           write_known (box_events box) v here.writes,
-          subst (λ (s : ℕ). IsForbiddenBetween (box_events box) before s r v) source (subst (λ (q : ℕ). IsForbiddenBetween (box_events box) before x q v) read here),
+          subst (λ (s : ℕ). IsForbiddenBetween (box_events box) before s r v) source
+              (subst (λ (q : ℕ). IsForbiddenBetween (box_events box) before x q v) read here),
         )
 
     pub forbidden_there : (x y v : ℕ) → (x ≡ w) × (y ≡ r) × IsForbiddenBetween (box_events box) before w r v → IsForbiddenAt box k x y v
@@ -160,7 +178,8 @@ module _ (box : Box) (before : ℕ → ℕ → Type 0) (within : (a d : ℕ) →
     -- a triple more, where these events are exactly what may not stand between the two
     pub forbidden_more : (Old New : ℕ → ℕ → ℕ → Type 0) (n : ℕ) (others : EventSet) → n ≡ length (box_events box)
         → ((v : ℕ) → HasEvent others v ↔ ((v < length (box_events box)) × IsForbiddenBetween (box_events box) before w r v))
-        → ((x y v : ℕ) → New x y v ↔ (Old x y v ⊎ ((x ≡ w) × (y ≡ r) × (v < n) × HasEvent others v))) → (x y v : ℕ) → New x y v ↔ (Old x y v ⊎ IsForbiddenAt box k x y v)
+        → ((x y v : ℕ) → New x y v ↔ (Old x y v ⊎ ((x ≡ w) × (y ≡ r) × (v < n) × HasEvent others v))) → (x y v : ℕ) → New x y v
+        ↔ (Old x y v ⊎ IsForbiddenAt box k x y v)
     forbidden_more Old New n others len are new x y v = (to, from)
       where
         to_either : Old x y v ⊎ ((x ≡ w) × (y ≡ r) × (v < n) × HasEvent others v) → Old x y v ⊎ IsForbiddenAt box k x y v
@@ -176,7 +195,8 @@ module _ (box : Box) (before : ℕ → ℕ → Type 0) (within : (a d : ℕ) →
 
     -- none, where there are none
     pub forbidden_none : (Old : ℕ → ℕ → ℕ → Type 0) (others : EventSet) → ((v : ℕ) → ¬ HasEvent others v)
-        → ((v : ℕ) → HasEvent others v ↔ ((v < length (box_events box)) × IsForbiddenBetween (box_events box) before w r v)) → (x y v : ℕ) → Old x y v ↔ (Old x y v ⊎ IsForbiddenAt box k x y v)
+        → ((v : ℕ) → HasEvent others v ↔ ((v < length (box_events box)) × IsForbiddenBetween (box_events box) before w r v)) → (x y v : ℕ) → Old x y v
+        ↔ (Old x y v ⊎ IsForbiddenAt box k x y v)
     forbidden_none Old others none are x y v = (λ old. inl old, from)
       where
         from : Old x y v ⊎ IsForbiddenAt box k x y v → Old x y v
@@ -184,7 +204,8 @@ module _ (box : Box) (before : ℕ → ℕ → Type 0) (within : (a d : ℕ) →
         from (inr at) = let f = forbidden_at x y v at in absurd (none v ((are v).1 (f.2, f.3)))
 
 -- all of them
-pub forbidden_in : (box : Box) (n w r v : ℕ) → n ≡ length (byte_reads (box_events box)) → ((k : ℕ) × (k < n) × IsForbiddenAt box k w r v) ↔ IsForbiddenIn box w r v
+pub forbidden_in : (box : Box) (n w r v : ℕ) → n ≡ length (byte_reads (box_events box))
+    → ((k : ℕ) × (k < n) × IsForbiddenAt box k w r v) ↔ IsForbiddenIn box w r v
 forbidden_in box n w r v all = (
   λ (k, below, f). record { reads = (f.byte, record { place = k; is_read = f.is_read; alone = f.alone }); between = f.between },
   λ f.
@@ -210,9 +231,12 @@ module _ (box : Box) (was now : Frame) (is : IsContained box was) (exact : (a d 
   forced_sound = IsForced-grow (Holds was.forced.rows) (HappensBeforeIn box) forbidden (IsForbiddenIn box) is.forced_in (λ w r v. (triples w r v).0)
 
   pub forced_whole : (a d : ℕ) → IsForcedIn box a d → IsForced (Holds was.forced.rows) forbidden a d
-  forced_whole = IsForced-grow (HappensBeforeIn box) (Holds was.forced.rows) (IsForbiddenIn box) forbidden (λ a d h. Given (is.both a d (exact a d h))) (λ w r v. (triples w r v).1)
+  forced_whole =
+      IsForced-grow (HappensBeforeIn box) (Holds was.forced.rows) (IsForbiddenIn box) forbidden (λ a d h. Given (is.both a d (exact a d h)))
+      (λ w r v. (triples w r v).1)
 
-  pub forced_exact : now.happens_before ≡ was.happens_before → rows_len now.forced.rows ≡ rows_len was.forced.rows → ((a d : ℕ) → Holds now.forced.rows a d ↔ IsForced (Holds was.forced.rows) forbidden a d) → IsExact box now
+  pub forced_exact : now.happens_before ≡ was.happens_before → rows_len now.forced.rows ≡ rows_len was.forced.rows
+      → ((a d : ℕ) → Holds now.forced.rows a d ↔ IsForced (Holds was.forced.rows) forbidden a d) → IsExact box now
   forced_exact same len pairs = record {
     contained = record {
       is_box = is.is_box;

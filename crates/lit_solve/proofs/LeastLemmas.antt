@@ -53,13 +53,17 @@ module _ (box : Box) (alone : AreAloneBelow box (length (byte_reads (box_events 
           ∙ sym (one.1.alone (get_or x.sources k 0) (is.within k (get_or x.sources k 0) (slice_get-get_or x.sources k 0 below)))
 
   module _ (is_box : IsBox box) (law : HasOneOrder box) (x : Execution) (is : IsCompletion box x) where
-    one_order : (order : List ℕ) → IsMemoryOrder (box_events box) sources order ↔ IsOrderOf (length (box_events box)) (HappensBeforeIn box) (IsForbiddenIn box) order
+    one_order : (order : List ℕ)
+        → IsMemoryOrder (box_events box) sources order ↔ IsOrderOf (length (box_events box)) (HappensBeforeIn box) (IsForbiddenIn box) order
     one_order order =
-        subst (λ (given : List ℕ). IsMemoryOrder (box_events box) given order ↔ IsOrderOf (length (box_events box)) (HappensBeforeIn box) (IsForbiddenIn box) order) (sources_same x is)
-        (subst (λ (es : List Event). IsMemoryOrder es x.sources order ↔ IsOrderOf (length (box_events box)) (HappensBeforeIn box) (IsForbiddenIn box) order) (events_same box x is)
+        subst (λ (given : List ℕ). IsMemoryOrder (box_events box) given order
+        ↔ IsOrderOf (length (box_events box)) (HappensBeforeIn box) (IsForbiddenIn box) order) (sources_same x is)
+        (subst (λ (es : List Event). IsMemoryOrder es x.sources order
+        ↔ IsOrderOf (length (box_events box)) (HappensBeforeIn box) (IsForbiddenIn box) order) (events_same box x is)
         (law x order is_box (λ k below. inl (alone k below)) is))
 
-    pub least_ordered : (order : List ℕ) → IsLeastOrderOf (length (box_events box)) (HappensBeforeIn box) (IsForbiddenIn box) order → IsLeastMemoryOrder (box_events box) sources order
+    pub least_ordered : (order : List ℕ) → IsLeastOrderOf (length (box_events box)) (HappensBeforeIn box) (IsForbiddenIn box) order
+        → IsLeastMemoryOrder (box_events box) sources order
     least_ordered order o = record {
       is_order = (one_order order).1 o.is_order;
       least = λ other its. o.least other ((one_order other).0 its);
@@ -73,23 +77,28 @@ module _ (old new : Box) (goal : Goal) (lowest : IsLowest old goal new) (alone :
 
   not_less : (x : Execution) → IsSolution old goal x → slice_cmp nat_cmp x.sources sources ≢ Less
   not_less x is less = elim (lowest.passed x is) [
-    | inl here ↦ never_both_less sources sources refl (subst (λ (given : List ℕ). slice_cmp nat_cmp given sources ≡ Less) (sources_same new alone sources long lies x here) less)
+    | inl here ↦ never_both_less sources sources refl
+        (subst (λ (given : List ℕ). slice_cmp nat_cmp given sources ≡ Less) (sources_same new alone sources long lies x here) less)
         (subst (λ (given : List ℕ). slice_cmp nat_cmp given sources ≡ Less) (sources_same new alone sources long lies x here) less)
     | inr greater ↦
-        let back : slice_cmp nat_cmp sources x.sources ≡ Less = subst (λ (given : List ℕ). slice_cmp nat_cmp given x.sources ≡ Less) same (greater found.0.sources (sources_lie new found.0 found.1.completes)) in
+        let back : slice_cmp nat_cmp sources x.sources ≡ Less = subst (λ (given : List ℕ). slice_cmp nat_cmp given x.sources ≡ Less) same
+        (greater found.0.sources (sources_lie new found.0 found.1.completes)) in
         never_both_less x.sources sources (count x is) less back
   ]
     where
       count : (x : Execution) → IsSolution old goal x → length x.sources ≡ length sources
       count x is = (sourced old x is.completes).one_each ∙ ap (λ (es : List Event). length (byte_reads es)) (same_events new old lowest.within) ∙ sym long
 
-  pub least_found : (order : List ℕ) → IsLeastOrderOf (length (box_events new)) (HappensBeforeIn new) (IsForbiddenIn new) order → IsLeastSolution old goal sources order
+  pub least_found : (order : List ℕ) → IsLeastOrderOf (length (box_events new)) (HappensBeforeIn new) (IsForbiddenIn new) order
+      → IsLeastSolution old goal sources order
   least_found order o = record {
     execution = found.0;
     solves = solution_out new old goal lowest.within found.0 found.1;
     same = same;
     least = not_less;
-    ordered = subst (λ (es : List Event). IsLeastMemoryOrder es sources order) (sym (same_events new old lowest.within)) (least_ordered new alone sources long lies is_box law found.0 found.1.completes order o);
+    ordered =
+        subst (λ (es : List Event). IsLeastMemoryOrder es sources order) (sym (same_events new old lowest.within))
+        (least_ordered new alone sources long lies is_box law found.0 found.1.completes order o);
   }
 
 -- ---- a box that was narrowed has the solutions of what it was
@@ -99,7 +108,8 @@ solution_kept old new goal narrows x is = record {
   meets = subst (λ (t : Litmus). Meets t goal x) (sym narrows.within.test) is.meets;
 }
 
-least_same : (old new : Box) (goal : Goal) → Narrows old new → (sources order : List ℕ) → IsLeastSolution new goal sources order → IsLeastSolution old goal sources order
+least_same : (old new : Box) (goal : Goal) → Narrows old new → (sources order : List ℕ) → IsLeastSolution new goal sources order
+    → IsLeastSolution old goal sources order
 least_same old new goal narrows sources order is = record {
   execution = is.execution;
   solves = solution_out new old goal narrows.within is.execution is.solves;

@@ -68,13 +68,25 @@ read_there events k p at = sym (get_or_from_slice_get (byte_reads events) k (pai
 pub read_here : (events : List Event) (k : ℕ) → k < length (byte_reads events) → slice_get (byte_reads events) k ≡ Some (byte_read_at events k)
 read_here events k inside = slice_get-get_or (byte_reads events) k (0, 0) inside
 
--- the read of a byte read is one of the events
-pub read_known : (events : List Event) → AreOfEvents events → (reads : List ByteRead) (k : ℕ) (d : ByteRead) → map pair_of reads ≡ byte_reads events → k < length (byte_reads events) → (get_or reads k d).read < length events
-read_known events of_events reads k d listed inside =
+-- a list of all of them has as many, and each at its place
+pub as_many : (events : List Event) (reads : List ByteRead) → map pair_of reads ≡ byte_reads events → length reads ≡ length (byte_reads events)
+as_many events reads listed =
     let same : length (map pair_of reads) ≡ length (byte_reads events) = ap length listed in
-    let within : k < length reads = omega (arith, length-map reads pair_of) in
-    let found : slice_get (map pair_of reads) k ≡ Some (pair_of (get_or reads k d)) = slice_get-map-found pair_of reads k (get_or reads k d) (slice_get-get_or reads k d within) in
-    of_events.known k (get_or reads k d).read (get_or reads k d).byte (subst (λ (ps : List (ℕ × ℕ)). slice_get ps k ≡ Some (pair_of (get_or reads k d))) listed found)
+    omega (arith, same, length-map reads pair_of)
+
+pub read_listed : (events : List Event) (reads : List ByteRead) (k : ℕ) (d : ByteRead) → map pair_of reads ≡ byte_reads events
+    → k < length (byte_reads events) → slice_get (byte_reads events) k ≡ Some (pair_of (get_or reads k d))
+read_listed events reads k d listed inside =
+    let within : k < length reads = omega (arith, as_many events reads listed, inside) in
+    let found : slice_get (map pair_of reads) k ≡ Some (pair_of (get_or reads k d)) =
+    slice_get-map-found pair_of reads k (get_or reads k d) (slice_get-get_or reads k d within) in
+    subst (λ (ps : List (ℕ × ℕ)). slice_get ps k ≡ Some (pair_of (get_or reads k d))) listed found
+
+-- the read of a byte read is one of the events
+pub read_known : (events : List Event) → AreOfEvents events → (reads : List ByteRead) (k : ℕ) (d : ByteRead) → map pair_of reads ≡ byte_reads events
+    → k < length (byte_reads events) → (get_or reads k d).read < length events
+read_known events of_events reads k d listed inside =
+    of_events.known k (get_or reads k d).read (get_or reads k d).byte (read_listed events reads k d listed inside)
 
 -- what is in a domain is one of the events
 pub source_known : (box : Box) → IsBox box → (k w : ℕ) → k < length (byte_reads (box_events box)) → HasSource box k w → w < length (box_events box)

@@ -16,7 +16,8 @@ pub record BeginAt (t : Litmus) (c : ℕ) (given : List ℕ) (low : ℕ) : Type 
   pub first : choices_before t c ≤ low
   pub end : low + ways_from (events_in t c) (length given) ≤ choices_before t (c + 1)
 
-ways_split : (events : List Event) (k : ℕ) → k < length (byte_reads events) → ways_from events k ≡ length (candidates_of events (byte_read_at events k)) * ways_from events (k + 1)
+ways_split : (events : List Event) (k : ℕ) → k < length (byte_reads events)
+    → ways_from events k ≡ length (candidates_of events (byte_read_at events k)) * ways_from events (k + 1)
 ways_split events k inside = ap (λ (rs : List (ℕ × ℕ)). length_product (map (candidates_of events) rs)) (drop_more (byte_reads events) k (0, 0) inside)
 
 ways_end : (events : List Event) (k : ℕ) → length (byte_reads events) ≤ k → ways_from events k ≡ 1
@@ -40,7 +41,8 @@ module _ (t : Litmus) (c : ℕ) (numbers : NumbersChoices t c) where
         omega (arith, slice_get_within (candidates_of (events_in t c) (byte_read_at (events_in t c) (length given))) i w here) in
         omega (
           arith,
-          mul-le-mul_right {m = i + 1} {n = length (candidates_of (events_in t c) (byte_read_at (events_in t c) (length given)))} (ways_from (events_in t c) (length given + 1)) within,
+          mul-le-mul_right {m = i + 1} {n = length (candidates_of (events_in t c) (byte_read_at (events_in t c) (length given)))}
+              (ways_from (events_in t c) (length given + 1)) within,
           ways_split (events_in t c) (length given) left,
         )
 
@@ -48,7 +50,9 @@ module _ (t : Litmus) (c : ℕ) (numbers : NumbersChoices t c) where
     begin_more =
         let long : length given + 1 ≡ length (given ++ w ∷ []) = sym (length_push given w) in
         record {
-          numbered = subst (λ (k : ℕ). AreNumbered t c (given ++ w ∷ []) (low + i * ways_from (events_in t c) (length given + 1)) (ways_from (events_in t c) k)) long
+          numbered =
+              subst (λ (k : ℕ). AreNumbered t c (given ++ w ∷ []) (low + i * ways_from (events_in t c) (length given + 1))
+              (ways_from (events_in t c) k)) long
               (numbers.next given low i w begun.numbered left here);
           first = omega (arith, begun.first);
           end = omega (arith, begun.end, passed_fits, ap (ways_from (events_in t c)) long);
@@ -76,13 +80,16 @@ module _ (t : Litmus) (c : ℕ) (numbers : NumbersChoices t c) where
 -- one byte read more has its source
 module _ (t : Litmus) (c : ℕ) (numbers : NumbersChoices t c) (sources : List ℕ) (place low index later : ℕ) (candidates : List ℕ)
     (begun : BeginAt t c (take place sources) low) (inside : place < length sources) (few : length sources ≤ length (byte_reads (events_in t c)))
-    (listed : candidates ≡ candidates_of (events_in t c) (byte_read_at (events_in t c) place)) (here : slice_get candidates index ≡ Some (get_or sources place 0))
+    (listed : candidates ≡ candidates_of (events_in t c) (byte_read_at (events_in t c) place))
+    (here : slice_get candidates index ≡ Some (get_or sources place 0))
     (ways : later ≡ ways_from (events_in t c) (place + 1)) where
   long : length (take place sources) ≡ place
   long = length-take-le place sources (omega (arith, inside))
 
   here_too : slice_get (candidates_of (events_in t c) (byte_read_at (events_in t c) (length (take place sources)))) index ≡ Some (get_or sources place 0)
-  here_too = ap (λ (k : ℕ). slice_get (candidates_of (events_in t c) (byte_read_at (events_in t c) k)) index) long ∙ ap (λ (ws : List ℕ). slice_get ws index) (sym listed) ∙ here
+  here_too =
+      ap (λ (k : ℕ). slice_get (candidates_of (events_in t c) (byte_read_at (events_in t c) k)) index) long
+      ∙ ap (λ (ws : List ℕ). slice_get ws index) (sym listed) ∙ here
 
   left : length (take place sources) < length (byte_reads (events_in t c))
   left = omega (arith, long, inside, few)
@@ -113,7 +120,8 @@ module _ (t : Litmus) (c : ℕ) (numbers : NumbersChoices t c) (sources : List �
 
 -- a candidate is among the candidates of its byte read
 pub candidate_listed : (events : List Event) (sources : List ℕ) (place : ℕ) (candidates : List ℕ) → AreSources events sources → place < length sources
-    → ListsCandidates events (byte_read_at events place).0 (byte_read_at events place).1 candidates → (k : ℕ) × (slice_get candidates k ≡ Some (get_or sources place 0))
+    → ListsCandidates events (byte_read_at events place).0 (byte_read_at events place).1 candidates → (k : ℕ)
+    × (slice_get candidates k ≡ Some (get_or sources place 0))
 candidate_listed events sources place candidates are inside lists =
     lists.all (get_or sources place 0) (are.each place (byte_read_at events place).0 (byte_read_at events place).1 (get_or sources place 0)
     (slice_get-get_or (byte_reads events) place (0, 0) (omega (arith, inside, are.one_each))) (slice_get-get_or sources place 0 inside))

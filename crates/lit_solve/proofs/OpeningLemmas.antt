@@ -30,7 +30,11 @@ module _ (box : Box) (order : TwoWayRows) (len : rows_len order.rows ≡ length 
   through x y z p q =
       let first = (pairs x y).0 p in
       let second = (pairs y z).0 q in
-      (pairs x z).1 (record { middles = first.middles ++ y ∷ second.middles; chain = Chain-append (StepBy (box_events box) (ReadsByteFrom (box_events box) [])) x first.middles y second.middles z first.chain second.chain })
+      (pairs x z).1 (record {
+        middles = first.middles ++ y ∷ second.middles;
+        chain = Chain-append
+            (StepBy (box_events box) (ReadsByteFrom (box_events box) [])) x first.middles y second.middles z first.chain second.chain;
+      })
 
   -- happens-before where no byte read has a source is contained in what follows from any box
   pub unsourced_contained : IsBox box → ¬ HasEmptyDomain box → IsContained box (record { happens_before = order; forced = order; domains = box.domains })
@@ -55,6 +59,9 @@ module _ (box : Box) (place : ℕ) (set left : EventSet) (room : place < length 
   pub source_taken : (x : Execution) → IsCompletion box x → TakesFrom x place set → (w : ℕ) → slice_get x.sources place ≡ Some w → HasEvent left w
   source_taken x is takes w source = (left_is w).1 (is.within place w source, takes w source)
 
+  pub completion_taken : (x : Execution) → IsCompletion box x → TakesFrom x place set → IsCompletion (narrowed_at box place left) x
+  completion_taken x is takes = completion_at box place left room x is (source_taken x is takes)
+
   -- narrowed further it is the cut
   pub cut_on : (now : Box) → Narrows (narrowed_at box place left) now → IsCut box place set now
   cut_on now on = record {
@@ -64,5 +71,5 @@ module _ (box : Box) (place : ℕ) (set left : EventSet) (room : place < length 
       domains = λ k w h. (narrowed_within box place left room left_within).domains k w (on.within.domains k w h);
     };
     inside = λ w h. ((left_is w).0 (subst (λ (s : EventSet). HasEvent s w) (domain_here box place left room) (on.within.domains place w h))).1;
-    kept = λ x is takes. on.kept x (completion_at box place left room x is (source_taken x is takes));
+    kept = λ x is takes. on.kept x (completion_taken x is takes);
   }

@@ -31,7 +31,8 @@ read_at box k r b at =
     ap (λ (q : ℕ × ℕ). q.0) (same_Some (r, b) (byte_read_at (box_events box) k) (sym at ∙ byte_read_there (box_events box) k inside))
 
 -- by its byte read, as a number of its own
-pub read_number : (events : List Event) (k : ℕ) (p : ByteRead) (r : ℕ) → r ≡ p.read → slice_get (byte_reads events) k ≡ Some (pair_of p) → r ≡ (byte_read_at events k).0
+pub read_number : (events : List Event) (k : ℕ) (p : ByteRead) (r : ℕ) → r ≡ p.read → slice_get (byte_reads events) k ≡ Some (pair_of p)
+    → r ≡ (byte_read_at events k).0
 read_number events k p r same at = same ∙ ap (λ (q : ℕ × ℕ). q.0) (read_there events k p at)
 
 -- some byte read is in a data race with a source that it may have
@@ -67,7 +68,8 @@ module _ (box : Box) (frame : Frame) (exact : IsExact box frame) where
           },
         )
 
-    race_from : RacesSomewhere box before may ⊎ HasApartPair (box_events box) before (WritesWith (box_events box)) → HasDataRaceOf (box_events box) (HappensBeforeIn box) reads
+    race_from : RacesSomewhere box before may ⊎ HasApartPair (box_events box) before (WritesWith (box_events box))
+        → HasDataRaceOf (box_events box) (HappensBeforeIn box) reads
     race_from h =
         HasDataRaceOf-wider (box_events box) before (HappensBeforeIn box) reads reads exact.before (λ r w there. there)
         ((HasDataRaceOf-iff (box_events box) before reads).1 (either h))
@@ -77,7 +79,8 @@ module _ (box : Box) (frame : Frame) (exact : IsExact box frame) where
         either (inl read) = inl (apart_pair_of read)
         either (inr writes) = inr writes
 
-    race_to : HasDataRaceOf (box_events box) (HappensBeforeIn box) reads → RacesSomewhere box before may ⊎ HasApartPair (box_events box) before (WritesWith (box_events box))
+    race_to : HasDataRaceOf (box_events box) (HappensBeforeIn box) reads
+        → RacesSomewhere box before may ⊎ HasApartPair (box_events box) before (WritesWith (box_events box))
     race_to h =
         either ((HasDataRaceOf-iff (box_events box) before reads).0
         (HasDataRaceOf-wider (box_events box) (HappensBeforeIn box) before reads reads exact.contained.before_in (λ r w there. there) h))
@@ -90,7 +93,8 @@ module _ (box : Box) (frame : Frame) (exact : IsExact box frame) where
   pub may_race_iff : MayRaceIn box ↔ (RacesSomewhere box before (HasSource box) ⊎ HasApartPair (box_events box) before (WritesWith (box_events box)))
   may_race_iff = (race_to (HasSourceOf box) (HasSource box) to from, race_from (HasSourceOf box) (HasSource box) to from)
     where
-      to : (k b r w : ℕ) → slice_get (byte_reads (box_events box)) k ≡ Some (r, b) → r ≡ (byte_read_at (box_events box) k).0 → HasSource box k w → HasSourceOf box r w
+      to : (k b r w : ℕ) → slice_get (byte_reads (box_events box)) k ≡ Some (r, b) → r ≡ (byte_read_at (box_events box) k).0 → HasSource box k w
+          → HasSourceOf box r w
       to k b r w at is there = record { place = k; byte = b; is_read = at; there = there }
 
       from : (r w : ℕ) → HasSourceOf box r w → (k : ℕ) × (b : ℕ) × (slice_get (byte_reads (box_events box)) k ≡ Some (r, b)) × HasSource box k w
@@ -99,7 +103,8 @@ module _ (box : Box) (frame : Frame) (exact : IsExact box frame) where
   pub can_race_iff : CanRaceIn box ↔ (RacesSomewhere box before (CanFillAt box) ⊎ HasApartPair (box_events box) before (WritesWith (box_events box)))
   can_race_iff = (race_to (CanFillFrom box) (CanFillAt box) to from, race_from (CanFillFrom box) (CanFillAt box) to from)
     where
-      to : (k b r w : ℕ) → slice_get (byte_reads (box_events box)) k ≡ Some (r, b) → r ≡ (byte_read_at (box_events box) k).0 → CanFillAt box k w → CanFillFrom box r w
+      to : (k b r w : ℕ) → slice_get (byte_reads (box_events box)) k ≡ Some (r, b) → r ≡ (byte_read_at (box_events box) k).0 → CanFillAt box k w
+          → CanFillFrom box r w
       to k b r w at is can = record {
         place = k;
         byte = b;
@@ -125,8 +130,10 @@ module _ (box : Box) (frame : Frame) (exact : IsExact box frame) where
 
 -- ---- a read filled with one source of a byte
 -- the set of one event
-pub one_alone : (none one : EventSet) (w : ℕ) → ((v : ℕ) → ¬ HasEvent none v) → ((v : ℕ) → HasEvent one v ↔ (HasEvent none v ⊎ (v ≡ w))) → (v : ℕ) → HasEvent one v ↔ (v ≡ w)
-one_alone none one w empty with_it v = ((λ h. elim ((with_it v).0 h) [ inl there ↦ absurd (empty v there) | inr same ↦ same ]), (λ same. (with_it v).1 (inr same)))
+pub one_alone : (none one : EventSet) (w : ℕ) → ((v : ℕ) → ¬ HasEvent none v) → ((v : ℕ) → HasEvent one v ↔ (HasEvent none v ⊎ (v ≡ w))) → (v : ℕ)
+    → HasEvent one v ↔ (v ≡ w)
+one_alone none one w empty with_it v =
+    ((λ h. elim ((with_it v).0 h) [ inl there ↦ absurd (empty v there) | inr same ↦ same ]), (λ same. (with_it v).1 (inr same)))
 
 module _ (box : Box) (place w : ℕ) (one : EventSet) (is_one : (v : ℕ) → HasEvent one v ↔ (v ≡ w)) (room : place < length box.domains) where
   pub one_within : HasSource box place w → (v : ℕ) → HasEvent one v → HasSource box place v
@@ -140,12 +147,14 @@ module _ (box : Box) (place w : ℕ) (one : EventSet) (is_one : (v : ℕ) → Ha
       by k v at (inl is) =
           let here : slice_get sources place ≡ Some v = subst (λ (j : ℕ). slice_get sources j ≡ Some v) is at in
           let same : v ≡ w = same_Some v w (sym here ∙ takes) in
-          let there : HasSource (narrowed_at box place one) place v = subst (λ (set : EventSet). HasEvent set v) (sym (domain_here box place one room)) ((is_one v).1 same) in
+          let there : HasSource (narrowed_at box place one) place v = subst (λ (set : EventSet). HasEvent set v)
+          (sym (domain_here box place one room)) ((is_one v).1 same) in
           subst (λ (j : ℕ). HasSource (narrowed_at box place one) j v) (sym is) there
       by k v at (inr other) = subst (λ (set : EventSet). HasEvent set v) (sym (get_or-set_other box.domains place k one no_events other)) (lie.within k v at)
 
   -- those that lie there have it
-  takes_alone : place < length (byte_reads (box_events box)) → (sources : List ℕ) → AreSourcesIn (narrowed_at box place one) sources → slice_get sources place ≡ Some w
+  takes_alone : place < length (byte_reads (box_events box)) → (sources : List ℕ) → AreSourcesIn (narrowed_at box place one) sources
+      → slice_get sources place ≡ Some w
   takes_alone inside sources lie =
       let long : place < length sources = omega (arith, lie.sourced.one_each, inside) in
       let first = get_or sources place 0 in

@@ -32,7 +32,8 @@ module _ (t : Litmus) (c n : ℕ) (a : List ℕ) (of : IsOfCombination t n c) (h
   sourced = subst (λ (ws : List ℕ). AreSources (events_in t c) ws) sources_are of.sourced
 
 one_sources : (t : Litmus) (n : ℕ) (a b : List ℕ) → HasSources t n a → HasSources t n b → a ≡ b
-one_sources t n a b first second = sym first.same ∙ ap (λ (ch : Choice). ch.sources) (same_Some first.choice second.choice (sym first.listed ∙ second.listed)) ∙ second.same
+one_sources t n a b first second =
+    sym first.same ∙ ap (λ (ch : Choice). ch.sources) (same_Some first.choice second.choice (sym first.listed ∙ second.listed)) ∙ second.same
 
 -- ---- two choices on a combination
 module _ (t : Litmus) (c n m : ℕ) (a b : List ℕ) (lists : ListsChoices t) (first : IsOfCombination t n c) (second : IsOfCombination t m c)
@@ -145,13 +146,15 @@ below_known (Some h) place s fits each = record {
   greater = λ inside. (each place inside).1 refl;
 }
 
-above_from : (low : Option (List ℕ)) (place : ℕ) (s : List ℕ) (k w : ℕ) → IfSome low (λ l. length l ≡ length s) → k < length s → w ≡ slice_index s k → IfSome low (λ l. IsGreaterAt l place s)
+above_from : (low : Option (List ℕ)) (place : ℕ) (s : List ℕ) (k w : ℕ) → IfSome low (λ l. length l ≡ length s) → k < length s → w ≡ slice_index s k
+    → IfSome low (λ l. IsGreaterAt l place s)
     → IfSome low (λ l. IsAbove l place k w)
 above_from None place s k w long inside here is = tt
 above_from (Some l) place s k w long inside here is = (
   λ before. here ∙ is.same k before,
   λ at.
-      let less : slice_index l k < slice_index s k = subst (λ (j : ℕ). slice_index l j < slice_index s j) (sym at) (is.greater (omega (arith, at, inside, long))) in
+      let less : slice_index l k < slice_index s k = subst (λ (j : ℕ). slice_index l j < slice_index s j) (sym at)
+      (is.greater (omega (arith, at, inside, long))) in
       omega (arith, less, here),
 )
 
@@ -166,7 +169,8 @@ below_from (Some h) place s k w inside here is = (
 )
 
 -- the place where a box parts is one of a byte read, or behind the last one
-parting_fits : (len shared lows highs : ℕ) (low high : Option (List ℕ)) (i : ℕ) → IsCut len low high shared lows highs → i < lows + 1 + highs → shared + ((lows - i) + (i - lows)) ≤ len
+parting_fits : (len shared lows highs : ℕ) (low high : Option (List ℕ)) (i : ℕ) → IsCut len low high shared lows highs → i < lows + 1 + highs
+    → shared + ((lows - i) + (i - lows)) ≤ len
 parting_fits len shared lows highs None None i cut inside = omega (arith, inside, cut.before.fits, cut.before.count, cut.behind.count)
 parting_fits len shared lows highs None (Some h) i cut inside = omega (arith, inside, cut.before.fits, cut.before.count, cut.behind.count)
 parting_fits len shared lows highs (Some l) None i cut inside = omega (arith, inside, cut.behind.fits, cut.before.count, cut.behind.count)
@@ -182,11 +186,19 @@ module _ (boxes : BoxesModel) (cut : IsCut (length (byte_reads (boxes_events box
   at_place k within = slice_get-get_or s k 0 within
 
   fits : parting_in boxes i ≤ length s
-  fits = omega (arith, are.one_each, parting_fits (length (byte_reads (boxes_events boxes))) boxes.shared boxes.lows boxes.highs boxes.low boxes.high i cut inside)
+  fits =
+      omega (
+        arith,
+        are.one_each,
+        parting_fits (length (byte_reads (boxes_events boxes))) boxes.shared boxes.lows boxes.highs boxes.low boxes.high i
+            cut inside,
+      )
 
   pub in_cut : LiesInBox boxes i s → IsInCut boxes.low boxes.high boxes.shared boxes.lows i s
   in_cut lies = record {
-    above = λ early. above_known boxes.low (parting_in boxes i) s fits (low_long (length (byte_reads (boxes_events boxes))) s boxes.low are.one_each cut.before.long)
+    above =
+        λ early. above_known boxes.low (parting_in boxes i) s fits
+        (low_long (length (byte_reads (boxes_events boxes))) s boxes.low are.one_each cut.before.long)
         (λ k within. (lies k (slice_index s k) (at_place k within)).above early);
     below = λ late. below_known boxes.high (parting_in boxes i) s fits (λ k within. (lies k (slice_index s k) (at_place k within)).below late);
   }
@@ -198,15 +210,21 @@ module _ (boxes : BoxesModel) (cut : IsCut (length (byte_reads (boxes_events box
       let here : w ≡ slice_index s k = sym (same_Some (slice_index s k) w (sym (at_place k within) ∙ at)) in
       record {
         known = known;
-        candidate = are.each k (byte_read_at (boxes_events boxes) k).0 (byte_read_at (boxes_events boxes) k).1 w (slice_get-get_or (byte_reads (boxes_events boxes)) k (0, 0) known) at;
-        above = λ early. above_from boxes.low (parting_in boxes i) s k w (low_long (length (byte_reads (boxes_events boxes))) s boxes.low are.one_each cut.before.long) within here (is.above early);
+        candidate =
+            are.each k (byte_read_at (boxes_events boxes) k).0 (byte_read_at (boxes_events boxes) k).1 w
+            (slice_get-get_or (byte_reads (boxes_events boxes)) k (0, 0) known) at;
+        above =
+            λ early. above_from boxes.low (parting_in boxes i) s k w
+            (low_long (length (byte_reads (boxes_events boxes))) s boxes.low are.one_each cut.before.long) within here (is.above early);
         below = λ late. below_from boxes.high (parting_in boxes i) s k w within here (is.below late);
       }
 
 -- ---- the range
 module _ (boxes : BoxesModel) (cut : IsCut (length (byte_reads (boxes_events boxes))) boxes.low boxes.high boxes.shared boxes.lows boxes.highs) (from to : ℕ) (some : 0 < to)
-    (low_is : IsLowEnd boxes.test boxes.combination from boxes.low) (high_is : IsHighEnd boxes.test boxes.combination to boxes.high) (lists : ListsChoices boxes.test)
-    (of : (n : ℕ) → choices_before boxes.test boxes.combination ≤ n → n < choices_before boxes.test (boxes.combination + 1) → IsOfCombination boxes.test n boxes.combination) where
+    (low_is : IsLowEnd boxes.test boxes.combination from boxes.low) (high_is : IsHighEnd boxes.test boxes.combination to boxes.high)
+    (lists : ListsChoices boxes.test)
+    (of : (n : ℕ) → choices_before boxes.test boxes.combination ≤ n → n < choices_before boxes.test (boxes.combination + 1)
+    → IsOfCombination boxes.test n boxes.combination) where
   abbrev reads : ℕ
   reads = length (byte_reads (boxes_events boxes))
 
@@ -218,7 +236,8 @@ module _ (boxes : BoxesModel) (cut : IsCut (length (byte_reads (boxes_events box
         λ inside.
             let there = found reads boxes.shared boxes.lows boxes.highs s are.one_each boxes.low boxes.high cut (range.0 inside) in
             (there.0, there.1, from_cut boxes cut s are there.0 there.1 there.2),
-        λ lies. range.1 (between reads boxes.shared boxes.lows boxes.highs s are.one_each boxes.low boxes.high cut lies.0 lies.1 (in_cut boxes cut s are lies.0 lies.1 lies.2)),
+        λ lies. range.1 (between reads boxes.shared boxes.lows boxes.highs s are.one_each boxes.low boxes.high cut lies.0 lies.1
+            (in_cut boxes cut s are lies.0 lies.1 lies.2)),
       )
 
   risen : (i j : ℕ) (a b : List ℕ) → i < j → j < boxes_len boxes → AreSources (boxes_events boxes) a → AreSources (boxes_events boxes) b

@@ -29,7 +29,8 @@ pub byte_read_there : (events : List Event) (k : ℕ) → k < length (byte_reads
 byte_read_there events k within = slice_get-get_or (byte_reads events) k (0, 0) within
 
 -- of this read
-pub read_there : (events : List Event) (k r : ℕ) → k < length (byte_reads events) → (byte_read_at events k).0 ≡ r → slice_get (byte_reads events) k ≡ Some (r, (byte_read_at events k).1)
+pub read_there : (events : List Event) (k r : ℕ) → k < length (byte_reads events) → (byte_read_at events k).0 ≡ r
+    → slice_get (byte_reads events) k ≡ Some (r, (byte_read_at events k).1)
 read_there events k r within same = byte_read_there events k within ∙ ap (λ (q : ℕ). Some (q, (byte_read_at events k).1)) same
 
 -- ---- events of a set that are like another, one after the other
@@ -112,14 +113,18 @@ module _ (events : List Event) where
       let at_most : length (stored events r (drop k all_reads)) ≤ (event_at events r).size = length-stored events r all_reads k are_first in
       let mapped : length (stored events r (drop k all_reads)) ≡ length (filter {X = (ℕ × ℕ) × ℕ} (λ p. p.0.0 == r) (map sourced (drop k all_reads))) =
       length-map (filter {X = (ℕ × ℕ) × ℕ} (λ p. p.0.0 == r) (map sourced (drop k all_reads))) (λ p. payload_at (event_at events p.1) p.0.1) in
-      let same = ap (λ (bytes : List SourcedByte). length (filter {X = (ℕ × ℕ) × ℕ} (λ p. p.0.0 == r) (map sourced bytes))) (drop-map some_source k (byte_reads events)) in
+      let same = ap (λ (bytes : List SourcedByte). length (filter {X = (ℕ × ℕ) × ℕ} (λ p. p.0.0 == r) (map sourced bytes)))
+      (drop-map some_source k (byte_reads events)) in
       omega (arith, at_most, mapped, same, counted (drop k (byte_reads events)))
     where
-      counted : (ps : List (ℕ × ℕ)) → length (filter {X = (ℕ × ℕ) × ℕ} (λ p. p.0.0 == r) (map sourced (map some_source ps))) ≡ length (filter {X = ℕ × ℕ} (λ p. p.0 == r) ps)
+      counted : (ps : List (ℕ × ℕ))
+          → length (filter {X = (ℕ × ℕ) × ℕ} (λ p. p.0.0 == r) (map sourced (map some_source ps))) ≡ length (filter {X = ℕ × ℕ} (λ p. p.0 == r) ps)
       counted [] = refl
       counted (p ∷ ps) =
           let ih = counted ps in
-          elim (p.0 == r) as (λ b. length (cond b (sourced (some_source p) ∷ filter {X = (ℕ × ℕ) × ℕ} (λ q. q.0.0 == r) (map sourced (map some_source ps))) (filter (λ q. q.0.0 == r) (map sourced (map some_source ps))))
+          elim (p.0 == r) as (λ b. length
+          (cond b (sourced (some_source p) ∷ filter {X = (ℕ × ℕ) × ℕ} (λ q. q.0.0 == r) (map sourced (map some_source ps)))
+          (filter (λ q. q.0.0 == r) (map sourced (map some_source ps))))
           ≡ length (cond b (p ∷ filter {X = ℕ × ℕ} (λ q. q.0 == r) ps) (filter (λ q. q.0 == r) ps)))
           [ true ↦ ap suc ih | false ↦ ih ]
 
@@ -129,7 +134,9 @@ module _ (events : List Event) (r k b : ℕ) (at : slice_get (byte_reads events)
   count_here =
       let is_test : (r == r) ≡ true = eq-eqb r r refl in
       ap (λ (ps : List (ℕ × ℕ)). length (filter {X = ℕ × ℕ} (λ p. p.0 == r) ps)) (drop_at (byte_reads events) k (r, b) at)
-      ∙ ap (λ (t : Bool). length (cond t ((r, b) ∷ filter {X = ℕ × ℕ} (λ p. p.0 == r) (drop (k + 1) (byte_reads events))) (filter (λ p. p.0 == r) (drop (k + 1) (byte_reads events))))) is_test
+      ∙ ap (λ (t : Bool). length
+      (cond t ((r, b) ∷ filter {X = ℕ × ℕ} (λ p. p.0 == r) (drop (k + 1) (byte_reads events)))
+      (filter (λ p. p.0 == r) (drop (k + 1) (byte_reads events))))) is_test
 
   few_taken : taken.bytes ≤ 3
   few_taken = omega (arith, count_here, room.few)
@@ -148,7 +155,8 @@ module _ (events : List Event) (r k b : ℕ) (at : slice_get (byte_reads events)
       below : (u : ℕ) → u ≤ 256 ^ 3 → taken.value < u → u * byte ≤ u * 255 → taken.value + u * byte < 4294967296
       below u most least product = omega (arith, most, least, product)
 
-  pub room_on : (next : Taken) (byte : ℕ) → byte < 256 → next.value ≡ taken.value + 256 ^ taken.bytes * byte → next.bytes ≡ taken.bytes + 1 → HasRoom events r (k + 1) next
+  pub room_on : (next : Taken) (byte : ℕ) → byte < 256 → next.value ≡ taken.value + 256 ^ taken.bytes * byte → next.bytes ≡ taken.bytes + 1
+      → HasRoom events r (k + 1) next
   room_on next byte small value bytes = record {
     place = (let within : k < length (byte_reads events) = slice_get_within (byte_reads events) k (r, b) at in omega arith);
     later = λ j q c le there. room.later j q c (omega (arith, le)) there;

@@ -76,11 +76,13 @@ abbrev pub is_name : (agent reg : ℕ) → ℕ × ℕ → Bool
 is_name agent reg name = (name.0 == agent) && (name.1 == reg)
 
 -- what an outcome has for a register: 0 where it is not named
-value_named : (f : ℕ × ℕ → ℕ) (names : List (ℕ × ℕ)) (agent reg : ℕ) → value_in (zip names (map f names)) agent reg ≡ cond (list_any (is_name agent reg) names) (f (agent, reg)) 0
+value_named : (f : ℕ × ℕ → ℕ) (names : List (ℕ × ℕ)) (agent reg : ℕ)
+    → value_in (zip names (map f names)) agent reg ≡ cond (list_any (is_name agent reg) names) (f (agent, reg)) 0
 value_named f [] agent reg = refl
 value_named f (n ∷ names) agent reg = by (n.0 == agent) (n.1 == reg) refl refl (value_named f names agent reg)
   where
-    by : (x y : Bool) → (n.0 == agent) ≡ x → (n.1 == reg) ≡ y → value_in (zip names (map f names)) agent reg ≡ cond (list_any (is_name agent reg) names) (f (agent, reg)) 0
+    by : (x y : Bool) → (n.0 == agent) ≡ x → (n.1 == reg) ≡ y
+        → value_in (zip names (map f names)) agent reg ≡ cond (list_any (is_name agent reg) names) (f (agent, reg)) 0
         → cond (x && y) (f n) (value_in (zip names (map f names)) agent reg) ≡ cond ((x && y) || list_any (is_name agent reg) names) (f (agent, reg)) 0
     by true true is_agent is_reg rest =
         let one : n.0 ≡ agent = grind (arith, nat_tests) in
@@ -99,7 +101,8 @@ itself : (agent reg : ℕ) → is_name agent reg (agent, reg) ≡ true
 itself agent reg = ap₂ (λ (x y : Bool). x && y) (eq-eqb agent agent refl) (eq-eqb reg reg refl)
 
 -- a register that the test p picks is named
-named_in : (p : ℕ → Bool) (n reg low count : ℕ) → low ≤ reg → reg < low + count → p reg ≡ true → list_any (is_name n reg) (map (λ r. (n, r)) (filter p (range_with_len low count))) ≡ true
+named_in : (p : ℕ → Bool) (n reg low count : ℕ) → low ≤ reg → reg < low + count → p reg ≡ true
+    → list_any (is_name n reg) (map (λ r. (n, r)) (filter p (range_with_len low count))) ≡ true
 named_in p n reg low zero least most picks = absurd (omega (arith, least, most))
 named_in p n reg low (suc count) least most picks =
     by (cases_eq low reg) (λ other. named_in p n reg (low + 1) count (omega (arith, least, other)) (omega (arith, most)) picks)
@@ -107,17 +110,22 @@ named_in p n reg low (suc count) least most picks =
     rest : List (ℕ × ℕ)
     rest = map (λ r. (n, r)) (filter p (range_with_len (low + 1) count))
 
-    later : (b : Bool) → list_any (is_name n reg) rest ≡ true → list_any (is_name n reg) (map (λ r. (n, r)) (cond b (low ∷ filter p (range_with_len (low + 1) count)) (filter p (range_with_len (low + 1) count)))) ≡ true
+    later : (b : Bool) → list_any (is_name n reg) rest ≡ true
+        → list_any (is_name n reg) (map (λ r. (n, r)) (cond b (low ∷ filter p (range_with_len (low + 1) count)) (filter p (range_with_len (low + 1) count)))) ≡ true
     later true h = either (is_name n reg (n, low)) (list_any (is_name n reg) rest) (inr h)
     later false h = h
 
-    by : (low ≡ reg) ⊎ (low ≢ reg) → (low ≢ reg → list_any (is_name n reg) rest ≡ true) → list_any (is_name n reg) (map (λ r. (n, r)) (filter p (range_with_len low (suc count)))) ≡ true
+    by : (low ≡ reg) ⊎ (low ≢ reg) → (low ≢ reg → list_any (is_name n reg) rest ≡ true)
+        → list_any (is_name n reg) (map (λ r. (n, r)) (filter p (range_with_len low (suc count)))) ≡ true
     by (inl same) there =
-        ap (λ (b : Bool). list_any (is_name n reg) (map (λ r. (n, r)) (cond b (low ∷ filter p (range_with_len (low + 1) count)) (filter p (range_with_len (low + 1) count))))) (ap p same ∙ picks)
+        ap (λ (b : Bool). list_any (is_name n reg)
+        (map (λ r. (n, r)) (cond b (low ∷ filter p (range_with_len (low + 1) count)) (filter p (range_with_len (low + 1) count)))))
+        (ap p same ∙ picks)
         ∙ either (is_name n reg (n, low)) (list_any (is_name n reg) rest) (inl (ap (λ (r : ℕ). is_name n reg (n, r)) same ∙ itself n reg))
     by (inr other) there = later (p low) (there other)
 
-named_from : (n k reg : ℕ) (agents : List Agent) (a : Agent) → slice_get agents k ≡ Some a → reg < REGISTERS → writes a.body reg ≡ true → list_any (is_name (n + k) reg) (names_from n agents) ≡ true
+named_from : (n k reg : ℕ) (agents : List Agent) (a : Agent) → slice_get agents k ≡ Some a → reg < REGISTERS → writes a.body reg ≡ true
+    → list_any (is_name (n + k) reg) (names_from n agents) ≡ true
 named_from n k reg [] a at known picks = absurd (none-some a at)
 named_from n zero reg (x ∷ agents) a at known picks =
     let here : x ≡ a = same_Some x a at in
@@ -130,7 +138,8 @@ named_from n (suc k) reg (x ∷ agents) a at known picks =
     let same : n + suc k ≡ (n + 1) + k = omega arith in
     ap (λ (m : ℕ). list_any (is_name m reg) (names_from n (x ∷ agents))) same
     ∙ list_any-append (is_name ((n + 1) + k) reg) (names_in n x) (names_from (n + 1) agents)
-    ∙ either (list_any (is_name ((n + 1) + k) reg) (names_in n x)) (list_any (is_name ((n + 1) + k) reg) (names_from (n + 1) agents)) (inr (named_from (n + 1) k reg agents a at known picks))
+    ∙ either (list_any (is_name ((n + 1) + k) reg) (names_in n x)) (list_any (is_name ((n + 1) + k) reg) (names_from (n + 1) agents))
+    (inr (named_from (n + 1) k reg agents a at known picks))
 
 -- ---- what registers hold
 -- an agent that is not there has no walk
@@ -163,13 +172,15 @@ none_without_agent t c agent reg past = by (cases_lt reg REGISTERS)
         ∙ ap (λ (steps : List Step). last_read steps reg) (walk_beyond t c agent past)
     by (inr beyond) = none_beyond t c agent reg beyond
 
-none_unwritten : (t : Litmus) (c agent reg : ℕ) → IsWalkIn t c agent (walk_in t c agent) → reg < REGISTERS → writes (agent_of t agent).body reg ≡ false → last_held t c agent reg ≡ None
+none_unwritten : (t : Litmus) (c agent reg : ℕ) → IsWalkIn t c agent (walk_in t c agent) → reg < REGISTERS
+    → writes (agent_of t agent).body reg ≡ false → last_held t c agent reg ≡ None
 none_unwritten t c agent reg walk known off =
     get_or-map-range_with_len (last_read (walk_in t c agent)) 0 REGISTERS reg reg None known (omega arith)
     ∙ last_none reg 0 (walk_in t c agent) (walk_none reg (agent_of t agent).body (walk_in t c agent) walk.walked off)
 
 -- a register that is not named holds nothing
-none_unnamed : (t : Litmus) (c agent reg : ℕ) → (agent < length t.agents → IsWalkIn t c agent (walk_in t c agent)) → list_any (is_name agent reg) (names_of t) ≡ false → last_held t c agent reg ≡ None
+none_unnamed : (t : Litmus) (c agent reg : ℕ) → (agent < length t.agents → IsWalkIn t c agent (walk_in t c agent))
+    → list_any (is_name agent reg) (names_of t) ≡ false → last_held t c agent reg ≡ None
 none_unnamed t c agent reg walk unnamed = by (cases_lt agent (length t.agents)) (cases_lt reg REGISTERS)
   where
     by : (agent < length t.agents) ⊎ (length t.agents ≤ agent) → (reg < REGISTERS) ⊎ (REGISTERS ≤ reg) → last_held t c agent reg ≡ None
@@ -189,16 +200,19 @@ none_unnamed t c agent reg walk unnamed = by (cases_lt agent (length t.agents)) 
 pub held_reads : (t : Litmus) (c agent reg k : ℕ) → IsWalkIn t c agent (walk_in t c agent) → reg < REGISTERS → last_held t c agent reg ≡ Some k
     → (first_event t c agent + k < length (events_in t c)) × IsTrue (does_read (event_at (events_in t c) (first_event t c agent + k)).kind)
 held_reads t c agent reg k walk known at =
-    let last : last_read (walk_in t c agent) reg ≡ Some k = sym (get_or-map-range_with_len (last_read (walk_in t c agent)) 0 REGISTERS reg reg None known (omega arith)) ∙ at in
+    let last : last_read (walk_in t c agent) reg ≡ Some k = sym
+    (get_or-map-range_with_len (last_read (walk_in t c agent)) 0 REGISTERS reg reg None known (omega arith)) ∙ at in
     let is : IsReadAt (path_on agent (walk_in t c agent)).events k = walk.holds_reads reg k last in
     (omega (arith, is.0, walk.within), subst (λ (e : Event). IsTrue (does_read e.kind)) (sym (walk.numbered k is.0)) is.1)
 
 -- ---- in a completion
 pub register_value : (laws : Laws) (box : Box) (x : Execution) → IsBox box → IsCompletion box x → (agent reg : ℕ)
-    → value_in (zip (names_of box.test) (execution_outcome box.test x)) agent reg ≡ value_held (part_of box x.sources) (read_held box.test box.combination (agent, reg))
+    → value_in (zip (names_of box.test) (execution_outcome box.test x)) agent reg ≡ value_held (part_of box x.sources)
+    (read_held box.test box.combination (agent, reg))
 register_value laws box x entered is agent reg =
     ap (λ (outcome : List ℕ). value_in (zip names outcome) agent reg)
-    (its_outcome (part_of box x.sources) x (completes box x is) laws (record { litmus = entered.litmus; known = entered.known }) (names_from-within box.test.agents))
+    (its_outcome (part_of box x.sources) x (completes box x is) laws (record { litmus = entered.litmus; known = entered.known })
+    (names_from-within box.test.agents))
     ∙ value_named held names agent reg
     ∙ by (list_any (is_name agent reg) names) refl
   where
@@ -216,7 +230,8 @@ register_value laws box x entered is agent reg =
 
 -- ---- what is decided of a register
 module _ (laws : Laws) (box : Box) (entered : IsBox box) (agent reg number : ℕ) where
-  pub decided_by_read : (r : ℕ) (decided : Decided) → read_held box.test box.combination (agent, reg) ≡ Some r → IsReadDecided box r number decided → IsDecided box (Is agent reg true number) decided
+  pub decided_by_read : (r : ℕ) (decided : Decided) → read_held box.test box.combination (agent, reg) ≡ Some r → IsReadDecided box r number decided
+      → IsDecided box (Is agent reg true number) decided
   decided_by_read r (Comes value) held each = λ x is.
       ap (λ (n : ℕ). n == number) (register_value laws box x entered is agent reg ∙ ap (value_held (part_of box x.sources)) held)
       ∙ each x.sources (sources_lie box x is)

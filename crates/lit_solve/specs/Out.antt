@@ -1,5 +1,6 @@
 -- When what a box gives leaves a source out, and when it leaves no completion (this project's own).
 use Rattle.std.specs.Prelude.{◌≢◌, ◌⊎◌, ℕ, List, Some, None}
+use Rattle.lit_read.specs.Syntax.{Litmus}
 use Rattle.lit_paths.specs.Choice.{AreSources}
 use Rattle.lit_paths.specs.Event.{event_at, payload_at}
 use Rattle.lit_rel.specs.Broken.{HasFalseTestOn, HasTornReadBy}
@@ -11,12 +12,15 @@ use Rattle.lit_rel.specs.SynchronizesWith.{CanSynchronize}
 use Rattle.lit_rel.specs.TearFree.{CanReadWhole}
 use Rattle.lit_rel.specs.TestedBytes.{HasFalseByteOn}
 use Rattle.lit_order.specs.Forcing.{HasForcedCycle}
-use Rattle.lit_solve.specs.Box.{Box, HasEmptyDomain, LiesIn, box_events}
+use Rattle.lit_solve.specs.Box.{Box, HasEmptyDomain, LiesIn, box_events, events_on}
 use Rattle.lit_solve.specs.Given.{GivenIn, HappensBeforeIn, IsForbiddenIn, IsForcedIn}
 
--- a test is false whatever r reads, if byte b of it has the source w
+-- a test of a combination is false whatever r reads, if byte b of it has the source w
+abbrev pub IsRefusedOn : Litmus × ℕ → ℕ → ℕ → ℕ → Type 0
+IsRefusedOn c r b w = HasFalseByteOn c.0 c.1 r b (payload_at (event_at (events_on c) w) b)
+
 abbrev pub IsRefused : Box → ℕ → ℕ → ℕ → Type 0
-IsRefused box r b w = HasFalseByteOn box.test box.combination r b (payload_at (event_at (box_events box) w) b)
+IsRefused box = IsRefusedOn (box.test, box.combination)
 
 -- w and r can synchronize, and r is forced before w
 pub record IsForcedLater (box : Box) (w r : ℕ) : Type 0 where

@@ -82,8 +82,9 @@ impl<'a, 'p> Boxes<'a, 'p> {
         let high = End::high(combination, to);
         let reads = combination.byte_reads().len();
         let shared = low.shared(&high);
-        let lows = low.count(reads - shared);
-        let highs = high.count(reads - shared);
+        let rest = reads - shared;
+        let lows = low.count(rest);
+        let highs = high.count(rest);
         Boxes {
             combination,
             low,

@@ -12,11 +12,12 @@ ghost use Rattle.lit_solve.specs.Box.{HasSource, IsBox, box_with, events_on};
 ghost use Rattle.lit_solve.specs.Internal.Deciding.{IsByteDecided, IsDecided, IsProspect, IsReadDecided, opposite_of, stored_for};
 
 use crate::domains::Domains;
+use crate::filling::storing;
 use crate::problem::Problem;
 use crate::prospect::Prospect;
 use lit_paths::event_at;
 use lit_read::{Cond, REGISTERS};
-use lit_rel::{EventSet, payload_at};
+use lit_rel::EventSet;
 use lit_valid::Class;
 use lit_valid::laws::laws_below;
 
@@ -62,16 +63,7 @@ impl Problem<'_> {
             × (stored_for (box_with self.now domains.now) place w ≡ value)) }
     {
         let byte = self.byte_read(place).byte;
-        let events = self.combination.events();
-        let mut storing = EventSet::new();
-        let mut left = domains[place];
-        while let Some((source, others)) = left.split_first() {
-            if payload_at(event_at(events, source), byte) == value {
-                storing = storing.with(source);
-            }
-            left = others;
-        }
-        storing
+        storing(self.combination.events(), domains[place], byte, value)
     }
 
     /// Whether the byte read at a place is read as this byte, by the sources in its domain.

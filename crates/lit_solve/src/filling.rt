@@ -27,7 +27,7 @@ struct Taken {
 }
 
 /// The events of a set that store this at a byte.
-fn storing(events: &[Event], among: EventSet, byte: u8, stored: u8) -> EventSet
+pub(crate) fn storing(events: &[Event], among: EventSet, byte: u8, stored: u8) -> EventSet
     requires few { length events.now ≤ EVENT_LIMIT }
     requires known { (v : ℕ) → HasEvent among v → v < length events.now }
     ensures { (v : ℕ) → HasEvent result v ↔ (HasEvent among v × (payload_of (event_of events.now v) byte ≡ stored)) }

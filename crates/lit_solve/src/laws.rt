@@ -54,6 +54,13 @@ pub fn refuted_boxes_have_no_completion()
     laws_below();
 }
 
+/// Each completion fills each read: where one cannot be filled, there is none.
+pub fn completions_fill_each_read()
+    ensures { (box : Box) (x : Execution) (r : ℕ) → IsBox box → IsCompletion box x → r < length (box_events box) → CanFill box r }
+{
+    laws_below();
+}
+
 /// In a quiet box, whose sources are coherent and in which no event happens before itself, the sources that lie in it are
 /// those of a completion exactly where each read is filled by them, no test on a register that was not written is false,
 /// and there is an order of what is given.

@@ -22,7 +22,7 @@ use lit_rel::{EventSet, are_apart, has_false_test, has_racing_writes};
 
 impl Problem<'_> {
     /// Whether each event can be filled. One that does not read has no byte to fill.
-    fn can_fill_each(&self, domains: &Domains) -> bool
+    pub(crate) fn can_fill_each(&self, domains: &Domains) -> bool
         requires is_box { IsBox (box_with self.now domains.now) }
         requires some { ¬ HasEmptyDomain (box_with self.now domains.now) }
         ensures { IsTrue result ↔ ((r : ℕ) → r < length (events_on self.now) → CanFill (box_with self.now domains.now) r) }

@@ -28,6 +28,7 @@ mod prospect;
 mod searching;
 mod solver;
 mod stepping;
+mod testing;
 
 pub use boxes::Boxes;
 pub use boxes::candidates::candidates_of;

@@ -12,7 +12,10 @@ ghost use Rattle.lit_solve.specs.Internal.Settled.{IsCut, IsSettled, TakesFrom};
 
 use crate::domains::Domains;
 use crate::frame::Frame;
-use crate::laws::refuted_boxes_have_no_completion;
+use crate::laws::{
+    completions_fill_each_read, completions_have_no_source_that_is_out,
+    refuted_boxes_have_no_completion,
+};
 use crate::problem::Problem;
 use lit_rel::{EventSet, unsourced_order};
 
@@ -44,6 +47,20 @@ impl Problem<'_> {
         }
     }
 
+    /// Domains without the sources that some test refuses: they are node consistent.
+    fn consistent(&self, domains: &Domains) -> Domains
+        requires { IsBox (box_with self.now domains.now) }
+        ensures is_box { IsBox (box_with self.now result) }
+        ensures narrows { Narrows (box_with self.now domains.now) (box_with self.now result) }
+    {
+        completions_have_no_source_that_is_out();
+        let mut left = *domains;
+        for place in 0..self.reads() {
+            left[place] = left[place].difference(self.refused[place]);
+        }
+        left
+    }
+
     /// The frame of a box, from which nothing more follows. `None` where it is found that there is no completion.
     pub(crate) fn settle(&self, domains: &Domains) -> Option<Frame>
         requires { IsBox (box_with self.now domains.now) }
@@ -52,11 +69,13 @@ impl Problem<'_> {
         ensures none { IfNone result (HasNoCompletion (box_with self.now domains.now)) }
     {
         refuted_boxes_have_no_completion();
-        if self.has_empty(domains) {
+        completions_fill_each_read();
+        let domains = self.consistent(domains);
+        if self.has_empty(&domains) {
             return None;
         }
-        let mut frame = self.unsettled(domains);
-        if self.propagate(&mut frame) {
+        let mut frame = self.unsettled(&domains);
+        if self.propagate(&mut frame) && self.can_fill_each(&frame.domains) {
             Some(frame)
         } else {
             None
@@ -83,12 +102,14 @@ impl Problem<'_> {
             → size_of frame.new.domains < size_of frame.old.domains }
         ensures none { IsFalse result → (x : Execution) → IsCompletion (box_of self.now frame.old) x → ¬ TakesFrom x place set }
     {
+        completions_fill_each_read();
         let _reads = self.reads();
+        let read = self.byte_read(place).read;
         let left = frame.domains[place].intersection(set);
         if left.is_empty() {
             return false;
         }
         frame.domains[place] = left;
-        self.propagate(frame)
+        self.propagate(frame) && self.can_fill(&frame.domains, read)
     }
 }

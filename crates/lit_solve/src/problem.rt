@@ -8,6 +8,7 @@ ghost use Rattle.lit_solve.specs.Box.{events_on};
 
 use crate::boxes::candidates::candidates_of;
 use crate::domains::Domains;
+use crate::testing::refused_among;
 use lit_paths::{BYTE_READ_LIMIT, ByteRead, Combination, Plan};
 use lit_rel::laws::byte_reads_are_of_events;
 use lit_rel::{EventSet, Rows, peers_of};
@@ -20,6 +21,8 @@ pub struct Problem<'p> {
     pub(crate) combination: Combination<'p>,
     /// All candidates of each byte read.
     pub(crate) candidates: Domains,
+    /// Those of them that some test refuses.
+    pub(crate) refused: Domains,
     /// The sequentially consistent writes that have the range of each event.
     pub(crate) peers: Rows,
 }
@@ -37,7 +40,7 @@ impl<'p> Model for Problem<'p> {
 
     ghost view = { λ p. p.combination };
 
-    ghost invariant = { λ p. IsProblem p.combination p.candidates p.peers };
+    ghost invariant = { λ p. IsProblem p.combination p.candidates p.refused p.peers };
 }
 
 impl<'p> Problem<'p> {
@@ -50,12 +53,16 @@ impl<'p> Problem<'p> {
         let combination = plan.enter(combination);
         let peers = peers_of(combination.events());
         let mut candidates = [EventSet::new(); BYTE_READ_LIMIT];
+        let mut refused = [EventSet::new(); BYTE_READ_LIMIT];
         for place in 0..combination.byte_reads().len() {
-            candidates[place] = candidates_of(&combination, place);
+            let all = candidates_of(&combination, place);
+            candidates[place] = all;
+            refused[place] = refused_among(&combination, place, all);
         }
         Problem {
             combination,
             candidates,
+            refused,
             peers,
         }
     }

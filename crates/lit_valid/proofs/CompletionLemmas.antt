@@ -16,7 +16,7 @@ use Rattle.lit_paths.specs.Path.{path_on}
 use Rattle.lit_paths.specs.Plan.{combination_at, first_event, path_in, walk_in}
 use Rattle.lit_paths.specs.Run.{Run, compares, run_path}
 use Rattle.lit_paths.specs.Told.{TellsRuns}
-use Rattle.lit_rel.specs.Broken.{HasBrokenRelations, HasFalseTest, IsBroken, number_on}
+use Rattle.lit_rel.specs.Broken.{HasBrokenRelations, HasFalseTest, HasFalseTestOn, IsBroken, number_on}
 use Rattle.lit_rel.specs.Coherent.{HasCoherentReads, IsCoherentRead}
 use Rattle.lit_rel.specs.Growth.{GrowWithBytes, IsGivenWhole, ValuesStay}
 use Rattle.lit_rel.specs.HappensBefore.{HappensBefore}
@@ -57,7 +57,8 @@ module _ (part : PartModel) (x : Execution) (is : Completes part x) where
       (subst (λ (es : List Event). flat_map (λ run. run.values) x.runs ≡ map (value_of es x.sources) (read_numbers es)) its_events is.valid.chosen_reads)
 
   -- its memory-orders keep what the part has
-  pub order_kept : GrowWithBytes → (order : List ℕ) → IsMemoryOrder (execution_events part.test x) x.sources order → IsMemoryOrder (part_events part) part.sources order
+  pub order_kept : GrowWithBytes → (order : List ℕ) → IsMemoryOrder (execution_events part.test x) x.sources order
+      → IsMemoryOrder (part_events part) part.sources order
   order_kept grow order o =
       let grows = grow.lists (part_events part) part.sources is.rest in
       let here : IsMemoryOrder (part_events part) (part.sources ++ is.rest) order = carried (λ es ws. IsMemoryOrder es ws order) o in
@@ -80,7 +81,8 @@ module _ (part : PartModel) (x : Execution) (is : Completes part x) where
       torn.two_sources (grows.tear_free (carried HasTearFreeReads is.valid.tear_free_reads) torn.read torn.source torn.other torn.first torn.second)
 
   -- each test is true of its sources
-  its_tests : Laws → IsLitmus part.test → part.combination < length (combinations_of part.test) → (agent k : ℕ) (test : Tested) → agent < length part.test.agents
+  its_tests : Laws → IsLitmus part.test → part.combination < length (combinations_of part.test)
+      → (agent k : ℕ) (test : Tested) → agent < length part.test.agents
       → slice_get (path_in part.test part.combination agent).tests k ≡ Some test → holds part.test part.combination agent x.sources test ≡ true
   its_tests laws litmus known agent k test inside at =
       let runs = its_runs laws.choose in
@@ -90,20 +92,24 @@ module _ (part : PartModel) (x : Execution) (is : Completes part x) where
       (tells_of laws part.test part.combination agent litmus known inside) run (runs.each agent run (slice_get-get_or x.runs agent no_run there)) k test at
 
   -- a read whose bytes are all given has the value that the part gives it
-  pub value_stays : ValuesStay → (place : Option ℕ) → ((r : ℕ) → place ≡ Some r → IsGivenWhole (part_events part) part.sources r) → value_held (with_sources part x.sources) place ≡ value_held part place
+  pub value_stays : ValuesStay → (place : Option ℕ) → ((r : ℕ) → place ≡ Some r → IsGivenWhole (part_events part) part.sources r)
+      → value_held (with_sources part x.sources) place ≡ value_held part place
   value_stays stay None whole = refl
-  value_stays stay (Some r) whole = ap (λ (ws : List ℕ). value_of (part_events part) ws r) is.begun ∙ stay (part_events part) part.sources is.rest r (whole r refl)
+  value_stays stay (Some r) whole =
+      ap (λ (ws : List ℕ). value_of (part_events part) ws r) is.begun ∙ stay (part_events part) part.sources is.rest r (whole r refl)
 
   tests_true : Laws → ValuesStay → IsEntered part → ¬ HasFalseTest part
   tests_true laws stay entered (inl bad) =
       let true_there = its_tests laws entered.litmus entered.known bad.agent bad.place bad.test bad.known bad.at_place in
-      let value : value_held (with_sources part x.sources) (number_on (first_event part.test part.combination bad.agent) bad.test.on) ≡ 0 = ap (λ (p : Option ℕ). value_held (with_sources part x.sources) p) bad.asks in
+      let value : value_held (with_sources part x.sources) (number_on (first_event part.test part.combination bad.agent) bad.test.on) ≡ 0 =
+      ap (λ (p : Option ℕ). value_held (with_sources part x.sources) p) bad.asks in
       absurd (let e : true ≡ false = sym true_there ∙ ap (λ (v : ℕ). compares bad.test.equal v bad.test.value) value ∙ bad.is_false in cc)
   tests_true laws stay entered (inr (r, whole, bad)) =
       let true_there = its_tests laws entered.litmus entered.known bad.agent bad.place bad.test bad.known bad.at_place in
       let place = number_on (first_event part.test part.combination bad.agent) bad.test.on in
       let value : value_held (with_sources part x.sources) place ≡ value_of (part_events part) part.sources r =
-      value_stays stay place (λ q at. let e : Some q ≡ Some r = sym at ∙ bad.asks in let same : r ≡ q = cc in subst (λ (p : ℕ). IsGivenWhole (part_events part) part.sources p) same whole)
+      value_stays stay place (λ q at. let e : Some q ≡ Some r = sym at ∙ bad.asks in let same : r ≡ q = cc in
+      subst (λ (p : ℕ). IsGivenWhole (part_events part) part.sources p) same whole)
       ∙ ap (λ (p : Option ℕ). value_held part p) bad.asks in
       absurd (let e : true ≡ false = sym true_there ∙ ap (λ (v : ℕ). compares bad.test.equal v bad.test.value) value ∙ bad.is_false in cc)
 
@@ -129,11 +135,13 @@ module _ (part : PartModel) (x : Execution) (is : Completes part x) where
       let run = get_or x.runs name.0 no_run in
       ap (λ (rs : List ℕ). slice_index rs name.1) (get_or-map (λ (q : Run). q.registers) x.runs name.0 no_run [] there)
       ∙ held_by_run part.test part.combination name.0 x.sources (laws.walked part.test part.combination name.0 entered.litmus entered.known known)
-      (tells_of laws part.test part.combination name.0 entered.litmus entered.known known) run name.1 (runs.each name.0 run (slice_get-get_or x.runs name.0 no_run there)))
+      (tells_of laws part.test part.combination name.0 entered.litmus entered.known known) run name.1
+      (runs.each name.0 run (slice_get-get_or x.runs name.0 no_run there)))
     where
       same_maps : {f g : ℕ × ℕ → ℕ} (ns : List (ℕ × ℕ)) → ((k : ℕ) (name : ℕ × ℕ) → slice_get ns k ≡ Some name → f name ≡ g name) → map f ns ≡ map g ns
       same_maps [] same = refl
-      same_maps {f} {g} (n ∷ ns) same = ap (λ (v : ℕ). v ∷ map f ns) (same 0 n refl) ∙ ap (λ (vs : List ℕ). g n ∷ vs) (same_maps ns (λ k name at. same (suc k) name at))
+      same_maps {f} {g} (n ∷ ns) same =
+          ap (λ (v : ℕ). v ∷ map f ns) (same 0 n refl) ∙ ap (λ (vs : List ℕ). g n ∷ vs) (same_maps ns (λ k name at. same (suc k) name at))
 
 -- ---- an execution of a complete part that is not broken
 module _ (part : PartModel) (entered : IsEntered part) (laws : Laws) (sourced : AreSources (part_events part) part.sources) (whole : ¬ IsBroken part) where
@@ -146,53 +154,52 @@ module _ (part : PartModel) (entered : IsEntered part) (laws : Laws) (sourced : 
   all_given : (r : ℕ) → IsGivenWhole (part_events part) part.sources r
   all_given r i b at = omega (arith, slice_get_within (byte_reads (part_events part)) i (r, b) at, sourced.one_each)
 
-  true_here : (agent k : ℕ) (test : Tested) → agent < length t.agents → slice_get (path_in t c agent).tests k ≡ Some test → holds t c agent part.sources test ≡ true
+  true_here : (agent k : ℕ) (test : Tested) → agent < length t.agents → slice_get (path_in t c agent).tests k ≡ Some test
+      → holds t c agent part.sources test ≡ true
   true_here agent k test inside at = by (number_on (first_event t c agent) test.on) refl (holds t c agent part.sources test) refl
     where
-      by : (place : Option ℕ) → number_on (first_event t c agent) test.on ≡ place → (b : Bool) → holds t c agent part.sources test ≡ b → holds t c agent part.sources test ≡ true
+      false_test : (place : Option ℕ) → number_on (first_event t c agent) test.on ≡ place → holds t c agent part.sources test ≡ false
+          → HasFalseTestOn t c place (value_held part place)
+      false_test place asks is = record {
+        agent = agent;
+        known = inside;
+        place = k;
+        test = test;
+        at_place = at;
+        asks = asks;
+        is_false = ap (λ (p : Option ℕ). compares test.equal (value_held part p) test.value) (sym asks) ∙ is;
+      }
+
+      by : (place : Option ℕ) → number_on (first_event t c agent) test.on ≡ place → (b : Bool) → holds t c agent part.sources test ≡ b
+          → holds t c agent part.sources test ≡ true
       by place asks true is = is
-      by None asks false is =
-          absurd (whole (inr (inl (record {
-            agent = agent;
-            known = inside;
-            place = k;
-            test = test;
-            at_place = at;
-            asks = asks;
-            is_false = ap (λ (p : Option ℕ). compares test.equal (value_held part p) test.value) (sym asks) ∙ is;
-          }))))
-      by (Some r) asks false is =
-          absurd (whole (inr (inr (
-            r,
-            all_given r,
-            record {
-              agent = agent;
-              known = inside;
-              place = k;
-              test = test;
-              at_place = at;
-              asks = asks;
-              is_false = ap (λ (p : Option ℕ). compares test.equal (value_held part p) test.value) (sym asks) ∙ is;
-            },
-          ))))
+      by None asks false is = absurd (whole (inr (inl (false_test None asks is))))
+      by (Some r) asks false is = absurd (whole (inr (inr (r, all_given r, false_test (Some r) asks is))))
 
   pub each_run : (agent : ℕ) → agent < length t.agents → HasGivenRun t c part.sources agent
   each_run agent inside =
-      run_where_true t c agent part.sources (laws.walked t c agent entered.litmus entered.known inside) (tells_of laws t c agent entered.litmus entered.known inside)
+      run_where_true t c agent part.sources (laws.walked t c agent entered.litmus entered.known inside)
+      (tells_of laws t c agent entered.litmus entered.known inside)
       (λ k test at. true_here agent k test inside at)
 
-  abbrev pub found : (rs : List Run) × (length rs ≡ length t.agents) × ((i : ℕ) (run : Run) → slice_get rs i ≡ Some run → IsGivenRun t c part.sources (0 + i) run)
-  found = gathered (IsGivenRun t c part.sources) 0 (length t.agents) (λ i inside. let one = each_run i inside in (one.0, subst (λ k. IsGivenRun t c part.sources k one.0) (let e : i ≡ 0 + i = omega arith in e) one.1))
+  abbrev pub found : (rs : List Run) × (length rs ≡ length t.agents)
+      × ((i : ℕ) (run : Run) → slice_get rs i ≡ Some run → IsGivenRun t c part.sources (0 + i) run)
+  found = gathered (IsGivenRun t c part.sources) 0 (length t.agents) (λ i inside. let one = each_run i inside in
+      (one.0, subst (λ k. IsGivenRun t c part.sources k one.0) (let e : i ≡ 0 + i = omega arith in e) one.1))
 
   given : AreGivenRuns t c part.sources found.0
-  given = record { one_each = found.1; each = λ i run at. subst (λ k. IsGivenRun t c part.sources k run) (let e : 0 + i ≡ i = omega arith in e) (found.2 i run at) }
+  given = record {
+    one_each = found.1;
+    each = λ i run at. subst (λ k. IsGivenRun t c part.sources k run) (let e : 0 + i ≡ i = omega arith in e) (found.2 i run at);
+  }
 
   abbrev pub example : Execution
   example = record { runs = found.0; sources = part.sources }
 
   pub example_paths : map run_path example.runs ≡ combination_at t c
   example_paths =
-      let long : length example.runs ≡ length (combination_at t c) = found.1 ∙ sym ((laws.listed t).only c (combination_at t c) (slice_get-get_or (combinations_of t) c [] entered.known)).one_each in
+      let long : length example.runs ≡ length (combination_at t c) =
+      found.1 ∙ sym ((laws.listed t).only c (combination_at t c) (slice_get-get_or (combinations_of t) c [] entered.known)).one_each in
       same_lists _ _ (length-map example.runs run_path ∙ long) (λ k d inside.
       let here : k < length example.runs = omega (arith, inside, length-map example.runs run_path) in
       let there : k < length (combination_at t c) = omega (arith, here, long) in
@@ -219,7 +226,11 @@ module _ (part : PartModel) (entered : IsEntered part) (laws : Laws) (sourced : 
   tear_free : HasTearFreeReads (part_events part) part.sources
   tear_free r w v first second =
       let decided : (v ≡ w) ⊎ (v ≢ w) = nat_cases v w in
-      elim decided [ inl same ↦ same | inr other ↦ absurd (whole (inl (inr (inr (record { read = r; source = w; other = v; first = first; second = second; two_sources = other }))))) ]
+      elim decided [
+        | inl same ↦ same
+        | inr other ↦
+            absurd (whole (inl (inr (inr (record { read = r; source = w; other = v; first = first; second = second; two_sources = other })))))
+      ]
     where
       nat_cases : (a b : ℕ) → (a ≡ b) ⊎ (a ≢ b)
       nat_cases zero zero = inl refl
@@ -239,7 +250,8 @@ module _ (part : PartModel) (entered : IsEntered part) (laws : Laws) (sourced : 
       sourced = to_example (λ es. AreSources es part.sources) sourced;
     };
     no_cycle = to_example (λ es. (e : ℕ) → ¬ HappensBefore es part.sources e e) no_cycle;
-    chosen_reads = to_example (λ es. flat_map (λ run. run.values) example.runs ≡ map (value_of es part.sources) (read_numbers es)) (given_together t c example.runs example_paths part.sources given);
+    chosen_reads = to_example (λ es. flat_map (λ run. run.values) example.runs ≡ map (value_of es part.sources) (read_numbers es))
+        (given_together t c example.runs example_paths part.sources given);
     coherent_reads = to_example (λ es. HasCoherentReads es part.sources) coherent;
     tear_free_reads = to_example (λ es. HasTearFreeReads es part.sources) tear_free;
     ordered = (order, to_example (λ es. IsMemoryOrder es part.sources order) ordered);

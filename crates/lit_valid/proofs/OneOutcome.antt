@@ -28,7 +28,9 @@ stands f (suc k) n low high = by (cases_lt n (f k)) (stands f k n low)
 
 all_before : (t : Litmus) → choices_before t (length (combinations_of t)) ≡ length (choices_of t)
 unfolding choices_of
-all_before t = ap (λ (cs : List (List Path)). length (flat_map (choices_on t.bytes) cs)) (take_all (length (combinations_of t)) (combinations_of t) (omega arith))
+all_before t =
+    ap (λ (cs : List (List Path)). length (flat_map (choices_on t.bytes) cs))
+    (take_all (length (combinations_of t)) (combinations_of t) (omega arith))
 
 -- the choice's combination, without sources
 abbrev start : Litmus → ℕ → PartModel
@@ -41,9 +43,22 @@ one_outcome laws t n some other litmus g h =
     let c = at.0 in
     let of = laws.placed t n c at.1 at.2 at.3 in
     let entered : IsEntered (start t c) = record { litmus = litmus; known = at.1 } in
-    let first : Completes (start t c) g.execution = record { valid = g.valid; on_paths = of.on_paths g.execution g.valid.candidate g.chosen; rest = g.execution.sources; begun = refl } in
-    let second : Completes (start t c) h.execution = record { valid = h.valid; on_paths = of.on_paths h.execution h.valid.candidate h.chosen; rest = h.execution.sources; begun = refl } in
-    let same : execution_choice g.execution ≡ execution_choice h.execution = let e : Some (execution_choice g.execution) ≡ Some (execution_choice h.execution) = sym g.chosen ∙ h.chosen in cc in
+    let first : Completes (start t c)
+    g.execution = record {
+      valid = g.valid;
+      on_paths = of.on_paths g.execution g.valid.candidate g.chosen;
+      rest = g.execution.sources;
+      begun = refl;
+    } in
+    let second : Completes (start t c)
+    h.execution = record {
+      valid = h.valid;
+      on_paths = of.on_paths h.execution h.valid.candidate h.chosen;
+      rest = h.execution.sources;
+      begun = refl;
+    } in
+    let same : execution_choice g.execution ≡ execution_choice h.execution = let e : Some (execution_choice g.execution) ≡ Some
+    (execution_choice h.execution) = sym g.chosen ∙ h.chosen in cc in
     let sources : g.execution.sources ≡ h.execution.sources = ap (λ (ch : Choice). ch.sources) same in
     sym g.result
     ∙ its_outcome (start t c) g.execution first laws entered (names_from-within t.agents)

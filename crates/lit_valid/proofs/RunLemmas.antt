@@ -32,7 +32,8 @@ module _ (t : Litmus) (c : ℕ) (runs : List Run) (on_paths : map run_path runs 
   path_is : (i : ℕ) (run : Run) → slice_get runs i ≡ Some run → run_path run ≡ path_at t c i
   path_is i run at =
       let inside : i < length runs = slice_get_within runs i run at in
-      ap run_path (sym (get_or_from_slice_get runs i run no_run at)) ∙ sym (get_or-map run_path runs i no_run no_path inside) ∙ ap (λ (ps : List Path). get_or ps i no_path) on_paths
+      ap run_path (sym (get_or_from_slice_get runs i run no_run at)) ∙ sym (get_or-map run_path runs i no_run no_path inside)
+      ∙ ap (λ (ps : List Path). get_or ps i no_path) on_paths
 
   module _ (sources : List ℕ) where
     abbrev value : ℕ → ℕ

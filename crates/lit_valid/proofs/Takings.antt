@@ -16,10 +16,13 @@ use Rattle.lit_valid.proofs.HeldLemmas.{length-taken}
 read_numbers_from-append : (n : ℕ) (xs ys : List Event) → read_numbers_from n (xs ++ ys) ≡ read_numbers_from n xs ++ read_numbers_from (n + length xs) ys
 read_numbers_from-append n [] ys = ap (λ (k : ℕ). read_numbers_from k ys) (let e : n ≡ n + 0 = omega arith in e)
 read_numbers_from-append n (x ∷ xs) ys =
-    by (does_read x.kind) (read_numbers_from-append (n + 1) xs ys ∙ ap (λ (k : ℕ). read_numbers_from (n + 1) xs ++ read_numbers_from k ys) (let e : (n + 1) + length xs ≡ n + suc (length xs) = omega arith in e))
+    by (does_read x.kind)
+    (read_numbers_from-append (n + 1) xs ys
+    ∙ ap (λ (k : ℕ). read_numbers_from (n + 1) xs ++ read_numbers_from k ys) (let e : (n + 1) + length xs ≡ n + suc (length xs) = omega arith in e))
   where
     by : (b : Bool) → read_numbers_from (n + 1) (xs ++ ys) ≡ read_numbers_from (n + 1) xs ++ read_numbers_from (n + suc (length xs)) ys
-        → cond b (n ∷ read_numbers_from (n + 1) (xs ++ ys)) (read_numbers_from (n + 1) (xs ++ ys)) ≡ cond b (n ∷ read_numbers_from (n + 1) xs) (read_numbers_from (n + 1) xs) ++ read_numbers_from (n + suc (length xs)) ys
+        → cond b (n ∷ read_numbers_from (n + 1) (xs ++ ys)) (read_numbers_from (n + 1) (xs ++ ys)) ≡ cond b (n ∷ read_numbers_from (n + 1) xs)
+        (read_numbers_from (n + 1) xs) ++ read_numbers_from (n + suc (length xs)) ys
     by true e = ap (λ (ns : List ℕ). n ∷ ns) e
     by false e = e
 
@@ -76,7 +79,8 @@ module _ (value : ℕ → ℕ) where
   pub taken_apart : (n : ℕ) (rs : List Run) → AreCounted rs → all_values rs ≡ taken n (all_events rs) → AreTaken n rs
   taken_apart n [] counted is = tt
   taken_apart n (r ∷ rs) counted is =
-      let s = split r.values (all_values rs) (taken n r.events) (taken (n + length r.events) (all_events rs)) (counted.0 ∙ sym (length-taken value n r.events)) (is ∙ taken-append n r.events (all_events rs)) in
+      let s = split r.values (all_values rs) (taken n r.events) (taken (n + length r.events) (all_events rs))
+      (counted.0 ∙ sym (length-taken value n r.events)) (is ∙ taken-append n r.events (all_events rs)) in
       (s.first, taken_apart (n + length r.events) rs counted.1 s.second)
 
   pub taken_together : (n : ℕ) (rs : List Run) → AreTaken n rs → all_values rs ≡ taken n (all_events rs)
@@ -97,7 +101,8 @@ module _ (value : ℕ → ℕ) where
       subst (λ (q : Run). q.values ≡ taken (n + 0) q.events) same (are.0 ∙ ap (λ k. taken k r.events) (let e : n ≡ n + 0 = omega arith in e))
   taken_at n (r ∷ rs) are (suc i) run is = taken_at (n + length r.events) rs are.1 i run is ∙ ap (λ k. taken k run.events) (number_more n r rs i)
 
-  pub taken_each : (n : ℕ) (rs : List Run) → ((i : ℕ) (run : Run) → slice_get rs i ≡ Some run → run.values ≡ taken (number_at n rs i) run.events) → AreTaken n rs
+  pub taken_each : (n : ℕ) (rs : List Run) → ((i : ℕ) (run : Run) → slice_get rs i ≡ Some run → run.values ≡ taken (number_at n rs i) run.events)
+      → AreTaken n rs
   taken_each n [] each = tt
   taken_each n (r ∷ rs) each = (
     each 0 r refl ∙ ap (λ k. taken k r.events) (let e : n + 0 ≡ n = omega arith in e),
@@ -114,9 +119,12 @@ pub gathered : (P : ℕ → Run → Type 0) (low count : ℕ) → ((i : ℕ) →
 gathered P low zero each = ([], refl, λ i run is. absurd (let e = is in cc))
 gathered P low (suc count) each =
     let first = each 0 (omega arith) in
-    let rest = gathered P (low + 1) count (λ i inside. let next = each (suc i) (omega (arith, inside)) in (next.0, subst (λ k. P k next.0) (let e : low + suc i ≡ (low + 1) + i = omega arith in e) next.1)) in
+    let rest = gathered P (low + 1) count
+    (λ i inside. let next = each (suc i)
+    (omega (arith, inside)) in (next.0, subst (λ k. P k next.0) (let e : low + suc i ≡ (low + 1) + i = omega arith in e) next.1)) in
     (first.0 ∷ rest.0, ap suc rest.1, found first.0 rest.0 first.1 rest.2)
   where
-    found : (r : Run) (rs : List Run) → P (low + 0) r → ((i : ℕ) (run : Run) → slice_get rs i ≡ Some run → P ((low + 1) + i) run) → (i : ℕ) (run : Run) → slice_get (r ∷ rs) i ≡ Some run → P (low + i) run
+    found : (r : Run) (rs : List Run) → P (low + 0) r → ((i : ℕ) (run : Run) → slice_get rs i ≡ Some run → P ((low + 1) + i) run)
+        → (i : ℕ) (run : Run) → slice_get (r ∷ rs) i ≡ Some run → P (low + i) run
     found r rs here others zero run is = subst (λ (q : Run). P (low + 0) q) (let e : Some r ≡ Some run = is in let same : r ≡ run = cc in same) here
     found r rs here others (suc i) run is = subst (λ k. P k run) (let e : (low + 1) + i ≡ low + suc i = omega arith in e) (others i run is)

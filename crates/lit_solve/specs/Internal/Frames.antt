@@ -18,6 +18,7 @@ use Rattle.lit_rel.specs.SynchronizesWith.{CanSynchronize}
 use Rattle.lit_solve.specs.declared.frame.Frame.{Frame}
 use Rattle.lit_solve.specs.Box.{Box, HasEmptyDomain, HasSource, IsBox, box_events, box_with, events_on}
 use Rattle.lit_solve.specs.Given.{HappensBeforeIn, HasAlone, IsForcedIn}
+use Rattle.lit_solve.specs.Out.{IsRefusedOn}
 
 -- the box of a frame
 abbrev pub box_of : Litmus × ℕ → Frame → Box
@@ -54,12 +55,19 @@ AreCandidates events domains =
     (k r b w : ℕ) → slice_get (byte_reads events) k ≡ Some (r, b)
     → HasEvent (slice_index_or domains k no_events) w ↔ IsCandidate events r b w
 
+-- the candidates of each byte read that a test refuses
+abbrev pub AreRefused : Litmus × ℕ → List EventSet → Type 0
+AreRefused c domains =
+    (k r b w : ℕ) → slice_get (byte_reads (events_on c)) k ≡ Some (r, b)
+    → HasEvent (slice_index_or domains k no_events) w ↔ (IsCandidate (events_on c) r b w × IsRefusedOn c r b w)
+
 -- what is kept of a combination
-pub record IsProblem (c : Litmus × ℕ) (candidates : List EventSet) (peers : Rows) : Type 0 where
+pub record IsProblem (c : Litmus × ℕ) (candidates refused : List EventSet) (peers : Rows) : Type 0 where
   pub litmus : IsLitmus c.0
   pub known : c.1 < length (combinations_of c.0)
   pub sound : AreEventsIn c.0.bytes (events_on c)
   pub all : AreCandidates (events_on c) candidates
+  pub by_tests : AreRefused c refused
   pub same_range : ArePeers (events_on c) peers
 
 -- where the k-th byte read has one source left that synchronizes with its read, that is before the read

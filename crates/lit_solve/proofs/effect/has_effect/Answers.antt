@@ -22,11 +22,14 @@ returns-else-has_peer_beside c = (to, from)
     )
 
     to : IsTrue c.has_peer_beside-else-has_peer_beside.result → HasEffect c.args.events.now c.args.source c.args.read
-    to h = effect_of_source c.args.events.now c.args.source c.args.read c.requires.source c.requires.read c.with-reader.result c.with-both.result one two (c.has_peer_beside-else-has_peer_beside.ensures.0 h)
+    to h =
+        effect_of_source c.args.events.now c.args.source c.args.read c.requires.source c.requires.read c.with-reader.result c.with-both.result one two
+        (c.has_peer_beside-else-has_peer_beside.ensures.0 h)
 
     from : HasEffect c.args.events.now c.args.source c.args.read → IsTrue c.has_peer_beside-else-has_peer_beside.result
     from effect =
-        elim (peer_of_effect c.args.events.now c.args.source c.args.read c.requires.source c.requires.read c.with-reader.result c.with-both.result one two effect) [
+        elim (peer_of_effect c.args.events.now c.args.source c.args.read c.requires.source c.requires.read c.with-reader.result c.with-both.result one
+        two effect) [
           | inl of_read ↦ absurd (not_true c.has_peer_beside.result c.if-has_peer_beside.false (c.has_peer_beside.ensures.1 of_read))
           | inr of_source ↦ c.has_peer_beside-else-has_peer_beside.ensures.1 of_source
         ]

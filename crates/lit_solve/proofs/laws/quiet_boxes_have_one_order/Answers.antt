@@ -8,5 +8,6 @@ use Rattle.lit_solve.proofs.laws.quiet_boxes_have_one_order.Goals as goal
 pub returns : goal.returns
 returns c box x order is_box quiet is = (
   (λ o. order_in box x.sources (sources_lie box x is) order (order_here box x is order o)),
-  (λ o. subst (λ (es : List Event). IsMemoryOrder es x.sources order) (sym (events_same box x is)) (order_back_in box x.sources (sources_lie box x is) quiet order o)),
+  (λ o. subst (λ (es : List Event). IsMemoryOrder es x.sources order) (sym (events_same box x is))
+      (order_back_in box x.sources (sources_lie box x is) quiet order o)),
 )

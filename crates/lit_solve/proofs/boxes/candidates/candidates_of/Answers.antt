@@ -26,5 +26,6 @@ loop-event-preserved c =
 pub returns : goal.returns
 returns c =
     let events = events_in c.args.combination.now.0 c.args.combination.now.1 in
-    has_all c.loop-event.candidates c.candidates-event-items.result.now c.loop-event.event-index events (byte_read_at events c.args.place).0 (byte_read_at events c.args.place).1
+    has_all c.loop-event.candidates c.candidates-event-items.result.now c.loop-event.event-index events (byte_read_at events c.args.place).0
+    (byte_read_at events c.args.place).1
     c.loop-event.invariant c.loop-event-test.false c.candidates-event-items.ensures.lists

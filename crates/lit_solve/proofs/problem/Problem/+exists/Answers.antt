@@ -14,20 +14,26 @@ use Rattle.lit_solve.proofs.problem.Problem.+exists.Goals.{else-cut-via-then-cut
 
 pub part-part-requires-clause-known : goal.part-part-requires-clause-known
 part-part-requires-clause-known t c w there =
-    source_known (box_of c.args.self.now c.args.frame.now) c.requires.exact.contained.is_box c.in-Parted.branch.place w c.in-Parted.ensures.known (c.loop-source.invariant.within w there)
+    source_known (box_of c.args.self.now c.args.frame.now) c.requires.exact.contained.is_box c.in-Parted.branch.place w c.in-Parted.ensures.known
+    (c.loop-source.invariant.within w there)
 
 pub exists-requires : goal.exists-requires
 exists-requires t c = (
   subst (λ (n : ℕ). size_of c.cut.new.frame.domains < n) c.decreases
       (c.cut.ensures.less c.if-cut.true
-      (not_all (box_of c.args.self.now c.args.frame.now) c.in-Parted.branch c.in-Parted.ensures c.in-Some.source (c.loop-source.invariant.within c.in-Some.source c.in-Some.ensures.there) c.part-part.result c.part-part.ensures.apart)),
+      (not_all (box_of c.args.self.now c.args.frame.now) c.in-Parted.branch c.in-Parted.ensures c.in-Some.source
+      (c.loop-source.invariant.within c.in-Some.source c.in-Some.ensures.there) c.part-part.result c.part-part.ensures.apart)),
   c.cut.ensures.settled c.if-cut.true,
 )
 
 pub returns-then-exists : goal.returns-then-exists
 returns-then-exists t c =
     let found = c.exists.ensures.0 c.if-exists.true in (
-      λ _. (found.0, solution_out (box_of c.args.self.now c.cut.new.frame) (box_of c.args.self.now c.args.frame.now) c.args.goal (c.cut.ensures.cut c.if-cut.true).within found.0 found.1),
+      λ _. (
+        found.0,
+        solution_out (box_of c.args.self.now c.cut.new.frame) (box_of c.args.self.now c.args.frame.now) c.args.goal
+            (c.cut.ensures.cut c.if-cut.true).within found.0 found.1,
+      ),
       λ _. refl,
     )
 
@@ -41,7 +47,9 @@ loop-source-smaller t c =
 pub loop-source-preserved : goal.loop-source-preserved
 loop-source-preserved t c = record {
   within = λ w there. c.loop-source.invariant.within w ((c.difference-left.ensures w).0 there).0;
-  taken = left_over (box_of c.args.self.now c.args.frame.now) c.args.goal c.in-Parted.branch.place c.loop-source.left c.part-part.result c.difference-left.result c.difference-left.ensures in_vain c.loop-source.invariant.taken;
+  taken =
+      left_over (box_of c.args.self.now c.args.frame.now) c.args.goal c.in-Parted.branch.place c.loop-source.left c.part-part.result
+      c.difference-left.result c.difference-left.ensures in_vain c.loop-source.invariant.taken;
 }
   where
     in_vain : (x : Execution) → IsSolution (box_of c.args.self.now c.args.frame.now) c.args.goal x → TakesFrom x c.in-Parted.branch.place c.part-part.result → ⊥
@@ -49,7 +57,11 @@ loop-source-preserved t c = record {
         elim c.else-cut.branch [
           | else-cut-via-then-cut+else-exists w ↦
               not_true w.exists.result w.if-exists.false
-              (w.exists.ensures.1 (x, solution_in (box_of c.args.self.now c.args.frame.now) (box_of c.args.self.now c.cut.new.frame) c.args.goal c.in-Parted.branch.place c.part-part.result (c.cut.ensures.cut w.if-cut.true) x is takes))
+              (w.exists.ensures.1 (
+                x,
+                solution_in (box_of c.args.self.now c.args.frame.now) (box_of c.args.self.now c.cut.new.frame) c.args.goal
+                    c.in-Parted.branch.place c.part-part.result (c.cut.ensures.cut w.if-cut.true) x is takes,
+              ))
           | else-cut-via-else-cut w ↦ c.cut.ensures.none w.if-cut.false x is.completes takes
         ]
 

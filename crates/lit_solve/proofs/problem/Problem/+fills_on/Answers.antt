@@ -13,7 +13,8 @@ pub returns-then-not-is_of : goal.returns-then-not-is_of
 returns-then-not-is_of t c =
     let box = box_with c.args.self.now c.args.domains.now in
     let none = none_later (events_on c.args.self.now) c.args.read c.args.place c.requires.room.later (λ here. false≢true (c.if-not-is_of.ensures.of.1 here)) in
-    let end = filled_at_end box c.args.read c.requires.is_box c.requires.some c.args.place (HasEvent c.args.taken.whole) c.args.taken.value c.args.taken.bytes c.requires.room.place none in
+    let end = filled_at_end box c.args.read c.requires.is_box c.requires.some c.args.place (HasEvent c.args.taken.whole) c.args.taken.value
+    c.args.taken.bytes c.requires.room.place none in
     (λ h. end.1 (c.are_tests_true.ensures.0 h), λ h. c.are_tests_true.ensures.1 (end.0 h))
 
 pub fills_on-requires : goal.fills_on-requires
@@ -27,14 +28,16 @@ pub take-requires-clause-source : goal.take-requires-clause-source
 take-requires-clause-source t c =
     let events = events_on c.args.self.now in
     let is = c.if-not-is_of.ensures.of.0 refl in
-    (c.requires.is_box.candidates c.args.place c.args.read (byte_read_at events c.args.place).1 c.in-Some.source (read_there events c.args.place c.args.read is.0 is.1)
+    (c.requires.is_box.candidates c.args.place c.args.read (byte_read_at events c.args.place).1 c.in-Some.source
+    (read_there events c.args.place c.args.read is.0 is.1)
     (c.loop-source.invariant.left c.in-Some.source c.in-Some.ensures.there)).known
 
 pub worth_trying-left-requires-clause-source : goal.worth_trying-left-requires-clause-source
 worth_trying-left-requires-clause-source t c =
     let events = events_on c.args.self.now in
     let is = c.if-not-is_of.ensures.of.0 refl in
-    (c.requires.is_box.candidates c.args.place c.args.read (byte_read_at events c.args.place).1 c.in-Some.source (read_there events c.args.place c.args.read is.0 is.1)
+    (c.requires.is_box.candidates c.args.place c.args.read (byte_read_at events c.args.place).1 c.in-Some.source
+    (read_there events c.args.place c.args.read is.0 is.1)
     (c.loop-source.invariant.left c.in-Some.source c.in-Some.ensures.there)).known
 
 pub worth_trying-left-requires-clause-known : goal.worth_trying-left-requires-clause-known
@@ -50,9 +53,11 @@ returns-then-fills_on t c =
     let events = events_on c.args.self.now in
     let is = c.if-not-is_of.ensures.of.0 refl in
     let byte = (byte_read_at events c.args.place).1 in
-    let filled = next_filled box c.args.read c.args.place byte c.in-Some.source c.args.taken c.in-Some-take.next c.in-Some-take.ensures (c.if-fills_on.ensures.0 refl) in (
+    let filled = next_filled box c.args.read c.args.place byte c.in-Some.source c.args.taken c.in-Some-take.next c.in-Some-take.ensures
+    (c.if-fills_on.ensures.0 refl) in (
       (λ _. fill_with box c.args.read c.args.place (HasEvent c.args.taken.whole) c.args.taken.value c.args.taken.bytes byte
-          (read_there events c.args.place c.args.read is.0 is.1) c.in-Some.source (c.loop-source.invariant.left c.in-Some.source c.in-Some.ensures.there) filled),
+          (read_there events c.args.place c.args.read is.0 is.1) c.in-Some.source
+          (c.loop-source.invariant.left c.in-Some.source c.in-Some.ensures.there) filled),
       (λ _. refl),
     )
 
@@ -82,7 +87,8 @@ loop-source-preserved-in-Some-take t c =
     let byte = (byte_read_at events c.args.place).1 in
     let in_vain : ¬ CanFillOn box c.args.read (c.args.place + 1) (HasEvent c.in-Some-take.next.whole) c.in-Some-take.next.value c.in-Some-take.next.bytes =
     λ can. false≢true (c.if-fills_on.ensures.1 can) in
-    let left_out = left_out_in_vain box c.args.read c.args.place byte c.in-Some.source c.args.taken c.in-Some-take.next c.in-Some-take.ensures (read_there events c.args.place c.args.read is.0 is.1) in
+    let left_out = left_out_in_vain box c.args.read c.args.place byte c.in-Some.source c.args.taken c.in-Some-take.next c.in-Some-take.ensures
+    (read_there events c.args.place c.args.read is.0 is.1) in
     record {
       left = λ w h. c.loop-source.invariant.left w ((c.in-Some.ensures.rest w).0 (c.worth_trying-left.ensures.within w h)).0;
       in_vain = vain_more c.loop-source.left c.in-Some.others c.worth_trying-left.result c.in-Some.source c.in-Some.ensures (HasSource box c.args.place)
@@ -100,6 +106,7 @@ returns t c =
     let byte = (byte_read_at events c.args.place).1 in (
       (λ never. absurd (false≢true never)),
       (λ can.
-          let by = filled_with box c.args.read c.args.place (HasEvent c.args.taken.whole) c.args.taken.value c.args.taken.bytes byte (read_there events c.args.place c.args.read is.0 is.1) can in
+          let by = filled_with box c.args.read c.args.place (HasEvent c.args.taken.whole) c.args.taken.value c.args.taken.bytes byte
+          (read_there events c.args.place c.args.read is.0 is.1) can in
           absurd (c.loop-source.invariant.in_vain by.0 by.1 (c.in_default.ensures by.0) by.2)),
     )

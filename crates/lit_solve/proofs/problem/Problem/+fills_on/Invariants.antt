@@ -12,7 +12,8 @@ abbrev pub invariant-loop-source : goal.invariant-loop-source
 invariant-loop-source l = record {
   left : (w : ℕ) → HasEvent l.left w → HasSource (box_with l.self l.domains) l.place w;
   in_vain : (w : ℕ) → HasSource (box_with l.self l.domains) l.place w → ¬ HasEvent l.left w
-      → ¬ CanFillWith (box_with l.self l.domains) l.read l.place (byte_read_at (events_on l.self) l.place).1 (HasEvent l.taken.whole) l.taken.value l.taken.bytes w;
+      → ¬ CanFillWith (box_with l.self l.domains) l.read l.place (byte_read_at (events_on l.self) l.place).1 (HasEvent l.taken.whole) l.taken.value
+      l.taken.bytes w;
 }
 
 abbrev pub decreases-loop-source : goal.decreases-loop-source

@@ -14,9 +14,13 @@ loop-place-preserved c =
     elim c.if-can_force.branch [
       | then-can_force w ↦
           subst (λ (best : Option ℕ). IsBestBelow box best (n + 1)) (sym w.best-is)
-          (best_more box c.loop-place.best n c.loop-place.invariant below (c.can_force.ensures.open w.if-can_force.true) w.with_fewest.result w.with_fewest.ensures)
-      | else-can_force w ↦ subst (λ (best : Option ℕ). IsBestBelow box best (n + 1)) (sym w.best-is) (best_kept box c.loop-place.best n c.loop-place.invariant (c.can_force.ensures.quiet w.if-can_force.false))
+          (best_more box c.loop-place.best n c.loop-place.invariant below (c.can_force.ensures.open w.if-can_force.true) w.with_fewest.result
+          w.with_fewest.ensures)
+      | else-can_force w ↦ subst (λ (best : Option ℕ). IsBestBelow box best (n + 1)) (sym w.best-is)
+          (best_kept box c.loop-place.best n c.loop-place.invariant (c.can_force.ensures.quiet w.if-can_force.false))
     ]
 
 pub returns-clause-quiet : goal.returns-clause-quiet
-returns-clause-quiet c = all_quiet (box_of c.args.self.now c.args.frame.now) c.loop-place.best c.loop-place.place c.loop-place.invariant (omega (arith, c.loop-place-test.false, c.reads-place-end.ensures.value))
+returns-clause-quiet c =
+    all_quiet (box_of c.args.self.now c.args.frame.now) c.loop-place.best c.loop-place.place c.loop-place.invariant
+    (omega (arith, c.loop-place-test.false, c.reads-place-end.ensures.value))

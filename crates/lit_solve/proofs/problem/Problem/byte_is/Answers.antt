@@ -17,5 +17,8 @@ returns c =
     let some = c.in-Some._some.0 in
     let other = c.in-Some-split_first._other.0 in
     let stores = (c.storing-storing.ensures some).0 c.in-Some.ensures.there in
-    let differs = (c.difference.ensures other).0 c.in-Some-split_first.ensures.there in
-    (refl, undecided_by box c.args.place some other c.requires.place stores.0 differs.0 (λ same. differs.1 ((c.storing-storing.ensures other).1 (differs.0, sym same ∙ stores.1))))
+    let differs = (c.difference.ensures other).0 c.in-Some-split_first.ensures.there in (
+      refl,
+      undecided_by box c.args.place some other c.requires.place stores.0 differs.0
+          (λ same. differs.1 ((c.storing-storing.ensures other).1 (differs.0, sym same ∙ stores.1))),
+    )

@@ -26,5 +26,6 @@ fills_on-requires-clause-room c =
 pub returns : goal.returns
 returns c =
     let box = box_with c.args.self.now c.args.domains.now in
-    let from = filled_from box c.args.read c.requires.is_box c.requires.some (HasEvent c.new.result) c.new.ensures.empty c.first_place.result c.first_place.ensures.within c.first_place.ensures.before in
+    let from = filled_from box c.args.read c.requires.is_box c.requires.some (HasEvent c.new.result) c.new.ensures.empty c.first_place.result
+    c.first_place.ensures.within c.first_place.ensures.before in
     (λ h. from.0 (c.fills_on.ensures.0 h), λ can. c.fills_on.ensures.1 (from.1 can))

@@ -11,7 +11,8 @@ use Rattle.lit_solve.proofs.problem.Problem.can_force.Goals as goal
 
 pub has_effect-requires-clause-source : goal.has_effect-requires-clause-source
 has_effect-requires-clause-source c =
-    source_known (box_of c.args.self.now c.args.frame.now) c.requires.contained.is_box c.args.place c.in-Some.source c.requires.place (c.loop-source.invariant.within c.in-Some.source c.in-Some.ensures.there)
+    source_known (box_of c.args.self.now c.args.frame.now) c.requires.contained.is_box c.args.place c.in-Some.source c.requires.place
+    (c.loop-source.invariant.within c.in-Some.source c.in-Some.ensures.there)
 
 pub loop-source-smaller : goal.loop-source-smaller
 loop-source-smaller c = split_less c.loop-source.left c.in-Some.source c.in-Some.others c.in-Some.ensures
@@ -20,11 +21,13 @@ pub loop-source-preserved : goal.loop-source-preserved
 loop-source-preserved c = record {
   within = λ w h. c.loop-source.invariant.within w ((c.in-Some.ensures.rest w).0 h).0;
   idle = λ w there gone effect. elim (cases_eq w c.in-Some.source) [
-    | inl same ↦ not_true c.has_effect.result c.if-has_effect.false (c.has_effect.ensures.1 (subst (λ (v : ℕ). HasEffect (events_on c.args.self.now) v c.byte_read-read.result.read) same effect))
+    | inl same ↦ not_true c.has_effect.result c.if-has_effect.false
+        (c.has_effect.ensures.1 (subst (λ (v : ℕ). HasEffect (events_on c.args.self.now) v c.byte_read-read.result.read) same effect))
     | inr other ↦ c.loop-source.invariant.idle w there (λ left. gone ((c.in-Some.ensures.rest w).1 (left, other))) effect
   ];
 }
 
 pub returns-clause-quiet : goal.returns-clause-quiet
 returns-clause-quiet c _ =
-    inr (idle_at (box_of c.args.self.now c.args.frame.now) c.args.place c.byte_read-read.result.read c.byte_read-read.result.byte c.byte_read-read.ensures.at (λ w there. c.loop-source.invariant.idle w there (c.in_default.ensures w)))
+    inr (idle_at (box_of c.args.self.now c.args.frame.now) c.args.place c.byte_read-read.result.read c.byte_read-read.result.byte
+    c.byte_read-read.ensures.at (λ w there. c.loop-source.invariant.idle w there (c.in_default.ensures w)))

@@ -15,16 +15,20 @@ use Rattle.lit_solve.proofs.problem.Problem.can_race_at.Goals.{else-are_apart-vi
 
 pub are_apart-requires-clause-second : goal.are_apart-requires-clause-second
 are_apart-requires-clause-second c =
-    source_known (box_of c.args.self.now c.args.frame.now) c.requires.contained.is_box c.args.place c.in-Some.source c.requires.place (c.loop-source.invariant.left c.in-Some.source c.in-Some.ensures.there)
+    source_known (box_of c.args.self.now c.args.frame.now) c.requires.contained.is_box c.args.place c.in-Some.source c.requires.place
+    (c.loop-source.invariant.left c.in-Some.source c.in-Some.ensures.there)
 
 pub returns-then-can_fill_from : goal.returns-then-can_fill_from
 returns-then-can_fill_from c =
     let events = events_on c.args.self.now in
-    let is_read : c.from-read.result ≡ (byte_read_at events c.args.place).0 = read_number events c.args.place c.byte_read.result c.from-read.result c.from-read.ensures c.byte_read.ensures.at in (
+    let is_read : c.from-read.result ≡ (byte_read_at events c.args.place).0 = read_number events c.args.place c.byte_read.result c.from-read.result
+    c.from-read.ensures c.byte_read.ensures.at in (
       (λ _. record {
         source = c.in-Some.source;
         may_have = c.can_fill_from.ensures.0 c.if-can_fill_from.true;
-        apart = subst (λ (r : ℕ). AreApart events (Holds c.args.frame.now.happens_before.rows) r c.in-Some.source) is_read (c.are_apart.ensures.0 c.if-are_apart.true);
+        apart =
+            subst (λ (r : ℕ). AreApart events (Holds c.args.frame.now.happens_before.rows) r c.in-Some.source) is_read
+            (c.are_apart.ensures.0 c.if-are_apart.true);
       }),
       (λ _. refl),
     )
@@ -37,10 +41,13 @@ loop-source-preserved c =
     let box = box_of c.args.self.now c.args.frame.now in
     let events = events_on c.args.self.now in
     let before = Holds c.args.frame.now.happens_before.rows in
-    let is_read : c.from-read.result ≡ (byte_read_at events c.args.place).0 = read_number events c.args.place c.byte_read.result c.from-read.result c.from-read.ensures c.byte_read.ensures.at in
-    let here : ¬ (CanFillAt box c.args.place c.in-Some.source × AreApart events before (byte_read_at events c.args.place).0 c.in-Some.source) = λ (can, apart). elim c.else-are_apart.branch [
+    let is_read : c.from-read.result ≡ (byte_read_at events c.args.place).0 = read_number events c.args.place c.byte_read.result c.from-read.result
+    c.from-read.ensures c.byte_read.ensures.at in
+    let here : ¬ (CanFillAt box c.args.place c.in-Some.source
+    × AreApart events before (byte_read_at events c.args.place).0 c.in-Some.source) = λ (can, apart). elim c.else-are_apart.branch [
       | else-are_apart-via-then-are_apart+else-can_fill_from w ↦ false≢true (sym w.if-can_fill_from.false ∙ w.can_fill_from.ensures.1 can)
-      | else-are_apart-via-else-are_apart w ↦ false≢true (sym w.if-are_apart.false ∙ c.are_apart.ensures.1 (subst (λ (r : ℕ). AreApart events before r c.in-Some.source) (sym is_read) apart))
+      | else-are_apart-via-else-are_apart w ↦ false≢true
+          (sym w.if-are_apart.false ∙ c.are_apart.ensures.1 (subst (λ (r : ℕ). AreApart events before r c.in-Some.source) (sym is_read) apart))
     ] in
     record {
       left = λ w h. c.loop-source.invariant.left w ((c.in-Some.ensures.rest w).0 h).0;
@@ -53,5 +60,6 @@ loop-source-preserved c =
 pub returns : goal.returns
 returns c = (
   (λ never. absurd (false≢true never)),
-  (λ race. absurd (c.loop-source.invariant.in_vain race.source (race.may_have.lie.within c.args.place race.source race.may_have.takes) (c.in_default.ensures race.source) (race.may_have, race.apart))),
+  (λ race. absurd (c.loop-source.invariant.in_vain race.source (race.may_have.lie.within c.args.place race.source race.may_have.takes)
+      (c.in_default.ensures race.source) (race.may_have, race.apart))),
 )

@@ -16,8 +16,13 @@ loop-place-preserved-in-Some c = record {
 pub loop-place-preserved : goal.loop-place-preserved
 loop-place-preserved c = record {
   settled = c.in-Some-with_least.ensures.settled;
-  alone = alone_more now c.loop-place.place (alone_kept now was c.loop-place.place c.in-Some-with_least.ensures.lowest.within c.in-Some-with_least.ensures.settled.exact.contained.some (omega (arith, below)) c.loop-place.invariant.alone) c.in-Some-with_least.ensures.alone;
-  lowest = lowest_on (box_of c.args.self.now c.args.frame.now) was now c.args.goal c.loop-place.place c.loop-place.invariant.lowest c.in-Some-with_least.ensures.lowest c.loop-place.invariant.alone below;
+  alone =
+      alone_more now c.loop-place.place
+      (alone_kept now was c.loop-place.place c.in-Some-with_least.ensures.lowest.within c.in-Some-with_least.ensures.settled.exact.contained.some
+      (omega (arith, below)) c.loop-place.invariant.alone) c.in-Some-with_least.ensures.alone;
+  lowest =
+      lowest_on (box_of c.args.self.now c.args.frame.now) was now c.args.goal c.loop-place.place c.loop-place.invariant.lowest
+      c.in-Some-with_least.ensures.lowest c.loop-place.invariant.alone below;
   sure = c.in-Some-with_least.ensures.sure;
 }
   where

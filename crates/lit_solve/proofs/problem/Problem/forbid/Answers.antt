@@ -8,7 +8,8 @@ pub returns-then-not-is_empty-clause-triples : goal.returns-then-not-is_empty-cl
 returns-then-not-is_empty-clause-triples c =
     forbidden_more (box_of c.args.self.now c.args.frame.now) (Holds c.args.frame.now.happens_before.rows) c.requires.contained.before_in c.requires.exact
     c.args.place c.byte_read-read.result.read c.byte_read-read.result.byte c.in-Some.source c.byte_read-read.ensures.at c.in-Some.ensures.0
-    (Forbids c.args.between.now) (Forbids c.forbid.new.self) c.args.between.now.len c.others_between-others.result c.requires.len c.others_between-others.ensures c.forbid.ensures.triples
+    (Forbids c.args.between.now) (Forbids c.forbid.new.self) c.args.between.now.len c.others_between-others.result c.requires.len
+    c.others_between-others.ensures c.forbid.ensures.triples
 
 pub returns-else-not-is_empty-clause-triples : goal.returns-else-not-is_empty-clause-triples
 returns-else-not-is_empty-clause-triples c =

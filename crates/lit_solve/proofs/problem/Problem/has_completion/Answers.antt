@@ -14,7 +14,8 @@ returns-then-has_false_test c =
     let unwritten : HasFalseTestOn box.test box.combination None 0 =
     subst (λ (p : Litmus × ℕ). HasFalseTestOn p.0 p.1 None 0) c.self.view_is (c.has_false_test.ensures.value.0 c.if-has_false_test.true) in (
       (λ never. absurd (false≢true never)),
-      (λ some. absurd (no_false_unwritten box c.args.frame.now c.requires.settled c.requires.quiet (c.quiet_boxes_are_filled_read_by_read.ensures box) some unwritten)),
+      (λ some. absurd (no_false_unwritten box c.args.frame.now c.requires.settled c.requires.quiet (c.quiet_boxes_are_filled_read_by_read.ensures box)
+          some unwritten)),
     )
 
 pub returns-then-can_fill_each : goal.returns-then-can_fill_each
@@ -22,8 +23,10 @@ returns-then-can_fill_each c =
     let box = box_of c.args.self.now c.args.frame.now in
     let law = c.quiet_boxes_are_filled_read_by_read.ensures box in
     let unwritten : ¬ HasFalseTestOn box.test box.combination None 0 = λ bad.
-    false≢true (sym c.if-has_false_test.false ∙ c.has_false_test.ensures.value.1 (subst (λ (p : Litmus × ℕ). HasFalseTestOn p.0 p.1 None 0) (sym c.self.view_is) bad)) in
-    let ordered = order_is_some c.least_order.result (λ order. order.items) (length (events_on c.args.self.now)) (HappensBeforeIn box) (IsForbiddenIn box) c.least_order.ensures.found c.least_order.ensures.none in (
+    false≢true (sym c.if-has_false_test.false
+    ∙ c.has_false_test.ensures.value.1 (subst (λ (p : Litmus × ℕ). HasFalseTestOn p.0 p.1 None 0) (sym c.self.view_is) bad)) in
+    let ordered = order_is_some c.least_order.result (λ order. order.items) (length (events_on c.args.self.now)) (HappensBeforeIn box)
+    (IsForbiddenIn box) c.least_order.ensures.found c.least_order.ensures.none in (
       (λ some.
           completion_found box c.args.frame.now c.requires.settled c.requires.quiet law unwritten
           (c.reads_are_filled_together.ensures box (c.can_fill_each.ensures.0 c.if-can_fill_each.true)) (ordered.0 (sym c.is_some.ensures ∙ some))),
@@ -34,5 +37,6 @@ pub returns-else-can_fill_each : goal.returns-else-can_fill_each
 returns-else-can_fill_each c =
     let box = box_of c.args.self.now c.args.frame.now in (
       (λ never. absurd (false≢true (sym c.if-can_fill_each.false ∙ never))),
-      (λ found. c.can_fill_each.ensures.1 (fills_each box c.args.frame.now c.requires.settled c.requires.quiet (c.quiet_boxes_are_filled_read_by_read.ensures box) found)),
+      (λ found. c.can_fill_each.ensures.1
+          (fills_each box c.args.frame.now c.requires.settled c.requires.quiet (c.quiet_boxes_are_filled_read_by_read.ensures box) found)),
     )

@@ -17,9 +17,12 @@ returns-then-not-holds c =
     let order = c.args.frame.now.happens_before in
     let read = c.from-read.result in
     let byte = c.byte_read.result.byte in
-    let is : IsProblem c.args.self.now c.self.inside.candidates c.self.inside.peers = subst (λ (p : Litmus × ℕ). IsProblem p c.self.inside.candidates c.self.inside.peers) c.self.view_is c.self.invariant in
-    let at : slice_get (byte_reads events) c.args.place ≡ Some (read, byte) = c.byte_read.ensures.at ∙ ap (λ (r : ℕ). Some (r, byte)) (sym c.from-read.ensures) in
-    let both : (v : ℕ) → HasEvent c.intersection.result v ↔ (IsCandidate events read byte v × Holds order.rows c.args.source v × Holds order.rows v read) = λ v. (
+    let is : IsProblem c.args.self.now c.self.inside.candidates c.self.inside.refused c.self.inside.peers =
+    subst (λ (p : Litmus × ℕ). IsProblem p c.self.inside.candidates c.self.inside.refused c.self.inside.peers) c.self.view_is c.self.invariant in
+    let at : slice_get (byte_reads events) c.args.place ≡ Some (read, byte) = c.byte_read.ensures.at
+    ∙ ap (λ (r : ℕ). Some (r, byte)) (sym c.from-read.ensures) in
+    let both : (v : ℕ) → HasEvent c.intersection.result v
+    ↔ (IsCandidate events read byte v × Holds order.rows c.args.source v × Holds order.rows v read) = λ v. (
       (λ there.
           let parts = (c.intersection.ensures v).0 there in
           let between = (c.intersection-between.ensures v).0 parts.1 in (
@@ -32,11 +35,14 @@ returns-then-not-holds c =
         (c.intersection-between.ensures v).1 ((c.successors.ensures v).1 h.1, (c.successors-2.ensures v).1 ((order.same.pairs v read).1 h.2)),
       )),
     ) in
-    let is_read : (read, byte) ≡ byte_read_at events c.args.place = ap (λ (r : ℕ). (r, byte)) c.from-read.ensures ∙ read_there events c.args.place c.byte_read.result c.byte_read.ensures.at in
+    let is_read : (read, byte) ≡ byte_read_at events c.args.place = ap (λ (r : ℕ). (r, byte)) c.from-read.ensures
+    ∙ read_there events c.args.place c.byte_read.result c.byte_read.ensures.at in
     let not_later : ¬ Holds order.rows read c.args.source = λ later. false≢true (sym c.if-not-holds.true ∙ c.holds.ensures.1 later) in
     subst (λ (q : ℕ × ℕ). IsTrue c.is_empty.result ↔ IsCoherentRead events (Holds order.rows) q.0 q.1 c.args.source) is_read (
-      (λ empty. coherent_if_none events order.rows c.requires.contained.before_len read byte c.args.source c.intersection.result both c.requires.calm not_later (c.is_empty.ensures.0 empty)),
-      (λ coherent. c.is_empty.ensures.1 (none_if_coherent events order.rows c.requires.contained.before_len read byte c.args.source c.intersection.result both coherent)),
+      (λ empty. coherent_if_none events order.rows c.requires.contained.before_len read byte c.args.source c.intersection.result both c.requires.calm
+          not_later (c.is_empty.ensures.0 empty)),
+      (λ coherent. c.is_empty.ensures.1
+          (none_if_coherent events order.rows c.requires.contained.before_len read byte c.args.source c.intersection.result both coherent)),
     )
 
 never : (b : Bool) → b ≡ true → IsTrue (not b) → ⊥
@@ -46,7 +52,9 @@ never false h _ = false≢true h
 pub returns-else-not-holds : goal.returns-else-not-holds
 returns-else-not-holds c =
     let later : Holds c.args.frame.now.happens_before.rows c.from-read.result c.args.source = c.holds.ensures.0 c.if-not-holds.false in
-    let is_read : (c.from-read.result, c.byte_read.result.byte) ≡ byte_read_at (events_on c.args.self.now) c.args.place = ap (λ (r : ℕ). (r, c.byte_read.result.byte)) c.from-read.ensures ∙ read_there (events_on c.args.self.now) c.args.place c.byte_read.result c.byte_read.ensures.at in (
+    let is_read : (c.from-read.result, c.byte_read.result.byte) ≡ byte_read_at (events_on c.args.self.now) c.args.place = ap
+    (λ (r : ℕ). (r, c.byte_read.result.byte)) c.from-read.ensures
+    ∙ read_there (events_on c.args.self.now) c.args.place c.byte_read.result c.byte_read.ensures.at in (
       (λ t. absurd (never c.holds.result c.if-not-holds.false t)),
       (λ coherent. absurd (coherent.not_later (subst (λ (q : ℕ × ℕ). Holds c.args.frame.now.happens_before.rows q.0 c.args.source) is_read later))),
     )

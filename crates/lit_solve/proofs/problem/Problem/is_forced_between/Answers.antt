@@ -31,17 +31,20 @@ returns c =
           let parts = (c.intersection.ensures found.0).0 found.1 in
           let between = (c.intersection-between.ensures found.0).0 parts.1 in (
             found.0,
-            subst (λ (es : List Event). IsForbiddenBetween es before c.args.source c.args.read found.0) same ((c.others_between-others.ensures found.0).0 parts.0).1,
+            subst (λ (es : List Event). IsForbiddenBetween es before c.args.source c.args.read found.0) same
+                ((c.others_between-others.ensures found.0).0 parts.0).1,
             (c.successors.ensures found.0).0 between.0,
             (forced.same.pairs found.0 c.args.read).0 ((c.successors-2.ensures found.0).0 between.1),
           )),
       (λ h.
-          let here : IsForbiddenBetween c.events-events.result.now before c.args.source c.args.read h.0 = subst (λ (es : List Event). IsForbiddenBetween es before c.args.source c.args.read h.0) (sym same) h.1 in
+          let here : IsForbiddenBetween c.events-events.result.now before c.args.source c.args.read h.0 = subst
+          (λ (es : List Event). IsForbiddenBetween es before c.args.source c.args.read h.0) (sym same) h.1 in
           some.1 (
             h.0,
             (c.intersection.ensures h.0).1 (
               (c.others_between-others.ensures h.0).1 (write_known c.events-events.result.now h.0 here.writes, here),
-              (c.intersection-between.ensures h.0).1 ((c.successors.ensures h.0).1 h.2, (c.successors-2.ensures h.0).1 ((forced.same.pairs h.0 c.args.read).1 h.3)),
+              (c.intersection-between.ensures h.0).1
+                  ((c.successors.ensures h.0).1 h.2, (c.successors-2.ensures h.0).1 ((forced.same.pairs h.0 c.args.read).1 h.3)),
             ),
           )),
     )

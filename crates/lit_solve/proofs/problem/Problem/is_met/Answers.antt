@@ -14,7 +14,9 @@ pub returns-then-has_completion : goal.returns-then-has_completion
 returns-then-has_completion c =
     let box = box_of c.args.self.now c.args.frame.now in
     let exact = c.requires.settled.exact in
-    let coherent : AreCoherentSources box = λ k r b w at there. coherent_read_by (box_events box) (Holds c.args.frame.now.happens_before.rows) (HappensBeforeIn box) exact.before r b w (c.requires.settled.coherent k r b w at there) in
-    let races = c.quiet_boxes_race_as_reads_are_filled.ensures box exact.contained.is_box c.requires.quiet coherent (c.has_completion-in-Race.ensures.0 c.if-has_completion.true) in
+    let coherent : AreCoherentSources box = λ k r b w at there. coherent_read_by (box_events box) (Holds c.args.frame.now.happens_before.rows)
+    (HappensBeforeIn box) exact.before r b w (c.requires.settled.coherent k r b w at there) in
+    let races = c.quiet_boxes_race_as_reads_are_filled.ensures box exact.contained.is_box c.requires.quiet coherent
+    (c.has_completion-in-Race.ensures.0 c.if-has_completion.true) in
     subst (λ (g : Goal). (IsTrue c.can_race.result → HasSolution box g) × (HasSolution box g → IsTrue c.can_race.result)) (sym c.in-Race.is)
     ((λ can. races.1 (c.can_race.ensures.0 can)), (λ has. c.can_race.ensures.1 (races.0 has)))

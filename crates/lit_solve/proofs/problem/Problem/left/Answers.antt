@@ -12,12 +12,14 @@ use Rattle.lit_solve.proofs.problem.Problem.left.Goals as goal
 
 pub is_out-requires-clause-source : goal.is_out-requires-clause-source
 is_out-requires-clause-source c =
-    source_known (box_of c.args.self.now c.args.frame.now) c.requires.contained.is_box c.args.place c.in-Some.source c.requires.place (c.loop-source.invariant.rest c.in-Some.source c.in-Some.ensures.there)
+    source_known (box_of c.args.self.now c.args.frame.now) c.requires.contained.is_box c.args.place c.in-Some.source c.requires.place
+    (c.loop-source.invariant.rest c.in-Some.source c.in-Some.ensures.there)
 
 pub with-left-requires : goal.with-left-requires
 with-left-requires c =
     let known : c.in-Some.source < length (events_on c.args.self.now) =
-    source_known (box_of c.args.self.now c.args.frame.now) c.requires.contained.is_box c.args.place c.in-Some.source c.requires.place (c.loop-source.invariant.rest c.in-Some.source c.in-Some.ensures.there) in
+    source_known (box_of c.args.self.now c.args.frame.now) c.requires.contained.is_box c.args.place c.in-Some.source c.requires.place
+    (c.loop-source.invariant.rest c.in-Some.source c.in-Some.ensures.there) in
     omega arith
 
 pub loop-source-smaller-then-not-is_out : goal.loop-source-smaller-then-not-is_out
@@ -40,11 +42,16 @@ loop-source-preserved-then-not-is_out c =
       ];
       out = λ w h gone lost.
           was.out w h
-          (λ there. elim (cases_eq w source) [ inl is ↦ lost ((c.with-left.ensures w).1 (inr is)) | inr other ↦ gone ((c.in-Some.ensures.rest w).1 (there, other)) ])
+          (λ there. elim (cases_eq w source) [
+            | inl is ↦ lost ((c.with-left.ensures w).1 (inr is))
+            | inr other ↦ gone
+                ((c.in-Some.ensures.rest w).1 (there, other))
+          ])
           (λ old. lost ((c.with-left.ensures w).1 (inl old)));
       coherent = λ w h. elim ((c.with-left.ensures w).0 h) [
         | inl old ↦ was.coherent w old
-        | inr is ↦ subst (λ (v : ℕ). IsCoherentRead events (Holds c.args.frame.now.happens_before.rows) read.0 read.1 v) (sym is) (c.is_out.ensures.coherent c.if-not-is_out.true)
+        | inr is ↦ subst (λ (v : ℕ). IsCoherentRead events (Holds c.args.frame.now.happens_before.rows) read.0 read.1 v) (sym is)
+            (c.is_out.ensures.coherent c.if-not-is_out.true)
       ];
     }
 

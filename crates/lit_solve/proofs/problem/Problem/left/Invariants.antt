@@ -15,7 +15,8 @@ invariant-loop-source l = record {
   out : (w : ℕ) → HasSource (box_of l.self l.frame) l.place w → ¬ HasEvent l.rest w → ¬ HasEvent l.left w
       → IsOut (box_of l.self l.frame) (byte_read_at (events_on l.self) l.place).0 (byte_read_at (events_on l.self) l.place).1 w;
   coherent : (w : ℕ) → HasEvent l.left w
-      → IsCoherentRead (events_on l.self) (Holds l.frame.happens_before.rows) (byte_read_at (events_on l.self) l.place).0 (byte_read_at (events_on l.self) l.place).1 w;
+      → IsCoherentRead (events_on l.self) (Holds l.frame.happens_before.rows) (byte_read_at (events_on l.self) l.place).0
+      (byte_read_at (events_on l.self) l.place).1 w;
 }
 
 abbrev pub decreases-loop-source : goal.decreases-loop-source

@@ -9,18 +9,25 @@ use Rattle.lit_solve.proofs.problem.Problem.may_race.Goals as goal
 
 pub returns-then-may_race_at : goal.returns-then-may_race_at
 returns-then-may_race_at c = (
-  (λ _. (may_race_iff (box_of c.args.self.now c.args.frame.now) c.args.frame.now c.requires).1 (inl (c.loop-place.place, omega (arith, c.reads-place-end.ensures.value, c.loop-place-test.true), c.may_race_at.ensures.0 c.if-may_race_at.true))),
+  (λ _. (may_race_iff (box_of c.args.self.now c.args.frame.now) c.args.frame.now c.requires).1
+      (inl (c.loop-place.place, omega (arith, c.reads-place-end.ensures.value, c.loop-place-test.true), c.may_race_at.ensures.0 c.if-may_race_at.true))),
   (λ _. refl),
 )
 
 pub loop-place-preserved : goal.loop-place-preserved
 loop-place-preserved c =
-    below_more (λ k. ¬ RacesAt (box_of c.args.self.now c.args.frame.now) (Holds c.args.frame.now.happens_before.rows) (HasSource (box_of c.args.self.now c.args.frame.now)) k) c.loop-place.place c.loop-place.invariant
+    below_more (λ k. ¬ RacesAt (box_of c.args.self.now c.args.frame.now) (Holds c.args.frame.now.happens_before.rows)
+    (HasSource (box_of c.args.self.now c.args.frame.now)) k) c.loop-place.place c.loop-place.invariant
     (λ race. false≢true (sym c.if-may_race_at.false ∙ c.may_race_at.ensures.1 race))
 
 pub returns : goal.returns
 returns c =
     let iff = may_race_iff (box_of c.args.self.now c.args.frame.now) c.args.frame.now c.requires in (
       (λ h. iff.1 (inr (c.has_racing_writes.ensures.0 h))),
-      (λ h. elim (iff.0 h) [ inl (k, inside, race) ↦ absurd (c.loop-place.invariant k (omega (arith, inside, c.reads-place-end.ensures.value, c.loop-place-test.false)) race) | inr writes ↦ c.has_racing_writes.ensures.1 writes ]),
+      (λ h. elim (iff.0 h) [
+        | inl (k, inside, race) ↦ absurd
+            (c.loop-place.invariant k (omega (arith, inside, c.reads-place-end.ensures.value, c.loop-place-test.false)) race)
+        | inr writes ↦
+            c.has_racing_writes.ensures.1 writes
+      ]),
     )

@@ -13,16 +13,20 @@ use Rattle.lit_solve.proofs.problem.Problem.may_race_at.Goals as goal
 
 pub are_apart-requires-clause-second : goal.are_apart-requires-clause-second
 are_apart-requires-clause-second c =
-    source_known (box_of c.args.self.now c.args.frame.now) c.requires.contained.is_box c.args.place c.in-Some.source c.requires.place (c.loop-source.invariant.left c.in-Some.source c.in-Some.ensures.there)
+    source_known (box_of c.args.self.now c.args.frame.now) c.requires.contained.is_box c.args.place c.in-Some.source c.requires.place
+    (c.loop-source.invariant.left c.in-Some.source c.in-Some.ensures.there)
 
 pub returns-then-are_apart : goal.returns-then-are_apart
 returns-then-are_apart c =
     let events = events_on c.args.self.now in
-    let is_read : c.from-read.result ≡ (byte_read_at events c.args.place).0 = read_number events c.args.place c.byte_read.result c.from-read.result c.from-read.ensures c.byte_read.ensures.at in (
+    let is_read : c.from-read.result ≡ (byte_read_at events c.args.place).0 = read_number events c.args.place c.byte_read.result c.from-read.result
+    c.from-read.ensures c.byte_read.ensures.at in (
       (λ _. record {
         source = c.in-Some.source;
         may_have = c.loop-source.invariant.left c.in-Some.source c.in-Some.ensures.there;
-        apart = subst (λ (r : ℕ). AreApart events (Holds c.args.frame.now.happens_before.rows) r c.in-Some.source) is_read (c.are_apart.ensures.0 c.if-are_apart.true);
+        apart =
+            subst (λ (r : ℕ). AreApart events (Holds c.args.frame.now.happens_before.rows) r c.in-Some.source) is_read
+            (c.are_apart.ensures.0 c.if-are_apart.true);
       }),
       (λ _. refl),
     )
@@ -34,12 +38,16 @@ pub loop-source-preserved : goal.loop-source-preserved
 loop-source-preserved c =
     let events = events_on c.args.self.now in
     let before = Holds c.args.frame.now.happens_before.rows in
-    let is_read : c.from-read.result ≡ (byte_read_at events c.args.place).0 = read_number events c.args.place c.byte_read.result c.from-read.result c.from-read.ensures c.byte_read.ensures.at in
+    let is_read : c.from-read.result ≡ (byte_read_at events c.args.place).0 = read_number events c.args.place c.byte_read.result c.from-read.result
+    c.from-read.ensures c.byte_read.ensures.at in
     record {
       left = λ w h. c.loop-source.invariant.left w ((c.in-Some.ensures.rest w).0 h).0;
-      in_vain = vain_more c.loop-source.left c.in-Some.others c.in-Some.others c.in-Some.source c.in-Some.ensures (HasSource (box_of c.args.self.now c.args.frame.now) c.args.place)
+      in_vain =
+          vain_more c.loop-source.left c.in-Some.others c.in-Some.others c.in-Some.source c.in-Some.ensures
+          (HasSource (box_of c.args.self.now c.args.frame.now) c.args.place)
           (λ w. ¬ AreApart events before (byte_read_at events c.args.place).0 w) c.loop-source.invariant.in_vain
-          (λ apart. false≢true (sym c.if-are_apart.false ∙ c.are_apart.ensures.1 (subst (λ (r : ℕ). AreApart events before r c.in-Some.source) (sym is_read) apart)))
+          (λ apart. false≢true (sym c.if-are_apart.false
+          ∙ c.are_apart.ensures.1 (subst (λ (r : ℕ). AreApart events before r c.in-Some.source) (sym is_read) apart)))
           (λ w there here gone. absurd (gone here));
     }
 

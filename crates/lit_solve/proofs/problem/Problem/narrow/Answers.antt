@@ -33,7 +33,9 @@ loop-place-preserved c =
           let unchanged : c.narrow_at.new.frame ≡ c.loop-place.frame = step.same w.in-Same.is in record {
             before = step.before ∙ was.before;
             contained = step.contained not_empty;
-            narrows = narrows_on (box_of c.args.self.now first) (box_of c.args.self.now c.loop-place.frame) (box_of c.args.self.now c.narrow_at.new.frame) was.narrows (step.narrows not_empty);
+            narrows =
+                narrows_on (box_of c.args.self.now first) (box_of c.args.self.now c.loop-place.frame) (box_of c.args.self.now c.narrow_at.new.frame)
+                was.narrows (step.narrows not_empty);
             some = λ e. was.some (sym w.narrowed-is ∙ e);
             same = λ e. unchanged ∙ was.same (sym w.narrowed-is ∙ e);
             coherent = λ e k below v there.
@@ -41,9 +43,11 @@ loop-place-preserved c =
                 elim (cases_eq k place) [
                   | inl is ↦
                       let here : HasSource (box_of c.args.self.now c.loop-place.frame) place v =
-                      subst (λ (f : Frame). HasSource (box_of c.args.self.now f) place v) (sym at_first) (subst (λ (j : ℕ). HasSource (box_of c.args.self.now first) j v) is there) in
+                      subst (λ (f : Frame). HasSource (box_of c.args.self.now f) place v) (sym at_first)
+                      (subst (λ (j : ℕ). HasSource (box_of c.args.self.now first) j v) is there) in
                       subst (λ (j : ℕ). IsCoherentRead events (Holds first.happens_before.rows) (byte_read_at events j).0 (byte_read_at events j).1 v) (sym is)
-                      (subst (λ (f : Frame). IsCoherentRead events (Holds f.happens_before.rows) (byte_read_at events place).0 (byte_read_at events place).1 v) at_first
+                      (subst (λ (f : Frame). IsCoherentRead events (Holds f.happens_before.rows) (byte_read_at events place).0
+                      (byte_read_at events place).1 v) at_first
                       (step.coherent w.in-Same.is v here))
                   | inr other ↦ was.coherent (sym w.narrowed-is ∙ e) k (omega (arith, below, other)) v there
                 ];
@@ -54,7 +58,9 @@ loop-place-preserved c =
           let not_same : c.match-narrow_at.narrowed ≢ Same = λ e. let no : Less ≡ Same = sym w.narrowed-is ∙ e in cc in record {
             before = step.before ∙ was.before;
             contained = step.contained not_empty;
-            narrows = narrows_on (box_of c.args.self.now first) (box_of c.args.self.now c.loop-place.frame) (box_of c.args.self.now c.narrow_at.new.frame) was.narrows (step.narrows not_empty);
+            narrows =
+                narrows_on (box_of c.args.self.now first) (box_of c.args.self.now c.loop-place.frame) (box_of c.args.self.now c.narrow_at.new.frame)
+                was.narrows (step.narrows not_empty);
             some = λ e. let no : Less ≡ Empty = sym w.narrowed-is ∙ e in cc;
             same = λ e. absurd (not_same e);
             coherent = λ e k below v there. absurd (not_same e);

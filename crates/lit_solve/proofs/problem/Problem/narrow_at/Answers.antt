@@ -12,9 +12,11 @@ use Rattle.lit_solve.proofs.problem.Problem.narrow_at.Goals as goal
 pub returns-then-is_empty-clause-empty : goal.returns-then-is_empty-clause-empty
 returns-then-is_empty-clause-empty c _ =
     let box = box_of c.args.self.now c.args.frame.now in
-    let sound : AreEventsIn c.args.self.now.0.bytes (events_on c.args.self.now) = subst (λ (p : Litmus × ℕ). AreEventsIn p.0.bytes (events_on p)) c.self.view_is c.self.invariant.sound in
+    let sound : AreEventsIn c.args.self.now.0.bytes (events_on c.args.self.now) = subst (λ (p : Litmus × ℕ). AreEventsIn p.0.bytes (events_on p))
+    c.self.view_is c.self.invariant.sound in
     let room : c.args.place < length box.domains = omega arith in
-    none_if_empty box c.args.place c.left-left.result room c.requires.contained.is_box sound (c.completions_have_no_source_that_is_out.ensures box) c.requires.place c.left-left.ensures.out
+    none_if_empty box c.args.place c.left-left.result room c.requires.contained.is_box sound (c.completions_have_no_source_that_is_out.ensures box)
+    c.requires.place c.left-left.ensures.out
     (c.is_empty.ensures.0 c.if-is_empty.true)
 
 pub returns-then-is_within-clause-coherent : goal.returns-then-is_within-clause-coherent
@@ -23,7 +25,8 @@ returns-then-is_within-clause-coherent c _ w there = c.left-left.ensures.coheren
 pub returns-clause-contained : goal.returns-clause-contained
 returns-clause-contained c _ =
     let box = box_of c.args.self.now c.args.frame.now in
-    let sound : AreEventsIn c.args.self.now.0.bytes (events_on c.args.self.now) = subst (λ (p : Litmus × ℕ). AreEventsIn p.0.bytes (events_on p)) c.self.view_is c.self.invariant.sound in
+    let sound : AreEventsIn c.args.self.now.0.bytes (events_on c.args.self.now) = subst (λ (p : Litmus × ℕ). AreEventsIn p.0.bytes (events_on p))
+    c.self.view_is c.self.invariant.sound in
     let room : c.args.place < length box.domains = omega arith in
     let some : (w : ℕ) × HasEvent c.left-left.result w = elim (none_or_some c.left-left.result) [
       | inl none ↦ absurd (false≢true (sym c.if-is_empty.false ∙ c.is_empty.ensures.1 none))
@@ -34,13 +37,16 @@ returns-clause-contained c _ =
 pub returns-clause-narrows : goal.returns-clause-narrows
 returns-clause-narrows c _ =
     let box = box_of c.args.self.now c.args.frame.now in
-    let sound : AreEventsIn c.args.self.now.0.bytes (events_on c.args.self.now) = subst (λ (p : Litmus × ℕ). AreEventsIn p.0.bytes (events_on p)) c.self.view_is c.self.invariant.sound in
+    let sound : AreEventsIn c.args.self.now.0.bytes (events_on c.args.self.now) = subst (λ (p : Litmus × ℕ). AreEventsIn p.0.bytes (events_on p))
+    c.self.view_is c.self.invariant.sound in
     let room : c.args.place < length box.domains = omega arith in
-    narrows box c.args.place c.left-left.result room c.requires.contained.is_box sound (c.completions_have_no_source_that_is_out.ensures box) c.requires.place c.left-left.ensures.out c.left-left.ensures.within
+    narrows box c.args.place c.left-left.result room c.requires.contained.is_box sound (c.completions_have_no_source_that_is_out.ensures box)
+    c.requires.place c.left-left.ensures.out c.left-left.ensures.within
 
 pub returns-clause-less : goal.returns-clause-less
 returns-clause-less c _ =
     let box = box_of c.args.self.now c.args.frame.now in
-    let sound : AreEventsIn c.args.self.now.0.bytes (events_on c.args.self.now) = subst (λ (p : Litmus × ℕ). AreEventsIn p.0.bytes (events_on p)) c.self.view_is c.self.invariant.sound in
+    let sound : AreEventsIn c.args.self.now.0.bytes (events_on c.args.self.now) = subst (λ (p : Litmus × ℕ). AreEventsIn p.0.bytes (events_on p))
+    c.self.view_is c.self.invariant.sound in
     let room : c.args.place < length box.domains = omega arith in
     size_less box c.args.place c.left-left.result room c.left-left.ensures.within (λ all. false≢true (sym c.if-is_within.false ∙ c.is_within.ensures.1 all))

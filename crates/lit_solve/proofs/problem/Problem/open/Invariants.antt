@@ -4,11 +4,15 @@ use Rattle.lit_paths.specs.declared.limits.TheConstants.{BYTE_READ_LIMIT}
 use Rattle.lit_paths.specs.ByteReads.{byte_reads, IsCandidate}
 use Rattle.lit_rel.specs.EventSet.{HasEvent, no_events}
 use Rattle.lit_solve.specs.Box.{events_on}
+use Rattle.lit_solve.specs.Out.{IsRefusedOn}
 use Rattle.lit_solve.proofs.problem.Problem.open.Given as goal
 
 abbrev pub invariant-loop-place : goal.invariant-loop-place
 invariant-loop-place l = record {
   len : length l.candidates ≡ BYTE_READ_LIMIT;
+  refused_len : length l.refused ≡ BYTE_READ_LIMIT;
   all : (k r b w : ℕ) → k < l.place → slice_get (byte_reads (events_on l.combination)) k ≡ Some (r, b)
       → HasEvent (slice_index_or l.candidates k no_events) w ↔ IsCandidate (events_on l.combination) r b w;
+  refused : (k r b w : ℕ) → k < l.place → slice_get (byte_reads (events_on l.combination)) k ≡ Some (r, b)
+      → HasEvent (slice_index_or l.refused k no_events) w ↔ (IsCandidate (events_on l.combination) r b w × IsRefusedOn l.combination r b w);
 }

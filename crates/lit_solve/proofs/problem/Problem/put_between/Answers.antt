@@ -11,13 +11,15 @@ loop-place-preserved c = record {
   len = c.forbid.ensures.len ∙ c.loop-place.invariant.len;
   count = omega (arith, c.forbid.ensures.count, c.loop-place.invariant.count);
   triples = λ w r v.
-      one_more (λ k. IsForbiddenAt (box_of c.args.self.now c.args.frame.now) k w r v) c.loop-place.place (Forbids c.loop-place.between w r v) (Forbids c.forbid.new.between w r v)
+      one_more (λ k. IsForbiddenAt (box_of c.args.self.now c.args.frame.now) k w r v) c.loop-place.place (Forbids c.loop-place.between w r v)
+      (Forbids c.forbid.new.between w r v)
       (c.loop-place.invariant.triples w r v) (c.forbid.ensures.triples w r v);
 }
 
 pub returns-clause-triples : goal.returns-clause-triples
 returns-clause-triples c w r v =
-    let all : c.loop-place.place ≡ length (byte_reads (events_on c.args.self.now)) = omega (arith, c.loop-place-test.false, c.loop-place.auto.place-end, c.reads-place-end.ensures.value) in
+    let all : c.loop-place.place ≡ length (byte_reads (events_on c.args.self.now)) = omega
+    (arith, c.loop-place-test.false, c.loop-place.auto.place-end, c.reads-place-end.ensures.value) in
     let kept = c.loop-place.invariant.triples w r v in
     let given = forbidden_in (box_of c.args.self.now c.args.frame.now) c.loop-place.place w r v all in
     (λ f. given.0 (kept.0 f), λ f. kept.1 (given.1 f))

@@ -6,23 +6,31 @@ use Rattle.lit_solve.proofs.problem.Problem.put_synchronized.Goals as goal
 
 pub returns-then-not-can_synchronize-clause-there : goal.returns-then-not-can_synchronize-clause-there
 returns-then-not-can_synchronize-clause-there c =
-    synchronized_apart (box_of c.args.self.now c.args.frame.now) (Holds c.args.frame.now.happens_before.rows) c.args.place c.byte_read-read.result.read c.byte_read-read.result.byte c.in-Some.source c.byte_read-read.ensures.at c.in-Some.ensures.0
+    synchronized_apart (box_of c.args.self.now c.args.frame.now) (Holds c.args.frame.now.happens_before.rows) c.args.place
+    c.byte_read-read.result.read c.byte_read-read.result.byte c.in-Some.source c.byte_read-read.ensures.at c.in-Some.ensures.0
     (λ can. not_true c.can_synchronize.result c.if-not-can_synchronize.true (c.can_synchronize.ensures.1 can))
 
 pub returns-then-not-holds-clause-contained : goal.returns-then-not-holds-clause-contained
 returns-then-not-holds-clause-contained c =
     contained_with (box_of c.args.self.now c.args.frame.now) c.args.frame.now _ c.in-Some.source c.byte_read-read.result.read c.requires.contained
-    (synchronized_before (box_of c.args.self.now c.args.frame.now) c.args.place c.byte_read-read.result.read c.byte_read-read.result.byte c.in-Some.source c.byte_read-read.ensures.at c.in-Some.ensures.0
+    (synchronized_before (box_of c.args.self.now c.args.frame.now) c.args.place c.byte_read-read.result.read c.byte_read-read.result.byte
+    c.in-Some.source c.byte_read-read.ensures.at c.in-Some.ensures.0
     (c.can_synchronize.ensures.0 c.if-not-can_synchronize.false))
     (record { len = c.close_with.ensures.len; pairs = c.close_with.ensures.pairs; transitive = c.close_with.ensures.transitive })
-    (record { len = c.close_with-then-not-holds.ensures.len; pairs = c.close_with-then-not-holds.ensures.pairs; transitive = c.close_with-then-not-holds.ensures.transitive })
+    (record {
+      len = c.close_with-then-not-holds.ensures.len;
+      pairs = c.close_with-then-not-holds.ensures.pairs;
+      transitive = c.close_with-then-not-holds.ensures.transitive;
+    })
 
 pub returns-then-not-holds-clause-there : goal.returns-then-not-holds-clause-there
 returns-then-not-holds-clause-there c =
-    synchronized_at (box_of c.args.self.now c.args.frame.now) (Holds c.close_with.new.self.rows) c.args.place c.byte_read-read.result.read c.byte_read-read.result.byte c.in-Some.source c.byte_read-read.ensures.at c.in-Some.ensures.0
+    synchronized_at (box_of c.args.self.now c.args.frame.now) (Holds c.close_with.new.self.rows) c.args.place c.byte_read-read.result.read
+    c.byte_read-read.result.byte c.in-Some.source c.byte_read-read.ensures.at c.in-Some.ensures.0
     ((c.close_with.ensures.pairs c.in-Some.source c.byte_read-read.result.read).1 (inr (inr refl, inr refl)))
 
 pub returns-else-not-holds-clause-there : goal.returns-else-not-holds-clause-there
 returns-else-not-holds-clause-there c =
-    synchronized_at (box_of c.args.self.now c.args.frame.now) (Holds c.args.frame.now.happens_before.rows) c.args.place c.byte_read-read.result.read c.byte_read-read.result.byte c.in-Some.source c.byte_read-read.ensures.at c.in-Some.ensures.0
+    synchronized_at (box_of c.args.self.now c.args.frame.now) (Holds c.args.frame.now.happens_before.rows) c.args.place c.byte_read-read.result.read
+    c.byte_read-read.result.byte c.in-Some.source c.byte_read-read.ensures.at c.in-Some.ensures.0
     (c.holds.ensures.0 c.if-not-holds.false)

@@ -5,9 +5,11 @@ use Rattle.lit_solve.proofs.problem.Problem.register_is.Goals as goal
 
 pub returns-in-Some : goal.returns-in-Some
 returns-in-Some c =
-    decided_by_read c.laws_below.ensures (box_with c.args.self.now c.args.domains.now) c.requires c.args.agent c.args.reg c.args.value c.in-Some.read c.read_is.result
+    decided_by_read c.laws_below.ensures (box_with c.args.self.now c.args.domains.now) c.requires c.args.agent c.args.reg c.args.value c.in-Some.read
+    c.read_is.result
     (sym c.read_held.ensures.value ∙ c.in-Some.is) c.read_is.ensures
 
 pub returns-in-None : goal.returns-in-None
 returns-in-None c =
-    decided_unwritten c.laws_below.ensures (box_with c.args.self.now c.args.domains.now) c.requires c.args.agent c.args.reg c.args.value (sym c.read_held.ensures.value ∙ c.in-None.is)
+    decided_unwritten c.laws_below.ensures (box_with c.args.self.now c.args.domains.now) c.requires c.args.agent c.args.reg c.args.value
+    (sym c.read_held.ensures.value ∙ c.in-None.is)

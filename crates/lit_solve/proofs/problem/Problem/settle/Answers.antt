@@ -1,14 +1,52 @@
-use Rattle.std.proofs.Common.{inl, inr}
+use Rattle.std.proofs.Common.{List, inl, inr, subst, sym}
+use Rattle.lit_rel.specs.declared.event_set.EventSet.{EventSet}
 use Rattle.lit_solve.specs.Box.{box_with}
+use Rattle.lit_solve.specs.Completion.{IsCompletion}
+use Rattle.lit_solve.specs.Internal.Frames.{box_of}
+use Rattle.lit_solve.specs.Internal.Narrowing.{Narrows}
+use Rattle.lit_solve.proofs.DomainLemmas.{narrows_on}
+use Rattle.lit_solve.proofs.FrameLemmas.{not_true}
 use Rattle.lit_solve.proofs.problem.Problem.settle.Goals as goal
+use Rattle.lit_solve.proofs.problem.Problem.settle.Goals.{else-propagate-via-then-propagate+else-can_fill_each, else-propagate-via-else-propagate}
 
 pub returns-then-has_empty-clause-none : goal.returns-then-has_empty-clause-none
 returns-then-has_empty-clause-none c x is =
-    c.refuted_boxes_have_no_completion.ensures (box_with c.args.self.now c.args.domains.now) x c.requires (inr (inl (c.has_empty.ensures.0 c.if-has_empty.true))) is
+    let left = c.consistent-domains in
+    c.refuted_boxes_have_no_completion.ensures (box_with c.args.self.now left.result) x left.ensures.is_box
+    (inr (inl (c.has_empty.ensures.0 c.if-has_empty.true))) (left.ensures.narrows.kept x is)
 
-pub returns-then-propagate-clause-settled : goal.returns-then-propagate-clause-settled
-returns-then-propagate-clause-settled c = record {
+pub can_fill_each-requires-clause-is_box : goal.can_fill_each-requires-clause-is_box
+can_fill_each-requires-clause-is_box c = (c.propagate.ensures.exact c.if-propagate.true).contained.is_box
+
+pub can_fill_each-requires-clause-some : goal.can_fill_each-requires-clause-some
+can_fill_each-requires-clause-some c = (c.propagate.ensures.exact c.if-propagate.true).contained.some
+
+pub returns-then-can_fill_each-clause-settled : goal.returns-then-can_fill_each-clause-settled
+returns-then-can_fill_each-clause-settled c = record {
   exact = c.propagate.ensures.exact c.if-propagate.true;
   calm = c.propagate.ensures.calm c.if-propagate.true;
   coherent = c.propagate.ensures.coherent c.if-propagate.true;
 }
+
+pub returns-then-can_fill_each-clause-narrows : goal.returns-then-can_fill_each-clause-narrows
+returns-then-can_fill_each-clause-narrows c =
+    let first = box_with c.args.self.now c.args.domains.now in
+    let opened = box_of c.args.self.now c.unsettled-frame.result in
+    let Leads : List EventSet → Type 0 = λ domains. Narrows first (box_with c.args.self.now domains) in
+    let begun : Narrows first opened = subst Leads (sym c.unsettled-frame.ensures.domains) c.consistent-domains.ensures.narrows in
+    narrows_on first opened (box_of c.args.self.now c.propagate.new.frame) begun (c.propagate.ensures.narrows c.if-propagate.true)
+
+-- a completion of the box would fill each read
+pub returns-else-propagate-clause-none : goal.returns-else-propagate-clause-none
+returns-else-propagate-clause-none c x is =
+    let Completes : List EventSet → Type 0 = λ domains. IsCompletion (box_with c.args.self.now domains) x in
+    let begun : IsCompletion (box_of c.args.self.now c.unsettled-frame.result) x =
+    subst Completes (sym c.unsettled-frame.ensures.domains) (c.consistent-domains.ensures.narrows.kept x is) in
+    elim c.else-propagate.branch [
+      | else-propagate-via-then-propagate+else-can_fill_each w ↦
+          let is_box = (c.propagate.ensures.exact w.if-propagate.true).contained.is_box in
+          let kept = (c.propagate.ensures.narrows w.if-propagate.true).kept x begun in
+          let fills = c.completions_fill_each_read.ensures (box_of c.args.self.now c.propagate.new.frame) x in
+          not_true w.can_fill_each.result w.if-can_fill_each.false (w.can_fill_each.ensures.1 (λ r known. fills r is_box kept known))
+      | else-propagate-via-else-propagate w ↦ c.propagate.ensures.none w.if-propagate.false x begun
+    ]

@@ -15,7 +15,8 @@ loop-place-preserved c =
           record {
             count = omega (arith, ap length items, length-append was (w.in-Some.source ∷ []), c.loop-place.invariant.count);
             within = subst (λ (given : List ℕ). LiesIn box given) (sym items)
-                (lies_more box was w.in-Some.source c.loop-place.invariant.within (subst (λ (n : ℕ). HasSource box n w.in-Some.source) (sym c.loop-place.invariant.count) w.in-Some.ensures.0.there));
+                (lies_more box was w.in-Some.source c.loop-place.invariant.within
+                (subst (λ (n : ℕ). HasSource box n w.in-Some.source) (sym c.loop-place.invariant.count) w.in-Some.ensures.0.there));
           }
       | in_default w ↦
           let one = c.requires.alone c.loop-place.place (omega (arith, c.loop-place-test.true, c.reads-place-end.ensures.value)) in

@@ -12,4 +12,5 @@ returns-clause-contained c =
     let rows = c.unsourced_order-before.result.rows in
     unsourced_contained (box_with c.args.self.now c.args.domains.now) c.unsourced_order-before.result
     (subst (λ (es : List Event). rows_len rows ≡ length es) same c.unsourced_order-before.ensures.len)
-    (subst (λ (es : List Event). (e d : ℕ) → Holds rows e d ↔ HappensBefore es [] e d) same c.unsourced_order-before.ensures.pairs) c.requires.is_box c.requires.some
+    (subst (λ (es : List Event). (e d : ℕ) → Holds rows e d ↔ HappensBefore es [] e d) same c.unsourced_order-before.ensures.pairs) c.requires.is_box
+    c.requires.some

@@ -23,7 +23,8 @@ returns-then-can_read_whole c u here =
     let listed = c.events-events.result.now in
     let source = c.in-Some.source in
     let same : listed ≡ events = c.events-events.ensures.value ∙ ap (λ (p : Litmus × ℕ). events_on p) c.self.view_is in
-    let read : c.from-read.result ≡ (byte_read_at events c.args.place).0 = c.from-read.ensures ∙ ap (λ (p : ℕ × ℕ). p.0) (read_there events c.args.place c.byte_read.result c.byte_read.ensures.at) in
+    let read : c.from-read.result ≡ (byte_read_at events c.args.place).0 = c.from-read.ensures
+    ∙ ap (λ (p : ℕ × ℕ). p.0) (read_there events c.args.place c.byte_read.result c.byte_read.ensures.at) in
     let whole : CanReadWhole (event_at listed c.from-read.result) (event_at listed source) =
     subst (λ (e : Event). CanReadWhole (event_at listed c.from-read.result) e) c.event_at-2.ensures
     (subst (λ (e : Event). CanReadWhole e c.event_at-2.result.now) c.event_at.ensures (c.can_read_whole.ensures.0 c.if-can_read_whole.true)) in
@@ -32,6 +33,7 @@ returns-then-can_read_whole c u here =
     (subst (λ (es : List Event). CanReadWhole (event_at es c.from-read.result) (event_at es source)) same whole) in
     elim ((c.with.ensures u).0 here) [
       | inl none ↦ absurd (c.new-then-can_read_whole.ensures.empty u none)
-      | inr is ↦ subst (λ (v : ℕ). HasAlone box c.args.place v × CanReadWhole (event_at events (byte_read_at events c.args.place).0) (event_at events v)) (sym is)
+      | inr is ↦ subst (λ (v : ℕ). HasAlone box c.args.place v
+          × CanReadWhole (event_at events (byte_read_at events c.args.place).0) (event_at events v)) (sym is)
           (record { there = c.in-Some.ensures.0; alone = c.in-Some.ensures.1 }, whole_here)
     ]

@@ -30,7 +30,10 @@ loop-other-preserved c u here =
             | inr new ↦
                 let both = w.whole_source.ensures u new in
                 subst (λ (r : ℕ). ReadsWholeBy events (GivenIn box) r u) of_read
-                (record { reads = ((byte_read_at events other).1, record { place = other; is_read = read_here events other inside; alone = both.0 }); can = both.1 })
+                (record {
+                  reads = ((byte_read_at events other).1, record { place = other; is_read = read_here events other inside; alone = both.0 });
+                  can = both.1;
+                })
           ]
       | else-byte_read-read w ↦ c.loop-other.invariant u (subst (λ (set : EventSet). HasEvent set u) w.whole-is here)
     ]

@@ -8,4 +8,5 @@ use Rattle.lit_solve.specs.Internal.Frames.{box_of}
 use Rattle.lit_solve.proofs.problem.Problem.whole_sources.Given as goal
 
 abbrev pub invariant-loop-other : goal.invariant-loop-other
-invariant-loop-other l = (u : ℕ) → HasEvent l.whole u → ReadsWholeBy (events_on l.self) (GivenIn (box_of l.self l.frame)) (byte_read_at (events_on l.self) l.place).0 u
+invariant-loop-other l =
+    (u : ℕ) → HasEvent l.whole u → ReadsWholeBy (events_on l.self) (GivenIn (box_of l.self l.frame)) (byte_read_at (events_on l.self) l.place).0 u

@@ -18,24 +18,30 @@ use Rattle.lit_solve.proofs.problem.Problem.with_least.Goals.{else-cut-via-then-
 
 pub with-requires : goal.with-requires
 with-requires c =
-    let few : length (events_on c.args.self.now) ≤ EVENT_LIMIT = subst (λ (p : Litmus × ℕ). length (events_on p) ≤ EVENT_LIMIT) c.self.view_is c.self.invariant.sound.few in
-    let known = source_known (box_of c.args.self.now c.args.frame.now) c.requires.settled.exact.contained.is_box c.args.place c.in-Some.source c.requires.place (c.loop-source.invariant.within c.in-Some.source c.in-Some.ensures.there) in
+    let few : length (events_on c.args.self.now) ≤ EVENT_LIMIT = subst (λ (p : Litmus × ℕ). length (events_on p) ≤ EVENT_LIMIT) c.self.view_is
+    c.self.invariant.sound.few in
+    let known = source_known (box_of c.args.self.now c.args.frame.now) c.requires.settled.exact.contained.is_box c.args.place c.in-Some.source
+    c.requires.place (c.loop-source.invariant.within c.in-Some.source c.in-Some.ensures.there) in
     omega (arith, few, known)
 
 pub returns-then-is_promising-clause-alone : goal.returns-then-is_promising-clause-alone
 returns-then-is_promising-clause-alone c = (
   c.in-Some.source,
   cut_alone (box_of c.args.self.now c.args.frame.now) (box_of c.args.self.now c.cut.new.frame) c.args.place c.in-Some.source c.with.result
-      (λ w h. elim ((c.with.ensures w).0 h) [ inl none ↦ absurd (c.new.ensures.empty w none) | inr same ↦ same ]) (c.cut.ensures.cut c.if-cut.true) c.requires.place (c.cut.ensures.settled c.if-cut.true).exact.contained.some,
+      (λ w h. elim ((c.with.ensures w).0 h) [ inl none ↦ absurd (c.new.ensures.empty w none) | inr same ↦ same ]) (c.cut.ensures.cut c.if-cut.true)
+      c.requires.place (c.cut.ensures.settled c.if-cut.true).exact.contained.some,
 )
 
 pub returns-then-is_promising-clause-lowest : goal.returns-then-is_promising-clause-lowest
 returns-then-is_promising-clause-lowest c =
     let old : Box = box_of c.args.self.now c.args.frame.now in
     let new : Box = box_of c.args.self.now c.cut.new.frame in
-    let one : (w : ℕ) → HasEvent c.with.result w → w ≡ c.in-Some.source = λ w h. elim ((c.with.ensures w).0 h) [ inl none ↦ absurd (c.new.ensures.empty w none) | inr same ↦ same ] in
-    let alone : HasAlone new c.args.place c.in-Some.source = cut_alone old new c.args.place c.in-Some.source c.with.result one (c.cut.ensures.cut c.if-cut.true) c.requires.place (c.cut.ensures.settled c.if-cut.true).exact.contained.some in
-    lowest_at old new c.args.goal c.args.place c.requires.place c.loop-source.left c.in-Some.others c.with.result c.in-Some.source c.in-Some.ensures c.loop-source.invariant.taken
+    let one : (w : ℕ) → HasEvent c.with.result w
+    → w ≡ c.in-Some.source = λ w h. elim ((c.with.ensures w).0 h) [ inl none ↦ absurd (c.new.ensures.empty w none) | inr same ↦ same ] in
+    let alone : HasAlone new c.args.place c.in-Some.source = cut_alone old new c.args.place c.in-Some.source c.with.result one
+    (c.cut.ensures.cut c.if-cut.true) c.requires.place (c.cut.ensures.settled c.if-cut.true).exact.contained.some in
+    lowest_at old new c.args.goal c.args.place c.requires.place c.loop-source.left c.in-Some.others c.with.result c.in-Some.source c.in-Some.ensures
+    c.loop-source.invariant.taken
     (λ w. (one w, λ same. (c.with.ensures w).1 (inr same))) (c.cut.ensures.cut c.if-cut.true) alone
 
 pub loop-source-smaller : goal.loop-source-smaller
@@ -50,14 +56,18 @@ loop-source-preserved c = record {
     one : (w : ℕ) → HasEvent c.with.result w → w ≡ c.in-Some.source
     one w h = elim ((c.with.ensures w).0 h) [ inl none ↦ absurd (c.new.ensures.empty w none) | inr same ↦ same ]
 
-    in_vain : (x : Execution) → IsSolution (box_of c.args.self.now c.args.frame.now) c.args.goal x → (w : ℕ) → slice_get x.sources c.args.place ≡ Some w → w ≡ c.in-Some.source → ⊥
+    in_vain : (x : Execution) → IsSolution (box_of c.args.self.now c.args.frame.now) c.args.goal x → (w : ℕ)
+        → slice_get x.sources c.args.place ≡ Some w → w ≡ c.in-Some.source → ⊥
     in_vain x is w at same =
         let takes : (v : ℕ) → slice_get x.sources c.args.place ≡ Some v → HasEvent c.with.result v = λ v at_too.
         (c.with.ensures v).1 (inr ((let e : Some v ≡ Some w = sym at_too ∙ at in let f : v ≡ w = cc in f) ∙ same)) in
         elim c.else-cut.branch [
           | else-cut-via-then-cut+else-is_promising s ↦
-              s.is_promising.ensures.none (not_true s.is_promising.result s.if-is_promising.false)
-              (x, solution_in (box_of c.args.self.now c.args.frame.now) (box_of c.args.self.now c.cut.new.frame) c.args.goal c.args.place c.with.result (c.cut.ensures.cut s.if-cut.true) x is takes)
+              s.is_promising.ensures.none (not_true s.is_promising.result s.if-is_promising.false) (
+                x,
+                solution_in (box_of c.args.self.now c.args.frame.now) (box_of c.args.self.now c.cut.new.frame) c.args.goal c.args.place
+                    c.with.result (c.cut.ensures.cut s.if-cut.true) x is takes,
+              )
           | else-cut-via-else-cut s ↦ c.cut.ensures.none s.if-cut.false x is.completes takes
         ]
 

@@ -15,7 +15,8 @@ returns-then-not-is_empty c =
     let events = events_on c.args.self.now in
     let same : c.events-events.result.now ≡ events = c.events-events.ensures.value ∙ ap (λ (p : Litmus × ℕ). events_on p) c.self.view_is in
     let reader : c.event_at.result.now ≡ event_at events c.args.read = c.event_at.ensures ∙ ap (λ (es : List Event). event_at es c.args.read) same in
-    let writer : c.event_at-then-not-is_empty.result.now ≡ event_at events c.args.source = c.event_at-then-not-is_empty.ensures ∙ ap (λ (es : List Event). event_at es c.args.source) same in
+    let writer : c.event_at-then-not-is_empty.result.now ≡ event_at events c.args.source = c.event_at-then-not-is_empty.ensures
+    ∙ ap (λ (es : List Event). event_at es c.args.source) same in
     let whole : IsTrue c.can_read_whole.result ↔ CanReadWhole (event_at events c.args.read) (event_at events c.args.source) =
     subst (λ (e : Event). IsTrue c.can_read_whole.result ↔ CanReadWhole (event_at events c.args.read) e) writer
     (subst (λ (e : Event). IsTrue c.can_read_whole.result ↔ CanReadWhole e c.event_at-then-not-is_empty.result.now) reader c.can_read_whole.ensures) in

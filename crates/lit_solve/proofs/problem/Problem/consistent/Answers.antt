@@ -1,0 +1,42 @@
+use Rattle.std.proofs.Common.{◌<◌, ℕ, inl, inr, arith, length, length-set, refl, subst, ◌∙◌}
+use Rattle.lit_read.specs.Syntax.{Litmus}
+use Rattle.lit_paths.specs.ByteReads.{byte_read_at, byte_reads}
+use Rattle.lit_rel.specs.EventSet.{HasEvent}
+use Rattle.lit_rel.proofs.SetLemmas.{event_or_not}
+use Rattle.lit_solve.specs.Box.{HasSource, box_with, events_on}
+use Rattle.lit_solve.specs.Out.{IsOut}
+use Rattle.lit_solve.specs.Internal.Frames.{IsProblem}
+use Rattle.lit_solve.proofs.DomainLemmas.{narrowed_at, narrowed_is_box, narrows, narrows_on}
+use Rattle.lit_solve.proofs.NarrowingLemmas.{read_here}
+use Rattle.lit_solve.proofs.problem.Problem.consistent.Goals as goal
+
+pub loop-place-init : goal.loop-place-init
+loop-place-init c = record {
+  len = omega arith;
+  is_box = c.requires;
+  narrows = record { within = record { test = refl; combination = refl; domains = λ k w h. h }; kept = λ x is. is };
+}
+
+pub loop-place-preserved : goal.loop-place-preserved
+loop-place-preserved c =
+    let events = events_on c.args.self.now in
+    let place = c.loop-place.place in
+    let first = box_with c.args.self.now c.args.domains.now in
+    let box = box_with c.args.self.now c.loop-place.left in
+    let was = c.loop-place.invariant in
+    let less = c.difference.result in
+    let is : IsProblem c.args.self.now c.self.inside.candidates c.self.inside.refused c.self.inside.peers =
+    subst (λ (p : Litmus × ℕ). IsProblem p c.self.inside.candidates c.self.inside.refused c.self.inside.peers) c.self.view_is c.self.invariant in
+    let room : place < length box.domains = omega (arith, was.len, c.reads-place-end.ensures.few, c.loop-place-test.true) in
+    let inside : place < length (byte_reads events) = omega (arith, c.reads-place-end.ensures.value, c.loop-place-test.true) in
+    let read = byte_read_at events place in
+    let out : (w : ℕ) → HasSource box place w → ¬ HasEvent less w → IsOut box read.0 read.1 w = λ w there lost. elim (event_or_not _ w) [
+      | inl refused ↦ inl ((is.by_tests place read.0 read.1 w (read_here events place inside)).0 refused).1
+      | inr passes ↦ absurd (lost ((c.difference.ensures w).1 (there, passes)))
+    ] in
+    let within : (w : ℕ) → HasEvent less w → HasSource box place w = λ w there. ((c.difference.ensures w).0 there).0 in
+    let step = narrows box place less room was.is_box is.sound (c.completions_have_no_source_that_is_out.ensures box) inside out within in record {
+      len = length-set c.loop-place.left place less ∙ was.len;
+      is_box = narrowed_is_box box place less room within was.is_box;
+      narrows = narrows_on first box (narrowed_at box place less) was.narrows step;
+    }

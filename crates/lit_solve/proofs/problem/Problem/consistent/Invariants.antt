@@ -1,0 +1,12 @@
+use Rattle.std.proofs.Common.{◌≡◌, length}
+use Rattle.lit_paths.specs.declared.limits.TheConstants.{BYTE_READ_LIMIT}
+use Rattle.lit_solve.specs.Box.{IsBox, box_with}
+use Rattle.lit_solve.specs.Internal.Narrowing.{Narrows}
+use Rattle.lit_solve.proofs.problem.Problem.consistent.Given as goal
+
+abbrev pub invariant-loop-place : goal.invariant-loop-place
+invariant-loop-place l = record {
+  len : length l.left ≡ BYTE_READ_LIMIT;
+  is_box : IsBox (box_with l.self l.left);
+  narrows : Narrows (box_with l.self l.fn.domains) (box_with l.self l.left);
+}

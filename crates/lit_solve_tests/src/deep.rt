@@ -1,0 +1,239 @@
+//! `lit_solve`: searches that go as deep as a plan lets them, each in a thread of its own.
+
+ghost use Rattle.std.specs.Prelude.{◌≤◌};
+ghost use Rattle.lit_solve.specs.Box.{IsBox, box_with};
+
+use lit_paths::{BYTE_READ_LIMIT, EVENT_LIMIT, Plan, plan};
+use lit_read::read;
+use lit_rel::EventSet;
+use lit_solve::{Boxes, Domains, Goal, Problem, exists, least};
+use lit_valid::Class;
+use std::alloc::AllocGlobal;
+use std::process::Abort;
+use std::test::Fail;
+use std::thread::{Threads, join_mut};
+
+/// Thirty bytes are read, each from init, event 12 or event 13: of three sources no plan has more. Each of these two could force
+/// something, since the other one has its range too; but no load is ordered with them, so that each choice is valid. The
+/// condition parts each byte by what its sources store, and what stores 0 is parted by source then: sixty cuts.
+const THREE_SOURCES: &str = "test three
+bytes 4
+agent A
+r0 = DV.getUint32(0, true)
+r1 = DV.getUint32(0, true)
+r2 = DV.getUint32(0, true)
+r3 = DV.getUint32(0, true)
+r4 = DV.getUint32(0, true)
+r5 = DV.getUint32(0, true)
+r6 = DV.getUint32(0, true)
+r7 = DV.getUint16(0, true)
+agent B
+Atomics.store(U32, 0, 0)
+Atomics.store(U32, 0, 16843009)
+check A.r0 == 0 && A.r1 == 0 && A.r2 == 0 && A.r3 == 0 && A.r4 == 0 && A.r5 == 0 && A.r6 == 0 && A.r7 == 0
+";
+
+/// Twenty such bytes, from init, event 10 or event 11, and sixteen that have init or event 28. Those loads and that store are
+/// sequentially consistent: the store comes after each load that reads 0, and before each that reads 1. Thirty-six cuts by
+/// source.
+const MIXED_SOURCES: &str = "test mixed
+bytes 5
+agent A
+r0 = DV.getUint32(0, true)
+r1 = DV.getUint32(0, true)
+r2 = DV.getUint32(0, true)
+r3 = DV.getUint32(0, true)
+r4 = DV.getUint32(0, true)
+agent B
+Atomics.store(U32, 0, 0)
+Atomics.store(U32, 0, 16843009)
+agent C
+r0 = Atomics.load(U8, 4)
+r0 = Atomics.load(U8, 4)
+r0 = Atomics.load(U8, 4)
+r0 = Atomics.load(U8, 4)
+r0 = Atomics.load(U8, 4)
+r0 = Atomics.load(U8, 4)
+r0 = Atomics.load(U8, 4)
+r0 = Atomics.load(U8, 4)
+r0 = Atomics.load(U8, 4)
+r0 = Atomics.load(U8, 4)
+r0 = Atomics.load(U8, 4)
+r0 = Atomics.load(U8, 4)
+r0 = Atomics.load(U8, 4)
+r0 = Atomics.load(U8, 4)
+r0 = Atomics.load(U8, 4)
+r0 = Atomics.load(U8, 4)
+agent D
+Atomics.store(U8, 4, 1)
+check A.r0 == 0 && A.r1 == 0 && A.r2 == 0 && A.r3 == 0 && A.r4 == 0
+";
+
+/// Forty-eight bytes are read, each from init or event 16, none of which can force anything: of two sources no plan has more.
+/// Each choice is valid, and none meets the condition, but that shows only at its end: it hangs on each byte in turn, as long as
+/// those parted before are read as 0. What it does not part is filled read by read.
+const TWO_SOURCES: &str = "test two
+bytes 4
+agent A
+r0 = DV.getUint32(0, true)
+r1 = DV.getUint32(0, true)
+r2 = DV.getUint32(0, true)
+r3 = DV.getUint32(0, true)
+r4 = DV.getUint32(0, true)
+r5 = DV.getUint32(0, true)
+r6 = DV.getUint32(0, true)
+r7 = DV.getUint32(0, true)
+agent B
+r0 = DV.getUint32(0, true)
+r1 = DV.getUint32(0, true)
+r2 = DV.getUint32(0, true)
+r3 = DV.getUint32(0, true)
+agent C
+U32[0] = 16843009
+check A.r0 != 0 && A.r0 == 0 && A.r1 == 0 && A.r2 == 0 && A.r3 == 0 && A.r4 == 0 && A.r5 == 0 && A.r6 == 0 && A.r7 == 0 && B.r0 == 0 && B.r1 == 0 && B.r2 == 0 && B.r3 == 0
+";
+
+/// A goal that valid choices meet exactly where one of these events is a source, or, if not `some`, where none is.
+#[derive(Clone, Copy)]
+struct Asked {
+    goal: Goal,
+    events: EventSet,
+    some: bool,
+}
+
+/// All that is asked of the boxes of a test, where a choice meets the condition unless one of the events `against` is a source,
+/// and has a data race exactly where one of those `apart` is.
+fn questions(against: EventSet, apart: EventSet) -> [Asked; 4] {
+    let any = Asked {
+        goal: Goal::Any,
+        events: EventSet::below(EVENT_LIMIT),
+        some: true,
+    };
+    let met = Asked {
+        goal: Goal::OfClass(Class::Met),
+        events: against,
+        some: false,
+    };
+    let unmet = Asked {
+        goal: Goal::OfClass(Class::Unmet),
+        events: against,
+        some: true,
+    };
+    let race = Asked {
+        goal: Goal::Race,
+        events: apart,
+        some: true,
+    };
+    [any, met, unmet, race]
+}
+
+/// The least sources in domains that meet a goal: the least of each domain; but if one of some events is wanted, and none of
+/// these is, the last byte read that can have one has it.
+fn wanted(domains: &Domains, reads: usize, asked: Asked) -> Option<[u8; BYTE_READ_LIMIT]>
+    requires { reads ≤ BYTE_READ_LIMIT }
+{
+    let mut sources = [0u8; BYTE_READ_LIMIT];
+    let mut some = false;
+    for place in 0..reads {
+        let (source, _others) = domains[place].split_first()?;
+        sources[place] = u8::try_from(source).ok()?;
+        if let Some((event, _others)) = domains[place].intersection(asked.events).split_first() {
+            some = some || event == source;
+        }
+    }
+    if some == asked.some {
+        return Some(sources);
+    }
+    if some {
+        return None;
+    }
+    for place in (0..reads).rev() {
+        if let Some((source, _others)) = domains[place].intersection(asked.events).split_first() {
+            sources[place] = u8::try_from(source).ok()?;
+            return Some(sources);
+        }
+    }
+    None
+}
+
+/// Whether a box has what is wanted.
+fn is_answered(problem: &Problem<'_>, domains: &Domains, asked: Asked) -> bool
+    requires { IsBox (box_with problem.now domains.now) }
+{
+    let reads = problem
+        .combination()
+        .byte_reads()
+        .len()
+        .min(BYTE_READ_LIMIT);
+    let found = least(problem, domains, asked.goal);
+    if exists(problem, domains, asked.goal) != found.is_some() {
+        return false;
+    }
+    match (found, wanted(domains, reads, asked)) {
+        (Some(one), Some(sources)) => one.sources.as_slice() == &sources[..reads],
+        (None, None) => true,
+        _ => false,
+    }
+}
+
+/// How many boxes a range of choices on the first combination has, if each has what is wanted.
+fn answered(plan: &Plan<'_>, (from, to): (u64, u64), asked: &[Asked]) -> Option<usize> {
+    let _test = plan.test();
+    let _combinations = plan.combinations();
+    let problem = Problem::open(plan, 0);
+    let combination = problem.combination();
+    if from >= to || from >= combination.end() || to <= combination.first() {
+        return None;
+    }
+    let boxes = Boxes::of_range(combination, from, to);
+    for i in 0..boxes.len() {
+        let mut domains: Domains = [EventSet::new(); BYTE_READ_LIMIT];
+        boxes.put(i, &mut domains);
+        for one in asked {
+            if !is_answered(&problem, &domains, *one) {
+                return None;
+            }
+        }
+    }
+    Some(boxes.len())
+}
+
+/// That a range of choices of a test has so many boxes, each with what is wanted: a thread of its own asks.
+fn assert_answered(
+    rt: &(impl Abort + AllocGlobal + Threads),
+    text: &str,
+    range: (u64, u64),
+    asked: &[Asked],
+    wanted: usize,
+) -> Result<(), Fail> {
+    let test = read(rt.alloc(), text.as_bytes())?;
+    let plan = plan(rt.alloc(), &test)?;
+    let (boxes, ()) = join_mut(rt, &mut || answered(&plan, range, asked), &mut || ());
+    assert_eq!(rt; boxes, Some(wanted));
+    Ok(())
+}
+
+/// Of all choices, and of all but the first and the last one. Those are cut on both sides: a box for each place where sources
+/// part from those of an end, one between both, and the ends.
+#[test]
+fn sixty_cuts_of_thirty_bytes(rt: HostRuntime) -> Result<(), Fail> {
+    let ones = EventSet::new().with(13);
+    let asked = questions(ones, ones.with(12));
+    let total = 3u64.pow(30);
+    assert_answered(&rt, THREE_SOURCES, (0, total), &asked, 1)?;
+    assert_answered(&rt, THREE_SOURCES, (1, total - 1), &asked, 61)
+}
+
+#[test]
+fn thirty_six_bytes_parted_by_source(rt: HostRuntime) -> Result<(), Fail> {
+    let ones = EventSet::new().with(11);
+    let asked = questions(ones, ones.with(10));
+    let total = 3u64.pow(20) * 2u64.pow(16);
+    assert_answered(&rt, MIXED_SOURCES, (0, total), &asked, 1)
+}
+
+#[test]
+fn forty_eight_bytes_parted_by_value(rt: HostRuntime) -> Result<(), Fail> {
+    let asked = questions(EventSet::below(EVENT_LIMIT), EventSet::new().with(16));
+    assert_answered(&rt, TWO_SOURCES, (0, 1 << 48), &asked, 1)
+}
