@@ -190,25 +190,6 @@ taken_none from to taken c end same h =
     (taken_more c.test from from taken c.report.race c c refl refl (omega (arith, end)) (omega arith) end (keeps_none c.test from c.report.entries) (marks_none c.test from from c.report.race)
     ((λ p. inl p), (λ some. elim some [ inl p ↦ p | inr race ↦ absurd (omega (arith, not_below from from race.0 race.1, before_end from from race.0 race.1)) ])) h)
 
--- ---- the first of a class
-module _ (t : Litmus) (class : Class) (from next end : ℕ) (none : HasNoneOf t class (in_range from next)) where
-  abbrev Wanted : List ℕ → Type 0
-  Wanted outcome = IsTrue (is_of_class t class outcome)
-
-  earlier : (n m : ℕ) → NoneShow t Wanted (in_range next n) → from ≤ m → m < n → (m < next) ⊎ (next ≤ m) → ¬ GivesClass t class m
-  earlier n m behind low high (inl lt) g = none m (within from next m low lt) g
-  earlier n m behind low high (inr le) g = behind m (within next n m le high) g.outcome g.gives g.of_class
-
-  pub none_behind : NoneShow t Wanted (in_range next end) → HasNoneOf t class (in_range from end)
-  none_behind behind m inside g = earlier end m behind (not_below from end m inside) (before_end from end m inside) (cases_lt m next) g
-
-  pub first_found : (to : ℕ) (e : Entry) → from ≤ next → end ≤ to → IsNext t Wanted next end e → IsFirstOf t class (in_range from to) e.choice
-  first_found to e low high is = record {
-    among = within from to e.choice (omega (arith, is.after)) (omega (arith, is.before));
-    gives = record { outcome = e.outcome; gives = is.shown.example.gives; of_class = is.shown.wanted };
-    least = λ m inside lt g. earlier e.choice m is.none_before (not_below from to m inside) lt (cases_lt m next) g;
-  }
-
 -- what follows from what holds where there is no fault
 pub if_ok : {X E : Type 0} (r : Result X E) (P Q : X → Type 0) → ((x : X) → P x → Q x) → IfOk r P → IfOk r Q
 if_ok (Ok x) P Q f p = f x p

@@ -10,7 +10,6 @@ pub mod RefusedLemmas
 pub mod LeftOutLemmas
 pub mod HeldLemmas
 pub mod ComingLemmas
-pub mod DecidingLemmas
 pub mod WantingLemmas
 pub mod PassingLemmas
 pub mod ExchangeLemmas
@@ -20,6 +19,7 @@ pub mod SwappedSources
 pub mod AlikeLemmas
 pub mod NextLemmas
 pub mod NumberSets
+pub mod BoxedLemmas
 pub mod Entries
 pub mod MergedEntries
 pub mod Reports

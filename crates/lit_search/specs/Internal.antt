@@ -8,7 +8,6 @@ pub mod Taking
 pub mod Packed
 pub mod Ranks
 pub mod Held
-pub mod Deciding
 pub mod Places
 pub mod RefusedSources
 pub mod LeftOut
@@ -23,3 +22,4 @@ pub mod Runners
 pub mod Foreseeing
 pub mod Coming
 pub mod Listing
+pub mod Boxed

@@ -4,7 +4,6 @@ pub(crate) mod alike;
 pub(crate) mod coming;
 pub(crate) mod foreseeing;
 pub(crate) mod held;
-pub(crate) mod known_values;
 pub(crate) mod leaving_out;
 pub(crate) mod passing;
 pub(crate) mod racing;

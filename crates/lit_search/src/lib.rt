@@ -5,7 +5,6 @@
 //! `ValidExecution`, `Report` and `Interleaving`, over those of `lit_paths`, `lit_rel` and `lit_order`.
 #![tactic(auto)]
 
-mod class;
 mod collector;
 mod cursor;
 mod fault;

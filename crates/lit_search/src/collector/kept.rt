@@ -84,12 +84,4 @@ impl Wanted for Kept {
     fn asks(&self, _plan: &Plan<'_>, _name: (u8, u8)) -> bool {
         true
     }
-
-    fn decides_early(&self) -> bool {
-        false
-    }
-
-    fn may_want(&self, _plan: &Plan<'_>, _known: &[Option<u32>]) -> bool {
-        true
-    }
 }

@@ -119,9 +119,6 @@ impl Cursor<'_> {
         if self.has_unwanted(plan, wanted, known) {
             return Some(known);
         }
-        if self.wants_none(plan, wanted) {
-            return Some(depth);
-        }
         if self.none_comes(plan, wanted, coming) {
             return Some(depth);
         }

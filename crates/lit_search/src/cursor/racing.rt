@@ -31,14 +31,6 @@ impl Wanted for All {
     fn asks(&self, _plan: &Plan<'_>, _name: (u8, u8)) -> bool {
         false
     }
-
-    fn decides_early(&self) -> bool {
-        false
-    }
-
-    fn may_want(&self, _plan: &Plan<'_>, _known: &[Option<u32>]) -> bool {
-        true
-    }
 }
 
 impl Cursor<'_> {

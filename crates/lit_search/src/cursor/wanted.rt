@@ -4,10 +4,9 @@ use lit_paths::Plan;
 
 /// A search for some of the outcomes.
 pub(crate) trait Wanted {
-    ghost use Rattle.std.specs.Prelude.{◌≡◌, ◌↔◌, ℕ, Bool, List, IsFalse, IsTrue, length};
+    ghost use Rattle.std.specs.Prelude.{◌≡◌, ◌↔◌, ℕ, Bool, List, IsTrue, length};
     ghost use Rattle.lit_read.specs.Syntax.{Litmus};
     ghost use Rattle.lit_paths.specs.Outcome.{names_of};
-    ghost use Rattle.lit_search.specs.Internal.Deciding.{HasKnown};
     ghost use Rattle.lit_search.specs.Internal.Wanting.{GoesBy};
 
     ghost IsWanted: { Self → Litmus → List ℕ → Type 0 };
@@ -23,13 +22,4 @@ pub(crate) trait Wanted {
     /// Whether it asks what a register of an outcome holds, named by agent and register.
     fn asks(&self, plan: &Plan<'_>, name: (u8, u8)) -> bool
         ensures { result ≡ Asks self.now plan.now name };
-
-    /// Whether it can tell from some values of an outcome that it is not for it.
-    fn decides_early(&self) -> bool;
-
-    /// Whether it may be for an outcome of which these values are known: one for each of the plan's `names`.
-    fn may_want(&self, plan: &Plan<'_>, known: &[Option<u32>]) -> bool
-        requires { length known.now ≡ length (names_of plan.now) }
-        ensures { IsFalse result → (outcome : List ℕ) → HasKnown (names_of plan.now) known.now outcome
-            → ¬ IsWanted self.now plan.now outcome };
 }

@@ -6,6 +6,7 @@ use Rattle.lit_search.proofs.searching.first_in.Given as goal
 abbrev pub invariant-loop-next : goal.invariant-loop-next
 invariant-loop-next l = record {
   after : l.from ≤ l.next;
+  inside : l.next ≤ l.to;
   none : HasNoneOf l.plan l.class (in_range l.from l.next);
 }
 

@@ -8,6 +8,7 @@ use Rattle.lit_search.proofs.searching.search_range.Goals as goal
 pub returns : goal.returns
 returns c =
     let taken = c.in_ok-take.ensures.taken in_none (subst (λ (x : Collected). HasTaken in_none x) (sym c.let_list.ensures) c.new-collector.ensures.taken) in
-    let reported = subst (λ (t : Litmus). IsReport t (in_range c.args.from c.args.to) c.take.new.self.report) (c.in_ok-take.ensures.test ∙ ap (λ (x : Collected). x.test) c.let_list.ensures ∙ c.new-collector.ensures.test) taken.reported in
+    let reported = subst (λ (t : Litmus). IsReport t (in_range c.args.from c.args.to) c.take.new.self.report)
+    (c.in_ok-take.ensures.test ∙ ap (λ (x : Collected). x.test) c.let_list.ensures ∙ c.new-collector.ensures.test) taken.reported in
     let P : Report → Type 0 = IsReport c.args.plan.now (in_range c.args.from c.args.to) in
     if_ok c.into_found.result _ P (λ found is. subst P (sym is) reported) c.into_found.ensures

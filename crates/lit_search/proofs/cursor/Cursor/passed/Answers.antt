@@ -81,11 +81,3 @@ returns-then-none_comes-clause-passed g c =
     let deep = c.len-depth.ensures.value ∙ length-part s c.part-part.result.now c.part-part.ensures.value in
     pass_from c.args.plan.now Wanted c.args.from s c.len-depth.result
     (subst (λ (d : ℕ). MayPass c.args.plan.now Wanted 0 s d) (sym deep) (c.none_comes.ensures c.if-none_comes.true))
-
-pub returns-then-wants_none-clause-passed : goal.returns-then-wants_none-clause-passed
-returns-then-wants_none-clause-passed g c =
-    let s = c.args.self.now in
-    let Wanted = g.W.Wanted.IsWanted c.args.wanted.now c.args.plan.now in
-    let deep = c.len-depth.ensures.value ∙ length-part s c.part-part.result.now c.part-part.ensures.value in
-    pass_from c.args.plan.now Wanted c.args.from s c.len-depth.result
-    (subst (λ (d : ℕ). MayPass c.args.plan.now Wanted 0 s d) (sym deep) (c.wants_none.ensures c.if-wants_none.true))
