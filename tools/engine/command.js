@@ -6,6 +6,7 @@ const path = require('path');
 const { spawn } = require('child_process');
 const { Fault } = require('./lines.js');
 const { readReport } = require('./report.js');
+const { TEXT_LIMIT } = require('./limits.js');
 const { readTest, registersOf } = require('./litmus.js');
 
 const TOP = path.resolve(__dirname, '..', '..');
@@ -97,7 +98,8 @@ class Allowed {
     } else if (part.all.kind === 'refusal') {
       const { number, name, line } = part.all;
       throw new Failure(3, `refused ${number} ${name}${line === undefined ? '' : ` line ${line}`}`);
-    } else if (part.all.kind !== 'empty') throw new Failure(3, `a report is needed, and this is of the kind ${part.all.kind}`);
+    } else if (part.all.kind === 'schedule') Object.assign(this, part.all);
+    else if (part.all.kind !== 'empty') throw new Failure(3, `a report is needed, and this is of the kind ${part.all.kind}`);
   }
 }
 
@@ -110,42 +112,62 @@ async function read(stream, allowed) {
   }
 }
 
-// Of what the program says of a text.
-async function askProgram(program, text) {
-  const allowed = new Allowed();
-  const { child, ended } = start(path.resolve(program), [], ['pipe', 'pipe', 'inherit']);
+// What the program says of a text, asked with these words.
+async function askProgram(program, words, text) {
+  const told = new Allowed();
+  const { child, ended } = start(path.resolve(program), words, ['pipe', 'pipe', 'inherit']);
   child.stdin.on('error', () => {});
   child.stdin.end(text);
   const { error } = await Promise.race([ended, new Promise((done) => child.on('spawn', () => done({})))]);
   if (error) throw new Failure(3, `the program isn't run: ${error.message}`);
-  await read(child.stdout, allowed).catch((failure) => {
+  await read(child.stdout, told).catch((failure) => {
     stop(child, 'SIGTERM');
     throw failure;
   });
   const { status, signal } = await ended;
-  if (allowed.verdict === undefined) throw new Failure(3, `${program} gave no report, and ended with ${signal || `status ${status}`}`);
-  return allowed;
+  if (told.test === undefined || status !== 0) {
+    throw new Failure(3, `${program} gave no report, and ended with ${signal || `status ${status}`}`);
+  }
+  return told;
 }
 
-function readFile(file) {
+// The text in a file, up to one byte more than a text may have, as the program reads it.
+function readText(file) {
+  const text = Buffer.alloc(TEXT_LIMIT + 1);
+  let length = 0;
   try {
-    return fs.readFileSync(file);
+    const from = fs.openSync(file, 'r');
+    for (let more = 1; more > 0 && length < text.length; length += more) more = fs.readSync(from, text, length, text.length - length);
+    fs.closeSync(from);
   } catch (error) {
     throw new Failure(2, error.message);
   }
+  return text.subarray(0, length);
 }
 
-// The test in a file, its text, and what is allowed of it by the program's report, or by the report in a file.
+// What stands in a file of a report.
+async function readReportFile(file) {
+  const allowed = new Allowed();
+  await read(fs.createReadStream(file), allowed).catch((error) => {
+    throw error.syscall === undefined ? error : new Failure(2, error.message);
+  });
+  if (allowed.verdict === undefined) throw new Failure(3, `${file} has no report`);
+  return allowed;
+}
+
+// The test in a file, its text, and what is allowed of it by the program's report, or by the report in a file. The program
+// takes the text first, in both cases: beside a report in a file it is asked for the empty schedule, which needs no search.
 async function testAndReport({ file, program, report }) {
-  const text = readFile(file);
-  let allowed = new Allowed();
-  if (report === null) allowed = await askProgram(program, text);
-  else await read([readFile(report)], allowed);
-  if (allowed.verdict === undefined) throw new Failure(3, `${report} has no report`);
+  const text = readText(file);
+  const told = await askProgram(program, report === null ? [] : ['--schedule', ''], text);
   const test = readTest(text.toString('latin1'));
+  const allowed = report === null ? told : await readReportFile(report);
+  if (allowed.verdict === undefined) throw new Failure(3, `${program} gave no report`);
   const registers = registersOf(test).map(([agent, register]) => `${test.agents[agent].name}.${register}`);
-  if (allowed.test !== test.name || allowed.registers.join() !== registers.join()) {
-    throw new Failure(3, `the report isn't of the test ${test.name} and its registers`);
+  for (const { test: name, registers: named } of [told, allowed]) {
+    if (name !== test.name || named.join() !== registers.join()) {
+      throw new Failure(3, `the report isn't of the test ${test.name} and its registers`);
+    }
   }
   return { text: text.toString('latin1'), test, allowed };
 }

@@ -14,9 +14,9 @@ written only where its verdict is never, and then checks the condition alone. to
 `;
 const MOST_OUTCOMES = 300;
 
-// The text as lines of a YAML block in a comment, which it must not end.
+// The text as lines of a YAML block in a comment, which it must not end; byte 13 ends a line of YAML, wherever it stands.
 function infoLines(text) {
-  return text.split('\n').map((line) => line.trim().replace(/\t/g, ' ').replace(/\*\//g, '* /'))
+  return text.split('\n').map((line) => line.replace(/[\t\r]/g, ' ').trim().replace(/\*\//g, '* /'))
     .join('\n').trim().split('\n').map((line) => (line === '' ? '' : `  ${line}`));
 }
 
