@@ -16,11 +16,13 @@ const AT_RANDOM = 4;    // texts with noise at random places, for each file
 
 // Lines that a comment must hide, whatever byte of these stands before them.
 const HIDDEN = ['U8[0] = 2', 'r0 = U8[0]', 'check A.r0 == 9', 'agent Z', '}'];
-const BYTES = ['\r', '\t', '\v', '\f', '\0', '\b', '\x1b', '\x1c', '\x7f', '\x80', '\x85', '\xa0', '\xff', '\xc2\x85', '\xe2\x80\xa8', '\xef\xbb\xbf'];
-const PIECES = [...BYTES, '//', '/', '/*', '*/', '\n', '\n\r\n', ' ', '0', '00', '0x1', '1', '4294967296', '_', '.', '(', '!', '}', '{', '==', 'x'];
+const BYTES = ['\r', '\t', '\v', '\f', '\0', '\b', '\x1b', '\x1c', '\x7f', '\x80', '\x85', '\xa0', '\xff',
+  '\xc2\x85', '\xe2\x80\xa8', '\xef\xbb\xbf'];
+const PIECES = [...BYTES, '//', '/', '/*', '*/', '\n', '\n\r\n', ' ', '0', '00', '0x1', '1', '4294967296',
+  '_', '.', '(', '!', '}', '{', '==', 'x'];
 
 const ofLines = (change) => (text) => text.split('\n').map(change).join('\n');
-const onFirst = (pattern, instead) => (text) => text.replace(pattern, instead);
+const replacing = (pattern, instead) => (text) => text.replace(pattern, instead);
 
 // Noise on a whole text; `turn` is another number in each file. Every file has the first three, and a third of the others.
 function noises(turn) {
@@ -42,12 +44,12 @@ function noises(turn) {
     (text) => `${text}${byte}`,
     (text) => `${text}//${' '.repeat(TEXT_LIMIT - text.length - 2)}`,
     (text) => `${text}//${' '.repeat(TEXT_LIMIT - text.length - 1)}`,
-    onFirst(/\b(test|agent|check|if|load|store|true)\b/g, (word) => (turn % 2 ? word.toUpperCase() : word[0].toUpperCase() + word.slice(1))),
-    onFirst(/\bU(?=8|16|32)/g, 'u'),
-    onFirst(/\bbytes (\d+)/, (_, number) => `bytes 0${number}`),
-    onFirst(/([=(,] ?)(\d+)/, (_, before, number) => `${before}0x${Number(number).toString(16)}`),
-    onFirst(/= (\d+)/g, (_, number) => `= 0${number}`),
-    onFirst(/\/\/|$/, '/ / '),
+    replacing(/\b(test|agent|check|if|load|store|true)\b/g, (word) => word[0].toUpperCase() + word.slice(1)),
+    replacing(/\bU(?=8|16|32)/g, 'u'),
+    replacing(/\bbytes (\d+)/, (_, number) => `bytes 0${number}`),
+    replacing(/([=(,] ?)(\d+)/, (_, before, number) => `${before}0x${Number(number).toString(16)}`),
+    replacing(/= (\d+)/g, (_, number) => `= 0${number}`),
+    replacing(/\/\/|$/, '/ / '),
   ];
 }
 

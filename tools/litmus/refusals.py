@@ -3,6 +3,7 @@ import collections
 import re
 
 from litmus import counting, forms, slips, structure, text
+from litmus.ends import shown
 
 # `line` is None where the whole text is refused or a schedule, and `column` where there is nothing to show in the line;
 # `said` are sentences, and `write` is a line to write instead, or None.
@@ -16,7 +17,7 @@ def foreign(data):
     if b"\r" in data and b"\n" not in data:
         return "the lines end with CR alone, so all of the text is one line: save it with LF or CR LF at the ends of lines"
     start = data.lstrip()[:60].decode("latin-1")
-    if re.match(r"(?:X86(?:_64)?|AArch64|ARM|PPC|RISCV|MIPS|C|LISA|Bell|JAVA)\s+\S+\s*\n", start) or re.search(rb"^\s*P0\s*(\||\()", data, re.M):
+    if re.match(r"(?:X86(?:_64)?|AArch64|ARM|PPC|RISCV|MIPS|C|LISA|Bell|JAVA)\s+\S+\s*\n", start) or re.search(rb"^[\t\r ]*P0[\t\r ]*[|(]", data, re.M):
         return ("this is a test for herd7: each column or P0, P1 is an `agent` here, each location a byte `U8[n]`, `exists` is "
                 "`check`; docs/FORMAT.md, \"From herd7\", says what differs")
     if re.search(rb"new (SharedArrayBuffer|Worker|\w+Array)\b|=>|\bfunction\b|addEventListener", data):
@@ -49,10 +50,10 @@ def of_schedule(data, schedule):
     names = [agent for agent, _ in text.read_test(data.decode("latin-1")).agents]
     wrong = next((member for member in schedule.split(",") if member not in names), "")
     if wrong.strip() in names:
-        return f"`{wrong}` has a blank: names are joined by commas alone, as {','.join(names)}"
+        return f"`{shown(wrong)}` has a blank: names are joined by commas alone, as {','.join(names)}"
     if not wrong:
         return "a comma has no name beside it: the empty schedule is the empty text"
-    return f"`{wrong}` is no agent of the test; its agents are {', '.join(names)}"
+    return f"`{shown(wrong)}` is no agent of the test; its agents are {', '.join(names)}"
 
 
 def lines_of(data):

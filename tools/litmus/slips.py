@@ -183,12 +183,16 @@ def condition_rules(agents):
     ]
 
 
+# Rules look at a line again and again from each of its signs, so of a longer one, which nobody wrote by hand, they say nothing.
+LONGEST = 1000
 QUESTION = re.compile(r"^(?:~\s*exists|exists|forall|never|always|sometimes|assert|expect|condition|final|check|Check|CHECK|allowed|forbidden)\b")
 
 
 def advice(line, agents):
     """Why the line has no form, one sentence for each slip found, and the line to write, or None."""
-    code = forms.code_of(line).strip()
+    code = " ".join(forms.code_of(line).split())
+    if len(code) > LONGEST:
+        return [], None
     if QUESTION.match(code):
         rules = COMMENTS + SIGNS + condition_rules(agents)
     elif code.startswith(("if", "}", "else", "elif")):

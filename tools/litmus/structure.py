@@ -12,13 +12,14 @@ class Shape:
     def __init__(self, lines, end):
         self.agents, self.registers, self.open, self.size, self.test, self.check = [], {}, [], None, None, None
         for number, line in enumerate(lines[:end], 1):
-            self.take(number, [token.text for token in forms.tokens_of(line)])
+            self.take(number, forms.tokens_of(line))
 
-    def take(self, number, words):
+    def take(self, number, tokens):
+        words = [token.text for token in tokens]
         head = words[0] if words else ""
         if head == "test":
             self.test = self.test or number
-        elif head == "bytes" and len(words) > 1 and words[1].isdigit():
+        elif head == "bytes" and len(words) > 1 and tokens[1].kind == "number":
             self.size = int(words[1])
         elif head == "agent" and len(words) > 1:
             self.agents.append((words[1], number))
@@ -153,24 +154,36 @@ def missing_part(lines, number):
     return None, f"the last line is missing, the question: `check {known[-1]} == 0`, of the registers {', '.join(known)}"
 
 
+CONTROLS = {0: "null", 7: "bell", 8: "backspace", 11: "vertical tab", 12: "form feed", 27: "escape", 127: "delete"}
+
+
+def sign_at(line, column):
+    """The sign that begins with the byte in this column, of a line with a character for each byte, where it is UTF-8; None
+    where it isn't."""
+    found = re.match(rb"[\x80-\xff]+", line[column:column + 8].encode("latin-1"))
+    sign = found[0].decode("utf-8", "replace")[0] if found else None
+    return None if sign == "\ufffd" and not found[0].startswith(sign.encode()) else sign
+
+
 def not_ascii(lines, number):
     """The line as characters of one byte each, as the text is read."""
     line = lines[number - 1]
     column = next((place for place, sign in enumerate(line) if not (sign in "\t\r" or 32 <= ord(sign) <= 126)), None)
-    found = re.match(rb"[\x80-\xff]+", line[column:].encode("latin-1")) if column is not None else None
-    sign = found[0].decode("utf-8", "replace")[0] if found else None
-    if line.startswith(("\xef\xbb\xbf", "\xff\xfe", "\xfe\xff")):
+    if column is None or line.startswith(("\xef\xbb\xbf", "\xff\xfe", "\xfe\xff")):
         return 0, "the file begins with a byte order mark: save it as plain ASCII, or as UTF-8 without BOM"
+    byte, sign = ord(line[column]), sign_at(line, column)
+    if byte < 128:
+        named = f" ({CONTROLS[byte]})" if byte in CONTROLS else ""
+        return column, f"byte {byte}{named} is a control character, and may not stand in a comment either: leave it out"
     instead = {"\u2018": "'", "\u2019": "'", "\u201c": '"', "\u201d": '"', "\u2013": "-", "\u2014": "-", "\u00a0": "a blank",
                "\u2227": "&&", "\u2228": "||", "\u00ac": "!", "\u2260": "!=", "\u2026": "..", "\u00d7": "x"}.get(sign)
-    named = f"`{sign}` (U+{ord(sign):04X})" if sign and sign.isprintable() else "this byte"
+    named = (f"byte {byte}" if not sign else f"`{sign}` (U+{ord(sign):04X})" if sign.isprintable() else f"U+{ord(sign):04X}")
     what = f": write `{instead}`" if instead and instead != "a blank" else f": write {instead}" if instead else ""
     return column, f"{named} is no ASCII, and may not stand in a comment either{what}"
 
 
 def too_long(lines, number):
-    size = sum(len(line) + 1 for line in lines) - 1
-    return None, f"the text has {size} bytes, and {limits.TEXT} at most: leave out comments and blanks"
+    return None, f"the text has more than {limits.TEXT} bytes: leave out comments and blanks"
 
 
 ADVICE = {1: too_long, 2: not_ascii, 4: misplaced, 5: block_size, 6: too_many_agents, 7: duplicate_agent, 8: literal_range,
