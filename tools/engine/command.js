@@ -1,16 +1,19 @@
 'use strict';
 // What the commands share: their words, the program's report, children that are stopped with the command, and faults.
 
+const crypto = require('crypto');
 const fs = require('fs');
+const os = require('os');
 const path = require('path');
 const { spawn } = require('child_process');
-const { Fault } = require('./lines.js');
+const { Fault, plain } = require('./lines.js');
 const { readReport } = require('./report.js');
 const { TEXT_LIMIT } = require('./limits.js');
 const { readTest, registersOf } = require('./litmus.js');
+const { VARIABLE } = require('./processes.js');
 
 const TOP = path.resolve(__dirname, '..', '..');
-const SIGNALS = { SIGHUP: 129, SIGINT: 130, SIGTERM: 143 };
+const SIGNALS = { SIGHUP: 129, SIGINT: 130, SIGQUIT: 131, SIGTERM: 143 };
 
 class Failure extends Error {
   constructor(status, message) {
@@ -27,7 +30,7 @@ function readWords(given, options) {
     const [, name, value] = /^--([a-z]+)(?:=(.*))?$/s.exec(given[place]) || [];
     if (given[place] === '--help' || given[place] === '-h') return { help: true };
     if (name === undefined) files.push(given[place]);
-    else if (!Object.hasOwn(options, name)) throw new Failure(2, `no option --${name}`);
+    else if (!Object.hasOwn(options, name)) throw new Failure(2, `no option --${plain(name)}`);
     else if (value === undefined && place + 1 === given.length) throw new Failure(2, `--${name} needs a value`);
     else if (value === undefined) words[name] = given[place += 1];
     else words[name] = value;
@@ -36,9 +39,34 @@ function readWords(given, options) {
   return { ...words, file: files[0] };
 }
 
-// Children have process groups of their own, so that all that they started can be stopped with them.
+// Children have process groups of their own, so that all that they started can be stopped with them, and a mark in their
+// environment, by which those are found that left their group.
 const children = new Set();
+const MARK = crypto.randomUUID();
 let stopping = false;
+let folder;
+let keeper;
+
+// A folder for this run, which goes when it ends.
+function makeFolder() {
+  try {
+    folder = fs.mkdtempSync(path.join(os.tmpdir(), 'jslit-engine-'));
+  } catch (error) {
+    throw new Failure(4, `no folder can be made: ${plain(error.message)}`);
+  }
+  process.on('exit', () => fs.rmSync(folder, { recursive: true, force: true }));
+  return folder;
+}
+
+// A process that ends the children and removes the folder where this one is killed, and can't.
+function keep() {
+  keeper = spawn(process.execPath, [path.join(__dirname, 'keeper.js'), MARK, ...(folder ? [folder] : [])],
+    { stdio: ['pipe', 'ignore', 'ignore'], detached: true });
+  keeper.on('error', () => {});
+  keeper.stdin.on('error', () => {});
+  keeper.unref();
+  keeper.stdin.unref();
+}
 
 function stop(child, signal) {
   try {
@@ -48,9 +76,11 @@ function stop(child, signal) {
   }
 }
 
-// Starts a child; `ended` is a promise of its status and signal, or of why it could not be started.
-function start(command, words, stdio) {
-  const child = spawn(command, words, { stdio, detached: true });
+// Starts a child; `ended` is a promise of its status and signal, or of why it could not be started. It comes once the
+// child's outputs are closed too, by all that have them.
+function start(command, words, stdio, mark = MARK) {
+  if (keeper === undefined) keep();
+  const child = spawn(command, words, { stdio, detached: true, env: { ...process.env, [VARIABLE]: mark } });
   if (child.pid !== undefined) children.add(child);
   const ended = new Promise((done) => {
     child.on('error', (error) => done({ error }));
@@ -119,14 +149,14 @@ async function askProgram(program, words, text) {
   child.stdin.on('error', () => {});
   child.stdin.end(text);
   const { error } = await Promise.race([ended, new Promise((done) => child.on('spawn', () => done({})))]);
-  if (error) throw new Failure(3, `the program isn't run: ${error.message}`);
+  if (error) throw new Failure(3, `the program isn't run: ${plain(error.message)}`);
   await read(child.stdout, told).catch((failure) => {
     stop(child, 'SIGTERM');
     throw failure;
   });
   const { status, signal } = await ended;
   if (told.test === undefined || status !== 0) {
-    throw new Failure(3, `${program} gave no report, and ended with ${signal || `status ${status}`}`);
+    throw new Failure(3, `${plain(program)} gave no report, and ended with ${signal || `status ${status}`}`);
   }
   return told;
 }
@@ -140,7 +170,7 @@ function readText(file) {
     for (let more = 1; more > 0 && length < text.length; length += more) more = fs.readSync(from, text, length, text.length - length);
     fs.closeSync(from);
   } catch (error) {
-    throw new Failure(2, error.message);
+    throw new Failure(2, plain(error.message));
   }
   return text.subarray(0, length);
 }
@@ -149,9 +179,9 @@ function readText(file) {
 async function readReportFile(file) {
   const allowed = new Allowed();
   await read(fs.createReadStream(file), allowed).catch((error) => {
-    throw error.syscall === undefined ? error : new Failure(2, error.message);
+    throw error.syscall === undefined ? error : new Failure(2, plain(error.message));
   });
-  if (allowed.verdict === undefined) throw new Failure(3, `${file} has no report`);
+  if (allowed.verdict === undefined) throw new Failure(3, `${plain(file)} has no report`);
   return allowed;
 }
 
@@ -162,7 +192,7 @@ async function testAndReport({ file, program, report }) {
   const told = await askProgram(program, report === null ? [] : ['--schedule', ''], text);
   const test = readTest(text.toString('latin1'));
   const allowed = report === null ? told : await readReportFile(report);
-  if (allowed.verdict === undefined) throw new Failure(3, `${program} gave no report`);
+  if (allowed.verdict === undefined) throw new Failure(3, `${plain(program)} gave no report`);
   const registers = registersOf(test).map(([agent, register]) => `${test.agents[agent].name}.${register}`);
   for (const { test: name, registers: named } of [told, allowed]) {
     if (name !== test.name || named.join() !== registers.join()) {
@@ -176,7 +206,8 @@ async function testAndReport({ file, program, report }) {
 function run(name, usage, main) {
   stopAtSignals(name);
   process.stdout.on('error', () => process.exit(4));
-  main(process.argv.slice(2)).then((status) => {
+  const done = () => keeper?.stdin.end('done');
+  main(process.argv.slice(2)).finally(() => stopping || done()).then((status) => {
     process.exitCode = status;
   }, (error) => {
     if (stopping) return;
@@ -188,4 +219,4 @@ function run(name, usage, main) {
 
 const grouped = (number) => String(number).replace(/\B(?=(?:[0-9]{3})+$)/g, ',');
 
-module.exports = { Allowed, Failure, TOP, grouped, readWords, run, start, stop, testAndReport };
+module.exports = { Allowed, Failure, MARK, TOP, grouped, makeFolder, readWords, run, start, stop, testAndReport };

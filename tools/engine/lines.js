@@ -5,6 +5,9 @@ const LONGEST_LINE = 65536;
 
 class Fault extends Error {}
 
+// A text as a terminal may be given it, on one line: control characters stand as numbers.
+const plain = (text) => String(text).replace(/[\x00-\x1f\x7f-\x9f]/g, (sign) => `\\x${sign.charCodeAt(0).toString(16).padStart(2, '0')}`);
+
 // Gives each line of a stream to `take`, without the byte 10 that ends it, and waits where `take` gives a promise.
 async function eachLine(stream, take) {
   let rest = '';
@@ -50,4 +53,4 @@ class Writer {
   }
 }
 
-module.exports = { Fault, Writer, eachLine };
+module.exports = { Fault, Writer, eachLine, plain };

@@ -2,7 +2,7 @@
 // The command report2json; README.md describes it.
 
 const fs = require('fs');
-const { Fault, Writer } = require('./lines.js');
+const { Fault, Writer, plain } = require('./lines.js');
 const { ReportReader, jsonWriter, linesOf, readReport } = require('./report.js');
 const { readJson } = require('./json.js');
 
@@ -51,6 +51,6 @@ process.stdout.on('error', () => {});
 main(process.argv.slice(2)).catch((error) => {
   const known = error instanceof Fault || error.code !== undefined;
   const text = known ? error.message : `the JSON isn't that of a report: ${error.message}`;
-  if (error.code !== 'EPIPE') process.stderr.write(`report2json: ${text}\n`);
+  if (error.code !== 'EPIPE') process.stderr.write(`report2json: ${plain(text)}\n`);
   process.exitCode = 1;
 });

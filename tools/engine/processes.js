@@ -1,0 +1,92 @@
+'use strict';
+// The processes that a run has started, however they left it: those whose environment has the run's mark, those that these
+// have started, and those in a group or session of one of them. They are found in /proc, so on Linux; elsewhere none is.
+
+const fs = require('fs');
+
+const VARIABLE = 'JSLIT_RUN';
+const PAGE = 4096;                   // bytes of a page of memory, as /proc counts them on most machines
+const ROUNDS = 40, PAUSE = 25;       // how often, and after how many milliseconds, it is looked for processes to end
+
+const clock = new Int32Array(new SharedArrayBuffer(4));
+
+function readOf(pid, name) {
+  try {
+    return fs.readFileSync(`/proc/${pid}/${name}`, 'latin1');
+  } catch {
+    return null;   // it has ended, or isn't ours
+  }
+}
+
+// What /proc says of a process; its key tells it from a later one of the same number.
+function processOf(pid) {
+  const text = readOf(pid, 'stat');
+  if (text === null) return null;
+  const words = text.slice(text.lastIndexOf(')') + 2).split(' ');
+  const [state, parent, group, session] = words;
+  return { pid, key: `${pid}:${words[19]}`, state, parent: Number(parent), group, session, bytes: Number(words[21]) * PAGE };
+}
+
+function everyProcess() {
+  let names = [];
+  try {
+    names = fs.readdirSync('/proc');
+  } catch {
+    // There is no /proc.
+  }
+  return names.filter((name) => /^[0-9]+$/.test(name)).map((name) => processOf(Number(name))).filter(Boolean);
+}
+
+class Processes {
+  // Those whose mark begins so.
+  constructor(mark) {
+    this.sign = `${VARIABLE}=${mark}`;
+    this.asked = new Map();
+    this.known = new Set();
+  }
+
+  // Whether a process has the mark, or was found before.
+  isMarked({ pid, key }) {
+    if (!this.asked.has(key)) this.asked.set(key, `\0${readOf(pid, 'environ') ?? ''}`.includes(`\0${this.sign}`));
+    return this.asked.get(key) || this.known.has(key);
+  }
+
+  // Those that are there now.
+  now() {
+    const every = everyProcess().filter(({ pid, state }) => pid !== process.pid && state !== 'Z');
+    let found = every.filter((each) => this.isMarked(each));
+    for (let before = -1; before < found.length;) {
+      before = found.length;
+      const pids = new Set(found.map(({ pid }) => pid));
+      const groups = new Set(found.map(({ group }) => group));
+      const sessions = new Set(found.map(({ session }) => session));
+      found = every.filter(({ pid, parent, group, session }) => (
+        pids.has(pid) || pids.has(parent) || groups.has(group) || sessions.has(session)));
+    }
+    for (const { key } of found) this.known.add(key);
+    return found;
+  }
+
+  // How many bytes of memory they have together.
+  bytes() {
+    return this.now().reduce((sum, { bytes }) => sum + bytes, 0);
+  }
+
+  // Ends them all: again and again, since one may start another while it is looked for them.
+  end() {
+    for (let round = 0; round < ROUNDS; round += 1) {
+      const found = this.now();
+      if (found.length === 0) return;
+      for (const { pid } of found) {
+        try {
+          process.kill(pid, 'SIGKILL');
+        } catch {
+          // It has ended.
+        }
+      }
+      Atomics.wait(clock, 0, 0, PAUSE);
+    }
+  }
+}
+
+module.exports = { Processes, VARIABLE };
