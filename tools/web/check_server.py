@@ -1,14 +1,17 @@
 """What tools/check-page asks of the server."""
 import concurrent.futures
+import functools
+import http.client
 import json
 import pathlib
 import socket
 import subprocess
+import threading
 import time
 
 from litmus.limits import TEXT
 from litmus.program import TOP
-from web.limits import PART, RUNS, SECONDS
+from web.limits import PART, REQUEST, RUNS, SECONDS
 from web.serving import feigned, litmus, named, served
 
 FILES = ["/", "/page.css", "/page.js", "/ask.js", "/library", "/icon.svg"]
@@ -26,7 +29,9 @@ def cases(program):
         return lambda: with_server(case, make)
 
     return ([(f"server, {case.__name__}", on(case, lambda: served(program))) for case in PROVED] +
-            [(f"server, {case.__name__}", on(case, feigned)) for case in FEIGNED])
+            [(f"server, {case.__name__}", on(case, feigned)) for case in FEIGNED] +
+            [("server, refused_threads", on(refused_threads, functools.partial(feigned, REFUSED))),
+             ("server, ended_amid_runs", ended_amid_runs)])
 
 
 def with_server(case, make):
@@ -172,10 +177,81 @@ def connections(server):
     wait_for(lambda: server_answers(server))
 
 
+def hundred_answered(server):
+    """A hundred requests, half of them runs, and no process stays."""
+    def one(number):
+        if number % 2:
+            return server.ask("GET", "/")[0]
+        return server.post("quick", named("short"))[1]["verdict"]
+
+    with concurrent.futures.ThreadPoolExecutor(RUNS) as pool:
+        same(set(pool.map(one, range(100))), {200, "always"})
+    wait_for(lambda: not children(server))
+
+
+def slow_clients(server):
+    """Connections that send a byte a second of a head or of a text, for as long as it goes: they are let go in time."""
+    heads = [b"GET / HTTP/1.1\r\nHost: ", f"POST /quick HTTP/1.1\r\nHost: 127.0.0.1:{server.port}\r\nContent-Length: 60000\r\n\r\n".encode()]
+    held, over = [socket.create_connection(("127.0.0.1", server.port)) for _ in range(200)], threading.Event()
+
+    def drip():
+        for number, each in enumerate(held):
+            try_to(lambda: each.sendall(heads[number % 2]))
+        while not over.wait(1):
+            for each in held:
+                try_to(lambda: each.send(b"x"))
+
+    dripping = threading.Thread(target=drip)
+    dripping.start()
+    try:
+        time.sleep(1.5)
+        wait_for(lambda: server_answers(server), REQUEST + 3)
+        hundred_answered(server)
+    finally:
+        over.set()
+        dripping.join()
+        for each in held:
+            each.close()
+
+
+def try_to(act):
+    try:
+        act()
+    except (OSError, http.client.HTTPException):
+        pass
+
+
+REFUSED = 200
+
+
+def refused_threads(server):
+    """More threads are refused than there are places; then there is room as ever."""
+    for _ in range(REFUSED):
+        assert not server_answers(server)
+    hundred_answered(server)
+
+
+def many_words(server):
+    for path in ("/quick", "/report", "/none", "/"):
+        query = "&".join(f"w{number}=1" for number in range(100))
+        wanted = {"/none": 404, "/": 404}.get(path, 400)
+        same((path, server.ask("POST", f"{path}?{query}", litmus("sb").encode())[0]), (path, wanted))
+        same((path, server.ask("GET", f"{path}?{query}")[0]), (path, 404 if wanted == 404 else 405))
+
+
+def ended_amid_runs():
+    """A server that is ended while runs are on, and others are asked for."""
+    with feigned() as server, concurrent.futures.ThreadPoolExecutor(30) as pool:
+        asked = [pool.submit(try_to, lambda: server.post("report", named("long"), skip=0)) for _ in range(30)]
+        wait_for(lambda: len(children(server)) == RUNS)
+        server.process.terminate()
+        concurrent.futures.wait(asked, 5)
+
+
 def server_answers(server):
     try:
         return server.ask("GET", "/")[0] == 200
-    except OSError:
+    except (OSError, http.client.HTTPException):
         return False
 
 
@@ -233,5 +309,5 @@ def large_texts(server):
     assert memory_of(server) < 120_000, f"{memory_of(server)} kB"
 
 
-PROVED = (files, other_paths, other_names, lengths, words_of_requests, every_test, quick_and_turns, refusals, pictures)
-FEIGNED = (thirty_at_once, connections, one_who_leaves, a_large_report, a_program_that_fails, large_texts)
+PROVED = (files, other_paths, other_names, lengths, words_of_requests, many_words, every_test, quick_and_turns, refusals, pictures)
+FEIGNED = (thirty_at_once, connections, slow_clients, one_who_leaves, a_large_report, a_program_that_fails, large_texts)

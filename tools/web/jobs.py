@@ -27,6 +27,7 @@ class Gone(Exception):
 class Jobs:
     def __init__(self, program):
         self.program, self.turns, self.lock, self.running = program, threading.BoundedSemaphore(RUNS), threading.Lock(), set()
+        self.ended = False
 
     def answer(self, kind, given, data, client):
         """What answer.py says, as bytes of JSON."""
@@ -39,9 +40,12 @@ class Jobs:
         return said
 
     def run(self, command, data, client):
-        job = subprocess.Popen(command, stdin=subprocess.PIPE, stdout=subprocess.PIPE, stderr=subprocess.DEVNULL,
-                               start_new_session=True)
+        # Under the lock, so that no job is started behind `end_all`'s back.
         with self.lock:
+            if self.ended:
+                raise Gone
+            job = subprocess.Popen(command, stdin=subprocess.PIPE, stdout=subprocess.PIPE, stderr=subprocess.DEVNULL,
+                                   start_new_session=True)
             self.running.add(job)
         try:
             said = exchange(job, data, client, time.monotonic() + SECONDS)
@@ -59,7 +63,9 @@ class Jobs:
         job.wait()
 
     def end_all(self):
+        """Ends all jobs; none is started any more."""
         with self.lock:
+            self.ended = True
             for job in self.running:
                 kill(job)
 

@@ -2,6 +2,8 @@
 SECONDS = 10  # how long a run may take
 MEBIBYTES = 512  # how much memory it may have
 RUNS = 4  # how many run at a time
+REQUEST = 5  # how many seconds a request may take to arrive, from the first to its last byte
+SENDING = 10  # how many seconds an answer may take to be sent
 PATIENCE = 0.8  # how many seconds a request waits for its turn
 LINGERING = 5  # how many seconds it goes on taking, and letting go, what it has refused
 CONNECTIONS = 64  # how many are open at a time

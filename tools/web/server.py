@@ -1,6 +1,7 @@
 """The server of the page: a table of fixed files, and answers to the texts that it is sent. It serves this machine alone,
 keeps nothing, and builds no path and no command out of what it is sent."""
 import http.server
+import io
 import json
 import pathlib
 import threading
@@ -11,7 +12,7 @@ from litmus import limits
 from web.answer import ANSWERS
 from web.jobs import Busy, Gone, Jobs
 from web.library import library
-from web.limits import CONNECTIONS, LINGERING, RUNS, SECONDS
+from web.limits import CONNECTIONS, LINGERING, REQUEST, RUNS, SENDING
 
 FOLDER = pathlib.Path(__file__).resolve().parent / "page"
 TYPES = {".svg": "image/svg+xml", ".html": "text/html; charset=utf-8", ".css": "text/css; charset=utf-8", ".js": "text/javascript; charset=utf-8"}
@@ -38,6 +39,57 @@ def fixed_files():
     return files
 
 
+class Timed(io.RawIOBase):
+    """A connection that is read and written until a moment, however little each read or write takes of that time."""
+
+    def __init__(self, connection, seconds):
+        super().__init__()
+        self.connection = connection
+        self.allow(seconds)
+
+    def allow(self, seconds):
+        """So much time from now on."""
+        self.end = time.monotonic() + seconds
+
+    def take_time(self):
+        left = self.end - time.monotonic()
+        if left <= 0:
+            raise TimeoutError
+        self.connection.settimeout(left)
+
+    def readable(self):
+        return True
+
+    def writable(self):
+        return True
+
+    def readinto(self, buffer):
+        self.take_time()
+        return self.connection.recv_into(buffer)
+
+    def write(self, data):
+        self.take_time()
+        self.connection.sendall(data)
+        return len(data)
+
+
+class Places:
+    """Who has a place; one that is given back twice is given back once."""
+
+    def __init__(self, most):
+        self.most, self.lock, self.taken = most, threading.Lock(), set()
+
+    def take(self, request):
+        with self.lock:
+            if len(self.taken) < self.most:
+                self.taken.add(request)
+            return request in self.taken
+
+    def give_back(self, request):
+        with self.lock:
+            self.taken.discard(request)
+
+
 class Server(http.server.ThreadingHTTPServer):
     """Threads for a bounded number of connections; more are closed at once."""
     daemon_threads = True
@@ -45,7 +97,7 @@ class Server(http.server.ThreadingHTTPServer):
 
     def __init__(self, port, program):
         super().__init__(("127.0.0.1", port), Handler)
-        self.files, self.jobs, self.places = fixed_files(), Jobs(program), threading.BoundedSemaphore(CONNECTIONS)
+        self.files, self.jobs, self.places = fixed_files(), Jobs(program), Places(CONNECTIONS)
         self.names = {f"{name}:{self.server_port}" for name in ("127.0.0.1", "localhost")}
 
     def server_bind(self):
@@ -54,25 +106,44 @@ class Server(http.server.ThreadingHTTPServer):
         self.server_name, self.server_port = "localhost", self.server_address[1]
 
     def process_request(self, request, client_address):
-        if self.places.acquire(blocking=False):
-            super().process_request(request, client_address)
-        else:
+        if not self.places.take(request):
             self.shutdown_request(request)
+            return
+        try:
+            super().process_request(request, client_address)
+        except BaseException:
+            # No thread could be started, so none gives the place back.
+            self.places.give_back(request)
+            raise
 
     def process_request_thread(self, request, client_address):
         try:
             super().process_request_thread(request, client_address)
         finally:
-            self.places.release()
+            self.places.give_back(request)
 
     def handle_error(self, request, client_address):
         """A connection that breaks is nobody's business."""
 
 
+def values_of(words, names):
+    """The values of a request's words, one for each of these names, or None where they are others."""
+    if words is None or set(words) != set(names):
+        return None
+    given = [value for name in names for value in words[name]]
+    return None if len(given) != len(names) or any("\0" in value for value in given) else given
+
+
 class Handler(http.server.BaseHTTPRequestHandler):
-    timeout = SECONDS
     protocol_version = "HTTP/1.1"
     server_version, sys_version = "jslit", ""
+
+    def setup(self):
+        """One moment ends the whole request, its head and its text."""
+        super().setup()
+        self.rfile.close()
+        self.stream = Timed(self.connection, REQUEST)
+        self.rfile, self.wfile = io.BufferedReader(self.stream), self.stream
 
     def log_message(self, *_):
         """Nothing is kept of requests."""
@@ -101,6 +172,7 @@ class Handler(http.server.BaseHTTPRequestHandler):
 
     def send(self, code, kind, body):
         self.close_connection = True
+        self.stream.allow(SENDING)
         self.send_response(code)
         for name, value in {**HEADERS, "Content-Type": kind, "Content-Length": str(len(body)), "Connection": "close"}.items():
             self.send_header(name, value)
@@ -129,9 +201,13 @@ class Handler(http.server.BaseHTTPRequestHandler):
     do_HEAD = do_GET
 
     def asks(self):
-        """The kind of answer that the path asks for, and its words by name."""
+        """The kind of answer that the path asks for, and its words by name, or None where they are too many."""
         path, _, query = self.path.partition("?")
-        return path.removeprefix("/"), urllib.parse.parse_qs(query, keep_blank_values=True, max_num_fields=8)
+        try:
+            words = urllib.parse.parse_qs(query, keep_blank_values=True, max_num_fields=8)
+        except ValueError:
+            words = None
+        return path.removeprefix("/"), words
 
     def length(self):
         """How many bytes the text has, or the status of a refusal, as a negative number."""
@@ -147,10 +223,8 @@ class Handler(http.server.BaseHTTPRequestHandler):
         if kind not in ANSWERS:
             self.send_error(405 if self.path in self.server.files else 404)
             return
-        names = ANSWERS[kind][1]
-        given = [value for name in names for value in words.get(name, [])]
-        length = self.length()
-        if length < 0 or set(words) != set(names) or len(given) != len(names) or any("\0" in value for value in given):
+        given, length = values_of(words, ANSWERS[kind][1]), self.length()
+        if length < 0 or given is None:
             self.send_error(-length if length < 0 else 400)
             return
         if self.headers.get("Expect", "").lower() == "100-continue":

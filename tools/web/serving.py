@@ -6,7 +6,9 @@ import pathlib
 import socket
 import stat
 import subprocess
+import sys
 import tempfile
+import time
 import urllib.parse
 
 from litmus.program import TOP
@@ -36,6 +38,21 @@ elif name == "dies":
     os.abort()
 else:
     sys.stdout.write(f"test {name}\\noutcome A.r0=0\\n  from A.0 init[0]\\n  order init[0] A.0\\noutcomes 1\\nverdict always\\ndata race no\\n")
+"""
+
+
+# tools/page where the first threads can't be started.
+REFUSING = """import runpy, sys, threading
+start, left = threading.Thread.start, [int(sys.argv[1])]
+def refusing(thread):
+    left[0] -= 1
+    if left[0] >= 0:
+        raise RuntimeError("can't start new thread")
+    start(thread)
+threading.Thread.start = refusing
+sys.path.insert(0, sys.argv[2])
+sys.argv[1:] = sys.argv[3:]
+runpy.run_path(sys.path[0] + "/page", run_name="__main__")
 """
 
 
@@ -77,8 +94,11 @@ class Served:
 
 
 @contextlib.contextmanager
-def served(program):
-    process = subprocess.Popen([TOP / "tools" / "page", "--port", "0", "--program", program], stdout=subprocess.PIPE, text=True)
+def served(program, refused=0):
+    """A server of the page, of whose threads the first so many are refused. It leaves nothing behind."""
+    tools = TOP / "tools"
+    start = [sys.executable, "-c", REFUSING, str(refused), tools] if refused else [tools / "page"]
+    process = subprocess.Popen([*start, "--port", "0", "--program", program], stdout=subprocess.PIPE, text=True)
     try:
         yield Served(program, process, process.stdout.readline().strip())
     finally:
@@ -88,14 +108,29 @@ def served(program):
 
 
 @contextlib.contextmanager
-def feigned():
-    """A server whose program is the feigned one."""
+def feigned(refused=0):
+    """A server whose program is the feigned one, of which no process may be left."""
     with tempfile.TemporaryDirectory() as folder:
         program = pathlib.Path(folder) / "program"
         program.write_text(FEIGNED)
         program.chmod(stat.S_IRWXU)
-        with served(str(program)) as server:
+        with served(str(program), refused) as server:
             yield server
+        end = time.monotonic() + 5
+        while left := named_in_proc(program):
+            assert time.monotonic() < end, f"{left} are left behind"
+            time.sleep(0.02)
+
+
+def named_in_proc(word):
+    """The processes that were started with this word."""
+    def words(process):
+        try:
+            return (process / "cmdline").read_bytes().split(b"\0")
+        except OSError:
+            return []  # it has ended
+
+    return [process.name for process in pathlib.Path("/proc").glob("[0-9]*") if str(word).encode() in words(process)]
 
 
 def litmus(name):
