@@ -191,7 +191,8 @@ def hundred_answered(server):
 
 def slow_clients(server):
     """Connections that send a byte a second of a head or of a text, for as long as it goes: they are let go in time."""
-    heads = [b"GET / HTTP/1.1\r\nHost: ", f"POST /quick HTTP/1.1\r\nHost: 127.0.0.1:{server.port}\r\nContent-Length: 60000\r\n\r\n".encode()]
+    text = f"POST /quick HTTP/1.1\r\nHost: 127.0.0.1:{server.port}\r\nContent-Length: 60000\r\n\r\n"
+    heads = [b"GET / HTTP/1.1\r\nHost: ", text.encode()]
     held, over = [socket.create_connection(("127.0.0.1", server.port)) for _ in range(200)], threading.Event()
 
     def drip():
