@@ -20,8 +20,9 @@ OTHERS = {
     "crates/low/must-fail/one.edit": "edit\n", "crates/low_tests/src/lib.rt": "tests\n", "crates/jslit_cli/stdin": "in\n",
     "crates/jslit_cli/stdout": "out\n", "README.md": "words\n",
 }
-# What is said of a fault, and not of how far the build is. Before it may stand what a command began to say that was given up.
-FAULT = re.compile(r"\bjslit: (?!proving |\d+ of \d+: |another start |built )")
+# What is said of a fault, and not of how far the build is. Right before it may stand what a command began to say that was
+# given up, as in `find: cannot forkjslit: ..`.
+FAULT = re.compile(r"jslit: (?!proving |\d+ of \d+: |another start |built )")
 # What the stand-in does: `check` may take long, `run` writes a program that prints the digest of the sources and the number
 # of builds so far. It calls the system's own commands, whatever stands before them on the path.
 RT = r"""#!/bin/bash
