@@ -12,7 +12,7 @@ use Rattle.jslit.specs.Counted.{failures_of}
 use Rattle.jslit.specs.Devices.{OfToldText}
 use Rattle.jslit.specs.Internal.Saying.{IsExplained}
 use Rattle.jslit.specs.ProgramAnswer.{HasAnswered, HasServed}
-use Rattle.jslit.specs.Words.{AsksHelp, AsksRun, IsAsked, IsRefused, faults_of, quick_in, schedule_in}
+use Rattle.jslit.specs.Words.{AsksHelp, AsksRun, AsksVersion, IsAsked, IsRefused, faults_of, quick_in, schedule_in}
 
 -- what holds on a text that is told holds on some text
 on_some_text : (told : Option (List ℕ)) (Holds : List ℕ → Type 0) → OfToldText told Holds → OfToldText None Holds
@@ -67,9 +67,15 @@ module _ {W : Type 0} (contents : W → Option (List ℕ)) where
         on_file = λ _ _. (same, nothing_served _ _ _ _ status old new memory.1 (λ both. absurd (omega (arith, memory.1, both.0))));
       }
       | inr other ↦ elim other [
-        | inl help ↦ without_run (inl (help.1, subst (λ (k : ErrorKind). IsAmong k (faults_of words)) help.0 (among (λ memory. let bad : kinds.DisplayHelp ≡ kinds.OutOfMemory = sym help.0 ∙ memory in absurd cc))))
-            (among (λ memory. let bad : kinds.DisplayHelp ≡ kinds.OutOfMemory = sym help.0 ∙ memory in absurd cc))
-        | inr fault ↦ without_run (inr (inl (fault.2, (kind_of e, among fault.0, fault.1)))) (among fault.0)
+        | inl help ↦
+            let there = among (λ memory. let bad : kinds.DisplayHelp ≡ kinds.OutOfMemory = sym help.0 ∙ memory in absurd cc) in
+            without_run (inl (help.1, inl (subst (λ (k : ErrorKind). IsAmong k (faults_of words)) help.0 there))) there
+        | inr rest ↦ elim rest [
+          | inl version ↦
+              let there = among (λ memory. let bad : kinds.DisplayVersion ≡ kinds.OutOfMemory = sym version.0 ∙ memory in absurd cc) in
+              without_run (inl (version.1, inr (subst (λ (k : ErrorKind). IsAmong k (faults_of words)) version.0 there))) there
+          | inr fault ↦ without_run (inr (inl (fault.3, (kind_of e, among fault.0, fault.1, fault.2)))) (among fault.0)
+        ]
       ]
     ]
       where
@@ -84,7 +90,7 @@ module _ {W : Type 0} (contents : W → Option (List ℕ)) where
         no_run : IsAmong (kind_of e) (faults_of words) → AsksRun words → ⊥
         no_run there run = subst (λ (k : Kinds). IsAmong (kind_of e) k) run there
 
-        without_run : (((status ≡ 0) × AsksHelp words) ⊎ ((status ≡ 2) × IsRefused words) ⊎ (status ≡ 3) ⊎ (AsksRun words × IsCheckStatus status))
+        without_run : (((status ≡ 0) × (AsksHelp words ⊎ AsksVersion words)) ⊎ ((status ≡ 2) × IsRefused words) ⊎ (status ≡ 3) ⊎ (AsksRun words × IsCheckStatus status))
             → IsAmong (kind_of e) (faults_of words) → Whole
         without_run is there = record {
           asked = is;

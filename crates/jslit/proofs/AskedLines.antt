@@ -39,6 +39,16 @@ with_none first is_out none alone = rw (none, alone) refl
 pub asked_alone : (words : List Text) → fault_of jslit_command words ≡ [] → is_excluded (matches_of jslit_command words) ≡ false → faults_of words ≡ []
 asked_alone words none alone = with_none (fault_of jslit_command words) (is_excluded (matches_of jslit_command words)) none alone
 
+-- where the command has none, a schedule with a flag of a report is the fault
+with_conflict : (first : Kinds) (is_out : Bool) (k : ErrorKind) → first ≡ [] → is_out ≡ true → k ≡ kinds.ArgumentConflict
+    → IsAmong k (or_else first (if is_out then kinds.ArgumentConflict ∷ [] else []))
+with_conflict first is_out k none out is = rw (none, out) (inl is)
+
+pub excluded_by : (words : List Text) (e : Error) → fault_of jslit_command words ≡ [] → is_excluded (matches_of jslit_command words) ≡ true
+    → kind_of e ≡ kinds.ArgumentConflict → HasKind (faults_of words) e
+excluded_by words e none out is =
+    inr (with_conflict (fault_of jslit_command words) (is_excluded (matches_of jslit_command words)) (kind_of e) none out is)
+
 -- whether there is one, told of the texts behind references
 pub some_of : (read : Option (Bor Text)) (text : Option Text) (b : Bool) → option_map (λ s. s.now) read ≡ text → b ≡ is_some read → b ≡ is_some text
 some_of None text b is some = rw (← is) some

@@ -1,21 +1,26 @@
 -- The sources of a choice, taken one after the other by its number.
-use Rattle.std.proofs.Common.{◌≡◌, ℕ, ◌+◌, ◌-◌, ◌*◌, ◌/◌, ◌<◌, ◌≤◌, ⊎_elim, List, [], ◌∷◌, ◌++◌, length, take, drop, Some, refl, sym, ap, subst, ◌∙◌, arith}
+use Rattle.std.proofs.Common.{◌≡◌, ℕ, ◌+◌, ◌-◌, ◌*◌, ◌/◌, ◌<◌, ◌≤◌, ⊎_elim, List, [], ◌∷◌, ◌++◌, length, map, take, drop, Some, refl, sym, ap, subst, ◌∙◌, arith}
 use Rattle.std.proofs.lemmas.Bool.{cases_lt}
 use Rattle.std.specs.Prelude.{All, slice_get}
 use Rattle.std.specs.List.{flat_map}
-use Rattle.std.proofs.lemmas.List.{length_push, take_all, take_at}
+use Rattle.std.proofs.lemmas.List.{drop_more, length_push, take_all, take_at}
 use Rattle.std.proofs.lemmas.List.Elements.{All-take, All-drop}
 use Rattle.std.proofs.lemmas.Nat.{div_below}
 use Rattle.lit_read.specs.Syntax.{Litmus}
+use Rattle.lit_paths.specs.declared.event.Event.{Event}
 use Rattle.lit_paths.specs.ByteReads.{byte_reads, byte_read_at}
 use Rattle.lit_paths.specs.Choice.{Choice, candidates_of, choices_on, combinations_of}
 use Rattle.lit_paths.specs.Path.{Path}
-use Rattle.lit_paths.specs.Numbers.{AreNumbered, IsBegunBy, NumbersChoices, ways_from}
+use Rattle.lit_paths.specs.Numbers.{AreNumbered, IsBegunBy, NumbersChoices, length_product, ways_from}
 use Rattle.lit_paths.specs.Plan.{HasSources, IsOfCombination, choices_before, events_in}
-use Rattle.lit_search.proofs.PlaceLemmas.{ways_split}
 use Rattle.jslit.specs.declared.page.sourcing.Row.{Row}
 use Rattle.jslit.specs.Internal.Sourcing.{IsIn, IsRow}
 use Rattle.jslit.proofs.EntryFacts.{sources_known}
+
+-- the ways to go on from a byte read, by its candidates
+ways_split : (events : List Event) (k : ℕ) → k < length (byte_reads events)
+    → ways_from events k ≡ length (candidates_of events (byte_read_at events k)) * ways_from events (k + 1)
+ways_split events k inside = ap (λ (rs : List (ℕ × ℕ)). length_product (map (candidates_of events) rs)) (drop_more (byte_reads events) k (0, 0) inside)
 
 -- ---- the source of the next byte read
 module _ (t : Litmus) (c n : ℕ) (given : List ℕ) (row : Row) (is : IsRow t c given row) (inside : IsIn n row) (later : ℕ) (counts : later ≡ ways_from (events_in t c) (length given + 1)) (some : 1 ≤ later) where

@@ -7,7 +7,7 @@ use Rattle.jslit.specs.Answer.{HasGrown, HasGrownRefusal, HasGrownSome, IsAnswer
 use Rattle.jslit.specs.Counted.{device_of, failures_of}
 use Rattle.jslit.specs.Devices.{OfToldText}
 use Rattle.jslit.specs.InterleavingAnswer.{IsInterleavingOn, IsScheduleFaultOn}
-use Rattle.jslit.specs.Words.{AsksHelp, AsksRun, IsRefused, file_in, quick_in, schedule_in}
+use Rattle.jslit.specs.Words.{AsksHelp, AsksRun, AsksVersion, IsRefused, file_in, quick_in, schedule_in}
 
 -- the answer is the outcome of the schedule where there is one, and else the report
 abbrev pub IsAnswerBy : (quick : Bool) → Option Text → (text answer : List ℕ) → Type 0
@@ -34,11 +34,12 @@ pub record HasServed {W : Type 0} (contents : W → Option (List ℕ)) (told : O
       ⊎ OfToldText told (λ text. HasGrownSome (IsAnswerBy quick schedule text) (contents (device_of old)) (contents (device_of new)))
   pub unwritten : input_failed → (status ≡ 4) × (new ≡ old)
 
--- What the program comes to: help where the words ask for it, the status 2 where they are refused, 3 where memory ran out,
+-- What the program comes to: help or the version where the words ask for it, the status 2 where they are refused, 3 where memory ran out,
 -- and else a run on what the input tells, or on a file, of whose bytes nothing is known; then the input is as it was.
 pub record HasAnswered {R W : Type 0} (remaining : R → Option (List ℕ)) (contents : W → Option (List ℕ)) (words : List Text) (status : ℕ)
     (old_input new_input : Counted R) (old new : Counted W) : Type 0 where
-  pub asked : ((status ≡ 0) × AsksHelp words) ⊎ ((status ≡ 2) × IsRefused words) ⊎ (status ≡ 3) ⊎ (AsksRun words × IsCheckStatus status)
+  pub asked : ((status ≡ 0) × (AsksHelp words ⊎ AsksVersion words)) ⊎ ((status ≡ 2) × IsRefused words) ⊎ (status ≡ 3)
+      ⊎ (AsksRun words × IsCheckStatus status)
   pub on_input : AsksRun words → file_in words ≡ None
       → HasServed contents (remaining (device_of old_input)) (failures_of old_input < failures_of new_input) (quick_in words)
       (schedule_in words) status old new

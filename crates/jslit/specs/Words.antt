@@ -1,8 +1,10 @@
 -- What the words of the command line ask for, as `clap` reads them.
-use Rattle.std.specs.Prelude.{◌≡◌, ◌≢◌, ◌&&◌, ◌||◌, ℕ, Bool, false, List, [], ◌∷◌, Option, Some, is_some, option_map, if◌then◌else◌, codes}
+use Rattle.std.specs.Prelude.{◌≡◌, ◌≢◌, ◌&&◌, ◌||◌, ℕ, Bool, true, false, List, [], ◌∷◌}
+use Rattle.std.specs.Prelude.{Option, Some, is_some, option_map, if◌then◌else◌, codes}
 use Rattle.std.specs.Option.{option_map_or}
 use Rattle.std.specs.Str.{bytes_eq}
 use Rattle.clap.specs.Words.{App, IsAmong, Kinds, Row, Rule, Text, fault_of, first_of, matches_of, new_app, new_rule, with_rule}
+use Rattle.clap.specs.Simple.{on_top}
 use Rattle.clap.specs.Kinds.{or_else}
 use Rattle.clap.specs.declared.builder.action.ArgAction.TheVariants.{Set, SetTrue}
 use Rattle.clap.specs.declared.builder.value_parser.ValueParser.TheVariants as parsers
@@ -24,10 +26,13 @@ number_flag name most = record (valued_flag name) { parser = Some (parsers.Unsig
 abbrev pub file_argument : Rule
 file_argument = record (new_rule (codes "file")) { value_names = 1; action = Some Set }
 
--- the command, with all that it takes
+-- the command, with a version and all that it takes
+abbrev pub with_version : App → App
+with_version a = on_top (λ s. record s { has_version = true }) a
+
 abbrev pub jslit_command : App
 jslit_command =
-    with_rule (with_rule (with_rule (with_rule (with_rule (new_app (codes "jslit"))
+    with_rule (with_rule (with_rule (with_rule (with_rule (with_version (new_app (codes "jslit")))
     (number_flag (codes "workers") WORKER_LIMIT)) (number_flag (codes "cut") CUT_LIMIT)) (bare_flag (codes "quick")))
     (valued_flag (codes "schedule"))) file_argument
 
@@ -52,7 +57,7 @@ schedule_in words = first_of (codes "schedule") (matches_of jslit_command words)
 abbrev pub file_in : List Text → Option Text
 file_in words = first_of (codes "file") (matches_of jslit_command words)
 
--- what the words are refused for, or answered with help; they ask for a run exactly where that is nothing
+-- what the words are refused for, or answered with help or the version; they ask for a run exactly where that is nothing
 abbrev pub faults_of : List Text → Kinds
 faults_of words =
     or_else (fault_of jslit_command words) (if is_excluded (matches_of jslit_command words) then kinds.ArgumentConflict ∷ [] else [])
@@ -60,11 +65,14 @@ faults_of words =
 abbrev pub AsksHelp : List Text → Type 0
 AsksHelp words = IsAmong kinds.DisplayHelp (faults_of words)
 
+abbrev pub AsksVersion : List Text → Type 0
+AsksVersion words = IsAmong kinds.DisplayVersion (faults_of words)
+
 abbrev pub AsksRun : List Text → Type 0
 AsksRun words = faults_of words ≡ []
 
 abbrev pub IsRefused : List Text → Type 0
-IsRefused words = (kind : ErrorKind) × IsAmong kind (faults_of words) × (kind ≢ kinds.DisplayHelp)
+IsRefused words = (kind : ErrorKind) × IsAmong kind (faults_of words) × (kind ≢ kinds.DisplayHelp) × (kind ≢ kinds.DisplayVersion)
 
 -- the line is that of these words
 pub record IsAsked (words : List Text) (line : Line) : Type 0 where

@@ -1,6 +1,7 @@
 //! The program: what it prints, and its status.
 
 pub(crate) mod asked_line;
+pub(crate) mod version;
 pub(crate) mod words;
 
 ghost use Rattle.std.specs.Prelude.{◌≡◌, ◌≢◌, ◌⊎◌, ◌<◌, ◌^◌, ◌-◌, false, map, option_map, IfErr, OnOk};
@@ -33,7 +34,7 @@ use std::thread::Threads;
 use std::{fs, io};
 
 /// Does what the words ask for: checks the litmus text of the file that they name, or else of the input, carries it out
-/// in the turns that they name, or prints the help. Gives the status: 0 for what was asked for, 1 for a text, test or
+/// in the turns that they name, or prints the help or the version. Gives the status: 0 for what was asked for, 1 for a text, test or
 /// schedule that is refused, 2 for a fault of the words, 3 where memory ran out, 4 for an input or output that failed.
 pub fn program<'a, T: Threads + Sync + Files, S: AsStr, R: Read, W: Write, E: Write>(
     rt: &T,
@@ -293,14 +294,14 @@ fn say<W: Write, E: Write>(output: &mut Counted<W>, errors: &mut E, fault: RunFa
     }
 }
 
-/// Prints what `clap` answers to words that ask for no run: the help, or what is wrong with them. Gives the status.
+/// Prints what `clap` answers to words that ask for no run: the help, the version, or what is wrong with them. Gives the status.
 fn explain<W: Write, E: Write>(output: &mut Counted<W>, errors: &mut E, error: &Error) -> u8
     ensures status { IsExplained (kind_of error.now) result }
     ensures kept { result ≢ 0 → output.new ≡ output.old }
 {
     match error.kind() {
         ErrorKind::OutOfMemory => say(output, errors, RunFault::OutOfMemory),
-        ErrorKind::DisplayHelp => {
+        ErrorKind::DisplayHelp | ErrorKind::DisplayVersion => {
             let _ = write!(output, "{error}");
             let _ = output.flush();
             0

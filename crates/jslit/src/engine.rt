@@ -24,8 +24,8 @@ use std::thread::Threads;
 pub struct Options {
     /// How many workers search: 1 to `WORKER_LIMIT` of `lit_share`, 16.
     pub workers: usize,
-    /// How many choices a piece of the work has at the least: 1 to `CUT_LIMIT` of `lit_share`, 2^48. There are at most
-    /// 1,024 pieces, 64 for a worker alone, and one for its quick report.
+    /// How many choices a piece of the work has at the least: 1 to `CUT_LIMIT` of `lit_share`, 2^48. A worker alone has one
+    /// piece, two to four have at most 16, and more at most 64.
     pub cut: u64,
     /// Whether the report is the quick one: of each class of outcomes the first choice alone.
     pub quick: bool,

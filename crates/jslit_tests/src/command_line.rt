@@ -21,6 +21,7 @@ Options:
       --quick            Report only the first choice that meets the condition and the first that does not
       --schedule <TEXT>  Carry the test out in turns, by the names of agents, such as A,B,A, and print its outcome
   -h, --help             Print help
+  -V, --version          Print version
 
 Exit status:
   0  a report, or the outcome of a schedule, was printed
@@ -109,6 +110,13 @@ For more information, try '--help'.
 fn help(rt: HostRuntime) -> Result<(), Fail> {
     answers(&rt, &["jslit", "--help"], b"", 0, HELP.as_bytes(), "")?;
     answers(&rt, &["jslit", "-h"], b"", 0, HELP.as_bytes(), "")
+}
+
+#[test]
+fn version(rt: HostRuntime) -> Result<(), Fail> {
+    let line = b"jslit 0.1.0\nrattle-kit-13b logic dac8208d650f15bf\n";
+    answers(&rt, &["jslit", "--version"], b"", 0, line, "")?;
+    answers(&rt, &["jslit", "-V", "no/such.lit"], b"", 0, line, "")
 }
 
 #[test]

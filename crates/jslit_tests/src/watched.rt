@@ -135,7 +135,7 @@ fn as_many_workers_as_told(rt: HostRuntime) -> Result<(), Fail> {
 fn pieces_as_told(rt: HostRuntime) -> Result<(), Fail> {
     enters(&rt, 2, 8, false, 2, 0b11)?;
     enters(&rt, 2, 15, true, 2, 0b11)?;
-    enters(&rt, 1, 1, false, CHOICES, 0b1)?;
-    enters(&rt, 1, 5, false, 4, 0b1)?;
+    enters(&rt, 1, 1, false, 1, 0b1)?;
+    enters(&rt, 1, 5, false, 1, 0b1)?;
     enters(&rt, 1, 1, true, 1, 0b1)
 }

@@ -1,11 +1,12 @@
 //! The calls that can be refused memory, each made once more where it is.
 
-ghost use Rattle.std.specs.Prelude.{◌≡◌, ◌<◌, ◌≤◌, length, IfOk};
+ghost use Rattle.std.specs.Prelude.{◌≡◌, ◌<◌, ◌≤◌, length, IfOk, OnOk};
+ghost use Rattle.lit_paths.specs.Choice.{choices_of};
 ghost use Rattle.lit_share.specs.declared.limits.TheConstants.{WORKER_LIMIT};
 
 use lit_paths::{Plan, plan};
 use lit_read::{Test, read, show};
-use lit_search::{Example, Found};
+use lit_search::{Collector, Example, Found};
 use lit_share::{OpenGate, Quick, quick, search};
 use std::alloc::{AllocError, Global};
 use std::io::{Eprint, Print};
@@ -90,6 +91,30 @@ fn asked<R: Threads + Sync + Eprint>(
     }
 }
 
+/// Takes a range of choices. A refused collector is as it was, so it takes the range again.
+fn take<R: Eprint>(rt: &R, collector: &mut Collector<'_>, from: u64, to: u64) -> Result<(), Fail>
+    requires follows { collector.old.end ≤ from }
+    requires order { from ≤ to }
+    requires known { to ≤ length (choices_of collector.old.test) }
+    ensures test { OnOk result (collector.new.test ≡ collector.old.test) }
+    ensures end { OnOk result (collector.new.end ≡ to) }
+{
+    if let Err(fault) = collector.take(from, to) {
+        eprintln!(rt; "take: {fault}")?;
+        collector.take(from, to)?;
+    }
+    Ok(())
+}
+
+/// The report of all choices, which one collector takes in two ranges.
+fn collected<R: Eprint>(rt: &R, alloc: Global, plan: &Plan<'_>) -> Result<Found, Fail> {
+    let total = plan.total();
+    let mut collector = Collector::new(alloc, &*plan);
+    take(rt, &mut collector, 0, total / 2)?;
+    take(rt, &mut collector, total / 2, total)?;
+    Ok(collector.into_found()?)
+}
+
 /// Prints each outcome with its example, and whether there is a data race.
 fn print_found<R: Print>(rt: &R, found: &Found) -> io::Result<()> {
     for place in 0..found.len() {
@@ -117,7 +142,7 @@ fn print_first<R: Print>(rt: &R, name: &str, example: Option<Example>) -> io::Re
     }
 }
 
-/// Searches the choices of a plan by so many workers, a choice a piece, and prints what is found.
+/// Searches the choices of a plan by so many workers, a choice a piece, and by one collector, and prints what is found.
 fn search_all<R: Threads + Sync + Eprint + Print>(
     rt: &R,
     alloc: Global,
@@ -129,6 +154,7 @@ fn search_all<R: Threads + Sync + Eprint + Print>(
 {
     let found = searched(rt, alloc, plan, workers)?;
     print_found(rt, &found)?;
+    print_found(rt, &collected(rt, alloc, plan)?)?;
     let answer = asked(rt, alloc, plan, workers)?;
     print_first(rt, "met", answer.met)?;
     Ok(print_first(rt, "unmet", answer.unmet)?)

@@ -158,8 +158,7 @@ fn tells_part(plan: &Plan<'_>) -> bool {
     if plan.combinations() != 4 {
         return false;
     }
-    let mut part = Part::open(&*plan, 3);
-    part.reopen(&*plan, 0);
+    let mut part = Part::open(&*plan, 0);
     if part.reads() != 2 || !give(&mut part, 0) || !part.broken() {
         return false;
     }
@@ -176,7 +175,7 @@ fn tells_part(plan: &Plan<'_>) -> bool {
         return false;
     }
     let related = from.holds(2, 5) && from.holds(4, 3) && !with.holds(5, 2) && before.holds(2, 3);
-    if !part.race() || !part.may_race() {
+    if !part.race() {
         return false;
     }
     related && part.coherent() && part.tear_free() && part.value(2) == 1 && part.value(4) == 1

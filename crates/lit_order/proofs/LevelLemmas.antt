@@ -1,7 +1,5 @@
 -- What is forced with more given, and the orders of what is forced.
-use Rattle.std.proofs.Common.{◌≡◌, ◌↔◌, ℕ, List, Option, None, Some, false, sym, subst}
-use Rattle.std.proofs.lemmas.Bool.{false≢true}
-use Rattle.std.specs.Option.{MatchOption, is_some}
+use Rattle.std.proofs.Common.{◌≡◌, ◌↔◌, ℕ, List, Option, None, Some, sym, subst}
 use Rattle.std.specs.Prelude.{IfNone, IfSome}
 use Rattle.lit_order.specs.Forcing.{IsForced, Given, Through, AfterRead, BeforeSource}
 use Rattle.lit_order.specs.MemoryOrder.{IsLeastOrderOf, IsOrderOf}
@@ -16,11 +14,6 @@ IfSome-to (Some x) to h = to x h
 pub IfNone-to : {X : Type 0} {P Q : Type 0} (o : Option X) → (P → Q) → IfNone o P → IfNone o Q
 IfNone-to None to h = to h
 IfNone-to (Some x) to h = h
-
--- what holds where there is none
-pub of_none : {X N : Type 0} (P : X → Type 0) (o : Option X) → is_some o ≡ false → MatchOption o N P → N
-of_none P None _ h = h
-of_none P (Some x) some _ = absurd (false≢true (sym some))
 
 -- with more pairs and triples more is forced
 pub IsForced-grow : (before more : ℕ → ℕ → Type 0) (forbidden refused : ℕ → ℕ → ℕ → Type 0) → ((a d : ℕ) → before a d → IsForced more refused a d) → ((w r v : ℕ) → forbidden w r v → refused w r v) → (a d : ℕ) → IsForced before forbidden a d → IsForced more refused a d

@@ -1,6 +1,6 @@
 -- Relations on events as tests, and how many pairs they have not.
-use Rattle.std.proofs.Common.{◌≡◌, ◌⊎◌, ℕ, ◌<◌, ◌≤◌, suc, zero, Bool, true, ◌&&◌, ltb, eqb, eq-eqb, eqb-true, arith, inl, inr, subst, sym, ◌∙◌}
-use Rattle.std.proofs.lemmas.Bool.{cases_eq, cases_Bool, ltb-true, lt-ltb, and_parts, and_from, false≢true, false_from_ne_true}
+use Rattle.std.proofs.Common.{◌≡◌, ◌⊎◌, ℕ, ◌<◌, ◌≤◌, Bool, true, ◌&&◌, ltb, eqb, eq-eqb, eqb-true, inl, inr, subst, sym, ◌∙◌}
+use Rattle.std.proofs.lemmas.Bool.{cases_Bool, ltb-true, lt-ltb, and_parts, and_from, false≢true, false_from_ne_true}
 use Rattle.std.specs.Prelude.{slice_index_or}
 use Rattle.std.specs.Int.{bit_at}
 use Rattle.lit_rel.specs.declared.rows.Rows.{Rows}
@@ -48,27 +48,3 @@ pairs_missing-lt rows more len has a d was is =
     subst (λ (n : ℕ). missing (has_pair more) n < missing (has_pair rows) (rows_len rows)) (sym len)
     (missing-lt (has_pair rows) (has_pair more) (rows_len rows) (λ x y h. test-from_Holds more x y (has x y (Holds-from_test rows x y h)))
     a d in_a in_d (false_from_ne_true (has_pair rows a d) (λ h. was (Holds-from_test rows a d h))) (test-from_Holds more a d is))
-
--- a pair of an event and itself is found where it is not so that there is none
-first_loop : (rows : Rows) (n : ℕ) → ((e : ℕ) × Holds rows e e) ⊎ ((e : ℕ) → e < n → ¬ Holds rows e e)
-first_loop rows zero = inr (λ e h. absurd (omega arith))
-first_loop rows (suc n) =
-    elim (holds_or_not rows n n) [
-      | inl here ↦ inl (n, here)
-      | inr not_here ↦ one_more not_here (first_loop rows n)
-    ]
-  where
-    one_more : ¬ Holds rows n n → ((e : ℕ) × Holds rows e e) ⊎ ((e : ℕ) → e < n → ¬ Holds rows e e) → ((e : ℕ) × Holds rows e e) ⊎ ((e : ℕ) → e < suc n → ¬ Holds rows e e)
-    one_more not_here (inl found) = inl found
-    one_more not_here (inr none) =
-        inr (λ e h. elim (cases_eq e n) [
-          | inl same ↦ subst (λ (x : ℕ). ¬ Holds rows x x) (sym same) not_here
-          | inr other ↦ none e (omega arith)
-        ])
-
-pub some_loop : (rows : Rows) → ¬ ((e : ℕ) → ¬ Holds rows e e) → (e : ℕ) × Holds rows e e
-some_loop rows not_none =
-    elim (first_loop rows (rows_len rows)) [
-      | inl found ↦ found
-      | inr none ↦ absurd (not_none (λ e h. none e h.first_known h))
-    ]

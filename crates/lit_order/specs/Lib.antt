@@ -1,6 +1,5 @@
 pub mod MemoryOrder
 pub mod Forcing
 pub mod Forced
-pub mod LeftOut
 pub mod Refuted
 pub mod Internal

@@ -5,21 +5,9 @@ ghost use Rattle.lit_paths.specs.declared.limits.TheConstants.{EVENT_LIMIT};
 ghost use Rattle.lit_rel.specs.Between.{Forbids};
 ghost use Rattle.lit_rel.specs.EventSet.{HasEvent};
 ghost use Rattle.lit_rel.specs.Rows.{rows_len, Holds};
-ghost use Rattle.lit_order.specs.Internal.Contested.{IsContested};
 
 use lit_paths::EVENT_LIMIT;
 use lit_rel::{Between, EventSet, Pair, Rows};
-
-/// The events that may not stand between some source and its read.
-fn contested(between: &Between) -> EventSet
-    ensures { (v : ℕ) → HasEvent result v ↔ IsContested between.now.pairs v }
-{
-    let mut contested = EventSet::new();
-    for pair in between.pairs() {
-        contested = contested.union(pair.others);
-    }
-    contested
-}
 
 /// Whether an event may stand next after the events placed, as far as one pair says: it may stand between the source
 /// and the read, or the source is not placed, or the read is the event itself or is placed too.
@@ -61,10 +49,8 @@ pub(crate) struct Constraints<'a> {
     /// What comes before what, turned round.
     converse: &'a Rows,
     between: &'a Between,
-    contested: EventSet,
     ghost same: { rows_len converse.now ≡ between.now.len },
     ghost few: { between.now.len ≤ EVENT_LIMIT },
-    ghost marked: { (w r v : ℕ) → Forbids between.now w r v → HasEvent contested v },
 }
 
 impl<'a> Constraints<'a> {
@@ -78,11 +64,7 @@ impl<'a> Constraints<'a> {
         ensures pairs { (a e : ℕ) → ComesBefore result a e ↔ Holds converse.now e a }
         ensures triples { (w r v : ℕ) → MayNotStand result w r v ↔ Forbids between.now w r v }
     {
-        Constraints {
-            converse,
-            between,
-            contested: contested(between),
-        }
+        Constraints { converse, between }
     }
 
     /// How many events there are.
@@ -114,7 +96,9 @@ impl<'a> Constraints<'a> {
         ensures { IsTrue result
             ↔ CanStandNext (ComesBefore self.now) (MayNotStand self.now) (HasEvent placed) event }
     {
-        !placed.contains(event) && self.follows(event, placed) && self.allows(event, placed)
+        !placed.contains(event)
+            && self.follows(event, placed)
+            && allows(self.between, event, placed)
     }
 
     /// Whether all that come before an event, below `len()`, are placed.
@@ -123,14 +107,5 @@ impl<'a> Constraints<'a> {
         ensures { IsTrue result ↔ ((a : ℕ) → ComesBefore self.now a event → HasEvent placed a) }
     {
         self.converse.successors(event).is_within(placed)
-    }
-
-    /// Whether an event, below `len()`, may stand next after the events placed, as far as the triples say.
-    fn allows(&self, event: usize, placed: EventSet) -> bool
-        requires { event < constrained_len self.now }
-        ensures { IsTrue result
-            ↔ ((w r : ℕ) → MayNotStand self.now w r event → HasEvent placed w → (r ≡ event) ⊎ HasEvent placed r) }
-    {
-        !self.contested.contains(event) || allows(self.between, event, placed)
     }
 }

@@ -17,11 +17,7 @@ pub(crate) fn closed(before: &Rows) -> Option<Rows>
 {
     let mut rows = *before;
     close(&mut rows);
-    if rows.is_irreflexive() {
-        Some(rows)
-    } else {
-        None
-    }
+    if rows.has_cycle() { None } else { Some(rows) }
 }
 
 /// Puts in what a transitive relation and forbidden triples force, both on the same events. Says no exactly where an
@@ -34,7 +30,7 @@ pub fn force(forced: &mut TwoWayRows, between: &Between) -> bool
     ensures pairs { IsTrue result → (a d : ℕ) →
         Holds forced.new.rows a d ↔ IsForced (Holds forced.old.rows) (Forbids between.now) a d }
 {
-    if !forced.rows.is_irreflexive() {
+    if forced.rows.has_cycle() {
         return false;
     }
     'forcing: while let Some(next) = next_forced(forced, between) {

@@ -8,11 +8,10 @@ ghost use Rattle.lit_rel.specs.Rows.{rows_len, Holds};
 ghost use Rattle.lit_order.specs.declared.forced.Forced.{Forced};
 ghost use Rattle.lit_order.specs.Forced.{AndPair, IsBefore, Refuses, forced_len};
 ghost use Rattle.lit_order.specs.Forcing.{HasChain, IsForced};
-ghost use Rattle.lit_order.specs.LeftOut.{LeftOutSourcesAreNone};
 ghost use Rattle.lit_order.specs.MemoryOrder.{StandsBefore, HaveSameOrders, IsMemoryOrder, IsOrderOf};
 ghost use Rattle.lit_order.specs.Refuted.{IsForcedRound};
 
-use lit_rel::laws::{byte_reads_are_of_events, relations_grow_with_bytes};
+use lit_rel::laws::byte_reads_are_of_events;
 
 /// Each order of a relation and forbidden triples keeps what they force. So where an event is forced before itself, no
 /// order is there.
@@ -37,15 +36,6 @@ pub fn chains_keep_orders()
     ensures extended { (forced : Forced) (a d : ℕ)
         → HaveSameOrders (forced_len forced) (AndPair (IsBefore forced) a d) (HasChain (AndPair (IsBefore forced) a d)) (Refuses forced) }
 {}
-
-/// A source that a part leaves out is that of no byte in a candidate execution that goes on from the part, is coherent and
-/// has a memory-order.
-pub fn left_out_sources_are_none()
-    ensures { LeftOutSourcesAreNone }
-{
-    byte_reads_are_of_events();
-    relations_grow_with_bytes();
-}
 
 /// Where a part forces an event before itself, there is no memory-order of it.
 pub fn forced_rounds_have_no_order()

@@ -8,7 +8,6 @@
 mod constraints;
 mod forced;
 mod forced_finder;
-mod forced_part;
 mod forcing;
 pub mod laws;
 mod order;
@@ -17,7 +16,6 @@ mod triple;
 
 pub use forced::Forced;
 pub use forced_finder::{ForcedFinder, least_of};
-pub use forced_part::ForcedPart;
 pub use forcing::{force, forced_precedence};
 pub use order::{Order, OrderFinder};
 pub use plain_finder::PlainFinder;

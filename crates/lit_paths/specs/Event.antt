@@ -1,6 +1,7 @@
 -- Events and their ranges (ECMA-262, 2024, clause 29, "Memory Model Fundamentals"). An event's number is its place in
 -- the list of all events.
-use Rattle.std.specs.Prelude.{ℕ, ◌+◌, ◌-◌, ◌<◌, ◌≤◌, ◌↔◌, Bool, true, false, None, List, [], ◌∷◌, map, slice_index, slice_index_or}
+use Rattle.std.specs.Prelude.{ℕ, ◌+◌, ◌-◌, ◌<◌, ◌≤◌, ◌↔◌, Bool, true, false, None}
+use Rattle.std.specs.Prelude.{List, [], ◌∷◌, map, slice_index, slice_index_or}
 use Rattle.std.specs.List.{range_with_len}
 use Rattle.lit_paths.specs.declared.event.Kind.{Kind}
 use Rattle.lit_paths.specs.declared.event.Kind.TheVariants.{Read, Write, Modify}

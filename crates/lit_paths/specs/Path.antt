@@ -1,6 +1,7 @@
 -- The paths of an agent through its text, and the events that each makes (ECMA-262, 2024, 25.1.3, 25.4 and 29.2; that a
 -- path may go either way at a decision is this project's own).
-use Rattle.std.specs.Prelude.{◌≡◌, ◌⊎◌, ℕ, ◌+◌, ◌*◌, ◌/◌, ◌%◌, Bool, true, false, not, if◌then◌else◌, Some, List, [], ◌∷◌, ◌++◌, map}
+use Rattle.std.specs.Prelude.{◌≡◌, ◌⊎◌, ℕ, ◌+◌, ◌*◌, ◌/◌, ◌%◌, Bool, true, false, not}
+use Rattle.std.specs.Prelude.{if◌then◌else◌, Some, List, [], ◌∷◌, ◌++◌, map}
 use Rattle.std.specs.List.{flat_map}
 use Rattle.lit_read.specs.Syntax.{Window, window_size, is_data_view, Statement, Statements}
 use Rattle.lit_read.specs.Syntax.{Load, Store, Exchange, CompareExchange, If, End, Then}

@@ -1,6 +1,7 @@
 -- What a plan says of a test: the combinations of paths and the events of each, when a test is refused, and which
 -- combination a choice is of (this project's own).
-use Rattle.std.specs.Prelude.{◌≡◌, ◌≢◌, ◌⊎◌, ℕ, ◌+◌, ◌<◌, ◌≤◌, All, IsSome, List, [], length, map, take, Some, slice_get, slice_index_or}
+use Rattle.std.specs.Prelude.{◌≡◌, ◌≢◌, ◌⊎◌, ℕ, ◌+◌, ◌<◌, ◌≤◌, All, IsSome, List, []}
+use Rattle.std.specs.Prelude.{length, map, take, Some, slice_get, slice_index_or}
 use Rattle.std.specs.List.{flat_map}
 use Rattle.lit_read.specs.Syntax.{Litmus, AreStatementsIn, agent_of}
 use Rattle.lit_paths.specs.declared.limits.TheConstants.{ACCESS_LIMIT, EVENT_LIMIT, BYTE_READ_LIMIT, COMBINATION_LIMIT, CHOICE_LIMIT}

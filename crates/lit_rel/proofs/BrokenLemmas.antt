@@ -1,40 +1,20 @@
--- When a part with one byte more is broken.
-use Rattle.std.proofs.Common.{◌≡◌, ◌↔◌, ◌⊎◌, ℕ, List, inl, inr, refl, sym, ◌∙◌, subst}
+-- When the relations of what is given are broken: with more bytes given, and byte by byte.
+use Rattle.std.proofs.Common.{◌≡◌, ◌↔◌, ℕ, Bool, true, false, not, List, inl, inr, refl, sym, ◌∙◌, subst}
+use Rattle.std.proofs.lemmas.Bool.{cases_eq, false≢true}
+use Rattle.std.specs.Bool.{IsTrue}
 use Rattle.lit_paths.specs.declared.event.Event.{Event}
 use Rattle.lit_paths.specs.Event.{event_at}
-use Rattle.lit_rel.specs.Broken.{BytesStayBroken, IsBrokenBy}
-use Rattle.lit_rel.specs.Coherent.{IsCoherentRead}
+use Rattle.lit_rel.specs.declared.given.SourcedByte.{SourcedByte}
+use Rattle.lit_rel.specs.Broken.{BytesStayBroken, HasIncoherentByteBy, HasTornReadBy, IsBrokenBy}
+use Rattle.lit_rel.specs.Coherent.{HasCoherentReads, IsCoherentRead}
 use Rattle.lit_rel.specs.Growth.{GivenBy}
-use Rattle.lit_rel.specs.HappensBefore.{HappensBeforeBy}
-use Rattle.lit_rel.specs.Internal.Pushed.{CanChange, IsBrokenAnew}
+use Rattle.lit_rel.specs.HappensBefore.{HappensBefore, HappensBeforeBy}
+use Rattle.lit_rel.specs.Internal.Given.{AreFirstReads, HasByteSo, HasTornBytes, IsIncoherent, sources_of}
 use Rattle.lit_rel.specs.ReadsFrom.{ReadsByteFrom}
-use Rattle.lit_rel.specs.Rows.{WithPair}
-use Rattle.lit_rel.specs.TearFree.{CanReadWhole, ReadsWholeBy}
+use Rattle.lit_rel.specs.TearFree.{CanReadWhole, HasTearFreeReads}
 use Rattle.lit_rel.proofs.GrowthLemmas.{Grows-from}
-
--- a read that is coherent by a relation is so by one that holds of the same events
-pub IsCoherentRead-same : (events : List Event) (before other : ℕ → ℕ → Type 0) → ((e d : ℕ) → other e d → before e d) → (r b w : ℕ) → IsCoherentRead events before r b w → IsCoherentRead events other r b w
-IsCoherentRead-same events before other to r b w read = record {
-  not_later = λ later. read.not_later (to r w later);
-  not_hidden = λ v hides. read.not_hidden v record { writes = hides.writes; in_range = hides.in_range; after_source = to w v hides.after_source; before_read = to v r hides.before_read };
-}
-
--- a byte that no end of a new pair concerns stays as it is
-pub IsCoherentRead-kept : (events : List Event) (before : ℕ → ℕ → Type 0) (a d r b w : ℕ) → (CanChange (λ e. before e a ⊎ (e ≡ a)) (λ e. before d e ⊎ (e ≡ d)) r w → ⊥) → IsCoherentRead events before r b w → IsCoherentRead events (WithPair before a d) r b w
-IsCoherentRead-kept events before a d r b w cannot read = record {
-  not_later = λ later. elim later [
-    | inl old ↦ read.not_later old
-    | inr both ↦ cannot (inr (inr (both.0, both.1)))
-  ];
-  not_hidden = λ v hides. elim hides.after_source [
-    | inl after ↦
-        elim hides.before_read [
-          | inl before_read ↦ read.not_hidden v record { writes = hides.writes; in_range = hides.in_range; after_source = after; before_read = before_read }
-          | inr both ↦ cannot (inr (inl both.1))
-        ]
-    | inr both ↦ cannot (inl both.0)
-  ];
-}
+use Rattle.lit_rel.proofs.SameRelations.{coherent_read_by}
+use Rattle.lit_rel.proofs.SourceLemmas.{byte_at, read_at}
 
 -- a broken part stays broken
 pub IsBrokenBy-grows : (events : List Event) (less more : ℕ → ℕ → ℕ → Type 0) → ((r b w : ℕ) → less r b w → more r b w) → IsBrokenBy events less → IsBrokenBy events more
@@ -44,7 +24,7 @@ IsBrokenBy-grows events less more to (inr (inl bad)) = inr (inl record {
   byte = bad.byte;
   source = bad.source;
   is_given = to bad.read bad.byte bad.source bad.is_given;
-  incoherent = λ c. bad.incoherent (IsCoherentRead-same events (HappensBeforeBy events more) (HappensBeforeBy events less) (Grows-from events less more to).happens_before bad.read bad.byte bad.source c);
+  incoherent = λ c. bad.incoherent (coherent_read_by events (HappensBeforeBy events more) (HappensBeforeBy events less) (Grows-from events less more to).happens_before bad.read bad.byte bad.source c);
 })
 IsBrokenBy-grows events less more to (inr (inr torn)) = inr (inr record {
   read = torn.read;
@@ -61,76 +41,101 @@ bytes_stay_broken = record {
   into_lists = λ events less sources to. IsBrokenBy-grows events (GivenBy less) (ReadsByteFrom events sources) to;
 }
 
--- what is given, and what is given with byte b of read r from source w
-module _ (events : List Event) (given more : ℕ → ℕ → ℕ → Type 0) (r b w : ℕ) (adds : (r' b' w' : ℕ) → more r' b' w' ↔ (given r' b' w' ⊎ ((r' ≡ r) × (b' ≡ b) × (w' ≡ w)))) where
-  -- a part that is not broken has coherent bytes
-  coherent_from_whole : (IsBrokenBy events given → ⊥) → (r' b' w' : ℕ) → given r' b' w' → IsCoherentRead events (HappensBeforeBy events given) r' b' w'
-  coherent_from_whole whole r' b' w' h = record {
-    not_later = λ later. whole (inr (inl record { read = r'; byte = b'; source = w'; is_given = h; incoherent = λ c. c.not_later later }));
-    not_hidden = λ v hides. whole (inr (inl record { read = r'; byte = b'; source = w'; is_given = h; incoherent = λ c. c.not_hidden v hides }));
-  }
+module _ (events : List Event) (bytes : List SourcedByte) (first : AreFirstReads events bytes) where
+  abbrev given : ℕ → ℕ → ℕ → Type 0
+  given = ReadsByteFrom events (sources_of bytes)
 
-  whole_more : (r' w' : ℕ) → ReadsWholeBy events more r' w' → ReadsWholeBy events given r' w' ⊎ ((r' ≡ r) × (w' ≡ w) × CanReadWhole (event_at events r) (event_at events w))
-  whole_more r' w' h =
-      elim ((adds r' h.reads.0 w').0 h.reads.1) [
-        | inl old ↦ inl record { reads = (h.reads.0, old); can = h.can }
-        | inr new ↦ inr (new.0, new.2, subst (λ (x : ℕ). CanReadWhole (event_at events x) (event_at events w)) new.0 (subst (λ (x : ℕ). CanReadWhole (event_at events r') (event_at events x)) new.2 h.can))
-      ]
+  -- a byte that is not coherent, by rows that are happens-before
+  pub incoherent-iff : (before : ℕ → ℕ → Type 0) → ((e d : ℕ) → before e d ↔ HappensBefore events (sources_of bytes) e d) → HasByteSo bytes (IsIncoherent events before) ↔ HasIncoherentByteBy events given
+  incoherent-iff before same = (to, from)
+    where
+      to : HasByteSo bytes (IsIncoherent events before) → HasIncoherentByteBy events given
+      to h = record {
+        read = h.byte.read;
+        byte = h.byte.byte;
+        source = h.byte.source;
+        is_given = read_at events bytes first h.place h.byte h.at_place;
+        incoherent = λ c. h.is_so (coherent_read_by events (HappensBefore events (sources_of bytes)) before (λ e d. (same e d).0) h.byte.read h.byte.byte h.byte.source c);
+      }
 
-  whole_old : (r' w' : ℕ) → ReadsWholeBy events given r' w' → ReadsWholeBy events more r' w'
-  whole_old r' w' h = record { reads = (h.reads.0, (adds r' h.reads.0 w').1 (inl h.reads.1)); can = h.can }
+      from : HasIncoherentByteBy events given → HasByteSo bytes (IsIncoherent events before)
+      from bad =
+          let found = byte_at events bytes first bad.read bad.byte bad.source bad.is_given in
+          let p = found.1 in
+          record {
+            place = found.0;
+            byte = p;
+            at_place = found.2;
+            is_so = λ c. bad.incoherent (coherent_read_by events before (HappensBefore events (sources_of bytes)) (λ e d. (same e d).1) bad.read bad.byte bad.source
+                (subst (λ (x : ℕ). IsCoherentRead events before x bad.byte bad.source) found.3.read
+                (subst (λ (x : ℕ). IsCoherentRead events before p.read x bad.source) found.3.byte
+                (subst (λ (x : ℕ). IsCoherentRead events before p.read p.byte x) found.3.source c))));
+          }
 
-  whole_new : CanReadWhole (event_at events r) (event_at events w) → ReadsWholeBy events more r w
-  whole_new can = record { reads = (b, (adds r b w).1 (inr (refl, refl, refl))); can = can }
+  -- two bytes that tear their read
+  pub torn-iff : HasTornBytes events bytes ↔ HasTornReadBy events given
+  torn-iff = (to, from)
+    where
+      to : HasTornBytes events bytes → HasTornReadBy events given
+      to h =
+          let p = h.byte in
+          let q = h.is_so.byte in
+          let t = h.is_so.is_so in
+          record {
+            read = p.read;
+            source = p.source;
+            other = q.source;
+            first = record { reads = (p.byte, read_at events bytes first h.place p h.at_place); can = t.first_whole };
+            second = record {
+              reads = (q.byte, subst (λ (x : ℕ). ReadsByteFrom events (sources_of bytes) x q.byte q.source) (sym t.one_read) (read_at events bytes first h.is_so.place q h.is_so.at_place));
+              can = subst (λ (x : ℕ). CanReadWhole (event_at events x) (event_at events q.source)) (sym t.one_read) t.second_whole;
+            };
+            two_sources = λ same. t.two_sources (sym same);
+          }
 
-  -- where a part was not broken, it is now exactly where the byte, or one that its pair concerns, is not coherent,
-  -- where its pair closes a cycle, or where the byte tears its read
-  module _ (changed : ℕ → ℕ → ℕ → Type 0) (kept : (r' b' w' : ℕ) → given r' b' w' → (changed r' b' w' → ⊥) → IsCoherentRead events (HappensBeforeBy events given) r' b' w' → IsCoherentRead events (HappensBeforeBy events more) r' b' w')
-      (decided : (r' b' w' : ℕ) → changed r' b' w' ⊎ (changed r' b' w' → ⊥))
-      (cycle_through : (e : ℕ) → HappensBeforeBy events more e e → HappensBeforeBy events given e e ⊎ HappensBeforeBy events more r w) where
-    pub IsBrokenBy-more : (IsBrokenBy events given → ⊥) → IsBrokenBy events more → IsBrokenAnew events given more changed r b w
-    IsBrokenBy-more whole (inl cycle) =
-        elim (cycle_through cycle.0 cycle.1) [
-          | inl old ↦ absurd (whole (inl (cycle.0, old)))
-          | inr later ↦ inl (λ read. read.not_later later)
-        ]
-    IsBrokenBy-more whole (inr (inl bad)) =
-        elim ((adds bad.read bad.byte bad.source).0 bad.is_given) [
-          | inl old ↦
-              elim (decided bad.read bad.byte bad.source) [
-                | inl may ↦ inr (inl record { read = bad.read; byte = bad.byte; source = bad.source; was_given = old; can_change = may; incoherent = bad.incoherent })
-                | inr not ↦ absurd (bad.incoherent (kept bad.read bad.byte bad.source old not (coherent_from_whole whole bad.read bad.byte bad.source old)))
-              ]
-          | inr new ↦
-              inl (subst (λ (x : ℕ). IsCoherentRead events (HappensBeforeBy events more) x b w → ⊥) new.0
-              (subst (λ (x : ℕ). IsCoherentRead events (HappensBeforeBy events more) bad.read x w → ⊥) new.1
-              (subst (λ (x : ℕ). IsCoherentRead events (HappensBeforeBy events more) bad.read bad.byte x → ⊥) new.2 bad.incoherent)))
-        ]
-    IsBrokenBy-more whole (inr (inr torn)) =
-        elim (whole_more torn.read torn.source torn.first) [
-          | inl old ↦
-              elim (whole_more torn.read torn.other torn.second) [
-                | inl old' ↦ absurd (whole (inr (inr record { read = torn.read; source = torn.source; other = torn.other; first = old; second = old'; two_sources = torn.two_sources })))
-                | inr new' ↦ inr (inr record {
-                  other = torn.source;
-                  can = new'.2;
-                  before = subst (λ (x : ℕ). ReadsWholeBy events given x torn.source) new'.0 old;
-                  two_sources = λ same. torn.two_sources (new'.1 ∙ sym same);
-                })
-              ]
-          | inr new ↦
-              elim (whole_more torn.read torn.other torn.second) [
-                | inl old' ↦ inr (inr record {
-                  other = torn.other;
-                  can = new.2;
-                  before = subst (λ (x : ℕ). ReadsWholeBy events given x torn.other) new.0 old';
-                  two_sources = λ same. torn.two_sources (same ∙ sym new.1);
-                })
-                | inr new' ↦ absurd (torn.two_sources (new'.1 ∙ sym new.1))
-              ]
-        ]
+      whole : (p : SourcedByte) (r w : ℕ) → p.read ≡ r → p.source ≡ w → CanReadWhole (event_at events r) (event_at events w) → CanReadWhole (event_at events p.read) (event_at events p.source)
+      whole p r w is_read is_source can =
+          subst (λ (x : ℕ). CanReadWhole (event_at events x) (event_at events p.source)) (sym is_read)
+          (subst (λ (x : ℕ). CanReadWhole (event_at events r) (event_at events x)) (sym is_source) can)
 
-    pub IsBrokenBy-anew : IsBrokenAnew events given more changed r b w → IsBrokenBy events more
-    IsBrokenBy-anew (inl bad) = inr (inl record { read = r; byte = b; source = w; is_given = (adds r b w).1 (inr (refl, refl, refl)); incoherent = bad })
-    IsBrokenBy-anew (inr (inl bad)) = inr (inl record { read = bad.read; byte = bad.byte; source = bad.source; is_given = (adds bad.read bad.byte bad.source).1 (inl bad.was_given); incoherent = bad.incoherent })
-    IsBrokenBy-anew (inr (inr torn)) = inr (inr record { read = r; source = w; other = torn.other; first = whole_new torn.can; second = whole_old r torn.other torn.before; two_sources = torn.two_sources })
+      from : HasTornReadBy events given → HasTornBytes events bytes
+      from torn =
+          let one = byte_at events bytes first torn.read torn.first.reads.0 torn.source torn.first.reads.1 in
+          let two = byte_at events bytes first torn.read torn.second.reads.0 torn.other torn.second.reads.1 in
+          record {
+            place = one.0;
+            byte = one.1;
+            at_place = one.2;
+            is_so = record {
+              place = two.0;
+              byte = two.1;
+              at_place = two.2;
+              is_so = record {
+                one_read = one.3.read ∙ sym two.3.read;
+                two_sources = λ same. torn.two_sources (sym two.3.source ∙ sym same ∙ one.3.source);
+                first_whole = whole one.1 torn.read torn.source one.3.read one.3.source torn.first.can;
+                second_whole = whole two.1 torn.read torn.other two.3.read two.3.source torn.second.can;
+              };
+            };
+          }
+
+not_iff : (b : Bool) {P Q : Type 0} → (IsTrue b ↔ P) → (¬ P → Q) → (Q → ¬ P) → IsTrue (not b) ↔ Q
+not_iff true is to from = ((λ h. absurd (false≢true h)), (λ q. absurd (from q (is.0 refl))))
+not_iff false is to from = ((λ _. to (λ p. false≢true (is.1 p))), (λ _. refl))
+
+-- the reads are coherent where no byte is incoherent
+pub coherent_where_none : (events : List Event) (sources : List ℕ) (b : Bool) → (IsTrue b ↔ HasIncoherentByteBy events (ReadsByteFrom events sources)) → IsTrue (not b) ↔ HasCoherentReads events sources
+coherent_where_none events sources b is =
+    not_iff b is
+    (λ none r b w h. record {
+      not_later = λ later. none record { read = r; byte = b; source = w; is_given = h; incoherent = λ c. c.not_later later };
+      not_hidden = λ v hides. none record { read = r; byte = b; source = w; is_given = h; incoherent = λ c. c.not_hidden v hides };
+    })
+    (λ all bad. bad.incoherent (all bad.read bad.byte bad.source bad.is_given))
+
+-- they are tear free where none is torn
+pub tear_free_where_none : (events : List Event) (sources : List ℕ) (b : Bool) → (IsTrue b ↔ HasTornReadBy events (ReadsByteFrom events sources)) → IsTrue (not b) ↔ HasTearFreeReads events sources
+tear_free_where_none events sources b is =
+    not_iff b is
+    (λ none r w v first second. elim (cases_eq v w) [ inl same ↦ same | inr two ↦ absurd (none record { read = r; source = w; other = v; first = first; second = second; two_sources = two }) ])
+    (λ all torn. torn.two_sources (all torn.read torn.source torn.other torn.first torn.second))

@@ -4,7 +4,6 @@ use Rattle.std.proofs.lemmas.Bool.{cases_eq}
 use Rattle.lit_paths.specs.declared.event.Event.{Event}
 use Rattle.lit_rel.specs.HappensBefore.{Chain, HappensBefore, StepBy}
 use Rattle.lit_rel.specs.ReadsFrom.{ReadsByteFrom}
-use Rattle.lit_rel.specs.Rows.{IsTransitive}
 
 -- there is a chain of at least one step
 abbrev pub HasChain : (ℕ → ℕ → Type 0) → ℕ → ℕ → Type 0
@@ -17,14 +16,6 @@ Chain-append step e (k ∷ ms) m ns d p q = (p.0, Chain-append step k ms m ns d 
 
 pub HasChain-joined : (step : ℕ → ℕ → Type 0) (e m d : ℕ) → HasChain step e m → HasChain step m d → HasChain step e d
 HasChain-joined step e m d first second = (first.0 ++ m ∷ second.0, Chain-append step e first.0 m second.0 d first.1 second.1)
-
--- what is so of each event that leads to another is so of the first of a chain
-pub HasChain-first : (step : ℕ → ℕ → Type 0) (P : ℕ → Type 0) → ((e d : ℕ) → step e d → P e) → (e d : ℕ) → HasChain step e d → P e
-HasChain-first step P is e d chain = of_first chain.0 chain.1
-  where
-    of_first : (middles : List ℕ) → Chain step e middles d → P e
-    of_first [] p = is e d p
-    of_first (m ∷ middles) p = is e m p.0
 
 -- What holds has a chain, each step holds, and what leads to a middle below k leads to all that the middle leads to.
 pub record IsClosedBelow (step holds : ℕ → ℕ → Type 0) (k : ℕ) : Type 0 where
@@ -86,14 +77,6 @@ HasChain-from_closed step holds n known c e d = (c.sound e d, λ chain. holds_al
     holds_along e (m ∷ middles) d p =
         let rest = holds_along m middles d p.1 in
         c.through e m d (known m d rest) (c.steps e m p.0) rest
-
--- chains of a transitive relation are what holds
-pub HasChain-from_transitive : (holds : ℕ → ℕ → Type 0) → IsTransitive holds → (e d : ℕ) → holds e d ↔ HasChain holds e d
-HasChain-from_transitive holds through e d = ((λ h. ([], h)), (λ chain. holds_along e chain.0 d chain.1))
-  where
-    holds_along : (e : ℕ) (middles : List ℕ) (d : ℕ) → Chain holds e middles d → holds e d
-    holds_along e [] d p = p
-    holds_along e (m ∷ middles) d p = through e m d p.0 (holds_along m middles d p.1)
 
 -- chains of equal steps
 pub Chain-same : (step other : ℕ → ℕ → Type 0) → ((e d : ℕ) → step e d → other e d) → (e : ℕ) (middles : List ℕ) (d : ℕ) → Chain step e middles d → Chain other e middles d

@@ -57,30 +57,6 @@ module _ {X : Type 0} (P : X → Type 0) (xs : List X) where
         (λ h. elim (more.0 h) [ inl before ↦ put.1 (inl (so_far.1 before)) | inr now ↦ put.1 (inr (is.1 now)) ]),
       )
 
-  -- the same, beside what was put in before the first element
-  pub SomeBelow-put_beside : (init : Type 0) (i : ℕ) (d : X) (old new here : Type 0) → i < length xs → (old ↔ (init ⊎ SomeBelow P xs i)) → (new ↔ (old ⊎ here)) → (here ↔ P (get_or xs i d)) → new ↔ (init ⊎ SomeBelow P xs (i + 1))
-  SomeBelow-put_beside init i d old new here l so_far put is =
-      let more = SomeBelow-more i d l in (
-        (λ h. elim (put.0 h) [
-          | inl before ↦ elim (so_far.0 before) [ inl first ↦ inl first | inr earlier ↦ inr (more.1 (inl earlier)) ]
-          | inr now ↦ inr (more.1 (inr (is.0 now)))
-        ]),
-        (λ h. elim h [
-          | inl first ↦ put.1 (inl (so_far.1 (inl first)))
-          | inr some ↦ elim (more.0 some) [ inl before ↦ put.1 (inl (so_far.1 (inr before))) | inr now ↦ put.1 (inr (is.1 now)) ]
-        ]),
-      )
-
-  pub SomeBelow-skip_beside : (init : Type 0) (i : ℕ) (d : X) (old : Type 0) → i < length xs → (old ↔ (init ⊎ SomeBelow P xs i)) → (P (get_or xs i d) → ⊥) → old ↔ (init ⊎ SomeBelow P xs (i + 1))
-  SomeBelow-skip_beside init i d old l so_far not_here =
-      let more = SomeBelow-more i d l in (
-        (λ h. elim (so_far.0 h) [ inl first ↦ inl first | inr earlier ↦ inr (more.1 (inl earlier)) ]),
-        (λ h. elim h [
-          | inl first ↦ so_far.1 (inl first)
-          | inr some ↦ elim (more.0 some) [ inl before ↦ so_far.1 (inr before) | inr now ↦ absurd (not_here now) ]
-        ]),
-      )
-
   -- what holds of the next holds of one before
   pub SomeBelow-again : (i : ℕ) (d : X) (old : Type 0) → i < length xs → (old ↔ SomeBelow P xs i) → (P (get_or xs i d) → SomeBelow P xs i) → old ↔ SomeBelow P xs (i + 1)
   SomeBelow-again i d old l so_far again =

@@ -52,21 +52,6 @@ module _ (events : List Event) (given more : ℕ → ℕ → ℕ → Type 0) (r 
       back : (e d : ℕ) → StepBy events more e d → StepBy events given e d
       back e d s = elim (step_less e d s) [ inl old ↦ old | inr new ↦ absurd (cannot new.2) ]
 
-  -- where the pair holds already
-  pub happens_before-held : HappensBeforeBy events given w r → (e d : ℕ) → HappensBeforeBy events given e d ↔ HappensBeforeBy events more e d
-  happens_before-held held e d = (old_before e d, λ h. along e h.middles d h.chain)
-    where
-      one : (e d : ℕ) → StepBy events more e d → HappensBeforeBy events given e d
-      one e d s =
-          elim (step_less e d s) [
-            | inl old ↦ record { middles = []; chain = old }
-            | inr new ↦ subst (λ (x : ℕ). HappensBeforeBy events given x d) (sym new.0) (subst (λ (x : ℕ). HappensBeforeBy events given w x) (sym new.1) held)
-          ]
-
-      along : (e : ℕ) (middles : List ℕ) (d : ℕ) → Chain (StepBy events more) e middles d → HappensBeforeBy events given e d
-      along e [] d s = one e d s
-      along e (m ∷ middles) d s = HappensBeforeBy-transitive events given e m d (one e m s.0) (along m middles d s.1)
-
   -- where they do
   pub happens_before-with : CanSynchronize (event_at events w) (event_at events r) → (e d : ℕ) → WithPair (HappensBeforeBy events given) w r e d ↔ HappensBeforeBy events more e d
   happens_before-with can e d = (from, λ h. along e h.middles d h.chain)

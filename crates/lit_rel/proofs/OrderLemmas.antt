@@ -1,7 +1,6 @@
 -- happens-before as rows, with one byte more.
-use Rattle.std.proofs.Common.{◌≡◌, ◌↔◌, ◌⊎◌, ℕ, ◌+◌, ◌<◌, ◌≤◌, List, [], ◌∷◌, ◌++◌, Some, length, suc, take, get_or, inl, inr, sym, ap, ◌∙◌, arith}
-use Rattle.std.proofs.lemmas.List.{length-map, length-take-le}
-use Rattle.std.proofs.lemmas.Option.{slice_get-get_or}
+use Rattle.std.proofs.Common.{◌≡◌, ◌↔◌, ◌⊎◌, ℕ, List, [], ◌∷◌, ◌++◌, Some, length, inl, inr, sym, ap, ◌∙◌, subst}
+use Rattle.std.proofs.lemmas.Option.{same_Some}
 use Rattle.std.specs.List.{slice_get}
 use Rattle.lit_paths.specs.declared.event.Event.{Event}
 use Rattle.lit_paths.specs.ByteReads.{byte_reads}
@@ -9,58 +8,53 @@ use Rattle.lit_paths.specs.Event.{event_at}
 use Rattle.lit_rel.specs.declared.rows.Rows.{Rows}
 use Rattle.lit_rel.specs.declared.given.SourcedByte.{SourcedByte}
 use Rattle.lit_rel.specs.HappensBefore.{HappensBefore}
-use Rattle.lit_rel.specs.Internal.Given.{AreFirstReads, read_of, sources_of}
+use Rattle.lit_rel.specs.Internal.Given.{read_of}
 use Rattle.lit_rel.specs.Internal.Levels.{IsOrder}
 use Rattle.lit_rel.specs.ReadsFrom.{ReadsByteFrom}
 use Rattle.lit_rel.specs.Rows.{Holds, WithPair, rows_len}
 use Rattle.lit_rel.specs.SynchronizesWith.{CanSynchronize}
-use Rattle.lit_paths.proofs.Rising.{slice_get-map-found}
-use Rattle.lit_rel.proofs.EdgeLemmas.{WithPair-same, happens_before-held, happens_before-same, happens_before-with}
-use Rattle.lit_rel.proofs.LevelLemmas.{Holds-decided, ReadsByteFrom-push}
-use Rattle.lit_rel.proofs.SourceLemmas.{read_place, take_more}
+use Rattle.lit_rel.proofs.EdgeLemmas.{WithPair-same, happens_before-same, happens_before-with}
+use Rattle.lit_rel.proofs.PlaceLemmas.{place-left, place-middle, place-push}
+
+-- the next byte read is given its source
+ReadsByteFrom-push : (events : List Event) (sources : List ℕ) (r b w : ℕ) → slice_get (byte_reads events) (length sources) ≡ Some (r, b)
+    → (r' b' w' : ℕ) → ReadsByteFrom events (sources ++ w ∷ []) r' b' w' ↔ (ReadsByteFrom events sources r' b' w' ⊎ ((r' ≡ r) × (b' ≡ b) × (w' ≡ w)))
+ReadsByteFrom-push events sources r b w left r' b' w' = (to, from)
+  where
+    to : ReadsByteFrom events (sources ++ w ∷ []) r' b' w' → ReadsByteFrom events sources r' b' w' ⊎ ((r' ≡ r) × (b' ≡ b) × (w' ≡ w))
+    to h =
+        elim (place-push sources w h.0 w' h.2) [
+          | inl old ↦ inl (h.0, h.1, old.1)
+          | inr last ↦
+              let same : (r, b) ≡ (r', b') = same_Some (r, b) (r', b') (sym left ∙ sym (ap (slice_get (byte_reads events)) last.0) ∙ h.1) in
+              inr (sym (ap (λ (q : ℕ × ℕ). q.0) same), sym (ap (λ (q : ℕ × ℕ). q.1) same), sym last.1)
+        ]
+
+    from : ReadsByteFrom events sources r' b' w' ⊎ ((r' ≡ r) × (b' ≡ b) × (w' ≡ w)) → ReadsByteFrom events (sources ++ w ∷ []) r' b' w'
+    from (inl h) = (h.0, h.1, place-left sources (w ∷ []) h.0 w' h.2)
+    from (inr (same_r, same_b, same_w)) = (
+      length sources,
+      subst (λ (x : ℕ). slice_get (byte_reads events) (length sources) ≡ Some (x, b')) (sym same_r) (subst (λ (y : ℕ). slice_get (byte_reads events) (length sources) ≡ Some (r, y)) (sym same_b) left),
+      place-middle sources [] w ∙ ap Some (sym same_w),
+    )
 
 module _ (events : List Event) (sources : List ℕ) (byte : SourcedByte) (left : slice_get (byte_reads events) (length sources) ≡ Some (read_of byte)) (before : Rows) (is : IsOrder events sources before) where
-  pub given_adds : (r b w : ℕ) → ReadsByteFrom events (sources ++ byte.source ∷ []) r b w ↔ (ReadsByteFrom events sources r b w ⊎ ((r ≡ byte.read) × (b ≡ byte.byte) × (w ≡ byte.source)))
-  given_adds = ReadsByteFrom-push events sources byte.read byte.byte byte.source left
+  adds : (r b w : ℕ) → ReadsByteFrom events (sources ++ byte.source ∷ []) r b w ↔ (ReadsByteFrom events sources r b w ⊎ ((r ≡ byte.read) × (b ≡ byte.byte) × (w ≡ byte.source)))
+  adds = ReadsByteFrom-push events sources byte.read byte.byte byte.source left
 
-  -- where its pair is no new one
-  pub same_order : ((CanSynchronize (event_at events byte.source) (event_at events byte.read) × (Holds before byte.source byte.read → ⊥)) → ⊥) → (e d : ℕ) → HappensBefore events sources e d ↔ HappensBefore events (sources ++ byte.source ∷ []) e d
-  same_order no_pair =
-      elim (Holds-decided before byte.source byte.read) [
-        | inl held ↦ happens_before-held events (ReadsByteFrom events sources) (ReadsByteFrom events (sources ++ byte.source ∷ [])) byte.read byte.byte byte.source given_adds ((is.pairs byte.source byte.read).0 held)
-        | inr not_held ↦ happens_before-same events (ReadsByteFrom events sources) (ReadsByteFrom events (sources ++ byte.source ∷ [])) byte.read byte.byte byte.source given_adds (λ can. no_pair (can, not_held))
-      ]
+  -- where its source and its read don't synchronize
+  pub IsOrder-alone : (CanSynchronize (event_at events byte.source) (event_at events byte.read) → ⊥) → IsOrder events (sources ++ byte.source ∷ []) before
+  IsOrder-alone cannot =
+      let same = happens_before-same events (ReadsByteFrom events sources) (ReadsByteFrom events (sources ++ byte.source ∷ [])) byte.read byte.byte byte.source adds cannot in
+      record { len = is.len; pairs = λ e d. (λ h. (same e d).0 ((is.pairs e d).0 h), λ h. (is.pairs e d).1 ((same e d).1 h)) }
 
-  pub IsOrder-alone : ((CanSynchronize (event_at events byte.source) (event_at events byte.read) × (Holds before byte.source byte.read → ⊥)) → ⊥) → IsOrder events (sources ++ byte.source ∷ []) before
-  IsOrder-alone no_pair = record {
-    len = is.len;
-    pairs = λ e d. (λ h. (same_order no_pair e d).0 ((is.pairs e d).0 h), λ h. (is.pairs e d).1 ((same_order no_pair e d).1 h));
-  }
-
-  -- where it is
-  pub order_with : CanSynchronize (event_at events byte.source) (event_at events byte.read) → (e d : ℕ) → WithPair (HappensBefore events sources) byte.source byte.read e d ↔ HappensBefore events (sources ++ byte.source ∷ []) e d
-  order_with = happens_before-with events (ReadsByteFrom events sources) (ReadsByteFrom events (sources ++ byte.source ∷ [])) byte.read byte.byte byte.source given_adds
-
+  -- where they do
   pub IsOrder-with_pair : (now : Rows) → CanSynchronize (event_at events byte.source) (event_at events byte.read) → rows_len now ≡ rows_len before → ((e d : ℕ) → Holds now e d ↔ WithPair (Holds before) byte.source byte.read e d) → IsOrder events (sources ++ byte.source ∷ []) now
-  IsOrder-with_pair now can len closed = record {
-    len = len ∙ is.len;
-    pairs = λ e d.
-        let with = WithPair-same (Holds before) (HappensBefore events sources) byte.source byte.read is.pairs e d in
-        (λ h. (order_with can e d).0 (with.0 ((closed e d).0 h)), λ h. (closed e d).1 (with.1 ((order_with can e d).1 h)));
-  }
-
--- the next of some bytes
-module _ (events : List Event) (bytes : List SourcedByte) (first : AreFirstReads events bytes) (i : ℕ) (d : SourcedByte) (within : i < length bytes) where
-  at_place : slice_get bytes i ≡ Some (get_or bytes i d)
-  at_place = slice_get-get_or bytes i d within
-
-  pub next_left : slice_get (byte_reads events) (length (take i (sources_of bytes))) ≡ Some (read_of (get_or bytes i d))
-  next_left =
-      let long : length (sources_of bytes) ≡ length bytes = length-map bytes (λ (b : SourcedByte). b.source) in
-      let few : i ≤ length (sources_of bytes) = omega arith in
-      ap (slice_get (byte_reads events)) (length-take-le i (sources_of bytes) few) ∙ read_place events bytes first i (get_or bytes i d) at_place
-
-  pub next_sources : take i (sources_of bytes) ++ (get_or bytes i d).source ∷ [] ≡ take (i + 1) (sources_of bytes)
-  next_sources =
-      let next : suc i ≡ i + 1 = omega arith in
-      sym (take_more (sources_of bytes) i (get_or bytes i d).source (slice_get-map-found (λ (b : SourcedByte). b.source) bytes i (get_or bytes i d) at_place)) ∙ ap (λ (n : ℕ). take n (sources_of bytes)) next
+  IsOrder-with_pair now can len closed =
+      let same = happens_before-with events (ReadsByteFrom events sources) (ReadsByteFrom events (sources ++ byte.source ∷ [])) byte.read byte.byte byte.source adds can in
+      record {
+        len = len ∙ is.len;
+        pairs = λ e d.
+            let with = WithPair-same (Holds before) (HappensBefore events sources) byte.source byte.read is.pairs e d in
+            (λ h. (same e d).0 (with.0 ((closed e d).0 h)), λ h. (closed e d).1 (with.1 ((same e d).1 h)));
+      }

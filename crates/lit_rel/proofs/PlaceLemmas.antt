@@ -5,12 +5,6 @@ use Rattle.std.proofs.lemmas.List.{take_at}
 use Rattle.std.proofs.lemmas.Option.{none-some, same_Some}
 use Rattle.std.specs.List.{refill, slice_get}
 
--- each place in a list has one of its elements
-pub element_at : {X : Type 0} (xs : List X) (n : ℕ) → n < length xs → (x : X) × (slice_get xs n ≡ Some x)
-element_at [] n within = absurd (omega arith)
-element_at (x ∷ xs) zero within = (x, refl)
-element_at (x ∷ xs) (suc n) within = element_at xs n (omega arith)
-
 pub place-left : {X : Type 0} (xs ys : List X) (k : ℕ) (e : X) → slice_get xs k ≡ Some e → slice_get (xs ++ ys) k ≡ Some e
 place-left [] ys k e h = absurd (none-some e h)
 place-left (x ∷ xs) ys zero e h = h

@@ -1,7 +1,7 @@
 -- What is asked of reads, and what is forbidden, by two relations that hold of the same events.
 use Rattle.std.proofs.Common.{◌↔◌, ℕ, List, inl, inr}
 use Rattle.lit_paths.specs.declared.event.Event.{Event}
-use Rattle.lit_rel.specs.Coherent.{AreCoherentReads, IsCoherentRead}
+use Rattle.lit_rel.specs.Coherent.{IsCoherentRead}
 use Rattle.lit_rel.specs.Forbidden.{IsForbiddenBetween, IsForbiddenTriple}
 
 pub between_by : (events : List Event) (before other : ℕ → ℕ → Type 0) → ((e d : ℕ) → before e d → other e d) → (w r v : ℕ) → IsForbiddenBetween events before w r v → IsForbiddenBetween events other w r v
@@ -19,9 +19,6 @@ between_by events before other to w r v b = record {
   ];
 }
 
-pub IsForbiddenBetween-same : (events : List Event) (before other : ℕ → ℕ → Type 0) → ((e d : ℕ) → before e d ↔ other e d) → (w r v : ℕ) → IsForbiddenBetween events before w r v ↔ IsForbiddenBetween events other w r v
-IsForbiddenBetween-same events before other same w r v = (between_by events before other (λ e d. (same e d).0) w r v, between_by events other before (λ e d. (same e d).1) w r v)
-
 pub coherent_read_by : (events : List Event) (before other : ℕ → ℕ → Type 0) → ((e d : ℕ) → other e d → before e d) → (r b w : ℕ) → IsCoherentRead events before r b w → IsCoherentRead events other r b w
 coherent_read_by events before other to r b w read = record {
   not_later = λ later. read.not_later (to r w later);
@@ -29,15 +26,9 @@ coherent_read_by events before other to r b w read = record {
 }
 
 module _ (events : List Event) (given : ℕ → ℕ → ℕ → Type 0) where
-  coherent_by : (before other : ℕ → ℕ → Type 0) → ((e d : ℕ) → other e d → before e d) → AreCoherentReads events given before → AreCoherentReads events given other
-  coherent_by before other to has r b w h = coherent_read_by events before other to r b w (has r b w h)
-
   forbidden_by : (before other : ℕ → ℕ → Type 0) → ((e d : ℕ) → before e d → other e d) → (w r v : ℕ) → IsForbiddenTriple events given before w r v → IsForbiddenTriple events given other w r v
   forbidden_by before other to w r v f = record { reads = f.reads; between = between_by events before other to w r v f.between }
 
   module _ (before other : ℕ → ℕ → Type 0) (same : (e d : ℕ) → before e d ↔ other e d) where
-    pub AreCoherentReads-same : AreCoherentReads events given before ↔ AreCoherentReads events given other
-    AreCoherentReads-same = (coherent_by before other (λ e d. (same e d).1), coherent_by other before (λ e d. (same e d).0))
-
     pub IsForbiddenTriple-same : (w r v : ℕ) → IsForbiddenTriple events given before w r v ↔ IsForbiddenTriple events given other w r v
     IsForbiddenTriple-same w r v = (forbidden_by before other (λ e d. (same e d).0) w r v, forbidden_by other before (λ e d. (same e d).1) w r v)

@@ -157,29 +157,6 @@ HasBit-ones count k within =
       (λ below. subst (λ (w : ℕ). HasBit (w - 1) k) (sym shifted) (bit_at_ones count k below)),
     )
 
--- a word moved on by one bit
-HasBit-double : (word k : ℕ) → HasBit (word * 2) k ↔ ((0 < k) × HasBit word (k - 1))
-HasBit-double word zero =
-    let low : bit_at (word * 2) 0 ≡ 0 = bit_at_lowest (word * 2) ∙ omega arith in (
-      (λ h. absurd (not_both (bit_at (word * 2) 0) h low)),
-      (λ h. absurd (let pos : 0 < 0 = h.0 in omega (arith, pos))),
-    )
-HasBit-double word (suc k) =
-    let half : word * 2 / 2 ≡ word = omega arith in
-    let same : bit_at (word * 2) (suc k) ≡ bit_at word k = bit_at-suc (word * 2) k ∙ ap (λ (w : ℕ). bit_at w k) half in
-    let back : suc k - 1 ≡ k = omega arith in (
-      (λ h. (omega arith, subst (HasBit word) (sym back) (sym same ∙ h))),
-      (λ h. same ∙ subst (HasBit word) back h.1),
-    )
-
-HasBit-cut : (word k : ℕ) → k < 64 → bit_at (word % 2 ^ 64) k ≡ bit_at word k
-HasBit-cut word k within = sym (bit_at_cat_low (word / 2 ^ 64) 64 (word % 2 ^ 64) k within) ∙ ap (λ (w : ℕ). bit_at w k) (div-add-mod' word (2 ^ 64))
-
-pub HasBit-next : (word k : ℕ) → k < 64 → HasBit (word * 2 ^ 1 % 2 ^ 64) k ↔ ((0 < k) × HasBit word (k - 1))
-HasBit-next word k within =
-    let cut : bit_at (word * 2 ^ 1 % 2 ^ 64) k ≡ bit_at (word * 2) k = HasBit-cut (word * 2 ^ 1) k within in
-    let double = HasBit-double word k in ((λ h. double.0 (sym cut ∙ h)), (λ h. cut ∙ double.1 h))
-
 -- the one word has no bit that the other lacks
 pub within_from_or : (a b k : ℕ) → bit_or a b ≡ b → HasBit a k → HasBit b k
 within_from_or a b k e h = subst (λ (w : ℕ). HasBit w k) e ((HasBit-or a b k).1 (inl h))

@@ -1,13 +1,11 @@
 -- races and data races (ECMA-262, 2024, 29.8 and 29.9), by a relation that orders events, happens-before, and one of
 -- reads and their sources, reads-from.
-use Rattle.std.specs.Prelude.{◌≡◌, ◌≢◌, ◌⊎◌, ℕ, ◌<◌, ◌≤◌, IsTrue, List, ◌++◌, length, Some, slice_get}
+use Rattle.std.specs.Prelude.{◌≢◌, ◌⊎◌, ℕ, ◌<◌, IsTrue, List, length}
 use Rattle.lit_paths.specs.declared.event.Order3.TheVariants.{SeqCst}
 use Rattle.lit_paths.specs.declared.event.Event.{Event}
-use Rattle.lit_paths.specs.ByteReads.{byte_reads, IsCandidate}
 use Rattle.lit_paths.specs.Event.{HasSameRange, SharesByte, does_write, event_at}
-use Rattle.lit_paths.specs.Numbers.{AreGiven}
-use Rattle.lit_rel.specs.HappensBefore.{HappensBefore, HappensBeforeBy}
-use Rattle.lit_rel.specs.ReadsFrom.{ReadsByteFrom, ReadsFrom, ReadsFromBy}
+use Rattle.lit_rel.specs.HappensBefore.{HappensBeforeBy}
+use Rattle.lit_rel.specs.ReadsFrom.{ReadsByteFrom, ReadsFromBy}
 
 -- both write, and some byte is in both ranges; also events that make the block write
 pub record WriteOneByte (e d : Event) : Type 0 where
@@ -49,26 +47,3 @@ HasDataRaceBy events given = HasDataRaceOf events (HappensBeforeBy events given)
 
 abbrev pub HasDataRace : List Event → List ℕ → Type 0
 HasDataRace events sources = HasDataRaceBy events (ReadsByteFrom events sources)
-
--- some byte of read r has no source yet, and w is a candidate of it (this project's own)
-pub record HasCandidateLeft (events : List Event) (sources : List ℕ) (r w : ℕ) : Type 0 where
-  pub place : ℕ
-  pub byte : ℕ
-  pub is_read : slice_get (byte_reads events) place ≡ Some (r, byte)
-  pub left : length sources ≤ place
-  pub candidate : IsCandidate events r byte w
-
--- read r reads from w, or can still come to (this project's own)
-abbrev pub MayReadFrom : List Event → List ℕ → ℕ → ℕ → Type 0
-MayReadFrom events sources r w = ReadsFrom events sources r w ⊎ HasCandidateLeft events sources r w
-
--- A data race, by happens-before of the sources given, where reads may also read from candidates of bytes that have no
--- source yet (this project's own).
-abbrev pub MayRace : List Event → List ℕ → Type 0
-MayRace events sources = HasDataRaceOf events (HappensBefore events sources) (MayReadFrom events sources)
-
--- a data race that comes with further sources could be foreseen
-abbrev pub RacesAreForeseen : Type 0
-RacesAreForeseen =
-    (events : List Event) (sources rest : List ℕ) → AreGiven events (sources ++ rest) → HasDataRace events (sources ++ rest)
-    → MayRace events sources

@@ -1,7 +1,6 @@
 pub mod EventSet
 pub mod Rows
 pub mod Converse
-pub mod KeptRows
 pub mod Between
 pub mod ReadsFrom
 pub mod AgentOrder
@@ -12,14 +11,11 @@ pub mod TearFree
 pub mod Forbidden
 pub mod Peers
 pub mod Growth
-pub mod OtherSources
 pub mod InitReads
-pub mod Settled
 pub mod DataRace
 pub mod Racing
 pub mod Part
 pub mod Broken
 pub mod TestedBytes
-pub mod LastPair
 pub mod WideEvents
 pub mod Internal

@@ -1,8 +1,8 @@
 -- synchronizes-with (ECMA-262, 2024, 29.6.5; there are no host events here).
-use Rattle.std.specs.Prelude.{◌≡◌, ◌≢◌, ℕ, ◌<◌, IsTrue, List, length}
+use Rattle.std.specs.Prelude.{◌≡◌, ℕ, List}
 use Rattle.lit_paths.specs.declared.event.Order3.TheVariants.{SeqCst}
 use Rattle.lit_paths.specs.declared.event.Event.{Event}
-use Rattle.lit_paths.specs.Event.{HasSameRange, does_write, event_at}
+use Rattle.lit_paths.specs.Event.{HasSameRange, event_at}
 use Rattle.lit_rel.specs.ReadsFrom.{ReadsByteFrom, ReadsFromBy}
 
 -- both are sequentially consistent, and their ranges are equal
@@ -18,16 +18,3 @@ pub record SynchronizesBy (events : List Event) (given : ℕ → ℕ → ℕ →
 
 abbrev pub Synchronizes : List Event → List ℕ → ℕ → ℕ → Type 0
 Synchronizes events sources = SynchronizesBy events (ReadsByteFrom events sources)
-
--- r synchronizes with none of its sources
-abbrev pub SynchronizesWithNone : List Event → List ℕ → ℕ → Type 0
-SynchronizesWithNone events sources r = (w : ℕ) → ¬ Synchronizes events sources w r
-
--- Some other event that writes can synchronize with e. It has the range of e, so where e reads, it is a candidate of each
--- byte of e.
-pub record MaySynchronize (events : List Event) (e : ℕ) : Type 0 where
-  pub source : ℕ
-  pub known : source < length events
-  pub other : source ≢ e
-  pub writes : IsTrue (does_write (event_at events source).kind)
-  pub can : CanSynchronize (event_at events source) (event_at events e)

@@ -81,18 +81,6 @@ impl Between {
         self.pairs.clear();
     }
 
-    /// Makes it what another one is, in place.
-    pub fn copy_from(&mut self, other: &Between)
-        ensures { self.new ≡ other.now }
-    {
-        self.len = other.len;
-        self.pairs.clear();
-        let pairs = other.pairs.as_slice();
-        if self.pairs.try_extend_from_slice(pairs).is_err() {
-            unreachable!()
-        }
-    }
-
     /// How many events there are.
     pub fn len(&self) -> usize
         ensures value { result ≡ self.now.len }

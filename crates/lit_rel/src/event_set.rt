@@ -1,6 +1,6 @@
 //! Sets of events.
 
-ghost use Rattle.std.specs.Prelude.{◌≡◌, ◌⊎◌, ◌↔◌, ℕ, ◌-◌, ◌<◌, ◌≤◌, IsTrue, MatchOption};
+ghost use Rattle.std.specs.Prelude.{◌≡◌, ◌⊎◌, ◌↔◌, ℕ, ◌<◌, ◌≤◌, IsTrue, MatchOption};
 ghost use Rattle.lit_paths.specs.declared.limits.TheConstants.{EVENT_LIMIT};
 
 /// A set of events, by their numbers: below `EVENT_LIMIT`.
@@ -74,24 +74,6 @@ impl EventSet {
         EventSet {
             bits: self.bits ^ (self.bits & other.bits),
         }
-    }
-
-    /// The events that are in one of both sets alone.
-    pub(crate) fn apart(self, other: Self) -> Self
-        ensures { (e : ℕ) → HasEvent result e ↔ ((HasEvent self e × ¬ HasEvent other e) ⊎ (HasEvent other e × ¬ HasEvent self e)) }
-    {
-        self.difference(other).union(other.difference(self))
-    }
-
-    /// The numbers below this one that follow those of its events.
-    pub(crate) fn next_below(self, len: usize) -> Self
-        requires { len ≤ EVENT_LIMIT }
-        ensures { (e : ℕ) → HasEvent result e ↔ ((e < len) × (0 < e) × HasEvent self (e - 1)) }
-    {
-        let next = EventSet {
-            bits: self.bits << 1,
-        };
-        EventSet::below(len).intersection(next)
     }
 
     /// The least event of it, and the set of the others.

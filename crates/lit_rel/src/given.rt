@@ -1,6 +1,5 @@
 //! The byte reads of a combination that have a source (ECMA-262, 2024, 29.6.2).
 
-pub(crate) mod breaks;
 pub(crate) mod forbidden;
 pub(crate) mod peers;
 pub(crate) mod races;

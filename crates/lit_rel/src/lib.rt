@@ -27,5 +27,4 @@ pub use part::refused::has_false_test;
 pub use part::tested_bytes::is_source_refused;
 pub use rows::Rows;
 pub use rows::closing::close;
-pub use rows::kept_rows::{KeptRows, ROWS_KEPT};
 pub use rows::two_way_rows::{TwoWayRows, converse_of};

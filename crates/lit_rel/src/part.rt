@@ -1,25 +1,20 @@
 //! A combination of paths, with sources for its first byte reads.
 
 pub(crate) mod fixed_steps;
-pub(crate) mod foreseen;
-pub(crate) mod levels;
-pub(crate) mod orders;
-pub(crate) mod races;
+pub(crate) mod level;
 pub(crate) mod refused;
-pub(crate) mod related;
-pub(crate) mod settled;
 pub(crate) mod tested_bytes;
 
-ghost use Rattle.std.specs.Prelude.{◌≡◌, ◌↔◌, ℕ, ◌-◌, ◌<◌, ◌≤◌, IsTrue, MatchOption, [], ◌∷◌, ◌++◌, length, take};
+ghost use Rattle.std.specs.Prelude.{◌≡◌, ◌↔◌, ℕ, ◌-◌, ◌<◌, ◌≤◌, IsTrue, [], ◌∷◌, ◌++◌, length, take};
 ghost use Rattle.lit_paths.specs.ByteReads.{byte_reads};
 ghost use Rattle.lit_paths.specs.Choice.{AreSources, combinations_of};
+ghost use Rattle.lit_paths.specs.Event.{event_at};
 ghost use Rattle.lit_paths.specs.Plan.{AreEventsIn};
 ghost use Rattle.lit_rel.specs.Between.{Forbids};
 ghost use Rattle.lit_rel.specs.Coherent.{HasCoherentReads};
 ghost use Rattle.lit_rel.specs.DataRace.{HasDataRace};
 ghost use Rattle.lit_rel.specs.Forbidden.{IsForbidden};
 ghost use Rattle.lit_rel.specs.HappensBefore.{HappensBefore};
-ghost use Rattle.lit_rel.specs.LastPair.{AddsNone, AddsPair};
 ghost use Rattle.lit_rel.specs.Part.{AreFirstSources, IsComplete, IsNextSource, part_events, with_sources};
 ghost use Rattle.lit_rel.specs.ReadsFrom.{ReadsFrom, value_of};
 ghost use Rattle.lit_rel.specs.Rows.{Holds, rows_len};
@@ -27,11 +22,12 @@ ghost use Rattle.lit_rel.specs.SynchronizesWith.{Synchronizes};
 ghost use Rattle.lit_rel.specs.TearFree.{HasTearFreeReads};
 
 use crate::between::Between;
-use crate::given::peers::put_peers;
-use crate::part::refused::{has_false_test, is_refused_with};
-use crate::part::related::Related;
+use crate::given::peers::peers_of;
+use crate::given::relations::order_with;
+use crate::given::{Given, SourcedByte, SourcedBytes};
+use crate::part::fixed_steps::unsourced_order;
+use crate::part::level::Level;
 use crate::rows::Rows;
-use crate::rows::two_way_rows::TwoWayRows;
 use arrayvec::ArrayVec;
 use lit_paths::{BYTE_READ_LIMIT, Combination, Plan};
 use std::marker::Model;
@@ -40,31 +36,32 @@ use std::marker::Model;
 /// test's value, the combination's number, and the sources given so far.
 #[derive(Drop)]
 pub struct Part<'p> {
-    related: Related<'p>,
-    /// Whether a test was false with each lesser number of sources.
-    earlier: ArrayVec<bool, BYTE_READ_LIMIT>,
-    refused: bool,
-    /// The sequentially consistent writes that have the range of each event.
-    peers: Rows,
-    /// Whether there is none.
-    peerless: bool,
+    combination: Combination<'p>,
+    /// The byte reads that have a source.
+    bytes: SourcedBytes,
+    /// What was known with each lesser number of sources, from none on.
+    earlier: ArrayVec<Level, BYTE_READ_LIMIT>,
+    /// What is known with all of them.
+    level: Level,
 }
 
 impl<'p> Model for Part<'p> {
     ghost use Rattle.lit_rel.specs.Part.{PartModel, coded_part};
-    ghost use Rattle.lit_rel.specs.Internal.PartKept.{IsPartKept};
+    ghost use Rattle.lit_rel.specs.Internal.Given.{part_of};
+    ghost use Rattle.lit_rel.specs.Internal.Levels.{IsKept};
 
     ghost Value = { PartModel };
 
     ghost coded = { coded_part };
 
-    ghost view = { λ p. p.related };
+    ghost view = { λ p. part_of p.combination.0 p.combination.1 p.bytes.items };
 
-    ghost invariant = { λ p. IsPartKept p.related p.earlier.items p.refused p.peers p.peerless };
+    ghost invariant = { λ p. IsKept p.combination.0 p.combination.1 p.bytes.items p.earlier.items p.level };
 }
 
 impl<'p> Part<'p> {
     ghost use Rattle.lit_rel.specs.Broken.{IsBroken};
+    ghost use Rattle.lit_rel.specs.Internal.Given.{sources_of};
 
     /// A combination of a plan's test, by its number: below `combinations`. No byte read has a source yet.
     pub fn open(plan: &'p Plan<'p>, combination: usize) -> Self
@@ -72,48 +69,23 @@ impl<'p> Part<'p> {
         ensures value { result ≡ record { test = plan.now; combination = combination; sources = [] } }
         ensures sound { AreEventsIn result.test.bytes (part_events result) }
     {
-        Part::of(plan.enter(combination))
-    }
-
-    /// A combination that was entered, of those of its test. No byte read has a source yet.
-    pub fn of(combination: Combination<'p>) -> Self
-        requires { combination.1 < length (combinations_of combination.0) }
-        ensures value { result ≡ record { test = combination.entry.0; combination = combination.entry.1; sources = [] } }
-        ensures sound { AreEventsIn result.test.bytes (part_events result) }
-    {
-        let refused = has_false_test(&combination, None, 0);
-        let mut peers = Rows::new(0);
-        put_peers(&mut peers, combination.events());
-        let peerless = peers.is_empty();
+        let combination = plan.enter(combination);
+        let bytes = SourcedBytes::new();
+        let before = unsourced_order(combination.events());
+        let level = Level::new(&combination, bytes.as_slice(), before);
         Part {
-            related: Related::open(combination),
+            combination,
+            bytes,
             earlier: ArrayVec::new(),
-            refused,
-            peers,
-            peerless,
+            level,
         }
-    }
-
-    /// Opens a combination of a plan's test, by its number, below `combinations`, in place of the part that is there. This
-    /// is `open`, but that nothing as large as a part is made.
-    pub fn reopen(&mut self, plan: &'p Plan<'p>, combination: usize)
-        requires { combination < length (combinations_of plan.now) }
-        ensures value { self.new ≡ record { test = plan.now; combination = combination; sources = [] } }
-        ensures sound { AreEventsIn self.new.test.bytes (part_events self.new) }
-    {
-        self.related.reopen(plan, combination);
-        self.earlier.clear();
-        let combination = self.related.combination();
-        self.refused = has_false_test(combination, None, 0);
-        put_peers(&mut self.peers, combination.events());
-        self.peerless = self.peers.is_empty();
     }
 
     /// Its combination.
     pub fn combination(&self) -> &Combination<'p>
         ensures { result.now ≡ (self.now.test, self.now.combination) }
     {
-        self.related.combination()
+        &self.combination
     }
 
     /// Gives the next byte read its source, by event number: a candidate of it. A byte read is left.
@@ -121,9 +93,16 @@ impl<'p> Part<'p> {
         requires { IsNextSource self.old source }
         ensures { self.new ≡ with_sources self.old (self.old.sources ++ source ∷ []) }
     {
-        self.related.push(source);
-        self.earlier.push(self.refused);
-        self.refused = is_refused_with(self.refused, &self.related);
+        let next = self.combination.byte_reads()[self.bytes.len()];
+        let byte = SourcedByte {
+            read: next.read,
+            byte: next.byte,
+            source,
+        };
+        let before = order_with(self.combination.events(), byte, &self.level.before);
+        self.bytes.push(byte);
+        self.earlier.push(self.level);
+        self.level = Level::new(&self.combination, self.bytes.as_slice(), before);
     }
 
     /// Takes the last source back. There is one.
@@ -131,9 +110,9 @@ impl<'p> Part<'p> {
         requires { 0 < length self.old.sources }
         ensures { self.new ≡ with_sources self.old (take (length self.old.sources - 1) self.old.sources) }
     {
-        self.refused = self.earlier[self.related.len() - 1];
+        self.level = self.earlier[self.bytes.len() - 1];
         self.earlier.pop();
-        self.related.pop();
+        self.bytes.pop();
     }
 
     /// Whether no complete choice that begins with its paths and sources belongs to a valid execution, as far as these
@@ -142,16 +121,7 @@ impl<'p> Part<'p> {
     pub fn broken(&self) -> bool
         ensures { IsTrue result ↔ IsBroken self.now }
     {
-        self.related.broken() || self.refused
-    }
-
-    /// The pair that the last source adds to happens-before (29.6.6), the source and its read, both by event number:
-    /// `None` where it adds none. There is a source.
-    pub fn last_pair(&self) -> Option<(u8, u8)>
-        requires { 0 < length self.now.sources }
-        ensures { MatchOption result (AddsNone self.now) (λ pair. AddsPair self.now pair.0 pair.1) }
-    {
-        self.related.last_pair()
+        self.level.broken
     }
 
     /// How many sources are given. Each is a candidate of its byte read, so where each byte read has one they are sources
@@ -162,14 +132,26 @@ impl<'p> Part<'p> {
         ensures candidates { AreFirstSources self.now }
         ensures all { IsComplete self.now → AreSources (part_events self.now) self.now.sources }
     {
-        self.related.len()
+        self.bytes.len()
     }
 
     /// How many byte reads there are in all.
     pub fn reads(&self) -> usize
         ensures { result ≡ length (byte_reads (part_events self.now)) }
     {
-        self.related.reads()
+        self.combination.byte_reads().len()
+    }
+
+    /// Its events, and the byte reads that have a source.
+    fn given(&self) -> Given<'_>
+        ensures events { result.events.now ≡ part_events self.now }
+        ensures sources { sources_of result.bytes.now ≡ self.now.sources }
+        ensures small { (n : ℕ) → (event_at result.events.now n).size ≤ 4 }
+    {
+        Given {
+            events: self.combination.events(),
+            bytes: self.bytes.as_slice(),
+        }
     }
 
     /// reads-from (ECMA-262, 2024, 29.6.3), as pairs of a read and a source, of the sources given.
@@ -177,7 +159,7 @@ impl<'p> Part<'p> {
         ensures len { rows_len result ≡ length (part_events self.now) }
         ensures pairs { (r w : ℕ) → Holds result r w ↔ ReadsFrom (part_events self.now) self.now.sources r w }
     {
-        self.related.reads_from()
+        self.given().reads_from()
     }
 
     /// synchronizes-with (29.6.5), as pairs of a write and a read, of the sources given.
@@ -185,7 +167,7 @@ impl<'p> Part<'p> {
         ensures len { rows_len result ≡ length (part_events self.now) }
         ensures pairs { (w r : ℕ) → Holds result w r ↔ Synchronizes (part_events self.now) self.now.sources w r }
     {
-        self.related.synchronizes()
+        self.given().synchronizes()
     }
 
     /// happens-before (29.6.6) of the sources given.
@@ -193,29 +175,21 @@ impl<'p> Part<'p> {
         ensures len { rows_len result ≡ length (part_events self.now) }
         ensures pairs { (e d : ℕ) → Holds result e d ↔ HappensBefore (part_events self.now) self.now.sources e d }
     {
-        self.related.order().rows
-    }
-
-    /// happens-before (29.6.6) of the sources given, and its converse.
-    pub fn order(&self) -> &TwoWayRows
-        ensures len { rows_len result.now.rows ≡ length (part_events self.now) }
-        ensures pairs { (e d : ℕ) → Holds result.now.rows e d ↔ HappensBefore (part_events self.now) self.now.sources e d }
-    {
-        self.related.order()
+        self.level.before.rows
     }
 
     /// Whether the reads are coherent (29.7.2), as far as sources are given.
     pub fn coherent(&self) -> bool
         ensures { IsTrue result ↔ HasCoherentReads (part_events self.now) self.now.sources }
     {
-        self.related.coherent()
+        !self.given().has_incoherent_byte(&self.level.before)
     }
 
     /// Whether the reads are tear free (29.7.3), as far as sources are given.
     pub fn tear_free(&self) -> bool
         ensures { IsTrue result ↔ HasTearFreeReads (part_events self.now) self.now.sources }
     {
-        self.related.tear_free()
+        !self.given().has_torn_read()
     }
 
     /// What may not stand between each source given and its read in the order of memory (29.7.4).
@@ -223,34 +197,21 @@ impl<'p> Part<'p> {
         ensures len { result.len ≡ length (part_events self.now) }
         ensures triples { (w r v : ℕ) → Forbids result w r v ↔ IsForbidden (part_events self.now) self.now.sources w r v }
     {
-        let mut between = Between::new(0);
-        self.put_between(&mut between);
-        between
-    }
-
-    /// Makes what is there `between()`.
-    pub fn put_between(&self, between: &mut Between)
-        ensures len { between.new.len ≡ length (part_events self.now) }
-        ensures triples { (w r v : ℕ) → Forbids between.new w r v ↔ IsForbidden (part_events self.now) self.now.sources w r v }
-    {
-        if self.peerless {
-            between.begin(self.combination().events().len());
-            return;
-        }
-        self.related.put_between(between, &self.peers);
+        let given = self.given();
+        given.between(&self.level.before, &peers_of(given.events))
     }
 
     /// Whether two events are in a data race (29.9), by the sources given.
     pub fn race(&self) -> bool
         ensures { IsTrue result ↔ HasDataRace (part_events self.now) self.now.sources }
     {
-        self.related.race()
+        self.given().has_data_race(&self.level.before.rows)
     }
 
     /// The value of a read (29.5.4 and 29.5.5), by its event number, from the bytes that have a source.
     pub fn value(&self, read: u8) -> u32
         ensures { result ≡ value_of (part_events self.now) self.now.sources read }
     {
-        self.related.value(read)
+        self.given().value(usize::from(read))
     }
 }

@@ -1,7 +1,6 @@
 //! A relation on the events of a candidate execution, as rows of sets. `given::relations` has the relations of clause 29.
 
 pub(crate) mod closing;
-pub(crate) mod kept_rows;
 pub(crate) mod two_way_rows;
 
 ghost use Rattle.std.specs.Prelude.{◌≡◌, ◌≢◌, ◌⊎◌, ◌↔◌, ℕ, ◌<◌, ◌≤◌, IsTrue, length};
@@ -23,7 +22,6 @@ pub struct Rows {
 
 impl Rows {
     ghost use Rattle.lit_rel.specs.EventSet.{HasEvent};
-    ghost use Rattle.lit_rel.specs.KeptRows.{AreSameRows, HasSets, sets_of};
     ghost use Rattle.lit_rel.specs.Rows.{Holds, IsLeastWith, IsTransitive, WithPair, rows_len};
 
     /// The empty relation on so many events, at most `EVENT_LIMIT`.
@@ -35,37 +33,6 @@ impl Rows {
         Rows {
             len,
             sets: [EventSet::new(); EVENT_LIMIT],
-        }
-    }
-
-    /// Makes it `new(len)`, in place.
-    pub(crate) fn begin(&mut self, len: usize)
-        requires { len ≤ EVENT_LIMIT }
-        ensures len { rows_len self.new ≡ len }
-        ensures empty { (a d : ℕ) → ¬ Holds self.new a d }
-    {
-        self.len = len;
-        self.sets = [EventSet::new(); EVENT_LIMIT];
-    }
-
-    /// Its sets: for each event the set of those that it leads to.
-    pub(crate) fn sets(&self) -> &[EventSet]
-        ensures value { result.now ≡ sets_of self.now }
-        ensures len { length result.now ≡ rows_len self.now }
-    {
-        &self.sets[..self.len]
-    }
-
-    /// Makes it the relation that has these sets, in place.
-    pub(crate) fn put_sets(&mut self, sets: &[EventSet])
-        requires { (was : Rows) × HasSets was sets.now }
-        ensures { (was : Rows) → HasSets was sets.now → AreSameRows was self.new }
-    {
-        if self.len != sets.len() {
-            self.begin(sets.len());
-        }
-        for event in 0..sets.len() {
-            self.set_all(event, sets[event]);
         }
     }
 
@@ -103,16 +70,6 @@ impl Rows {
         self.sets[a] = self.sets[a].union(set);
     }
 
-    /// Lets event a lead to the events of a set alone, all numbers below `len()`.
-    pub(crate) fn set_all(&mut self, a: usize, set: EventSet)
-        requires first { a < rows_len self.old }
-        requires second { (d : ℕ) → HasEvent set d → d < rows_len self.old }
-        ensures len { rows_len self.new ≡ rows_len self.old }
-        ensures pairs { (x y : ℕ) → Holds self.new x y ↔ (((x ≢ a) × Holds self.old x y) ⊎ ((x ≡ a) × HasEvent set y)) }
-    {
-        self.sets[a] = set;
-    }
-
     /// Puts a pair in, both numbers below `len()`.
     pub fn put(&mut self, a: usize, d: usize)
         requires first { a < rows_len self.old }
@@ -139,20 +96,6 @@ impl Rows {
         ensures { (d : ℕ) → HasEvent result d ↔ Holds self.now event d }
     {
         self.sets[event]
-    }
-
-    /// The events that lead to an event, whose number is below `len()`.
-    pub fn predecessors(&self, event: usize) -> EventSet
-        requires { event < rows_len self.now }
-        ensures { (a : ℕ) → HasEvent result a ↔ Holds self.now a event }
-    {
-        let mut set = EventSet::new();
-        for other in 0..self.len {
-            if self.holds(other, event) {
-                set = set.with(other);
-            }
-        }
-        set
     }
 
     /// Whether an event is another one or leads to it, both numbers below `len()`.
@@ -183,20 +126,8 @@ impl Rows {
         }
     }
 
-    /// Whether it holds of no pair.
-    pub(crate) fn is_empty(&self) -> bool
-        ensures { IsTrue result ↔ ((a d : ℕ) → ¬ Holds self.now a d) }
-    {
-        for event in 0..self.len {
-            if !self.successors(event).is_empty() {
-                return false;
-            }
-        }
-        true
-    }
-
     /// Whether it holds of some event and itself.
-    pub(crate) fn has_cycle(&self) -> bool
+    pub fn has_cycle(&self) -> bool
         ensures { IsTrue result ↔ ((e : ℕ) × Holds self.now e e) }
     {
         for event in 0..self.len {
@@ -205,12 +136,5 @@ impl Rows {
             }
         }
         false
-    }
-
-    /// Whether it holds of no event and itself.
-    pub fn is_irreflexive(&self) -> bool
-        ensures { IsTrue result ↔ ((e : ℕ) → ¬ Holds self.now e e) }
-    {
-        !self.has_cycle()
     }
 }

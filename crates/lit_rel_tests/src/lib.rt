@@ -1,11 +1,8 @@
-//! The tests of `lit_rel` and `lit_order`, a module for each, `finders` on parts of whole tests, and `forced_parts`, through
-//! their public calls.
+//! The tests of `lit_rel` and `lit_order`, a module for each, and `finders` on parts of whole tests, through their public calls.
 #![tactic(auto)]
 
 #[cfg(test)]
 mod finders;
-#[cfg(test)]
-mod forced_parts;
 #[cfg(test)]
 mod order;
 #[cfg(test)]

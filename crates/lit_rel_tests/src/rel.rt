@@ -2,10 +2,10 @@
 
 mod between;
 mod broken;
-mod foreseen;
 mod parts;
 mod races;
 mod sets;
+mod sources;
 
 ghost use Rattle.std.specs.Prelude.{◌≡◌, ◌+◌, ◌<◌, ◌≤◌, [], ◌∷◌, ◌++◌, length};
 ghost use Rattle.lit_paths.specs.Choice.{combinations_of};

@@ -1,5 +1,5 @@
--- The choices of a class on one combination, by the boxes of a range: they are the solutions of the boxes.
-use Rattle.std.proofs.Common.{◌≡◌, ◌↔◌, ℕ, ◌+◌, ◌<◌, ◌≤◌, List, Some, length, map, refl, sym, ap, ap₂, subst, ◌∙◌, ⊎_elim, arith}
+-- The choices of a range on one combination, by its boxes: which of them have completions of a box, and what those give.
+use Rattle.std.proofs.Common.{◌≡◌, ◌↔◌, ◌⊎◌, inl, inr, ℕ, ◌+◌, ◌<◌, ◌≤◌, zero, suc, Bool, List, [], ◌∷◌, ◌++◌, Some, length, map, refl, sym, ap, subst, ◌∙◌, arith}
 use Rattle.std.specs.Prelude.{IsTrue, slice_get}
 use Rattle.std.specs.Cmp.Lexicographic.{slice_cmp}
 use Rattle.std.specs.Ordering.{nat_cmp}
@@ -7,202 +7,301 @@ use Rattle.std.specs.declared.cmp.Ordering.TheVariants.{Less}
 use Rattle.std.proofs.lemmas.Bool.{cases_lt, cases_order}
 use Rattle.std.proofs.lemmas.Option.{same_Some, slice_get_within}
 use Rattle.lit_read.specs.Syntax.{Litmus}
+use Rattle.lit_paths.specs.declared.event.Event.{Event}
 use Rattle.lit_paths.specs.ByteReads.{byte_reads}
-use Rattle.lit_paths.specs.Choice.{AreSources, Choice, ListsChoices, choices_of, combinations_of}
+use Rattle.lit_paths.specs.Choice.{AreSources, Choice, choices_of}
 use Rattle.lit_paths.specs.Execution.{Execution, execution_choice, execution_outcome}
 use Rattle.lit_paths.specs.Path.{Path}
-use Rattle.lit_paths.specs.Plan.{HasSources, IsOfCombination, choices_before}
+use Rattle.lit_paths.specs.Plan.{HasSources, IsOfCombination, choices_before, combination_at}
 use Rattle.lit_paths.specs.Run.{run_path}
 use Rattle.lit_rel.specs.declared.event_set.EventSet.{EventSet}
+use Rattle.lit_order.specs.MemoryOrder.{IsLeastMemoryOrder}
 use Rattle.lit_valid.specs.declared.class.Class.{Class}
 use Rattle.lit_valid.specs.Class.{GivesClass, is_of_class}
+use Rattle.lit_valid.specs.Gives.{GivesRace}
+use Rattle.lit_valid.specs.Laws.{Laws}
+use Rattle.lit_valid.specs.ValidExecution.{IsValidExecution}
 use Rattle.lit_valid.proofs.RunLemmas.{maps}
-use Rattle.lit_solve.specs.declared.goal.Goal.TheVariants.{OfClass}
-use Rattle.lit_solve.specs.Box.{LiesIn, box_with}
-use Rattle.lit_solve.specs.Boxes.{AreDomainsIn, BoxesModel, CutsRange, LiesInBox, boxes_events, boxes_len}
-use Rattle.lit_solve.specs.Completion.{HasSolution, IsLeastSolution, IsSolution}
+use Rattle.lit_solve.specs.declared.goal.Goal.TheVariants.{OfClass, Race}
+use Rattle.lit_solve.specs.Box.{Box, LiesIn, box_events, box_with, events_on}
+use Rattle.lit_solve.specs.Boxes.{AreDomainsIn, BoxesModel, LiesInBox, boxes_events, boxes_len}
+use Rattle.lit_solve.specs.Completion.{HasSolution, IsCompletion, IsLeastSolution}
+use Rattle.lit_solve.specs.Outcomes.{AddsEntries, AreNewEntries, HasEachOutcome, IsLeastEntry}
+use Rattle.lit_solve.proofs.CompletionLemmas.{events_same}
+use Rattle.lit_solve.proofs.EntryLemmas.{outcome_stays}
 use Rattle.lit_solve.proofs.LexLemmas.{never_both_less}
-use Rattle.lit_solve.proofs.RangeLemmas.{known_by_first, sourced, sources_are, sources_rise}
+use Rattle.lit_solve.proofs.RangeLemmas.{sourced, sources_are, sources_rise}
 use Rattle.lit_search.specs.FirstOfClass.{HasNoneOf, IsFirstOf}
-use Rattle.lit_search.specs.Report.{in_range}
-use Rattle.lit_search.specs.Internal.Boxed.{HasNoneBefore}
+use Rattle.lit_search.specs.Report.{Entry, in_range}
+use Rattle.lit_search.specs.Internal.Boxed.{AreOfRange, HasNoneBefore, IsOfBox, IsOfFirst}
+use Rattle.lit_search.specs.Internal.Gained.{Gains, IsLeastOf}
+use Rattle.lit_valid.specs.Entry.{HasOutcome}
+use Rattle.lit_search.proofs.GainLemmas.{gains_as, gains_more}
 use Rattle.lit_search.proofs.NumberSets.{before_end, not_below, within}
 
--- sources that lie in the i-th box are those in its domains
-lies_by_domains : (boxes : BoxesModel) (i : ℕ) (domains : List EventSet) (sources : List ℕ) → AreDomainsIn boxes i domains
-    → AreSources (boxes_events boxes) sources → LiesIn (box_with (boxes.test, boxes.combination) domains) sources ↔ LiesInBox boxes i sources
-lies_by_domains boxes i domains sources exact are = (
-  λ lies k w at. (exact k w (inside k w at)).0 (lies k w at),
-  λ lies k w at. (exact k w (inside k w at)).1 (lies k w at),
-)
-  where
-    inside : (k w : ℕ) → slice_get sources k ≡ Some w → k < length (byte_reads (boxes_events boxes))
-    inside k w at = omega (arith, slice_get_within sources k w at, are.one_each)
+-- an execution with a choice has the choice's sources
+has_its_sources : (t : Litmus) (n : ℕ) (x : Execution) → slice_get (choices_of t) n ≡ Some (execution_choice x) → HasSources t n x.sources
+has_its_sources t n x chosen = record { choice = execution_choice x; listed = chosen; same = refl }
 
--- the boxes of a range of choices, all of one combination, which is a test and a number
-pub record AreOfRange (p : Litmus × ℕ) (from to : ℕ) (boxes : BoxesModel) : Type 0 where
-  pub same : (boxes.test, boxes.combination) ≡ p
-  pub cuts : CutsRange boxes from to
-  pub lists : ListsChoices p.0
-  pub placed : (n : ℕ) → choices_before p.0 p.1 ≤ n → n < choices_before p.0 (p.1 + 1) → IsOfCombination p.0 n p.1
-  pub begins : choices_before p.0 p.1 ≤ from
-  pub ends : to ≤ choices_before p.0 (p.1 + 1)
+one_sources : (t : Litmus) (n : ℕ) (a b : List ℕ) → HasSources t n a → HasSources t n b → a ≡ b
+one_sources t n a b first second =
+    sym first.same ∙ ap (λ (ch : Choice). ch.sources) (same_Some first.choice second.choice (sym first.listed ∙ second.listed)) ∙ second.same
 
--- they are, by the number of the combination's first choice
-pub are_of_range : (p q : Litmus × ℕ) (from to first : ℕ) (boxes : BoxesModel) → q ≡ p → boxes.test ≡ q.0 → boxes.combination ≡ q.1
-    → CutsRange boxes from to → ((t : Litmus) → ListsChoices t)
-    → ((t : Litmus) (n c : ℕ) → c < length (combinations_of t) → choices_before t c ≤ n → n < choices_before t (c + 1) → IsOfCombination t n c)
-    → first ≡ choices_before q.0 q.1 → first < length (choices_of q.0) → choices_before p.0 p.1 ≤ from → to ≤ choices_before p.0 (p.1 + 1)
-    → AreOfRange p from to boxes
-are_of_range p q from to first boxes same test combination cuts listed placed is known begins ends = record {
-  same = ap₂ (λ (t : Litmus) (k : ℕ). (t, k)) test combination ∙ same;
-  cuts = cuts;
-  lists = listed p.0;
-  placed = λ n. placed p.0 n p.1
-      (subst (λ (r : Litmus × ℕ). r.1 < length (combinations_of r.0)) same (known_by_first q.0 q.1 first is known));
-  begins = begins;
-  ends = ends;
-}
+-- an execution on a combination has the decisions of its paths
+its_decisions : (t : Litmus) (c : ℕ) (x : Execution) → map run_path x.runs ≡ combination_at t c
+    → map (λ path. path.decisions) (combination_at t c) ≡ map (λ run. run.decisions) x.runs
+its_decisions t c x on = ap (map (λ (path : Path). path.decisions)) (sym on) ∙ maps run_path (λ (path : Path). path.decisions) x.runs
 
--- ---- what is found in them
-module _ (p : Litmus × ℕ) (boxes : BoxesModel) (from to : ℕ) (class : Class) (are_in : AreOfRange p from to boxes) where
+-- ---- one box more
+module _ (t : Litmus) (boxes : BoxesModel) (from to i : ℕ) where
+  pub of_none : (n : ℕ) → ¬ IsOfFirst t boxes from to 0 n
+  of_none n of = omega (arith, of.before)
+
+  of_more : (n : ℕ) → (IsOfFirst t boxes from to i n ⊎ IsOfBox t boxes from to i n) ↔ IsOfFirst t boxes from to (i + 1) n
+  of_more n = (
+    λ some. elim some [
+      | inl of ↦ record { place = of.place; before = omega (arith, of.before); is = of.is }
+      | inr is ↦ record { place = i; before = omega arith; is = is }
+    ],
+    λ of. elim (cases_lt of.place i) [
+      | inl less ↦ inl (record { place = of.place; before = less; is = of.is })
+      | inr more ↦ inr (subst (λ (k : ℕ). IsOfBox t boxes from to k n) (let e : of.place ≡ i = omega (arith, of.before, more) in e) of.is)
+    ],
+  )
+
+-- ---- the boxes of a range
+module _ (laws : Laws) (p : Litmus × ℕ) (from to : ℕ) (boxes : BoxesModel) (are_in : AreOfRange p from to boxes) where
   abbrev t : Litmus
-  t = boxes.test
+  t = p.0
 
-  cuts : CutsRange boxes from to
-  cuts = are_in.cuts
+  abbrev c : ℕ
+  c = p.1
 
-  lists : ListsChoices t
-  lists = subst (λ (q : Litmus × ℕ). ListsChoices q.0) (sym are_in.same) are_in.lists
+  placed : (n : ℕ) → choices_before t c ≤ n → n < choices_before t (c + 1) → IsOfCombination t n c
+  placed n = laws.placed t n c are_in.known
 
-  placed : (n : ℕ) → choices_before t boxes.combination ≤ n → n < choices_before t (boxes.combination + 1) → IsOfCombination t n boxes.combination
-  placed =
-      subst (λ (q : Litmus × ℕ). (n : ℕ) → choices_before q.0 q.1 ≤ n → n < choices_before q.0 (q.1 + 1) → IsOfCombination q.0 n q.1)
-      (sym are_in.same) are_in.placed
+  of_range : (n : ℕ) → IsTrue (in_range from to n) → IsOfCombination t n c
+  of_range n among = placed n (omega (arith, not_below from to n among, are_in.begins)) (omega (arith, before_end from to n among, are_in.ends))
 
-  begins : choices_before t boxes.combination ≤ from
-  begins = subst (λ (q : Litmus × ℕ). choices_before q.0 q.1 ≤ from) (sym are_in.same) are_in.begins
+  its : (n : ℕ) (sources : List ℕ) → IsOfCombination t n c → HasSources t n sources → AreSources (events_on p) sources
+  its n sources of has = sourced t c n sources of has
 
-  ends : to ≤ choices_before t (boxes.combination + 1)
-  ends = subst (λ (q : Litmus × ℕ). to ≤ choices_before q.0 (q.1 + 1)) (sym are_in.same) are_in.ends
+  covers : (n : ℕ) (sources : List ℕ) → choices_before t c ≤ n → n < choices_before t (c + 1) → HasSources t n sources
+      → ((from ≤ n) × (n < to)) ↔ ((i : ℕ) × (i < boxes_len boxes) × LiesInBox boxes i sources)
+  covers =
+      subst
+      (λ (q : Litmus × ℕ). (n : ℕ) (sources : List ℕ) → choices_before q.0 q.1 ≤ n → n < choices_before q.0 (q.1 + 1) → HasSources q.0 n sources
+      → ((from ≤ n) × (n < to)) ↔ ((i : ℕ) × (i < boxes_len boxes) × LiesInBox boxes i sources))
+      are_in.same are_in.cuts.covers
 
-  of_range : (n : ℕ) → IsTrue (in_range from to n) → IsOfCombination t n boxes.combination
-  of_range n among = placed n (omega (arith, not_below from to n among, begins)) (omega (arith, before_end from to n among, ends))
+  -- a choice of the range is of some box
+  its_box : (n : ℕ) → IsTrue (in_range from to n) → IsOfFirst t boxes from to (boxes_len boxes) n
+  its_box n among =
+      let of = of_range n among in
+      let has : HasSources t n of.choice.sources = record { choice = of.choice; listed = of.listed; same = refl } in
+      let there =
+      (covers n of.choice.sources (omega (arith, not_below from to n among, are_in.begins)) (omega (arith, before_end from to n among, are_in.ends)) has).0
+      (not_below from to n among, before_end from to n among) in
+      record { place = there.0; before = there.1; is = record { among = among; sources = of.choice.sources; has = has; lies = there.2 } }
 
-  -- the execution of a choice of the class has the choice's sources
-  has_its_sources : (n : ℕ) (g : GivesClass t class n) → HasSources t n g.gives.execution.sources
-  has_its_sources n g = record { choice = execution_choice g.gives.execution; listed = g.gives.chosen; same = refl }
+  -- choices rise from box to box
+  boxes_rise : (i j m n : ℕ) → i < j → j < boxes_len boxes → IsOfBox t boxes from to i m → IsOfBox t boxes from to j n → m < n
+  boxes_rise i j m n less inside a b = elim (cases_order m n) [
+    | inl same ↦
+        let one : b.sources ≡ a.sources = one_sources t m b.sources a.sources (subst (λ (k : ℕ). HasSources t k b.sources) (sym same) b.has) a.has in
+        absurd (never_both_less a.sources b.sources long rises (subst (λ (ws : List ℕ). slice_cmp nat_cmp ws a.sources ≡ Less) (sym one)
+        (subst (λ (ws : List ℕ). slice_cmp nat_cmp a.sources ws ≡ Less) one rises)))
+    | inr apart ↦ elim apart [
+      | inl below ↦ below
+      | inr over ↦ absurd (never_both_less a.sources b.sources long rises
+          (sources_rise t c n m b.sources a.sources (laws.chosen t) (of_range n b.among) (of_range m a.among) b.has a.has over))
+    ]
+  ]
+    where
+      long : length a.sources ≡ length b.sources
+      long = (its m a.sources (of_range m a.among) a.has).one_each ∙ sym (its n b.sources (of_range n b.among) b.has).one_each
 
-  -- it lies in one of the boxes
-  its_box : (n : ℕ) (g : GivesClass t class n) → IsTrue (in_range from to n) → (i : ℕ) × (i < boxes_len boxes) × LiesInBox boxes i g.gives.execution.sources
-  its_box n g among =
-      (cuts.covers n g.gives.execution.sources (omega (arith, not_below from to n among, begins)) (omega (arith, before_end from to n among, ends))
-      (has_its_sources n g)).0
-      (not_below from to n among, before_end from to n among)
+      rises : slice_cmp nat_cmp a.sources b.sources ≡ Less
+      rises =
+          subst (λ (q : Litmus × ℕ). AreSources (events_on q) a.sources → AreSources (events_on q) b.sources → slice_cmp nat_cmp a.sources b.sources ≡ Less)
+          are_in.same (λ a_are b_are. are_in.cuts.rising i j a.sources b.sources less inside a_are b_are a.lies b.lies)
+          (its m a.sources (of_range m a.among) a.has) (its n b.sources (of_range n b.among) b.has)
 
-  module _ (i : ℕ) (known : i < boxes_len boxes) (domains : List EventSet) (exact : AreDomainsIn boxes i domains) where
-    -- and is a solution there
-    its_solution : (n : ℕ) (g : GivesClass t class n) → IsTrue (in_range from to n) → LiesInBox boxes i g.gives.execution.sources
-        → IsSolution (box_with (t, boxes.combination) domains) (OfClass class) g.gives.execution
-    its_solution n g among lies =
-        let x = g.gives.execution in
-        let on = (of_range n among).on_paths x g.gives.valid.candidate g.gives.chosen in
-        let are : AreSources (boxes_events boxes) x.sources = sourced t boxes.combination n x.sources (of_range n among) (has_its_sources n g) in
-        record {
-          completes = record { valid = g.gives.valid; on_paths = on; within = (lies_by_domains boxes i domains x.sources exact are).1 lies };
-          meets = subst (λ (o : List ℕ). IsTrue (is_of_class t class o)) (sym g.gives.result) g.of_class;
-        }
+  module _ (i : ℕ) (inside : i < boxes_len boxes) (domains : List EventSet) (exact : AreDomainsIn boxes i domains) where
+    abbrev box : Box
+    box = box_with p domains
 
-    -- boxes without a solution have no choice of the class
-    pub none_more : HasNoneBefore boxes class from to i → ¬ HasSolution (box_with p domains) (OfClass class) → HasNoneBefore boxes class from to (i + 1)
-    none_more none not j n sources below among has lies g = ⊎_elim (λ less. none j n sources less among has lies g) last (cases_lt j i)
+    -- sources that lie in the i-th box are those in its domains
+    by_domains : (sources : List ℕ) → AreSources (events_on p) sources → LiesIn box sources ↔ LiesInBox boxes i sources
+    by_domains sources are = (λ lies k w at. (exact k w (there k w at)).0 (lies k w at), λ lies k w at. (exact k w (there k w at)).1 (lies k w at))
       where
-        last : i ≤ j → ⊥
-        last past =
-            let here : j ≡ i = omega (arith, past, below) in
-            let same : sources ≡ g.gives.execution.sources =
-            sym has.same ∙ ap (λ (ch : Choice). ch.sources) (same_Some has.choice (execution_choice g.gives.execution) (sym has.listed ∙ g.gives.chosen)) in
-            let at : LiesInBox boxes i g.gives.execution.sources =
-            subst (λ (k : ℕ). LiesInBox boxes k g.gives.execution.sources) here (subst (λ (ws : List ℕ). LiesInBox boxes j ws) same lies) in
-            subst (λ (q : Litmus × ℕ). ¬ HasSolution (box_with q domains) (OfClass class)) (sym are_in.same) not
-            (g.gives.execution, its_solution n g among at)
+        there : (k w : ℕ) → slice_get sources k ≡ Some w → k < length (byte_reads (boxes_events boxes))
+        there k w at =
+            omega (arith, slice_get_within sources k w at, are.one_each, ap (λ (q : Litmus × ℕ). length (byte_reads (events_on q))) are_in.same)
 
-    -- the number of the sources of the least solution of the first box with one
-    first_is : (n : ℕ) (sources order : List ℕ) → HasNoneBefore boxes class from to i
-        → IsLeastSolution (box_with (t, boxes.combination) domains) (OfClass class) sources order
-        → choices_before t boxes.combination ≤ n → n < choices_before t (boxes.combination + 1) → HasSources t n sources
+    -- a valid execution with a choice of the box is a completion of it
+    its_completion : (n : ℕ) (x : Execution) → IsValidExecution t x → slice_get (choices_of t) n ≡ Some (execution_choice x) → IsOfBox t boxes from to i n
+        → IsCompletion box x
+    its_completion n x valid chosen of = record {
+      valid = valid;
+      on_paths = (of_range n of.among).on_paths x valid.candidate chosen;
+      within = subst (λ (ws : List ℕ). LiesIn box ws) (one_sources t n of.sources x.sources of.has (has_its_sources t n x chosen))
+          ((by_domains of.sources (its n of.sources (of_range n of.among) of.has)).1 of.lies);
+    }
+
+    module _ (n : ℕ) (x : Execution) (is : IsCompletion box x) (low : choices_before t c ≤ n) (high : n < choices_before t (c + 1)) (has : HasSources t n x.sources) where
+      -- a choice on the combination with a completion's sources is of the box
+      of_box : IsOfBox t boxes from to i n
+      of_box =
+          let lies = (by_domains x.sources (its n x.sources (placed n low high) has)).0 is.within in
+          let between = (covers n x.sources low high has).1 (i, inside, lies) in
+          record { among = within from to n between.0 between.1; sources = x.sources; has = has; lies = lies }
+
+      -- and is the completion's
+      chosen_by : slice_get (choices_of t) n ≡ Some (execution_choice x)
+      chosen_by =
+          let of = placed n low high in
+          let decided : of.choice.decisions ≡ map (λ run. run.decisions) x.runs = sym of.decided ∙ its_decisions t c x is.on_paths in
+          let f : List (List ℕ) → Choice = λ ds. record { decisions = ds; sources = of.choice.sources } in
+          let g : List ℕ → Choice = λ ws. record { decisions = map (λ run. run.decisions) x.runs; sources = ws } in
+          of.listed ∙ ap (λ (ch : Choice). Some ch) (ap f decided ∙ ap g (sources_are t c n x.sources of has))
+
+    -- ---- a class
+    pub none_more : (class : Class) → HasNoneBefore t boxes class from to i → ¬ HasSolution box (OfClass class) → HasNoneBefore t boxes class from to (i + 1)
+    none_more class none not n of g = elim ((of_more t boxes from to i n).1 of) [
+      | inl earlier ↦ none n earlier g
+      | inr here ↦ not (
+        g.gives.execution,
+        record {
+          completes = its_completion n g.gives.execution g.gives.valid g.gives.chosen here;
+          meets = subst (λ (o : List ℕ). IsTrue (is_of_class t class o)) (sym g.gives.result) g.of_class;
+        },
+      )
+    ]
+
+    pub first_found : (class : Class) (n : ℕ) (sources order : List ℕ) → HasNoneBefore t boxes class from to i
+        → IsLeastSolution box (OfClass class) sources order → choices_before t c ≤ n → n < choices_before t (c + 1) → HasSources t n sources
         → IsFirstOf t class (in_range from to) n
-    first_is n sources order none least low high has = record { among = among; gives = gives; least = before }
+    first_found class n sources order none least low high has = record { among = here.among; gives = gives; least = before }
       where
         x : Execution
         x = least.execution
 
-        of : IsOfCombination t n boxes.combination
-        of = placed n low high
+        has_x : HasSources t n x.sources
+        has_x = subst (λ (ws : List ℕ). HasSources t n ws) (sym least.same) has
 
-        are : AreSources (boxes_events boxes) sources
-        are = sourced t boxes.combination n sources of has
-
-        lies : LiesInBox boxes i sources
-        lies =
-            (lies_by_domains boxes i domains sources exact are).0
-            (subst (λ (ws : List ℕ). LiesIn (box_with (t, boxes.combination) domains) ws) least.same least.solves.completes.within)
-
-        among : IsTrue (in_range from to n)
-        among =
-            let inside = (cuts.covers n sources low high has).1 (i, known, lies) in
-            within from to n inside.0 inside.1
-
-        chosen : slice_get (choices_of t) n ≡ Some (execution_choice x)
-        chosen =
-            let decided : of.choice.decisions ≡ map (λ run. run.decisions) x.runs =
-            sym of.decided ∙ ap (map (λ (path : Path). path.decisions)) (sym least.solves.completes.on_paths)
-            ∙ maps run_path (λ (path : Path). path.decisions) x.runs in
-            let its : of.choice.sources ≡ x.sources = sources_are t boxes.combination n sources of has ∙ sym least.same in
-            let f : List (List ℕ) → Choice = λ ds. record { decisions = ds; sources = of.choice.sources } in
-            let g : List ℕ → Choice = λ ws. record { decisions = map (λ run. run.decisions) x.runs; sources = ws } in
-            of.listed ∙ ap (λ (ch : Choice). Some ch) (ap f decided ∙ ap g its)
+        here : IsOfBox t boxes from to i n
+        here = of_box n x least.solves.completes low high has_x
 
         gives : GivesClass t class n
         gives = record {
           outcome = execution_outcome t x;
-          gives = record { execution = x; valid = least.solves.completes.valid; chosen = chosen; result = refl };
+          gives = record { execution = x; valid = least.solves.completes.valid; chosen = chosen_by n x least.solves.completes low high has_x; result = refl };
           of_class = least.solves.meets;
         }
 
         before : (m : ℕ) → IsTrue (in_range from to m) → m < n → ¬ GivesClass t class m
-        before m inside less g = at (its_box m g inside)
-          where
-            y : Execution
-            y = g.gives.execution
+        before m among less g =
+            let y = g.gives.execution in
+            let of = its_box m among in
+            elim (cases_order of.place i) [
+              | inl same ↦ least.least y
+                  (record {
+                    completes = its_completion m y g.gives.valid g.gives.chosen (subst (λ (k : ℕ). IsOfBox t boxes from to k m) same of.is);
+                    meets = subst (λ (o : List ℕ). IsTrue (is_of_class t class o)) (sym g.gives.result) g.of_class;
+                  })
+                  (sources_rise t c m n y.sources sources (laws.chosen t) (of_range m among) (placed n low high)
+                  (has_its_sources t m y g.gives.chosen) has less)
+              | inr apart ↦ elim apart [
+                | inl earlier ↦ none m (record { place = of.place; before = earlier; is = of.is }) g
+                | inr later ↦ omega (arith, boxes_rise i of.place n m later of.before here of.is, less)
+              ]
+            ]
 
-            y_rises : slice_cmp nat_cmp y.sources sources ≡ Less
-            y_rises = sources_rise t boxes.combination m n y.sources sources lists (of_range m inside) of (has_its_sources m g) has less
+    -- ---- a data race
+    race_here : HasSolution box Race ↔ ((n : ℕ) × IsOfBox t boxes from to i n × GivesRace t n)
+    race_here = (
+      λ some.
+          let x = some.0 in
+          let is = some.1.completes in
+          let listed = (laws.chosen t).all (execution_choice x) (laws.choice t x is.valid.candidate) in
+          let numbers = laws.numbered t c are_in.known in
+          let range = (numbers.whole listed.0).0 (record {
+            choice = execution_choice x;
+            listed = listed.1;
+            on = its_decisions t c x is.on_paths;
+            rest = x.sources;
+            begun = refl;
+          }) in (
+            listed.0,
+            of_box listed.0 x is range.0 (omega (arith, range.1, numbers.behind)) (has_its_sources t listed.0 x listed.1),
+            record { execution = x; valid = is.valid; chosen = listed.1; races = some.1.meets },
+          ),
+      λ one.
+          let g = one.2 in
+          (g.execution, record { completes = its_completion one.0 g.execution g.valid g.chosen one.1; meets = g.races }),
+    )
 
-            y_are : AreSources (boxes_events boxes) y.sources
-            y_are = sourced t boxes.combination m y.sources (of_range m inside) (has_its_sources m g)
+    -- ---- outcomes
+    least_here : (e : Entry) → IsLeastEntry box e → IsLeastOf t (λ n. IsOfBox t boxes from to i n) e
+    least_here e is = record {
+      among = here;
+      gives = record { execution = x; valid = is.completes.valid; chosen = chosen_by e.choice x is.completes is.from is.to is.chosen; result = is.outcome };
+      least_choice = λ m of less g.
+          let y = g.execution in
+          is.least y (its_completion m y g.valid g.chosen of) g.result
+          (sources_rise t c m e.choice y.sources x.sources (laws.chosen t) (of_range m of.among) (placed e.choice is.from is.to)
+          (has_its_sources t m y g.chosen) is.chosen less);
+      least_order = λ y valid taken.
+          let same : x.sources ≡ y.sources = one_sources t e.choice x.sources y.sources is.chosen (has_its_sources t e.choice y taken) in
+          subst (λ (es : List Event). IsLeastMemoryOrder es y.sources e.order) (sym (events_same box y (its_completion e.choice y valid taken here)))
+          (subst (λ (ws : List ℕ). IsLeastMemoryOrder (box_events box) ws e.order) same is.ordered);
+    }
+      where
+        x : Execution
+        x = is.execution
 
-            at : (j : ℕ) × (j < boxes_len boxes) × LiesInBox boxes j y.sources → ⊥
-            at box =
-                ⊎_elim (λ same. least.least y (its_solution m g inside (subst (λ (k : ℕ). LiesInBox boxes k y.sources) same box.2)) y_rises)
-                (λ apart. ⊎_elim
-                (λ less. none box.0 m y.sources less inside (has_its_sources m g) box.2 g)
-                (λ more. never_both_less y.sources sources (y_are.one_each ∙ sym are.one_each) y_rises
-                (cuts.rising i box.0 sources y.sources more box.1 are y_are lies box.2))
-                apart)
-                (cases_order box.0 i)
+        here : IsOfBox t boxes from to i e.choice
+        here = of_box e.choice x is.completes is.from is.to is.chosen
 
-    pub first_found : (n : ℕ) (sources order : List ℕ) → HasNoneBefore boxes class from to i
-        → IsLeastSolution (box_with p domains) (OfClass class) sources order
-        → choices_before p.0 p.1 ≤ n → n < choices_before p.0 (p.1 + 1) → HasSources p.0 n sources → IsFirstOf p.0 class (in_range from to) n
-    first_found n sources order none =
-        subst
-        (λ (q : Litmus × ℕ). IsLeastSolution (box_with q domains) (OfClass class) sources order
-        → choices_before q.0 q.1 ≤ n → n < choices_before q.0 (q.1 + 1) → HasSources q.0 n sources → IsFirstOf q.0 class (in_range from to) n)
-        are_in.same (first_is n sources order none)
+    -- each new entry is one, and its outcome was lacked
+    new_here : (old added : List Entry) → AreNewEntries box old added → (k : ℕ) (e : Entry) → slice_get added k ≡ Some e → IsLeastEntry box e × (¬ HasOutcome old e.outcome)
+    new_here old [] all k e at = absurd (let f = at in cc)
+    new_here old (y ∷ ys) all zero e at =
+        let same : y ≡ e = (let f : Some y ≡ Some e = at in cc) in
+        subst (λ (z : Entry). IsLeastEntry box z × (¬ HasOutcome old z.outcome)) same (all.0, all.1)
+    new_here old (y ∷ ys) all (suc k) e at =
+        let later = new_here (old ++ (y ∷ [])) ys all.2 k e at in
+        (later.0, λ o. later.1 (outcome_stays old (y ∷ []) e.outcome o))
 
-  -- where no box has a choice of the class, there is none
-  pub none_at_all : HasNoneBefore boxes class from to (boxes_len boxes) → HasNoneOf p.0 class (in_range from to)
-  none_at_all none =
-      subst (λ (q : Litmus × ℕ). HasNoneOf q.0 class (in_range from to)) are_in.same
-      (λ n among g. let box = its_box n g among in none box.0 n g.gives.execution.sources box.1 among (has_its_sources n g) box.2 g)
+    pub gained_more : (old mid new : List Entry) (mark some all : Bool) → Gains t (λ n. IsOfFirst t boxes from to i n) old mid mark some
+        → AddsEntries box mid new → HasEachOutcome box new → IsTrue all ↔ (IsTrue some ⊎ HasSolution box Race)
+        → Gains t (λ n. IsOfFirst t boxes from to (i + 1) n) old new mark all
+    gained_more old mid new mark some all before adds each marks =
+        gains_as t (λ n. IsOfFirst t boxes from to i n ⊎ IsOfBox t boxes from to i n) (λ n. IsOfFirst t boxes from to (i + 1) n) old new mark all
+        (of_more t boxes from to i)
+        (gains_more t (λ n. IsOfFirst t boxes from to i n) (λ n. IsOfBox t boxes from to i n) old mid new mark some all
+        (λ m n of is. boxes_rise of.place i m n of.before inside of.is is) before here)
+      where
+        here : Gains t (λ n. IsOfBox t boxes from to i n) mid new some all
+        here = record {
+          goes_on = record { added = adds.added; is = adds.goes_on };
+          each = λ e there. least_here e (new_here mid adds.added adds.each there.0 e there.1).0;
+          lacked = λ e there. (new_here mid adds.added adds.each there.0 e there.1).1;
+          whole = λ n outcome of g.
+              subst (λ (o : List ℕ). HasOutcome new o) g.result (each g.execution (its_completion n g.execution g.valid g.chosen of));
+          race = (
+            λ r. elim (marks.0 r) [ inl m ↦ inl m | inr solved ↦ inr (race_here.0 solved) ],
+            λ h. marks.1 (elim h [ inl m ↦ inl m | inr one ↦ inr (race_here.1 one) ]),
+          );
+        }
+
+  -- ---- all boxes
+  pub none_at_all : (class : Class) → HasNoneBefore t boxes class from to (boxes_len boxes) → HasNoneOf t class (in_range from to)
+  none_at_all class none n among g = none n (its_box n among) g
+
+  pub gained_all : (old new : List Entry) (mark all : Bool) → Gains t (λ n. IsOfFirst t boxes from to (boxes_len boxes) n) old new mark all
+      → Gains t (λ n. IsTrue (in_range from to n)) old new mark all
+  gained_all old new mark all =
+      gains_as t (λ n. IsOfFirst t boxes from to (boxes_len boxes) n) (λ n. IsTrue (in_range from to n)) old new mark all
+      (λ n. (λ of. of.is.among, λ among. its_box n among))

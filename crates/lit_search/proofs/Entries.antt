@@ -10,7 +10,7 @@ use Rattle.std.specs.Ordering.{is_gt, nat_cmp, ordering_reverse, then_cmp, on}
 use Rattle.std.specs.declared.cmp.Ordering.{Ordering}
 use Rattle.std.specs.declared.cmp.Ordering.TheVariants.{Less, Equal, Greater}
 use Rattle.std.proofs.Common.{rules}
-use Rattle.lit_search.specs.Report.{Entry, example_cmp, outcome_cmp}
+use Rattle.lit_search.specs.Report.{Entry, HasEntry, example_cmp, outcome_cmp}
 use Rattle.lit_read.proofs.ListLemmas.{all_weaker}
 
 -- entries with rising outcomes
@@ -62,35 +62,30 @@ pub not_after_greater : (a b : Entry) → is_gt (example_cmp a b) ≡ is_gt Grea
 not_after_greater a b h = ap is_gt (example_total.antisymm b a) ∙ not_greater (example_cmp a b) (is_greater (example_cmp a b) h)
 
 -- ---- standing in a list
-pub record Stands (xs : List Entry) (entry : Entry) : Type 0 where
-  pub place : ℕ
-  pub is : slice_get xs place ≡ Some entry
+abbrev pub Stands : List Entry → Entry → Type 0
+Stands xs entry = HasEntry xs entry
 
 pub first_stands : (x : Entry) (xs : List Entry) → Stands (x ∷ xs) x
-first_stands x xs = record { place = 0; is = refl }
+first_stands x xs = (0, refl)
 
 pub later_stands : (x y : Entry) (xs : List Entry) → Stands xs y → Stands (x ∷ xs) y
-later_stands x y xs s = record { place = suc s.place; is = s.is }
+later_stands x y xs s = (suc s.0, s.1)
 
 pub stands_in_none : (y : Entry) → Stands [] y → ⊥
-stands_in_none y s = absurd (let e = s.is in cc)
+stands_in_none y s = absurd (let e = s.1 in cc)
 
 -- an entry of x ∷ xs is x, or stands in xs
 pub stands_cases : (x y : Entry) (xs : List Entry) → Stands (x ∷ xs) y → (y ≡ x) ⊎ Stands xs y
-stands_cases x y xs s = by s.place s.is
+stands_cases x y xs s = by s.0 s.1
   where
     by : (k : ℕ) → slice_get (x ∷ xs) k ≡ Some y → (y ≡ x) ⊎ Stands xs y
     by zero e = inl (let f : Some y ≡ Some x = sym e in cc)
-    by (suc k) e = inr (record { place = k; is = e })
-
-cases_to : (P : Entry → Type 0) (y z : Entry) (zs : List Entry) → P z → (Stands zs y → P y) → (y ≡ z) ⊎ Stands zs y → P y
-cases_to P y z zs p f (inl e) = subst P (sym e) p
-cases_to P y z zs p f (inr s) = f s
+    by (suc k) e = inr (k, e)
 
 -- what holds of all, by recursion, holds of one, and back
 pub all_stand : (P : Entry → Type 0) (xs : List Entry) → AllByRecursion P xs → (y : Entry) → Stands xs y → P y
 all_stand P [] h y s = absurd (stands_in_none y s)
-all_stand P (x ∷ xs) h y s = cases_to P y x xs h.0 (all_stand P xs h.1 y) (stands_cases x y xs s)
+all_stand P (x ∷ xs) h y s = elim (stands_cases x y xs s) [ inl e ↦ subst P (sym e) h.0 | inr t ↦ all_stand P xs h.1 y t ]
 
 pub all_from_each : (P : Entry → Type 0) (xs : List Entry) → ((y : Entry) → Stands xs y → P y) → AllByRecursion P xs
 all_from_each P [] each = tt
@@ -145,15 +140,7 @@ same_rising (x ∷ xs) (y ∷ ys) up vp f g = joined heads (same_rising xs ys up
     not_first_there e s is = differs y.outcome e.outcome (less_is _ (all_stand (λ w. outcome_cmp y w ≡ Less) ys vp.0 e s)) (ap (λ (w : Entry). w.outcome) (sym heads ∙ sym is))
 
     into : (e : Entry) → Stands xs e → Stands ys e
-    into e s = by (stands_cases y e ys (f e (later_stands x e xs s)))
-      where
-        by : (e ≡ y) ⊎ Stands ys e → Stands ys e
-        by (inl is) = absurd (not_first e s is)
-        by (inr t) = t
+    into e s = elim (stands_cases y e ys (f e (later_stands x e xs s))) [ inl is ↦ absurd (not_first e s is) | inr t ↦ t ]
 
     back : (e : Entry) → Stands ys e → Stands xs e
-    back e s = by (stands_cases x e xs (g e (later_stands y e ys s)))
-      where
-        by : (e ≡ x) ⊎ Stands xs e → Stands xs e
-        by (inl is) = absurd (not_first_there e s is)
-        by (inr t) = t
+    back e s = elim (stands_cases x e xs (g e (later_stands y e ys s))) [ inl is ↦ absurd (not_first_there e s is) | inr t ↦ t ]

@@ -9,7 +9,7 @@ use Rattle.std.specs.declared.cmp.Ordering.{Ordering}
 use Rattle.std.specs.declared.cmp.Ordering.TheVariants.{Less, Equal, Greater}
 use Rattle.std.proofs.lemmas.List.{nil_from_length}
 use Rattle.std.proofs.lemmas.Map.Lookups.{exact_bytes}
-use Rattle.lit_search.specs.Report.{Entry, HasEntry, Report, example_cmp, outcome_cmp}
+use Rattle.lit_search.specs.Report.{Entry, Report, example_cmp, outcome_cmp}
 use Rattle.lit_search.specs.Merge.{AreMerged, HasInEither, IsMerge}
 use Rattle.lit_search.specs.Internal.Merged.{heads_cmp, lesser, merged_from, merged}
 use Rattle.lit_search.proofs.Entries.{AreRising, Stands, all_stand, all_from_each, below_rising, first_stands, later_stands, not_after_greater, not_after_itself, once, reversed, same_below, stands_cases, stands_in_none}
@@ -144,26 +144,16 @@ comes w [] ys (inr s) = comes_itself ys w s
 comes w (x ∷ xs) ys s = comes_from w x xs (merged xs) ys (λ zs t. comes w xs zs t) s
 
 -- ---- as reports
-entry_stands : (r : List Entry) (e : Entry) → HasEntry r e → Stands r e
-entry_stands r e h = record { place = h.0; is = h.1 }
-
-stands_entry : (r : List Entry) (e : Entry) → Stands r e → HasEntry r e
-stands_entry r e s = (s.place, s.is)
-
-either_stands : (a b : List Entry) (e : Entry) → HasInEither a b e → Stands a e ⊎ Stands b e
-either_stands a b e (inl h) = inl (entry_stands a e h)
-either_stands a b e (inr h) = inr (entry_stands b e h)
-
 pub AreMerged-merged : (a b c : List Entry) → AreRising a → AreRising b → c ≡ merged a b → AreMerged a b c
 AreMerged-merged a b c up vp is = record {
   rising = up_merged;
-  of_either = λ e h. all_stand (HasInEither a b) c each e (entry_stands c e h);
+  of_either = λ e h. all_stand (HasInEither a b) c each e h;
   least = λ e w h k same.
       let m = come w k in
-      let one : m.entry ≡ e = once c up_merged m.entry e m.stands (entry_stands c e h) (m.same ∙ same) in
+      let one : m.entry ≡ e = once c up_merged m.entry e m.stands h (m.same ∙ same) in
       let P : Entry → Type 0 = λ v. IsFalse (is_gt (example_cmp v w)) in
       subst P one m.least;
-  whole = λ w k. let m = come w k in (m.entry, stands_entry c m.entry m.stands, m.same);
+  whole = λ w k. let m = come w k in (m.entry, m.stands, m.same);
 }
   where
     up_merged : AreRising c
@@ -172,10 +162,10 @@ AreMerged-merged a b c up vp is = record {
     each : AllByRecursion (HasInEither a b) c
     each =
         let P : List Entry → Type 0 = AllByRecursion (HasInEither a b) in
-        subst P (sym is) (all_merged (HasInEither a b) a b (all_from_each (HasInEither a b) a (λ e s. inl (stands_entry a e s))) (all_from_each (HasInEither a b) b (λ e s. inr (stands_entry b e s))))
+        subst P (sym is) (all_merged (HasInEither a b) a b (all_from_each (HasInEither a b) a (λ e s. inl s)) (all_from_each (HasInEither a b) b (λ e s. inr s)))
 
     come : (w : Entry) → HasInEither a b w → Comes c w
-    come w k = let P : List Entry → Type 0 = λ zs. Comes zs w in subst P (sym is) (comes w a b (either_stands a b w k))
+    come w k = let P : List Entry → Type 0 = λ zs. Comes zs w in subst P (sym is) (comes w a b k)
 
 pub IsMerge-merged : (a b c : Report) → AreRising a.entries → AreRising b.entries → c.entries ≡ merged a.entries b.entries → c.race ≡ (a.race || b.race) → IsMerge a b c
 IsMerge-merged a b c up vp is race = record { entries = AreMerged-merged a.entries b.entries c.entries up vp is; race = race }

@@ -1,6 +1,7 @@
 -- The accesses of an interleaving, in the order in which they are made, and the executions of a schedule (this project's
 -- own).
-use Rattle.std.specs.Prelude.{◌≡◌, ℕ, ◌+◌, if◌then◌else◌, None, Some, List, [], ◌∷◌, ◌++◌, length, map, replicate, slice_get, slice_index}
+use Rattle.std.specs.Prelude.{◌≡◌, ℕ, ◌+◌, if◌then◌else◌, None, Some, List, [], ◌∷◌, ◌++◌}
+use Rattle.std.specs.Prelude.{length, map, replicate, slice_get, slice_index}
 use Rattle.std.specs.List.{range_with_len}
 use Rattle.lit_read.specs.Syntax.{Statement, Statements, Load, Store, Exchange, CompareExchange, If, End, Then, Litmus}
 use Rattle.lit_paths.specs.Event.{event_at}

@@ -1,25 +1,9 @@
--- Notions of the contracts inside this crate: what is found out of one choice, and of several.
-pub mod Examined
-pub mod Outcomes
+-- Notions of the contracts inside this crate: what is found in boxes, and in several sets of choices.
 pub mod Merged
 pub mod Shown
-pub mod Kept
-pub mod Taking
+pub mod Risen
+pub mod Gained
+pub mod Boxed
 pub mod Packed
 pub mod Ranks
-pub mod Held
-pub mod Places
-pub mod RefusedSources
-pub mod LeftOut
-pub mod Standing
-pub mod Collecting
-pub mod Wanting
-pub mod Passing
-pub mod StoodFor
-pub mod Others
-pub mod Alike
 pub mod Runners
-pub mod Foreseeing
-pub mod Coming
-pub mod Listing
-pub mod Boxed

@@ -1,5 +1,3 @@
-pub mod Foreseen
-pub mod StandsFor
 pub mod Report
 pub mod Merge
 pub mod Collected

@@ -1,18 +1,14 @@
 -- The report of a set of choices (this project's own): the outcomes of the valid executions, each with its example, and
 -- whether one of these has a data race. A set of choices is a test on their numbers.
-use Rattle.std.specs.Prelude.{◌≡◌, ◌↔◌, ℕ, ◌<◌, Bool, false, ◌&&◌, ◌||◌, nat_le, nat_lt, IsTrue, List, [], Some, slice_get, slice_index_or}
+use Rattle.std.specs.Prelude.{◌≡◌, ◌↔◌, ℕ, ◌<◌, Bool, false, ◌&&◌, ◌||◌, nat_le, nat_lt}
+use Rattle.std.specs.Prelude.{IsTrue, List, [], Some, slice_get, slice_index_or}
 use Rattle.std.specs.Cmp.Lexicographic.{slice_cmp}
 use Rattle.std.specs.Ordering.{nat_cmp, ordering_then}
 use Rattle.std.specs.declared.cmp.Ordering.{Ordering}
 use Rattle.std.specs.List.Sorted.{IsStrictlySortedBy}
 use Rattle.lit_read.specs.Syntax.{Litmus}
+pub use Rattle.lit_valid.specs.Entry.{Entry, HasEntry}
 use Rattle.lit_valid.specs.Gives.{Gives, GivesRace, HasLeastOrder}
-
--- an outcome with its example: the number of a choice, and a memory-order of it
-pub record Entry : Type 0 where
-  pub outcome : List ℕ
-  pub choice : ℕ
-  pub order : List ℕ
 
 -- entries, and the mark of data races
 pub record Report : Type 0 where
@@ -30,10 +26,6 @@ example_cmp a b = ordering_then (nat_cmp a.choice b.choice) (slice_cmp nat_cmp a
 -- the entry at a place; past the last one, one with no outcome and no order
 abbrev pub entry_at : Report → ℕ → Entry
 entry_at report i = slice_index_or report.entries i (record { outcome = []; choice = 0; order = [] })
-
--- this is one of the entries
-abbrev pub HasEntry : List Entry → Entry → Type 0
-HasEntry entries entry = (i : ℕ) × (slice_get entries i ≡ Some entry)
 
 -- ---- sets of numbers
 -- none

@@ -52,7 +52,7 @@ impl Model for Found {
 
 impl Found {
     ghost use Rattle.std.specs.Prelude.{◌≡◌, ◌<◌, ◌==◌, IfOk, length};
-    ghost use Rattle.lit_search.specs.Internal.Kept.{risen};
+    ghost use Rattle.lit_search.specs.Internal.Risen.{risen};
     ghost use Rattle.lit_search.specs.Report.{entry_at};
 
     /// These outcomes, ranked, with their examples, and the mark of data races.

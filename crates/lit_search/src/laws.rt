@@ -1,7 +1,5 @@
-//! What holds of reports, of parts and their completions, and of schedules. The functions do nothing: their contracts are
-//! theorems.
+//! What holds of reports, of valid executions and of schedules. The functions do nothing: their contracts are theorems.
 
-mod completions;
 mod schedules;
 mod sequential;
 
@@ -10,10 +8,6 @@ ghost use Rattle.lit_read.specs.Syntax.{Litmus};
 ghost use Rattle.lit_paths.specs.Choice.{choices_of};
 ghost use Rattle.lit_search.specs.Report.{Report, IsReport};
 
-pub use completions::{
-    executions_take_what_can_stand, init_stands_for_sources, others_stand_for_sources,
-    settled_pasts_are_final,
-};
 pub use lit_valid::laws::{
     broken_parts_have_no_completion, choices_have_one_outcome, orders_of_completions_keep_parts,
     whole_parts_are_decided_by_orders,

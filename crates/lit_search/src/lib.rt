@@ -6,7 +6,6 @@
 #![tactic(auto)]
 
 mod collector;
-mod cursor;
 mod fault;
 mod found;
 mod interleaving;

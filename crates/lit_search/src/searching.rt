@@ -1,39 +1,39 @@
-//! Searching a range of choices.
+//! Searching a range of choices, one combination after the other and box by box.
 
-ghost use Rattle.std.specs.Prelude.{◌≡◌, ◌+◌, ◌<◌, ◌≤◌, length, IfOk, MatchOption};
+ghost use Rattle.std.specs.Prelude.{◌↔◌, ◌⊎◌, ◌+◌, ◌<◌, ◌≤◌, IsTrue, length, IfOk, MatchOption};
 ghost use Rattle.lit_read.specs.Syntax.{IsLitmus};
 ghost use Rattle.lit_paths.specs.Choice.{choices_of};
 ghost use Rattle.lit_paths.specs.Plan.{choices_before};
+ghost use Rattle.lit_solve.specs.declared.goal.Goal.TheVariants.{Race};
+ghost use Rattle.lit_solve.specs.Box.{IsBox, box_with};
+ghost use Rattle.lit_solve.specs.Completion.{HasSolution};
 ghost use Rattle.lit_search.specs.FirstOfClass.{HasNoneOf, IsFirstOf};
 ghost use Rattle.lit_search.specs.Report.{IsReport, in_range};
+ghost use Rattle.lit_search.specs.Internal.Boxed.{AreOfRange};
+ghost use Rattle.lit_search.specs.Internal.Gained.{Gains, GoesOn};
 
 use crate::collector::Collector;
-use crate::cursor::coming::CHOICES_FOR_ITEM;
 use crate::fault::SearchFault;
 use crate::found::Found;
-use lit_paths::laws::{choices_are_listed, choices_are_on_combinations};
+use crate::found::examples::Examples;
 use lit_paths::{BYTE_READ_LIMIT, Plan};
 use lit_rel::EventSet;
-use lit_solve::{Boxes, Goal, Problem, least, number_of};
+use lit_solve::{Boxes, Domains, Goal, Problem, exists, least, number_of, outcomes};
 use lit_valid::Class;
-use std::alloc::Global;
+use lit_valid::laws::laws_below;
+use std::alloc::{AllocError, Global};
 
-/// The report of the choices with numbers from `from` up to and without `to`: `from` is at most `to`, and `to` at most
-/// `plan.total()`. Answers `SearchFault::OutOfMemory` where a growth was refused, and no other fault.
-pub fn search_range(
-    alloc: Global,
-    plan: &Plan<'_>,
-    from: u64,
-    to: u64,
-) -> Result<Found, SearchFault>
-    requires order { from ≤ to }
-    requires known { to ≤ length (choices_of plan.now) }
-    ensures { IfOk result (IsReport plan.now (in_range from to)) }
+/// The boxes of the choices with numbers from `from` up to and without `to`, all of the problem's combination.
+fn boxes_of<'a, 'p>(problem: &'a Problem<'p>, from: u64, to: u64) -> Boxes<'a, 'p>
+    requires some { from < to }
+    requires begins { choices_before problem.now.0 problem.now.1 ≤ from }
+    requires ends { to ≤ choices_before problem.now.0 (problem.now.1 + 1) }
+    ensures { AreOfRange problem.now from to result }
 {
-    let mut collector = Collector::new(alloc, &*plan);
-    collector.let_list(to - from >= CHOICES_FOR_ITEM);
-    collector.take(from, to)?;
-    collector.into_found()
+    let combination = problem.combination();
+    // That the combination is one of the test is known of its first choice.
+    let _first = combination.first();
+    Boxes::of_range(combination, from, to)
 }
 
 /// The first choice of a class with a number from `from` up to and without `to`, all of the problem's combination: the least
@@ -45,17 +45,13 @@ fn first_on(problem: &Problem<'_>, class: Class, from: u64, to: u64) -> Option<u
     requires ends { to ≤ choices_before problem.now.0 (problem.now.1 + 1) }
     ensures { MatchOption result (HasNoneOf problem.now.0 class (in_range from to)) (IsFirstOf problem.now.0 class (in_range from to)) }
 {
-    choices_are_listed();
-    choices_are_on_combinations();
-    // That the combination is one of the test is known of its first choice.
-    let combination = problem.combination();
-    let _first = combination.first();
-    let boxes = Boxes::of_range(combination, from, to);
+    laws_below();
+    let boxes = boxes_of(problem, from, to);
     let mut domains = [EventSet::new(); BYTE_READ_LIMIT];
     for i in 0..boxes.len() {
         boxes.put(i, &mut domains);
         if let Some(least) = least(problem, &domains, Goal::OfClass(class)) {
-            return Some(number_of(combination, least.sources.as_slice()));
+            return Some(number_of(problem.combination(), least.sources.as_slice()));
         }
     }
     None
@@ -79,4 +75,83 @@ pub fn first_in(plan: &Plan<'_>, class: Class, from: u64, to: u64) -> Option<u64
         next = end;
     }
     None
+}
+
+/// Whether it was marked, or a box of the problem's combination has a completion with a data race.
+fn is_marked_with(problem: &Problem<'_>, domains: &Domains, mark: bool) -> bool
+    requires { IsBox (box_with problem.now domains.now) }
+    ensures { IsTrue result ↔ (IsTrue mark ⊎ HasSolution (box_with problem.now domains.now) Race) }
+{
+    mark || exists(problem, domains, Goal::Race)
+}
+
+/// Records the outcomes of the choices with numbers from `from` up to and without `to`, all of the problem's combination,
+/// that a table lacks. Whether it was marked, or one of these choices has a data race.
+fn record_on(
+    problem: &Problem<'_>,
+    table: &mut Examples,
+    mark: bool,
+    from: u64,
+    to: u64,
+) -> Result<bool, AllocError>
+    requires litmus { IsLitmus problem.now.0 }
+    requires some { from < to }
+    requires begins { choices_before problem.now.0 problem.now.1 ≤ from }
+    requires ends { to ≤ choices_before problem.now.0 (problem.now.1 + 1) }
+    ensures goes_on { GoesOn table.old table.new }
+    ensures gains { IfOk result (Gains problem.now.0 (λ n. IsTrue (in_range from to n)) table.old table.new mark) }
+{
+    laws_below();
+    let boxes = boxes_of(problem, from, to);
+    let mut domains = [EventSet::new(); BYTE_READ_LIMIT];
+    let mut race = mark;
+    for place in 0..boxes.len() {
+        boxes.put(place, &mut domains);
+        outcomes(problem, &domains, table)?;
+        race = is_marked_with(problem, &domains, race);
+    }
+    Ok(race)
+}
+
+/// Records the outcomes of the choices with numbers from `from` up to and without `to` that a table lacks. Whether it was
+/// marked, or one of these choices has a data race.
+pub(crate) fn record(
+    plan: &Plan<'_>,
+    table: &mut Examples,
+    mark: bool,
+    from: u64,
+    to: u64,
+) -> Result<bool, AllocError>
+    requires order { from ≤ to }
+    requires known { to ≤ length (choices_of plan.now) }
+    ensures goes_on { GoesOn table.old table.new }
+    ensures gains { IfOk result (Gains plan.now (λ n. IsTrue (in_range from to n)) table.old table.new mark) }
+{
+    let _test = plan.test();
+    let mut race = mark;
+    let mut next = from;
+    while next < to {
+        let problem = Problem::open(&*plan, plan.combination(next));
+        let end = problem.combination().end().min(to);
+        race = record_on(&problem, table, race, next, end)?;
+        next = end;
+    }
+    Ok(race)
+}
+
+/// The report of the choices with numbers from `from` up to and without `to`: `from` is at most `to`, and `to` at most
+/// `plan.total()`. Answers `SearchFault::OutOfMemory` where a growth was refused, and no other fault.
+pub fn search_range(
+    alloc: Global,
+    plan: &Plan<'_>,
+    from: u64,
+    to: u64,
+) -> Result<Found, SearchFault>
+    requires order { from ≤ to }
+    requires known { to ≤ length (choices_of plan.now) }
+    ensures { IfOk result (IsReport plan.now (in_range from to)) }
+{
+    let mut collector = Collector::new(alloc, &*plan);
+    collector.take(from, to)?;
+    collector.into_found()
 }

@@ -157,7 +157,7 @@ module _ (box : Box) (r number : ℕ) where
           ∙ composed_again number e.size (sound.sized r known) fits
 
       -- another number, as its byte is another at one place
-      other_number : (k b w : ℕ) → slice_get (byte_reads events) k ≡ Some (r, b) → slice_get sources k ≡ Some w → ¬ StoresIt b w
+      pub other_number : (k b w : ℕ) → slice_get (byte_reads events) k ≡ Some (r, b) → slice_get sources k ≡ Some w → ¬ StoresIt b w
           → (value_of events sources r == number) ≡ false
       other_number k b w at source other =
           false_of box.test.bytes events sound sources lie.sourced.one_each r b w (record { on = None; equal = true; value = number }) (k, at, source)

@@ -44,11 +44,18 @@ module _ (box : Box) (place : ℕ) (left : EventSet) (room : place < length box.
   domain_other k other = get_or-set_other box.domains place k left no_events other
 
   -- an event is in a domain of the new box exactly where it is in that of the old one, and in what is left at the place
-  source_here : (w : ℕ) → HasEvent left w → HasSource (narrowed_at box place left) place w
+  pub source_here : (w : ℕ) → HasEvent left w → HasSource (narrowed_at box place left) place w
   source_here w there = subst (λ (set : EventSet). HasEvent set w) (sym domain_here) there
 
-  source_other : (k w : ℕ) → k ≢ place → HasSource box k w → HasSource (narrowed_at box place left) k w
+  pub source_other : (k w : ℕ) → k ≢ place → HasSource box k w → HasSource (narrowed_at box place left) k w
   source_other k w other there = subst (λ (set : EventSet). HasEvent set w) (sym (domain_other k other)) there
+
+  -- no domain is empty, where something is left
+  pub none_empty_at : ¬ HasEmptyDomain box → (w : ℕ) × HasEvent left w → ¬ HasEmptyDomain (narrowed_at box place left)
+  none_empty_at some_each some (k, inside, none) = elim (cases_eq k place) [
+    | inl at ↦ none some.0 (subst (λ (j : ℕ). HasSource (narrowed_at box place left) j some.0) (sym at) (source_here some.0 some.1))
+    | inr other ↦ some_each (k, inside, λ w there. none w (source_other k w other there))
+  ]
 
   module _ (within : (w : ℕ) → HasEvent left w → HasSource box place w) where
     source_before : (k w : ℕ) → HasSource (narrowed_at box place left) k w → HasSource box k w
@@ -79,10 +86,7 @@ module _ (box : Box) (place : ℕ) (left : EventSet) (room : place < length box.
     -- what a frame has is so of the new box, where something is left
     module _ (frame : Frame) (is : IsContained box frame) (some : (w : ℕ) × HasEvent left w) where
       none_empty : ¬ HasEmptyDomain (narrowed_at box place left)
-      none_empty (k, inside, none) = elim (cases_eq k place) [
-        | inl at ↦ none some.0 (subst (λ (j : ℕ). HasSource (narrowed_at box place left) j some.0) (sym at) (source_here some.0 some.1))
-        | inr other ↦ is.some (k, inside, λ w there. none w (source_other k w other there))
-      ]
+      none_empty = none_empty_at is.some some
 
       pub narrowed_contained : IsContained (narrowed_at box place left) (frame_at frame place left)
       narrowed_contained = record {

@@ -33,7 +33,7 @@ module _ (events : List Event) (p : ℕ × ℕ) (reads : List (ℕ × ℕ)) (w :
       ap (λ (b : Bool). map {A = (ℕ × ℕ) × ℕ} {B = ℕ} (λ q. payload_at (event_at events q.1) q.0.1)
       (cond b ((p, w) ∷ filter {X = (ℕ × ℕ) × ℕ} (λ q. q.0.0 == r) (zip reads sources)) (filter (λ q. q.0.0 == r) (zip reads sources)))) is_test
 
-  taken_other : p.0 ≢ r → bytes_taken events (p ∷ reads) (w ∷ sources) r ≡ bytes_taken events reads sources r
+  pub taken_other : p.0 ≢ r → bytes_taken events (p ∷ reads) (w ∷ sources) r ≡ bytes_taken events reads sources r
   taken_other other =
       let no_test : (p.0 == r) ≡ false = grind (arith, nat_tests) in
       ap (λ (b : Bool). map {A = (ℕ × ℕ) × ℕ} {B = ℕ} (λ q. payload_at (event_at events q.1) q.0.1)
@@ -98,7 +98,7 @@ module _ (box : Box) (r : ℕ) where
 
     -- a byte of the read
     module _ (same : p.0 ≡ r) where
-      same_number : (value + 256 ^ bytes * payload_at (event_at events w) p.1) + 256 ^ (bytes + 1) * composed (bytes_taken events reads sources r)
+      pub same_number : (value + 256 ^ bytes * payload_at (event_at events w) p.1) + 256 ^ (bytes + 1) * composed (bytes_taken events reads sources r)
           ≡ value + 256 ^ bytes * composed (bytes_taken events (p ∷ reads) (w ∷ sources) r)
       same_number =
           together (256 ^ bytes) (256 ^ (bytes + 1)) (payload_at (event_at events w) p.1) (composed (bytes_taken events reads sources r)) (pow_more 256 bytes)
@@ -143,7 +143,7 @@ module _ (box : Box) (r : ℕ) where
       }
 
   -- no byte of the read
-  taken_none : (reads : List (ℕ × ℕ)) (sources : List ℕ) → ((i b : ℕ) → slice_get reads i ≢ Some (r, b)) → bytes_taken events reads sources r ≡ []
+  pub taken_none : (reads : List (ℕ × ℕ)) (sources : List ℕ) → ((i b : ℕ) → slice_get reads i ≢ Some (r, b)) → bytes_taken events reads sources r ≡ []
   taken_none [] sources none = refl
   taken_none (p ∷ reads) [] none = refl
   taken_none (p ∷ reads) (w ∷ sources) none =
@@ -151,7 +151,7 @@ module _ (box : Box) (r : ℕ) where
       ∙ taken_none reads sources (λ i b at. none (suc i) b at)
 
   module _ (reads : List (ℕ × ℕ)) (whole : ℕ → Type 0) (value bytes : ℕ) (sources : List ℕ) (none : (i b : ℕ) → slice_get reads i ≢ Some (r, b)) where
-    no_more : value + 256 ^ bytes * composed (bytes_taken events reads sources r) ≡ value
+    pub no_more : value + 256 ^ bytes * composed (bytes_taken events reads sources r) ≡ value
     no_more = ap (λ (bs : List ℕ). value + 256 ^ bytes * composed bs) (taken_none reads sources none) ∙ nothing (256 ^ bytes)
       where
         nothing : (unit : ℕ) → value + unit * 0 ≡ value

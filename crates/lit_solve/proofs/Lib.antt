@@ -26,3 +26,7 @@ pub mod ConditionLemmas
 pub mod LeafLemmas
 pub mod RacingLemmas
 pub mod LeastLemmas
+pub mod EntryLemmas
+pub mod ObservationLemmas
+pub mod ObservedLemmas
+pub mod IndependentLemmas

@@ -167,3 +167,14 @@ module _ (events : List Event) (r k b : ℕ) (at : slice_get (byte_reads events)
     where
       below : (unit more : ℕ) → more ≡ unit * 256 → taken.value < unit → unit * byte ≤ unit * 255 → next.value ≡ taken.value + unit * byte → next.value < more
       below unit more is was least now = omega (arith, is, was, least, now)
+
+-- before the first byte there is room
+pub room_first : (events : List Event) (r k : ℕ) (taken : Taken) → k ≤ length (byte_reads events)
+    → ((j q b : ℕ) → k ≤ j → slice_get (byte_reads events) j ≡ Some (q, b) → r ≤ q) → (event_at events r).size ≤ 4 → taken.value ≡ 0 → taken.bytes ≡ 0
+    → HasRoom events r k taken
+room_first events r k taken within later size value bytes = record {
+  place = within;
+  later = later;
+  composed = subst (λ (n : ℕ). taken.value < 256 ^ n) (sym bytes) (omega (arith, value));
+  few = omega (arith, size, few_bytes events r k, bytes);
+}

@@ -10,3 +10,5 @@ pub mod Searching
 pub mod Descending
 pub mod Cut
 pub mod Parted
+pub mod Observation
+pub mod Independent

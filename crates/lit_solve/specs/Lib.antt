@@ -1,6 +1,7 @@
 pub mod Box
 pub mod Goal
 pub mod Completion
+pub mod Outcomes
 pub mod Given
 pub mod Out
 pub mod Fill

@@ -49,7 +49,7 @@ impl Problem<'_> {
     }
 
     /// Whether the byte read at a place has several sources left, one of which can force something.
-    fn can_force(&self, frame: &Frame, place: usize) -> bool
+    pub(crate) fn can_force(&self, frame: &Frame, place: usize) -> bool
         requires place { place < length (byte_reads (events_on self.now)) }
         requires contained { IsContained (box_of self.now frame.now) frame.now }
         ensures open { IsTrue result → (w : ℕ) → ¬ HasAlone (box_of self.now frame.now) place w }

@@ -112,7 +112,7 @@ impl Problem<'_> {
 
     /// The read that a register of an agent holds at the end of the agent's path, by number; `None` where it was not
     /// written.
-    fn read_held(&self, agent: u8, reg: u8) -> Option<usize>
+    pub(crate) fn read_held(&self, agent: u8, reg: u8) -> Option<usize>
         ensures value { result ≡ read_of self.now.0 self.now.1 (agent, reg) }
         ensures reads { IfSome result (λ r. (r < length (events_on self.now))
             × IsTrue (does_read (event_of (events_on self.now) r).kind)) }

@@ -1,6 +1,7 @@
 //! Filling: whether a read has sources by itself, in the domains of its bytes.
 
-ghost use Rattle.std.specs.Prelude.{◌≡◌, ◌↔◌, ◌⊎◌, ℕ, ◌+◌, ◌*◌, ◌^◌, ◌<◌, ◌≤◌, IsTrue, MatchOption, length, slice_get, Some};
+ghost use Rattle.std.specs.Prelude.{◌≡◌, ◌↔◌, ◌⊎◌, ℕ, ◌+◌, ◌*◌, ◌^◌, ◌<◌, ◌≤◌, IsTrue};
+ghost use Rattle.std.specs.Prelude.{MatchOption, length, slice_get, Some};
 ghost use Rattle.lit_paths.specs.ByteReads.{byte_read_at, byte_reads};
 ghost use Rattle.lit_paths.specs.declared.limits.TheConstants.{BYTE_READ_LIMIT, EVENT_LIMIT};
 ghost use Rattle.lit_paths.specs.Event.{event_at as event_of, payload_at as payload_of};
@@ -17,13 +18,28 @@ use lit_rel::{EventSet, can_read_whole, has_false_test, payload_at};
 
 /// What a read takes from the sources that were chosen for its first bytes.
 #[derive(Clone, Copy)]
-struct Taken {
+pub(crate) struct Taken {
     /// Those from which it can read whole.
     whole: EventSet,
     /// The number that the bytes compose.
-    value: u32,
+    pub(crate) value: u32,
     /// How many bytes these are.
     bytes: u32,
+}
+
+impl Taken {
+    /// Nothing, before its first byte.
+    pub(crate) fn nothing() -> Self
+        ensures whole { (v : ℕ) → ¬ HasEvent result.whole v }
+        ensures value { result.value ≡ 0 }
+        ensures bytes { result.bytes ≡ 0 }
+    {
+        Taken {
+            whole: EventSet::new(),
+            value: 0,
+            bytes: 0,
+        }
+    }
 }
 
 /// The events of a set that store this at a byte.
@@ -45,7 +61,7 @@ pub(crate) fn storing(events: &[Event], among: EventSet, byte: u8, stored: u8) -
 
 impl Problem<'_> {
     /// The place of the first byte read of this read or of a later one, or how many byte reads there are.
-    fn first_place(&self, read: u8) -> usize
+    pub(crate) fn first_place(&self, read: u8) -> usize
         ensures within { result ≤ length (byte_reads (events_on self.now)) }
         ensures before { (k q b : ℕ) → k < result → slice_get (byte_reads (events_on self.now)) k ≡ Some (q, b) → q < read }
         ensures later { (k q b : ℕ) → result ≤ k → slice_get (byte_reads (events_on self.now)) k ≡ Some (q, b) → read ≤ q }
@@ -59,7 +75,7 @@ impl Problem<'_> {
     }
 
     /// Whether the byte read at a place, if there is one, is of this read.
-    fn is_of(&self, read: u8, place: usize) -> bool
+    pub(crate) fn is_of(&self, read: u8, place: usize) -> bool
         ensures few { IsTrue result → place < BYTE_READ_LIMIT }
         ensures of { IsTrue result ↔ ((place < length (byte_reads (events_on self.now)))
             × ((byte_read_at (events_on self.now) place).0 ≡ read)) }
@@ -108,6 +124,25 @@ impl Problem<'_> {
         }
     }
 
+    /// What the bytes of a read compose once the byte read at a place, which is of it, has this source.
+    pub(crate) fn with_byte(&self, _read: u8, place: usize, taken: Taken, source: usize) -> Taken
+        requires place { place < length (byte_reads (events_on self.now)) }
+        requires read { (byte_read_at (events_on self.now) place).0 ≡ _read }
+        requires source { source < length (events_on self.now) }
+        requires room { HasRoom (events_on self.now) _read place taken }
+        ensures value { result.value ≡ taken.value
+            + 256 ^ taken.bytes * payload_of (event_of (events_on self.now) source) (byte_read_at (events_on self.now) place).1 }
+        ensures bytes { result.bytes ≡ taken.bytes + 1 }
+        ensures room { HasRoom (events_on self.now) _read (place + 1) result }
+    {
+        let unit = 256u32.pow(taken.bytes);
+        Taken {
+            whole: taken.whole,
+            value: taken.value + unit * u32::from(self.stored(place, source)),
+            bytes: taken.bytes + 1,
+        }
+    }
+
     /// What a read takes once the byte read at a place, which is of it, has this source: `None` where that would tear it.
     fn take(&self, read: u8, place: usize, taken: Taken, source: usize) -> Option<Taken>
         requires place { place < length (byte_reads (events_on self.now)) }
@@ -121,12 +156,8 @@ impl Problem<'_> {
         let Some(whole) = self.whole_with(read, taken.whole, source) else {
             return None;
         };
-        let unit = 256u32.pow(taken.bytes);
-        Some(Taken {
-            whole,
-            value: taken.value + unit * u32::from(self.stored(place, source)),
-            bytes: taken.bytes + 1,
-        })
+        let next = self.with_byte(read, place, taken, source);
+        Some(Taken { whole, ..next })
     }
 
     /// The events of a set that store what a source does for the byte read at a place.
@@ -202,11 +233,6 @@ impl Problem<'_> {
     {
         // None of a problem's events has more than four bytes.
         let _ = &self.combination;
-        let none = Taken {
-            whole: EventSet::new(),
-            value: 0,
-            bytes: 0,
-        };
-        self.fills_on(domains, read, self.first_place(read), none)
+        self.fills_on(domains, read, self.first_place(read), Taken::nothing())
     }
 }

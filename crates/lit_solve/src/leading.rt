@@ -2,12 +2,13 @@
 
 ghost use Rattle.std.specs.Prelude.{◌≡◌, ◌↔◌, ℕ, IfNone, IfSome, IsFalse, IsTrue, MatchOption, length};
 ghost use Rattle.lit_paths.specs.ByteReads.{byte_reads};
-ghost use Rattle.lit_solve.specs.Box.{LiesIn, events_on};
+ghost use Rattle.lit_solve.specs.Box.{IsBox, LiesIn, box_with, events_on};
 ghost use Rattle.lit_solve.specs.Completion.{HasSolution, IsLeastSolution};
 ghost use Rattle.lit_solve.specs.Internal.Descending.{AreAloneBelow, IsLowest};
-ghost use Rattle.lit_solve.specs.Internal.Frames.{IsContained, box_of};
+ghost use Rattle.lit_solve.specs.Internal.Frames.{box_of};
 ghost use Rattle.lit_solve.specs.Internal.Settled.{IsSettled};
 
+use crate::domains::{Domains, only_one};
 use crate::frame::Frame;
 use crate::goal::Goal;
 use crate::laws::quiet_boxes_have_one_order;
@@ -24,15 +25,16 @@ pub struct Least {
 
 impl Problem<'_> {
     /// The one source that is left of each byte read.
-    fn sources_of(&self, frame: &Frame) -> Sources
-        requires contained { IsContained (box_of self.now frame.now) frame.now }
-        requires alone { AreAloneBelow (box_of self.now frame.now) (length (byte_reads (events_on self.now))) }
+    pub(crate) fn sources_of(&self, domains: &Domains) -> Sources
+        requires is_box { IsBox (box_with self.now domains.now) }
+        requires alone { AreAloneBelow (box_with self.now domains.now) (length (byte_reads (events_on self.now))) }
         ensures one_each { length result.items ≡ length (byte_reads (events_on self.now)) }
-        ensures within { LiesIn (box_of self.now frame.now) result.items }
+        ensures within { LiesIn (box_with self.now domains.now) result.items }
     {
+        let _events = self.combination.events();
         let mut sources = Sources::new();
         for place in 0..self.reads() {
-            if let Some(source) = self.given(frame, place) {
+            if let Some(source) = only_one(domains[place]) {
                 sources.push(source as u8);
             }
         }
@@ -72,7 +74,7 @@ impl Problem<'_> {
         }
         match self.least_order(&down) {
             Some(order) => Some(Least {
-                sources: self.sources_of(&down),
+                sources: self.sources_of(&down.domains),
                 order,
             }),
             None => None,

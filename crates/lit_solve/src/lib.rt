@@ -7,6 +7,7 @@
 
 mod boxes;
 mod branching;
+mod collection;
 mod deciding;
 mod descending;
 mod domains;
@@ -15,11 +16,13 @@ mod filling;
 mod forcing;
 mod frame;
 mod goal;
+mod independent;
 pub mod laws;
 mod leading;
 mod leaves;
 mod narrowing;
 mod numbering;
+mod observation;
 mod opening;
 mod ordering;
 mod problem;
@@ -28,6 +31,7 @@ mod prospect;
 mod searching;
 mod solver;
 mod stepping;
+mod table;
 mod testing;
 
 pub use boxes::Boxes;
@@ -37,4 +41,5 @@ pub use goal::Goal;
 pub use leading::Least;
 pub use numbering::number_of;
 pub use problem::Problem;
-pub use solver::{exists, least};
+pub use solver::{exists, least, outcomes};
+pub use table::OutcomeTable;

@@ -17,7 +17,7 @@ use crate::laws::{
     refuted_boxes_have_no_completion,
 };
 use crate::problem::Problem;
-use lit_rel::{EventSet, unsourced_order};
+use lit_rel::{EventSet, has_false_test, unsourced_order};
 
 impl Problem<'_> {
     /// Whether some byte read has an empty domain.
@@ -70,6 +70,9 @@ impl Problem<'_> {
     {
         refuted_boxes_have_no_completion();
         completions_fill_each_read();
+        if has_false_test(&self.combination, None, 0) {
+            return None;
+        }
         let domains = self.consistent(domains);
         if self.has_empty(&domains) {
             return None;

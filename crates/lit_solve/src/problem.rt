@@ -25,6 +25,8 @@ pub struct Problem<'p> {
     pub(crate) refused: Domains,
     /// The sequentially consistent writes that have the range of each event.
     pub(crate) peers: Rows,
+    /// The registers of an outcome, as agent and register.
+    pub(crate) names: &'p [(u8, u8)],
 }
 
 impl<'p> Model for Problem<'p> {
@@ -40,7 +42,7 @@ impl<'p> Model for Problem<'p> {
 
     ghost view = { λ p. p.combination };
 
-    ghost invariant = { λ p. IsProblem p.combination p.candidates p.refused p.peers };
+    ghost invariant = { λ p. IsProblem p.combination p.candidates p.refused p.peers p.names.now };
 }
 
 impl<'p> Problem<'p> {
@@ -64,6 +66,7 @@ impl<'p> Problem<'p> {
             candidates,
             refused,
             peers,
+            names: plan.names(),
         }
     }
 

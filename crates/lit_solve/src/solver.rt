@@ -1,13 +1,17 @@
-//! What is asked of a box: whether it has a completion that is looked for, and the least of these.
+//! What is asked of a box: whether it has a completion that is looked for, the least of these, and all outcomes.
 
-ghost use Rattle.std.specs.Prelude.{◌↔◌, IsTrue, MatchOption};
+ghost use Rattle.std.specs.Prelude.{◌↔◌, IsTrue, MatchOption, OnOk};
 ghost use Rattle.lit_solve.specs.Box.{IsBox, box_with};
 ghost use Rattle.lit_solve.specs.Completion.{HasSolution, IsLeastSolution};
+ghost use Rattle.lit_solve.specs.Outcomes.{AddsEntries, HasEachOutcome};
 
 use crate::domains::Domains;
 use crate::goal::Goal;
 use crate::leading::Least;
+use crate::observation::Values;
 use crate::problem::Problem;
+use crate::table::OutcomeTable;
+use std::alloc::AllocError;
 
 /// Whether a box of the problem's combination has a completion that is what is looked for.
 pub fn exists(problem: &Problem<'_>, domains: &Domains, goal: Goal) -> bool
@@ -30,5 +34,23 @@ pub fn least(problem: &Problem<'_>, domains: &Domains, goal: Goal) -> Option<Lea
     match problem.settle(domains) {
         Some(frame) => problem.least(&frame, goal),
         None => None,
+    }
+}
+
+/// Records the outcomes of a box's completions that a table lacks, each with the choice of the least sources with which some
+/// completion has it, and their least memory-order. Answers `AllocError` where the table refused to record one; then some
+/// outcomes may not be recorded.
+pub fn outcomes<T: OutcomeTable>(
+    problem: &Problem<'_>,
+    domains: &Domains,
+    table: &mut T,
+) -> Result<(), AllocError>
+    requires { IsBox (box_with problem.now domains.now) }
+    ensures added { AddsEntries (box_with problem.now domains.now) (T.entries table.old) (T.entries table.new) }
+    ensures whole { OnOk result (HasEachOutcome (box_with problem.now domains.now) (T.entries table.new)) }
+{
+    match problem.settle(domains) {
+        Some(frame) => problem.outcomes(&frame, &Values::new(), table, &mut false),
+        None => Ok(()),
     }
 }

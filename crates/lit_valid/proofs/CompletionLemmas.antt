@@ -24,7 +24,6 @@ use Rattle.lit_rel.specs.Part.{PartModel, part_events, with_sources}
 use Rattle.lit_rel.specs.ReadsFrom.{value_of}
 use Rattle.lit_rel.specs.TearFree.{HasTearFreeReads}
 use Rattle.lit_order.specs.MemoryOrder.{IsMemoryOrder}
-use Rattle.lit_order.specs.Refuted.{IsForcedRound, IsRefuted}
 use Rattle.lit_valid.specs.Completion.{Completes, IsEntered}
 use Rattle.lit_valid.specs.ValidExecution.{IsValidExecution, read_numbers}
 use Rattle.lit_valid.specs.Internal.GivenRuns.{AreGivenRuns, HasGivenRun, IsGivenRun}
@@ -116,11 +115,6 @@ module _ (part : PartModel) (x : Execution) (is : Completes part x) where
   pub not_broken : Laws → GrowWithBytes → ValuesStay → IsEntered part → ¬ IsBroken part
   not_broken laws grow stay entered (inl bad) = relations_whole grow bad
   not_broken laws grow stay entered (inr bad) = tests_true laws stay entered bad
-
-  -- nor does it force an event before itself
-  pub not_refuted : Laws → IsEntered part → (IsForcedRound part → (order : List ℕ) → ¬ IsMemoryOrder (part_events part) part.sources order) → ¬ IsRefuted part
-  not_refuted laws entered no_order (inl broken) = not_broken laws laws.grow laws.stay entered broken
-  not_refuted laws entered no_order (inr round) = no_order round is.valid.ordered.0 (order_kept laws.grow is.valid.ordered.0 is.valid.ordered.1)
 
   -- its outcome is what the registers hold by its sources
   pub its_outcome : Laws → IsEntered part → All (λ name. (name.0 < length part.test.agents) × (name.1 < REGISTERS)) (names_of part.test)

@@ -156,10 +156,3 @@ module _ (t : Litmus) (c agent : ℕ) (sources : List ℕ) (walk : IsWalkIn t c 
       ap (λ (rs : List ℕ). slice_index rs reg) (tells.held run given.is_run (on_walk run given) ∙ ap (λ (vs : List (ℕ × ℕ)). map (value_on vs) lasts) (chosen_of run given))
       ∙ index-map (value_on chosen) refl lasts reg
       ∙ taken_there (slice_index_or lasts reg None) (λ k at. walk.holds_reads (0 + reg) k (index-range (last_read steps) 0 REGISTERS reg k at))
-
--- the read that a register holds is an event of the combination
-pub held_within : (t : Litmus) (c agent reg k : ℕ) → IsWalkIn t c agent (walk_in t c agent) → slice_index_or (path_in t c agent).last reg None ≡ Some k
-    → first_event t c agent + k < length (events_in t c)
-held_within t c agent reg k walk at =
-    let is : IsReadAt (path_on agent (walk_in t c agent)).events k = walk.holds_reads (0 + reg) k (index-range (last_read (walk_in t c agent)) 0 REGISTERS reg k at) in
-    omega (arith, is.0, walk.within)

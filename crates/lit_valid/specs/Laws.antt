@@ -10,10 +10,8 @@ use Rattle.lit_paths.specs.PathModel.{path_model}
 use Rattle.lit_paths.specs.Plan.{IsOfCombination, IsWalkIn, choices_before, walk_in}
 use Rattle.lit_paths.specs.Run.{IsRun, Run}
 use Rattle.lit_paths.specs.Told.{TellsRuns, read_places}
-use Rattle.lit_rel.specs.DataRace.{RacesAreForeseen}
 use Rattle.lit_rel.specs.Growth.{GrowWithBytes, ValuesStay}
-use Rattle.lit_rel.specs.InitReads.{AreOfEvents, InitTakesPlace, ValuesKeepPlace}
-use Rattle.lit_rel.specs.Settled.{SettledPastsStay}
+use Rattle.lit_rel.specs.InitReads.{AreOfEvents}
 
 -- a run has one value for each of its reads
 abbrev pub ChooseForEachRead : Type 0
@@ -34,7 +32,3 @@ pub record Laws : Type 0 where
   pub grow : GrowWithBytes
   pub stay : ValuesStay
   pub of_events : (events : List Event) → AreOfEvents events
-  pub init : InitTakesPlace
-  pub values : ValuesKeepPlace
-  pub settled : SettledPastsStay
-  pub foreseen : RacesAreForeseen

@@ -16,10 +16,7 @@ use lit_paths::laws::{
     choices_have_numbers, combinations_are_listed, combinations_are_walked, paths_tell_their_runs,
     runs_choose_for_each_read,
 };
-use lit_rel::laws::{
-    byte_reads_are_of_events, init_takes_place, races_are_foreseen, relations_grow_with_bytes,
-    settled_pasts_stay, values_keep_place, values_stay,
-};
+use lit_rel::laws::{byte_reads_are_of_events, relations_grow_with_bytes, values_stay};
 
 /// The laws of the crates below that proofs cite together.
 pub fn laws_below()
@@ -36,10 +33,6 @@ pub fn laws_below()
     relations_grow_with_bytes();
     values_stay();
     byte_reads_are_of_events();
-    init_takes_place();
-    values_keep_place();
-    settled_pasts_stay();
-    races_are_foreseen();
 }
 
 /// A choice of a test that a text can say has one outcome at most.

@@ -24,4 +24,5 @@ pub record IsSaid {W : Type 0} (contents : W → Option (List ℕ)) (status : �
 -- the status that an error of the words has, by its kind
 abbrev pub IsExplained : ErrorKind → ℕ → Type 0
 IsExplained kind status = ((kind ≡ kinds.OutOfMemory) × (status ≡ 3)) ⊎ ((kind ≡ kinds.DisplayHelp) × (status ≡ 0))
-    ⊎ ((kind ≢ kinds.OutOfMemory) × (kind ≢ kinds.DisplayHelp) × (status ≡ 2))
+    ⊎ ((kind ≡ kinds.DisplayVersion) × (status ≡ 0))
+    ⊎ ((kind ≢ kinds.OutOfMemory) × (kind ≢ kinds.DisplayHelp) × (kind ≢ kinds.DisplayVersion) × (status ≡ 2))

@@ -9,6 +9,7 @@ ghost use Rattle.jslit.specs.Words.{file_argument as file_rule};
 ghost use Rattle.lit_share.specs.declared.limits.TheConstants.{CUT_LIMIT as CUTS, WORKER_LIMIT as WORKERS};
 
 use crate::command::asked_line::Line;
+use crate::command::version::VERSION;
 use crate::engine::Options;
 use clap::error::ErrorKind;
 use clap::{Arg, ArgAction, ArgMatches, Command, Error, value_parser};
@@ -113,6 +114,7 @@ fn command<'a>(alloc: Global) -> Result<Command<'a>, AllocError>
     ensures whole { IfOk result (λ command. app_of command ≡ jslit_command) }
 {
     let bare = Command::new(alloc, "jslit")
+        .version(VERSION)
         .about("Prints every outcome that the memory model of ECMAScript allows a litmus test")
         .after_help(AFTER)
         .bin_name("jslit")?;

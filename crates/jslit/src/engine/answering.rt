@@ -25,26 +25,20 @@ use std::alloc::{AllocError, Global};
 use std::io::Write;
 use std::thread::Threads;
 
-/// How many pieces a worker alone draws at the most: it needs no cutting but to tell how far it is.
-const OWN_PIECES: u64 = 64;
-
-/// How many pieces two to four workers draw at the most: each is begun anew, which is most of the work of some tests.
-const PIECES_OF_FEW: u64 = 32;
+/// How many pieces two to four workers draw at the most: in each an outcome is looked for anew.
+const PIECES_OF_FEW: u64 = 16;
 
 /// How many pieces more workers draw at the most.
-const PIECES_OF_MANY: u64 = 128;
+const PIECES_OF_MANY: u64 = 64;
 
-/// How many choices a piece has: those asked for, or more where that would make too many pieces. The quick search of one
-/// worker is not cut: it begins each piece anew.
+/// How many choices a piece has: those asked for, or more where that would make too many pieces. A worker alone has one piece.
 fn cut_of(total: u64, options: Options) -> u64
     requires few { total ≤ CHOICE_LIMIT }
     ensures some { 0 < result }
     ensures small { result ≤ CUT_LIMIT }
 {
-    let pieces = if options.workers == 1 && options.quick {
+    let pieces = if options.workers == 1 {
         1
-    } else if options.workers == 1 {
-        OWN_PIECES
     } else if options.workers <= 4 {
         PIECES_OF_FEW
     } else {

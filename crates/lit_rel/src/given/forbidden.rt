@@ -5,7 +5,7 @@ ghost use Rattle.lit_paths.specs.declared.limits.TheConstants.{BYTE_READ_LIMIT, 
 ghost use Rattle.lit_rel.specs.Between.{Forbids};
 ghost use Rattle.lit_rel.specs.EventSet.{HasEvent};
 ghost use Rattle.lit_rel.specs.Forbidden.{IsAfterSource, IsBeforeRead, IsBetweenSynchronized, IsForbiddenBetween, IsForbiddenTriple};
-ghost use Rattle.lit_rel.specs.Internal.Forbidding.{IsForbidding, RepeatsPair};
+ghost use Rattle.lit_rel.specs.Internal.Forbidding.{IsForbidding};
 ghost use Rattle.lit_rel.specs.Internal.Given.{IsKnown, sources_of};
 ghost use Rattle.lit_rel.specs.Peers.{ArePeers, IsSeqCstWrite};
 ghost use Rattle.lit_rel.specs.ReadsFrom.{ReadsByteFrom};
@@ -20,31 +20,20 @@ use crate::rows::two_way_rows::TwoWayRows;
 use lit_paths::{Event, event_at};
 
 impl Given<'_> {
-    /// Makes what is there what may not stand between each source and its read, by a relation that orders the events.
-    pub(crate) fn put_between(&self, between: &mut Between, before: &TwoWayRows, peers: &Rows)
+    /// What may not stand between each source and its read, by a relation that orders the events.
+    pub(crate) fn between(&self, before: &TwoWayRows, peers: &Rows) -> Between
         requires len { rows_len before.now.rows ≡ length self.now.events.now }
         requires peers { ArePeers self.now.events.now peers.now }
-        ensures len { between.new.len ≡ length self.now.events.now }
-        ensures triples { (w r v : ℕ) → Forbids between.new w r v
+        ensures len { result.len ≡ length self.now.events.now }
+        ensures triples { (w r v : ℕ) → Forbids result w r v
             ↔ IsForbiddenTriple self.now.events.now (ReadsByteFrom self.now.events.now (sources_of self.now.bytes.now))
             (Holds before.now.rows) w r v }
     {
-        between.begin(self.events.len());
-        for place in 0..self.bytes.len() {
-            if !self.repeats_pair(place) {
-                self.forbid_others(between, self.bytes[place], before, peers);
-            }
+        let mut between = Between::new(self.events.len());
+        for byte in self.bytes {
+            self.forbid_others(&mut between, *byte, before, peers);
         }
-    }
-
-    /// Whether the byte before has the same source and read. A read has its bytes one after the other.
-    fn repeats_pair(&self, place: usize) -> bool
-        requires { place < length self.now.bytes.now }
-        ensures { IsTrue result ↔ RepeatsPair self.now.bytes.now place }
-    {
-        place > 0
-            && self.bytes[place - 1].source == self.bytes[place].source
-            && self.bytes[place - 1].read == self.bytes[place].read
+        between
     }
 
     /// Forbids what may not stand between a byte's source and its read.
@@ -73,7 +62,7 @@ impl Given<'_> {
 
     /// The events that may not stand between a byte's source and its read: the sequentially consistent writes in one of
     /// the patterns, but for these two.
-    pub(crate) fn forbidden(&self, byte: SourcedByte, before: &TwoWayRows, peers: &Rows) -> EventSet
+    fn forbidden(&self, byte: SourcedByte, before: &TwoWayRows, peers: &Rows) -> EventSet
         requires rows { rows_len before.now.rows ≡ length self.now.events.now }
         requires peers { ArePeers self.now.events.now peers.now }
         requires known { IsKnown (length self.now.events.now) byte }

@@ -31,25 +31,16 @@ fn put_peer(peers: &mut Rows, events: &[Event], write: usize)
     }
 }
 
-/// Makes what is there the sequentially consistent writes that have the range of each event.
-pub(crate) fn put_peers(peers: &mut Rows, events: &[Event])
-    requires { length events.now ≤ EVENT_LIMIT }
-    ensures { ArePeers events.now peers.new }
-{
-    peers.begin(events.len());
-    for write in 0..events.len() {
-        if is_seq_cst_write(events, write) {
-            put_peer(peers, events, write);
-        }
-    }
-}
-
 /// The sequentially consistent writes that have the range of each event.
 pub fn peers_of(events: &[Event]) -> Rows
     requires { length events.now ≤ EVENT_LIMIT }
     ensures { ArePeers events.now result }
 {
-    let mut peers = Rows::new(0);
-    put_peers(&mut peers, events);
+    let mut peers = Rows::new(events.len());
+    for write in 0..events.len() {
+        if is_seq_cst_write(events, write) {
+            put_peer(&mut peers, events, write);
+        }
+    }
     peers
 }

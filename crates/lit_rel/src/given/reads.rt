@@ -1,13 +1,11 @@
 //! What valid executions ask of reads (ECMA-262, 2024, 29.7).
 
-ghost use Rattle.std.specs.Prelude.{◌≡◌, ◌↔◌, ℕ, ◌<◌, IsTrue, Some, slice_get, length};
+ghost use Rattle.std.specs.Prelude.{◌≡◌, ◌↔◌, ℕ, ◌<◌, IsTrue, length};
 ghost use Rattle.lit_paths.specs.Event.{HasByte, does_write, event_at};
-ghost use Rattle.lit_rel.specs.declared.given.SourcedByte.{SourcedByte as Sourced};
-ghost use Rattle.lit_rel.specs.Coherent.{AreCoherentReads, IsCoherentRead};
-ghost use Rattle.lit_rel.specs.Internal.Given.{IsKnown, Tears, sources_of};
-ghost use Rattle.lit_rel.specs.ReadsFrom.{ReadsByteFrom};
+ghost use Rattle.lit_rel.specs.Coherent.{IsCoherentRead};
+ghost use Rattle.lit_rel.specs.Internal.Given.{HasBrokenBytes, HasByteSo, HasTornBytes, IsIncoherent, IsKnown, Tears};
 ghost use Rattle.lit_rel.specs.Rows.{Holds, rows_len};
-ghost use Rattle.lit_rel.specs.TearFree.{CanReadWhole, HasTearFreeReads};
+ghost use Rattle.lit_rel.specs.TearFree.{CanReadWhole};
 
 use crate::given::{Given, SourcedByte};
 use crate::rows::two_way_rows::TwoWayRows;
@@ -28,7 +26,7 @@ fn writes(event: &Event, byte: u8) -> bool
 }
 
 /// Whether a byte is read from no later event, and no write hides its source.
-pub(crate) fn is_coherent_byte(events: &[Event], byte: SourcedByte, before: &TwoWayRows) -> bool
+fn is_coherent_byte(events: &[Event], byte: SourcedByte, before: &TwoWayRows) -> bool
     requires known { IsKnown (length events.now) byte }
     requires len { rows_len before.now.rows ≡ length events.now }
     ensures { IsTrue result ↔ IsCoherentRead events.now (Holds before.now.rows) byte.read byte.byte byte.source }
@@ -49,34 +47,55 @@ pub(crate) fn is_coherent_byte(events: &[Event], byte: SourcedByte, before: &Two
 }
 
 impl Given<'_> {
-    /// Coherent reads (29.7.2), by a relation that orders the events.
-    pub(crate) fn is_coherent(&self, before: &TwoWayRows) -> bool
+    /// Whether some event comes before itself by a relation that orders the events, or some byte is not coherent or tears
+    /// its read.
+    pub(crate) fn is_broken(&self, before: &TwoWayRows) -> bool
         requires { rows_len before.now.rows ≡ length self.now.events.now }
-        ensures { IsTrue result ↔ AreCoherentReads self.now.events.now (ReadsByteFrom self.now.events.now (sources_of self.now.bytes.now))
-            (Holds before.now.rows) }
+        ensures { IsTrue result ↔ HasBrokenBytes self.now.events.now (Holds before.now.rows) self.now.bytes.now }
+    {
+        before.rows.has_cycle() || self.has_incoherent_byte(before) || self.has_torn_read()
+    }
+
+    /// Whether some byte is not coherent (29.7.2), by a relation that orders the events.
+    pub(crate) fn has_incoherent_byte(&self, before: &TwoWayRows) -> bool
+        requires { rows_len before.now.rows ≡ length self.now.events.now }
+        ensures { IsTrue result ↔ HasByteSo self.now.bytes.now (IsIncoherent self.now.events.now (Holds before.now.rows)) }
     {
         for byte in self.bytes {
             if !is_coherent_byte(self.events, *byte, before) {
-                return false;
+                return true;
             }
         }
-        true
+        false
     }
 
-    /// Tear free reads (29.7.3).
-    pub(crate) fn is_tear_free(&self) -> bool
-        ensures { IsTrue result ↔ HasTearFreeReads self.now.events.now (sources_of self.now.bytes.now) }
+    /// Whether some byte tears its read (29.7.3).
+    pub(crate) fn has_torn_read(&self) -> bool
+        ensures { IsTrue result ↔ HasTornBytes self.now.events.now self.now.bytes.now }
     {
         for byte in self.bytes {
             if self.is_torn_by(*byte) {
-                return false;
+                return true;
             }
         }
-        true
+        false
+    }
+
+    /// Whether some byte tears the read of another one.
+    fn is_torn_by(&self, byte: SourcedByte) -> bool
+        requires { IsKnown (length self.now.events.now) byte }
+        ensures { IsTrue result ↔ HasByteSo self.now.bytes.now (Tears self.now.events.now byte) }
+    {
+        for other in self.bytes {
+            if self.tears(byte, *other) {
+                return true;
+            }
+        }
+        false
     }
 
     /// Whether two bytes of one read come whole from two sources.
-    pub(crate) fn tears(&self, byte: SourcedByte, other: SourcedByte) -> bool
+    fn tears(&self, byte: SourcedByte, other: SourcedByte) -> bool
         requires byte { IsKnown (length self.now.events.now) byte }
         requires other { IsKnown (length self.now.events.now) other }
         ensures { IsTrue result ↔ Tears self.now.events.now byte other }
@@ -88,7 +107,7 @@ impl Given<'_> {
     }
 
     /// Whether neither a byte's read nor its source may tear, and their ranges are equal.
-    pub(crate) fn reads_whole(&self, byte: SourcedByte) -> bool
+    fn reads_whole(&self, byte: SourcedByte) -> bool
         requires { IsKnown (length self.now.events.now) byte }
         ensures { IsTrue result
             ↔ CanReadWhole (event_at self.now.events.now byte.read) (event_at self.now.events.now byte.source) }

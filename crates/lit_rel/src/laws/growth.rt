@@ -1,9 +1,7 @@
 //! What becomes of relations with more bytes given. The functions do nothing: their contracts are theorems.
 
 ghost use Rattle.lit_rel.specs.Broken.{BytesStayBroken, StaysBroken};
-ghost use Rattle.lit_rel.specs.DataRace.{RacesAreForeseen};
 ghost use Rattle.lit_rel.specs.Growth.{GivenValuesAgree, GrowWithBytes, ValuesStay};
-ghost use Rattle.lit_rel.specs.Settled.{BytesKeepSettledPasts, SettledPastsStay};
 
 /// With more bytes given, reads-from, synchronizes-with, happens-before and the forbidden triples only grow, and that
 /// the reads are coherent and tear free only goes from true to false.
@@ -29,21 +27,4 @@ pub fn broken_parts_stay_broken()
 /// Any bytes given that are broken are so with any bytes more, and in each list of sources that has them.
 pub fn bytes_stay_broken()
     ensures { BytesStayBroken }
-{}
-
-/// Where an event and each that happens before it are settled, the same events happen before it whatever sources are
-/// given besides. It does nothing: its contract is a theorem.
-pub fn settled_pasts_stay()
-    ensures { SettledPastsStay }
-{}
-
-/// Where an event and each that happens before it are settled by any bytes given, the same events happen before it with
-/// any bytes more, and in each list of sources that has them.
-pub fn bytes_keep_settled_pasts()
-    ensures { BytesKeepSettledPasts }
-{}
-
-/// A data race that comes with further sources could be foreseen. It does nothing: its contract is a theorem.
-pub fn races_are_foreseen()
-    ensures { RacesAreForeseen }
 {}

@@ -19,18 +19,7 @@ pub fn unsourced_order(events: &[Event]) -> TwoWayRows
     ensures len { rows_len result.rows ≡ length events.now }
     ensures pairs { (e d : ℕ) → Holds result.rows e d ↔ HappensBefore events.now [] e d }
 {
-    let mut order = TwoWayRows::default();
-    put_unsourced_order(&mut order, events);
-    order
-}
-
-/// Makes what is there happens-before where no byte read has a source.
-pub(crate) fn put_unsourced_order(order: &mut TwoWayRows, events: &[Event])
-    requires { length events.now ≤ EVENT_LIMIT }
-    ensures len { rows_len order.new.rows ≡ length events.now }
-    ensures pairs { (e d : ℕ) → Holds order.new.rows e d ↔ HappensBefore events.now [] e d }
-{
-    order.put_closed(&fixed_steps(events));
+    TwoWayRows::closed(&fixed_steps(events))
 }
 
 /// All of them.

@@ -1,16 +1,13 @@
 //! Tests of paths that are false of a source of one byte, whatever its read takes for its other bytes.
 
 ghost use Rattle.std.specs.Prelude.{◌↔◌, ◌<◌, IsTrue, length};
-ghost use Rattle.lit_paths.specs.Choice.{combinations_of};
 ghost use Rattle.lit_paths.specs.Event.{event_at as event_of, payload_at as payload_of_event};
 ghost use Rattle.lit_paths.specs.Plan.{events_in};
 ghost use Rattle.lit_rel.specs.Internal.Refused.{HasFalseByte};
-ghost use Rattle.lit_rel.specs.Part.{part_events};
-ghost use Rattle.lit_rel.specs.TestedBytes.{HasFalseByteOn, IsFalseOfByte, TestsRefuse};
+ghost use Rattle.lit_rel.specs.TestedBytes.{HasFalseByteOn, IsFalseOfByte};
 
 use crate::given::values::{byte_from, payload_at};
-use crate::part::Part;
-use crate::part::refused::{asking_agent, number_on};
+use crate::part::refused::number_on;
 use lit_paths::{ByteRead, Combination, Event, Tested, event_at};
 
 /// Whether a test is false of whatever an event reads, if this byte of it has this value.
@@ -38,37 +35,23 @@ fn has_false_byte(tests: &[Tested], first: u8, event: &Event, at: ByteRead, valu
     false
 }
 
-/// Whether some test of a path of the combination, one of those of its test, is false of whatever a read takes, if this byte
-/// of it has this source. Both are by event number.
+/// Whether some test of a path of the combination is false of whatever a read takes, if this byte of it has this source. Both
+/// are by event number.
 pub fn is_source_refused(combination: &Combination<'_>, at: ByteRead, source: u8) -> bool
-    requires known { combination.now.1 < length (combinations_of combination.now.0) }
     requires read { at.read < length (events_in combination.now.0 combination.now.1) }
     requires source { source < length (events_in combination.now.0 combination.now.1) }
     ensures { IsTrue result
         ↔ HasFalseByteOn combination.now.0 combination.now.1 at.read at.byte
         (payload_of_event (event_of (events_in combination.now.0 combination.now.1) source) at.byte) }
 {
-    let Some(agent) = asking_agent(combination, at.read) else {
-        return false;
-    };
-    let tests = combination.path(agent).tests();
-    if tests.is_empty() {
-        return false;
-    }
     let events = combination.events();
     let read = event_at(events, usize::from(at.read));
     let value = payload_at(event_at(events, usize::from(source)), at.byte);
-    has_false_byte(tests, combination.first_event(agent), read, at, value)
-}
-
-impl Part<'_> {
-    /// Whether a test refuses a source of a byte that is read, by event number, whatever the read takes for its other
-    /// bytes.
-    pub fn tests_refuse(&self, at: ByteRead, source: u8) -> bool
-        requires read { at.read < length (part_events self.now) }
-        requires source { source < length (part_events self.now) }
-        ensures { IsTrue result ↔ TestsRefuse self.now at.read at.byte source }
-    {
-        is_source_refused(self.related.combination(), at, source)
+    for agent in 0..combination.test().agents() {
+        let tests = combination.path(agent).tests();
+        if has_false_byte(tests, combination.first_event(agent), read, at, value) {
+            return true;
+        }
     }
+    false
 }

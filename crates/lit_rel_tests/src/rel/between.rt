@@ -49,13 +49,3 @@ fn no_write_of_the_range_stands_between_what_synchronizes(rt: HostRuntime) -> Re
     assert_triples(&rt, &between, &[(0, 7, 4), (0, 7, 6), (6, 7, 4)]);
     Ok(())
 }
-
-/// What another combination forbids takes the place of what was there.
-#[test]
-fn a_copy_forbids_the_same(rt: HostRuntime) -> Result<(), Fail> {
-    let (_, between) = of_sources(&rt, SYNCHRONIZED, &[6, 0, 6])?;
-    let (_, mut copy) = of_sources(&rt, AFTER_THE_SOURCE, &[4, 6, 3])?;
-    copy.copy_from(&between);
-    assert_triples(&rt, &copy, &[(0, 7, 4), (0, 7, 6), (6, 7, 4)]);
-    Ok(())
-}

@@ -4,7 +4,7 @@ use super::{give, of_sources};
 use lit_paths::plan;
 use lit_read::read;
 use lit_rel::Part;
-use lit_texts::{LOAD_BUFFERING, LOAD_BUFFERING_ATOMIC, TYPED_READ};
+use lit_texts::{LOAD_BUFFERING, LOAD_BUFFERING_ATOMIC, MESSAGE_PASSING, TYPED_READ};
 use std::test::Fail;
 
 const UNWRITTEN: &str = "test unwritten
@@ -73,9 +73,12 @@ fn an_unwritten_register_breaks_at_once(rt: HostRuntime) -> Result<(), Fail> {
 }
 
 /// Texts with sources for the first byte reads of their first combination, and whether these break it.
-const BREAKS: [(&str, &[u8], bool); 9] = [
+const BREAKS: [(&str, &[u8], bool); 11] = [
     // Plain accesses close no cycle.
     (LOAD_BUFFERING, &[5, 3], false),
+    // B loads the flag that A stores (3), so A's store of the data (2) hides init (0) from B's load of it.
+    (MESSAGE_PASSING, &[3, 0], true),
+    (MESSAGE_PASSING, &[3, 2], false),
     // Two stores tear, a store and init do not.
     (TYPED_READ, &[2, 3], true),
     (TYPED_READ, &[2, 1], false),

@@ -5,10 +5,9 @@ use lit_paths::{Plan, plan};
 use lit_read::read;
 use lit_rel::Part;
 use lit_texts::{
-    LOAD_BUFFERING, MESSAGE_PASSING, OWN_STORE, STORE_BUFFERING, STORE_BUFFERING_MIXED,
-    STORE_BUFFERING_PLAIN, TYPED_READ, VIEWED_READ,
+    MESSAGE_PASSING, OWN_STORE, STORE_BUFFERING, STORE_BUFFERING_MIXED, STORE_BUFFERING_PLAIN,
+    TYPED_READ, VIEWED_READ,
 };
-use std::alloc::AllocGlobal;
 use std::process::Abort;
 use std::test::Fail;
 
@@ -36,64 +35,24 @@ fn store_buffering_synchronizes(rt: HostRuntime) -> Result<(), Fail> {
     Ok(())
 }
 
-/// B stores byte 1 (4), which A loads (3); B loads byte 0 from init (0).
+/// B loads the flag (4) that A stores (3), and then the data (5) that A stored before it (2): what A stores happens before
+/// what B loads as long as the flag is read from A.
 #[test]
-fn a_source_adds_its_pair_or_none(rt: HostRuntime) -> Result<(), Fail> {
-    let test = read(rt.alloc(), STORE_BUFFERING.as_bytes())?;
-    let plan = plan(rt.alloc(), &test)?;
-    assert!(rt; plan.combinations() > 0);
-    let mut part = Part::open(&plan, 0);
-    give(&rt, &mut part, 4);
-    assert_eq!(rt; part.last_pair(), Some((4, 3)));
-    give(&rt, &mut part, 0);
-    assert_eq!(rt; part.last_pair(), None);
-    Ok(())
-}
-
-/// B loads the flag (4) that A stores (3), and then the data that A stored before it.
-#[test]
-fn a_flag_adds_a_pair_and_takes_it_back(rt: HostRuntime) -> Result<(), Fail> {
+fn a_flag_orders_and_is_taken_back(rt: HostRuntime) -> Result<(), Fail> {
     let test = read(rt.alloc(), MESSAGE_PASSING.as_bytes())?;
     let plan = plan(rt.alloc(), &test)?;
     assert!(rt; plan.combinations() > 0);
     let mut part = Part::open(&plan, 0);
+    let first = part.happens_before();
     give(&rt, &mut part, 3);
-    assert_eq!(rt; part.last_pair(), Some((3, 4)));
+    let flagged = part.happens_before();
     give(&rt, &mut part, 2);
-    assert_eq!(rt; part.last_pair(), None);
     part.pop();
-    assert_eq!(rt; part.last_pair(), Some((3, 4)));
+    part.pop();
+    let last = part.happens_before();
+    assert!(rt; first.len() == 6 && flagged.len() == 6 && last.len() == 6);
+    assert!(rt; !first.holds(2, 5) && flagged.holds(2, 5) && !last.holds(2, 5));
     Ok(())
-}
-
-/// In the part of the first combination of a test the events with these numbers, and no others, are ones with which another
-/// event that writes can synchronize.
-fn assert_synchronizing(
-    rt: &(impl Abort + AllocGlobal),
-    text: &str,
-    wanted: &[usize],
-) -> Result<(), Fail> {
-    let test = read(rt.alloc(), text.as_bytes())?;
-    let plan = plan(rt.alloc(), &test)?;
-    assert!(rt; plan.combinations() > 0);
-    let part = Part::open(&plan, 0);
-    for event in 0..part.happens_before().len() {
-        assert_eq!(rt;
-            part.never_synchronizes(event),
-            !wanted.contains(&event),
-            "at {event}"
-        );
-    }
-    Ok(())
-}
-
-/// A loads byte 1 (3), which B stores (4), and B loads byte 0 (5), which A stores (2), all of it seq-cst. Where the stores
-/// are wider than the loads, or all is plain, nothing can synchronize.
-#[test]
-fn only_loads_of_stored_ranges_can_synchronize(rt: HostRuntime) -> Result<(), Fail> {
-    assert_synchronizing(&rt, STORE_BUFFERING, &[3, 5])?;
-    assert_synchronizing(&rt, STORE_BUFFERING_MIXED, &[])?;
-    assert_synchronizing(&rt, STORE_BUFFERING_PLAIN, &[])
 }
 
 /// The init events are one list, each agent's accesses another, and an init event comes before each access of its byte.
@@ -206,27 +165,5 @@ fn sources_are_taken_back(rt: HostRuntime) -> Result<(), Fail> {
     assert_eq!(rt; part.reads(), 2);
     let empty = Part::open(&plan, combination);
     assert_eq!(rt; empty.len(), 0);
-    Ok(())
-}
-
-/// Where no agent stores, and then where both do: there a read of init makes a test false.
-#[test]
-fn one_part_in_place_of_another(rt: HostRuntime) -> Result<(), Fail> {
-    let test = read(rt.alloc(), LOAD_BUFFERING.as_bytes())?;
-    let plan = plan(rt.alloc(), &test)?;
-    assert_eq!(rt; plan.combinations(), 4);
-    let mut part = Part::open(&plan, 3);
-    give(&rt, &mut part, 0);
-    part.reopen(&plan, 0);
-    assert_eq!(rt; part.len(), 0);
-    assert!(rt; !part.broken());
-    assert_pairs(&rt, &part.reads_from(), &[]);
-    give(&rt, &mut part, 5);
-    give(&rt, &mut part, 3);
-    assert!(rt; !part.broken());
-    assert_pairs(&rt, &part.reads_from(), &[(2, 5), (4, 3)]);
-    part.reopen(&plan, 0);
-    give(&rt, &mut part, 0);
-    assert!(rt; part.broken());
     Ok(())
 }

@@ -1,19 +1,22 @@
-//! Outcomes with their examples, in the order in which they were found.
+//! Outcomes with their examples, in the order in which they were recorded: the table of a search.
 
-ghost use Rattle.std.specs.Prelude.{◌≡◌, ◌↔◌, ◌∷◌, [], IsTrue, OnOk, OnErr, length, slice_get};
+ghost use Rattle.std.specs.Prelude.{◌≡◌, [], length, slice_get, take};
 ghost use Rattle.std.specs.List.{IsDistinct};
 ghost use Rattle.std.specs.Option.{option_map};
 
 use crate::found::Example;
 use indexmap::IndexMap;
+use lit_order::Order;
+use lit_solve::OutcomeTable;
 use std::alloc::{AllocError, Global};
 use std::boxed::BoxedSlice;
 use std::marker::Model;
 
-/// Outcomes, each once and with its example, in the order in which they were put there. A clause sees it as a list of
+/// Outcomes, each once and with its example, in the order in which they were recorded. A clause sees it as a list of
 /// entries.
 #[derive(Drop)]
 pub(crate) struct Examples {
+    alloc: Global,
     by_outcome: IndexMap<BoxedSlice<u32>, Example>,
 }
 
@@ -28,9 +31,6 @@ impl Model for Examples {
 }
 
 impl Examples {
-    ghost use Rattle.lit_search.specs.Internal.Kept.{risen};
-    ghost use Rattle.lit_search.specs.Internal.Merged.{merged};
-    ghost use Rattle.lit_search.specs.Internal.Outcomes.{HasOutcome};
     ghost use Rattle.lit_search.specs.Internal.Ranks.{are_same};
     ghost use Rattle.lit_search.specs.Internal.Shown.{shown_entry};
 
@@ -39,6 +39,7 @@ impl Examples {
         ensures { result ≡ [] }
     {
         Examples {
+            alloc,
             by_outcome: IndexMap::new(alloc),
         }
     }
@@ -51,34 +52,32 @@ impl Examples {
         self.by_outcome.len()
     }
 
-    /// Whether an outcome is there.
-    pub(crate) fn has(&self, outcome: &[u32]) -> bool
-        ensures { IsTrue result ↔ HasOutcome (risen self.now) outcome.now }
-    {
-        self.by_outcome.contains_key(outcome)
-    }
-
-    /// Puts one more outcome there, with its example.
-    pub(crate) fn put(
-        &mut self,
-        alloc: Global,
-        outcome: &[u32],
-        example: Example,
-    ) -> Result<(), AllocError>
-        requires { ¬ HasOutcome (risen self.old) outcome.now }
-        ensures ok { OnOk result (risen self.new ≡ merged (risen self.old) (shown_entry outcome.now example ∷ [])) }
-        ensures err { OnErr result (self.new ≡ self.old) }
-    {
-        let outcome = BoxedSlice::from_slice(alloc, outcome)?;
-        self.by_outcome.insert(outcome, example)?;
-        Ok(())
-    }
-
     /// The outcome at a place, from 0, and its example.
     pub(crate) fn at(&self, place: usize) -> Option<(&[u32], &Example)>
         ensures { option_map (λ p. shown_entry p.0.now p.1.now) result ≡ slice_get self.now place }
     {
         let (outcome, example) = self.by_outcome.get_index(place)?;
         Some((&**outcome, example))
+    }
+
+    /// Leaves the first so many, and drops the others.
+    pub(crate) fn truncate(&mut self, len: usize)
+        ensures { self.new ≡ take len self.old }
+    {
+        self.by_outcome.truncate(len);
+    }
+}
+
+impl OutcomeTable for Examples {
+    ghost entries = { λ examples. examples };
+
+    fn has(&self, outcome: &[u32]) -> bool {
+        self.by_outcome.contains_key(outcome)
+    }
+
+    fn record(&mut self, outcome: &[u32], choice: u64, order: Order) -> Result<(), AllocError> {
+        let outcome = BoxedSlice::from_slice(self.alloc, outcome)?;
+        self.by_outcome.insert(outcome, Example { choice, order })?;
+        Ok(())
     }
 }

@@ -6,7 +6,7 @@ ghost use Rattle.std.specs.List.{All, IsDistinct};
 ghost use Rattle.std.specs.Option.{option_map};
 ghost use Rattle.std.specs.Ordering.{nat_cmp};
 ghost use Rattle.lit_search.specs.Ranked.{joined, ranked_entry};
-ghost use Rattle.lit_search.specs.Internal.Kept.{risen};
+ghost use Rattle.lit_search.specs.Internal.Risen.{risen};
 ghost use Rattle.lit_search.specs.Internal.Packed.{IsPacked};
 ghost use Rattle.lit_search.specs.Internal.Ranks.{AreRanks, are_same, rank_cmp};
 ghost use Rattle.lit_search.specs.Internal.Shown.{shown_entry};

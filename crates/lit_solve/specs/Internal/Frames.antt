@@ -1,10 +1,12 @@
 -- Frames: boxes on the way down, with what follows from them.
-use Rattle.std.specs.Prelude.{◌≡◌, ◌↔◌, ℕ, ◌<◌, List, [], Some, length, slice_get, slice_index_or}
+use Rattle.std.specs.Prelude.{◌≡◌, ◌↔◌, ℕ, ◌<◌, ◌≤◌, List, [], Some, length, slice_get, slice_index_or}
 use Rattle.lit_read.specs.Syntax.{IsLitmus, Litmus}
 use Rattle.lit_paths.specs.declared.event.Event.{Event}
 use Rattle.lit_paths.specs.ByteReads.{byte_reads, IsCandidate}
 use Rattle.lit_paths.specs.Choice.{combinations_of}
+use Rattle.lit_paths.specs.declared.limits.TheConstants.{NAME_LIMIT}
 use Rattle.lit_paths.specs.Event.{event_at}
+use Rattle.lit_paths.specs.Outcome.{names_of}
 use Rattle.lit_paths.specs.Plan.{AreEventsIn}
 use Rattle.lit_rel.specs.declared.event_set.EventSet.{EventSet}
 use Rattle.lit_rel.specs.EventSet.{HasEvent, no_events}
@@ -62,13 +64,15 @@ AreRefused c domains =
     → HasEvent (slice_index_or domains k no_events) w ↔ (IsCandidate (events_on c) r b w × IsRefusedOn c r b w)
 
 -- what is kept of a combination
-pub record IsProblem (c : Litmus × ℕ) (candidates refused : List EventSet) (peers : Rows) : Type 0 where
+pub record IsProblem (c : Litmus × ℕ) (candidates refused : List EventSet) (peers : Rows) (names : List (ℕ × ℕ)) : Type 0 where
   pub litmus : IsLitmus c.0
   pub known : c.1 < length (combinations_of c.0)
   pub sound : AreEventsIn c.0.bytes (events_on c)
   pub all : AreCandidates (events_on c) candidates
   pub by_tests : AreRefused c refused
   pub same_range : ArePeers (events_on c) peers
+  pub named : names ≡ names_of c.0
+  pub few_names : length names ≤ NAME_LIMIT
 
 -- where the k-th byte read has one source left that synchronizes with its read, that is before the read
 abbrev pub IsSynchronizedAt : Box → (ℕ → ℕ → Type 0) → ℕ → Type 0

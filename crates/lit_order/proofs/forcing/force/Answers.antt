@@ -4,12 +4,12 @@ use Rattle.lit_rel.specs.Between.{Forbids}
 use Rattle.lit_rel.specs.Rows.{Holds}
 use Rattle.lit_order.specs.Forcing.{Given, Through}
 use Rattle.lit_order.proofs.ForcingLemmas.{forced_within, next_is_forced, with_pair_forced, with_pair_no_cycle, next_apart}
-use Rattle.lit_order.proofs.RowsLemmas.{pairs_missing-lt, some_loop}
+use Rattle.lit_order.proofs.RowsLemmas.{pairs_missing-lt}
 use Rattle.lit_order.proofs.forcing.force.Goals as goal
 
-pub returns-then-not-is_irreflexive : goal.returns-then-not-is_irreflexive
-returns-then-not-is_irreflexive c =
-    let loop = some_loop c.args.forced.now.rows (λ none. false≢true (c.if-not-is_irreflexive.ensures.1 none)) in
+pub returns-then-has_cycle : goal.returns-then-has_cycle
+returns-then-has_cycle c =
+    let loop = c.if-has_cycle.ensures.0 refl in
     record { cycle = ((λ _. (loop.0, Given loop.1)), (λ _. false≢true)); len = refl; pairs = λ h. absurd (false≢true h) }
 
 pub forcing-init : goal.forcing-init
@@ -18,7 +18,7 @@ forcing-init c = record {
   given = λ a d h. h;
   sound = λ a d h. Given h;
   transitive = c.requires.transitive;
-  no_cycle = c.if-not-is_irreflexive.ensures.0 refl;
+  no_cycle = λ e h. false≢true (c.if-has_cycle.ensures.1 (e, h));
 }
 
 pub returns-then-holds : goal.returns-then-holds

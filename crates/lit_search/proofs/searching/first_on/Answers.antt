@@ -5,8 +5,11 @@ use Rattle.lit_paths.specs.Plan.{HasSources, choices_before, events_in}
 use Rattle.lit_solve.specs.Box.{box_events, box_with}
 use Rattle.lit_solve.proofs.CompletionLemmas.{sourced}
 use Rattle.lit_search.specs.Internal.Boxed.{HasNoneBefore}
-use Rattle.lit_search.proofs.BoxedLemmas.{are_of_range, first_found, none_at_all, none_more}
+use Rattle.lit_search.proofs.BoxedLemmas.{first_found, none_at_all, none_more, of_none}
 use Rattle.lit_search.proofs.searching.first_on.Goals as goal
+
+pub loop-i-init : goal.loop-i-init
+loop-i-init c n of = absurd (of_none c.args.problem.now.0 c.boxes_of-boxes.result c.args.from c.args.to 0 n of)
 
 pub number_of-requires : goal.number_of-requires
 number_of-requires c =
@@ -14,20 +17,15 @@ number_of-requires c =
     let box = box_with c.args.problem.now c.put.new.domains in
     let its : AreSources (box_events box) c.in-Some.least.sources.items =
     subst (λ (ws : List ℕ). AreSources (box_events box) ws) least.same (sourced box least.execution least.solves.completes) in
-    subst (λ (p : Litmus × ℕ). AreSources (events_in p.0 p.1) c.as_slice.result.now) (sym c.combination-combination.ensures)
+    subst (λ (p : Litmus × ℕ). AreSources (events_in p.0 p.1) c.as_slice.result.now) (sym c.combination.ensures)
     (subst (λ (ws : List ℕ). AreSources (events_in c.args.problem.now.0 c.args.problem.now.1) ws) (sym c.as_slice.ensures.value) its)
 
 pub returns-in-Some : goal.returns-in-Some
 returns-in-Some c =
-    let are_in =
-    are_of_range c.args.problem.now c.combination-combination.result.now c.args.from c.args.to c.first-first.result c.of_range-boxes.result
-    c.combination-combination.ensures c.of_range-boxes.ensures.test c.of_range-boxes.ensures.combination c.of_range-boxes.ensures.cuts
-    c.choices_are_listed.ensures c.choices_are_on_combinations.ensures c.first-first.ensures.value c.first-first.ensures.known
-    c.requires.begins c.requires.ends in
-    let same = c.combination-combination.ensures in
+    let same = c.combination.ensures in
     let n = c.number_of.result in
-    first_found c.args.problem.now c.of_range-boxes.result c.args.from c.args.to c.args.class are_in
-    c.loop-i.i (omega (arith, c.loop-i-test.true, c.len-i-end.ensures)) c.put.new.domains c.put.ensures.exact
+    first_found c.laws_below.ensures c.args.problem.now c.args.from c.args.to c.boxes_of-boxes.result c.boxes_of-boxes.ensures
+    c.loop-i.i (omega (arith, c.loop-i-test.true, c.len-i-end.ensures)) c.put.new.domains c.put.ensures.exact c.args.class
     n c.in-Some.least.sources.items c.in-Some.least.order.items c.loop-i.invariant c.in-Some.ensures
     (subst (λ (p : Litmus × ℕ). choices_before p.0 p.1 ≤ n) same c.number_of.ensures.low)
     (subst (λ (p : Litmus × ℕ). n < choices_before p.0 (p.1 + 1)) same c.number_of.ensures.high)
@@ -36,21 +34,12 @@ returns-in-Some c =
 
 pub loop-i-preserved : goal.loop-i-preserved
 loop-i-preserved c =
-    let are_in =
-    are_of_range c.args.problem.now c.combination-combination.result.now c.args.from c.args.to c.first-first.result c.of_range-boxes.result
-    c.combination-combination.ensures c.of_range-boxes.ensures.test c.of_range-boxes.ensures.combination c.of_range-boxes.ensures.cuts
-    c.choices_are_listed.ensures c.choices_are_on_combinations.ensures c.first-first.ensures.value c.first-first.ensures.known
-    c.requires.begins c.requires.ends in
-    none_more c.args.problem.now c.of_range-boxes.result c.args.from c.args.to c.args.class are_in
-    c.loop-i.i (omega (arith, c.loop-i-test.true, c.len-i-end.ensures)) c.put.new.domains c.put.ensures.exact c.loop-i.invariant c.in_default.ensures
+    none_more c.laws_below.ensures c.args.problem.now c.args.from c.args.to c.boxes_of-boxes.result c.boxes_of-boxes.ensures
+    c.loop-i.i (omega (arith, c.loop-i-test.true, c.len-i-end.ensures)) c.put.new.domains c.put.ensures.exact c.args.class
+    c.loop-i.invariant c.in_default.ensures
 
 pub returns : goal.returns
 returns c =
-    let are_in =
-    are_of_range c.args.problem.now c.combination-combination.result.now c.args.from c.args.to c.first-first.result c.of_range-boxes.result
-    c.combination-combination.ensures c.of_range-boxes.ensures.test c.of_range-boxes.ensures.combination c.of_range-boxes.ensures.cuts
-    c.choices_are_listed.ensures c.choices_are_on_combinations.ensures c.first-first.ensures.value c.first-first.ensures.known
-    c.requires.begins c.requires.ends in
-    none_at_all c.args.problem.now c.of_range-boxes.result c.args.from c.args.to c.args.class are_in
-    (subst (λ (n : ℕ). HasNoneBefore c.of_range-boxes.result c.args.class c.args.from c.args.to n)
+    none_at_all c.laws_below.ensures c.args.problem.now c.args.from c.args.to c.boxes_of-boxes.result c.boxes_of-boxes.ensures c.args.class
+    (subst (λ (n : ℕ). HasNoneBefore c.args.problem.now.0 c.boxes_of-boxes.result c.args.class c.args.from c.args.to n)
     (omega (arith, c.len-i-end.ensures, c.loop-i-test.false, c.loop-i.auto.i-end)) c.loop-i.invariant)

@@ -1,14 +1,13 @@
-use Rattle.std.proofs.Common.{ap, sym, subst, ◌∙◌}
+use Rattle.std.proofs.Common.{subst, sym, ◌∙◌}
+use Rattle.std.proofs.lemmas.Result.{IfOk-weaker}
 use Rattle.lit_read.specs.Syntax.{Litmus}
-use Rattle.lit_search.specs.Collected.{Collected, HasTaken}
 use Rattle.lit_search.specs.Report.{Report, IsReport, in_none, in_range}
-use Rattle.lit_search.proofs.Keeping.{if_ok}
 use Rattle.lit_search.proofs.searching.search_range.Goals as goal
 
 pub returns : goal.returns
 returns c =
-    let taken = c.in_ok-take.ensures.taken in_none (subst (λ (x : Collected). HasTaken in_none x) (sym c.let_list.ensures) c.new-collector.ensures.taken) in
+    let taken = c.in_ok-take.ensures.taken in_none c.new-collector.ensures.taken in
     let reported = subst (λ (t : Litmus). IsReport t (in_range c.args.from c.args.to) c.take.new.self.report)
-    (c.in_ok-take.ensures.test ∙ ap (λ (x : Collected). x.test) c.let_list.ensures ∙ c.new-collector.ensures.test) taken.reported in
+    (c.in_ok-take.ensures.test ∙ c.new-collector.ensures.test) taken.reported in
     let P : Report → Type 0 = IsReport c.args.plan.now (in_range c.args.from c.args.to) in
-    if_ok c.into_found.result _ P (λ found is. subst P (sym is) reported) c.into_found.ensures
+    IfOk-weaker c.into_found.result _ P (λ found is. subst P (sym is) reported) c.into_found.ensures

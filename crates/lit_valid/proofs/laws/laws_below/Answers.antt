@@ -13,8 +13,4 @@ returns c = record {
   grow = c.relations_grow_with_bytes.ensures;
   stay = c.values_stay.ensures;
   of_events = c.byte_reads_are_of_events.ensures;
-  init = c.init_takes_place.ensures;
-  values = c.values_keep_place.ensures;
-  settled = c.settled_pasts_stay.ensures;
-  foreseen = c.races_are_foreseen.ensures;
 }

@@ -3,6 +3,7 @@ use Rattle.std.specs.Str.{bytes_eq}
 use Rattle.clap.specs.Words.{args_of, groups_of, with_rule}
 use Rattle.clap.specs.Simple.{app_of_fields}
 use Rattle.lit_share.specs.declared.limits.TheConstants.{CUT_LIMIT, WORKER_LIMIT}
+use Rattle.jslit.specs.Words.{with_version}
 use Rattle.jslit.proofs.NumberFlags.{added_local, added_none, added_number, added_other, added_ungrouped, none_at_first, none_ungrouped}
 use Rattle.jslit.proofs.command.words.command.Goals as goal
 
@@ -11,9 +12,9 @@ other_name id name other is differs = rw is differs
 
 pub returns-clause-numbers : goal.returns-clause-numbers
 returns-clause-numbers c =
-    let no_arguments : args_of c.in_ok-bare.bare ≡ [] = ap (λ f. f.args.items) c.in_ok-bare.ensures.0 ∙ ap (λ f. f.args.items) c.after_help.ensures ∙ ap (λ f. f.args.items) c.about.ensures ∙ c.new.ensures.empty.0 in
-    let no_groups : groups_of c.in_ok-bare.bare ≡ [] = ap (λ f. f.groups.items) c.in_ok-bare.ensures.0 ∙ ap (λ f. f.groups.items) c.after_help.ensures ∙ ap (λ f. f.groups.items) c.about.ensures ∙ c.new.ensures.empty.1 in
-    let no_globals = ap (λ f. f.has_globals) c.in_ok-bare.ensures.0 ∙ ap (λ f. f.has_globals) c.after_help.ensures ∙ ap (λ f. f.has_globals) c.about.ensures ∙ c.new.ensures.local in
+    let no_arguments : args_of c.in_ok-bare.bare ≡ [] = ap (λ f. f.args.items) c.in_ok-bare.ensures.0 ∙ ap (λ f. f.args.items) c.after_help.ensures ∙ ap (λ f. f.args.items) c.about.ensures ∙ ap (λ f. f.args.items) c.version.ensures ∙ c.new.ensures.empty.0 in
+    let no_groups : groups_of c.in_ok-bare.bare ≡ [] = ap (λ f. f.groups.items) c.in_ok-bare.ensures.0 ∙ ap (λ f. f.groups.items) c.after_help.ensures ∙ ap (λ f. f.groups.items) c.about.ensures ∙ ap (λ f. f.groups.items) c.version.ensures ∙ c.new.ensures.empty.1 in
+    let no_globals = ap (λ f. f.has_globals) c.in_ok-bare.ensures.0 ∙ ap (λ f. f.has_globals) c.after_help.ensures ∙ ap (λ f. f.has_globals) c.about.ensures ∙ ap (λ f. f.has_globals) c.version.ensures ∙ c.new.ensures.local in
     let first = c.in_ok-with_workers.ensures in
     let second = c.in_ok-with_cut.ensures in
     let third = c.in_ok-with_quick.ensures in
@@ -48,4 +49,4 @@ returns-clause-whole c =
     ∙ ap₂ with_rule (c.in_ok-with_quick.ensures.shape c.quick_flag.ensures.local
     ∙ ap₂ with_rule (c.in_ok-with_cut.ensures.shape c.cut_flag.ensures.local
     ∙ ap₂ with_rule (c.in_ok-with_workers.ensures.shape c.workers_flag.ensures.local
-    ∙ ap₂ with_rule (ap app_of_fields c.in_ok-bare.ensures.0 ∙ ap app_of_fields c.after_help.ensures ∙ ap app_of_fields c.about.ensures ∙ c.new.ensures.app) c.workers_flag.ensures.rule) c.cut_flag.ensures.rule) c.quick_flag.ensures.rule) c.schedule_flag.ensures.rule) c.file_argument.ensures.rule
+    ∙ ap₂ with_rule (ap app_of_fields c.in_ok-bare.ensures.0 ∙ ap app_of_fields c.after_help.ensures ∙ ap app_of_fields c.about.ensures ∙ ap app_of_fields c.version.ensures ∙ ap with_version c.new.ensures.app) c.workers_flag.ensures.rule) c.cut_flag.ensures.rule) c.quick_flag.ensures.rule) c.schedule_flag.ensures.rule) c.file_argument.ensures.rule

@@ -5,7 +5,7 @@ use Rattle.clap.specs.Words.{IsParsedFrom, first_of, found_of, one_text}
 use Rattle.clap.proofs.WalkLemmas.{first_value-rows}
 use Rattle.lit_share.specs.declared.limits.TheConstants.{CUT_LIMIT, WORKER_LIMIT}
 use Rattle.jslit.specs.Words.{is_excluded, is_quick}
-use Rattle.jslit.proofs.AskedLines.{asked_alone, handed_on, read_by, refused_by, taken_by}
+use Rattle.jslit.proofs.AskedLines.{asked_alone, excluded_by, handed_on, read_by, refused_by, taken_by}
 use Rattle.jslit.proofs.NumberFlags.{given_within, number_within}
 use Rattle.jslit.proofs.command.words.line.Goals as goal
 
@@ -39,6 +39,14 @@ pub returns-in_err-matches-clause-refused : goal.returns-in_err-matches-clause-r
 returns-in_err-matches-clause-refused g c =
     let has = refused_by _ (map g.S.AsStr.text c.args.words.now) c.in_err-matches.field-0.0 c.in_ok-command.ensures.whole c.in_err-matches.ensures.kinds in
     handed_on c.from_residual-in_err-matches.result c.in_err-matches.field-0.0 _ c.from_residual-in_err-matches.ensures.1 has
+
+pub returns-in-Some-clause-refused : goal.returns-in-Some-clause-refused
+returns-in-Some-clause-refused g c =
+    let words = map g.S.AsStr.text c.args.words.now in
+    let whole = c.in_ok-command.ensures.whole in
+    let rows = read_by _ words c.in_ok-matches.matches whole c.in_ok-matches.ensures.ok.2 in
+    excluded_by words c.in_ok-error.field-0 (taken_by _ words whole c.in_ok-matches.ensures.kinds)
+    (ap is_excluded (sym rows) ∙ sym c.exclusion.ensures ∙ ap is_some c.in-Some.is) c.in_ok-error.ensures.kind
 
 pub returns-clause-asked : goal.returns-clause-asked
 returns-clause-asked g c =

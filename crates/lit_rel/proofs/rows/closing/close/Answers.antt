@@ -1,10 +1,7 @@
-use Rattle.std.proofs.Common.{arith, ◌∙◌, ◌<◌, refl}
+use Rattle.std.proofs.Common.{arith, ◌∙◌, ◌<◌}
 use Rattle.lit_rel.specs.Rows.{Holds, rows_len}
-use Rattle.lit_rel.proofs.ChainLemmas.{IsClosedBelow-more, HasChain-from_closed, HasChain-from_transitive}
+use Rattle.lit_rel.proofs.ChainLemmas.{IsClosedBelow-more, HasChain-from_closed}
 use Rattle.lit_rel.proofs.rows.closing.close.Goals as goal
-
-pub returns-then-is_strict_order-clause-pairs : goal.returns-then-is_strict_order-clause-pairs
-returns-then-is_strict_order-clause-pairs c e d = HasChain-from_transitive (Holds c.args.rows.now) ((c.if-is_strict_order.ensures.0 refl).0) e d
 
 pub loop-middle-preserved : goal.loop-middle-preserved
 loop-middle-preserved c = record {

@@ -1,9 +1,15 @@
-use Rattle.std.proofs.Common.{false, true, ◌≡◌, refl}
-use Rattle.lit_search.proofs.Reports.{IsReport-none}
+use Rattle.std.proofs.Common.{false, List, subst, sym}
+use Rattle.std.proofs.lemmas.Bool.{false≢true}
+use Rattle.lit_search.specs.Internal.Gained.{Gains}
+use Rattle.lit_search.specs.Report.{Entry, in_none}
+use Rattle.std.specs.Prelude.{[], IsTrue}
+use Rattle.lit_search.proofs.GainLemmas.{gains_none, reported}
 use Rattle.lit_search.proofs.collector.Collector.new.Goals as goal
 
 pub returns-clause-taken : goal.returns-clause-taken
 returns-clause-taken c = record {
-  below = λ n inside. absurd (let e : false ≡ true = inside in cc);
-  reported = IsReport-none c.args.plan.now (record { entries = c.new.result; race = false }) c.new.ensures refl;
+  below = λ n inside. absurd (false≢true inside);
+  reported = reported c.args.plan.now in_none c.new.result false
+      (subst (λ (es : List Entry). Gains c.args.plan.now (λ n. IsTrue (in_none n)) [] es false false) (sym c.new.ensures)
+      (gains_none c.args.plan.now (λ n. IsTrue (in_none n)) [] false (λ n inside. false≢true inside)));
 }

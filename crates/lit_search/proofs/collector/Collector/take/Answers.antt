@@ -1,13 +1,20 @@
-use Rattle.std.proofs.Common.{ℕ, subst, arith}
-use Rattle.lit_search.specs.Collected.{HasTaken}
-use Rattle.lit_search.specs.Report.{in_either, in_range}
-use Rattle.lit_search.proofs.Keeping.{taken_none}
+use Rattle.std.proofs.Common.{◌≡◌, ◌≤◌, List, ap, subst, sym, ◌∙◌}
+use Rattle.lit_search.specs.Collected.{Collected, HasTaken}
+use Rattle.lit_search.specs.Report.{Entry}
+use Rattle.lit_search.specs.Internal.Risen.{risen}
+use Rattle.lit_search.proofs.GainLemmas.{cut_back, taken_more}
 use Rattle.lit_search.proofs.collector.Collector.take.Goals as goal
 
-pub returns-in_ok-go_on-clause-taken : goal.returns-in_ok-go_on-clause-taken
-returns-in_ok-go_on-clause-taken c taken h =
-    subst (λ (n : ℕ). HasTaken (in_either taken (in_range n c.args.to)) c.go_on.new.self) c.go_to.ensures.end (c.in_ok-go_on.ensures.taken taken (c.go_to.ensures.taken taken h))
+pub returns-in-Ok-clause-taken : goal.returns-in-Ok-clause-taken
+returns-in-Ok-clause-taken c taken h =
+    let x = c.self.inside in
+    taken_more x.plan.now taken x.end c.args.from c.args.to x.table c.record.new.table x.race c.in-Ok.race
+    (subst (λ (y : Collected). y.end ≤ c.args.from) (sym c.self.view_is) c.requires.follows) c.requires.order c.len-count.ensures.distinct
+    c.in-Ok.ensures.gains (subst (HasTaken taken) (sym c.self.view_is) h)
 
-pub returns-else-from-to-clause-taken : goal.returns-else-from-to-clause-taken
-returns-else-from-to-clause-taken c taken h =
-    taken_none c.args.from c.args.to taken c.go_to.new.self c.go_to.ensures.end (omega (arith, c.requires.order, c.if-from-to.false)) (c.go_to.ensures.taken taken h)
+pub returns-in-Err-clause-refused : goal.returns-in-Err-clause-refused
+returns-in-Err-clause-refused c =
+    let x = c.self.inside in
+    let back : c.truncate.new.self ≡ x.table =
+    c.truncate.ensures ∙ cut_back x.table c.record.new.table c.len-count.result c.len-count.ensures.len c.record.ensures.goes_on in
+    ap (λ (es : List Entry). record { test = x.plan.now; end = x.end; report = record { entries = risen es; race = x.race } }) back ∙ c.self.view_is

@@ -3,7 +3,7 @@ use Rattle.lit_search.specs.Ranked.{joined, ranked_entry}
 use Rattle.lit_search.specs.Report.{Entry}
 use Rattle.lit_search.specs.Internal.Ranks.{AreRanks}
 use Rattle.lit_search.proofs.Entries.{AreRising}
-use Rattle.lit_search.proofs.KeptEntries.{rises}
+use Rattle.lit_search.proofs.RisenEntries.{rises}
 use Rattle.lit_search.proofs.RankLemmas.{joined_one}
 use Rattle.lit_search.proofs.found.Found.new.Goals as goal
 

@@ -7,7 +7,7 @@ use Rattle.std.proofs.lemmas.List.Sorted.{All-permutation, IsPermutation-map, ra
 use Rattle.lit_search.specs.Ranked.{joined, ranked_entry}
 use Rattle.lit_search.specs.Report.{Entry}
 use Rattle.lit_search.specs.Internal.Ranks.{IsRank, rank_key}
-use Rattle.lit_search.proofs.KeptEntries.{sorted_risen}
+use Rattle.lit_search.proofs.RisenEntries.{sorted_risen}
 use Rattle.lit_search.proofs.RankLemmas.{sorted_by_outcome}
 use Rattle.lit_search.proofs.found.ranking.ranked.Goals as goal
 

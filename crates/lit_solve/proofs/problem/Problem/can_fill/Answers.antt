@@ -1,11 +1,11 @@
-use Rattle.std.proofs.Common.{arith, ℕ, ◌≤◌, inl, inr, subst}
+use Rattle.std.proofs.Common.{arith, ℕ, ◌≤◌, inl, inr, subst, sym}
 use Rattle.lit_read.specs.Syntax.{Litmus}
 use Rattle.lit_paths.specs.Event.{event_at}
 use Rattle.lit_paths.specs.Plan.{AreEventsIn}
 use Rattle.lit_rel.specs.EventSet.{HasEvent}
 use Rattle.lit_solve.specs.Box.{box_with, events_on}
-use Rattle.lit_solve.proofs.FillingLemmas.{filled_from}
-use Rattle.lit_solve.proofs.ReadByteLemmas.{few_bytes}
+use Rattle.lit_solve.proofs.FillingLemmas.{CanFillOn-same, filled_from}
+use Rattle.lit_solve.proofs.ReadByteLemmas.{room_first}
 use Rattle.lit_solve.proofs.problem.Problem.can_fill.Goals as goal
 
 pub fills_on-requires-clause-room : goal.fills_on-requires-clause-room
@@ -16,16 +16,20 @@ fills_on-requires-clause-room c =
       | inl one ↦ omega (arith, one)
       | inr more ↦ elim more [ inl two ↦ omega (arith, two) | inr four ↦ omega (arith, four) ]
     ] in
-    record {
-      place = c.first_place.ensures.within;
-      later = λ j q b le at. c.first_place.ensures.later j q b le at;
-      composed = omega arith;
-      few = omega (arith, size, few_bytes events c.args.read c.first_place.result);
-    }
+    room_first events c.args.read c.first_place.result c.nothing.result c.first_place.ensures.within (λ j q b le at. c.first_place.ensures.later j q b le at)
+    size c.nothing.ensures.value c.nothing.ensures.bytes
 
 pub returns : goal.returns
 returns c =
     let box = box_with c.args.self.now c.args.domains.now in
-    let from = filled_from box c.args.read c.requires.is_box c.requires.some (HasEvent c.new.result) c.new.ensures.empty c.first_place.result
+    let none = c.nothing.result in
+    let from = filled_from box c.args.read c.requires.is_box c.requires.some (HasEvent none.whole) c.nothing.ensures.whole c.first_place.result
     c.first_place.ensures.within c.first_place.ensures.before in
-    (λ h. from.0 (c.fills_on.ensures.0 h), λ can. c.fills_on.ensures.1 (from.1 can))
+    let place = c.first_place.result in (
+      λ h. from.0
+          (CanFillOn-same box c.args.read place (HasEvent none.whole) (HasEvent none.whole) none.value none.bytes 0 0 (λ v there. there)
+          (sym c.nothing.ensures.value) (sym c.nothing.ensures.bytes) (c.fills_on.ensures.0 h)),
+      λ can. c.fills_on.ensures.1
+          (CanFillOn-same box c.args.read place (HasEvent none.whole) (HasEvent none.whole) 0 0 none.value none.bytes (λ v there. there)
+          c.nothing.ensures.value c.nothing.ensures.bytes (from.1 can)),
+    )

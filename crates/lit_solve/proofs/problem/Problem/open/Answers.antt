@@ -1,4 +1,4 @@
-use Rattle.std.proofs.Common.{◌≡◌, ◌<◌, ◌≤◌, ℕ, Some, List, arith, subst, sym, length, length-set, ◌∙◌}
+use Rattle.std.proofs.Common.{◌≡◌, ◌<◌, ◌≤◌, ℕ, Some, List, ap, arith, subst, sym, length, length-set, ◌∙◌}
 use Rattle.std.specs.Prelude.{slice_get}
 use Rattle.std.proofs.lemmas.Option.{slice_get_within}
 use Rattle.lit_read.specs.Syntax.{IsLitmus, Litmus}
@@ -6,6 +6,7 @@ use Rattle.lit_paths.specs.declared.event.Event.{Event}
 use Rattle.lit_paths.specs.ByteReads.{byte_reads, IsCandidate}
 use Rattle.lit_paths.specs.Choice.{combinations_of}
 use Rattle.lit_paths.specs.declared.limits.TheConstants.{BYTE_READ_LIMIT}
+use Rattle.lit_paths.specs.Outcome.{names_of}
 use Rattle.lit_paths.specs.Plan.{AreEventsIn}
 use Rattle.lit_rel.specs.Peers.{ArePeers}
 use Rattle.lit_solve.specs.Box.{events_on}
@@ -65,4 +66,6 @@ invariant_of-result c =
       all = λ k r b w at. c.loop-place.invariant.all k r b w (done k r b at) at;
       by_tests = λ k r b w at. c.loop-place.invariant.refused k r b w (done k r b at) at;
       same_range = subst (λ (es : List Event). ArePeers es c.peers_of-peers.result) same c.peers_of-peers.ensures;
+      named = c.names.ensures.value ∙ ap (λ (p : Litmus × ℕ). names_of p.0) (sym entered);
+      few_names = c.names.ensures.few;
     }

@@ -1,4 +1,6 @@
-use Rattle.std.proofs.Common.{List, inl, inr, subst, sym}
+use Rattle.std.proofs.Common.{ℕ, None, List, inl, inr, subst, sym}
+use Rattle.lit_read.specs.Syntax.{Litmus}
+use Rattle.lit_rel.specs.Broken.{HasFalseTestOn}
 use Rattle.lit_rel.specs.declared.event_set.EventSet.{EventSet}
 use Rattle.lit_solve.specs.Box.{box_with}
 use Rattle.lit_solve.specs.Completion.{IsCompletion}
@@ -8,6 +10,11 @@ use Rattle.lit_solve.proofs.DomainLemmas.{narrows_on}
 use Rattle.lit_solve.proofs.FrameLemmas.{not_true}
 use Rattle.lit_solve.proofs.problem.Problem.settle.Goals as goal
 use Rattle.lit_solve.proofs.problem.Problem.settle.Goals.{else-propagate-via-then-propagate+else-can_fill_each, else-propagate-via-else-propagate}
+
+pub returns-then-has_false_test-clause-none : goal.returns-then-has_false_test-clause-none
+returns-then-has_false_test-clause-none c x is =
+    let unwritten = subst (λ (p : Litmus × ℕ). HasFalseTestOn p.0 p.1 None 0) c.self.view_is (c.has_false_test.ensures.value.0 c.if-has_false_test.true) in
+    c.refuted_boxes_have_no_completion.ensures (box_with c.args.self.now c.args.domains.now) x c.requires (inr (inr (inr (inl unwritten)))) is
 
 pub returns-then-has_empty-clause-none : goal.returns-then-has_empty-clause-none
 returns-then-has_empty-clause-none c x is =

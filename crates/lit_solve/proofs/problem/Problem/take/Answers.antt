@@ -1,61 +1,22 @@
-use Rattle.std.proofs.Common.{arith, ap, ◌∙◌, ◌≡◌, refl, ℕ, ◌+◌, ◌*◌, ◌^◌, ◌<◌, ◌≤◌, List, Some, length}
-use Rattle.std.specs.Prelude.{slice_get}
-use Rattle.lit_paths.specs.declared.event.Event.{Event}
-use Rattle.lit_paths.specs.ByteReads.{byte_read_at, byte_reads}
-use Rattle.lit_paths.specs.Event.{event_at, payload_at}
+use Rattle.lit_paths.specs.ByteReads.{byte_read_at}
 use Rattle.lit_rel.proofs.SourceLemmas.{read_known}
-use Rattle.lit_solve.specs.declared.filling.Taken.{Taken}
 use Rattle.lit_solve.specs.Box.{events_on}
-use Rattle.lit_solve.specs.Internal.Filling.{HasRoom}
-use Rattle.lit_solve.proofs.ReadByteLemmas.{read_there, fits_word, room_on, small_unit}
+use Rattle.lit_solve.proofs.ReadByteLemmas.{read_there}
 use Rattle.lit_solve.proofs.problem.Problem.take.Goals as goal
-
--- ---- a byte read of the read, with what is taken before it
-module _ (events : List Event) (read place : ℕ) (taken : Taken) (inside : place < length (byte_reads events)) (is : (byte_read_at events place).0 ≡ read)
-    (room : HasRoom events read place taken) where
-  here : slice_get (byte_reads events) place ≡ Some (read, (byte_read_at events place).1)
-  here = read_there events place read inside is
-
-  unit_small : 256 ^ taken.bytes ≤ 256 ^ 3
-  unit_small = small_unit events read place (byte_read_at events place).1 here taken room
-
-  fits : (unit byte : ℕ) → unit ≡ 256 ^ taken.bytes → byte < 256 → taken.value + unit * byte < 4294967296
-  fits = fits_word events read place (byte_read_at events place).1 here taken room
-
-pub pow-unit-requires : goal.pow-unit-requires
-pow-unit-requires c =
-    omega (arith, unit_small (events_on c.args.self.now) c.args.read c.args.place c.args.taken c.requires.place c.requires.read c.requires.room)
-
-pub overflow_mul-result : goal.overflow_mul-result
-overflow_mul-result c =
-    let below = fits (events_on c.args.self.now) c.args.read c.args.place c.args.taken c.requires.place c.requires.read c.requires.room in
-    omega (arith, below c.pow-unit.result c.from.result c.pow-unit.ensures (omega (arith, c.from.ensures, c.stored.type_inv)))
-
-pub overflow_add-result : goal.overflow_add-result
-overflow_add-result c =
-    let below = fits (events_on c.args.self.now) c.args.read c.args.place c.args.taken c.requires.place c.requires.read c.requires.room in
-    omega (arith, below c.pow-unit.result c.from.result c.pow-unit.ensures (omega (arith, c.from.ensures, c.stored.type_inv)))
 
 pub returns : goal.returns
 returns c =
-    let events = events_on c.args.self.now in
-    let read = byte_read_at events c.args.place in
-    let stored = payload_at (event_at events c.args.source) read.1 in
-    let value : c.args.taken.value + c.pow-unit.result * c.from.result ≡ c.args.taken.value + 256 ^ c.args.taken.bytes * stored =
-    ap (λ (n : ℕ). c.args.taken.value + n * c.from.result) c.pow-unit.ensures
-    ∙ ap (λ (n : ℕ). c.args.taken.value + 256 ^ c.args.taken.bytes * n) (c.from.ensures ∙ c.stored.ensures) in
-    let small : stored < 256 = omega (arith, c.stored.ensures, c.stored.type_inv) in
-    let there = here events c.args.read c.args.place c.args.taken c.requires.place c.requires.read c.requires.room in
+    let room = c.with_byte-next.ensures.room in
     record {
       free = c.in-Some.ensures.0;
       whole = c.in-Some.ensures.1;
-      value = value;
-      bytes = refl;
-      room = room_on events c.args.read c.args.place read.1 there c.args.taken c.requires.room _ stored small value refl;
+      value = c.with_byte-next.ensures.value;
+      bytes = c.with_byte-next.ensures.bytes;
+      room = record { place = room.place; later = room.later; composed = room.composed; few = room.few };
     }
 
 pub whole_with-requires-clause-read : goal.whole_with-requires-clause-read
 whole_with-requires-clause-read c =
     let events = events_on c.args.self.now in
-    let there = here events c.args.read c.args.place c.args.taken c.requires.place c.requires.read c.requires.room in
-    read_known events c.args.place c.args.read (byte_read_at events c.args.place).1 there
+    read_known events c.args.place c.args.read (byte_read_at events c.args.place).1
+    (read_there events c.args.place c.args.read c.requires.place c.requires.read)

@@ -1,5 +1,5 @@
 use Rattle.std.specs.Box.{boxed_slice_items}
-use Rattle.lit_search.proofs.KeptEntries.{IsDistinct-kept}
+use Rattle.lit_search.proofs.RisenEntries.{IsDistinct-kept}
 use Rattle.lit_search.proofs.found.examples.Examples.len.Goals as goal
 
 pub returns-clause-distinct : goal.returns-clause-distinct

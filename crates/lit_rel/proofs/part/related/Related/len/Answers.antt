@@ -1,6 +1,0 @@
-use Rattle.std.proofs.Common.{subst}
-use Rattle.lit_rel.specs.Part.{AreFirstSources}
-use Rattle.lit_rel.proofs.part.related.Related.len.Goals as goal
-
-pub returns-clause-candidates : goal.returns-clause-candidates
-returns-clause-candidates c = subst AreFirstSources c.self.view_is c.self.invariant.candidates

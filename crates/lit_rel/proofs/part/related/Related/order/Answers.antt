@@ -1,9 +1,0 @@
-use Rattle.std.proofs.Common.{◌↔◌, subst}
-use Rattle.lit_rel.specs.HappensBefore.{HappensBefore}
-use Rattle.lit_rel.specs.Part.{PartModel, part_events}
-use Rattle.lit_rel.specs.Rows.{Holds}
-use Rattle.lit_rel.proofs.part.related.Related.order.Goals as goal
-
-pub returns-clause-pairs : goal.returns-clause-pairs
-returns-clause-pairs c e d =
-    subst (λ (part : PartModel). Holds c.self.inside.orders.now.rows e d ↔ HappensBefore (part_events part) part.sources e d) c.self.view_is (c.self.invariant.ordered.pairs e d)

@@ -1,0 +1,56 @@
+//! What is known of a part with a number of sources.
+
+ghost use Rattle.std.specs.Prelude.{◌≡◌, ◌⊎◌, ◌↔◌, ◌≤◌, IsTrue, length};
+ghost use Rattle.lit_paths.specs.declared.limits.TheConstants.{BYTE_READ_LIMIT as READS};
+ghost use Rattle.lit_paths.specs.Plan.{events_in};
+ghost use Rattle.lit_rel.specs.Broken.{HasFalseTest};
+ghost use Rattle.lit_rel.specs.Internal.Given.{AreFirstReads, AreKnown, HasBrokenBytes, part_of, sources_of};
+ghost use Rattle.lit_rel.specs.Internal.Levels.{IsLevel, IsOrder};
+ghost use Rattle.lit_rel.specs.Rows.{Holds, rows_len};
+
+use crate::given::{Given, SourcedByte};
+use crate::part::refused::is_refused;
+use crate::rows::two_way_rows::TwoWayRows;
+use lit_paths::Combination;
+
+/// What is known of a part with a number of sources.
+#[derive(Clone, Copy, Default)]
+pub(crate) struct Level {
+    /// happens-before of these sources.
+    pub before: TwoWayRows,
+    /// Whether the part is broken.
+    pub broken: bool,
+}
+
+/// Whether a part is broken, by its events and bytes and by happens-before. The events are those of the combination.
+fn is_broken(combination: &Combination<'_>, given: &Given<'_>, before: &TwoWayRows) -> bool
+    requires events { given.now.events.now ≡ events_in combination.now.0 combination.now.1 }
+    requires len { rows_len before.now.rows ≡ length given.now.events.now }
+    ensures { IsTrue result
+        ↔ (HasBrokenBytes given.now.events.now (Holds before.now.rows) given.now.bytes.now
+        ⊎ HasFalseTest (part_of combination.now.0 combination.now.1 given.now.bytes.now)) }
+{
+    given.is_broken(before) || is_refused(combination, given)
+}
+
+impl Level {
+    /// That of a combination with these byte reads, of which this is happens-before.
+    pub(crate) fn new(
+        combination: &Combination<'_>,
+        bytes: &[SourcedByte],
+        before: TwoWayRows,
+    ) -> Self
+        requires few { length bytes.now ≤ READS }
+        requires reads { AreFirstReads (events_in combination.now.0 combination.now.1) bytes.now }
+        requires known { AreKnown (events_in combination.now.0 combination.now.1) bytes.now }
+        requires before { IsOrder (events_in combination.now.0 combination.now.1) (sources_of bytes.now) before.rows }
+        ensures { IsLevel (part_of combination.now.0 combination.now.1 bytes.now) result }
+    {
+        let given = Given {
+            events: combination.events(),
+            bytes,
+        };
+        let broken = is_broken(combination, &given, &before);
+        Level { before, broken }
+    }
+}

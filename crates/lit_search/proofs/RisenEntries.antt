@@ -1,0 +1,189 @@
+-- Entries in the order in which they were recorded: how they rise, and those of a map from outcomes to examples.
+use Rattle.std.proofs.Common.{◌≡◌, ◌≢◌, ◌⊎◌, inl, inr, ◌<◌, ℕ, zero, suc, Bool, true, false, cond, List, [], ◌∷◌, ◌++◌, map, Some, length, refl, sym, ap, subst, ◌∙◌, arith}
+use Rattle.std.specs.Prelude.{◌↔◌, IsTrue, is_some, nat_eq, slice_get, slice_index_or}
+use Rattle.std.specs.List.{AllByRecursion, IsDistinct}
+use Rattle.std.specs.List.Sorted.{IsPermutation, IsSortedBy, IsStrictlySortedBy}
+use Rattle.std.specs.Cmp.Lexicographic.{nat_list_cmp_total, pointwise, same_text, texts_ties}
+use Rattle.std.specs.Map.{keys_of, lookup}
+use Rattle.std.specs.Ordering.{is_eq, is_lt, ordering_reverse}
+use Rattle.std.specs.declared.cmp.Ordering.{Ordering}
+use Rattle.std.specs.declared.cmp.Ordering.TheVariants.{Less, Equal, Greater}
+use Rattle.std.proofs.lemmas.List.Sorted.{Contains-permutation, IsPermutation-sym, ranks_by, sorted_far}
+use Rattle.std.proofs.lemmas.Map.Keys.{IsDistinct-IsPermutation}
+use Rattle.std.proofs.lemmas.Cmp.{nat_list_eq_equiv}
+use Rattle.std.proofs.lemmas.Option.{get_or_from_slice_get, slice_get-get_or, slice_get_within}
+use native.Mathlib.Numerals.{unary_clauses}
+use Rattle.indexmap.specs.IndexMap.{insert_entry}
+use Rattle.lit_search.specs.Report.{Entry, outcome_cmp}
+use Rattle.lit_search.specs.Merge.{AreMerged, HasInEither}
+use Rattle.lit_search.specs.Internal.Risen.{risen}
+use Rattle.lit_search.specs.Internal.Merged.{merged}
+use Rattle.lit_valid.specs.Entry.{HasOutcome}
+use Rattle.lit_search.specs.Internal.Ranks.{are_same}
+use Rattle.lit_search.proofs.Entries.{AreRising, Stands, all_from_each, all_stand, differs, first_stands, later_stands, once, same_rising, stands_cases, stands_in_none}
+use Rattle.lit_search.proofs.MergedEntries.{AreMerged-merged, AreRising-merged}
+
+flips : (a b : Entry) → are_same a b ≡ are_same b a
+flips a b = nat_list_eq_equiv.symm a.outcome b.outcome
+
+-- ---- one entry more
+rises_alone : (e : Entry) → AreRising (e ∷ [])
+unfolding IsStrictlySortedBy
+rises_alone e = (tt, tt)
+
+stands_alone : (e w : Entry) → Stands (e ∷ []) w → w ≡ e
+stands_alone e w s = elim (stands_cases e w [] s) [ inl is ↦ is | inr t ↦ absurd (stands_in_none w t) ]
+
+module _ (xs : List Entry) (e : Entry) (up : AreRising xs) where
+  with_one : AreMerged xs (e ∷ []) (merged xs (e ∷ []))
+  with_one = AreMerged-merged xs (e ∷ []) (merged xs (e ∷ [])) up (rises_alone e) refl
+
+  stands_fewer : (w : Entry) → Stands (merged xs (e ∷ [])) w → (w ≡ e) ⊎ Stands xs w
+  stands_fewer w s = elim (with_one.of_either w s) [ inl t ↦ inr t | inr t ↦ inl (stands_alone e w t) ]
+
+  stands_more : ((y : Entry) → Stands xs y → y.outcome ≢ e.outcome) → (w : Entry) → HasInEither xs (e ∷ []) w → Stands (merged xs (e ∷ [])) w
+  stands_more new w h = let m = with_one.whole w h in subst (λ (v : Entry). Stands (merged xs (e ∷ [])) v) (one m.0 (with_one.of_either m.0 m.1) h m.2) m.1
+    where
+      one : (v : Entry) → HasInEither xs (e ∷ []) v → HasInEither xs (e ∷ []) w → v.outcome ≡ w.outcome → v ≡ w
+      one v (inl s) (inl t) same = once xs up v w s t same
+      one v (inl s) (inr t) same = absurd (new v s (same ∙ ap (λ (y : Entry). y.outcome) (stands_alone e w t)))
+      one v (inr s) (inl t) same = absurd (new w t (sym same ∙ ap (λ (y : Entry). y.outcome) (stands_alone e v s)))
+      one v (inr s) (inr t) same = stands_alone e v s ∙ sym (stands_alone e w t)
+
+-- ---- entries made to rise
+pub rises : (es : List Entry) → AreRising (risen es)
+unfolding IsStrictlySortedBy
+rises [] = tt
+rises (x ∷ xs) = AreRising-merged (risen xs) (x ∷ []) (rises xs) (rises_alone x)
+
+pub risen_from : (es : List Entry) (w : Entry) → Stands (risen es) w → Stands es w
+risen_from [] w s = s
+risen_from (x ∷ xs) w s = elim (stands_fewer (risen xs) x (rises xs) w s) [
+  | inl is ↦ subst (λ (v : Entry). Stands (v ∷ xs) w) is (first_stands w xs)
+  | inr t ↦ later_stands x w xs (risen_from xs w t)
+]
+
+not_equal : (a b : Entry) → are_same a b ≡ false → outcome_cmp b a ≢ Equal
+not_equal a b h is = absurd (let e : true ≡ false = sym (ap is_eq is) ∙ sym (texts_ties b.outcome a.outcome) ∙ flips b a ∙ h in cc)
+
+pub risen_to : (es : List Entry) → IsDistinct are_same es → (w : Entry) → Stands es w → Stands (risen es) w
+unfolding IsDistinct
+risen_to [] apart w s = s
+risen_to (x ∷ xs) apart w s =
+    stands_more (risen xs) x (rises xs)
+    (λ y t. differs y.outcome x.outcome (not_equal x y (all_stand (λ v. are_same x v ≡ false) xs apart.0 y (risen_from xs y t)))) w
+    (elim (stands_cases x w xs s) [
+      | inl is ↦ inr (subst (λ (v : Entry). Stands (v ∷ []) w) is (first_stands w []))
+      | inr t ↦ inl (risen_to xs apart.1 w t)
+    ])
+
+-- the rising list of the same entries
+risen_is : (es zs : List Entry) → IsDistinct are_same es → AreRising zs → ((w : Entry) → Stands es w → Stands zs w) → ((w : Entry) → Stands zs w → Stands es w) → zs ≡ risen es
+risen_is es zs apart up into back = same_rising zs (risen es) up (rises es) (λ w s. risen_to es apart w (back w s)) (λ w s. into w (risen_from es w s))
+
+-- ---- which outcomes there are
+pub kept_from : (es : List Entry) (outcome : List ℕ) → HasOutcome (risen es) outcome → HasOutcome es outcome
+kept_from es outcome o = let s = risen_from es o.entry (o.place, o.is) in record { place = s.0; entry = o.entry; is = s.1; same = o.same }
+
+pub kept_to : (es : List Entry) (outcome : List ℕ) → HasOutcome es outcome → HasOutcome (risen es) outcome
+kept_to [] outcome o = o
+kept_to (x ∷ xs) outcome o =
+    by (stands_cases x o.entry xs (o.place, o.is)) (λ t. kept_to xs outcome (record { place = t.0; entry = o.entry; is = t.1; same = o.same }))
+  where
+    there : (v : Entry) → HasInEither (risen xs) (x ∷ []) v → v.outcome ≡ outcome → HasOutcome (merged (risen xs) (x ∷ [])) outcome
+    there v h is = let m = (with_one (risen xs) x (rises xs)).whole v h in record { place = m.1.0; entry = m.0; is = m.1.1; same = m.2 ∙ is }
+
+    by : (o.entry ≡ x) ⊎ Stands xs o.entry → (Stands xs o.entry → HasOutcome (risen xs) outcome) → HasOutcome (merged (risen xs) (x ∷ [])) outcome
+    by (inl is) later = there x (inr (0, refl)) (sym (ap (λ (v : Entry). v.outcome) is) ∙ o.same)
+    by (inr t) later = let k = later t in there k.entry (inl (k.place, k.is)) k.same
+
+-- ---- sorted entries
+stands_moved : (xs ys : List Entry) → IsPermutation xs ys → (w : Entry) → Stands xs w → Stands ys w
+stands_moved xs ys moved w s =
+    let h = Contains-permutation xs ys w moved (s.0, slice_get_within xs s.0 w s.1, get_or_from_slice_get xs s.0 w w s.1) in
+    (h.0, slice_get-get_or ys h.0 w h.1 ∙ ap Some h.2)
+
+module _ {A : Type 0} (f : A → Entry) where
+  at_place : (xs : List A) (k : ℕ) (d : A) (y : Entry) → slice_get (map f xs) k ≡ Some y → (k < length xs) × (f (slice_index_or xs k d) ≡ y)
+  at_place [] k d y is = absurd (let e = is in cc)
+  at_place (x ∷ xs) zero d y is = (omega arith, (let e : Some (f x) ≡ Some y = is in cc))
+  at_place (x ∷ xs) (suc k) d y is = let h = at_place xs k d y is in (omega (arith, h.0), h.1)
+
+  -- those that are sorted, and of which no two have one outcome, rise
+  sorted_rise : (xs : List A) → IsSortedBy (λ a b. is_lt (outcome_cmp (f a) (f b))) xs → IsDistinct are_same (map f xs) → AreRising (map f xs)
+  unfolding IsStrictlySortedBy IsDistinct
+  sorted_rise [] up apart = tt
+  sorted_rise (x ∷ xs) up apart =
+      (all_from_each _ (map f xs) below, sorted_rise xs (λ k d low high. simp unary_clauses (simp unary_clauses at (up (suc k) d (omega arith) (omega (arith, high))))) apart.1)
+    where
+      less : (o : Ordering) → o ≢ Equal → is_lt (ordering_reverse o) ≡ false → o ≡ Less
+      less Less ne h = refl
+      less Equal ne h = absurd (ne refl)
+      less Greater ne h = absurd (let e : true ≡ false = h in cc)
+
+      below : (y : Entry) → Stands (map f xs) y → outcome_cmp (f x) y ≡ Less
+      below y s =
+          let there = at_place xs s.0 x y s.1 in
+          let far : is_lt (outcome_cmp (f (slice_index_or xs s.0 x)) (f x)) ≡ false = sorted_far _ (ranks_by nat_list_cmp_total (λ a. (f a).outcome)) (x ∷ xs) up 0 (suc s.0) x (omega arith) (omega (arith, there.0)) in
+          let P : Entry → Type 0 = λ v. is_lt (outcome_cmp v (f x)) ≡ false in
+          let Q : Ordering → Type 0 = λ o. is_lt o ≡ false in
+          less (outcome_cmp (f x) y) (not_equal y (f x) (flips y (f x) ∙ all_stand _ (map f xs) apart.0 y s)) (subst Q (nat_list_cmp_total.antisymm y.outcome (f x).outcome) (subst P there.1 far))
+
+  pub sorted_risen : (es : List Entry) (xs : List A) → IsDistinct are_same es → IsPermutation es (map f xs) → IsSortedBy (λ a b. is_lt (outcome_cmp (f a) (f b))) xs → map f xs ≡ risen es
+  sorted_risen es xs apart moved up =
+      risen_is es (map f xs) apart (sorted_rise xs up (IsDistinct-IsPermutation are_same flips es (map f xs) moved apart)) (stands_moved es (map f xs) moved)
+      (stands_moved (map f xs) es (IsPermutation-sym es (map f xs) moved))
+
+module _ {K X : Type 0} (key : K → List ℕ) (choice : X → ℕ) (order : X → List ℕ) where
+  abbrev pub kept : K × X → Entry
+  kept p = record { outcome = key p.0; choice = choice p.1; order = order p.1 }
+
+  abbrev key_eq : K → K → Bool
+  key_eq a b = pointwise nat_eq (key a) (key b)
+
+  all_keys : (k : K) (x : X) (es : List (K × X)) → AllByRecursion (λ q. key_eq k q ≡ false) (keys_of es) → AllByRecursion (λ y. are_same (kept (k, x)) y ≡ false) (map kept es)
+  all_keys k x [] h = tt
+  all_keys k x (p ∷ es) h = (h.0, all_keys k x es h.1)
+
+  pub IsDistinct-kept : (es : List (K × X)) → IsDistinct key_eq (keys_of es) → IsDistinct are_same (map kept es)
+  unfolding IsDistinct
+  IsDistinct-kept [] h = tt
+  IsDistinct-kept (p ∷ es) h = (all_keys p.0 p.1 es h.0, IsDistinct-kept es h.1)
+
+  -- what a look-up of an outcome says
+  found_from : (outcome : List ℕ) (es : List (K × X)) → IsTrue (is_some (lookup (λ k. pointwise nat_eq outcome (key k)) es)) → HasOutcome (map kept es) outcome
+  found_from outcome [] h = absurd (let e : false ≡ true = h in cc)
+  found_from outcome (p ∷ es) h = by (pointwise nat_eq outcome (key p.0)) refl h (found_from outcome es)
+    where
+      by : (b : Bool) → pointwise nat_eq outcome (key p.0) ≡ b → IsTrue (is_some (cond b (Some p.1) (lookup (λ k. pointwise nat_eq outcome (key k)) es)))
+          → (IsTrue (is_some (lookup (λ k. pointwise nat_eq outcome (key k)) es)) → HasOutcome (map kept es) outcome) → HasOutcome (kept p ∷ map kept es) outcome
+      by true e k later = record { place = 0; entry = kept p; is = refl; same = sym (same_text outcome (key p.0) (sym e)) }
+      by false e k later = let o = later k in record { place = suc o.place; entry = o.entry; is = o.is; same = o.same }
+
+  found_to : (outcome : List ℕ) (es : List (K × X)) (i : ℕ) (entry : Entry) → slice_get (map kept es) i ≡ Some entry → entry.outcome ≡ outcome → IsTrue (is_some (lookup (λ k. pointwise nat_eq outcome (key k)) es))
+  found_to outcome [] i entry is same = absurd (let e = is in cc)
+  found_to outcome (p ∷ es) zero entry is same =
+      let here : kept p ≡ entry = (let e : Some (kept p) ≡ Some entry = is in cc) in
+      let equal : key p.0 ≡ outcome = ap (λ (e : Entry). e.outcome) here ∙ same in
+      let P : List ℕ → Type 0 = λ o. pointwise nat_eq outcome o ≡ true in
+      rw (subst P (sym equal) (nat_list_eq_equiv.refl outcome)) refl
+  found_to outcome (p ∷ es) (suc i) entry is same = by (pointwise nat_eq outcome (key p.0)) (found_to outcome es i entry is same)
+    where
+      by : (b : Bool) → IsTrue (is_some (lookup (λ k. pointwise nat_eq outcome (key k)) es)) → IsTrue (is_some (cond b (Some p.1) (lookup (λ k. pointwise nat_eq outcome (key k)) es)))
+      by true h = refl
+      by false h = h
+
+  pub has_kept : (outcome : List ℕ) (es : List (K × X)) → IsTrue (is_some (lookup (λ k. pointwise nat_eq outcome (key k)) es)) ↔ HasOutcome (map kept es) outcome
+  has_kept outcome es = (found_from outcome es, λ o. found_to outcome es o.place o.entry o.is o.same)
+
+  -- a new outcome is put behind the others
+  pub put_new : (es : List (K × X)) (k : K) (x : X) → ¬ HasOutcome (map kept es) (key k) → map kept (insert_entry key_eq es k x) ≡ map kept es ++ kept (k, x) ∷ []
+  put_new [] k x new = refl
+  put_new (p ∷ es) k x new =
+      by (key_eq k p.0) refl
+      (put_new es k x (λ o. new (record { place = suc o.place; entry = o.entry; is = o.is; same = o.same })))
+    where
+      by : (b : Bool) → key_eq k p.0 ≡ b → map kept (insert_entry key_eq es k x) ≡ map kept es ++ kept (k, x) ∷ []
+          → map kept (cond b ((p.0, x) ∷ es) (p ∷ insert_entry key_eq es k x)) ≡ kept p ∷ (map kept es ++ kept (k, x) ∷ [])
+      by true e rest = absurd (new (record { place = 0; entry = kept p; is = refl; same = sym (same_text (key k) (key p.0) (sym e)) }))
+      by false e rest = ap (λ (ys : List Entry). kept p ∷ ys) rest

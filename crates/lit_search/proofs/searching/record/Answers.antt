@@ -1,0 +1,37 @@
+use Rattle.std.proofs.Common.{◌≡◌, ◌≤◌, ℕ, ◌+◌, ap, arith, subst, ◌∙◌}
+use Rattle.std.specs.Prelude.{IsTrue}
+use Rattle.lit_read.specs.Syntax.{Litmus}
+use Rattle.lit_paths.specs.Plan.{choices_before}
+use Rattle.lit_search.specs.Report.{in_range}
+use Rattle.lit_search.specs.Internal.Gained.{Gains}
+use Rattle.lit_search.proofs.GainLemmas.{gains_none, gains_on, none_within}
+use Rattle.lit_search.proofs.searching.record.Goals as goal
+
+pub loop-next-init : goal.loop-next-init
+loop-next-init c = record {
+  after = omega arith;
+  inside = c.requires.order;
+  gains = gains_none c.args.plan.now (λ n. IsTrue (in_range c.args.from c.args.from n)) c.args.table.now c.args.mark (none_within c.args.from);
+}
+
+pub loop-next-preserved : goal.loop-next-preserved
+loop-next-preserved c =
+    let t = c.args.plan.now in
+    let end = c.min-end.result in
+    let behind : c.end.result ≡ choices_before t (c.combination.result + 1) =
+    c.end.ensures.value ∙ ap (λ (p : Litmus × ℕ). choices_before p.0 (p.1 + 1)) (c.combination-in-loop-next.ensures ∙ c.open-problem.ensures) in
+    let low : c.args.from ≤ c.loop-next.next = c.loop-next.invariant.after in
+    let high : c.loop-next.next ≤ end = omega (arith, c.min-end.ensures, behind, c.combination.ensures.high, c.loop-next-test.true) in
+    record {
+      after = omega (arith, low, high);
+      inside = omega (arith, c.min-end.ensures);
+      gains = gains_on t c.args.from c.loop-next.next end low high c.args.table.now c.loop-next.table c.record_on.new.table c.args.mark c.loop-next.race
+          c.in_ok-race.race c.loop-next.invariant.gains
+          (subst (λ (p : Litmus × ℕ). Gains p.0 (λ n. IsTrue (in_range c.loop-next.next end n)) c.loop-next.table c.record_on.new.table c.loop-next.race c.in_ok-race.race)
+          c.open-problem.ensures c.in_ok-race.ensures.gains);
+    }
+
+pub returns-clause-gains : goal.returns-clause-gains
+returns-clause-gains c =
+    subst (λ (n : ℕ). Gains c.args.plan.now (λ m. IsTrue (in_range c.args.from n m)) c.args.table.now c.loop-next.table c.args.mark c.loop-next.race)
+    (let e : c.loop-next.next ≡ c.args.to = omega (arith, c.loop-next.invariant.inside, c.loop-next-test.false) in e) c.loop-next.invariant.gains

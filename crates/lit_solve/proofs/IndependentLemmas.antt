@@ -1,0 +1,156 @@
+-- A part of a box whose reads are independent: with one domain narrowed, what is given gives the same relations, so reads stay
+-- independent there as long as the narrowed one can be filled.
+use Rattle.std.proofs.Common.{◌≡◌, ◌≢◌, ◌⊎◌, inl, inr, ℕ, ◌<◌, Some, List, length, refl, sym, ap, subst, ◌∙◌}
+use Rattle.std.specs.Prelude.{slice_get}
+use Rattle.std.proofs.lemmas.Bool.{cases_eq}
+use Rattle.lit_paths.specs.declared.event.Event.{Event}
+use Rattle.lit_paths.specs.ByteReads.{byte_read_at, byte_reads}
+use Rattle.lit_rel.specs.declared.event_set.EventSet.{EventSet}
+use Rattle.lit_rel.specs.EventSet.{HasEvent}
+use Rattle.lit_rel.specs.InitReads.{AreOfEvents}
+use Rattle.lit_rel.proofs.SameRelations.{coherent_read_by}
+use Rattle.lit_order.proofs.SameOrders.{IsLeastOrderOf-same, IsOrderOf-same}
+use Rattle.lit_solve.specs.declared.goal.Goal.TheVariants.{Any}
+use Rattle.lit_solve.specs.Box.{Box, HasEmptyDomain, HasSource, IsWithin, box_events}
+use Rattle.lit_solve.specs.Completion.{HasSolution}
+use Rattle.lit_solve.specs.Fill.{AreCoherentSources, AreSourcesIn, CanFill, IsFilled, IsQuiet}
+use Rattle.lit_solve.specs.Given.{HappensBeforeIn, IsForbiddenIn}
+use Rattle.lit_solve.specs.Internal.Independent.{FillsAll, HasLeastOrderIn, IsIndependent}
+use Rattle.lit_solve.proofs.BoxLemmas.{before_grows, forbidden_grows}
+use Rattle.lit_solve.proofs.DescendingLemmas.{alone_stays}
+use Rattle.lit_solve.proofs.DomainLemmas.{narrowed_at, narrowed_is_box, narrowed_within, none_empty_at, source_other}
+use Rattle.lit_solve.proofs.FillLemmas.{before_back, forbidden_back, grows_in}
+use Rattle.lit_solve.proofs.LeafLemmas.{IsFilledReadByRead}
+use Rattle.lit_solve.proofs.NarrowingLemmas.{read_here}
+use Rattle.lit_solve.proofs.TogetherLemmas.{together, together_agrees, together_fills, together_lies}
+
+-- there is a completion
+pub independent_solution : (box : Box) → IsIndependent box → IsFilledReadByRead box → HasSolution box Any
+independent_solution box is law =
+    let found = (law is.filled.sources is.is_box is.quiet is.coherent is.calm is.filled.lie).1 (is.filled.each, is.unwritten, is.ordered) in
+    (found.0, record { completes = found.1; meets = tt })
+
+module _ (box : Box) (of_events : AreOfEvents (box_events box)) (is : IsIndependent box) (place : ℕ) (left : EventSet) (room : place < length box.domains)
+    (inside : place < length (byte_reads (box_events box))) (within : (w : ℕ) → HasEvent left w → HasSource box place w)
+    (some : (w : ℕ) × HasEvent left w) (fills : CanFill (narrowed_at box place left) (byte_read_at (box_events box) place).0) where
+  abbrev part : Box
+  part = narrowed_at box place left
+
+  abbrev events : List Event
+  events = box_events box
+
+  abbrev r : ℕ
+  r = (byte_read_at events place).0
+
+  inner : IsWithin (narrowed_at box place left) box
+  inner = narrowed_within box place left room within
+
+  part_some : ¬ HasEmptyDomain (narrowed_at box place left)
+  part_some = none_empty_at box place left room is.some some
+
+  -- ---- the relations are the same
+  -- sources that lie in the part lie in the box
+  lie_out : (sources : List ℕ) → AreSourcesIn part sources → AreSourcesIn box sources
+  lie_out sources lie = record { sourced = lie.sourced; within = λ k w at. inner.domains k w (lie.within k w at) }
+
+  before_out : (a d : ℕ) → HappensBeforeIn part a d → HappensBeforeIn box a d
+  before_out a d h = before_back box fills.0 (lie_out fills.0 fills.1) is.quiet a d ((grows_in part fills.0 fills.1).happens_before a d h)
+
+  forbidden_out : (w q v : ℕ) → IsForbiddenIn part w q v → IsForbiddenIn box w q v
+  forbidden_out w q v f = forbidden_back box fills.0 (lie_out fills.0 fills.1) is.quiet w q v ((grows_in part fills.0 fills.1).forbidden w q v f)
+
+  before_in : (a d : ℕ) → HappensBeforeIn box a d → HappensBeforeIn part a d
+  before_in = before_grows part box inner part_some
+
+  forbidden_in : (w q v : ℕ) → IsForbiddenIn box w q v → IsForbiddenIn part w q v
+  forbidden_in = forbidden_grows part box inner part_some
+
+  quiet_part : IsQuiet part
+  quiet_part k below = elim (is.quiet k below) [
+    | inl one ↦ inl (one.0, alone_stays part box inner part_some k one.0 below one.1)
+    | inr idle ↦ inr (λ q b w at there. idle q b w at (inner.domains k w there))
+  ]
+
+  coherent_part : AreCoherentSources part
+  coherent_part k q b w at there =
+      coherent_read_by events (HappensBeforeIn box) (HappensBeforeIn part) before_out q b w (is.coherent k q b w at (inner.domains k w there))
+
+  -- ---- sources that fill each read of the part: for its narrowed read those that fill it there, and for the others those of the box
+  pick : (q : ℕ) → (q ≡ r) ⊎ (q ≢ r) → List ℕ
+  pick q (inl same) = fills.0
+  pick q (inr other) = is.filled.sources
+
+  picked : ℕ → List ℕ
+  picked q = pick q (cases_eq q r)
+
+  pick_lies : (q : ℕ) (which : (q ≡ r) ⊎ (q ≢ r)) → AreSourcesIn box (pick q which)
+  unfolding pick
+  pick_lies q (inl same) = lie_out fills.0 fills.1
+  pick_lies q (inr other) = is.filled.lie
+
+  pick_fills : (q : ℕ) (which : (q ≡ r) ⊎ (q ≢ r)) → q < length events → IsFilled box q (pick q which)
+  unfolding pick
+  pick_fills q (inl same) known =
+      subst (λ (p : ℕ). IsFilled box p fills.0) (sym same) (record { tear_free = fills.2.tear_free; tests = fills.2.tests })
+  pick_fills q (inr other) known = is.filled.each q known
+
+  picked_here : picked r ≡ fills.0
+  unfolding pick picked
+  picked_here = by (cases_eq r r)
+    where
+      by : (which : (r ≡ r) ⊎ (r ≢ r)) → pick r which ≡ fills.0
+      by (inl same) = refl
+      by (inr other) = absurd (other refl)
+
+  lies : (q : ℕ) → q < length events → AreSourcesIn box (picked q)
+  unfolding picked
+  lies q known = pick_lies q (cases_eq q r)
+
+  all_lie : AreSourcesIn box (together box picked)
+  all_lie = together_lies box picked of_events lies
+
+  part_lies : AreSourcesIn part (together box picked)
+  part_lies = record {
+    sourced = all_lie.sourced;
+    within = λ k w at. elim (cases_eq k place) [
+      | inl same ↦
+          let here : slice_get (together box picked) place ≡ Some w = subst (λ (j : ℕ). slice_get (together box picked) j ≡ Some w) same at in
+          let read : slice_get (byte_reads events) place ≡ Some (r, (byte_read_at events place).1) = read_here events place inside in
+          let agrees = together_agrees box picked of_events lies r (of_events.known place r (byte_read_at events place).1 read) place
+          (byte_read_at events place).1 read in
+          let its : slice_get fills.0 place ≡ Some w = ap (λ (ws : List ℕ). slice_get ws place) (sym picked_here) ∙ sym agrees ∙ here in
+          subst (λ (j : ℕ). HasSource part j w) (sym same) (fills.1.within place w its)
+      | inr other ↦ source_other box place left room k w other (all_lie.within k w at)
+    ];
+  }
+
+  part_fills : FillsAll part
+  unfolding picked
+  part_fills = record {
+    sources = together box picked;
+    lie = part_lies;
+    each = λ q known.
+        let filled = together_fills box picked of_events lies (λ p inside. pick_fills p (cases_eq p r) inside) q known in
+        record { tear_free = filled.tear_free; tests = filled.tests };
+  }
+
+  pub independent_part : IsIndependent part
+  independent_part = record {
+    is_box = narrowed_is_box box place left room within is.is_box;
+    some = part_some;
+    quiet = quiet_part;
+    coherent = coherent_part;
+    calm = λ e h. is.calm e (before_out e e h);
+    unwritten = is.unwritten;
+    ordered = (
+      is.ordered.0,
+      IsOrderOf-same (length events) (length events) (HappensBeforeIn box) (HappensBeforeIn part) (IsForbiddenIn box) (IsForbiddenIn part) refl before_out
+          forbidden_out is.ordered.0 is.ordered.1,
+    );
+    filled = part_fills;
+  }
+
+  pub order_of_part : (order : List ℕ) → HasLeastOrderIn box order → HasLeastOrderIn part order
+  order_of_part order least =
+      IsLeastOrderOf-same (length events) (length events) (HappensBeforeIn box) (HappensBeforeIn part) (IsForbiddenIn box) (IsForbiddenIn part) refl
+      (λ a d. (before_in a d, before_out a d)) (λ w q v. (forbidden_in w q v, forbidden_out w q v)) order least

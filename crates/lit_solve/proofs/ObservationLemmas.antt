@@ -1,0 +1,137 @@
+-- What registers observe: the value of a read from bytes that are decided one after the other, and the outcomes of the parts of a
+-- box.
+use Rattle.std.proofs.Common.{◌≡◌, ◌≢◌, ℕ, zero, suc, ◌+◌, ◌*◌, ◌^◌, ◌<◌, ◌≤◌, Some, List, [], ◌∷◌, ◌++◌, drop, take, length, map, get_or, refl, sym, ap, ap₂, ◌∙◌, arith}
+use Rattle.std.specs.Prelude.{slice_get}
+use Rattle.std.proofs.lemmas.List.{get_or-map, length-map, take_all, take_more}
+use Rattle.std.proofs.lemmas.Option.{slice_get-get_or}
+use Rattle.lit_paths.specs.declared.event.Event.{Event}
+use Rattle.lit_paths.specs.ByteReads.{byte_read_at, byte_reads}
+use Rattle.lit_paths.specs.Execution.{Execution, execution_outcome}
+use Rattle.lit_paths.specs.Outcome.{names_of}
+use Rattle.lit_paths.proofs.NameSteps.{names_from-within}
+use Rattle.lit_paths.proofs.Products.{slice_get-drop}
+use Rattle.lit_rel.specs.ReadsFrom.{composed, value_of}
+use Rattle.lit_valid.specs.Laws.{Laws}
+use Rattle.lit_valid.specs.PartOutcome.{read_held, value_held}
+use Rattle.lit_valid.proofs.CompletionLemmas.{its_outcome}
+use Rattle.lit_solve.specs.declared.filling.Taken.{Taken}
+use Rattle.lit_solve.specs.declared.observation.ReadValue.{ReadValue}
+use Rattle.lit_solve.specs.declared.observation.ReadValue.TheVariants.{One, Open}
+use Rattle.lit_solve.specs.Box.{Box, HasSource, IsBox, box_events}
+use Rattle.lit_solve.specs.Completion.{IsCompletion}
+use Rattle.lit_solve.specs.Fill.{AreSourcesIn}
+use Rattle.lit_solve.specs.Internal.Deciding.{stored_for}
+use Rattle.lit_solve.specs.Internal.Filling.{bytes_taken, reads_on}
+use Rattle.lit_solve.specs.Internal.Observation.{IsValueHeld, IsValueOf, part_with}
+use Rattle.lit_solve.proofs.CompletionLemmas.{completes, part_of}
+use Rattle.lit_solve.proofs.FillLemmas.{sources_lie}
+use Rattle.lit_solve.proofs.FillingLemmas.{no_more, same_number, taken_other}
+use Rattle.lit_solve.proofs.ReadByteLemmas.{drop_at, read_there}
+
+-- what is left of a read from a byte read on, by its sources, goes with what was taken before to its value
+abbrev pub IsComposedOn : Box → (r k : ℕ) → Taken → Type 0
+IsComposedOn box r k taken =
+    (sources : List ℕ) → AreSourcesIn box sources
+    → value_of (box_events box) sources r
+    ≡ taken.value + 256 ^ taken.bytes * composed (bytes_taken (box_events box) (reads_on (box_events box) k) (drop k sources) r)
+
+module _ (box : Box) (r : ℕ) where
+  abbrev events : List Event
+  events = box_events box
+
+  abbrev reads : List (ℕ × ℕ)
+  reads = byte_reads events
+
+  -- the byte reads before the first of the read have none of it
+  passed : (k : ℕ) (sources : List ℕ) → k ≤ length reads → length sources ≡ length reads
+      → ((j q b : ℕ) → j < k → slice_get reads j ≡ Some (q, b) → q < r)
+      → bytes_taken events reads sources r ≡ bytes_taken events (drop k reads) (drop k sources) r
+  passed zero sources within long before = refl
+  passed (suc k) sources within long before =
+      let p = byte_read_at events k in
+      let at : slice_get reads k ≡ Some p = slice_get-get_or reads k (0, 0) (omega (arith, within)) in
+      let w = get_or sources k 0 in
+      let source : slice_get sources k ≡ Some w = slice_get-get_or sources k 0 (omega (arith, within, long)) in
+      let other : p.0 ≢ r = λ same. omega (arith, before k p.0 p.1 (omega arith) at, same) in
+      let next : k + 1 ≡ suc k = omega arith in
+      passed k sources (omega (arith, within)) long (λ j q b less there. before j q b (omega (arith, less)) there)
+      ∙ ap (λ (ps : List (ℕ × ℕ)). bytes_taken events ps (drop k sources) r) (drop_at reads k p at)
+      ∙ ap (λ (ws : List ℕ). bytes_taken events (p ∷ drop (k + 1) reads) ws r) (drop_at sources k w source)
+      ∙ taken_other events p (drop (k + 1) reads) w (drop (k + 1) sources) r other
+      ∙ ap (λ (n : ℕ). bytes_taken events (drop n reads) (drop n sources) r) next
+
+  pub composed_first : (k : ℕ) (taken : Taken) → k ≤ length reads → ((j q b : ℕ) → j < k → slice_get reads j ≡ Some (q, b) → q < r)
+      → taken.value ≡ 0 → taken.bytes ≡ 0 → IsComposedOn box r k taken
+  composed_first k taken within before value bytes sources lie =
+      let rest = composed (bytes_taken events (drop k reads) (drop k sources) r) in
+      let unit : 256 ^ taken.bytes ≡ 1 = ap (λ (n : ℕ). 256 ^ n) bytes in
+      ap composed (passed k sources within lie.sourced.one_each before) ∙ alone (256 ^ taken.bytes) rest unit
+    where
+      alone : (unit rest : ℕ) → unit ≡ 1 → rest ≡ taken.value + unit * rest
+      alone unit rest is = sym (ap (λ (n : ℕ). taken.value + n * rest) is ∙ omega (arith, value))
+
+  -- one more byte, which each source stores alike
+  pub composed_next : (k w : ℕ) (taken next : Taken) → k < length reads → (byte_read_at events k).0 ≡ r
+      → ((v : ℕ) → HasSource box k v → stored_for box k v ≡ stored_for box k w)
+      → next.value ≡ taken.value + 256 ^ taken.bytes * stored_for box k w → next.bytes ≡ taken.bytes + 1
+      → IsComposedOn box r k taken → IsComposedOn box r (k + 1) next
+  composed_next k w taken next within is alike value bytes so_far sources lie =
+      let b = (byte_read_at events k).1 in
+      let at : slice_get reads k ≡ Some (r, b) = read_there events k r within is in
+      let v = get_or sources k 0 in
+      let source : slice_get sources k ≡ Some v = slice_get-get_or sources k 0 (omega (arith, within, lie.sourced.one_each)) in
+      let rest = composed (bytes_taken events (drop (k + 1) reads) (drop (k + 1) sources) r) in
+      so_far sources lie
+      ∙ ap (λ (ps : List (ℕ × ℕ)). taken.value + 256 ^ taken.bytes * composed (bytes_taken events ps (drop k sources) r)) (drop_at reads k (r, b) at)
+      ∙ ap (λ (ws : List ℕ). taken.value + 256 ^ taken.bytes * composed (bytes_taken events ((r, b) ∷ drop (k + 1) reads) ws r))
+      (drop_at sources k v source)
+      ∙ sym (same_number box r (r, b) (drop (k + 1) reads) (λ _. ⊥) taken.value taken.bytes v (drop (k + 1) sources) refl)
+      ∙ ap (λ (byte : ℕ). (taken.value + 256 ^ taken.bytes * byte) + 256 ^ (taken.bytes + 1) * rest) (alike v (lie.within k v source))
+      ∙ ap (λ (n : ℕ). n + 256 ^ (taken.bytes + 1) * rest) (sym value)
+      ∙ ap (λ (n : ℕ). next.value + 256 ^ n * rest) (sym bytes)
+
+  -- no more bytes
+  pub composed_last : (k : ℕ) (taken : Taken) → ((j b : ℕ) → k ≤ j → slice_get reads j ≢ Some (r, b)) → IsComposedOn box r k taken
+      → (sources : List ℕ) → AreSourcesIn box sources → value_of events sources r ≡ taken.value
+  composed_last k taken none so_far sources lie =
+      so_far sources lie
+      ∙ no_more box r (drop k reads) (λ _. ⊥) taken.value taken.bytes (drop k sources)
+      (λ i b at. none (k + i) b (omega arith) (sym (slice_get-drop k i reads) ∙ at))
+
+-- ---- registers
+-- a register that holds a read has its value
+pub held_by_read : (box : Box) (name : ℕ × ℕ) (r : ℕ) (value : ReadValue) → Some r ≡ read_held box.test box.combination name → IsValueOf box r value
+    → IsValueHeld box name value
+held_by_read box name r (One value) holds is = λ sources lie. ap (value_held (part_with box sources)) (sym holds) ∙ is sources lie
+held_by_read box name r (Open k) holds is = (is.0, is.1, (name, sym holds ∙ ap (λ (q : ℕ). Some q) (sym is.2)))
+
+module _ (box : Box) (entered : IsBox box) (laws : Laws) (x : Execution) (is : IsCompletion box x) where
+  -- what a register has at the end of the completion
+  abbrev pub held_in : ℕ × ℕ → ℕ
+  held_in name = value_held (part_with box x.sources) (read_held box.test box.combination name)
+
+  pub outcome_is : execution_outcome box.test x ≡ map held_in (names_of box.test)
+  outcome_is =
+      its_outcome (part_of box x.sources) x (completes box x is) laws (record { litmus = entered.litmus; known = entered.known })
+      (names_from-within box.test.agents)
+
+  length_outcome : length (execution_outcome box.test x) ≡ length (names_of box.test)
+  length_outcome = ap (λ (vs : List ℕ). length vs) outcome_is ∙ length-map (names_of box.test) held_in
+
+  -- one value more
+  pub value_more : (values more : List ℕ) (name : ℕ × ℕ) (value : ℕ) → length values < length (names_of box.test)
+      → name ≡ get_or (names_of box.test) (length values) (0, 0) → values ≡ take (length values) (execution_outcome box.test x)
+      → IsValueHeld box name (One value) → more ≡ values ++ value ∷ [] → more ≡ take (length values + 1) (execution_outcome box.test x)
+  value_more values more name value inside at so_far held grown =
+      let outcome = execution_outcome box.test x in
+      let within : length values < length outcome = omega (arith, inside, length_outcome) in
+      let is : value ≡ get_or outcome (length values) 0 = sym (held x.sources (sources_lie box x is)) ∙ ap held_in at
+      ∙ sym (get_or-map held_in (names_of box.test) (length values) (0, 0) 0 inside)
+      ∙ sym (ap (λ (vs : List ℕ). get_or vs (length values) 0) outcome_is) in
+      grown ∙ ap₂ (λ (xs : List ℕ) (v : ℕ). xs ++ v ∷ []) so_far is ∙ sym (take_more outcome (length values) 0 within)
+
+  -- all values
+  pub all_values : (values : List ℕ) → length (names_of box.test) ≤ length values → values ≡ take (length values) (execution_outcome box.test x)
+      → execution_outcome box.test x ≡ values
+  all_values values all first =
+      sym (first ∙ take_all (length values) (execution_outcome box.test x) (omega (arith, all, length_outcome)))

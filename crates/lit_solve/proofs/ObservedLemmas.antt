@@ -1,0 +1,211 @@
+-- Completions with one outcome take sources that store the same for a byte read that a register observes. So what is least in a
+-- part of a box by that byte is least in the box.
+use Rattle.std.proofs.Common.{◌≡◌, ◌⊎◌, ◌↔◌, inl, inr, ℕ, ◌<◌, true, Some, List, length, refl, sym, ap, subst, ◌∙◌, eq-eqb}
+use Rattle.std.specs.Prelude.{slice_get}
+use Rattle.std.specs.List.{zip}
+use Rattle.std.proofs.lemmas.Bool.{cases_eq, false≢true}
+use Rattle.std.proofs.lemmas.Option.{same_Some}
+use Rattle.lit_read.specs.Syntax.{Litmus}
+use Rattle.lit_paths.specs.declared.event.Event.{Event}
+use Rattle.lit_paths.specs.ByteReads.{byte_read_at, byte_reads}
+use Rattle.lit_paths.specs.Execution.{Execution, execution_outcome}
+use Rattle.lit_paths.specs.Outcome.{names_of, value_in}
+use Rattle.lit_paths.specs.Plan.{AreEventsIn}
+use Rattle.lit_rel.specs.declared.event_set.EventSet.{EventSet}
+use Rattle.lit_rel.specs.EventSet.{HasEvent}
+use Rattle.lit_rel.specs.ReadsFrom.{value_of}
+use Rattle.lit_rel.proofs.SetLemmas.{event_or_not}
+use Rattle.lit_valid.specs.Entry.{Entry, HasOutcome}
+use Rattle.lit_valid.specs.Laws.{Laws}
+use Rattle.lit_valid.specs.PartOutcome.{value_held}
+use Rattle.lit_solve.specs.declared.goal.Goal.TheVariants.{Any}
+use Rattle.lit_solve.specs.declared.stepping.Branch.{Branch}
+use Rattle.lit_solve.specs.Box.{Box, HasSource, IsBox, IsWithin, box_events, box_with, events_on}
+use Rattle.lit_solve.specs.Completion.{IsCompletion}
+use Rattle.lit_solve.specs.Outcomes.{AddsEntries, HasEachOutcome, IsLeastEntry}
+use Rattle.lit_solve.specs.Internal.Deciding.{IsUndecidedAt, stored_for}
+use Rattle.lit_solve.specs.Internal.Narrowing.{Narrows}
+use Rattle.lit_solve.specs.Internal.Observation.{AreFirstValues, IsObservedAt}
+use Rattle.lit_solve.specs.Internal.Settled.{IsCut, TakesFrom}
+use Rattle.lit_solve.proofs.CompletionLemmas.{part_of}
+use Rattle.lit_solve.proofs.DecidingLemmas.{byte_for, other_number}
+use Rattle.lit_solve.proofs.EntryLemmas.{adds_more, adds_stays}
+use Rattle.lit_solve.proofs.FillLemmas.{sources_lie}
+use Rattle.lit_solve.proofs.ReadByteLemmas.{byte_read_there}
+use Rattle.lit_solve.proofs.RegisterLemmas.{register_value}
+use Rattle.lit_solve.proofs.SearchingLemmas.{not_all, takes_some}
+
+-- a completion takes some source
+takes_one : (box : Box) (k : ℕ) → k < length (byte_reads (box_events box)) → (x : Execution) → IsCompletion box x
+    → (w : ℕ) × (slice_get x.sources k ≡ Some w)
+takes_one box k inside x is = takes_some box Any k inside x (record { completes = is; meets = tt })
+
+-- a completion of a part of a box is one of the box
+pub completes_within : (box : Box) (domains : List EventSet) → IsWithin (box_with (box.test, box.combination) domains) box → (x : Execution)
+    → IsCompletion (box_with (box.test, box.combination) domains) x → IsCompletion box x
+completes_within box domains within x is =
+    record { valid = is.valid; on_paths = is.on_paths; within = λ j w source. within.domains j w (is.within j w source) }
+
+-- so the first values of outcomes stay
+pub first_within : (box : Box) (domains : List EventSet) (values : List ℕ) → IsWithin (box_with (box.test, box.combination) domains) box
+    → AreFirstValues box values → AreFirstValues (box_with (box.test, box.combination) domains) values
+first_within box domains values within first =
+    record { few = first.few; first = λ x is. first.first x (completes_within box domains within x is) }
+
+-- what is least in a box that was narrowed is least in what it was
+pub least_narrowed : (box : Box) (domains : List EventSet) → Narrows box (box_with (box.test, box.combination) domains) → (entry : Entry)
+    → IsLeastEntry (box_with (box.test, box.combination) domains) entry → IsLeastEntry box entry
+least_narrowed box domains narrows entry is = record {
+  execution = is.execution;
+  completes = completes_within box domains narrows.within is.execution is.completes;
+  outcome = is.outcome;
+  from = is.from;
+  to = is.to;
+  chosen = is.chosen;
+  least = λ x completes its. is.least x (narrows.kept x completes) its;
+  ordered = is.ordered;
+}
+
+module _ (laws : Laws) (box : Box) (entered : IsBox box) (sound : AreEventsIn box.test.bytes (box_events box)) (k : ℕ)
+    (inside : k < length (byte_reads (box_events box))) (observed : IsObservedAt box k) where
+  abbrev events : List Event
+  events = box_events box
+
+  abbrev r : ℕ
+  r = (byte_read_at events k).0
+
+  abbrev b : ℕ
+  b = (byte_read_at events k).1
+
+  at : slice_get (byte_reads events) k ≡ Some (r, b)
+  at = byte_read_there events k inside
+
+  -- what the register has at the end is the value of the read
+  held : (x : Execution) → IsCompletion box x
+      → value_in (zip (names_of box.test) (execution_outcome box.test x)) observed.0.0 observed.0.1 ≡ value_of events x.sources r
+  held x is = register_value laws box x entered is observed.0.0 observed.0.1 ∙ ap (value_held (part_of box x.sources)) observed.1
+
+  same_value : (x y : Execution) → IsCompletion box x → IsCompletion box y → execution_outcome box.test x ≡ execution_outcome box.test y
+      → value_of events x.sources r ≡ value_of events y.sources r
+  same_value x y is_x is_y same =
+      sym (held x is_x)
+      ∙ ap (λ (outcome : List ℕ). value_in (zip (names_of box.test) outcome) observed.0.0 observed.0.1) same
+      ∙ held y is_y
+
+  -- a source stores the byte that the value has there
+  stores : (number : ℕ) (x : Execution) → IsCompletion box x → (w : ℕ) → slice_get x.sources k ≡ Some w → value_of events x.sources r ≡ number
+      → stored_for box k w ≡ byte_for box r number b
+  stores number x is w source value =
+      let of_events = laws.of_events events in
+      elim (cases_eq (stored_for box k w) (byte_for box r number b)) [
+        | inl same ↦ same
+        | inr other ↦ absurd (false≢true
+            (sym (other_number box r number sound (of_events.known k r b at) (of_events.reads k r b at) x.sources (sources_lie box x is) k b w at source other)
+            ∙ eq-eqb (value_of events x.sources r) number value))
+      ]
+
+  pub same_byte : (x y : Execution) → IsCompletion box x → IsCompletion box y → execution_outcome box.test x ≡ execution_outcome box.test y
+      → (w v : ℕ) → slice_get x.sources k ≡ Some w → slice_get y.sources k ≡ Some v → stored_for box k w ≡ stored_for box k v
+  same_byte x y is_x is_y same w v at_x at_y =
+      let number = value_of events y.sources r in
+      stores number x is_x w at_x (same_value x y is_x is_y same) ∙ sym (stores number y is_y v at_y refl)
+
+  -- ---- the part of a box by the sources that store the same as one
+  module _ (source : ℕ) (group : EventSet)
+      (alike : (w : ℕ) → HasEvent group w ↔ (HasSource box k w × (stored_for box k w ≡ stored_for box k source))) where
+    -- who takes one of them, with an outcome
+    takes_too : (x y : Execution) → IsCompletion box x → IsCompletion box y → execution_outcome box.test x ≡ execution_outcome box.test y
+        → (v : ℕ) → slice_get y.sources k ≡ Some v → HasEvent group v → TakesFrom x k group
+    takes_too x y is_x is_y same v at_y there w at_x =
+        (alike w).1 (is_x.within k w at_x, same_byte x y is_x is_y same w v at_x at_y ∙ ((alike v).0 there).1)
+
+    module _ (domains : List EventSet) (cut : IsCut box k group (box_with (box.test, box.combination) domains)) where
+      abbrev part : Box
+      part = box_with (box.test, box.combination) domains
+
+      completes_out : (x : Execution) → IsCompletion part x → IsCompletion box x
+      completes_out = completes_within box domains cut.within
+
+      pub least_out : (entry : Entry) → IsLeastEntry part entry → IsLeastEntry box entry
+      least_out entry is = record {
+        execution = is.execution;
+        completes = completes_out is.execution is.completes;
+        outcome = is.outcome;
+        from = is.from;
+        to = is.to;
+        chosen = is.chosen;
+        least = λ x completes its. is.least x (cut.kept x completes (takes x completes its)) its;
+        ordered = is.ordered;
+      }
+        where
+          takes : (x : Execution) → IsCompletion box x → execution_outcome box.test x ≡ entry.outcome → TakesFrom x k group
+          takes x completes its =
+              let y = is.execution in
+              let y_is = completes_out y is.completes in
+              let some = takes_one box k inside y y_is in
+              takes_too x y completes y_is (its ∙ sym is.outcome) some.0 some.1
+              (cut.inside some.0 (is.completes.within k some.0 some.1))
+
+-- ---- going through the parts of a box
+-- each completion has an outcome with an entry, or takes a source of the set
+abbrev pub IsSeen : Box → ℕ → List Entry → EventSet → Type 0
+IsSeen box k entries left =
+    (x : Execution) → IsCompletion box x → HasOutcome entries (execution_outcome box.test x) ⊎ TakesFrom x k left
+
+module _ (box : Box) (k : ℕ) where
+  seen_stays : (old new : List Entry) (left : EventSet) → ((outcome : List ℕ) → HasOutcome old outcome → HasOutcome new outcome)
+      → IsSeen box k old left → IsSeen box k new left
+  seen_stays old new left stays seen x is =
+      elim (seen x is) [ inl has ↦ inl (stays (execution_outcome box.test x) has) | inr takes ↦ inr takes ]
+
+  seen_more : (entries : List Entry) (left group rest : EventSet)
+      → ((w : ℕ) → HasEvent rest w ↔ (HasEvent left w × ¬ HasEvent group w)) → k < length (byte_reads (box_events box))
+      → ((x : Execution) → IsCompletion box x → TakesFrom x k group → HasOutcome entries (execution_outcome box.test x))
+      → IsSeen box k entries left → IsSeen box k entries rest
+  seen_more entries left group rest rest_is inside taken seen x is = elim (seen x is) [
+    | inl has ↦ inl has
+    | inr takes ↦
+        (let some = takes_one box k inside x is in
+        elim (event_or_not group some.0) [
+          | inl there ↦ inl (taken x is (λ w source. subst (HasEvent group) (same_Some some.0 w (sym some.1 ∙ source)) there))
+          | inr apart ↦ inr (λ w source.
+              subst (HasEvent rest) (same_Some some.0 w (sym some.1 ∙ source)) ((rest_is some.0).1 (takes some.0 some.1, apart)))
+        ])
+  ]
+
+  pub all_seen : (entries : List Entry) (left : EventSet) → ((w : ℕ) → ¬ HasEvent left w) → k < length (byte_reads (box_events box))
+      → IsSeen box k entries left → HasEachOutcome box entries
+  all_seen entries left none inside seen x is = elim (seen x is) [
+    | inl has ↦ has
+    | inr takes ↦ (let some = takes_one box k inside x is in absurd (none some.0 (takes some.0 some.1)))
+  ]
+
+  -- one part more
+  pub seen_on : (old mid entries : List Entry) (left group rest : EventSet) → ((w : ℕ) → HasEvent rest w ↔ (HasEvent left w × ¬ HasEvent group w))
+      → k < length (byte_reads (box_events box)) → AddsEntries box old mid → IsSeen box k mid left → AddsEntries box mid entries
+      → ((x : Execution) → IsCompletion box x → TakesFrom x k group → HasOutcome entries (execution_outcome box.test x))
+      → AddsEntries box old entries × IsSeen box k entries rest
+  seen_on old mid entries left group rest rest_is inside added seen adds taken = (
+    adds_more box old mid entries added adds,
+    seen_more entries left group rest rest_is inside taken (seen_stays mid entries left (λ outcome. adds_stays box mid entries outcome adds) seen),
+  )
+
+-- ---- the group of the sources that store the same as one
+pub alike_among : (box : Box) (k source : ℕ) (all group : EventSet) → ((w : ℕ) → HasEvent all w ↔ HasSource box k w)
+    → ((w : ℕ) → HasEvent group w ↔ (HasEvent all w × (stored_for box k w ≡ stored_for box k source)))
+    → (w : ℕ) → HasEvent group w ↔ (HasSource box k w × (stored_for box k w ≡ stored_for box k source))
+alike_among box k source all group all_is group_is w = (
+  λ there. (let is = (group_is w).0 there in ((all_is w).0 is.0, is.1)),
+  λ is. (group_is w).1 ((all_is w).1 is.0, is.1),
+)
+
+-- it lacks some source of a byte read that is undecided
+pub some_differ : (box : Box) (k source : ℕ) (group : EventSet) → k < length (byte_reads (box_events box)) → IsUndecidedAt box k → HasSource box k source
+    → ((w : ℕ) → HasEvent group w ↔ (HasSource box k w × (stored_for box k w ≡ stored_for box k source)))
+    → ¬ ((w : ℕ) → HasSource box k w → HasEvent group w)
+some_differ box k source group inside undecided there alike =
+    let branch : Branch = record { place = k; by_value = true } in
+    not_all box branch (record { known = inside; several = undecided }) source there group (λ w h. ((alike w).0 h).1)
+
+pub sound_on : {q p : Litmus × ℕ} → q ≡ p → AreEventsIn q.0.bytes (events_on q) → AreEventsIn p.0.bytes (events_on p)
+sound_on is sound = subst (λ (q : Litmus × ℕ). AreEventsIn q.0.bytes (events_on q)) is sound

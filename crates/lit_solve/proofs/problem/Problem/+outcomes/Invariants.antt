@@ -1,0 +1,21 @@
+use Rattle.std.proofs.Common.{ℕ}
+use Rattle.lit_rel.specs.EventSet.{HasEvent}
+use Rattle.lit_solve.specs.Box.{HasSource}
+use Rattle.lit_solve.specs.Internal.Frames.{box_of}
+use Rattle.lit_solve.specs.Internal.Narrowing.{size_of}
+use Rattle.lit_solve.specs.Outcomes.{AddsEntries}
+use Rattle.lit_solve.proofs.ObservedLemmas.{IsSeen}
+use Rattle.lit_solve.proofs.problem.Problem.+outcomes.Given as goal
+
+abbrev pub decreases-outcomes : goal.decreases-outcomes
+decreases-outcomes g l = size_of l.frame.now.domains
+
+abbrev pub invariant-loop-source : goal.invariant-loop-source
+invariant-loop-source g l = record {
+  within : (w : ℕ) → HasEvent l.left w → HasSource (box_of l.self l.frame) l.place w;
+  added : AddsEntries (box_of l.self l.frame) (g.T.OutcomeTable.entries l.fn.table) (g.T.OutcomeTable.entries l.table);
+  seen : IsSeen (box_of l.self l.frame) l.place (g.T.OutcomeTable.entries l.table) l.left;
+}
+
+abbrev pub decreases-loop-source : goal.decreases-loop-source
+decreases-loop-source g l = l.left.bits

@@ -1,0 +1,93 @@
+use Rattle.std.proofs.Common.{◌<◌, ℕ, inl, inr, arith, length, refl, subst, sym, ◌∙◌}
+use Rattle.std.proofs.lemmas.Bool.{false≢true}
+use Rattle.lit_rel.specs.EventSet.{HasEvent}
+use Rattle.lit_solve.specs.Box.{box_with, events_on}
+use Rattle.lit_solve.specs.Fill.{CanFill}
+use Rattle.lit_solve.proofs.DomainLemmas.{narrowed_at, narrowed_is_box, none_at, none_empty_at, size_less}
+use Rattle.lit_solve.proofs.FrameLemmas.{not_true}
+use Rattle.lit_solve.proofs.IndependentLemmas.{independent_part, order_of_part}
+use Rattle.lit_solve.proofs.NarrowingLemmas.{none_or_some}
+use Rattle.lit_solve.proofs.OpeningLemmas.{completion_taken, cut_on, left_within, source_taken}
+use Rattle.lit_solve.proofs.RacingLemmas.{read_number}
+use Rattle.lit_solve.proofs.problem.Problem.cut_independent.Goals as goal
+
+pub returns-then-is_empty-clause-none : goal.returns-then-is_empty-clause-none
+returns-then-is_empty-clause-none c _ x is takes =
+    let box = box_with c.args.self.now c.args.domains.now in
+    let room : c.args.place < length box.domains = omega arith in
+    none_at box c.args.place c.intersection-left.result room c.requires.place x is
+    (source_taken box c.args.place c.args.set c.intersection-left.result room c.intersection-left.ensures x is takes)
+    (c.is_empty.ensures.0 c.if-is_empty.true)
+
+pub can_fill-requires-clause-is_box : goal.can_fill-requires-clause-is_box
+can_fill-requires-clause-is_box c =
+    let box = box_with c.args.self.now c.args.domains.now in
+    let room : c.args.place < length box.domains = omega arith in
+    narrowed_is_box box c.args.place c.intersection-left.result room
+    (left_within box c.args.place c.args.set c.intersection-left.result room c.intersection-left.ensures) c.requires.independent.is_box
+
+pub can_fill-requires-clause-some : goal.can_fill-requires-clause-some
+can_fill-requires-clause-some c =
+    let box = box_with c.args.self.now c.args.domains.now in
+    let room : c.args.place < length box.domains = omega arith in
+    let some : (w : ℕ) × HasEvent c.intersection-left.result w = elim (none_or_some c.intersection-left.result) [
+      | inl none ↦ absurd (false≢true (sym c.if-is_empty.false ∙ c.is_empty.ensures.1 none))
+      | inr found ↦ found
+    ] in
+    none_empty_at box c.args.place c.intersection-left.result room c.requires.independent.some some
+
+pub returns-clause-independent : goal.returns-clause-independent
+returns-clause-independent c good =
+    let box = box_with c.args.self.now c.args.domains.now in
+    let left = c.intersection-left.result in
+    let room : c.args.place < length box.domains = omega arith in
+    let some : (w : ℕ) × HasEvent left w = elim (none_or_some left) [
+      | inl none ↦ absurd (false≢true (sym c.if-is_empty.false ∙ c.is_empty.ensures.1 none))
+      | inr found ↦ found
+    ] in
+    let read = read_number (events_on c.args.self.now) c.args.place c.byte_read-read.result c.byte_read-read.result.read refl c.byte_read-read.ensures.at in
+    independent_part box (c.laws_below.ensures.of_events (events_on c.args.self.now)) c.requires.independent c.args.place left room c.requires.place
+    (left_within box c.args.place c.args.set left room c.intersection-left.ensures) some
+    (subst (λ (r : ℕ). CanFill (narrowed_at box c.args.place left) r) read (c.can_fill.ensures.0 good))
+
+pub returns-clause-order : goal.returns-clause-order
+returns-clause-order c good order least =
+    let box = box_with c.args.self.now c.args.domains.now in
+    let left = c.intersection-left.result in
+    let room : c.args.place < length box.domains = omega arith in
+    let some : (w : ℕ) × HasEvent left w = elim (none_or_some left) [
+      | inl none ↦ absurd (false≢true (sym c.if-is_empty.false ∙ c.is_empty.ensures.1 none))
+      | inr found ↦ found
+    ] in
+    let read = read_number (events_on c.args.self.now) c.args.place c.byte_read-read.result c.byte_read-read.result.read refl c.byte_read-read.ensures.at in
+    order_of_part box (c.laws_below.ensures.of_events (events_on c.args.self.now)) c.requires.independent c.args.place left room c.requires.place
+    (left_within box c.args.place c.args.set left room c.intersection-left.ensures) some
+    (subst (λ (r : ℕ). CanFill (narrowed_at box c.args.place left) r) read (c.can_fill.ensures.0 good)) order least
+
+pub returns-clause-cut : goal.returns-clause-cut
+returns-clause-cut c _ =
+    let box = box_with c.args.self.now c.args.domains.now in
+    let room : c.args.place < length box.domains = omega arith in
+    cut_on box c.args.place c.args.set c.intersection-left.result room c.intersection-left.ensures (narrowed_at box c.args.place c.intersection-left.result)
+    record { within = record { test = refl; combination = refl; domains = λ k w there. there }; kept = λ x is. is }
+
+pub returns-clause-less : goal.returns-clause-less
+returns-clause-less c _ not_all =
+    let box = box_with c.args.self.now c.args.domains.now in
+    let room : c.args.place < length box.domains = omega arith in
+    size_less box c.args.place c.intersection-left.result room
+    (left_within box c.args.place c.args.set c.intersection-left.result room c.intersection-left.ensures)
+    (λ all. not_all (λ w there. ((c.intersection-left.ensures w).0 (all w there)).1))
+
+-- a completion of the box cut would fill the read
+pub returns-clause-none : goal.returns-clause-none
+returns-clause-none c failed x is takes =
+    let box = box_with c.args.self.now c.args.domains.now in
+    let left = c.intersection-left in
+    let room : c.args.place < length box.domains = omega arith in
+    let part = narrowed_at box c.args.place left.result in
+    let is_box = narrowed_is_box box c.args.place left.result room (left_within box c.args.place c.args.set left.result room left.ensures)
+    c.requires.independent.is_box in
+    let fills = c.completions_fill_each_read.ensures part x c.byte_read-read.result.read is_box
+    (completion_taken box c.args.place c.args.set left.result room left.ensures x is takes) c.byte_read-read.ensures.read in
+    not_true c.can_fill.result failed (c.can_fill.ensures.1 fills)

@@ -1,0 +1,7 @@
+use Rattle.std.proofs.Common.{◌-◌, length}
+use Rattle.lit_paths.specs.ByteReads.{byte_reads}
+use Rattle.lit_solve.specs.Box.{events_on}
+use Rattle.lit_solve.proofs.problem.Problem.forcing_byte.Given as goal
+
+abbrev pub decreases-bytes : goal.decreases-bytes
+decreases-bytes l = length (byte_reads (events_on l.self)) - l.place

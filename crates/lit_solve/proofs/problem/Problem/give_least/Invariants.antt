@@ -1,0 +1,18 @@
+use Rattle.std.proofs.Common.{◌≡◌, ℕ, Some}
+use Rattle.std.specs.Prelude.{slice_get}
+use Rattle.lit_paths.specs.Execution.{Execution}
+use Rattle.lit_rel.specs.EventSet.{HasEvent}
+use Rattle.lit_solve.specs.declared.goal.Goal.TheVariants.{Any}
+use Rattle.lit_solve.specs.Box.{HasSource, box_with}
+use Rattle.lit_solve.specs.Completion.{IsSolution}
+use Rattle.lit_solve.proofs.problem.Problem.give_least.Given as goal
+
+abbrev pub invariant-loop-source : goal.invariant-loop-source
+invariant-loop-source l = record {
+  same : l.domains ≡ l.fn.domains;
+  within : (w : ℕ) → HasEvent l.left w → HasSource (box_with l.self l.domains) l.place w;
+  taken : (x : Execution) → IsSolution (box_with l.self l.domains) Any x → (w : ℕ) → slice_get x.sources l.place ≡ Some w → HasEvent l.left w;
+}
+
+abbrev pub decreases-loop-source : goal.decreases-loop-source
+decreases-loop-source l = l.left.bits

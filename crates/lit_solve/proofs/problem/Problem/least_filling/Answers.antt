@@ -1,0 +1,41 @@
+use Rattle.std.proofs.Common.{◌≡◌, ◌<◌, arith, length, subst}
+use Rattle.lit_paths.specs.ByteReads.{byte_reads}
+use Rattle.lit_solve.specs.declared.goal.Goal.TheVariants.{Any}
+use Rattle.lit_solve.specs.Box.{Box, box_with, events_on}
+use Rattle.lit_solve.specs.Internal.Descending.{AreAloneBelow}
+use Rattle.lit_solve.proofs.DescendingLemmas.{alone_kept, alone_more, lowest_on}
+use Rattle.lit_solve.proofs.IndependentLemmas.{independent_solution}
+use Rattle.lit_solve.proofs.LeastLemmas.{least_found}
+use Rattle.lit_solve.proofs.problem.Problem.least_filling.Goals as goal
+
+pub loop-place-preserved : goal.loop-place-preserved
+loop-place-preserved c = record {
+  independent = c.give_least.ensures.independent;
+  order = λ order least. c.give_least.ensures.order order (c.loop-place.invariant.order order least);
+  alone =
+      alone_more now c.loop-place.place
+      (alone_kept now was c.loop-place.place c.give_least.ensures.lowest.within c.give_least.ensures.independent.some (omega (arith, below))
+      c.loop-place.invariant.alone) c.give_least.ensures.alone;
+  lowest =
+      lowest_on (box_with c.args.self.now c.args.domains.now) was now Any c.loop-place.place c.loop-place.invariant.lowest c.give_least.ensures.lowest
+      c.loop-place.invariant.alone below;
+}
+  where
+    was : Box
+    was = box_with c.args.self.now c.loop-place.down
+
+    now : Box
+    now = box_with c.args.self.now c.give_least.new.domains
+
+    below : c.loop-place.place < length (byte_reads (events_on c.args.self.now))
+    below = omega (arith, c.loop-place-test.true, c.reads-place-end.ensures.value)
+
+pub returns : goal.returns
+returns c order least =
+    let old = box_with c.args.self.now c.args.domains.now in
+    let new = box_with c.args.self.now c.loop-place.down in
+    let is = c.loop-place.invariant in
+    let end : c.loop-place.place ≡ length (byte_reads (events_on c.args.self.now)) = omega (arith, c.loop-place-test.false, c.reads-place-end.ensures.value) in
+    least_found old new Any is.lowest (subst (AreAloneBelow new) end is.alone) is.independent.is_box (c.quiet_boxes_have_one_order.ensures new)
+    (independent_solution new is.independent (c.quiet_boxes_are_filled_read_by_read.ensures new)) c.sources_of.result.items c.sources_of.ensures.one_each
+    c.sources_of.ensures.within order (is.order order least)

@@ -1,0 +1,45 @@
+-- What the sources in a box's domains say of the outcomes of its completions.
+use Rattle.std.specs.Prelude.{◌≡◌, ℕ, ◌<◌, ◌≤◌, List, Option, None, Some, length, take}
+use Rattle.lit_paths.specs.ByteReads.{byte_read_at, byte_reads}
+use Rattle.lit_paths.specs.Execution.{Execution, execution_outcome}
+use Rattle.lit_paths.specs.Outcome.{names_of}
+use Rattle.lit_rel.specs.ReadsFrom.{value_of}
+use Rattle.lit_rel.specs.Part.{PartModel}
+use Rattle.lit_valid.specs.PartOutcome.{read_held, value_held}
+use Rattle.lit_solve.specs.declared.observation.ReadValue.{ReadValue}
+use Rattle.lit_solve.specs.declared.observation.ReadValue.TheVariants.{One, Open}
+use Rattle.lit_solve.specs.Box.{Box, box_events}
+use Rattle.lit_solve.specs.Completion.{IsCompletion}
+use Rattle.lit_solve.specs.Fill.{AreSourcesIn}
+use Rattle.lit_solve.specs.Internal.Deciding.{IsUndecidedAt}
+
+-- read r has this value by any sources that lie in the box; or a byte of it can be read as several bytes
+abbrev pub IsValueOf : Box → ℕ → ReadValue → Type 0
+IsValueOf box r (One value) = (sources : List ℕ) → AreSourcesIn box sources → value_of (box_events box) sources r ≡ value
+IsValueOf box r (Open k) =
+    (k < length (byte_reads (box_events box))) × IsUndecidedAt box k × ((byte_read_at (box_events box) k).0 ≡ r)
+
+-- the box's combination with these sources
+abbrev pub part_with : Box → List ℕ → PartModel
+part_with box sources = record { test = box.test; combination = box.combination; sources = sources }
+
+-- a register, named by agent and register, holds the read of the k-th byte read at the end
+abbrev pub IsObservedAt : Box → ℕ → Type 0
+IsObservedAt box k = (name : ℕ × ℕ) × (read_held box.test box.combination name ≡ Some (byte_read_at (box_events box) k).0)
+
+-- a register has this value at the end by any sources that lie in the box; or a byte that it observes can be read as several
+abbrev pub IsValueHeld : Box → ℕ × ℕ → ReadValue → Type 0
+IsValueHeld box name (One value) =
+    (sources : List ℕ) → AreSourcesIn box sources
+    → value_held (part_with box sources) (read_held box.test box.combination name) ≡ value
+IsValueHeld box name (Open k) = (k < length (byte_reads (box_events box))) × IsUndecidedAt box k × IsObservedAt box k
+
+-- the outcome of each completion begins with these values
+pub record AreFirstValues (box : Box) (values : List ℕ) : Type 0 where
+  pub few : length values ≤ length (names_of box.test)
+  pub first : (x : Execution) → IsCompletion box x → values ≡ take (length values) (execution_outcome box.test x)
+
+-- each completion has this outcome; or a byte read that a register observes can be read as several bytes
+abbrev pub IsObservation : Box → List ℕ → Option ℕ → Type 0
+IsObservation box values None = (x : Execution) → IsCompletion box x → execution_outcome box.test x ≡ values
+IsObservation box values (Some k) = (k < length (byte_reads (box_events box))) × IsUndecidedAt box k × IsObservedAt box k

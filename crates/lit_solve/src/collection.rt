@@ -1,0 +1,203 @@
+//! All outcomes of a frame: a search that branches on what registers observe.
+
+ghost use Rattle.std.specs.Prelude.{◌≡◌, ℕ, ◌<◌, IfSome, IsFalse, IsTrue, OnOk, length};
+ghost use Rattle.lit_paths.specs.ByteReads.{byte_read_at, byte_reads};
+ghost use Rattle.lit_paths.specs.Execution.{Execution, execution_outcome};
+ghost use Rattle.lit_rel.specs.EventSet.{HasEvent};
+ghost use Rattle.lit_solve.specs.Box.{HasSource, events_on};
+ghost use Rattle.lit_solve.specs.Completion.{IsCompletion};
+ghost use Rattle.lit_solve.specs.Fill.{IsQuiet};
+ghost use Rattle.lit_solve.specs.Internal.Deciding.{IsUndecidedAt};
+ghost use Rattle.lit_solve.specs.Internal.Frames.{box_of};
+ghost use Rattle.lit_solve.specs.Internal.Narrowing.{size_of};
+ghost use Rattle.lit_solve.specs.Internal.Observation.{AreFirstValues, IsObservation, IsObservedAt};
+ghost use Rattle.lit_solve.specs.Internal.Settled.{IsCut, IsSettled, TakesFrom};
+ghost use Rattle.lit_solve.specs.Outcomes.{AddsEntries, HasEachOutcome};
+
+use crate::frame::Frame;
+use crate::goal::Goal;
+use crate::laws::{quiet_boxes_are_filled_read_by_read, reads_are_filled_together};
+use crate::numbering::number_of;
+use crate::observation::Values;
+use crate::problem::Problem;
+use crate::table::OutcomeTable;
+use lit_rel::{EventSet, has_false_test};
+use lit_valid::laws::laws_below;
+use std::alloc::AllocError;
+
+impl Problem<'_> {
+    /// A byte of a read that can force something and may be read as several bytes.
+    fn forcing_byte(&self, frame: &Frame, read: u8) -> Option<usize>
+        requires read { read < length (events_on self.now) }
+        requires settled { IsSettled (box_of self.now frame.now) frame.now }
+        ensures { IfSome result (λ k. (k < length (byte_reads (events_on self.now))) × IsUndecidedAt (box_of self.now frame.now) k
+            × ((byte_read_at (events_on self.now) k).0 ≡ read)) }
+    {
+        let mut place = self.first_place(read);
+        'bytes: while self.is_of(read, place) {
+            let Some((source, _others)) = frame.domains[place].split_first() else {
+                return None;
+            };
+            if self.can_force(frame, place) && self.has_other_byte(&frame.domains, place, source) {
+                return Some(place);
+            }
+            place += 1;
+        }
+        None
+    }
+
+    /// A byte that a register, named by agent and register, observes, that can force something and may be read as several bytes.
+    fn forcing_held(&self, frame: &Frame, name: (u8, u8)) -> Option<usize>
+        requires { IsSettled (box_of self.now frame.now) frame.now }
+        ensures { IfSome result (λ k. (k < length (byte_reads (events_on self.now))) × IsUndecidedAt (box_of self.now frame.now) k
+            × IsObservedAt (box_of self.now frame.now) k) }
+    {
+        let _events = self.combination.events();
+        match self.read_held(name.0, name.1) {
+            Some(read) => self.forcing_byte(frame, read as u8),
+            None => None,
+        }
+    }
+
+    /// A byte that some register observes, that can force something and may be read as several bytes.
+    fn forcing_observed(&self, frame: &Frame) -> Option<usize>
+        requires { IsSettled (box_of self.now frame.now) frame.now }
+        ensures { IfSome result (λ k. (k < length (byte_reads (events_on self.now))) × IsUndecidedAt (box_of self.now frame.now) k
+            × IsObservedAt (box_of self.now frame.now) k) }
+    {
+        for name in self.names {
+            if let Some(place) = self.forcing_held(frame, *name) {
+                return Some(place);
+            }
+        }
+        None
+    }
+
+    /// What `observe` does, but of several byte reads that may be read as several bytes one that can force something, if there
+    /// is one: once none can, reads are independent.
+    fn next_observed(&self, frame: &Frame, values: &mut Values) -> Option<usize>
+        requires settled { IsSettled (box_of self.now frame.now) frame.now }
+        requires first { AreFirstValues (box_of self.now frame.now) values.old.items }
+        ensures first { AreFirstValues (box_of self.now frame.now) values.new.items }
+        ensures observed { IsObservation (box_of self.now frame.now) values.new.items result }
+    {
+        let Some(open) = self.observe(&frame.domains, values) else {
+            return None;
+        };
+        match self.forcing_observed(frame) {
+            Some(place) => Some(place),
+            None => Some(open),
+        }
+    }
+
+    /// Records the outcome of a frame, which each completion has, if the table lacks it and there is a completion. What is in
+    /// doubt is then whether there was one.
+    fn record<T: OutcomeTable>(
+        &self,
+        frame: &Frame,
+        outcome: &[u32],
+        table: &mut T,
+        doubt: &mut bool,
+    ) -> Result<(), AllocError>
+        requires settled { IsSettled (box_of self.now frame.now) frame.now }
+        requires same { (x : Execution) → IsCompletion (box_of self.now frame.now) x
+            → execution_outcome self.now.0 x ≡ outcome.now }
+        ensures added { AddsEntries (box_of self.now frame.now) (T.entries table.old) (T.entries table.new) }
+        ensures whole { OnOk result (HasEachOutcome (box_of self.now frame.now) (T.entries table.new)) }
+    {
+        if table.has(outcome) {
+            return Ok(());
+        }
+        match self.least(frame, Goal::Any) {
+            Some(least) => {
+                *doubt = false;
+                let choice = number_of(&self.combination, least.sources.as_slice());
+                table.record(outcome, choice, least.order)?;
+            }
+            None => *doubt = true,
+        }
+        Ok(())
+    }
+
+    /// Records the outcomes of a quiet frame's completions that a table lacks, of which these are the first values.
+    fn quiet_outcomes<T: OutcomeTable>(
+        &self,
+        frame: &Frame,
+        values: &Values,
+        table: &mut T,
+        doubt: &mut bool,
+    ) -> Result<(), AllocError>
+        requires settled { IsSettled (box_of self.now frame.now) frame.now }
+        requires quiet { IsQuiet (box_of self.now frame.now) }
+        requires first { AreFirstValues (box_of self.now frame.now) values.now.items }
+        ensures added { AddsEntries (box_of self.now frame.now) (T.entries table.old) (T.entries table.new) }
+        ensures whole { OnOk result (HasEachOutcome (box_of self.now frame.now) (T.entries table.new)) }
+    {
+        reads_are_filled_together();
+        quiet_boxes_are_filled_read_by_read();
+        *doubt = true;
+        if has_false_test(&self.combination, None, 0) {
+            return Ok(());
+        }
+        if !self.can_fill_each(&frame.domains) {
+            return Ok(());
+        }
+        let Some(order) = self.least_order(frame) else {
+            return Ok(());
+        };
+        *doubt = false;
+        self.independent_outcomes(&frame.domains, values, &order, table)
+    }
+
+    /// Goes down to the part of a frame with a source of a set for the byte read at a place. Says no where no completion has one;
+    /// where that is in doubt it is always found out.
+    fn enter(&self, frame: &mut Frame, place: usize, set: EventSet, doubt: bool) -> bool
+        requires place { place < length (byte_reads (events_on self.now)) }
+        requires settled { IsSettled (box_of self.now frame.old) frame.old }
+        ensures settled { IsTrue result → IsSettled (box_of self.now frame.new) frame.new }
+        ensures cut { IsTrue result → IsCut (box_of self.now frame.old) place set (box_of self.now frame.new) }
+        ensures less { IsTrue result → ¬ ((w : ℕ) → HasSource (box_of self.now frame.old) place w → HasEvent set w)
+            → size_of frame.new.domains < size_of frame.old.domains }
+        ensures none { IsFalse result → (x : Execution) → IsCompletion (box_of self.now frame.old) x → ¬ TakesFrom x place set }
+    {
+        self.cut(frame, place, set) && (!doubt || self.exists(frame, Goal::Any))
+    }
+
+    /// Records the outcomes of a frame's completions that a table lacks, of which these are the first values. Where an outcome
+    /// was without a completion, `doubt` is set, and before each further step down it is found out whether there is one.
+    pub(crate) fn outcomes<T: OutcomeTable>(
+        &self,
+        frame: &Frame,
+        values: &Values,
+        table: &mut T,
+        doubt: &mut bool,
+    ) -> Result<(), AllocError>
+        requires settled { IsSettled (box_of self.now frame.now) frame.now }
+        requires first { AreFirstValues (box_of self.now frame.now) values.now.items }
+        ensures added { AddsEntries (box_of self.now frame.now) (T.entries table.old) (T.entries table.new) }
+        ensures whole { OnOk result (HasEachOutcome (box_of self.now frame.now) (T.entries table.new)) }
+    {
+        laws_below();
+        let mut values = values.clone()?;
+        let observed = self.next_observed(frame, &mut values);
+        let Some(place) = observed else {
+            return self.record(frame, values.as_slice(), table, doubt);
+        };
+        let Some(_branch) = self.branch(frame) else {
+            return self.quiet_outcomes(frame, &values, table, doubt);
+        };
+        let _events = self.combination.events();
+        let all = self.sources_left(frame, place);
+        let mut left = all;
+        while let Some((source, _others)) = left.split_first() {
+            let group = self.storing_alike(all, place, source);
+            let mut next = *frame;
+            // An outcome without a completion is dear to find out, and its neighbours mostly have none either.
+            if self.enter(&mut next, place, group, *doubt) {
+                self.outcomes(&next, &values, table, doubt)?;
+            }
+            left = left.difference(group);
+        }
+        Ok(())
+    }
+}

@@ -1,0 +1,159 @@
+//! Boxes in which reads are independent of each other: nothing that is left can force anything, so each read takes its sources by
+//! itself, and all completions have one least memory-order. Nothing is propagated there.
+
+ghost use Rattle.std.specs.Prelude.{◌≡◌, ℕ, ◌<◌, IsFalse, IsTrue, List, OnOk, length};
+ghost use Rattle.lit_paths.specs.ByteReads.{byte_reads};
+ghost use Rattle.lit_paths.specs.Execution.{Execution, execution_outcome};
+ghost use Rattle.lit_rel.specs.EventSet.{HasEvent};
+ghost use Rattle.lit_solve.specs.Box.{HasSource, LiesIn, box_with, events_on};
+ghost use Rattle.lit_solve.specs.Completion.{IsCompletion, IsLeastSolution};
+ghost use Rattle.lit_solve.specs.declared.goal.Goal.TheVariants.{Any};
+ghost use Rattle.lit_solve.specs.Given.{HasAlone};
+ghost use Rattle.lit_solve.specs.Internal.Descending.{AreAloneBelow, IsLowestAt};
+ghost use Rattle.lit_solve.specs.Internal.Independent.{HasLeastOrderIn, IsIndependent};
+ghost use Rattle.lit_solve.specs.Internal.Narrowing.{size_of};
+ghost use Rattle.lit_solve.specs.Internal.Observation.{AreFirstValues};
+ghost use Rattle.lit_solve.specs.Internal.Settled.{IsCut, TakesFrom};
+ghost use Rattle.lit_solve.specs.Outcomes.{AddsEntries, HasEachOutcome};
+
+use crate::domains::{Domains, only_one};
+use crate::laws::{
+    completions_fill_each_read, quiet_boxes_are_filled_read_by_read, quiet_boxes_have_one_order,
+};
+use crate::numbering::number_of;
+use crate::observation::Values;
+use crate::problem::Problem;
+use crate::table::OutcomeTable;
+use lit_order::Order;
+use lit_paths::Sources;
+use lit_rel::EventSet;
+use lit_valid::laws::laws_below;
+use std::alloc::AllocError;
+
+impl Problem<'_> {
+    /// Cuts the domain of the byte read at a place down to a set. Says no where its read can't be filled then, so that no
+    /// completion has a source of the set there.
+    fn cut_independent(&self, domains: &mut Domains, place: usize, set: EventSet) -> bool
+        requires place { place < length (byte_reads (events_on self.now)) }
+        requires independent { IsIndependent (box_with self.now domains.old) }
+        ensures independent { IsTrue result → IsIndependent (box_with self.now domains.new) }
+        ensures order { IsTrue result → (order : List ℕ) → HasLeastOrderIn (box_with self.now domains.old) order
+            → HasLeastOrderIn (box_with self.now domains.new) order }
+        ensures cut { IsTrue result → IsCut (box_with self.now domains.old) place set (box_with self.now domains.new) }
+        ensures less { IsTrue result → ¬ ((w : ℕ) → HasSource (box_with self.now domains.old) place w → HasEvent set w)
+            → size_of domains.new < size_of domains.old }
+        ensures none { IsFalse result → (x : Execution) → IsCompletion (box_with self.now domains.old) x → ¬ TakesFrom x place set }
+    {
+        laws_below();
+        completions_fill_each_read();
+        let _reads = self.reads();
+        let read = self.byte_read(place).read;
+        let left = domains[place].intersection(set);
+        if left.is_empty() {
+            return false;
+        }
+        domains[place] = left;
+        self.can_fill(domains, read)
+    }
+
+    /// Gives the byte read at a place the least source with which its read can be filled.
+    fn give_least(&self, domains: &mut Domains, place: usize)
+        requires place { place < length (byte_reads (events_on self.now)) }
+        requires independent { IsIndependent (box_with self.now domains.old) }
+        ensures independent { IsIndependent (box_with self.now domains.new) }
+        ensures order { (order : List ℕ) → HasLeastOrderIn (box_with self.now domains.old) order
+            → HasLeastOrderIn (box_with self.now domains.new) order }
+        ensures alone { (w : ℕ) × HasAlone (box_with self.now domains.new) place w }
+        ensures lowest { IsLowestAt (box_with self.now domains.old) Any place (box_with self.now domains.new) }
+    {
+        quiet_boxes_are_filled_read_by_read();
+        let _ = &self.combination;
+        let _reads = self.reads();
+        if let Some(_source) = only_one(domains[place]) {
+            return;
+        }
+        let mut left = domains[place];
+        while let Some((source, others)) = left.split_first() {
+            let mut next = *domains;
+            if self.cut_independent(&mut next, place, EventSet::new().with(source)) {
+                *domains = next;
+                return;
+            }
+            left = others;
+        }
+        unreachable!()
+    }
+
+    /// The sources of the least completion.
+    fn least_filling(&self, domains: &Domains) -> Sources
+        requires { IsIndependent (box_with self.now domains.now) }
+        ensures { (order : List ℕ) → HasLeastOrderIn (box_with self.now domains.now) order
+            → IsLeastSolution (box_with self.now domains.now) Any result.items order }
+    {
+        quiet_boxes_are_filled_read_by_read();
+        quiet_boxes_have_one_order();
+        let mut down = *domains;
+        for place in 0..self.reads() {
+            self.give_least(&mut down, place);
+        }
+        self.sources_of(&down)
+    }
+
+    /// Records an outcome that each completion has, if the table lacks it.
+    fn record_independent<T: OutcomeTable>(
+        &self,
+        domains: &Domains,
+        outcome: &[u32],
+        order: &Order,
+        table: &mut T,
+    ) -> Result<(), AllocError>
+        requires independent { IsIndependent (box_with self.now domains.now) }
+        requires order { HasLeastOrderIn (box_with self.now domains.now) order.now.items }
+        requires same { (x : Execution) → IsCompletion (box_with self.now domains.now) x
+            → execution_outcome self.now.0 x ≡ outcome.now }
+        ensures added { AddsEntries (box_with self.now domains.now) (T.entries table.old) (T.entries table.new) }
+        ensures whole { OnOk result (HasEachOutcome (box_with self.now domains.now) (T.entries table.new)) }
+    {
+        if table.has(outcome) {
+            return Ok(());
+        }
+        let sources = self.least_filling(domains);
+        let choice = number_of(&self.combination, sources.as_slice());
+        table.record(outcome, choice, order.clone()?)?;
+        Ok(())
+    }
+
+    /// Records the outcomes that a table lacks, of which these are the first values. `order` is the least memory-order.
+    pub(crate) fn independent_outcomes<T: OutcomeTable>(
+        &self,
+        domains: &Domains,
+        values: &Values,
+        order: &Order,
+        table: &mut T,
+    ) -> Result<(), AllocError>
+        requires independent { IsIndependent (box_with self.now domains.now) }
+        requires first { AreFirstValues (box_with self.now domains.now) values.now.items }
+        requires order { HasLeastOrderIn (box_with self.now domains.now) order.now.items }
+        ensures added { AddsEntries (box_with self.now domains.now) (T.entries table.old) (T.entries table.new) }
+        ensures whole { OnOk result (HasEachOutcome (box_with self.now domains.now) (T.entries table.new)) }
+    {
+        laws_below();
+        let mut values = values.clone()?;
+        let Some(place) = self.observe(domains, &mut values) else {
+            return self.record_independent(domains, values.as_slice(), order, table);
+        };
+        let _events = self.combination.events();
+        let _reads = self.reads();
+        let all = domains[place];
+        let mut left = all;
+        while let Some((source, _others)) = left.split_first() {
+            let group = self.storing_alike(all, place, source);
+            let mut part = *domains;
+            if self.cut_independent(&mut part, place, group) {
+                self.independent_outcomes(&part, &values, order, table)?;
+            }
+            left = left.difference(group);
+        }
+        Ok(())
+    }
+}

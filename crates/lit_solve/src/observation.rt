@@ -1,0 +1,101 @@
+//! What registers observe at the end: the outcome that each completion of a box has, or a byte read on which that hangs.
+
+ghost use Rattle.std.specs.Prelude.{◌≡◌, ℕ, ◌<◌, MatchBool, length};
+ghost use Rattle.lit_paths.specs.ByteReads.{byte_reads};
+ghost use Rattle.lit_solve.specs.Box.{HasEmptyDomain, HasSource, IsBox, box_with, events_on};
+ghost use Rattle.lit_solve.specs.Internal.Deciding.{IsUndecidedAt, stored_for};
+ghost use Rattle.lit_solve.specs.Internal.Observation.{AreFirstValues, IsObservation, IsValueHeld, IsValueOf};
+
+use crate::domains::Domains;
+use crate::filling::Taken;
+use crate::problem::Problem;
+use arrayvec::ArrayVec;
+use lit_paths::NAME_LIMIT;
+use lit_valid::laws::laws_below;
+
+/// The last values of the first registers of an outcome, in the order of `Plan::names`.
+pub(crate) type Values = ArrayVec<u32, NAME_LIMIT>;
+
+/// What the sources in a box's domains say of a read.
+pub(crate) enum ReadValue {
+    /// It has this value in each completion.
+    One(u32),
+    /// The byte read at a place, which is of it, may be read as several bytes.
+    Open(usize),
+}
+
+impl Problem<'_> {
+    /// Whether some source in the domain of the byte read at a place stores another byte for it than this one there.
+    pub(crate) fn has_other_byte(&self, domains: &Domains, place: usize, source: usize) -> bool
+        requires place { place < length (byte_reads (events_on self.now)) }
+        requires is_box { IsBox (box_with self.now domains.now) }
+        requires there { HasSource (box_with self.now domains.now) place source }
+        ensures { MatchBool result (IsUndecidedAt (box_with self.now domains.now) place)
+            ((w : ℕ) → HasSource (box_with self.now domains.now) place w
+            → stored_for (box_with self.now domains.now) place w ≡ stored_for (box_with self.now domains.now) place source) }
+    {
+        let _events = self.combination.events();
+        let alike = self.storing_alike(domains[place], place, source);
+        match domains[place].difference(alike).split_first() {
+            Some(_other) => true,
+            None => false,
+        }
+    }
+
+    /// What the sources in a box's domains say of the value of a read.
+    fn read_value(&self, domains: &Domains, read: u8) -> ReadValue
+        requires read { read < length (events_on self.now) }
+        requires is_box { IsBox (box_with self.now domains.now) }
+        requires some { ¬ HasEmptyDomain (box_with self.now domains.now) }
+        ensures { IsValueOf (box_with self.now domains.now) read result }
+    {
+        // None of a problem's events has more than four bytes.
+        let _ = &self.combination;
+        let mut taken = Taken::nothing();
+        let mut place = self.first_place(read);
+        'bytes: while self.is_of(read, place) {
+            let Some((source, _others)) = domains[place].split_first() else {
+                unreachable!()
+            };
+            if self.has_other_byte(domains, place, source) {
+                return ReadValue::Open(place);
+            }
+            taken = self.with_byte(read, place, taken, source);
+            place += 1;
+        }
+        ReadValue::One(taken.value)
+    }
+
+    /// What the sources in a box's domains say of the value that a register, named by agent and register, has at the end.
+    fn register_value(&self, domains: &Domains, name: (u8, u8)) -> ReadValue
+        requires is_box { IsBox (box_with self.now domains.now) }
+        requires some { ¬ HasEmptyDomain (box_with self.now domains.now) }
+        ensures { IsValueHeld (box_with self.now domains.now) name result }
+    {
+        let _events = self.combination.events();
+        match self.read_held(name.0, name.1) {
+            Some(read) => self.read_value(domains, read as u8),
+            None => ReadValue::One(0),
+        }
+    }
+
+    /// Adds to the first values of an outcome those of the registers after them, as long as the sources in a box's domains say
+    /// the same of each completion. Answers the place of a byte read on which the next one hangs, or `None` where there is none
+    /// left.
+    pub(crate) fn observe(&self, domains: &Domains, values: &mut Values) -> Option<usize>
+        requires is_box { IsBox (box_with self.now domains.now) }
+        requires some { ¬ HasEmptyDomain (box_with self.now domains.now) }
+        requires first { AreFirstValues (box_with self.now domains.now) values.old.items }
+        ensures first { AreFirstValues (box_with self.now domains.now) values.new.items }
+        ensures observed { IsObservation (box_with self.now domains.now) values.new.items result }
+    {
+        laws_below();
+        for i in values.len()..self.names.len() {
+            match self.register_value(domains, self.names[i]) {
+                ReadValue::One(value) => values.push(value),
+                ReadValue::Open(place) => return Some(place),
+            }
+        }
+        None
+    }
+}
