@@ -83,8 +83,9 @@ class Repository:
         self.folder = pathlib.Path(folder)
         for name, text in {**SOURCES, **OTHERS}.items():
             self.write(name, text)
-        (self.folder / "tools").mkdir()
-        for name in ("jslit", "tools/build-program"):
+        (self.folder / "jslit").symlink_to("bin/jslit")
+        for name in ("bin/jslit", "tools/build-program"):
+            (self.folder / name).parent.mkdir()
             with WRITING:
                 shutil.copy(scripts / name, self.folder / name)
 
@@ -195,7 +196,7 @@ class Check:
         if is_built:
             shutil.rmtree(repository.folder)
             with WRITING:
-                shutil.copytree(self.built.folder, repository.folder)
+                shutil.copytree(self.built.folder, repository.folder, symlinks=True)
         return repository
 
     def start(self, repository, **more):

@@ -1,0 +1,1 @@
+autocmd BufRead,BufNewFile *.lit setfiletype jslit

@@ -1,0 +1,113 @@
+'use strict';
+// The parts of a report's JSON, in whatever layout and order of keys it stands; outcomes are parsed one by one.
+
+const { Fault } = require('./lines.js');
+const { FORM } = require('./report.js');
+
+const OPENS_OUTCOMES = /[{,]\s*"outcomes"\s*:\s*\[$/;
+
+function parse(text, what) {
+  try {
+    return JSON.parse(text);
+  } catch (error) {
+    throw new Fault(`${what} is no JSON: ${error.message}`);
+  }
+}
+
+// Cuts a JSON text: `outside` is all of it but the members of the list `outcomes`, each of which `take` is given.
+class Cutter {
+  constructor(opened, take) {
+    this.opened = opened;
+    this.take = take;
+    this.outside = '';
+    this.member = '';
+    this.depth = 0;
+    this.quoted = false;
+    this.escaped = false;
+    this.listing = false;
+  }
+
+  feed(text) {
+    let start = 0;
+    for (let place = 0; place < text.length; place += 1) {
+      const sign = text[place];
+      if (this.quoted) {
+        if (this.escaped) this.escaped = false;
+        else if (sign === '\\') this.escaped = true;
+        else if (sign === '"') this.quoted = false;
+      } else if (sign === '"') {
+        this.quoted = true;
+      } else if (this.cuts(sign)) {
+        this.keep(text.slice(start, place));
+        start = this.cut(sign) ? place + 1 : place;
+      }
+    }
+    this.keep(text.slice(start));
+  }
+
+  // Whether something may end or begin at this sign; it counts the depth.
+  cuts(sign) {
+    if (sign === '[' || sign === '{') {
+      this.depth += 1;
+      return this.depth === 2 && sign === '[';
+    }
+    if (sign === ']' || sign === '}') {
+      this.depth -= 1;
+      return this.listing && this.depth === 1;
+    }
+    return this.listing && this.depth === 2 && sign === ',';
+  }
+
+  keep(text) {
+    if (this.listing) this.member += text;
+    else this.outside += text;
+  }
+
+  // Whether the sign itself is left out of what is kept next.
+  cut(sign) {
+    if (!this.listing) {
+      this.listing = OPENS_OUTCOMES.test(`${this.outside}[`);
+      if (this.listing) {
+        this.outside += '[';
+        this.opened(`${this.outside}]}`);
+      }
+      return this.listing;
+    }
+    if (sign === ',' || this.member.trim() !== '') this.take(parse(this.member, 'an outcome'));
+    this.member = '';
+    this.listing = sign === ',';
+    return this.listing;
+  }
+}
+
+function checked(document) {
+  if (document === null || typeof document !== 'object' || Array.isArray(document)) throw new Fault('no JSON object');
+  if (document.version !== FORM) throw new Fault(`version ${JSON.stringify(document.version)} isn't known, only ${FORM}`);
+  return document;
+}
+
+// Gives each part of the report whose JSON a stream holds, and waits for `after` after each piece of it.
+async function readJson(stream, give, after) {
+  const waiting = [];
+  let begun = null;
+  const begin = (document) => {
+    begun = checked(document);
+    give({ begins: { test: begun.test, registers: begun.registers } });
+  };
+  const opened = (text) => {
+    const head = parse(text, 'the beginning');
+    if (head.version !== undefined && head.test !== undefined && head.registers !== undefined) begin(head);
+  };
+  const cutter = new Cutter(opened, (outcome) => (begun ? give({ outcome }) : waiting.push(outcome)));
+  for await (const chunk of stream) {
+    cutter.feed(chunk.toString('latin1'));
+    await after();
+  }
+  const document = checked(parse(cutter.outside, 'the text'));
+  if (document.kind !== 'report') return give({ all: document });
+  if (!begun) begin(document);
+  for (const outcome of waiting) give({ outcome });
+  return give({ ends: document });
+}
+
+module.exports = { readJson };

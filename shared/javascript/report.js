@@ -1,0 +1,209 @@
+'use strict';
+// What jslit prints, as parts: a report begins, has outcomes and ends; anything else is one part. `ReportReader` makes
+// them of lines, and `linesOf` lines of them; `jsonOf` gives their JSON. README.md has the form.
+
+const { Fault, eachLine } = require('./lines.js');
+const { VERSION } = require('./version.js');
+
+const FORM = 1;   // the number of the JSON's form
+const WORD = '[A-Za-z_][A-Za-z0-9_]{0,31}';
+const NUMBER = '(?:0|[1-9][0-9]{0,14})';
+const EVENT = `(?:init\\[${NUMBER}\\]|${WORD}\\.${NUMBER})`;
+const VALUES = `((?: ${WORD}\\.r[0-7]=${NUMBER})*)`;
+const FORMS = {
+  refused: new RegExp(`^refused (${NUMBER}) ([a-z_]+)(?: line (${NUMBER}))?$`),
+  test: new RegExp(`^test (${WORD})$`),
+  outcome: new RegExp(`^outcome${VALUES}$`),
+  class: new RegExp(`^(?:met|unmet) (?:none|outcome${VALUES})$`),
+  from: new RegExp(`^  from (${EVENT})((?: ${EVENT})+)$`),
+  order: new RegExp(`^  order((?: ${EVENT})+)$`),
+  outcomes: new RegExp(`^outcomes (${NUMBER})$`),
+  verdict: /^verdict (always|sometimes|never)$/,
+  race: /^data race (yes|no)$/,
+  interleaving: new RegExp(`^interleaving${VALUES}$`),
+  meets: /^meets (yes|no)$/,
+};
+
+// A list of words, each with a blank before it.
+const words = (text) => (text === '' ? [] : text.slice(1).split(' '));
+
+// The grammar, as generators that are given line after line, and null at the end.
+class ReportReader {
+  // `give` is called with each part: {begins}, {outcome}, {ends} or {all}.
+  constructor(give) {
+    this.give = give;
+    this.registers = null;
+    this.number = 0;
+    this.steps = this.document();
+    this.steps.next();
+  }
+
+  line(line) {
+    this.number += 1;
+    if (this.steps.next(line).done && line !== null) this.wrong(line, 'the end');
+  }
+
+  wrong(line, wanted) {
+    const seen = line === null ? 'it ends' : `it is ${JSON.stringify(line.slice(0, 60))}`;
+    throw new Fault(`line ${this.number} of the report should be ${wanted}, and ${seen}`);
+  }
+
+  match(line, form, wanted) {
+    const found = line === null ? null : FORMS[form].exec(line);
+    return found || this.wrong(line, wanted);
+  }
+
+  // The values of a line, whose registers are those of the first line that has some.
+  values(text) {
+    const pairs = words(text).map((word) => word.split('='));
+    const registers = pairs.map((pair) => pair[0]);
+    this.registers ??= registers;
+    if (registers.join(' ') !== this.registers.join(' ')) {
+      throw new Fault(`line ${this.number} of the report has other registers than the lines before`);
+    }
+    return pairs.map((pair) => Number(pair[1]));
+  }
+
+  * document() {
+    const first = yield;
+    if (first === null) return this.give({ all: { kind: 'empty' } });
+    const refused = FORMS.refused.exec(first);
+    if (refused) {
+      const all = { kind: 'refusal', number: Number(refused[1]), name: refused[2] };
+      if (refused[3] !== undefined) all.line = Number(refused[3]);
+      return yield* this.last({ all });
+    }
+    const test = this.match(first, 'test', '`test` or `refused`')[1];
+    const line = yield;
+    if (line !== null && line.startsWith('met ')) return yield* this.quick(test, line);
+    if (line !== null && line.startsWith('interleaving')) return yield* this.schedule(test, line);
+    return yield* this.report(test, line);
+  }
+
+  * report(test, first) {
+    let line = first;
+    let begun = false;
+    const begin = () => {
+      if (!begun) this.give({ begins: { kind: 'report', test, registers: this.registers || [] } });
+      begun = true;
+    };
+    for (let found; line !== null && (found = FORMS.outcome.exec(line)) !== null; line = yield) {
+      const values = this.values(found[1]);
+      begin();
+      this.give({ outcome: yield* this.example(values) });
+    }
+    begin();
+    const ends = { count: Number(this.match(line, 'outcomes', '`outcome` or `outcomes`')[1]) };
+    ends.verdict = this.verdict(yield);
+    const race = yield;
+    if (race === null) return this.give({ ends });
+    ends.data_race = this.match(race, 'race', '`data race` or the end')[1] === 'yes';
+    return yield* this.last({ ends });
+  }
+
+  verdict(line) {
+    return this.match(line, 'verdict', '`verdict`')[1];
+  }
+
+
+  * example(values) {
+    const from = [];
+    let line = yield;
+    for (let found; line !== null && (found = FORMS.from.exec(line)) !== null; line = yield) {
+      from.push({ event: found[1], sources: words(found[2]) });
+    }
+    return { values, from, order: words(this.match(line, 'order', '`  from` or `  order`')[1]) };
+  }
+
+  * quick(test, first) {
+    const all = { kind: 'quick', test, registers: [] };
+    for (const [name, given] of [['met', first], ['unmet', null]]) {
+      const line = given ?? (yield);
+      const found = this.match(line, 'class', `\`${name} outcome\` or \`${name} none\``);
+      if (!line.startsWith(`${name} `)) this.wrong(line, `\`${name}\``);
+      all[name] = line.endsWith(' none') ? null : yield* this.example(this.values(found[1] || ''));
+    }
+    all.registers = this.registers || [];
+    all.verdict = this.verdict(yield);
+    return yield* this.last({ all });
+  }
+
+  * schedule(test, line) {
+    const values = this.values(this.match(line, 'interleaving', '`interleaving`')[1]);
+    const meets = this.match(yield, 'meets', '`meets`')[1] === 'yes';
+    return yield* this.last({ all: { kind: 'schedule', test, registers: this.registers, values, meets } });
+  }
+
+  // The last part, given where the text ends here.
+  * last(part) {
+    const line = yield;
+    if (line !== null) this.wrong(line, 'the end');
+    return this.give(part);
+  }
+}
+
+const inside = (record) => JSON.stringify(record).slice(1, -1);
+
+// The JSON of a report: what each part adds to it, an outcome on a line of its own.
+function jsonWriter() {
+  let separator = '\n';
+  return (part) => {
+    if (part.all) return `${JSON.stringify({ version: FORM, jslit: VERSION, ...part.all })}\n`;
+    if (part.begins) return `{"version":${FORM},"jslit":"${VERSION}",${inside(part.begins)},"outcomes":[`;
+    if (part.ends) return `\n],${inside(part.ends)}}\n`;
+    const text = separator + JSON.stringify(part.outcome);
+    separator = ',\n';
+    return text;
+  };
+}
+
+function outcomeLines(head, registers, outcome) {
+  const lines = [head + registers.map((register, place) => ` ${register}=${outcome.values[place]}`).join('')];
+  if (outcome.from) {
+    for (const { event, sources } of outcome.from) lines.push(`  from ${event} ${sources.join(' ')}`);
+    lines.push(`  order ${outcome.order.join(' ')}`);
+  }
+  return lines;
+}
+
+// Anything but true and false makes a line that is none of a report.
+const yesNo = (truth) => (truth === true ? 'yes' : truth === false ? 'no' : JSON.stringify(truth));
+
+// The last lines of a report; those of earlier versions of the program say nothing of data races.
+function lastLines(ends) {
+  const lines = [`outcomes ${ends.count}`, `verdict ${ends.verdict}`];
+  if (ends.data_race !== undefined) lines.push(`data race ${yesNo(ends.data_race)}`);
+  return lines;
+}
+
+const LINES_OF_ALL = {
+  empty: () => [],
+  refusal: (all) => [`refused ${all.number} ${all.name}${all.line === undefined ? '' : ` line ${all.line}`}`],
+  schedule: (all) => [`test ${all.test}`, ...outcomeLines('interleaving', all.registers, { values: all.values }),
+    `meets ${yesNo(all.meets)}`],
+  quick: (all) => [`test ${all.test}`,
+    ...['met', 'unmet'].flatMap((name) => (all[name] === null ? [`${name} none`]
+      : outcomeLines(`${name} outcome`, all.registers, all[name]))),
+    `verdict ${all.verdict}`],
+};
+
+// The lines of a part; the registers are those with which the report began.
+function linesOf(part, registers) {
+  if (part.begins) return [`test ${part.begins.test}`];
+  if (part.outcome) return outcomeLines('outcome', registers, part.outcome);
+  if (part.ends) return lastLines(part.ends);
+  if (!Object.hasOwn(LINES_OF_ALL, part.all.kind)) throw new Fault(`no kind of report: ${JSON.stringify(part.all.kind)}`);
+  return LINES_OF_ALL[part.all.kind](part.all);
+}
+
+// Gives each part of the report that a stream holds, and calls `after` after each line.
+async function readReport(stream, give, after) {
+  const reader = new ReportReader(give);
+  await eachLine(stream, (line) => {
+    reader.line(line);
+    return after();
+  });
+  reader.line(null);
+}
+
+module.exports = { FORM, ReportReader, jsonWriter, linesOf, readReport };

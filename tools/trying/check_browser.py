@@ -1,0 +1,297 @@
+"""What tools/check-page asks of the page in a browser."""
+import contextlib
+import json
+import urllib.parse
+
+from trying.browser import Browser
+from trying.check_server import children, same, wait_for
+from trying.serving import feigned, litmus, named, served
+
+TOLD = "document.querySelector('#verdict.is-told')"
+DRAWN = "document.querySelector('#picture svg') && document.querySelector('#picture').getAttribute('aria-busy') === 'false'"
+WIDE = "document.documentElement.scrollWidth > document.documentElement.clientWidth"
+
+
+class Page(Browser):
+    """A browser with the page of a server, and a folder for pictures of it or None."""
+
+    def __init__(self, server, shots):
+        super().__init__()
+        self.server, self.shots = server, shots
+
+    def start(self):
+        self.open(self.server.address)
+
+    def take(self, text):
+        """Writes the text as a user does, in place of the one that stands there."""
+        self.value("document.querySelector('#text').focus(); document.querySelector('#text').select()")
+        self.type(text)
+        same(self.value("document.querySelector('#text').value"), text)
+
+    def choose(self, selector, value):
+        self.value(f"(() => {{ const e = document.querySelector({json.dumps(selector)}); e.value = {json.dumps(value)};"
+                   "e.dispatchEvent(new Event('change', {bubbles: true})); })()")
+
+    def run(self):
+        self.click("#run")
+        self.until(TOLD)
+
+    def said(self, selector):
+        return self.value(f"document.querySelector({json.dumps(selector)}).innerText")
+
+    def rows(self):
+        return self.value("[...document.querySelectorAll('tbody tr')].map((row) => [...row.cells].map((cell) => cell.innerText).join(' '))")
+
+    def picture(self, name):
+        if self.shots:
+            self.shots.mkdir(parents=True, exist_ok=True)
+            self.shot(str(self.shots / f"{name}.png"))
+
+    def faults(self):
+        """What went wrong in the page, and requests to anywhere else."""
+        self.value("1")
+        wrong = [event["params"] for event in self.events if event["method"] in ("Runtime.exceptionThrown", "Runtime.consoleAPICalled")
+                 or event["method"] == "Log.entryAdded" and event["params"]["entry"]["level"] in ("error", "warning")]
+        asked = [event["params"]["request"]["url"] for event in self.events if event["method"] == "Network.requestWillBeSent"]
+        return wrong + [url for url in asked if not url.startswith(self.server.address)]
+
+
+def cases(program, shots):
+    """Names and functions; each has a browser and a server of its own."""
+    def on(case, make):
+        return lambda: with_page(case, make, shots)
+
+    return ([(f"page, {case.__name__}", on(case, lambda: served(program))) for case in PROVED] +
+            [(f"page, {case.__name__}", on(case, feigned)) for case in FEIGNED])
+
+
+def with_page(case, make, shots):
+    with make() as server, contextlib.closing(Page(server, shots)) as page:
+        page.start()
+        case(page)
+        same(page.faults(), [])
+
+
+def store_buffering(page):
+    page.choose("#library", "sb")
+    same(page.said("#shows"), "Store buffering, atomic.")
+    page.run()
+    same(page.said("#verdict strong"), "sb: verdict never")
+    same(page.said("#count"), "3 outcomes")
+    same(page.said("#shown"), "shown: 3")
+    same(page.rows(), ["1 doesn\u2019t meet 0 1", "2 doesn\u2019t meet 1 0", "3 doesn\u2019t meet 1 1"])
+    page.click("tbody tr:nth-child(2)")
+    page.until(DRAWN)
+    same(page.said("#example-title"), "Outcome 2: A.r0=1 B.r0=0")
+    same(page.said("#lines"), "outcome A.r0=1 B.r0=0\n  from A.1 B.0\n  from B.1 init[0]\n  order init[0] init[1] B.0 B.1 A.0 A.1")
+    same(page.value("document.querySelector('#picture [data-name=\"A.1\"]').textContent"), "r0 = Atomics.load(U8, 1)A.1 #5 = 1")
+    same(page.value("document.querySelectorAll('#picture g.synchronizes rect').length"), 1)
+    page.picture("sb")
+
+
+def tearing(page):
+    page.choose("#library", "tear")
+    page.run()
+    page.click("tbody tr:nth-child(2)")
+    page.until(DRAWN)
+    labels = page.value("[...document.querySelectorAll('#picture g.reads text')].map((text) => text.textContent)")
+    same(sorted(labels), ["byte 0", "byte 1"])
+    same(page.value("document.querySelector('#race-key').hidden"), False)
+    page.picture("tear")
+
+
+def sorted_and_filtered(page):
+    page.take(litmus("teardv"))
+    page.run()
+    same(page.value("document.querySelectorAll('tr.meets').length"), 2)
+    page.click("#sort-1")
+    page.click("#sort-1")
+    same(page.value("document.querySelector('th[aria-sort=descending]').innerText"), "C.r0 \u2193")
+    same([row.split()[0] for row in page.rows()], ["9", "8", "7", "6", "5", "4", "3", "2", "1"])
+    page.click("#met")
+    same([row.split()[-1] for row in page.rows()], ["513", "258"])
+    same(page.said("#shown"), "shown: 2, out of 9")
+    page.choose("#filter-1", "258")
+    same(len(page.rows()), 1)
+
+
+def refused(page):
+    page.take(litmus("sb").replace("r0 = Atomics.load(U8, 0)", "r0 = I8[0];"))
+    page.click("#run")
+    page.until("document.querySelector('#refusal p')")
+    same(page.said("#verdict"), "refused 3 syntax line 12")
+    same(page.said("#numbers").split("\n")[10:13], ["11", "\u25b6 12", "13"])
+    assert "Line 12: refused 3 syntax line 12" in page.said("#refusal") and "write: r0 = U8[0]" in page.said("#refusal")
+    same(page.value("document.querySelector('#text').getAttribute('aria-invalid')"), "true")
+    page.picture("refusal")
+    page.click("#take")
+    same(page.value("document.querySelector('#text').value.split('\\n')[11]"), "r0 = U8[0]")
+    page.run()
+    same(page.said("#refusal"), "")
+    page.take("none")
+    page.click("#run")
+    page.until("document.querySelector('#refusal p')")
+    same(page.said("#numbers").strip(), "\u25b6 1")
+
+
+def quick(page):
+    page.take(litmus("sbplain"))
+    page.click("#quick")
+    page.until(TOLD)
+    same(page.said("#verdict strong"), "sbplain: verdict sometimes")
+    same([row.split()[1:3] for row in page.rows()], [["\u2713", "meets"], ["doesn\u2019t", "meet"]])
+    page.click("tbody tr")
+    page.until(DRAWN)
+    assert page.said("#lines").startswith("met outcome A.r0=0 B.r0=0\n")
+    page.take(litmus("sb"))
+    same(page.said("#stale"), "of the text before it was changed")
+
+
+def turns(page):
+    page.take(litmus("sb"))
+    page.click("[data-agent=A]")
+    page.until("document.querySelector('#interleaving')")
+    page.click("#turns button")
+    assert "run the test" in page.said("#turns")
+    page.click("#clear")
+    page.run()
+    for agent, schedule, values in (("A", "A", "A.r0=0 B.r0=1"), ("B", "A,B", "A.r0=1 B.r0=1")):
+        page.click(f"[data-agent={agent}]")
+        page.until(f"document.querySelector('#turns').innerText.includes('Turns: {schedule}, and then')")
+        same(page.said("#interleaving"), f"interleaving {values}")
+    page.picture("turns")
+    page.choose("#filter-1", "0")
+    page.click("#turns button")
+    page.until(DRAWN)
+    same(page.said("#example-title"), "Outcome 3: A.r0=1 B.r0=1")
+    same(len(page.rows()), 3)
+    page.click("#undo")
+    page.until("document.querySelector('#turns').innerText.includes('Turns: A, and then')")
+    page.click("#clear")
+    page.until("document.querySelector('#turns').innerText.includes('No turns')")
+    same(page.value("document.querySelector('#undo').disabled && document.querySelector('#clear').disabled"), True)
+
+
+def linked(page):
+    text = litmus("lb") + "// caf\u00e9 <b>&amp;\n"
+    page.take(text)
+    page.until("location.hash.startsWith('#t=')")
+    page.until("atob(location.hash.slice(3).replaceAll('-', '+').replaceAll('_', '/')).includes('caf')")
+    address = page.value("location.href")
+    page.open(address)
+    same(page.value("document.querySelector('#text').value"), text)
+    assert not any("t=" in urllib.parse.urlsplit(event["params"]["request"]["url"]).query for event in page.events
+                   if event["method"] == "Network.requestWillBeSent"), "the text was sent with the address"
+    page.choose("#library", "sb")
+    page.value("history.back()")
+    page.until(f"document.querySelector('#text').value === {json.dumps(text)}")
+    page.value("location.hash = '#t=%%%'")
+    page.until("document.querySelector('#verdict').innerText.includes('no text that can be read')")
+
+
+def focused(page):
+    return page.value("document.activeElement.id || document.activeElement.dataset.agent || document.activeElement.innerText")
+
+
+def by_keyboard(page):
+    page.take(litmus("tear"))
+    page.key("Enter", control=True)
+    page.until(TOLD)
+    seen = []
+    while "sort-1" not in seen:
+        page.key("Tab")
+        seen.append(focused(page))
+        assert len(seen) < 40, seen
+    for name in ("run", "quick", "A", "C", "met", "sort-0"):
+        assert name in seen, (name, seen)
+    page.key("Tab")
+    same(focused(page), "filter-1")
+    page.key("Tab")
+    same(focused(page), "1")
+    for key, number in (("ArrowDown", "2"), ("End", "7"), ("ArrowDown", "7"), ("ArrowUp", "6"), ("Home", "1"), ("ArrowDown", "2")):
+        page.key(key)
+        same((key, focused(page)), (key, number))
+    outline = page.value("getComputedStyle(document.activeElement).outlineStyle + getComputedStyle(document.activeElement).outlineWidth")
+    same(outline, "solid3px")
+    page.key("Enter")
+    page.until(DRAWN)
+    same(page.said("#example-title"), "Outcome 2: C.r0=1")
+    same(focused(page), "2")
+    for name in ("fit", "picture", "lines"):
+        page.key("Tab")
+        same(focused(page), name)
+
+
+def narrow_and_dark(page):
+    page.window(360, 740)
+    page.choose("#library", "sb8")
+    page.run()
+    page.click("tbody tr:nth-child(3) button")
+    page.until(DRAWN)
+    same(page.value(WIDE), False)
+    page.click("#fit")
+    same(page.value("document.querySelector('#picture').scrollWidth > document.querySelector('#picture').clientWidth"), False)
+    page.click("#fit")
+    page.picture("narrow")
+    page.window(1280, 900)
+    light = page.value("getComputedStyle(document.body).backgroundColor")
+    page.dark(True)
+    page.until(f"getComputedStyle(document.body).backgroundColor !== {json.dumps(light)}")
+    same(page.value("getComputedStyle(document.body).backgroundColor"), "rgb(13, 17, 23)")
+    same(page.value("getComputedStyle(document.querySelector('#picture rect')).fill"), "rgb(13, 17, 23)")
+    page.picture("dark")
+
+
+def named_for_all(page):
+    """Each thing that is worked with has a name, and the page's marks for those who hear it are there."""
+    page.run()
+    tree = page.ask("Accessibility.getFullAXTree")["nodes"]
+    for node in tree:
+        if node.get("role", {}).get("value") in ("button", "combobox", "textbox", "checkbox", "table", "image") and not node.get("ignored"):
+            assert node.get("name", {}).get("value"), node
+    same(page.value("document.querySelector('#verdict').getAttribute('aria-live')"), "polite")
+    same(page.value("document.querySelectorAll('h1').length + document.documentElement.lang"), "1en")
+
+
+def long_run(page):
+    page.take(named("long"))
+    page.click("#run")
+    page.until("!document.querySelector('#stop').disabled")
+    wait_for(lambda: children(page.server))
+    page.click("#stop")
+    page.until("document.querySelector('#verdict').innerText.includes('as you asked')")
+    wait_for(lambda: not children(page.server))
+    page.click("#run")
+    page.until("document.querySelector('#verdict.is-stopped #offered')")
+    assert "Stopped at the limit of 10 seconds" in page.said("#verdict")
+    page.picture("long")
+    page.take(named("short"))
+    page.run()
+    same(page.said("#race"), "data race no")
+
+
+def large(page):
+    page.take(named("large"))
+    page.run()
+    same(page.said("#shown"), "shown: the first 1,000 of 20,000")
+    same(len(page.rows()), 1000)
+    page.click("#after")
+    page.until("document.querySelector('#shown').innerText.includes('1,001 to 2,000 of 20,000')")
+    same(page.rows()[0].split()[::3], ["1,001", "1000"])
+    page.click("#before")
+    page.until("document.querySelector('#shown').innerText.includes('the first 1,000')")
+    page.value("document.querySelector('#text').value = 'x'.repeat(65537); document.querySelector('#text').dispatchEvent(new Event('input'))")
+    page.click("#run")
+    page.until("document.querySelector('#verdict').innerText.includes('65,537 bytes, and 65,536 at most')")
+
+
+def without_server(page):
+    page.server.process.terminate()
+    page.server.process.wait(10)
+    page.click("#run")
+    page.until("document.querySelector('#verdict').innerText.includes('doesn\u2019t answer')")
+    page.events.clear()
+
+
+PROVED = (store_buffering, tearing, sorted_and_filtered, refused, quick, turns, linked, by_keyboard, narrow_and_dark, named_for_all)
+FEIGNED = (long_run, large, without_server)
