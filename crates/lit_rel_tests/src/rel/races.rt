@@ -40,11 +40,7 @@ check A.r0 == 0
 ";
 
 /// Whether the first combination of a test, with these sources for its first byte reads, has a data race.
-fn has_race(
-    rt: &(impl Abort + AllocGlobal),
-    text: &str,
-    sources: &[u8],
-) -> Result<bool, Fail> {
+fn has_race(rt: &(impl Abort + AllocGlobal), text: &str, sources: &[u8]) -> Result<bool, Fail> {
     let test = read(rt.alloc(), text.as_bytes())?;
     let plan = plan(rt.alloc(), &test)?;
     assert!(rt; plan.combinations() > 0);

@@ -5,7 +5,9 @@ ghost use Rattle.lit_rel.specs.Part.{part_events};
 
 use lit_paths::{ByteRead, event_at, plan};
 use lit_read::read;
-use lit_rel::{Part, can_synchronize, is_source_refused, others_between, peers_of, unsourced_order};
+use lit_rel::{
+    Part, can_synchronize, is_source_refused, others_between, peers_of, unsourced_order,
+};
 use lit_texts::{LOAD_BUFFERING_ATOMIC, STORE_BUFFERING};
 use std::process::Abort;
 use std::test::Fail;
