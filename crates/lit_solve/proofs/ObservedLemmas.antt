@@ -29,7 +29,7 @@ use Rattle.lit_solve.specs.Internal.Observation.{AreFirstValues, IsObservedAt}
 use Rattle.lit_solve.specs.Internal.Settled.{IsCut, TakesFrom}
 use Rattle.lit_solve.proofs.CompletionLemmas.{part_of}
 use Rattle.lit_solve.proofs.DecidingLemmas.{byte_for, other_number}
-use Rattle.lit_solve.proofs.EntryLemmas.{adds_more, adds_stays}
+use Rattle.lit_solve.proofs.EntryLemmas.{adds_more, adds_out, adds_stays}
 use Rattle.lit_solve.proofs.FillLemmas.{sources_lie}
 use Rattle.lit_solve.proofs.ReadByteLemmas.{byte_read_there}
 use Rattle.lit_solve.proofs.RegisterLemmas.{register_value}
@@ -173,6 +173,13 @@ module _ (box : Box) (k : ℕ) where
         ])
   ]
 
+  -- the parts gone through, and one that has no completion
+  pub seen_past : (old entries : List Entry) (left group rest : EventSet) → ((w : ℕ) → HasEvent rest w ↔ (HasEvent left w × ¬ HasEvent group w))
+      → k < length (byte_reads (box_events box)) → AddsEntries box old entries → IsSeen box k entries left
+      → ((x : Execution) → IsCompletion box x → ¬ TakesFrom x k group) → AddsEntries box old entries × IsSeen box k entries rest
+  seen_past old entries left group rest rest_is inside added seen none =
+      (added, seen_more entries left group rest rest_is inside (λ x is takes. absurd (none x is takes)) seen)
+
   pub all_seen : (entries : List Entry) (left : EventSet) → ((w : ℕ) → ¬ HasEvent left w) → k < length (byte_reads (box_events box))
       → IsSeen box k entries left → HasEachOutcome box entries
   all_seen entries left none inside seen x is = elim (seen x is) [
@@ -180,14 +187,23 @@ module _ (box : Box) (k : ℕ) where
     | inr takes ↦ (let some = takes_one box k inside x is in absurd (none some.0 (takes some.0 some.1)))
   ]
 
-  -- one part more
-  pub seen_on : (old mid entries : List Entry) (left group rest : EventSet) → ((w : ℕ) → HasEvent rest w ↔ (HasEvent left w × ¬ HasEvent group w))
-      → k < length (byte_reads (box_events box)) → AddsEntries box old mid → IsSeen box k mid left → AddsEntries box mid entries
-      → ((x : Execution) → IsCompletion box x → TakesFrom x k group → HasOutcome entries (execution_outcome box.test x))
-      → AddsEntries box old entries × IsSeen box k entries rest
-  seen_on old mid entries left group rest rest_is inside added seen adds taken = (
-    adds_more box old mid entries added adds,
-    seen_more entries left group rest rest_is inside taken (seen_stays mid entries left (λ outcome. adds_stays box mid entries outcome adds) seen),
+-- ---- one part more, by the sources that store the same as one
+module _ (laws : Laws) (box : Box) (entered : IsBox box) (sound : AreEventsIn box.test.bytes (box_events box)) (k : ℕ)
+    (inside : k < length (byte_reads (box_events box))) (observed : IsObservedAt box k) (source : ℕ) (group : EventSet)
+    (alike : (w : ℕ) → HasEvent group w ↔ (HasSource box k w × (stored_for box k w ≡ stored_for box k source)))
+    (domains : List EventSet) (cut : IsCut box k group (box_with (box.test, box.combination) domains)) where
+  pub part_adds : (mid new : List Entry) → AddsEntries (box_with (box.test, box.combination) domains) mid new → AddsEntries box mid new
+  part_adds =
+      adds_out (box_with (box.test, box.combination) domains) box
+      (least_out laws box entered sound k inside observed source group alike domains cut)
+
+  pub seen_part : (old mid new : List Entry) (left rest : EventSet) → ((w : ℕ) → HasEvent rest w ↔ (HasEvent left w × ¬ HasEvent group w))
+      → AddsEntries box old mid → IsSeen box k mid left → AddsEntries (box_with (box.test, box.combination) domains) mid new
+      → HasEachOutcome (box_with (box.test, box.combination) domains) new → AddsEntries box old new × IsSeen box k new rest
+  seen_part old mid new left rest rest_is added seen adds whole = (
+    adds_more box old mid new added (part_adds mid new adds),
+    seen_more box k new left group rest rest_is inside (λ x is takes. whole x (cut.kept x is takes))
+        (seen_stays box k mid new left (λ outcome. adds_stays box mid new outcome (part_adds mid new adds)) seen),
   )
 
 -- ---- the group of the sources that store the same as one

@@ -3,15 +3,14 @@
 ghost use Rattle.std.specs.Prelude.{◌≡◌, ℕ, ◌<◌, IfSome, IsFalse, IsTrue, OnOk, length};
 ghost use Rattle.lit_paths.specs.ByteReads.{byte_read_at, byte_reads};
 ghost use Rattle.lit_paths.specs.Execution.{Execution, execution_outcome};
-ghost use Rattle.lit_rel.specs.EventSet.{HasEvent};
-ghost use Rattle.lit_solve.specs.Box.{HasSource, events_on};
+ghost use Rattle.lit_solve.specs.Box.{events_on};
 ghost use Rattle.lit_solve.specs.Completion.{IsCompletion};
 ghost use Rattle.lit_solve.specs.Fill.{IsQuiet};
 ghost use Rattle.lit_solve.specs.Internal.Deciding.{IsUndecidedAt};
 ghost use Rattle.lit_solve.specs.Internal.Frames.{box_of};
-ghost use Rattle.lit_solve.specs.Internal.Narrowing.{size_of};
+ghost use Rattle.lit_solve.specs.Internal.Narrowing.{HasNoCompletion};
 ghost use Rattle.lit_solve.specs.Internal.Observation.{AreFirstValues, IsObservation, IsObservedAt};
-ghost use Rattle.lit_solve.specs.Internal.Settled.{IsCut, IsSettled, TakesFrom};
+ghost use Rattle.lit_solve.specs.Internal.Settled.{IsSettled};
 ghost use Rattle.lit_solve.specs.Outcomes.{AddsEntries, HasEachOutcome};
 
 use crate::frame::Frame;
@@ -21,7 +20,7 @@ use crate::numbering::number_of;
 use crate::observation::Values;
 use crate::problem::Problem;
 use crate::table::OutcomeTable;
-use lit_rel::{EventSet, has_false_test};
+use lit_rel::has_false_test;
 use lit_valid::laws::laws_below;
 use std::alloc::AllocError;
 
@@ -46,28 +45,18 @@ impl Problem<'_> {
         None
     }
 
-    /// A byte that a register, named by agent and register, observes, that can force something and may be read as several bytes.
-    fn forcing_held(&self, frame: &Frame, name: (u8, u8)) -> Option<usize>
-        requires { IsSettled (box_of self.now frame.now) frame.now }
-        ensures { IfSome result (λ k. (k < length (byte_reads (events_on self.now))) × IsUndecidedAt (box_of self.now frame.now) k
-            × IsObservedAt (box_of self.now frame.now) k) }
-    {
-        let _events = self.combination.events();
-        match self.read_held(name.0, name.1) {
-            Some(read) => self.forcing_byte(frame, read as u8),
-            None => None,
-        }
-    }
-
     /// A byte that some register observes, that can force something and may be read as several bytes.
     fn forcing_observed(&self, frame: &Frame) -> Option<usize>
         requires { IsSettled (box_of self.now frame.now) frame.now }
         ensures { IfSome result (λ k. (k < length (byte_reads (events_on self.now))) × IsUndecidedAt (box_of self.now frame.now) k
             × IsObservedAt (box_of self.now frame.now) k) }
     {
+        let _events = self.combination.events();
         for name in self.names {
-            if let Some(place) = self.forcing_held(frame, *name) {
-                return Some(place);
+            if let Some(read) = self.read_held(name.0, name.1) {
+                if let Some(place) = self.forcing_byte(frame, read as u8) {
+                    return Some(place);
+                }
             }
         }
         None
@@ -81,13 +70,8 @@ impl Problem<'_> {
         ensures first { AreFirstValues (box_of self.now frame.now) values.new.items }
         ensures observed { IsObservation (box_of self.now frame.now) values.new.items result }
     {
-        let Some(open) = self.observe(&frame.domains, values) else {
-            return None;
-        };
-        match self.forcing_observed(frame) {
-            Some(place) => Some(place),
-            None => Some(open),
-        }
+        let open = self.observe(&frame.domains, values)?;
+        Some(self.forcing_observed(frame).unwrap_or(open))
     }
 
     /// Records the outcome of a frame, which each completion has, if the table lacks it and there is a completion. What is in
@@ -149,18 +133,12 @@ impl Problem<'_> {
         self.independent_outcomes(&frame.domains, values, &order, table)
     }
 
-    /// Goes down to the part of a frame with a source of a set for the byte read at a place. Says no where no completion has one;
-    /// where that is in doubt it is always found out.
-    fn enter(&self, frame: &mut Frame, place: usize, set: EventSet, doubt: bool) -> bool
-        requires place { place < length (byte_reads (events_on self.now)) }
-        requires settled { IsSettled (box_of self.now frame.old) frame.old }
-        ensures settled { IsTrue result → IsSettled (box_of self.now frame.new) frame.new }
-        ensures cut { IsTrue result → IsCut (box_of self.now frame.old) place set (box_of self.now frame.new) }
-        ensures less { IsTrue result → ¬ ((w : ℕ) → HasSource (box_of self.now frame.old) place w → HasEvent set w)
-            → size_of frame.new.domains < size_of frame.old.domains }
-        ensures none { IsFalse result → (x : Execution) → IsCompletion (box_of self.now frame.old) x → ¬ TakesFrom x place set }
+    /// Whether a frame may have a completion: where that is in doubt it is found out.
+    fn may_complete(&self, frame: &Frame, doubt: bool) -> bool
+        requires { IsSettled (box_of self.now frame.now) frame.now }
+        ensures { IsFalse result → HasNoCompletion (box_of self.now frame.now) }
     {
-        self.cut(frame, place, set) && (!doubt || self.exists(frame, Goal::Any))
+        !doubt || self.exists(frame, Goal::Any)
     }
 
     /// Records the outcomes of a frame's completions that a table lacks, of which these are the first values. Where an outcome
@@ -179,8 +157,7 @@ impl Problem<'_> {
     {
         laws_below();
         let mut values = values.clone()?;
-        let observed = self.next_observed(frame, &mut values);
-        let Some(place) = observed else {
+        let Some(place) = self.next_observed(frame, &mut values) else {
             return self.record(frame, values.as_slice(), table, doubt);
         };
         let Some(_branch) = self.branch(frame) else {
@@ -193,7 +170,7 @@ impl Problem<'_> {
             let group = self.storing_alike(all, place, source);
             let mut next = *frame;
             // An outcome without a completion is dear to find out, and its neighbours mostly have none either.
-            if self.enter(&mut next, place, group, *doubt) {
+            if self.cut(&mut next, place, group) && self.may_complete(&next, *doubt) {
                 self.outcomes(&next, &values, table, doubt)?;
             }
             left = left.difference(group);

@@ -6,9 +6,9 @@ use Rattle.lit_valid.specs.Entry.{Entry}
 use Rattle.lit_solve.specs.Box.{box_with}
 use Rattle.lit_solve.specs.Outcomes.{AddsEntries}
 use Rattle.lit_solve.specs.Internal.Narrowing.{size_of}
-use Rattle.lit_solve.proofs.EntryLemmas.{adds_more, adds_none, adds_out}
+use Rattle.lit_solve.proofs.EntryLemmas.{adds_more}
 use Rattle.lit_solve.proofs.NarrowingLemmas.{source_known}
-use Rattle.lit_solve.proofs.ObservedLemmas.{IsSeen, alike_among, all_seen, first_within, least_out, seen_on, some_differ, sound_on}
+use Rattle.lit_solve.proofs.ObservedLemmas.{IsSeen, alike_among, all_seen, first_within, part_adds, seen_part, seen_past, some_differ, sound_on}
 use Rattle.lit_solve.proofs.problem.Problem.+independent_outcomes.Goals as goal
 use Rattle.lit_solve.proofs.problem.Problem.+independent_outcomes.Goals.{then-cut_independent+in_ok-independent_outcomes, else-cut_independent}
 
@@ -55,10 +55,9 @@ returns-in_err-independent_outcomes-clause-added g t c =
     let mid = g.T.OutcomeTable.entries c.loop-source.table in
     let new = g.T.OutcomeTable.entries c.independent_outcomes.new.table in
     adds_more box old mid new c.loop-source.invariant.added
-    (adds_out (box_with c.args.self.now c.cut_independent.new.domains) box
-    (least_out c.laws_below.ensures box c.requires.independent.is_box (sound_on c.self.view_is c.self.invariant.sound) place c.in-Some.ensures.observed.0
-    c.in-Some.ensures.observed.2 c.in-Some-split_first.source c.storing_alike-group.result alike c.cut_independent.new.domains (c.cut_independent.ensures.cut c.if-cut_independent.true))
-    mid new c.independent_outcomes.ensures.added)
+    (part_adds c.laws_below.ensures box c.requires.independent.is_box (sound_on c.self.view_is c.self.invariant.sound) place c.in-Some.ensures.observed.0
+    c.in-Some.ensures.observed.2 c.in-Some-split_first.source c.storing_alike-group.result alike c.cut_independent.new.domains
+    (c.cut_independent.ensures.cut c.if-cut_independent.true) mid new c.independent_outcomes.ensures.added)
 
 pub loop-source-smaller : goal.loop-source-smaller
 loop-source-smaller g t c =
@@ -82,21 +81,18 @@ loop-source-preserved g t c =
     let old = entries c.args.table.now in
     let mid = entries c.loop-source.table in
     let alike = alike_among box place c.in-Some-split_first.source (slice_index_or c.args.domains.now place no_events) group (λ w. (λ h. h, λ h. h)) c.storing_alike-group.ensures in
-    let part = box_with c.args.self.now c.cut_independent.new.domains in
     let goes : AddsEntries box old (entries c.if-cut_independent.table) × IsSeen box place (entries c.if-cut_independent.table) rest = elim c.if-cut_independent.branch [
       | then-cut_independent+in_ok-independent_outcomes w ↦
-          (let cut = c.cut_independent.ensures.cut w.if-cut_independent.true in
-          let new = entries w.independent_outcomes.new.table in
-          let out = least_out c.laws_below.ensures box c.requires.independent.is_box (sound_on c.self.view_is c.self.invariant.sound) place
-          c.in-Some.ensures.observed.0 c.in-Some.ensures.observed.2 c.in-Some-split_first.source group alike c.cut_independent.new.domains cut in
           subst (λ (es : List Entry). AddsEntries box old es × IsSeen box place es rest) (sym (ap entries w.table-is))
-          (seen_on box place old mid new c.loop-source.left group rest c.difference-left.ensures c.in-Some.ensures.observed.0 c.loop-source.invariant.added
-          c.loop-source.invariant.seen (adds_out part box out mid new w.independent_outcomes.ensures.added)
-          (λ x is takes. w.in_ok-independent_outcomes.ensures.whole x (cut.kept x is takes))))
+          (seen_part c.laws_below.ensures box c.requires.independent.is_box (sound_on c.self.view_is c.self.invariant.sound) place
+          c.in-Some.ensures.observed.0 c.in-Some.ensures.observed.2 c.in-Some-split_first.source group alike c.cut_independent.new.domains
+          (c.cut_independent.ensures.cut w.if-cut_independent.true) old mid (entries w.independent_outcomes.new.table) c.loop-source.left rest
+          c.difference-left.ensures c.loop-source.invariant.added c.loop-source.invariant.seen w.independent_outcomes.ensures.added
+          w.in_ok-independent_outcomes.ensures.whole)
       | else-cut_independent w ↦
           subst (λ (es : List Entry). AddsEntries box old es × IsSeen box place es rest) (sym (ap entries w.table-is))
-          (seen_on box place old mid mid c.loop-source.left group rest c.difference-left.ensures c.in-Some.ensures.observed.0 c.loop-source.invariant.added
-          c.loop-source.invariant.seen (adds_none box mid) (λ x is takes. absurd (c.cut_independent.ensures.none w.if-cut_independent.false x is takes)))
+          (seen_past box place old mid c.loop-source.left group rest c.difference-left.ensures c.in-Some.ensures.observed.0
+          c.loop-source.invariant.added c.loop-source.invariant.seen (c.cut_independent.ensures.none w.if-cut_independent.false))
     ] in
     record {
       within = λ w there. c.loop-source.invariant.within w ((c.difference-left.ensures w).0 there).0;

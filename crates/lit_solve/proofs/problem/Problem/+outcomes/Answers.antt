@@ -1,15 +1,18 @@
 use Rattle.std.proofs.Common.{inr, ℕ, ◌<◌, List, ap, refl, subst, sym}
+use Rattle.lit_paths.specs.Execution.{Execution}
 use Rattle.lit_rel.specs.EventSet.{HasEvent}
 use Rattle.lit_rel.proofs.SetLemmas.{split_less_yet}
 use Rattle.lit_valid.specs.Entry.{Entry}
+use Rattle.lit_solve.specs.Completion.{IsCompletion}
 use Rattle.lit_solve.specs.Outcomes.{AddsEntries}
 use Rattle.lit_solve.specs.Internal.Frames.{box_of}
 use Rattle.lit_solve.specs.Internal.Narrowing.{size_of}
-use Rattle.lit_solve.proofs.EntryLemmas.{adds_more, adds_none, adds_out}
+use Rattle.lit_solve.specs.Internal.Settled.{TakesFrom}
+use Rattle.lit_solve.proofs.EntryLemmas.{adds_more, adds_none}
 use Rattle.lit_solve.proofs.NarrowingLemmas.{source_known}
-use Rattle.lit_solve.proofs.ObservedLemmas.{IsSeen, alike_among, all_seen, first_within, least_out, seen_on, some_differ, sound_on}
+use Rattle.lit_solve.proofs.ObservedLemmas.{IsSeen, alike_among, all_seen, first_within, part_adds, seen_part, seen_past, some_differ, sound_on}
 use Rattle.lit_solve.proofs.problem.Problem.+outcomes.Goals as goal
-use Rattle.lit_solve.proofs.problem.Problem.+outcomes.Goals.{then-enter+in_ok-outcomes, else-enter}
+use Rattle.lit_solve.proofs.problem.Problem.+outcomes.Goals.{then-cut+then-may_complete+in_ok-outcomes, else-cut, else-cut-via-then-cut+else-may_complete, else-cut-via-else-cut}
 
 pub loop-source-init : goal.loop-source-init
 loop-source-init g t c = record {
@@ -35,15 +38,15 @@ outcomes-requires g t c κs within =
     let alike = alike_among box place c.in-Some-split_first.source c.sources_left-all.result c.storing_alike-group.result c.sources_left-all.ensures
     c.storing_alike-group.ensures in
     let there = c.loop-source.invariant.within c.in-Some-split_first.source c.in-Some-split_first.ensures.there in (
-      subst (λ (n : ℕ). size_of c.enter.new.frame.domains < n) c.decreases
-          (c.enter.ensures.less c.if-enter.true
+      subst (λ (n : ℕ). size_of c.cut.new.frame.domains < n) c.decreases
+          (c.cut.ensures.less c.if-cut.true
           (some_differ box place c.in-Some-split_first.source c.storing_alike-group.result c.in-Some.ensures.observed.0 c.in-Some.ensures.observed.1 there alike)),
       (
         within,
         (
-          c.enter.ensures.settled c.if-enter.true,
-          first_within box c.enter.new.frame.domains c.next_observed-observed.new.values.items (c.enter.ensures.cut c.if-enter.true).within
-              c.next_observed-observed.ensures.first,
+          c.cut.ensures.settled c.if-cut.true,
+          first_within box c.cut.new.frame.domains c.next_observed.new.values.items (c.cut.ensures.cut c.if-cut.true).within
+              c.next_observed.ensures.first,
         ),
       ),
     )
@@ -58,10 +61,9 @@ returns-in_err-outcomes-clause-added g t c =
     let mid = g.T.OutcomeTable.entries c.loop-source.table in
     let new = g.T.OutcomeTable.entries c.outcomes.new.table in
     adds_more box old mid new c.loop-source.invariant.added
-    (adds_out (box_of c.args.self.now c.enter.new.frame) box
-    (least_out c.laws_below.ensures box c.requires.settled.exact.contained.is_box (sound_on c.self.view_is c.self.invariant.sound) place c.in-Some.ensures.observed.0
-    c.in-Some.ensures.observed.2 c.in-Some-split_first.source c.storing_alike-group.result alike c.enter.new.frame.domains (c.enter.ensures.cut c.if-enter.true))
-    mid new c.outcomes.ensures.added)
+    (part_adds c.laws_below.ensures box c.requires.settled.exact.contained.is_box (sound_on c.self.view_is c.self.invariant.sound) place
+    c.in-Some.ensures.observed.0 c.in-Some.ensures.observed.2 c.in-Some-split_first.source c.storing_alike-group.result alike
+    c.cut.new.frame.domains (c.cut.ensures.cut c.if-cut.true) mid new c.outcomes.ensures.added)
 
 pub loop-source-smaller : goal.loop-source-smaller
 loop-source-smaller g t c =
@@ -85,21 +87,23 @@ loop-source-preserved g t c =
     let old = entries c.args.table.now in
     let mid = entries c.loop-source.table in
     let alike = alike_among box place c.in-Some-split_first.source c.sources_left-all.result group c.sources_left-all.ensures c.storing_alike-group.ensures in
-    let part = box_of c.args.self.now c.enter.new.frame in
-    let goes : AddsEntries box old (entries c.if-enter.table) × IsSeen box place (entries c.if-enter.table) rest = elim c.if-enter.branch [
-      | then-enter+in_ok-outcomes w ↦
-          (let cut = c.enter.ensures.cut w.if-enter.true in
-          let new = entries w.outcomes.new.table in
-          let out = least_out c.laws_below.ensures box c.requires.settled.exact.contained.is_box (sound_on c.self.view_is c.self.invariant.sound) place
-          c.in-Some.ensures.observed.0 c.in-Some.ensures.observed.2 c.in-Some-split_first.source group alike c.enter.new.frame.domains cut in
+    let past = λ (none : (x : Execution) → IsCompletion box x → ¬ TakesFrom x place group).
+    seen_past box place old mid c.loop-source.left group rest c.difference-left.ensures c.in-Some.ensures.observed.0
+    c.loop-source.invariant.added c.loop-source.invariant.seen none in
+    let goes : AddsEntries box old (entries c.if-cut.table) × IsSeen box place (entries c.if-cut.table) rest = elim c.if-cut.branch [
+      | then-cut+then-may_complete+in_ok-outcomes w ↦
           subst (λ (es : List Entry). AddsEntries box old es × IsSeen box place es rest) (sym (ap entries w.table-is))
-          (seen_on box place old mid new c.loop-source.left group rest c.difference-left.ensures c.in-Some.ensures.observed.0 c.loop-source.invariant.added
-          c.loop-source.invariant.seen (adds_out part box out mid new w.outcomes.ensures.added)
-          (λ x is takes. w.in_ok-outcomes.ensures.whole x (cut.kept x is takes))))
-      | else-enter w ↦
+          (seen_part c.laws_below.ensures box c.requires.settled.exact.contained.is_box (sound_on c.self.view_is c.self.invariant.sound) place
+          c.in-Some.ensures.observed.0 c.in-Some.ensures.observed.2 c.in-Some-split_first.source group alike c.cut.new.frame.domains
+          (c.cut.ensures.cut w.if-cut.true) old mid (entries w.outcomes.new.table) c.loop-source.left rest c.difference-left.ensures
+          c.loop-source.invariant.added c.loop-source.invariant.seen w.outcomes.ensures.added w.in_ok-outcomes.ensures.whole)
+      | else-cut w ↦
           subst (λ (es : List Entry). AddsEntries box old es × IsSeen box place es rest) (sym (ap entries w.table-is))
-          (seen_on box place old mid mid c.loop-source.left group rest c.difference-left.ensures c.in-Some.ensures.observed.0 c.loop-source.invariant.added
-          c.loop-source.invariant.seen (adds_none box mid) (λ x is takes. absurd (c.enter.ensures.none w.if-enter.false x is takes)))
+          (past (elim w.else-cut.branch [
+            | else-cut-via-then-cut+else-may_complete v ↦
+                (λ x is takes. v.may_complete.ensures v.if-may_complete.false x ((c.cut.ensures.cut v.if-cut.true).kept x is takes))
+            | else-cut-via-else-cut v ↦ c.cut.ensures.none v.if-cut.false
+          ]))
     ] in
     record {
       within = λ w there. c.loop-source.invariant.within w ((c.difference-left.ensures w).0 there).0;

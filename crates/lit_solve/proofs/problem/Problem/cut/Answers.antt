@@ -1,10 +1,8 @@
-use Rattle.std.proofs.Common.{◌<◌, ℕ, inl, inr, arith, length, sym, ◌∙◌}
-use Rattle.std.proofs.lemmas.Bool.{false≢true}
-use Rattle.lit_rel.specs.EventSet.{HasEvent}
+use Rattle.std.proofs.Common.{◌<◌, arith, length, ap, not}
 use Rattle.lit_solve.specs.Internal.Frames.{box_of}
 use Rattle.lit_solve.proofs.DomainLemmas.{narrowed_contained, none_at, size_less}
 use Rattle.lit_solve.proofs.FrameLemmas.{not_true}
-use Rattle.lit_solve.proofs.NarrowingLemmas.{none_or_some}
+use Rattle.lit_solve.proofs.NarrowingLemmas.{some_exactly}
 use Rattle.lit_solve.proofs.OpeningLemmas.{completion_taken, cut_on, left_within, source_taken}
 use Rattle.lit_solve.proofs.problem.Problem.cut.Goals as goal
 
@@ -20,10 +18,7 @@ pub propagate-requires : goal.propagate-requires
 propagate-requires c =
     let box = box_of c.args.self.now c.args.frame.now in
     let room : c.args.place < length box.domains = omega arith in
-    let some : (w : ℕ) × HasEvent c.intersection-left.result w = elim (none_or_some c.intersection-left.result) [
-      | inl none ↦ absurd (false≢true (sym c.if-is_empty.false ∙ c.is_empty.ensures.1 none))
-      | inr found ↦ found
-    ] in
+    let some = (some_exactly c.intersection-left.result c.is_empty.result c.is_empty.ensures).0 (ap not c.if-is_empty.false) in
     narrowed_contained box c.args.place c.intersection-left.result room
     (left_within box c.args.place c.args.set c.intersection-left.result room c.intersection-left.ensures) c.args.frame.now
     c.requires.settled.exact.contained some

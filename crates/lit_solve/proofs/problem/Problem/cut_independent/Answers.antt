@@ -1,12 +1,10 @@
-use Rattle.std.proofs.Common.{◌<◌, ℕ, inl, inr, arith, length, refl, subst, sym, ◌∙◌}
-use Rattle.std.proofs.lemmas.Bool.{false≢true}
-use Rattle.lit_rel.specs.EventSet.{HasEvent}
+use Rattle.std.proofs.Common.{◌<◌, ℕ, arith, length, refl, subst, ap, not}
 use Rattle.lit_solve.specs.Box.{box_with, events_on}
 use Rattle.lit_solve.specs.Fill.{CanFill}
 use Rattle.lit_solve.proofs.DomainLemmas.{narrowed_at, narrowed_is_box, none_at, none_empty_at, size_less}
 use Rattle.lit_solve.proofs.FrameLemmas.{not_true}
 use Rattle.lit_solve.proofs.IndependentLemmas.{independent_part, order_of_part}
-use Rattle.lit_solve.proofs.NarrowingLemmas.{none_or_some}
+use Rattle.lit_solve.proofs.NarrowingLemmas.{some_exactly}
 use Rattle.lit_solve.proofs.OpeningLemmas.{completion_taken, cut_on, left_within, source_taken}
 use Rattle.lit_solve.proofs.RacingLemmas.{read_number}
 use Rattle.lit_solve.proofs.problem.Problem.cut_independent.Goals as goal
@@ -30,10 +28,7 @@ pub can_fill-requires-clause-some : goal.can_fill-requires-clause-some
 can_fill-requires-clause-some c =
     let box = box_with c.args.self.now c.args.domains.now in
     let room : c.args.place < length box.domains = omega arith in
-    let some : (w : ℕ) × HasEvent c.intersection-left.result w = elim (none_or_some c.intersection-left.result) [
-      | inl none ↦ absurd (false≢true (sym c.if-is_empty.false ∙ c.is_empty.ensures.1 none))
-      | inr found ↦ found
-    ] in
+    let some = (some_exactly c.intersection-left.result c.is_empty.result c.is_empty.ensures).0 (ap not c.if-is_empty.false) in
     none_empty_at box c.args.place c.intersection-left.result room c.requires.independent.some some
 
 pub returns-clause-independent : goal.returns-clause-independent
@@ -41,10 +36,7 @@ returns-clause-independent c good =
     let box = box_with c.args.self.now c.args.domains.now in
     let left = c.intersection-left.result in
     let room : c.args.place < length box.domains = omega arith in
-    let some : (w : ℕ) × HasEvent left w = elim (none_or_some left) [
-      | inl none ↦ absurd (false≢true (sym c.if-is_empty.false ∙ c.is_empty.ensures.1 none))
-      | inr found ↦ found
-    ] in
+    let some = (some_exactly left c.is_empty.result c.is_empty.ensures).0 (ap not c.if-is_empty.false) in
     let read = read_number (events_on c.args.self.now) c.args.place c.byte_read-read.result c.byte_read-read.result.read refl c.byte_read-read.ensures.at in
     independent_part box (c.laws_below.ensures.of_events (events_on c.args.self.now)) c.requires.independent c.args.place left room c.requires.place
     (left_within box c.args.place c.args.set left room c.intersection-left.ensures) some
@@ -55,10 +47,7 @@ returns-clause-order c good order least =
     let box = box_with c.args.self.now c.args.domains.now in
     let left = c.intersection-left.result in
     let room : c.args.place < length box.domains = omega arith in
-    let some : (w : ℕ) × HasEvent left w = elim (none_or_some left) [
-      | inl none ↦ absurd (false≢true (sym c.if-is_empty.false ∙ c.is_empty.ensures.1 none))
-      | inr found ↦ found
-    ] in
+    let some = (some_exactly left c.is_empty.result c.is_empty.ensures).0 (ap not c.if-is_empty.false) in
     let read = read_number (events_on c.args.self.now) c.args.place c.byte_read-read.result c.byte_read-read.result.read refl c.byte_read-read.ensures.at in
     order_of_part box (c.laws_below.ensures.of_events (events_on c.args.self.now)) c.requires.independent c.args.place left room c.requires.place
     (left_within box c.args.place c.args.set left room c.intersection-left.ensures) some

@@ -1,12 +1,11 @@
-use Rattle.std.proofs.Common.{◌<◌, ℕ, inl, inr, arith, sym, subst, length, ◌∙◌}
+use Rattle.std.proofs.Common.{◌<◌, ℕ, arith, sym, subst, length, ◌∙◌, ap, not}
 use Rattle.std.proofs.lemmas.Bool.{false≢true}
 use Rattle.lit_read.specs.Syntax.{Litmus}
 use Rattle.lit_paths.specs.Plan.{AreEventsIn}
-use Rattle.lit_rel.specs.EventSet.{HasEvent}
 use Rattle.lit_solve.specs.Box.{events_on}
 use Rattle.lit_solve.specs.Internal.Frames.{box_of}
 use Rattle.lit_solve.proofs.DomainLemmas.{narrowed_contained, narrows, none_if_empty, size_less}
-use Rattle.lit_solve.proofs.NarrowingLemmas.{none_or_some}
+use Rattle.lit_solve.proofs.NarrowingLemmas.{some_exactly}
 use Rattle.lit_solve.proofs.problem.Problem.narrow_at.Goals as goal
 
 pub returns-then-is_empty-clause-empty : goal.returns-then-is_empty-clause-empty
@@ -28,10 +27,7 @@ returns-clause-contained c _ =
     let sound : AreEventsIn c.args.self.now.0.bytes (events_on c.args.self.now) = subst (λ (p : Litmus × ℕ). AreEventsIn p.0.bytes (events_on p))
     c.self.view_is c.self.invariant.sound in
     let room : c.args.place < length box.domains = omega arith in
-    let some : (w : ℕ) × HasEvent c.left-left.result w = elim (none_or_some c.left-left.result) [
-      | inl none ↦ absurd (false≢true (sym c.if-is_empty.false ∙ c.is_empty.ensures.1 none))
-      | inr found ↦ found
-    ] in
+    let some = (some_exactly c.left-left.result c.is_empty.result c.is_empty.ensures).0 (ap not c.if-is_empty.false) in
     narrowed_contained box c.args.place c.left-left.result room c.left-left.ensures.within c.args.frame.now c.requires.contained some
 
 pub returns-clause-narrows : goal.returns-clause-narrows
