@@ -1,0 +1,39 @@
+"""The words of a command: what each option may be."""
+import argparse
+import os
+import re
+
+from litmus.ends import shown
+from litmus.help import Help
+from litmus.program import version
+
+
+class Words(argparse.ArgumentParser):
+    """The words of a command whose own text is its help."""
+
+    def __init__(self, command, text):
+        super().__init__(prog=command, usage=argparse.SUPPRESS, add_help=False, allow_abbrev=False)
+        self.add_argument("-h", "--help", action=Help, text=text)
+        self.add_argument("--version", action="version", version=f"{command} {version()[0]}")
+        self.add_argument("--program")
+
+    def error(self, message):
+        self.exit(2, f"{self.prog}: {shown(message)}\n")
+
+    def add_seconds(self, default):
+        self.add_argument("--seconds", type=seconds_of, default=default)
+
+    def add_jobs(self):
+        self.add_argument("--jobs", type=jobs_of, default=os.cpu_count())
+
+
+def jobs_of(text):
+    if not re.fullmatch("0*[1-9][0-9]{0,3}", text):
+        raise argparse.ArgumentTypeError(f"--jobs {text} is no number from 1 to 9999")
+    return int(text)
+
+
+def seconds_of(text):
+    if not re.fullmatch(r"[0-9]{1,6}(\.[0-9]{1,6})?", text) or not float(text):
+        raise argparse.ArgumentTypeError(f"--seconds {text} is no number above 0")
+    return float(text)
