@@ -13,7 +13,7 @@ DIFFERENT_PLACES = {
     "ISA2": "WW RW RR", "W+RWC": "WW RR WR", "3.SB": "WR WR WR", "3.LB": "RW RW RW", "3.2W": "WW WW WW",
     "Z6.0": "WW RW WR", "Z6.1": "WW WW RW", "Z6.2": "WW RW RW", "Z6.3": "WW WW RR", "Z6.4": "WW WR WR", "Z6.5": "WW WW WR",
 }
-ONE_PLACE = {"CoRR": "W RR", "CoRW2": "W RW", "CoWR": "WR W"}
+ONE_PLACE = {"CoRR": "W RR", "CoRW2": "W RW"}
 LONGEST = 32  # bytes of a word in a litmus text
 
 
