@@ -4,7 +4,10 @@ import subprocess
 
 COMMANDS = {
     "jslit": "the outcomes that the memory model of ECMAScript allows a litmus test",
+    "jslit-atomize": "which accesses of a litmus test have to go through Atomics",
     "jslit-check": "check or look at many litmus tests",
+    "jslit-compare": "whether a rewriting of a litmus test is allowed",
+    "jslit-diy": "litmus tests from cycles of edges",
     "jslit-draw": "draw an execution of a litmus test",
     "jslit-engine": "run litmus tests on real engines",
     "jslit-explain": "explain why a litmus text is refused",
@@ -13,7 +16,7 @@ COMMANDS = {
     "jslit-test262": "write a litmus test as a file of test262",
 }
 # What a value is called that is a file's name.
-FILES = ("FILE", "PROGRAM")
+FILES = ("FILE", "PROGRAM", "FOLDER")
 OPTION = re.compile(r"^ +(?:-\w, )?(--[a-z-]+)(?: <?([A-Z]+)>?)?", re.M)
 
 
