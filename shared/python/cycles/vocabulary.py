@@ -3,7 +3,7 @@ import itertools
 import re
 
 from cycles.cycle import fault_of
-from cycles.edges import ATOM, SIZES, edge_of
+from cycles.edges import ATOM, SIZES, Access, Edge, edge_of
 from cycles.families import normal
 from cycles.sameness import form_of
 from cycles.writing import Writer
@@ -34,9 +34,9 @@ def edges_of(words, kinds):
     """The edges that words name; one that doesn't say the kinds of its accesses is one of each of these."""
     edges = []
     for edge in map(edge_of, itertools.chain(*map(words_of, words))):
-        ways = [(edge.source, edge.target)] if edge.source.kind else [
-            (edge.source._replace(kind=a, size=b), edge.target._replace(kind=c, size=d)) for (a, b), (c, d) in itertools.product(kinds, kinds)]
-        edges += [edge._replace(source=source, target=target) for source, target in ways]
+        told = [((edge.source.kind, edge.source.size), (edge.target.kind, edge.target.size))] if edge.source.kind else None
+        for source, target in told or itertools.product(kinds, kinds):
+            edges.append(Edge(edge.name, Access(edge.source.direction, *source), Access(edge.target.direction, *target)))
     return sorted(set(edges))
 
 
