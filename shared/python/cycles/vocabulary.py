@@ -41,14 +41,18 @@ def edges_of(words, kinds):
 
 
 def closed_walks(edges, most):
-    """Lists of edges, each of which begins where the one before it ends, the first where the last does."""
+    """Lists of edges, each of which begins where the one before it ends, the first where the last does, and none of which is less
+    than the first."""
     after = {}
     for edge in edges:
         after.setdefault(edge.source, []).append(edge)
-    walks = [(edge,) for edge in edges]
-    for _ in range(most - 1):
-        walks = [walk + (edge,) for walk in walks for edge in after.get(walk[-1].target, [])]
-        yield from (walk for walk in walks if walk[-1].target == walk[0].source)
+    waiting = [(edge,) for edge in edges]
+    while waiting:
+        walk = waiting.pop()
+        if walk[-1].target == walk[0].source:
+            yield walk
+        if len(walk) < most:
+            waiting += [walk + (edge,) for edge in after.get(walk[-1].target, []) if edge >= walk[0]]
 
 
 def cycles(edges, most):

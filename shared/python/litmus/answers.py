@@ -22,14 +22,14 @@ class Clock:
     def __init__(self, seconds):
         self.seconds, self.end = seconds, time.monotonic() + seconds
 
-    def left(self):
+    def left(self, name):
         left = self.end - time.monotonic()
         if left <= 0:
-            raise self.late()
+            raise self.late(name)
         return left
 
-    def late(self):
-        return Late(f"no answer within {self.seconds:g} seconds")
+    def late(self, name):
+        return Late(f"{shown(name)}: no answer within {self.seconds:g} seconds")
 
 
 class Program:
@@ -40,7 +40,7 @@ class Program:
 
     def report(self, name, data, *words, kept=NONE):
         """The report on the text in `data`, which stands in the file of this name, with the outcomes in the places `kept`."""
-        left, late = self.clock.left(), threading.Event()
+        left, late = self.clock.left(name), threading.Event()
         with self.lock:
             self.runs += 1
         with tempfile.TemporaryFile() as text, tempfile.TemporaryFile() as fault:
@@ -62,7 +62,7 @@ class Program:
                 timer.cancel()
                 child.stdout.close()
             if late.is_set():
-                raise self.clock.late()
+                raise self.clock.late(name)
             fault.seek(0)
             return checked(name, report, status, fault.read(4096))
 
