@@ -1,4 +1,4 @@
-"""A cycle of edges: what it may be, its agents and its places."""
+"""A cycle of edges: what it may be, its agents and its cells."""
 from cycles.edges import Access, Edge, edge_of, is_order, word_of
 from litmus.text import Fault
 
@@ -62,18 +62,18 @@ def agents(edges):
     return lists
 
 
-def runs(edges):
-    """The accesses of each place in memory, by their places in the cycle and in the order of the edges between them; of a cycle of
-    one place all of them, from one of its edges Pos on."""
+def cells(edges):
+    """Of each cell, which is a place in memory, its accesses by their places in the cycle and in the order of the edges between
+    them; in a cycle of one cell all of them, from one of its edges Pos on."""
     lists = [[place] for place in range(len(edges)) if edges[place - 1].name == "Pod"]
-    for run in lists:
-        while edges[run[-1]].name != "Pod":
-            run.append((run[-1] + 1) % len(edges))
-    return sorted(lists, key=min) or [one_place(edges)]
+    for cell in lists:
+        while edges[cell[-1]].name != "Pod":
+            cell.append((cell[-1] + 1) % len(edges))
+    return sorted(lists, key=min) or [one_cell(edges)]
 
 
-def one_place(edges):
-    """The run that the fewest stores have to be seen in order for; of several the one with the least edges."""
+def one_cell(edges):
+    """The accesses from that edge Pos on by which the fewest stores have to be seen in order; of several by the least edges."""
     ways = []
     for place, edge in enumerate(edges):
         if edge.name == "Pos":
@@ -82,10 +82,10 @@ def one_place(edges):
     return min(ways)[2]
 
 
-def steps_to_see(edges, run):
-    """The pairs of neighbouring stores of a run, by their numbers from 1, whose order no agent's own order tells."""
+def steps_to_see(edges, cell):
+    """The pairs of neighbouring stores of a cell, by their numbers from 1, whose order no agent's own order tells."""
     told, number, pairs = True, 0, []
-    for step, place in enumerate(run):
+    for step, place in enumerate(cell):
         told = told and (step == 0 or edges[place - 1].name == "Pos")
         if edges[place].source.direction == "W":
             number += 1

@@ -1,7 +1,7 @@
 """The litmus text of a cycle: its agents, the observers of the order of stores, and as its condition the outcome that it tells.
-The stores of a place write 1, 2 and so on in the order of the cycle's edges, in each of their bytes; a load gets what the last
+The stores of a cell write 1, 2 and so on in the order of the cycle's edges, in each of their bytes; a load gets what the last
 store before it along these edges left there, and else 0."""
-from cycles.cycle import agents, runs, steps_to_see
+from cycles.cycle import agents, cells, steps_to_see
 from cycles.edges import word_of
 from cycles.families import name_of, word_of_name
 from litmus import limits
@@ -21,17 +21,16 @@ def line_of(access, first, value, register):
                                "D": f"DV.getUint{bits}({first}{end})"}[access.kind]
 
 
-def composed(cell):
-    return sum(byte << 8 * place for place, byte in enumerate(cell))
+def composed(content):
+    return sum(byte << 8 * place for place, byte in enumerate(content))
 
 
-class Place:
-    """A place in memory: what each access of it stores or loads, by its place in the cycle, and what the place holds after each of
-    its stores."""
+class Cell:
+    """A cell: what each access of it stores or loads, by its place in the cycle, and what the cell holds after each of its stores."""
 
-    def __init__(self, edges, run):
-        self.run, self.values, self.contents = run, {}, [[0, 0]]
-        for place in run:
+    def __init__(self, edges, accesses):
+        self.values, self.contents = {}, [[0, 0]]
+        for place in accesses:
             access = edges[place].source
             if access.direction == "W":
                 number = len(self.contents)
@@ -39,8 +38,8 @@ class Place:
                 self.values[place] = composed([number] * access.size)
             else:
                 self.values[place] = composed(self.contents[-1][:access.size])
-        self.stores = [edges[place].source for place in run if edges[place].source.direction == "W"]
-        self.seen = sorted({number for pair in steps_to_see(edges, run) for number in pair})
+        self.stores = [edges[place].source for place in accesses if edges[place].source.direction == "W"]
+        self.seen = sorted({number for pair in steps_to_see(edges, accesses) for number in pair})
 
     def observer(self):
         """The access by which an observer loads: like the stores, where these are all alike, else plain and of the least size."""
@@ -59,18 +58,18 @@ class Writer:
 
     def __init__(self, edges):
         self.edges, self.lines, self.members, self.count = edges, [], [], 0
-        self.places = [Place(edges, run) for run in runs(edges)]
+        self.cells = [Cell(edges, accesses) for accesses in cells(edges)]
         self.width = max(edge.source.size for edge in edges)
         for agent in agents(edges):
             self.write_agent([(edges[place].source, *self.found(place)) for place in agent])
-        for number, place in enumerate(self.places):
-            if place.seen:
-                self.write_agent([(place.observer(), number, value) for value in place.observed()])
+        for number, cell in enumerate(self.cells):
+            if cell.seen:
+                self.write_agent([(cell.observer(), number, value) for value in cell.observed()])
 
     def found(self, place):
-        """The number of an access's place in memory, and its value."""
-        number = next(number for number, each in enumerate(self.places) if place in each.values)
-        return number, self.places[number].values[place]
+        """The number of an access's cell, and its value."""
+        number = next(number for number, each in enumerate(self.cells) if place in each.values)
+        return number, self.cells[number].values[place]
 
     def write_agent(self, accesses):
         name, register = NAMES[self.count % len(NAMES)], 0
@@ -88,5 +87,5 @@ class Writer:
         return " ".join(map(word_of, self.edges))
 
     def text(self):
-        block = f"bytes {self.width * len(self.places)}"
+        block = f"bytes {self.width * len(self.cells)}"
         return "\n".join([f"test {word_of_name(name_of(self.edges))}", block, *self.lines, f"check {' && '.join(self.members)}", ""])
