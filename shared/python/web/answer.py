@@ -14,7 +14,7 @@ from litmus import refusals  # noqa: E402
 from litmus.condition import meets  # noqa: E402
 from litmus.text import Fault, read_test  # noqa: E402
 from web.limits import MEBIBYTES, PART, SECONDS, stopped  # noqa: E402
-from web.report import read_report  # noqa: E402
+from litmus.report import read_report  # noqa: E402
 
 EVENT = r"(?:init\[\d{1,2}\]|\w{1,32}\.\d{1,2})"
 
