@@ -2,9 +2,10 @@
 
 import { TEXT_LIMIT, ask, bytesOf, library, stop } from './ask.js';
 import { addressOf, textOf } from './address.js';
-import { clearFault, onChange, setText, showRefusal, text } from './editor.js';
+import { clearFault, goTo, onChange, setText, showRefusal, text } from './editor.js';
 import { byId, grouped, make } from './make.js';
 import { showPicture } from './picture.js';
+import { savePng, saveSvg, saveText } from './save.js';
 import { setOutcomes, spoken } from './table.js';
 import { newText } from './turns.js';
 import { linesOf, say, sayStopped, sayVerdict } from './verdict.js';
@@ -20,8 +21,11 @@ function running(is) {
 
 function hideOutcomes() {
   stop('picture');
+  stop('save');
   told = null;
   byId('stale').hidden = true;
+  byId('notes').hidden = true;
+  byId('saved').textContent = '';
   byId('outcomes').hidden = true;
   byId('example').hidden = true;
 }
@@ -57,6 +61,8 @@ function show(answer, kind) {
   } else {
     told = answer;
     sayVerdict(answer);
+    sayNotes(answer.notes);
+    byId('save-report').hidden = answer.kind !== 'report';
     byId('outcomes').hidden = answer.outcomes.length === 0;
     setOutcomes(answer.outcomes, showOutcome);
     byId('before').hidden = !(answer.skip > 0);
@@ -74,9 +80,28 @@ function sayShown(shown) {
   byId('shown').textContent = shown === outcomes.length ? `shown: ${part}` : `shown: ${grouped(shown)}, out of ${part}`;
 }
 
+// Notes are the page's own, and no part of the report.
+function sayNotes(notes) {
+  byId('notes').hidden = notes.length === 0;
+  byId('notes').querySelector('ul').replaceChildren(...notes.map(({ line, said }) => make('li', {},
+    make('button', { type: 'button', onclick: () => goTo(line, 0) }, `Line ${line}`), ` ${said}`)));
+}
+
+async function saveReport(examples) {
+  byId('saved').textContent = 'Asking for it.';
+  const answer = await ask('save', 'text', { examples }, asked);
+  if (!answer) return;
+  byId('saved').textContent = answer.kind === 'text' ? '' : `Not saved: ${answer.said ?? `stopped at the limit of ${answer.limit}`}.`;
+  if (answer.kind === 'text') saveText(`${told?.test ?? 'report'}${examples === 'with' ? '' : '-outcomes'}.txt`, answer.text);
+}
+
+let drawn = '';   // a name for the picture that is shown
+
 async function showOutcome(outcome) {
   const title = `Outcome ${grouped(outcome.number)}: ${spoken(outcome)}`;
   byId('example').hidden = false;
+  for (const name of ['save-svg', 'save-png']) byId(name).disabled = true;
+  drawn = `${told.test}-${outcome.number}`;
   byId('example-title').textContent = title;
   byId('lines').textContent = linesOf(outcome);
   byId('picture').setAttribute('aria-busy', 'true');
@@ -89,6 +114,7 @@ async function showOutcome(outcome) {
   const picture = await ask('picture', 'picture', words, asked);
   if (!picture) return;
   byId('picture').setAttribute('aria-busy', 'false');
+  for (const name of ['save-svg', 'save-png']) byId(name).disabled = picture.kind !== 'picture';
   if (picture.kind === 'picture') showPicture(picture, title);
   else byId('picture').textContent = `There is no picture: ${picture.limit ? `stopped at the limit of ${picture.limit}` : picture.said ?? picture.refused}.`;
   byId('example').scrollIntoView({ block: 'nearest' });
@@ -127,6 +153,8 @@ function fillLibrary(groups) {
   byId('library').addEventListener('change', () => {
     const test = tests.get(byId('library').value);
     byId('shows').textContent = test?.shows ?? '';
+    byId('why').hidden = !test;
+    byId('comment').textContent = test?.comment ?? '';
     if (!test) return;
     keep();
     history.pushState(null, '', addressOf(test.text));
@@ -150,6 +178,10 @@ onChange(() => {
 });
 byId('met').addEventListener('rendered', (event) => sayShown(event.detail));
 byId('run').addEventListener('click', () => whole(0));
+byId('save-all').addEventListener('click', () => saveReport('with'));
+byId('save-outcomes').addEventListener('click', () => saveReport('without'));
+byId('save-svg').addEventListener('click', () => saveSvg(`${drawn}.svg`));
+byId('save-png').addEventListener('click', () => savePng(`${drawn}.png`));
 byId('quick').addEventListener('click', () => run('quick'));
 byId('before').addEventListener('click', () => whole(Math.max(told.skip - 1000, 0), asked));
 byId('after').addEventListener('click', () => whole(told.skip + told.outcomes.length, asked));

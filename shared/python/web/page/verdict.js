@@ -10,8 +10,20 @@ export function say(kind, ...inside) {
   place.replaceChildren(...inside);
 }
 
+const access = ({ name, line, code }) => [make('code', {}, code), ` (${name}, line ${line})`];
+
+// What the report says of data races, and which example shows one.
 function race(told) {
-  return told.race ? [make('p', { id: 'race' }, `data race ${told.race}`)] : [];
+  if (!told.race) return told.kind === 'quick' ? [make('p', { class: 'note' }, 'A quick report doesn\u2019t say whether there is a data race.')] : [];
+  const said = [make('p', { id: 'race', class: `race-${told.race}` }, make('strong', {}, `data race ${told.race}`))];
+  if (told.racing) {
+    const [[one, other], ...more] = told.racing.pairs;
+    const also = more.length ? `, and ${more.length} more pair${more.length === 1 ? '' : 's'}` : '';
+    said.push(make('p', { id: 'racing' }, `as in the example of outcome ${grouped(told.racing.number)}: `, ...access(one), ' and ', ...access(other), also));
+  } else {
+    said.push(make('p', { id: 'racing' }, told.race === 'yes' ? 'in some execution, which none of these examples has to be' : 'in no execution two accesses are in one'));
+  }
+  return said;
 }
 
 export function sayVerdict(told) {
