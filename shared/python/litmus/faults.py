@@ -51,12 +51,12 @@ def more(printed, data, asked):
     text, own, seen = Mended(data), True, set()
     while len(seen) < MOST:
         found = REFUSED.match(printed or "")
-        if not found or int(found[1]) not in ALONE and not own:
+        if not found:
             return
         kind, number = int(found[1]), int(found[2])
         line = text.numbers[number - 1]
         advice = refusals.advice(printed, text.data(), place=Place(text.scene, line))
-        if seen:
+        if seen and (own or kind in ALONE):
             yield f"refused {kind} {printed.split()[2]} line {line}", advice._replace(line=line)
         instead = advice.write if advice.write is not None else stand_in(kind, text.lines[number - 1])
         if instead is None or (number, text.lines[number - 1]) in seen or refusals.foreign(data):

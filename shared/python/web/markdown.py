@@ -3,7 +3,8 @@ none of these stays text. `link` says where a link leads, or None, and then its 
 import html
 import re
 
-INLINE = re.compile(r"(`+)(.+?)\1(?!`)|!\[([^\]]*)\]\(([^)\s]+)\)|\[((?:[^\[\]]|\[[^\]]*\])+)\]\(([^)\s]+)\)|\*\*(.+?)\*\*|\*([^*\s][^*]*)\*")
+WORDS = r"(?:[^\[\]]|\[[^\]]*\])"
+INLINE = re.compile(rf"(`+)(.+?)\1(?!`)|!\[({WORDS}*)\]\(([^)\s]+)\)|\[({WORDS}+)\]\(([^)\s]+)\)|\*\*(.+?)\*\*|\*([^*\s][^*]*)\*")
 ITEM = re.compile(r"( *)(-|\d+\.) +(.*)")
 RULE = re.compile(r"\|(?: *:?-+:? *\|)+")
 

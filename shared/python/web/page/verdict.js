@@ -21,7 +21,7 @@ function race(told) {
     const also = more.length ? `, and ${more.length} more pair${more.length === 1 ? '' : 's'}` : '';
     said.push(make('p', { id: 'racing' }, `as in the example of outcome ${grouped(told.racing.number)}: `, ...access(one), ' and ', ...access(other), also));
   } else {
-    said.push(make('p', { id: 'racing' }, told.race === 'yes' ? 'in some execution, which none of these examples has to be' : 'in no execution two accesses are in one'));
+    said.push(make('p', { id: 'racing' }, told.race === 'yes' ? 'some execution has one; it need not be one of these examples' : 'no execution has one'));
   }
   return said;
 }
