@@ -15,7 +15,7 @@ from litmus.program import TOP
 from web.limits import PART, REQUEST, RUNS, SECONDS
 from trying.serving import feigned, litmus, named, served
 
-FILES = ["/", "/page.css", "/page.js", "/ask.js", "/library", "/icon.svg", "/doc/README.md", "/doc/docs/FORMAT.md", "/doc/docs/sb.svg"]
+FILES = ["/", "/base.css", "/page.css", "/document.css", "/page.js", "/ask.js", "/library", "/icon.svg", "/doc/README.md", "/doc/docs/FORMAT.md", "/doc/docs/sb.svg"]
 ABSENT = ["/index.html", "/../page", "/../../../../etc/passwd", "/%2e%2e/answer.py", "/page.js/../../answer.py", "//etc/passwd", "/page.js?x",
           "http://elsewhere/page.js", "/report/", "/picture/../report", "/README.md", "/doc/", "/doc/docs", "/doc/litmus/sb.lit", "/doc/../bin/jslit", "/doc/docs/FORMAT.md?x"]
 

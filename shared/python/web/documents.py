@@ -22,9 +22,10 @@ FRAME = """<!doctype html>
 <meta name="color-scheme" content="light dark">
 <title>{title} - jslit</title>
 <link rel="icon" href="/icon.svg" type="image/svg+xml">
-<link rel="stylesheet" href="/page.css">
+<link rel="stylesheet" href="/base.css">
+<link rel="stylesheet" href="/document.css">
 </head>
-<body class="document">
+<body>
 <nav><a href="/">The page</a> {others}</nav>
 <main>
 {body}

@@ -1,6 +1,6 @@
 // The editor: line numbers beside the text, and the line at fault.
 
-import { byId, make } from './make.js';
+import { byId, make, sentence } from './make.js';
 
 const area = byId('text');
 const numbers = byId('numbers');
@@ -85,7 +85,7 @@ function takeLines(taken) {
 // What is said of one fault, with what can be done about it.
 function told(each, first) {
   const inside = [make('p', {}, make('strong', {}, each.line ? `Line ${each.line}: ` : ''), first ? each.refused : `then ${each.refused}`)];
-  for (const sentence of each.said) inside.push(make('p', {}, sentence));
+  for (const said of each.said) inside.push(make('p', {}, ...sentence(said)));
   const buttons = make('div', { class: 'buttons' });
   if (each.write !== null) {
     inside.push(each.write === '' ? make('p', {}, 'write: nothing in its place') : make('p', {}, 'write: ', make('code', {}, each.write)));

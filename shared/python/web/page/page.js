@@ -3,12 +3,14 @@
 import { TEXT_LIMIT, ask, bytesOf, library, stop } from './ask.js';
 import { addressOf, textOf } from './address.js';
 import { clearFault, goTo, onChange, setText, showRefusal, text } from './editor.js';
-import { byId, grouped, make } from './make.js';
+import { byId, grouped, make, sentence } from './make.js';
 import { showPicture } from './picture.js';
 import { savePng, saveSvg, saveText } from './save.js';
 import { setOutcomes, spoken } from './table.js';
 import { newText } from './turns.js';
 import { linesOf, say, sayStopped, sayVerdict } from './verdict.js';
+
+let tests = new Map();   // the library's, by name
 
 // The text that was run, and the report's part that is shown.
 let asked = '';
@@ -84,7 +86,7 @@ function sayShown(shown) {
 function sayNotes(notes) {
   byId('notes').hidden = notes.length === 0;
   byId('notes').querySelector('ul').replaceChildren(...notes.map(({ line, said }) => make('li', {},
-    make('button', { type: 'button', onclick: () => goTo(line, 0) }, `Line ${line}`), ` ${said}`)));
+    make('button', { type: 'button', onclick: () => goTo(line, 0) }, `Line ${line}`), ' ', ...sentence(said))));
 }
 
 async function saveReport(examples) {
@@ -142,16 +144,16 @@ function takeAddress(otherwise) {
 }
 
 function fillLibrary(groups) {
-  const tests = new Map();
+  const found = new Map();
   for (const group of groups) {
     const options = group.tests.map((test) => {
-      tests.set(test.name, test);
+      found.set(test.name, test);
       return make('option', { value: test.name }, `${test.name}: ${test.shows}`);
     });
     byId('library').append(make('optgroup', { label: group.heading }, ...options));
   }
   byId('library').addEventListener('change', () => {
-    const test = tests.get(byId('library').value);
+    const test = found.get(byId('library').value);
     byId('shows').textContent = test?.shows ?? '';
     byId('why').hidden = !test;
     byId('comment').textContent = test?.comment ?? '';
@@ -160,7 +162,7 @@ function fillLibrary(groups) {
     history.pushState(null, '', addressOf(test.text));
     take(test.text);
   });
-  return tests;
+  return found;
 }
 
 let waiting = 0;
@@ -171,8 +173,20 @@ function keep() {
   history.replaceState(null, '', addressOf(text()));
 }
 
+const nameIn = (value) => /^[ \t\r]*test[ \t\r]+(\w+)/m.exec(value)?.[1];
+
+// What is said of a test of the library goes where the text is that of another one.
+function leaveLibrary() {
+  const test = tests.get(byId('library').value);
+  if (!test || nameIn(test.text) === nameIn(text())) return;
+  byId('library').value = '';
+  byId('shows').textContent = '';
+  byId('why').hidden = true;
+}
+
 onChange(() => {
   changed();
+  leaveLibrary();
   clearTimeout(waiting);
   waiting = setTimeout(keep, 300);
 });
@@ -198,7 +212,7 @@ document.addEventListener('keydown', (event) => {
   }
 });
 window.addEventListener('hashchange', () => takeAddress(text()));
-const tests = fillLibrary(await library());
+tests = fillLibrary(await library());
 takeAddress(tests.get('sb')?.text ?? '');
 keep();
 document.documentElement.dataset.ready = 'yes';
