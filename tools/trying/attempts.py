@@ -245,6 +245,11 @@ SEVERAL = [
     # An if that isn't ended, and what comes behind it.
     ("test t\nbytes 4\nagent A\nr0 = U8[0]\nif r0 == 1 {\nU8[1] = 1\nagent B\nr0 = U8[1];\ncheck A.r0 == 0\n",
      [(7, "4 misplaced", "       agent B"), (8, "3 syntax", "write: r0 = U8[1]")]),
+    ("test t\nbytes 4\nagent A\nr0 = U8[0]\nif r0 == 1 {\nagent B\nr0 = U8[1]\nif r0 == 1 {\ncheck A.r0 == 0 && B.r1 == 0\n",
+     [(6, "4 misplaced", "       agent B"), (9, "4 misplaced", "       check A.r0 == 0 && B.r1 == 0"),
+      (9, "10 unknown_name", "agent B writes only r0: ask for a register that some access reads into")]),
+    ("test t\nbytes 4\nagent A\nr0 = U8[0]\nif r0 == 1 {\nagent B\nr0 = U8[1]\nif r0 == 1 {\n} else {\n} else {\n}\ncheck A.r0 == 0\n",
+     [(6, "4 misplaced", "       agent B"), (10, "4 misplaced", "the `if` on line 8 has an else on line 9 already")]),
     # A fault behind another of the same line.
     ("test t\nbytes 4\nagent A\nI32[1] = 1;\nr0 = U8[0]\ncheck A.r0 == 0\n",
      [(4, "3 syntax", "write: U32[1] = 1"), (4, "9 out_of_block", "here 0 to 0; byte 1 is in U32[0]; with `bytes 8` the line stands")]),

@@ -287,7 +287,7 @@ def faults(page):
     page.click("#run")
     page.until("document.querySelector('#take-all')")
     page.click("#take-all")
-    same(page.value("document.querySelector('#text').value"), "test t\nbytes 1\nagent A\nr0 = U8[0]\nif r0 == 1 {\n}\nagent B\n}\ncheck A.r0 == 0\n")
+    same(page.value("document.querySelector('#text').value"), "test t\nbytes 1\nagent A\nr0 = U8[0]\nif r0 == 1 {\n}\nagent B\n\ncheck A.r0 == 0\n")
 
 
 def noted(page):

@@ -1,6 +1,6 @@
 """All faults of a text, one after the other. The first is the program's. For the next the program is asked of the text in which
 the lines at fault are written as was said; where nothing was said to write, a line stands in for them, and from there on only
-faults are told that a line has by itself."""
+those faults are told that a line has by itself, since another one may come of what stands in."""
 import re
 
 from litmus import forms, limits, refusals
@@ -29,6 +29,14 @@ class Mended:
         self.lines[number - 1:number - 1 + count] = new + [""] * (count - 1)
         self.numbers[number - 1:number - 1 + count] = [own] * len(new) + self.numbers[number:number - 1 + count]
 
+    def renumbered(self, sentence):
+        """A sentence on the lines as they are mended, with the numbers that they have in the text that was given."""
+        def given(found):
+            numbers = [int(number) for number in found[2].split(", ")]
+            known = all(0 < number <= len(self.numbers) for number in numbers)
+            return f"{found[1]} {', '.join(str(self.numbers[number - 1]) for number in numbers)}" if known else found[0]
+        return re.sub(r"\b(lines?) (\d+(?:, \d+)*)", given, sentence)
+
 
 def stand_in(kind, line):
     """A line for one of which nothing is said what to write, so that those after it can be looked at; or None."""
@@ -45,6 +53,11 @@ def stand_in(kind, line):
     return f"{load[1]} = U8[0]" if load else "if r0 == 0 {" if branch else ""
 
 
+def told(text, kind, sentence):
+    """What is said of a fault of this kind; of a line without a form the sentences have the numbers of the given text already."""
+    return sentence if kind == 3 else text.renumbered(sentence)
+
+
 def more(printed, data, asked):
     """The faults after the first, of which the program printed `printed`: pairs of what it prints and the advice, with the
     numbers of lines as the text was given. `asked` gives what the program prints where it refuses a text, or None."""
@@ -57,11 +70,11 @@ def more(printed, data, asked):
         line = text.numbers[number - 1]
         advice = refusals.advice(printed, text.data(), place=Place(text.scene, line))
         if seen and (own or kind in ALONE):
-            yield f"refused {kind} {printed.split()[2]} line {line}", advice._replace(line=line)
+            yield f"refused {kind} {printed.split()[2]} line {line}", advice._replace(line=line, said=[told(text, kind, each) for each in advice.said])
         instead = advice.write if advice.write is not None else stand_in(kind, text.lines[number - 1])
         if instead is None or (number, text.lines[number - 1]) in seen or refusals.foreign(data):
             return
-        own = own and (kind == 2 or advice.write is not None and "\n" not in advice.write)
+        own = own and (kind == 2 or advice.write is not None)
         seen.add((number, text.lines[number - 1]))
         text.put(number, advice.lines, instead)
         printed = asked(text.data())
