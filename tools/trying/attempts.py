@@ -44,6 +44,7 @@ LINES = [
     (2, "// none", "agent", "`bytes N`, the size of the block: it is missing"),
     (3, "agent A:", ":", "write: agent A"),
     (3, "agent A {", "{", "write: agent A"),
+    (3, "agent A { U8[0] = 1 }", "{", "an agent's line ends with its name, and each statement stands on a line of its own"),
     (3, "agent 0", "0", "write: agent _0"),
     (3, "agent", "", "write: agent A"),
     (3, "thread A", "thread", "write: agent A"),
@@ -115,7 +116,8 @@ LINES = [
     (6, "if (r0 === 1) {", "(", "write: if r0 == 1 {"),
     (6, "If r0 == 1 {", "If", "write: if r0 == 1 {"),
     (6, "if (r0 == 1)\n{", "(", "an if is one line, here lines 6 to 7\n  an if has no parentheses\n  write: if r0 == 1 {"),
-    (6, "if (\n  r0 === 1\n) {", "(", "an if is one line, here lines 6 to 8\n  equal is `==`\n  an if has no parentheses\n  write: if r0 == 1 {"),
+    (6, "if (\n  r0 === 1\n) {", "(",
+     "an if is one line, here lines 6 to 8\n  equal is `==`\n  an if has no parentheses\n  write: if r0 == 1 {"),
     (6, "if r0 == 1\n{", "", "an if is one line, here lines 6 to 7\n  write: if r0 == 1 {"),
     (6, "if flag == 1 {", "flag", "an if looks at a register of its agent"),
     (6, "if r0 === 1 {", "=", "write: if r0 == 1 {"),
@@ -144,7 +146,8 @@ LINES = [
     (10, "Atomics.add(U8, 1, 1)", "add", "there is no Atomics.add"),
     (10, "Atomics.wait(U32, 0, 0)", "wait", "no waiting and no waking"),
     (10, "Atomics.exchange(U8, 1, 1)", "exchange", "write: r1 = Atomics.exchange(U8, 1, 1)"),
-    (10, "Atomics.store(U8, 1, Atomics.load(U8, 0))", "Atomics", "first `r1 = Atomics.load(U8, 0)`, and then for each value an `if` with a store of it"),
+    (10, "Atomics.store(U8, 1, Atomics.load(U8, 0))", "Atomics",
+     "first `r1 = Atomics.load(U8, 0)`, and then for each value an `if` with a store of it"),
     (10, "Atomics.store(ta, 1, 1)", "ta", "write: Atomics.store(U8, 1, 1)"),
     (10, "flag = Atomics.load(U8, 1)", "flag", "write: r1 = Atomics.load(U8, 1)"),
     (10, "r9 = Atomics.load(U8, 1)", "r9", "write: r1 = Atomics.load(U8, 1)"),
@@ -257,8 +260,10 @@ SEVERAL = [
     ("test t\nbytes 4 // \u00e9\nagent A\nr0 = U8[0]; // \u00e9\ncheck A.r0 == 0\n",
      [(2, "2 not_ascii", "`\u00e9` (U+00E9) is no ASCII, and may not stand in a comment either"),
       (4, "2 not_ascii", "`\u00e9` (U+00E9) is no ASCII, and may not stand in a comment either"), (4, "3 syntax", "write: r0 = U8[0]")]),
-    ("const sab = new SharedArrayBuffer(4);\nfoo;\nbar;\n", [(1, "3 syntax", "this is JavaScript: keep the accesses alone, under an `agent` line for "
+    ("const sab = new SharedArrayBuffer(4);\nfoo;\nbar;\n",
+     [(1, "3 syntax", "this is JavaScript: keep the accesses alone, under an `agent` line for "
       "each worker, as in docs/FORMAT.md, \"From JavaScript\"")]),
     # No more than twelve.
-    ("test t\nbytes 4\nagent A\n" + "r0 = U8[0];\n" * 20 + "check A.r0 == 0\n", [(n, "3 syntax", "write: r0 = U8[0]") for n in range(4, 16)]),
+    ("test t\nbytes 4\nagent A\n" + "r0 = U8[0];\n" * 20 + "check A.r0 == 0\n",
+     [(n, "3 syntax", "write: r0 = U8[0]") for n in range(4, 16)]),
 ]

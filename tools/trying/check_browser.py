@@ -270,7 +270,8 @@ def named_for_all(page):
 
 def faults(page):
     """All faults of a text are shown, each with its line, and are taken at once."""
-    page.take("Test t\nbytes 8\nagent A {\nta[0] = 1;\n}\nagent B\nflag = Atomics.load(ta, 0)\nif (flag == 1)\n{\ndatum = ta[1]\n}\ncheck datum == 1\n")
+    page.take("Test t\nbytes 8\nagent A {\nta[0] = 1;\n}\nagent B\nflag = Atomics.load(ta, 0)\n"
+              "if (flag == 1)\n{\ndatum = ta[1]\n}\ncheck datum == 1\n")
     page.click("#run")
     page.until("document.querySelector('#take-all')")
     same(page.value("[...document.querySelectorAll('.fault strong')].map((each) => each.innerText)"),
@@ -287,7 +288,7 @@ def faults(page):
     page.click("#run")
     page.until("document.querySelector('#take-all')")
     page.click("#take-all")
-    same(page.value("document.querySelector('#text').value"), "test t\nbytes 1\nagent A\nr0 = U8[0]\nif r0 == 1 {\n}\nagent B\n\ncheck A.r0 == 0\n")
+    same(page.text(), "test t\nbytes 1\nagent A\nr0 = U8[0]\nif r0 == 1 {\n}\nagent B\n\ncheck A.r0 == 0\n")
 
 
 def noted(page):
@@ -318,7 +319,8 @@ def raced(page):
 def folded(page):
     """A test of the library has its comment folded to the first sentence, and the whole of it beside the editor."""
     page.choose("#library", "mp-words")
-    same(page.text().split("\n")[:2], ["// Flag and data as an Int32Array has them, with the data read only where the flag is up.", "test mp_words"])
+    same(page.text().split("\n")[:2],
+         ["// Flag and data as an Int32Array has them, with the data read only where the flag is up.", "test mp_words"])
     same(page.value("document.querySelector('#why').open"), False)
     page.click("#why summary")
     assert page.said("#comment").endswith("all four bytes of the datum come from its store by coherent reads."), page.said("#comment")
@@ -340,14 +342,16 @@ def saved(page):
     with tempfile.TemporaryDirectory() as folder:
         page.ask("Browser.setDownloadBehavior", behavior="allow", downloadPath=folder)
         files = {}
-        for button, name in (("save-all", "mpplain.txt"), ("save-outcomes", "mpplain-outcomes.txt"), ("save-svg", "mpplain-3.svg"), ("save-png", "mpplain-3.png")):
+        for button, name in (("save-all", "mpplain.txt"), ("save-outcomes", "mpplain-outcomes.txt"), ("save-svg", "mpplain-3.svg"),
+                             ("save-png", "mpplain-3.png")):
             page.click(f"#{button}")
             path = pathlib.Path(folder) / name
             wait_for(lambda: path.exists() and path.stat().st_size)
             files[button] = path.read_bytes()
             if page.shots and path.suffix != ".txt":
                 (page.shots / f"saved{path.suffix}").write_bytes(files[button])
-    same(files["save-outcomes"].decode(), "test mpplain\noutcome B.r0=0 B.r1=0\noutcome B.r0=0 B.r1=1\noutcome B.r0=1 B.r1=0\noutcome B.r0=1 B.r1=1\n"
+    same(files["save-outcomes"].decode(), "test mpplain\n"
+         "outcome B.r0=0 B.r1=0\noutcome B.r0=0 B.r1=1\noutcome B.r0=1 B.r1=0\noutcome B.r0=1 B.r1=1\n"
          "outcomes 4\nverdict sometimes\ndata race yes\n")
     same(files["save-all"], subprocess.run([page.server.program, TOP / "litmus" / "mpplain.lit"], capture_output=True, check=True).stdout)
     drawn = xml.dom.minidom.parseString(files["save-svg"])

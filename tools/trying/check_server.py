@@ -15,9 +15,11 @@ from litmus.program import TOP
 from web.limits import PART, REQUEST, RUNS, SECONDS
 from trying.serving import feigned, litmus, named, served
 
-FILES = ["/", "/base.css", "/page.css", "/document.css", "/page.js", "/ask.js", "/library", "/icon.svg", "/doc/README.md", "/doc/docs/FORMAT.md", "/doc/docs/sb.svg"]
+FILES = ["/", "/base.css", "/page.css", "/document.css", "/page.js", "/ask.js", "/library", "/icon.svg",
+         "/doc/README.md", "/doc/docs/FORMAT.md", "/doc/docs/sb.svg"]
 ABSENT = ["/index.html", "/../page", "/../../../../etc/passwd", "/%2e%2e/answer.py", "/page.js/../../answer.py", "//etc/passwd", "/page.js?x",
-          "http://elsewhere/page.js", "/report/", "/picture/../report", "/README.md", "/doc/", "/doc/docs", "/doc/litmus/sb.lit", "/doc/../bin/jslit", "/doc/docs/FORMAT.md?x"]
+          "http://elsewhere/page.js", "/report/", "/picture/../report", "/README.md", "/doc/", "/doc/docs",
+          "/doc/litmus/sb.lit", "/doc/../bin/jslit", "/doc/docs/FORMAT.md?x"]
 
 
 def same(seen, wanted):
@@ -98,7 +100,8 @@ def words_of_requests(server):
     for path in ("/report", "/report?skip=0&skip=1", "/report?skip=0&more=1", "/quick?skip=0", "/schedule", "/schedule?turns=A%00",
                  "/picture?sources=A.0=init[0]", "/text", "/text?examples=with&skip=0"):
         same((path, server.ask("POST", path, litmus("sb").encode())[0]), (path, 400))
-    for kind, given in (("text", {"examples": "some"}), ("report", {"skip": "--help"}), ("report", {"skip": "9" * 5000}), ("report", {"skip": "-1"}),
+    for kind, given in (("text", {"examples": "some"}), ("report", {"skip": "--help"}),
+                        ("report", {"skip": "9" * 5000}), ("report", {"skip": "-1"}),
                         ("picture", {"sources": "x", "order": "y", "outcome": "z"}),
                         ("picture", {"sources": "", "order": "", "outcome": "A.r0=5"})):
         status, answer = server.post(kind, litmus("sb"), **given)
@@ -351,6 +354,6 @@ def large_texts(server):
     assert memory_of(server) < 120_000, f"{memory_of(server)} kB"
 
 
-PROVED = (files, other_paths, other_names, lengths, words_of_requests, many_words, every_test, quick_and_turns, refusals, other_faults, texts,
-          links_of_documents, pictures)
+PROVED = (files, other_paths, other_names, lengths, words_of_requests, many_words, every_test, quick_and_turns, refusals,
+          other_faults, texts, links_of_documents, pictures)
 FEIGNED = (thirty_at_once, connections, slow_clients, one_who_leaves, a_large_report, a_long_text, a_program_that_fails, large_texts)

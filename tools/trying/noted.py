@@ -40,8 +40,10 @@ TEXTS = [
      [(8, "nothing before reads into r1, which is 0 here: `r1 == 0` always holds")]),
     (mp("if r0 == 1 {", "r1 = U8[0]", "}", "if r1 == 1 {", "r2 = U8[0]", "}", check="B.r0 == 1 && B.r2 == 1"), []),
     # A comparison with what nobody can have read.
-    (mp("if r0 == 2 {", "r1 = U8[0]", "}", check="B.r0 == 1 && B.r1 == 1"), [(8, "nothing before can read 2 into r0: `r0 == 2` never holds")]),
-    (mp("if r0 != 2 {", "r1 = U8[0]", "}", check="B.r0 == 1 && B.r1 == 1"), [(8, "nothing before can read 2 into r0: `r0 != 2` always holds")]),
+    (mp("if r0 == 2 {", "r1 = U8[0]", "}", check="B.r0 == 1 && B.r1 == 1"),
+     [(8, "nothing before can read 2 into r0: `r0 == 2` never holds")]),
+    (mp("if r0 != 2 {", "r1 = U8[0]", "}", check="B.r0 == 1 && B.r1 == 1"),
+     [(8, "nothing before can read 2 into r0: `r0 != 2` always holds")]),
     (mp(check="B.r0 == 7"), [(8, "B can't read 7 into r0: `B.r0 == 7` never holds")]),
     (mp(check="B.r0 != 256"), [(8, "B can't read 256 into r0: `B.r0 != 256` always holds")]),
     (mp(check="B.r0 == 1 || B.r0 == 7 || !(B.r0 == 7)"), [(8, "B can't read 7 into r0: `B.r0 == 7` never holds")]),
@@ -51,7 +53,8 @@ TEXTS = [
     (two("r0 = U8[0]", "U8[0] = 5", second=["r0 = U8[0]"], check="A.r0 == 5 && B.r0 == 5"),
      [(8, "A can't read 5 into r0: `A.r0 == 5` never holds")]),
     (two("U8[0] = 5", "r0 = U8[0]", second=["r0 = U8[0]"], check="A.r0 == 5 && B.r0 == 5"), []),
-    (two("r0 = Atomics.exchange(U8, 0, 5)", second=["r0 = U8[0]"], check="A.r0 == 5"), [(7, "A can't read 5 into r0: `A.r0 == 5` never holds")]),
+    (two("r0 = Atomics.exchange(U8, 0, 5)", second=["r0 = U8[0]"], check="A.r0 == 5"),
+     [(7, "A can't read 5 into r0: `A.r0 == 5` never holds")]),
     (two("U8[0] = 5", second=["r0 = Atomics.compareExchange(U8, 0, 6, 7)"], check="B.r0 == 5"),
      [(6, "6 can't be read here: this compareExchange never stores")]),
     (two("U8[0] = 5", second=["r0 = Atomics.compareExchange(U8, 0, 0, 7)"], check="B.r0 == 5"), []),
@@ -62,7 +65,8 @@ TEXTS = [
     (mp(*GUARD, check="B.r0 == 1 && B.r1 == 0"), []),
     (mp(*GUARD, check="!(B.r0 != 1 || B.r1 != 0)"), []),
     (mp(*GUARD, check="!(B.r0 == 1 && B.r1 == 0)"), []),
-    (mp(*GUARD, check="B.r0 == 0 && B.r1 == 0"), [(11, "where line 9 isn't reached, nothing reads into B.r1: it is 0 there, and `B.r1 == 0` holds")]),
+    (mp(*GUARD, check="B.r0 == 0 && B.r1 == 0"),
+     [(11, "where line 9 isn't reached, nothing reads into B.r1: it is 0 there, and `B.r1 == 0` holds")]),
     (mp(*GUARD[:2], "} else {", "r1 = U8[2]", "}", check="B.r1 == 0"), []),
     (mp(*GUARD[:2], "} else {", "r2 = U8[2]", "}", check="B.r0 == 0 && B.r2 == 0"), []),
     (mp(*GUARD, "if r0 == 1 {", "r1 = U8[2]", "}", check="B.r1 == 0"),
@@ -81,7 +85,8 @@ TEXTS = [
     (two("U16[0] = 257", second=["r0 = DV.getUint16(0, true)"], check="B.r0 == 257"), []),
     # Several at once, in the order of their lines.
     (mp("if r1 == 0 {", "r2 = U8[0]", "}", check="B.r0 == 9 && B.r2 == 1"),
-     [(8, "nothing before reads into r1, which is 0 here: `r1 == 0` always holds"), (11, "B can't read 9 into r0: `B.r0 == 9` never holds")]),
+     [(8, "nothing before reads into r1, which is 0 here: `r1 == 0` always holds"),
+      (11, "B can't read 9 into r0: `B.r0 == 9` never holds")]),
 ]
 
 LITMUS = {

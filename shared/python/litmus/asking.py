@@ -23,7 +23,8 @@ def spelled(scene):
     return [
         (r"^(?:~\s*exists|never|forbidden)\b\s*:?\s*", "check ", "the question is `check`; herd7's ~exists is the verdict never"),
         (r"^(?:forall|always|assert)\b\s*:?\s*", "check ", "the question is `check`; herd7's forall is the verdict always"),
-        (r"^(?:exists|sometimes|condition|final|expect|assert|Check|CHECK|allowed)\b\s*:?\s*|^check\s*:\s*", "check ", "the question is `check`"),
+        (r"^(?:exists|sometimes|condition|final|expect|assert|Check|CHECK|allowed)\b\s*:?\s*|^check\s*:\s*", "check ",
+         "the question is `check`"),
         (r"\s*/\\\s*", " && ", "and is `&&`"), (r"\s*\\/\s*", " || ", "or is `||`"),
         (r"\band\b", "&&", "and is `&&`"), (r"\bor\b", "||", "or is `||`"), (r"\bnot\b|~", "!", "not is `!`"),
         (r"(?<!&)&(?!&)", "&&", "and is `&&`"), (r"(?<!\|)\|(?!\|)", "||", "or is `||`"),
@@ -44,8 +45,10 @@ def rules(place):
          "what memory holds at the end can't be asked: load it into a register of an agent, and ask for that"),
         (r"(?<![.\w])r[0-7]\b", None, f"registers are named with their agent, as {' or '.join(asked[:3])}"),
         (r"(?<![.\w])(?!check\b)[A-Za-z_]\w*\b(?!\s*[.\[(])", None,
-         f"registers are named with their agent, as {' or '.join(asked[:3])}; a name alone is none, and what memory holds at the end can't be asked"),
-        (r"\w+\.r\d\s*(?:==|!=)\s*\w+\.r\d", None, "a register is compared with a number: `A.r0 == 0 && B.r0 == 0 || A.r0 == 1 && B.r0 == 1`"),
+         f"registers are named with their agent, as {' or '.join(asked[:3])}; "
+         "a name alone is none, and what memory holds at the end can't be asked"),
+        (r"\w+\.r\d\s*(?:==|!=)\s*\w+\.r\d", None,
+         "a register is compared with a number: `A.r0 == 0 && B.r0 == 0 || A.r0 == 1 && B.r0 == 1`"),
         (r"[<>]", None, "comparisons are `==` and `!=` alone"),
         (r"(\w+\.r\d)(?!\s*[=!]=)(?=\s*(?:$|&&|\|\||\)))", r"\1 != 0", "a register is compared with a number"),
         (r"^check\s*$", f"check {asked[-1]} == 0", "`check` needs a condition"),

@@ -70,7 +70,8 @@ def more(printed, data, asked):
         line = text.numbers[number - 1]
         advice = refusals.advice(printed, text.data(), place=Place(text.scene, line))
         if seen and (own or kind in ALONE):
-            yield f"refused {kind} {printed.split()[2]} line {line}", advice._replace(line=line, said=[told(text, kind, each) for each in advice.said])
+            said = [told(text, kind, each) for each in advice.said]
+            yield f"refused {kind} {printed.split()[2]} line {line}", advice._replace(line=line, said=said)
         instead = advice.write if advice.write is not None else stand_in(kind, text.lines[number - 1])
         if instead is None or (number, text.lines[number - 1]) in seen or refusals.foreign(data):
             return

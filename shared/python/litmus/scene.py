@@ -5,7 +5,8 @@ import re
 from litmus import forms, limits
 
 HEAD = re.compile(r"^\s*(?:(?:agent|thread|worker|process|proc|cpu)\s+(\w+)|P(\d+)\b)", re.I)
-QUESTION = re.compile(r"^(?:~\s*exists|exists|forall|never|always|sometimes|assert|expect|condition|final|check|Check|CHECK|allowed|forbidden)\b")
+QUESTION = re.compile(r"^(?:~\s*exists|exists|forall|never|always|sometimes|assert|expect|condition|final|check|Check|CHECK|allowed"
+                      r"|forbidden)\b")
 REGISTER = re.compile(r"r[0-7]")
 READ_INTO = re.compile(r"^\s*(?:(?:let|const|var|int|auto)\s+)?(r[0-7])\s*(?:=(?!=)|:=|<-)")
 VIEW = re.compile(r"\b(?:U|I|Uint|Int|u|i)(8|16|32)(?:Array)?\b")

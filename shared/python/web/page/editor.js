@@ -93,7 +93,8 @@ function told(each, first) {
       each.write === '' ? 'Leave this line out' : 'Take this line'));
   }
   if (each.line) {
-    buttons.append(make('button', { type: 'button', id: first ? 'go' : null, onclick: () => goTo(each.line, each.column) }, `Go to line ${each.line}`));
+    const go = () => goTo(each.line, each.column);
+    buttons.append(make('button', { type: 'button', id: first ? 'go' : null, onclick: go }, `Go to line ${each.line}`));
   }
   return make('div', { class: 'fault' }, ...inside, buttons);
 }

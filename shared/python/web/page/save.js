@@ -3,7 +3,8 @@
 import { byId, make } from './make.js';
 
 const LARGER = 2;   // dots of a PNG for one of the picture
-const KEPT = ['fill', 'stroke', 'stroke-width', 'stroke-dasharray', 'rx', 'font-family', 'font-size', 'font-weight', 'text-anchor', 'dominant-baseline'];
+const KEPT = ['fill', 'stroke', 'stroke-width', 'stroke-dasharray', 'rx',
+  'font-family', 'font-size', 'font-weight', 'text-anchor', 'dominant-baseline'];
 
 export function saveBlob(name, blob) {
   const address = URL.createObjectURL(blob);
@@ -60,7 +61,10 @@ function paint(brush, shape) {
     return;
   }
   const way = new Path2D(shape.localName === 'path' ? given('d') : undefined);
-  if (shape.localName === 'rect') way.roundRect(...['x', 'y', 'width', 'height'].map((name) => Number(given(name))), parseFloat(given('rx')) || 0);
+  if (shape.localName === 'rect') {
+    const [x, y, width, height] = ['x', 'y', 'width', 'height'].map((name) => Number(given(name)));
+    way.roundRect(x, y, width, height, parseFloat(given('rx')) || 0);
+  }
   if (drawn(given('fill'))) brush.fill(way);
   brush.stroke(way);
 }
