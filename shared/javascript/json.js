@@ -86,28 +86,71 @@ function checked(document) {
   return document;
 }
 
-// Gives each part of the report whose JSON a stream holds, and waits for `after` after each piece of it.
-async function readJson(stream, give, after) {
-  const waiting = [];
-  let begun = null;
-  const begin = (document) => {
-    begun = checked(document);
-    give({ begins: { test: begun.test, registers: begun.registers } });
-  };
-  const opened = (text) => {
-    const head = parse(text, 'the beginning');
-    if (head.version !== undefined && head.test !== undefined && head.registers !== undefined) begin(head);
-  };
-  const cutter = new Cutter(opened, (outcome) => (begun ? give({ outcome }) : waiting.push(outcome)));
-  for await (const chunk of stream) {
-    cutter.feed(chunk.toString('latin1'));
-    await after();
+// Gives each part of the report whose JSON it is fed.
+class JsonReader {
+  constructor(give) {
+    this.give = give;
+    this.waiting = [];
+    this.begun = null;
+    this.cutter = new Cutter((text) => this.opened(text), (outcome) => this.outcome(outcome));
   }
-  const document = checked(parse(cutter.outside, 'the text'));
-  if (document.kind !== 'report') return give({ all: document });
-  if (!begun) begin(document);
-  for (const outcome of waiting) give({ outcome });
-  return give({ ends: document });
+
+  begin(document) {
+    this.begun = checked(document);
+    this.give({ begins: { test: this.begun.test, registers: this.begun.registers } });
+  }
+
+  opened(text) {
+    const head = parse(text, 'the beginning');
+    if (head.version !== undefined && head.test !== undefined && head.registers !== undefined) this.begin(head);
+  }
+
+  outcome(outcome) {
+    if (this.begun) this.give({ outcome });
+    else this.waiting.push(outcome);
+  }
+
+  feed(text) {
+    this.cutter.feed(text);
+  }
+
+  end() {
+    const document = checked(parse(this.cutter.outside, 'the text'));
+    if (document.kind !== 'report') return this.give({ all: document });
+    if (!this.begun) this.begin(document);
+    for (const outcome of this.waiting) this.give({ outcome });
+    return this.give({ ends: document });
+  }
 }
 
-module.exports = { readJson };
+// Gives each part of the report whose JSON a stream holds, and waits for `after` after each piece of it.
+async function readJson(stream, give, after) {
+  const reader = new JsonReader(give);
+  for await (const chunk of stream) {
+    reader.feed(chunk.toString('latin1'));
+    await after();
+  }
+  reader.end();
+}
+
+// The same of a JSON text on each line; `begin` is called for each, and returns what its parts are given to.
+async function readJsonLines(stream, begin, after) {
+  let reader = null;
+  for await (const chunk of stream) {
+    const [first, ...others] = chunk.toString('latin1').split('\n');
+    for (const [place, text] of [first, ...others].entries()) {
+      if (place > 0 && reader) {
+        reader.end();
+        reader = null;
+      }
+      if (text !== '') {
+        reader ??= new JsonReader(begin());
+        reader.feed(text);
+        await after();
+      }
+    }
+  }
+  if (reader) reader.end();
+}
+
+module.exports = { readJson, readJsonLines };

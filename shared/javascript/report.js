@@ -142,17 +142,22 @@ class ReportReader {
   }
 }
 
+// What is no ASCII in a JSON text, as in a file's name, by its number.
+const ascii = (text) => text.replace(/[^\0-\x7f]/g, (sign) => `\\u${sign.charCodeAt(0).toString(16).padStart(4, '0')}`);
+
 const inside = (record) => JSON.stringify(record).slice(1, -1);
 
-// The JSON of a report: what each part adds to it, an outcome on a line of its own.
-function jsonWriter() {
-  let separator = '\n';
+// The JSON of a report: what each part adds to it. An outcome stands on a line of its own, or the whole on one line.
+function jsonWriter(onOneLine = false, file = undefined) {
+  const end = onOneLine ? '' : '\n';
+  const head = inside({ version: FORM, jslit: VERSION, ...(file === undefined ? {} : { file }) });
+  let separator = end;
   return (part) => {
-    if (part.all) return `${JSON.stringify({ version: FORM, jslit: VERSION, ...part.all })}\n`;
-    if (part.begins) return `{"version":${FORM},"jslit":"${VERSION}",${inside(part.begins)},"outcomes":[`;
-    if (part.ends) return `\n],${inside(part.ends)}}\n`;
+    if (part.all) return ascii(`{${head},${inside(part.all)}}\n`);
+    if (part.begins) return ascii(`{${head},${inside(part.begins)},"outcomes":[`);
+    if (part.ends) return `${end}],${inside(part.ends)}}\n`;
     const text = separator + JSON.stringify(part.outcome);
-    separator = ',\n';
+    separator = `,${end}`;
     return text;
   };
 }
@@ -206,4 +211,19 @@ async function readReport(stream, give, after) {
   reader.line(null);
 }
 
-module.exports = { FORM, ReportReader, jsonWriter, linesOf, readReport };
+// The same of several reports, one after the other; `begin` is called for each, and returns what its parts are given to. No line
+// but its first begins as that does.
+async function readReports(stream, begin, after) {
+  let reader = new ReportReader(begin());
+  await eachLine(stream, (line) => {
+    if (reader.number > 0 && /^(?:test|refused) /.test(line)) {
+      reader.line(null);
+      reader = new ReportReader(begin());
+    }
+    reader.line(line);
+    return after();
+  });
+  reader.line(null);
+}
+
+module.exports = { FORM, ReportReader, jsonWriter, linesOf, readReport, readReports };

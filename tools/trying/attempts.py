@@ -1,5 +1,6 @@
 """First attempts at a text, each with what bin/jslit-explain has to say: a line in place of one of BASE, the token at the caret
-('' where something is missing at the end), and words of the advice. WHOLE has whole texts, with the line at fault."""
+('' where something is missing at the end), and words of the advice. WHOLE has whole texts, with the line at fault. SEVERAL has
+texts with all their faults: of each the line, what the program says of it, and the last thing that is said."""
 from litmus import limits
 
 BASE = """test t
@@ -22,6 +23,7 @@ LINES = [
     (1, "test 2+2w", "2", "write: test _2_2w"),
     (1, 'test "sb"', '"', "write: test sb"),
     (1, "test: sb", ":", "write: test sb"),
+    (1, "Test sb", "Test", "`test` has small letters\n  write: test sb"),
     (1, "name: sb", "name", "write: test sb"),
     (1, "test", "", "write: test mine"),
     (1, "test " + "x" * 33, "x", "at most 32"),
@@ -42,6 +44,7 @@ LINES = [
     (2, "// none", "agent", "`bytes N`, the size of the block: it is missing"),
     (3, "agent A:", ":", "write: agent A"),
     (3, "agent A {", "{", "write: agent A"),
+    (3, "agent A { U8[0] = 1 }", "{", "an agent's line ends with its name, and each statement stands on a line of its own"),
     (3, "agent 0", "0", "write: agent _0"),
     (3, "agent", "", "write: agent A"),
     (3, "thread A", "thread", "write: agent A"),
@@ -91,6 +94,9 @@ LINES = [
     (4, "U8[-1] = 1", "-", "an index counts from 0"),
     (4, "for (let i = 0; i < 3; i++) {", "for", "there are no loops"),
     (5, "r0 = mem[1]", "mem", "write: r0 = U8[1]"),
+    (5, "flag = U8[1]", "flag", "write: r0 = U8[1]"),
+    (4, "U8[0] = Atomics.load(U8, 1)", "Atomics", "first `r2 = Atomics.load(U8, 1)`, and then for each value an `if` with a store of it"),
+    (4, "ta[0] = 1", "ta", "write: U8[0] = 1"),
     (5, "r0 = Atomics.load(0)", "0", "write: r0 = Atomics.load(U8, 0)"),
     (5, "print r0", "print", "nothing is printed"),
     (5, "let r0 = U8[1]", "let", "write: r0 = U8[1]"),
@@ -108,6 +114,12 @@ LINES = [
     (5, "r0 = DV[0]", "[", "a DataView is used by its calls"),
     (6, "if (r0 == 1) {", "(", "write: if r0 == 1 {"),
     (6, "if (r0 === 1) {", "(", "write: if r0 == 1 {"),
+    (6, "If r0 == 1 {", "If", "write: if r0 == 1 {"),
+    (6, "if (r0 == 1)\n{", "(", "an if is one line, here lines 6 to 7\n  an if has no parentheses\n  write: if r0 == 1 {"),
+    (6, "if (\n  r0 === 1\n) {", "(",
+     "an if is one line, here lines 6 to 8\n  equal is `==`\n  an if has no parentheses\n  write: if r0 == 1 {"),
+    (6, "if r0 == 1\n{", "", "an if is one line, here lines 6 to 7\n  write: if r0 == 1 {"),
+    (6, "if flag == 1 {", "flag", "an if looks at a register of its agent"),
     (6, "if r0 === 1 {", "=", "write: if r0 == 1 {"),
     (6, "if r0 !== 1 {", "=", "write: if r0 != 1 {"),
     (6, "if r0 == 1", "", "write: if r0 == 1 {"),
@@ -133,7 +145,17 @@ LINES = [
     (10, "r1 = Atomics.store(U8, 1, 1)", "store", "write: Atomics.store(U8, 1, 1)"),
     (10, "Atomics.add(U8, 1, 1)", "add", "there is no Atomics.add"),
     (10, "Atomics.wait(U32, 0, 0)", "wait", "no waiting and no waking"),
-    (10, "Atomics.exchange(U8, 1, 1)", "exchange", "write: r0 = Atomics.exchange(U8, 1, 1)"),
+    (10, "Atomics.exchange(U8, 1, 1)", "exchange", "write: r1 = Atomics.exchange(U8, 1, 1)"),
+    (10, "Atomics.store(U8, 1, Atomics.load(U8, 0))", "Atomics",
+     "first `r1 = Atomics.load(U8, 0)`, and then for each value an `if` with a store of it"),
+    (10, "Atomics.store(ta, 1, 1)", "ta", "write: Atomics.store(U8, 1, 1)"),
+    (10, "flag = Atomics.load(U8, 1)", "flag", "write: r1 = Atomics.load(U8, 1)"),
+    (10, "r9 = Atomics.load(U8, 1)", "r9", "write: r1 = Atomics.load(U8, 1)"),
+    (10, "r0 = U64[0]", "U64", "there are no floating and no 64-bit arrays"),
+    (10, "r0 = BigUint64Array[0]", "BigUint64Array", "there are no floating and no 64-bit arrays"),
+    (10, "BigInt64Array[0] = 1n", "BigInt64Array", "there are no floating and no 64-bit arrays"),
+    (10, "r0 = Atomics.load(BigInt64Array, 0)", "BigInt64Array", "there are no floating and no 64-bit arrays"),
+    (10, "{", "{", "an agent's statements have no braces: they follow its line, up to the next agent\n  write: nothing in its place"),
     (11, "Atomics.load(U8, 0)", "load", "write: r0 = Atomics.load(U8, 0)"),
     (11, "r0 = Atomics.load(U8[0])", "[", "write: r0 = Atomics.load(U8, 0)"),
     (11, "r0 = Atomics.cas(U8, 0, 0, 1)", "cas", "write: r0 = Atomics.compareExchange(U8, 0, 0, 1)"),
@@ -146,6 +168,9 @@ LINES = [
     (12, "check A.r0 == 0 and B.r0 == 0", "and", "write: check A.r0 == 0 && B.r0 == 0"),
     (12, "check A:r0 == 0", ":", "write: check A.r0 == 0"),
     (12, "check r0 == 0", "==", "registers are named with their agent"),
+    (12, "check r1 == 0", "==", "write: check A.r1 == 0"),
+    (12, "check flag == 0", "==", "registers are named with their agent, as A.r0 or B.r0; a name alone is none"),
+    (12, "check x == 1 && B.r0 == 0", "==", "and what memory holds at the end can't be asked"),
     (12, "check A.r0", "", "write: check A.r0 != 0"),
     (12, "check A.r0 == B.r0", "B", "a register is compared with a number"),
     (12, "check A.r0 < 1", "<", "comparisons are `==` and `!=` alone"),
@@ -183,4 +208,62 @@ WHOLE = [
      "A: line 4, `r0 = U32[0]`, 4 * 4 * 4 * 4 = 256 ways"),
     ("test t\nbytes 4\n" + A + "r0 = U32[0]\n" * 7 + "agent B\nU32[0] = 1\nU32[0] = 2\nU32[0] = 3\ncheck A.r0 == 0\n", None,
      "all accesses are of one size: a test of words whose accesses are all atomic or of one size often fits with `U8`"),
+]
+
+SLOPPY = """Test mp
+bytes 8
+agent producer {
+  ta[0] = 42;
+  Atomics.store(ta, 1, 1);
+}
+agent consumer {
+  const flag = Atomics.load(ta, 1);
+  if (flag === 1)
+  {
+    const datum = ta[0];
+  }
+}
+check flag === 1 && datum !== 42
+"""
+SEVERAL = [
+    ("test mp\nbytes 8\nagent P\nU32[0] = 42\nAtomics.store(U32, 1, 1)\nagent C\nflag = Atomics.load(U32, 1)\nif flag == 1 {\n"
+     "datum = U32[0]\n}\ncheck flag == 1 && datum != 42\n",
+     [(7, "3 syntax", "write: r0 = Atomics.load(U32, 1)"), (8, "3 syntax", "write: if r0 == 1 {"), (9, "3 syntax", "write: r1 = U32[0]"),
+      (11, "3 syntax", "write: check C.r0 == 1 && C.r1 != 42")]),
+    (SLOPPY, [(1, "3 syntax", "write: test mp"), (3, "3 syntax", "write: agent producer"), (4, "3 syntax", "write: U32[0] = 42"),
+              (5, "3 syntax", "write: Atomics.store(U32, 1, 1)"), (6, "4 misplaced", "write: nothing in its place"),
+              (7, "3 syntax", "write: agent consumer"), (8, "3 syntax", "write: r0 = Atomics.load(U32, 1)"),
+              (9, "3 syntax", "write: if r0 == 1 {"), (11, "3 syntax", "write: r1 = U32[0]"),
+              (13, "4 misplaced", "write: nothing in its place"), (14, "3 syntax", "write: check consumer.r0 == 1 && consumer.r1 != 42")]),
+    # Two loads without a register, and one that stands: each gets its own.
+    ("test t\nbytes 4\nagent A\nU8[0]\nAtomics.load(U8, 1)\nr0 = U8[2]\ncheck A.r0 == 0\n",
+     [(4, "3 syntax", "write: r1 = U8[0]"), (5, "3 syntax", "write: r2 = Atomics.load(U8, 1)")]),
+    # All eight registers are used.
+    ("test t\nbytes 4\nagent A\n" + "".join(f"r{n} = U8[0]\n" for n in range(limits.REGISTERS)) + "U8[1]\ncheck A.r0 == 0\n",
+     [(12, "3 syntax", "what is read goes to a register, always, and this agent uses all eight: let one of them go")]),
+    # A line for which there is nothing to write: what follows of its own is told, and nothing that might come of it.
+    ("test t\nbytes 4\nagent A\nwhile r0 == 0 {\nr0 = U8[0];\n}\nU8[1] = 256\nagent B\ncheck A.r1 == 0\n",
+     [(4, "3 syntax", "there are no loops: write the turns out, one in the `if` of the other"), (5, "3 syntax", "write: r0 = U8[0]"),
+      (7, "8 literal_range", "the greatest number here is 255; 256 modulo 256 is 0; U16 takes more")]),
+    # An if that isn't ended, and what comes behind it.
+    ("test t\nbytes 4\nagent A\nr0 = U8[0]\nif r0 == 1 {\nU8[1] = 1\nagent B\nr0 = U8[1];\ncheck A.r0 == 0\n",
+     [(7, "4 misplaced", "       agent B"), (8, "3 syntax", "write: r0 = U8[1]")]),
+    ("test t\nbytes 4\nagent A\nr0 = U8[0]\nif r0 == 1 {\nagent B\nr0 = U8[1]\nif r0 == 1 {\ncheck A.r0 == 0 && B.r1 == 0\n",
+     [(6, "4 misplaced", "       agent B"), (9, "4 misplaced", "       check A.r0 == 0 && B.r1 == 0"),
+      (9, "10 unknown_name", "agent B writes only r0: ask for a register that some access reads into")]),
+    ("test t\nbytes 4\nagent A\nr0 = U8[0]\nif r0 == 1 {\nagent B\nr0 = U8[1]\nif r0 == 1 {\n} else {\n} else {\n}\ncheck A.r0 == 0\n",
+     [(6, "4 misplaced", "       agent B"), (10, "4 misplaced", "the `if` on line 8 has an else on line 9 already")]),
+    # A fault behind another of the same line.
+    ("test t\nbytes 4\nagent A\nI32[1] = 1;\nr0 = U8[0]\ncheck A.r0 == 0\n",
+     [(4, "3 syntax", "write: U32[1] = 1"), (4, "9 out_of_block", "here 0 to 0; byte 1 is in U32[0]; with `bytes 8` the line stands")]),
+    # A comment alone is no ASCII, and a text that isn't one of this format has one fault.
+    ("test t\nbytes 4 // \u00e9\nagent A\nr0 = U8[0]; // \u00e9\ncheck A.r0 == 0\n",
+     [(2, "2 not_ascii", "`\u00e9` (U+00E9) is no ASCII, and may not stand in a comment either"),
+      (4, "2 not_ascii", "`\u00e9` (U+00E9) is no ASCII, and may not stand in a comment either"), (4, "3 syntax", "write: r0 = U8[0]")]),
+    ("const sab = new SharedArrayBuffer(4);\nfoo;\nbar;\n",
+     [(1, "3 syntax", "this is JavaScript: keep the accesses alone, under an `agent` line for "
+      "each worker, as in docs/FORMAT.md, \"From JavaScript\"")]),
+    # No more than twelve.
+    ("test t\nbytes 4\nagent A\n" + "r0 = U8[0];\n" * 20 + "check A.r0 == 0\n",
+     [(n, "3 syntax", "write: r0 = U8[0]" if n < 15 else "these are the first 12 faults; there may be more") for n in range(4, 16)]),
 ]

@@ -4,6 +4,7 @@ import json
 import urllib.parse
 
 from trying.browser import Browser
+from trying.check_saved import documents, saved
 from trying.check_server import children, same, wait_for
 from trying.serving import feigned, litmus, named, served
 
@@ -35,6 +36,17 @@ class Page(Browser):
     def run(self):
         self.click("#run")
         self.until(TOLD)
+
+    def drawn(self):
+        self.until(DRAWN)
+
+    def text(self):
+        return self.value("document.querySelector('#text').value")
+
+    def open_link(self, selector):
+        self.value("document.documentElement.dataset.left = 'yes'")
+        self.click(selector)
+        self.until("!document.documentElement.dataset.left && document.readyState === 'complete'")
 
     def said(self, selector):
         return self.value(f"document.querySelector({json.dumps(selector)}).innerText")
@@ -217,7 +229,7 @@ def by_keyboard(page):
     page.until(DRAWN)
     same(page.said("#example-title"), "Outcome 2: C.r0=1")
     same(focused(page), "2")
-    for name in ("fit", "picture", "lines"):
+    for name in ("save-all", "save-outcomes", "fit", "save-svg", "save-png", "picture", "lines"):
         page.key("Tab")
         same(focused(page), name)
 
@@ -251,6 +263,69 @@ def named_for_all(page):
             assert node.get("name", {}).get("value"), node
     same(page.value("document.querySelector('#verdict').getAttribute('aria-live')"), "polite")
     same(page.value("document.querySelectorAll('h1').length + document.documentElement.lang"), "1en")
+
+
+def faults(page):
+    """All faults of a text are shown, each with its line, and are taken at once."""
+    page.take("Test t\nbytes 8\nagent A {\nta[0] = 1;\n}\nagent B\nflag = Atomics.load(ta, 0)\n"
+              "if (flag == 1)\n{\ndatum = ta[1]\n}\ncheck datum == 1\n")
+    page.click("#run")
+    page.until("document.querySelector('#take-all')")
+    same(page.value("[...document.querySelectorAll('.fault strong')].map((each) => each.innerText)"),
+         [f"Line {n}: " for n in (1, 3, 4, 5, 7, 8, 10, 12)])
+    same([line for line in page.said("#numbers").split("\n") if "\u25b6" in line], [f"\u25b6 {n}" for n in (1, 3, 4, 5, 7, 8, 10, 12)])
+    same(page.said("#take-all"), "Take these 8 lines")
+    page.picture("faults")
+    page.click("#take-all")
+    same(page.value("document.querySelector('#text').value"), "test t\nbytes 8\nagent A\nU32[0] = 1\n\nagent B\nr0 = Atomics.load(U32, 0)\n"
+         "if r0 == 1 {\n\nr1 = U32[1]\n}\ncheck B.r1 == 1\n")
+    page.run()
+    same(page.said("#verdict strong"), "t: verdict never")
+    page.take("test t\nbytes 1\nagent A\nr0 = U8[0]\nif r0 == 1 {\nagent B\n}\ncheck A.r0 == 0;\n")
+    page.click("#run")
+    page.until("document.querySelector('#take-all')")
+    page.click("#take-all")
+    same(page.text(), "test t\nbytes 1\nagent A\nr0 = U8[0]\nif r0 == 1 {\n}\nagent B\n\ncheck A.r0 == 0\n")
+
+
+def noted(page):
+    page.choose("#library", "corw")
+    page.run()
+    same(page.said("#notes li"), "Line 7 A can't read 1 into r0: A.r0 == 1 never holds")
+    page.click("#notes button")
+    same(page.value("document.activeElement.id"), "text")
+    page.picture("notes")
+    page.choose("#library", "sb")
+    page.run()
+    same(page.value("document.querySelector('#notes').hidden"), True)
+
+
+def raced(page):
+    """The verdict's box says whether there is a data race, and which accesses are in one."""
+    page.take(litmus("mpplain"))
+    page.run()
+    same(page.said("#race"), "data race yes")
+    same(page.said("#racing"), "as in the example of outcome 2: U8[0] = 1 (A.0, line 7) and r1 = U8[0] (B.1, line 11)")
+    page.take(litmus("sb"))
+    page.run()
+    same(page.said("#racing"), "no execution has one")
+    page.click("#quick")
+    page.until("document.querySelector('#verdict').innerText.includes('doesn\u2019t say whether there is a data race')")
+
+
+def folded(page):
+    """A test of the library has its comment folded to the first sentence, and the whole of it beside the editor."""
+    page.choose("#library", "mp-words")
+    same(page.text().split("\n")[:2],
+         ["// Flag and data as an Int32Array has them, with the data read only where the flag is up.", "test mp_words"])
+    same(page.value("document.querySelector('#why').open"), False)
+    page.click("#why summary")
+    assert page.said("#comment").endswith("all four bytes of the datum come from its store by coherent reads."), page.said("#comment")
+    page.run()
+    same(page.said("#verdict strong"), "mp_words: verdict never")
+    page.click("#syntax summary")
+    assert "r0 = Atomics.load(U32, 1)" in page.said("#syntax")
+    page.picture("syntax")
 
 
 def long_run(page):
@@ -293,5 +368,6 @@ def without_server(page):
     page.events.clear()
 
 
-PROVED = (store_buffering, tearing, sorted_and_filtered, refused, quick, turns, linked, by_keyboard, narrow_and_dark, named_for_all)
+PROVED = (store_buffering, tearing, sorted_and_filtered, refused, quick, turns, linked, by_keyboard, narrow_and_dark, named_for_all, faults,
+          noted, raced, folded, saved, documents)
 FEIGNED = (long_run, large, without_server)

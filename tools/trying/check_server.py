@@ -4,6 +4,7 @@ import functools
 import http.client
 import json
 import pathlib
+import re
 import socket
 import subprocess
 import threading
@@ -14,9 +15,11 @@ from litmus.program import TOP
 from web.limits import PART, REQUEST, RUNS, SECONDS
 from trying.serving import feigned, litmus, named, served
 
-FILES = ["/", "/page.css", "/page.js", "/ask.js", "/library", "/icon.svg"]
+FILES = ["/", "/base.css", "/page.css", "/document.css", "/page.js", "/ask.js", "/library", "/icon.svg",
+         "/doc/README.md", "/doc/docs/FORMAT.md", "/doc/docs/sb.svg"]
 ABSENT = ["/index.html", "/../page", "/../../../../etc/passwd", "/%2e%2e/answer.py", "/page.js/../../answer.py", "//etc/passwd", "/page.js?x",
-          "http://elsewhere/page.js", "/report/", "/picture/../report"]
+          "http://elsewhere/page.js", "/report/", "/picture/../report", "/README.md", "/doc/", "/doc/docs",
+          "/doc/litmus/sb.lit", "/doc/../bin/jslit", "/doc/docs/FORMAT.md?x"]
 
 
 def same(seen, wanted):
@@ -95,9 +98,10 @@ def lengths(server):
 
 def words_of_requests(server):
     for path in ("/report", "/report?skip=0&skip=1", "/report?skip=0&more=1", "/quick?skip=0", "/schedule", "/schedule?turns=A%00",
-                 "/picture?sources=A.0=init[0]"):
+                 "/picture?sources=A.0=init[0]", "/text", "/text?examples=with&skip=0"):
         same((path, server.ask("POST", path, litmus("sb").encode())[0]), (path, 400))
-    for kind, given in (("report", {"skip": "--help"}), ("report", {"skip": "9" * 5000}), ("report", {"skip": "-1"}),
+    for kind, given in (("text", {"examples": "some"}), ("report", {"skip": "--help"}),
+                        ("report", {"skip": "9" * 5000}), ("report", {"skip": "-1"}),
                         ("picture", {"sources": "x", "order": "y", "outcome": "z"}),
                         ("picture", {"sources": "", "order": "", "outcome": "A.r0=5"})):
         status, answer = server.post(kind, litmus("sb"), **given)
@@ -139,6 +143,40 @@ def refusals(server):
     for line in ("U8[0] = 0x" + "f" * 60_000, "U8[" * 20_000, "check " + "(" * 60_000, "/*" * 30_000):
         told = server.post("quick", f"test t\nbytes 4\nagent A\n{line}\n")[1]
         same((line[:10], told.get("refused")), (line[:10], "refused 3 syntax line 4"))
+
+
+def other_faults(server):
+    told = server.post("quick", "test t\nbytes 4\nagent A\nflag = U8[0];\nif flag == 1 {\nU8[1] = 300\n}\ncheck flag == 1\n")[1]
+    same([(each["line"], each["number"], each["write"]) for each in [told, *told["more"]]],
+         [(4, 3, "r0 = U8[0]"), (5, 3, "if r0 == 1 {"), (6, 8, None), (8, 3, "check A.r0 == 1")])
+    same(server.post("quick", "test t\nbytes 4\nagent A\n" + "r0 = U8[0]\n" * 25 + "check A.r0 == 0\n")[1]["more"], [])
+
+
+def texts(server):
+    """A report as the program prints it, and its outcomes alone."""
+    printed = subprocess.run([server.program, TOP / "litmus" / "sb8.lit"], capture_output=True, text=True, check=True).stdout
+    same(server.post("text", litmus("sb8"), examples="with")[1], {"kind": "text", "text": printed})
+    short = "".join(line + "\n" for line in printed.split("\n")[:-1] if not line.startswith("  "))
+    same(server.post("text", litmus("sb8"), examples="without")[1], {"kind": "text", "text": short})
+    same(server.post("text", "test", examples="with")[1]["text"], "refused 3 syntax line 1\n")
+
+
+def links_of_documents(server):
+    """Each link of a document leads to a path that is served, and to a heading that is there."""
+    pages, waiting = {}, ["/doc/README.md"]
+    while waiting:
+        path = waiting.pop()
+        if path not in pages:
+            status, _, body = server.ask("GET", path)
+            same((path, status), (path, 200))
+            pages[path] = body.decode() if path.endswith(".md") else ""
+            waiting += [found for found in re.findall(r'(?:href|src)="(/doc/[^"#]*)', pages[path])]
+    assert len(pages) > 10, sorted(pages)
+    for path, body in pages.items():
+        for target, part in re.findall(r'href="([^"#]*)#([^"]+)"', body):
+            if target in ("", *pages):
+                assert f'id="{part}"' in pages[target or path], (path, target, part)
+        assert "](" not in re.sub(r"<pre>.*?</pre>|<code>.*?</code>", "", body, flags=re.S), path
 
 
 def pictures(server):
@@ -290,6 +328,12 @@ def a_large_report(server):
     assert memory_of(server) < 120_000, f"{memory_of(server)} kB"
 
 
+def a_long_text(server):
+    same(server.post("text", named("large"), examples="without")[1]["text"].count("\n"), 20_004)
+    told = server.post("text", named("large"), examples="with")[1]
+    same((told["kind"], "longer than 8 MB" in told["said"]), ("failed", True))
+
+
 def a_program_that_fails(server):
     same(server.post("report", named("hungry"), skip=0)[1], {"kind": "stopped", "by": "memory", "limit": "512 MB of memory"})
     for name in ("breaks", "dies"):
@@ -310,5 +354,6 @@ def large_texts(server):
     assert memory_of(server) < 120_000, f"{memory_of(server)} kB"
 
 
-PROVED = (files, other_paths, other_names, lengths, words_of_requests, many_words, every_test, quick_and_turns, refusals, pictures)
-FEIGNED = (thirty_at_once, connections, slow_clients, one_who_leaves, a_large_report, a_program_that_fails, large_texts)
+PROVED = (files, other_paths, other_names, lengths, words_of_requests, many_words, every_test, quick_and_turns, refusals,
+          other_faults, texts, links_of_documents, pictures)
+FEIGNED = (thirty_at_once, connections, slow_clients, one_who_leaves, a_large_report, a_long_text, a_program_that_fails, large_texts)

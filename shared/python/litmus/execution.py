@@ -112,10 +112,11 @@ def why_no_execution(test, sources):
 
 
 class Relations:
-    """synchronizes-with, happens-before, the triples (W, R, V) in which V may not stand between W and R, and data races."""
+    """synchronizes-with, happens-before, the triples (W, R, V) in which V may not stand between W and R, and data races. The search
+    for a memory-order looks at so many sets of events, and gives up."""
 
-    def __init__(self, execution):
-        self.execution, self.events = execution, execution.events
+    def __init__(self, execution, most_sets=MOST_SETS):
+        self.execution, self.events, self.most_sets = execution, execution.events, most_sets
         self.names = list(self.events)
         self.reads_from = [(w, r) for r, given in execution.sources.items() for w in dict.fromkeys(given)]
         self.synchronizes = {(w, r) for w, r in self.reads_from
@@ -220,7 +221,7 @@ class Relations:
             placed = waiting.pop()
             if len(placed) == len(self.names):
                 return True
-            if len(seen) > MOST_SETS:
+            if len(seen) > self.most_sets:
                 raise Fault("whether the choice has a memory-order takes too long to find")
             for name in reversed(self.names):
                 longer = placed | {name}

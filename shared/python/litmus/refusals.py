@@ -4,10 +4,13 @@ import re
 
 from litmus import counting, forms, slips, structure, text
 from litmus.ends import shown
+from litmus.scene import Scene
 
 # `line` is None where the whole text is refused or a schedule, and `column` where there is nothing to show in the line;
-# `said` are sentences, and `write` is a line to write instead, or None.
-Advice = collections.namedtuple("Advice", "line column said write", defaults=(None,))
+# `said` are sentences, and `write` is what to write instead: lines, '' where the line is to be left out, or None. It stands for
+# so many `lines` of the text.
+Advice = collections.namedtuple("Advice", "line column said write lines", defaults=(None, 1))
+SEVERAL = 4  # lines that an if may be written on
 
 
 def foreign(data):
@@ -25,7 +28,31 @@ def foreign(data):
     return None
 
 
-def syntax(lines, number, data):
+def several(lines, number):
+    """How many lines an if stands on that was written on several."""
+    first = forms.code_of(lines[number - 1]).strip()
+    if not re.match(r"if\b", first) or first.endswith("{"):
+        return 1
+    for count, line in enumerate(lines[number:number + SEVERAL], 2):
+        code = forms.code_of(line).strip()
+        joined = "".join(map(forms.code_of, lines[number - 1:number - 1 + count]))
+        if code == "{" or code.endswith("{") and not re.match(r"(?:if|\}|agent)\b", code) and joined.count("(") == joined.count(")"):
+            return count
+    return 1
+
+
+def of_line(lines, number, place):
+    """The slips of a line: what is said, what to write, and for how many lines that stands."""
+    count = several(lines, number)
+    if count > 1:
+        joined = " ".join(forms.code_of(line).strip() for line in lines[number - 1:number - 1 + count])
+        said, fixed = ([], " ".join(joined.split())) if forms.first_fault(joined) is None else slips.advice(joined, place)
+        if fixed:
+            return [f"an if is one line, here lines {place.number} to {place.number + count - 1}", *said], fixed, count
+    return *slips.advice(lines[number - 1], place), 1
+
+
+def syntax(lines, number, data, place_in_text):
     line = lines[number - 1]
     found = forms.first_fault(line)
     if found is None:
@@ -38,9 +65,12 @@ def syntax(lines, number, data):
     whole = foreign(data)
     if whole:
         return Advice(number, column, [first, whole])
-    said, fixed = slips.advice(line, structure.Shape(lines, len(lines)).names())
+    alone = structure.brace_alone(lines, number)
+    if alone:
+        return Advice(number, column, [first, alone], "")
+    said, fixed, count = of_line(lines, number, place_in_text)
     if said:
-        return Advice(number, column, [first, *said], fixed)
+        return Advice(number, column, [first, *said], fixed, count if fixed else 1)
     begun = forms.begun(line, place) if place else []
     return Advice(number, column, [first, f"lines that begin so: {'; '.join(f'`{form}`' for form in begun)}" if begun
                                    else "docs/FORMAT.md has the forms of a line, \"Forms of a line\""])
@@ -61,8 +91,9 @@ def lines_of(data):
     return lines[:-1] if len(lines) > 1 and lines[-1] == "" else lines
 
 
-def advice(printed, data, schedule=None):
-    """The advice on the line `refused ..` that the program printed for the text in `data`."""
+def advice(printed, data, schedule=None, place=None):
+    """The advice on the line `refused ..` that the program printed for the text in `data`. Of a text that was mended `place` is
+    where the line stood in the text that was given."""
     kind, line = re.match(r"refused (\d+) \w+(?: line (\d+))?", printed).groups()
     if int(kind) == 20:
         return Advice(None, None, [of_schedule(data, schedule)])
@@ -70,11 +101,12 @@ def advice(printed, data, schedule=None):
         return Advice(None, None, counting.COUNTS[int(kind)](text.read_test(data.decode("latin-1"))))
     lines, number = lines_of(data), int(line)
     if int(kind) == 3:
-        return syntax(lines, number, data)
+        return syntax(lines, number, data, place or slips.Place(Scene(lines), number))
     column, why = structure.ADVICE[int(kind)](lines, number)
     shown = lines[number - 1]
     if int(kind) in (1, 12) or not shown.strip():
         column = None
     elif column is None:
         column = len(shown) - len(shown.lstrip())
-    return Advice(number, column, [foreign(data) or why if int(kind) == 2 else why])
+    write = structure.instead(lines, number) if int(kind) == 4 else None
+    return Advice(number, column, [foreign(data) or why if int(kind) == 2 else why], write)

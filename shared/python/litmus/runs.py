@@ -11,7 +11,7 @@ import tempfile
 import threading
 import time
 
-from litmus import limits
+from litmus import limits, noting
 from litmus.ends import read_text
 from litmus.program import TOP, version
 
@@ -35,6 +35,7 @@ class Result:
     seconds: float = None
     fault: str = None
     recorded: bool = False
+    notes: list = None
 
     def fails(self, fault):
         self.result, self.fault = "failed", fault
@@ -52,6 +53,7 @@ class Result:
         kept = {field: getattr(self, field) for field in FIELDS}
         if self.data_race is not None:
             kept["data_race"] = self.data_race == "yes"
+        kept["notes"] = None if self.notes is None else [note._asdict() for note in self.notes]
         return json.dumps({"jslit": version()[0], **{name: value for name, value in kept.items() if value is not None}})
 
 
@@ -102,10 +104,11 @@ def with_names_once(results):
 
 
 class Runs:
-    """Runs of a program. Where `stated` a file has to have its line; where `record` one that has none gets it."""
+    """Runs of a program. Where `stated` a file has to have its line; where `record` one that has none gets it; where `noted` each
+    that has a report gets its notes."""
 
-    def __init__(self, program, seconds, record, stated):
-        self.program, self.seconds, self.record, self.stated = program, seconds, record, stated
+    def __init__(self, program, seconds, record, stated, noted=False):
+        self.program, self.seconds, self.record, self.stated, self.noted = program, seconds, record, stated, noted
 
     def results(self, files, jobs):
         """A result for each file, in their order, so many runs at a time."""
@@ -132,6 +135,8 @@ class Runs:
         name, expected = NAME.search(text), EXPECT.findall(text)
         result.test = name and name[1].decode("ascii")
         fault = self.run(file, result)
+        if self.noted and not fault:
+            result.notes = noting.noted(self.program, [], text, self.seconds)
         wanted = FORM.fullmatch(expected[0]) if len(expected) == 1 else None
         if expected and not wanted or not expected and self.stated:
             return result.fails("no line '// expect: verdict V, outcomes N, data race R'")

@@ -63,8 +63,28 @@ def misplaced(lines, number):
     if words[0] == "}":
         early = [n for n, line in enumerate(lines[:number - 1], 1) if [t.text for t in forms.tokens_of(line)] == ["}"]]
         hint = f": the `}}` on line {early[-1]} ended the last one; with `else` it is one line, `}} else {{`" if early else ""
-        return None, "no `if` is open here" + hint
+        return None, "no `if` is open here" + (hint or "; an agent's statements have no braces")
     return None, "it can't stand here"
+
+
+def instead(lines, number):
+    """What to write for a line that is misplaced: '' where it is to be left out, or None."""
+    before, words = Shape(lines, number - 1), [token.text for token in forms.tokens_of(lines[number - 1])]
+    if before.check or not before.test or before.size is None:
+        return None
+    if words[0] in ("agent", "check") and before.open:
+        return "\n".join(["}"] * len(before.open) + [lines[number - 1].strip()])
+    return "" if words == ["}"] and before.agents and not before.open else None
+
+
+def brace_alone(lines, number):
+    """What to say of a line that is `{` alone, or None."""
+    if forms.code_of(lines[number - 1]).strip() != "{":
+        return None
+    above = next((line for line in reversed(lines[:number - 1]) if forms.code_of(line).strip()), "")
+    if forms.code_of(above).strip().startswith("agent"):
+        return "an agent's statements have no braces: they follow its line, up to the next agent"
+    return "no line is `{` alone: it ends the line of an `if`"
 
 
 def block_size(lines, number):

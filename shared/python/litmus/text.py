@@ -64,6 +64,16 @@ def read_test(text):
     raise Fault("the text has no check line")
 
 
+def events_of(statements):
+    """All accesses, in the order of their lines."""
+    for s in statements:
+        if isinstance(s, If):
+            yield from events_of(s.body)
+            yield from events_of(s.other)
+        else:
+            yield s
+
+
 def walks(statements):
     """Lists of steps: (event, that of the statement) for an access, (None, (if, decision)) for an if."""
     if not statements:

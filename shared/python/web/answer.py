@@ -10,12 +10,11 @@ import sys
 
 sys.dont_write_bytecode = True
 sys.path.insert(0, str(pathlib.Path(__file__).resolve().parent.parent))
-from litmus import refusals  # noqa: E402
+from litmus import faults, noting, racing, refusals  # noqa: E402
 from litmus.condition import meets  # noqa: E402
 from litmus.report import read_report  # noqa: E402
 from litmus.text import Fault, read_test  # noqa: E402
-from web.limits import MEBIBYTES, PART, SECONDS, stopped  # noqa: E402
-
+from web.limits import MEBIBYTES, PART, REPORT, SECONDS, stopped  # noqa: E402
 
 EVENT = r"(?:init\[\d{1,2}\]|\w{1,32}\.\d{1,2})"
 
@@ -50,12 +49,21 @@ def asked(program, words, data, part=range(0)):
     return report
 
 
-def refused(line, data, schedule=None):
-    """The program's refusal, and what there is to say of it."""
-    kind, name = line.split()[1:3]
-    advice = refusals.advice(line, data, schedule)
-    return {"kind": "refusal", "refused": line, "number": int(kind), "name": name, "line": advice.line,
-            "column": advice.column, "said": advice.said, "write": advice.write}
+def refused(program, line, data, schedule=None):
+    """The program's refusal, what there is to say of it, and the same of the text's other faults."""
+    def fault(said, advice):
+        kind, name = said.split()[1:3]
+        return {"refused": said, "number": int(kind), "name": name, "line": advice.line, "lines": advice.lines,
+                "column": advice.column, "said": advice.said, "write": advice.write}
+
+    def ask(text):
+        try:
+            return asked(program, ["--schedule", ""], text).other.get("refused")
+        except Fault:
+            return None
+
+    more = [fault(*each) for each in faults.more(line, data, ask)]
+    return {"kind": "refusal", **fault(line, refusals.advice(line, data, schedule)), "more": more}
 
 
 def marked(outcomes, condition):
@@ -70,24 +78,53 @@ def answer_report(program, data, skip="0"):
         raise Fault("how many outcomes to leave out is no number")
     first = int(skip)
     report = asked(program, [], data, range(first, first + PART))
-    return told("report", report, data) | {"skip": first}
+    return told("report", program, report, data) | {"skip": first}
 
 
 def answer_quick(program, data):
-    return told("quick", asked(program, ["--quick"], data, range(2)), data)
+    return told("quick", program, asked(program, ["--quick"], data, range(2)), data)
 
 
-def told(kind, report, data):
+def told(kind, program, report, data):
     if "refused" in report.other:
-        return refused(report.other["refused"], data)
-    condition = read_test(data.decode("latin-1")).condition
-    return {"kind": kind, "condition": condition.strip(), **report.other, "outcomes": marked(report.outcomes, condition)}
+        return refused(program, report.other["refused"], data)
+    test = read_test(data.decode("latin-1"))
+    race = racing.shown(test, report.outcomes) if report.other.get("race") == "yes" else None
+    return {"kind": kind, "condition": test.condition.strip(), **report.other, "racing": race,
+            "notes": [note._asdict() for note in noting.of_report(data, report.outcomes)],
+            "outcomes": marked(report.outcomes, test.condition)}
+
+
+def answer_text(program, data, examples):
+    """The report as the program prints it, with its examples or without."""
+    if examples not in ("with", "without"):
+        raise Fault("examples are with or without")
+    run = subprocess.Popen([program], stdin=subprocess.PIPE, stdout=subprocess.PIPE, stderr=subprocess.DEVNULL)
+    try:
+        run.stdin.write(data)
+        run.stdin.close()
+    except BrokenPipeError:
+        pass
+    kept, size = [], 0
+    for line in run.stdout:
+        if examples == "with" or not line.startswith(b"  "):
+            kept.append(line)
+            size += len(line)
+        if size > REPORT:
+            run.kill()
+            raise Fault(f"it is longer than {REPORT >> 20} MB: the program itself has no such limit")
+    status = run.wait()
+    if status == 3:
+        raise OutOfMemory
+    if status not in (0, 1):
+        raise Fault(f"the program ended with status {status}")
+    return {"kind": "text", "text": b"".join(kept).decode("latin-1")}
 
 
 def answer_schedule(program, data, turns):
     report = asked(program, ["--schedule", turns], data)
     if "refused" in report.other:
-        return refused(report.other["refused"], data, turns)
+        return refused(program, report.other["refused"], data, turns)
     return {"kind": "schedule", "turns": turns, **report.other}
 
 
@@ -98,7 +135,7 @@ def answer_picture(program, data, sources, order, outcome):
     from litmus.execution import Relations, execution_of
     report = asked(program, ["--schedule", ""], data)
     if "refused" in report.other:
-        return refused(report.other["refused"], data)
+        return refused(program, report.other["refused"], data)
     given = dict(re.fullmatch(rf"({EVENT})=({EVENT}(?:,{EVENT})*)", word).groups() for word in sources.split())
     values = {(agent, register): int(value) for agent, register, value in
               (re.fullmatch(r"(\w+)\.(r[0-7])=(\d+)", word).groups() for word in outcome.split())}
@@ -112,6 +149,7 @@ ANSWERS = {
     "report": (answer_report, ("skip",)),
     "quick": (answer_quick, ()),
     "schedule": (answer_schedule, ("turns",)),
+    "text": (answer_text, ("examples",)),
     "picture": (answer_picture, ("sources", "order", "outcome")),
 }
 

@@ -20,10 +20,22 @@ def library():
 
 
 def entry(path, shows):
-    return {"name": path.stem, "shows": shows, "text": path.read_text()}
+    """A test with the comment that its file opens with, and with its text, in which that comment is folded to its first sentence."""
+    text = path.read_text()
+    first, *more = re.split(r"(?<=[.:])\s", comment(text))
+    return {"name": path.stem, "shows": shows, "comment": " ".join([first, *more]), "text": f"// {first}\n{without_comment(text)}"}
+
+
+def comment(text):
+    """The comment that a text opens with, as one line, without what jslit-check compares."""
+    lines = text.split("\n")[:len(text.split("\n")) - len(without_comment(text).split("\n"))]
+    return " ".join(line[2:].strip() for line in lines if not line.startswith("// expect:"))
+
+
+def without_comment(text):
+    return re.sub(r"\A(?://[^\n]*\n)*", "", text)
 
 
 def reason(path):
     """The comment that the file opens with, up to its first full stop."""
-    lines = [line[2:].strip() for line in path.read_text().split("\n") if line.startswith("//")]
-    return re.split(r"(?<=[.:])\s", " ".join(lines))[0]
+    return re.split(r"(?<=[.:])\s", comment(path.read_text()))[0]

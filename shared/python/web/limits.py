@@ -8,6 +8,7 @@ PATIENCE = 0.8  # how many seconds a request waits for its turn
 LINGERING = 5  # how many seconds it goes on taking, and letting go, what it has refused
 CONNECTIONS = 64  # how many are open at a time
 PART = 1000  # how many outcomes of a report an answer has
+REPORT = 8 << 20  # how many bytes of a report it gives as a text
 ANSWER = 16 << 20  # how many bytes an answer may have
 
 

@@ -10,6 +10,7 @@ import urllib.parse
 
 from litmus import limits
 from web.answer import ANSWERS
+from web.documents import documents
 from web.jobs import Busy, Gone, Jobs
 from web.library import library
 from web.limits import CONNECTIONS, LINGERING, REQUEST, RUNS, SENDING
@@ -36,7 +37,7 @@ def fixed_files():
     files = {"/" + path.name: (TYPES[path.suffix], path.read_bytes()) for path in FOLDER.iterdir() if path.suffix in TYPES}
     files["/"] = files.pop("/index.html")
     files["/library"] = ("application/json", json.dumps(library()).encode())
-    return files
+    return files | documents()
 
 
 class Timed(io.RawIOBase):

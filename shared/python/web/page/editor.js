@@ -1,10 +1,11 @@
 // The editor: line numbers beside the text, and the line at fault.
 
-import { byId, make } from './make.js';
+import { byId, make, sentence } from './make.js';
 
 const area = byId('text');
 const numbers = byId('numbers');
-let fault = null;
+let fault = null;       // the one that is marked, where it stands
+let faulty = new Set();  // the lines of all faults
 
 export const text = () => area.value;
 
@@ -22,12 +23,8 @@ export function onChange(act) {
 
 function number() {
   const lines = area.value.split('\n').map((_, place) => `${place + 1}\n`);
-  if (fault) {
-    const marked = make('b', {}, `\u25b6 ${lines[fault.line - 1]}`);
-    numbers.replaceChildren(lines.slice(0, fault.line - 1).join(''), marked, lines.slice(fault.line).join(''));
-  } else {
-    numbers.replaceChildren(lines.join(''));
-  }
+  numbers.replaceChildren(...(faulty.size === 0 ? [lines.join('')]
+    : lines.map((line, at) => (faulty.has(at + 1) ? make('b', {}, `\u25b6 ${line}`) : line))));
   place();
 }
 
@@ -52,6 +49,7 @@ const lineOf = (line) => area.value.split('\n')[line - 1] ?? '';
 
 export function clearFault() {
   fault = null;
+  faulty = new Set();
   area.removeAttribute('aria-invalid');
   byId('refusal').replaceChildren();
   number();
@@ -60,7 +58,7 @@ export function clearFault() {
 // The place in the text at which the line begins.
 const beginning = (line) => area.value.split('\n').slice(0, line - 1).reduce((sum, each) => sum + each.length + 1, 0);
 
-function goTo(line, column) {
+export function goTo(line, column) {
   const at = beginning(line) + (column ?? 0);
   area.focus();
   area.setSelectionRange(at, at);
@@ -73,29 +71,50 @@ function reveal(line) {
   if (top < area.scrollTop || top + 2 * height > area.scrollTop + area.clientHeight) area.scrollTop = top - area.clientHeight / 2;
 }
 
-function takeLine(line, instead) {
-  const at = beginning(line);
+// Writes these in place of their lines; the lines after them keep their numbers, but where an end is put before a line.
+function takeLines(taken) {
   area.focus();
-  area.setRangeText(instead, at, at + lineOf(line).length, 'end');
+  for (const { line, lines, write } of taken.sort((a, b) => b.line - a.line)) {
+    const at = beginning(line);
+    const end = beginning(line + lines - 1) + lineOf(line + lines - 1).length;
+    area.setRangeText(write + '\n'.repeat(lines - 1), at, end, 'end');
+  }
   area.dispatchEvent(new Event('input'));
 }
 
-// Shows a refusal at its line, and what there is to say of it.
-export function showRefusal(told) {
-  const inside = [make('p', {}, make('strong', {}, told.line ? `Line ${told.line}: ` : ''), told.refused)];
-  for (const sentence of told.said) inside.push(make('p', {}, sentence));
+// What is said of one fault, with what can be done about it.
+function told(each, first) {
+  const inside = [make('p', {}, make('strong', {}, each.line ? `Line ${each.line}: ` : ''), first ? each.refused : `then ${each.refused}`)];
+  for (const said of each.said) inside.push(make('p', {}, ...sentence(said)));
   const buttons = make('div', { class: 'buttons' });
-  if (told.write) {
-    inside.push(make('p', {}, 'write: ', make('code', {}, told.write)));
-    buttons.append(make('button', { type: 'button', id: 'take', onclick: () => takeLine(told.line, told.write) }, 'Take this line'));
+  if (each.write !== null) {
+    inside.push(each.write === '' ? make('p', {}, 'write: nothing in its place') : make('p', {}, 'write: ', make('code', {}, each.write)));
+    buttons.append(make('button', { type: 'button', id: first ? 'take' : null, onclick: () => takeLines([each]) },
+      each.write === '' ? 'Leave this line out' : 'Take this line'));
   }
-  if (told.line) {
-    buttons.append(make('button', { type: 'button', id: 'go', onclick: () => goTo(told.line, told.column) }, `Go to line ${told.line}`));
-    fault = { line: told.line, column: told.column };
+  if (each.line) {
+    const go = () => goTo(each.line, each.column);
+    buttons.append(make('button', { type: 'button', id: first ? 'go' : null, onclick: go }, `Go to line ${each.line}`));
+  }
+  return make('div', { class: 'fault' }, ...inside, buttons);
+}
+
+// Shows a refusal at its line, what there is to say of it, and the other faults.
+export function showRefusal(refusal) {
+  const faults = [refusal, ...refusal.more];
+  const inside = faults.map((each, place) => told(each, place === 0));
+  const taken = [...new Map(faults.filter((each) => each.write !== null).map((each) => [each.line, each])).values()];
+  if (taken.length > 1) {
+    inside.unshift(make('div', { class: 'buttons' }, make('button', { type: 'button', id: 'take-all', onclick: () => takeLines(taken) },
+      `Take these ${taken.length} lines`)));
+  }
+  if (refusal.line) {
+    fault = { line: refusal.line, column: refusal.column };
+    faulty = new Set(faults.map((each) => each.line));
     area.setAttribute('aria-invalid', 'true');
   }
-  byId('refusal').replaceChildren(...inside, buttons);
-  if (told.line) reveal(told.line);
+  byId('refusal').replaceChildren(...inside);
+  if (refusal.line) reveal(refusal.line);
   number();
 }
 

@@ -13,4 +13,7 @@ export function make(name, given = {}, ...inside) {
   return element;
 }
 
+// A sentence, in which what stands between two ` is code.
+export const sentence = (text) => text.split(/`([^`]*)`/).map((part, place) => (place % 2 ? make('code', {}, part) : part));
+
 export const grouped = (number) => number.toLocaleString('en');

@@ -2,12 +2,15 @@
 
 import { TEXT_LIMIT, ask, bytesOf, library, stop } from './ask.js';
 import { addressOf, textOf } from './address.js';
-import { clearFault, onChange, setText, showRefusal, text } from './editor.js';
-import { byId, grouped, make } from './make.js';
+import { clearFault, goTo, onChange, setText, showRefusal, text } from './editor.js';
+import { byId, grouped, make, sentence } from './make.js';
 import { showPicture } from './picture.js';
+import { savePng, saveSvg, saveText } from './save.js';
 import { setOutcomes, spoken } from './table.js';
 import { newText } from './turns.js';
 import { linesOf, say, sayStopped, sayVerdict } from './verdict.js';
+
+let tests = new Map();   // the library's, by name
 
 // The text that was run, and the report's part that is shown.
 let asked = '';
@@ -20,8 +23,11 @@ function running(is) {
 
 function hideOutcomes() {
   stop('picture');
+  stop('save');
   told = null;
   byId('stale').hidden = true;
+  byId('notes').hidden = true;
+  byId('saved').textContent = '';
   byId('outcomes').hidden = true;
   byId('example').hidden = true;
 }
@@ -57,6 +63,8 @@ function show(answer, kind) {
   } else {
     told = answer;
     sayVerdict(answer);
+    sayNotes(answer.notes);
+    byId('save-report').hidden = answer.kind !== 'report';
     byId('outcomes').hidden = answer.outcomes.length === 0;
     setOutcomes(answer.outcomes, showOutcome);
     byId('before').hidden = !(answer.skip > 0);
@@ -74,9 +82,28 @@ function sayShown(shown) {
   byId('shown').textContent = shown === outcomes.length ? `shown: ${part}` : `shown: ${grouped(shown)}, out of ${part}`;
 }
 
+// Notes are the page's own, and no part of the report.
+function sayNotes(notes) {
+  byId('notes').hidden = notes.length === 0;
+  byId('notes').querySelector('ul').replaceChildren(...notes.map(({ line, said }) => make('li', {},
+    make('button', { type: 'button', onclick: () => goTo(line, 0) }, `Line ${line}`), ' ', ...sentence(said))));
+}
+
+async function saveReport(examples) {
+  byId('saved').textContent = 'Asking for it.';
+  const answer = await ask('save', 'text', { examples }, asked);
+  if (!answer) return;
+  byId('saved').textContent = answer.kind === 'text' ? '' : `Not saved: ${answer.said ?? `stopped at the limit of ${answer.limit}`}.`;
+  if (answer.kind === 'text') saveText(`${told?.test ?? 'report'}${examples === 'with' ? '' : '-outcomes'}.txt`, answer.text);
+}
+
+let drawn = '';   // a name for the picture that is shown
+
 async function showOutcome(outcome) {
   const title = `Outcome ${grouped(outcome.number)}: ${spoken(outcome)}`;
   byId('example').hidden = false;
+  for (const name of ['save-svg', 'save-png']) byId(name).disabled = true;
+  drawn = `${told.test}-${outcome.number}`;
   byId('example-title').textContent = title;
   byId('lines').textContent = linesOf(outcome);
   byId('picture').setAttribute('aria-busy', 'true');
@@ -89,6 +116,7 @@ async function showOutcome(outcome) {
   const picture = await ask('picture', 'picture', words, asked);
   if (!picture) return;
   byId('picture').setAttribute('aria-busy', 'false');
+  for (const name of ['save-svg', 'save-png']) byId(name).disabled = picture.kind !== 'picture';
   if (picture.kind === 'picture') showPicture(picture, title);
   else byId('picture').textContent = `There is no picture: ${picture.limit ? `stopped at the limit of ${picture.limit}` : picture.said ?? picture.refused}.`;
   byId('example').scrollIntoView({ block: 'nearest' });
@@ -116,23 +144,25 @@ function takeAddress(otherwise) {
 }
 
 function fillLibrary(groups) {
-  const tests = new Map();
+  const found = new Map();
   for (const group of groups) {
     const options = group.tests.map((test) => {
-      tests.set(test.name, test);
+      found.set(test.name, test);
       return make('option', { value: test.name }, `${test.name}: ${test.shows}`);
     });
     byId('library').append(make('optgroup', { label: group.heading }, ...options));
   }
   byId('library').addEventListener('change', () => {
-    const test = tests.get(byId('library').value);
+    const test = found.get(byId('library').value);
     byId('shows').textContent = test?.shows ?? '';
+    byId('why').hidden = !test;
+    byId('comment').textContent = test?.comment ?? '';
     if (!test) return;
     keep();
     history.pushState(null, '', addressOf(test.text));
     take(test.text);
   });
-  return tests;
+  return found;
 }
 
 let waiting = 0;
@@ -143,13 +173,29 @@ function keep() {
   history.replaceState(null, '', addressOf(text()));
 }
 
+const nameIn = (value) => /^[ \t\r]*test[ \t\r]+(\w+)/m.exec(value)?.[1];
+
+// What is said of a test of the library goes where the text is that of another one.
+function leaveLibrary() {
+  const test = tests.get(byId('library').value);
+  if (!test || nameIn(test.text) === nameIn(text())) return;
+  byId('library').value = '';
+  byId('shows').textContent = '';
+  byId('why').hidden = true;
+}
+
 onChange(() => {
   changed();
+  leaveLibrary();
   clearTimeout(waiting);
   waiting = setTimeout(keep, 300);
 });
 byId('met').addEventListener('rendered', (event) => sayShown(event.detail));
 byId('run').addEventListener('click', () => whole(0));
+byId('save-all').addEventListener('click', () => saveReport('with'));
+byId('save-outcomes').addEventListener('click', () => saveReport('without'));
+byId('save-svg').addEventListener('click', () => saveSvg(`${drawn}.svg`));
+byId('save-png').addEventListener('click', () => savePng(`${drawn}.png`));
 byId('quick').addEventListener('click', () => run('quick'));
 byId('before').addEventListener('click', () => whole(Math.max(told.skip - 1000, 0), asked));
 byId('after').addEventListener('click', () => whole(told.skip + told.outcomes.length, asked));
@@ -166,7 +212,7 @@ document.addEventListener('keydown', (event) => {
   }
 });
 window.addEventListener('hashchange', () => takeAddress(text()));
-const tests = fillLibrary(await library());
+tests = fillLibrary(await library());
 takeAddress(tests.get('sb')?.text ?? '');
 keep();
 document.documentElement.dataset.ready = 'yes';

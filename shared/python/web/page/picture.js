@@ -41,7 +41,7 @@ export function showPicture(picture, title) {
     role: 'img', 'aria-label': `${title}. The lines of the report below say the same.` }, ...picture.edges.map(edge), ...picture.boxes.map(box));
   byId('picture').replaceChildren(made);
   byId('race-key').hidden = !picture.edges.some((each) => each.kind === 'race');
-  byId('picture').scrollLeft = (made.clientWidth - byId('picture').clientWidth) / 2;
+  byId('picture').scrollLeft = 0;
 }
 
 byId('fit').addEventListener('change', () => byId('picture').classList.toggle('fits', byId('fit').checked));

@@ -10,8 +10,23 @@ export function say(kind, ...inside) {
   place.replaceChildren(...inside);
 }
 
+const access = ({ name, line, code }) => [make('code', {}, code), ` (${name}, line ${line})`];
+
+// What the report says of data races, and which example shows one.
 function race(told) {
-  return told.race ? [make('p', { id: 'race' }, `data race ${told.race}`)] : [];
+  if (told.kind === 'quick') return [make('p', { class: 'note' }, 'A quick report doesn\u2019t say whether there is a data race.')];
+  if (!told.race) return [];
+  const said = [make('p', { id: 'race', class: `race-${told.race}` }, make('strong', {}, `data race ${told.race}`))];
+  if (told.racing) {
+    const [[one, other], ...more] = told.racing.pairs;
+    const also = more.length ? `, and ${more.length} more pair${more.length === 1 ? '' : 's'}` : '';
+    const where = `as in the example of outcome ${grouped(told.racing.number)}: `;
+    said.push(make('p', { id: 'racing' }, where, ...access(one), ' and ', ...access(other), also));
+  } else {
+    const why = told.race === 'yes' ? 'some execution has one; it need not be one of these examples' : 'no execution has one';
+    said.push(make('p', { id: 'racing' }, why));
+  }
+  return said;
 }
 
 export function sayVerdict(told) {

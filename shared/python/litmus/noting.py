@@ -1,0 +1,35 @@
+"""All notes on a text: those of the text alone, and those on the examples of its report, where the program has it in time."""
+import subprocess
+import threading
+
+from litmus import notes, torn
+from litmus.report import read_report
+from litmus.text import Fault, read_test
+
+EXAMPLES = range(1000)  # of a report, those that are looked at
+
+
+def reported(program, words, data, seconds):
+    """The outcomes of the report that the program prints on a text; none where there is none in time."""
+    with subprocess.Popen([program, *words], stdin=subprocess.PIPE, stdout=subprocess.PIPE, stderr=subprocess.DEVNULL) as run:
+        clock = threading.Timer(seconds, run.kill)
+        clock.start()
+        try:
+            run.stdin.write(data)
+            run.stdin.close()
+            report = read_report(run.stdout, EXAMPLES)
+        except (BrokenPipeError, Fault):
+            run.kill()
+            return []
+        finally:
+            clock.cancel()
+        return report.outcomes if run.wait() == 0 else []
+
+
+def noted(program, words, data, seconds):
+    """The notes on a text that the program takes."""
+    return of_report(data, reported(program, words, data, seconds))
+
+
+def of_report(data, outcomes):
+    return notes.of_text(data) + torn.notes(read_test(data.decode("latin-1")), outcomes)

@@ -1,0 +1,71 @@
+"""The documents that the page serves: each as HTML, with the pictures in them. Their links lead to one another, and those to a test
+of litmus/ open it on the page; what isn't served is no link."""
+import base64
+import html
+import posixpath
+import re
+
+from litmus.program import TOP
+from web.markdown import rendered
+
+NAMES = {"README.md": "README", "docs/FORMAT.md": "The litmus text", "docs/MODEL.md": "The memory model", "docs/GLOSSARY.md": "Glossary",
+         "litmus/README.md": "The tests of the library", "CHANGELOG.md": "Changes", "CONTRIBUTING.md": "Working here",
+         "docs/ARCHITECTURE.md": "Architecture", "docs/DECISIONS.md": "Decisions", "shared/python/web/README.md": "The page",
+         "shared/javascript/README.md": "Beside engines"}
+PICTURES = {".svg": "image/svg+xml", ".png": "image/png"}
+BEFORE = "/doc/"
+FRAME = """<!doctype html>
+<html lang="en">
+<head>
+<meta charset="utf-8">
+<meta name="viewport" content="width=device-width, initial-scale=1">
+<meta name="color-scheme" content="light dark">
+<title>{title} - jslit</title>
+<link rel="icon" href="/icon.svg" type="image/svg+xml">
+<link rel="stylesheet" href="/base.css">
+<link rel="stylesheet" href="/document.css">
+</head>
+<body>
+<nav><a href="/">The page</a> {others}</nav>
+<main>
+{body}
+</main>
+</body>
+</html>
+"""
+
+
+def address_of_test(path):
+    """The page with a test of litmus/ in its editor."""
+    return "/#t=" + base64.urlsafe_b64encode(path.read_bytes()).decode().rstrip("=")
+
+
+def linker(name):
+    """Where the links of this document lead."""
+    def link(target):
+        if re.match(r"https?://|#", target):
+            return target
+        path, _, part = target.partition("#")
+        path = posixpath.normpath(posixpath.join(posixpath.dirname(name), path))
+        if path in ("litmus", "docs") or path + "/README.md" in NAMES:
+            path += "/README.md"
+        if path.endswith(".lit") and (TOP / path).parent == TOP / "litmus" and (TOP / path).is_file():
+            return address_of_test(TOP / path)
+        served = path in NAMES or posixpath.splitext(path)[1] in PICTURES
+        return BEFORE + path + (f"#{part}" if part else "") if served and (TOP / path).is_file() else None
+    return link
+
+
+def documents():
+    """What a path gets: the type and the bytes."""
+    there = {name: title for name, title in NAMES.items() if (TOP / name).is_file()}
+    files = {}
+    for name, title in there.items():
+        others = " ".join(f'<a href="{BEFORE}{other}"{" aria-current=page" if other == name else ""}>{html.escape(words)}</a>'
+                          for other, words in list(there.items())[:5])
+        body = rendered((TOP / name).read_text(), linker(name))
+        files[BEFORE + name] = ("text/html; charset=utf-8", FRAME.format(title=html.escape(title), others=others, body=body).encode())
+    for path in sorted((TOP / "docs").glob("*")):
+        if path.suffix in PICTURES:
+            files[f"{BEFORE}docs/{path.name}"] = (PICTURES[path.suffix], path.read_bytes())
+    return files

@@ -1,0 +1,55 @@
+"""What tools/check-page asks of what the page saves, and of the documents that it serves."""
+import math
+import pathlib
+import struct
+import subprocess
+import tempfile
+import xml.dom.minidom
+
+from litmus.program import TOP
+from trying.check_server import same, wait_for
+from trying.serving import litmus
+
+
+def saved(page):
+    """A report and its outcomes as texts, and a picture as SVG and PNG, in light colours in the dark too."""
+    page.dark(True)
+    page.take(litmus("mpplain"))
+    page.run()
+    page.click("tbody tr:nth-child(3)")
+    page.drawn()
+    same(page.value("document.querySelector('#picture').scrollLeft"), 0)
+    with tempfile.TemporaryDirectory() as folder:
+        page.ask("Browser.setDownloadBehavior", behavior="allow", downloadPath=folder)
+        files = {}
+        for button, name in (("save-all", "mpplain.txt"), ("save-outcomes", "mpplain-outcomes.txt"), ("save-svg", "mpplain-3.svg"),
+                             ("save-png", "mpplain-3.png")):
+            page.click(f"#{button}")
+            path = pathlib.Path(folder) / name
+            wait_for(lambda: path.exists() and path.stat().st_size)
+            files[button] = path.read_bytes()
+            if page.shots and path.suffix != ".txt":
+                (page.shots / f"saved{path.suffix}").write_bytes(files[button])
+    same(files["save-outcomes"].decode(), "test mpplain\n"
+         "outcome B.r0=0 B.r1=0\noutcome B.r0=0 B.r1=1\noutcome B.r0=1 B.r1=0\noutcome B.r0=1 B.r1=1\n"
+         "outcomes 4\nverdict sometimes\ndata race yes\n")
+    same(files["save-all"], subprocess.run([page.server.program, TOP / "litmus" / "mpplain.lit"], capture_output=True, check=True).stdout)
+    drawn = xml.dom.minidom.parseString(files["save-svg"])
+    assert "r1 = U8[0]" in [text.firstChild.data for text in drawn.getElementsByTagName("text")]
+    same(drawn.getElementsByTagName("rect")[0].getAttribute("fill"), "#fff")
+    assert "rgb(27, 31, 36)" in files["save-svg"].decode(), "the words aren't dark"
+    box = [float(number) for number in drawn.documentElement.getAttribute("viewBox").split()]
+    same(files["save-png"][:8], b"\x89PNG\r\n\x1a\n")
+    same(list(struct.unpack(">II", files["save-png"][16:24])), [math.ceil(2 * box[2]), math.ceil(2 * box[3])])
+
+
+def documents(page):
+    """The documents, reached from the page, with their pictures, and a test of the library by a link in them."""
+    page.open_link("nav a[href='/doc/docs/MODEL.md']")
+    same(page.said("h1"), "The model")
+    page.until("[...document.images].length && [...document.images].every((image) => image.complete && image.naturalWidth)")
+    page.picture("model")
+    page.open_link("nav a[href='/doc/litmus/README.md']")
+    page.open_link("main a[href^='/#t=']")
+    page.until("document.documentElement.dataset.ready === 'yes'")
+    page.run()
