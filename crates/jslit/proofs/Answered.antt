@@ -1,5 +1,5 @@
 -- What the program comes to, by what its words ask for.
-use Rattle.std.proofs.Common.{◌≡◌, ◌≢◌, ◌⊎◌, ◌<◌, ◌∙◌, ℕ, Bool, List, Option, Some, None, option_map, sym, ap, subst, inl, inr, arith}
+use Rattle.std.proofs.Common.{◌≡◌, ◌≢◌, ◌⊎◌, ◌<◌, ◌∙◌, ℕ, Bool, true, false, List, Option, Some, None, option_map, is_some, sym, ap, subst, inl, inr, arith}
 use Rattle.std.specs.Borrow.{Bor}
 use Rattle.clap.specs.Words.{HasKind, IsAmong, Kinds, Text, kind_of}
 use Rattle.clap.specs.declared.error.Error.{Error}
@@ -8,11 +8,14 @@ use Rattle.clap.specs.declared.error.kind.ErrorKind.TheVariants as kinds
 use Rattle.jslit.specs.declared.command.asked_line.Line.{Line}
 use Rattle.jslit.specs.declared.counted.Counted.{Counted}
 use Rattle.jslit.specs.Answer.{IsCheckStatus}
-use Rattle.jslit.specs.Counted.{failures_of}
+use Rattle.jslit.specs.Counted.{device_of, failures_of}
 use Rattle.jslit.specs.Devices.{OfToldText}
 use Rattle.jslit.specs.Internal.Saying.{IsExplained}
-use Rattle.jslit.specs.ProgramAnswer.{HasAnswered, HasServed}
-use Rattle.jslit.specs.Words.{AsksHelp, AsksRun, AsksVersion, IsAsked, IsRefused, faults_of, quick_in, schedule_in}
+use Rattle.jslit.specs.declared.fault.RunFault.{RunFault}
+use Rattle.jslit.specs.ProgramAnswer.{HasAnswered, IsAnswerBy, IsFaultBy}
+use Rattle.jslit.specs.RunAnswer.{HasServed}
+use Rattle.jslit.proofs.Finishing.{nothing_served}
+use Rattle.jslit.specs.Words.{AsksHelp, AsksRun, AsksVersion, IsAsked, IsRefused, faults_of, file_in, quick_in, schedule_in}
 
 -- what holds on a text that is told holds on some text
 on_some_text : (told : Option (List ℕ)) (Holds : List ℕ → Type 0) → OfToldText told Holds → OfToldText None Holds
@@ -20,9 +23,9 @@ on_some_text told Holds on = record { text = on.text; is_told = tt; holds = on.h
 
 -- where it is not known whether the reader failed, a run that failed wrote nothing, or its writer failed, or its answer is whole
 module _ {W : Type 0} (contents : W → Option (List ℕ)) where
-  on_some_file : (told : Option (List ℕ)) (input_failed : Type 0) (quick : Bool) (schedule : Option Text) (status : ℕ) (old new : Counted W)
-      → HasServed contents told input_failed quick schedule status old new → HasServed contents None ((status ≡ 4) × (new ≡ old)) quick schedule status old new
-  on_some_file told input_failed quick schedule status old new served = record {
+  on_some_file : (told : Option (List ℕ)) (input_failed : Type 0) (Is : Text → Text → Type 0) (IsFault : Text → RunFault → Type 0) (status : ℕ) (old new : Counted W)
+      → HasServed contents told input_failed Is IsFault status old new → HasServed contents None ((status ≡ 4) × (new ≡ old)) Is IsFault status old new
+  on_some_file told input_failed Is IsFault status old new served = record {
     answered = λ is. on_some_text told _ (served.answered is);
     refused = λ is. on_some_text told _ (served.refused is);
     unfailed = served.unfailed;
@@ -34,25 +37,14 @@ module _ {W : Type 0} (contents : W → Option (List ℕ)) where
     unwritten = λ both. both;
   }
 
-  -- memory ran out before a run
-  nothing_served : (told : Option (List ℕ)) (input_failed : Type 0) (quick : Bool) (schedule : Option Text) (status : ℕ) (old new : Counted W)
-      → (status ≡ 3) → (input_failed → ⊥) → HasServed contents told input_failed quick schedule status old new
-  nothing_served told input_failed quick schedule status old new is unfailed = record {
-    answered = λ zero. absurd (omega (arith, is, zero));
-    refused = λ one. absurd (omega (arith, is, one));
-    unfailed = λ zero. absurd (omega (arith, is, zero));
-    failed = λ four. absurd (omega (arith, is, four));
-    begun = λ four. absurd (omega (arith, is, four));
-    unwritten = λ failed. absurd (unfailed failed);
-  }
-
   -- of the line, and so of the words
   of_words : (words : List Text) (line : Line) (told : Option (List ℕ)) (input_failed : Type 0) (status : ℕ) (old new : Counted W) → IsAsked words line
-      → HasServed contents told input_failed line.options.quick (option_map (λ s. s.now) line.schedule) status old new
-      → HasServed contents told input_failed (quick_in words) (schedule_in words) status old new
+      → HasServed contents told input_failed (IsAnswerBy line.options.quick (option_map (λ s. s.now) line.schedule))
+      (IsFaultBy (option_map (λ s. s.now) line.schedule)) status old new
+      → HasServed contents told input_failed (IsAnswerBy (quick_in words) (schedule_in words)) (IsFaultBy (schedule_in words)) status old new
   of_words words line told input_failed status old new asked served =
-      subst (λ (q : Bool). HasServed contents told input_failed q (schedule_in words) status old new) asked.quick
-      (subst (λ (s : Option Text). HasServed contents told input_failed line.options.quick s status old new) asked.schedule served)
+      subst (λ (q : Bool). HasServed contents told input_failed (IsAnswerBy q (schedule_in words)) (IsFaultBy (schedule_in words)) status old new) asked.quick
+      (subst (λ (s : Option Text). HasServed contents told input_failed (IsAnswerBy line.options.quick s) (IsFaultBy s) status old new) asked.schedule served)
 
   module _ {R : Type 0} (remaining : R → Option (List ℕ)) (words : List Text) (status : ℕ) (old_input new_input : Counted R) (old new : Counted W) where
     abbrev Whole : Type 0
@@ -63,8 +55,8 @@ module _ {W : Type 0} (contents : W → Option (List ℕ)) where
     of_error e has explained same = elim explained [
       | inl memory ↦ record {
         asked = inr (inr (inl memory.1));
-        on_input = λ _ _. nothing_served _ _ _ _ status old new memory.1 (λ failed. same_failures failed);
-        on_file = λ _ _. (same, nothing_served _ _ _ _ status old new memory.1 (λ both. absurd (omega (arith, memory.1, both.0))));
+        on_input = λ _ _. nothing_served contents _ _ _ _ status old new memory.1 (λ failed. same_failures failed);
+        on_file = λ _ _. (same, nothing_served contents _ _ _ _ status old new memory.1 (λ both. absurd (omega (arith, memory.1, both.0))));
       }
       | inr other ↦ elim other [
         | inl help ↦
@@ -101,12 +93,27 @@ module _ {W : Type 0} (contents : W → Option (List ℕ)) where
     -- the words name a file
     pub of_file : (line : Line) (path : Bor Text) (told : Option (List ℕ)) (input_failed : Type 0) → IsAsked words line → line.file ≡ Some path → IsCheckStatus status
         → new_input ≡ old_input
-        → HasServed contents told input_failed line.options.quick (option_map (λ s. s.now) line.schedule) status old new
+        → HasServed contents told input_failed (IsAnswerBy line.options.quick (option_map (λ s. s.now) line.schedule))
+        (IsFaultBy (option_map (λ s. s.now) line.schedule)) status old new
         → Whole
     of_file line path told input_failed asked named is same served = record {
       asked = inr (inr (inr (asked.run, is)));
       on_input = λ _ unnamed.
           let bad : Some path.now ≡ None = ap (option_map (λ s. s.now)) (sym named) ∙ asked.file ∙ unnamed in
           absurd cc;
-      on_file = λ _ _. (same, of_words words line _ _ status old new asked (on_some_file told input_failed line.options.quick _ status old new served));
+      on_file = λ _ _. (same, of_words words line _ _ status old new asked (on_some_file told input_failed _ _ status old new served));
+    }
+
+    -- the words name none
+    pub of_input : (line : Line) → IsAsked words line → line.file ≡ None → IsCheckStatus status
+        → HasServed contents (remaining (device_of old_input)) (failures_of old_input < failures_of new_input)
+        (IsAnswerBy line.options.quick (option_map (λ s. s.now) line.schedule)) (IsFaultBy (option_map (λ s. s.now) line.schedule)) status old new
+        → Whole
+    of_input line asked unnamed is served = record {
+      asked = inr (inr (inr (asked.run, is)));
+      on_input = λ _ _. of_words words line _ _ status old new asked served;
+      on_file = λ _ named.
+          let none : None ≡ file_in words = ap (option_map (λ s. s.now)) (sym unnamed) ∙ asked.file in
+          let bad : false ≡ true = ap is_some none ∙ named in
+          absurd cc;
     }

@@ -4,9 +4,10 @@ use Rattle.std.specs.declared.result.Result.{Result}
 use Rattle.std.specs.Io.KnownBytes.{Keeps}
 use Rattle.std.proofs.lemmas.Bool.{cases_lt}
 use Rattle.std.proofs.KnownBytes.{Appends-kept}
-use Rattle.jslit.specs.Answer.{HasGrown, HasGrownSome, HasGrownRefusal}
+use Rattle.jslit.specs.Answer.{HasGrown, HasGrownSome, HasGrownRefusal, status_of}
 use Rattle.jslit.specs.Counted.{device_of, failures_of}
 use Rattle.jslit.specs.Devices.{OfToldText}
+use Rattle.jslit.specs.RunAnswer.{HasRun, HasServed}
 use Rattle.jslit.specs.Internal.Saying.{HasSaid, IsSaid}
 use Rattle.jslit.specs.declared.counted.Counted.{Counted}
 use Rattle.jslit.specs.declared.fault.RunFault.{RunFault}
@@ -33,12 +34,12 @@ module _ {W : Type 0} (contents : W → Option (List ℕ)) (remaining : Option (
     };
   }
 
-  pub finished_answer : {X : Type 0} (ran : Result X RunFault) → OnOk ran Answers → OnOk ran Flushed → IfErr ran (IsSaid contents status mid new)
+  finished_answer : {X : Type 0} (ran : Result X RunFault) → OnOk ran Answers → OnOk ran Flushed → IfErr ran (IsSaid contents status mid new)
       → status ≡ 0 → OfToldText remaining (λ text. HasGrown (Is text) (contents (device_of old)) (contents (device_of new)))
   finished_answer (Ok u) told flushed said is = kept_answer told flushed
   finished_answer (Err fault) told flushed said is = absurd (never_zero fault (sym said.status_is ∙ is))
 
-  pub finished_refusal : {X : Type 0} (ran : Result X RunFault) → OnOk ran Flushed → IfErr ran (λ fault. OfToldText remaining (λ text. IsFault text fault))
+  finished_refusal : {X : Type 0} (ran : Result X RunFault) → OnOk ran Flushed → IfErr ran (λ fault. OfToldText remaining (λ text. IsFault text fault))
       → IfErr ran (λ fault. fault ≢ faults.OutputFailed → mid ≡ old) → IfErr ran (IsSaid contents status mid new) → status ≡ 1
       → OfToldText remaining (λ text. HasGrownRefusal (IsFault text) (contents (device_of old)) (contents (device_of new)) (failures_of old < failures_of new))
   finished_refusal (Ok u) flushed refused unwritten said is = elim flushed.0 [
@@ -56,7 +57,7 @@ module _ {W : Type 0} (contents : W → Option (List ℕ)) (remaining : Option (
         holds = record { fault = fault; refusal = refusal; on = refused.holds; written = line.written; begun = line.begun };
       }
 
-  pub finished_failure : {X : Type 0} (Input : Type 0) (ran : Result X RunFault) → OnOk ran Answers → OnOk ran Flushed → IfErr ran (IsSaid contents status mid new)
+  finished_failure : {X : Type 0} (Input : Type 0) (ran : Result X RunFault) → OnOk ran Answers → OnOk ran Flushed → IfErr ran (IsSaid contents status mid new)
       → (IsErrOf ran faults.InputFailed → Input) → (IsErrOf ran faults.OutputFailed → failures_of old < failures_of mid) → status ≡ 4
       → Input ⊎ (failures_of old < failures_of new) ⊎ OfToldText remaining (λ text. HasGrown (Is text) (contents (device_of old)) (contents (device_of new)))
   finished_failure Input (Ok u) told flushed said input output is = inr (inr (kept_answer told flushed))
@@ -65,7 +66,7 @@ module _ {W : Type 0} (contents : W → Option (List ℕ)) (remaining : Option (
       failed_device fault _ (sym said.status_is ∙ is) (λ of_input. inl (input (ap Err of_input)))
       (λ of_output. inr (inl (subst (λ (o : Counted W). failures_of old < failures_of o) (sym same) (output (ap Err of_output)))))
 
-  pub finished_beginning : {X : Type 0} (ran : Result X RunFault) → OnOk ran Answers → OnOk ran Flushed → IfErr ran (IsSaid contents status mid new)
+  finished_beginning : {X : Type 0} (ran : Result X RunFault) → OnOk ran Answers → OnOk ran Flushed → IfErr ran (IsSaid contents status mid new)
       → IfErr ran (λ fault. fault ≢ faults.OutputFailed → mid ≡ old)
       → (IsErrOf ran faults.OutputFailed → OfToldText remaining (λ text. HasGrownSome (Is text) (contents (device_of old)) (contents (device_of mid)))) → status ≡ 4
       → (new ≡ old) ⊎ OfToldText remaining (λ text. HasGrownSome (Is text) (contents (device_of old)) (contents (device_of new)))
@@ -89,7 +90,7 @@ module _ {W : Type 0} (contents : W → Option (List ℕ)) (remaining : Option (
       }))
 
   -- no write failed where the answer is whole
-  pub finished_unfailed : {X : Type 0} (ran : Result X RunFault) → (failures_of old < failures_of mid → IsErrOf ran faults.OutputFailed) → failures_of old ≤ failures_of mid
+  finished_unfailed : {X : Type 0} (ran : Result X RunFault) → (failures_of old < failures_of mid → IsErrOf ran faults.OutputFailed) → failures_of old ≤ failures_of mid
       → OnOk ran (failures_of new ≡ failures_of mid) → IfErr ran (IsSaid contents status mid new) → status ≡ 0 → failures_of new ≡ failures_of old
   finished_unfailed (Ok u) failed count kept said is = elim (cases_lt (failures_of old) (failures_of mid)) [
     | inl lt ↦
@@ -100,3 +101,44 @@ module _ {W : Type 0} (contents : W → Option (List ℕ)) (remaining : Option (
         kept ∙ same
   ]
   finished_unfailed (Err fault) failed count kept said is = absurd (never_zero fault (sym said.status_is ∙ is))
+
+  -- where the input failed, nothing was written
+  finished_unwritten : {X : Type 0} (ran : Result X RunFault) → IsErrOf ran faults.InputFailed → IfErr ran (λ fault. fault ≢ faults.OutputFailed → mid ≡ old)
+      → IfErr ran (IsSaid contents status mid new) → (status ≡ 4) × (new ≡ old)
+  finished_unwritten (Ok u) is unwritten said = let bad : Ok u ≡ Err faults.InputFailed = is in absurd cc
+  finished_unwritten (Err fault) is unwritten said =
+      let same : fault ≡ faults.InputFailed = cc in
+      let four : status ≡ 4 = said.status_is ∙ ap status_of same in (
+        four,
+        said.kept (λ one. absurd (omega (arith, four, one)))
+            ∙ unwritten (λ output. let bad : faults.InputFailed ≡ faults.OutputFailed = sym same ∙ output in absurd cc),
+      )
+
+pub finished : {R W X : Type 0} (remaining : R → Option (List ℕ)) (contents : W → Option (List ℕ)) (Is : List ℕ → List ℕ → Type 0) (IsFault : List ℕ → RunFault → Type 0)
+    (ran : Result X RunFault) (old_input new_input : Counted R) (old mid new : Counted W) (status : ℕ)
+    → HasRun remaining contents Is IsFault ran old_input new_input old mid → OnOk ran (failures_of new ≡ failures_of mid)
+    → OnOk ran (((status ≡ 0) ⊎ (status ≡ 4)) × Keeps (contents (device_of mid)) (contents (device_of new))) → IfErr ran (IsSaid contents status mid new)
+    → HasServed contents (remaining (device_of old_input)) (failures_of old_input < failures_of new_input) Is IsFault status old new
+finished remaining contents Is IsFault ran old_input new_input old mid new status run counted flushed said =
+    let told = remaining (device_of old_input) in record {
+      answered = finished_answer contents told Is IsFault old mid new status ran run.answered flushed said;
+      refused = finished_refusal contents told Is IsFault old mid new status ran flushed run.refused run.unwritten said;
+      unfailed = finished_unfailed contents told Is IsFault old mid new status ran run.output_failed.1 run.output_count counted said;
+      failed = finished_failure contents told Is IsFault old mid new status (failures_of old_input < failures_of new_input) ran run.answered flushed said
+          run.input_failed.0 run.output_failed.0;
+      begun = finished_beginning contents told Is IsFault old mid new status ran run.answered flushed said run.unwritten run.begun;
+      unwritten = λ failed. finished_unwritten contents told Is IsFault old mid new status ran (run.input_failed.1 failed) run.unwritten said;
+    }
+
+-- memory ran out before a run
+pub nothing_served : {W : Type 0} (contents : W → Option (List ℕ)) (told : Option (List ℕ)) (input_failed : Type 0) (Is : List ℕ → List ℕ → Type 0)
+    (IsFault : List ℕ → RunFault → Type 0) (status : ℕ) (old new : Counted W) → status ≡ 3 → ¬ input_failed
+    → HasServed contents told input_failed Is IsFault status old new
+nothing_served contents told input_failed Is IsFault status old new is unfailed = record {
+  answered = λ zero. absurd (omega (arith, is, zero));
+  refused = λ one. absurd (omega (arith, is, one));
+  unfailed = λ zero. absurd (omega (arith, is, zero));
+  failed = λ four. absurd (omega (arith, is, four));
+  begun = λ four. absurd (omega (arith, is, four));
+  unwritten = λ failed. absurd (unfailed failed);
+}

@@ -17,6 +17,7 @@ pub mod QuickAnswers
 pub mod OneAnswer
 pub mod NumberFlags
 pub mod Schedules
+pub mod Running
 pub mod Finishing
 pub mod AskedLines
 pub mod Answered

@@ -108,11 +108,6 @@ pub record HasGrownRefusal (IsFault : RunFault → Type 0) (old new : Option (Li
   pub written : ¬ failed → Appends old new (refusal_line fault)
   pub begun : failed → AppendsBeginning old new (refusal_line fault)
 
--- known bytes grew by the line that says why the text, or the test that it spells, is refused; where a write failed, by a
--- beginning of that line
-abbrev pub HasRefused : (text : List ℕ) → (old new : Option (List ℕ)) → Type 0 → Type 0
-HasRefused text old new failed = HasGrownRefusal (IsFaultOn text) old new failed
-
 -- what checking a text can give as a status
 abbrev pub IsCheckStatus : ℕ → Type 0
 IsCheckStatus n = (n ≡ 0) ⊎ (n ≡ 1) ⊎ (n ≡ 3) ⊎ (n ≡ 4)

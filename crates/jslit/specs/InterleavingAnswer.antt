@@ -7,7 +7,7 @@ use Rattle.lit_search.specs.Interleaving.{interleaved}
 use Rattle.lit_search.specs.Report.{Entry, Report}
 use Rattle.jslit.specs.declared.fault.RunFault.{RunFault}
 use Rattle.jslit.specs.declared.fault.RunFault.TheVariants as faults
-use Rattle.jslit.specs.Answer.{HasGrown, HasGrownSome, HasGrownRefusal}
+use Rattle.jslit.specs.Answer.{HasGrown, HasGrownSome}
 use Rattle.jslit.specs.ReportText.{interleaving_text}
 use Rattle.jslit.specs.Schedule.{NamesAgents, NamesNoAgents}
 
@@ -47,7 +47,3 @@ HasInterleaved schedule text old new = HasGrown (IsInterleavingOn schedule text)
 -- known bytes grew by a beginning of it
 abbrev pub HasInterleavedSome : (schedule text : List ℕ) → (old new : Option (List ℕ)) → Type 0
 HasInterleavedSome schedule text old new = HasGrownSome (IsInterleavingOn schedule text) old new
-
--- known bytes grew by the line that says why the schedule or the text is refused; where a write failed, by a beginning of it
-abbrev pub HasRefusedSchedule : (schedule text : List ℕ) → (old new : Option (List ℕ)) → Type 0 → Type 0
-HasRefusedSchedule schedule text old new failed = HasGrownRefusal (IsScheduleFaultOn schedule text) old new failed

@@ -1,4 +1,4 @@
--- Notions of the contracts of private functions. No public contract names them.
+-- Notions of the contracts of private functions, and of how a fault of a lower crate becomes one of a run.
 pub mod Faults
 pub mod Reading
 pub mod FirstEntry

@@ -9,5 +9,6 @@ pub mod Answer
 pub mod Schedule
 pub mod InterleavingAnswer
 pub mod Words
+pub mod RunAnswer
 pub mod ProgramAnswer
 pub mod Internal

@@ -3,10 +3,10 @@ use Rattle.std.specs.Prelude.{◌≡◌, ◌⊎◌, ◌<◌, ℕ, Bool, List, Op
 use Rattle.clap.specs.Words.{Text}
 use Rattle.jslit.specs.declared.counted.Counted.{Counted}
 use Rattle.jslit.specs.declared.fault.RunFault.{RunFault}
-use Rattle.jslit.specs.Answer.{HasGrown, HasGrownRefusal, HasGrownSome, IsAnswerOn, IsCheckStatus, IsFaultOn}
+use Rattle.jslit.specs.Answer.{IsAnswerOn, IsCheckStatus, IsFaultOn}
 use Rattle.jslit.specs.Counted.{device_of, failures_of}
-use Rattle.jslit.specs.Devices.{OfToldText}
 use Rattle.jslit.specs.InterleavingAnswer.{IsInterleavingOn, IsScheduleFaultOn}
+use Rattle.jslit.specs.RunAnswer.{HasServed}
 use Rattle.jslit.specs.Words.{AsksHelp, AsksRun, AsksVersion, IsRefused, file_in, quick_in, schedule_in}
 
 -- the answer is the outcome of the schedule where there is one, and else the report
@@ -18,22 +18,6 @@ abbrev pub IsFaultBy : Option Text → (text : List ℕ) → RunFault → Type 0
 IsFaultBy None text fault = IsFaultOn text fault
 IsFaultBy (Some schedule) text fault = IsScheduleFaultOn schedule text fault
 
--- What a run on what a reader tells comes to, by the program's status: with 0 the output took the whole answer, and no write
--- failed; with 1 the line of the refusal, or a beginning of it where a write failed; with 4 a beginning of the answer or nothing.
-pub record HasServed {W : Type 0} (contents : W → Option (List ℕ)) (told : Option (List ℕ)) (input_failed : Type 0) (quick : Bool)
-    (schedule : Option Text)
-    (status : ℕ) (old new : Counted W) : Type 0 where
-  pub answered : status ≡ 0 → OfToldText told
-      (λ text. HasGrown (IsAnswerBy quick schedule text) (contents (device_of old)) (contents (device_of new)))
-  pub refused : status ≡ 1 → OfToldText told (λ text.
-      HasGrownRefusal (IsFaultBy schedule text) (contents (device_of old)) (contents (device_of new)) (failures_of old < failures_of new))
-  pub unfailed : status ≡ 0 → failures_of new ≡ failures_of old
-  pub failed : status ≡ 4 → input_failed ⊎ (failures_of old < failures_of new)
-      ⊎ OfToldText told (λ text. HasGrown (IsAnswerBy quick schedule text) (contents (device_of old)) (contents (device_of new)))
-  pub begun : status ≡ 4 → (new ≡ old)
-      ⊎ OfToldText told (λ text. HasGrownSome (IsAnswerBy quick schedule text) (contents (device_of old)) (contents (device_of new)))
-  pub unwritten : input_failed → (status ≡ 4) × (new ≡ old)
-
 -- What the program comes to: help or the version where the words ask for it, the status 2 where they are refused, 3 where memory ran out,
 -- and else a run on what the input tells, or on a file, of whose bytes nothing is known; then the input is as it was.
 pub record HasAnswered {R W : Type 0} (remaining : R → Option (List ℕ)) (contents : W → Option (List ℕ)) (words : List Text) (status : ℕ)
@@ -41,7 +25,8 @@ pub record HasAnswered {R W : Type 0} (remaining : R → Option (List ℕ)) (con
   pub asked : ((status ≡ 0) × (AsksHelp words ⊎ AsksVersion words)) ⊎ ((status ≡ 2) × IsRefused words) ⊎ (status ≡ 3)
       ⊎ (AsksRun words × IsCheckStatus status)
   pub on_input : AsksRun words → file_in words ≡ None
-      → HasServed contents (remaining (device_of old_input)) (failures_of old_input < failures_of new_input) (quick_in words)
-      (schedule_in words) status old new
+      → HasServed contents (remaining (device_of old_input)) (failures_of old_input < failures_of new_input)
+      (IsAnswerBy (quick_in words) (schedule_in words)) (IsFaultBy (schedule_in words)) status old new
   pub on_file : AsksRun words → is_some (file_in words) ≡ true
-      → (new_input ≡ old_input) × HasServed contents None ((status ≡ 4) × (new ≡ old)) (quick_in words) (schedule_in words) status old new
+      → (new_input ≡ old_input) × HasServed contents None ((status ≡ 4) × (new ≡ old))
+      (IsAnswerBy (quick_in words) (schedule_in words)) (IsFaultBy (schedule_in words)) status old new

@@ -4,13 +4,15 @@ pub(crate) mod asked_line;
 pub(crate) mod version;
 pub(crate) mod words;
 
-ghost use Rattle.std.specs.Prelude.{◌≡◌, ◌≢◌, ◌⊎◌, ◌<◌, ◌^◌, ◌-◌, false, map, option_map, IfErr, OnOk};
+ghost use Rattle.std.specs.Prelude.{◌≡◌, ◌≢◌, ◌⊎◌, ◌<◌, ◌^◌, ◌-◌, map, option_map, IfErr, OnOk};
 ghost use Rattle.std.specs.Io.KnownBytes.{Keeps};
-ghost use Rattle.jslit.specs.Answer.{HasReported, HasBegun, HasRefused, IsCheckStatus, IsStatus, status_of};
+ghost use Rattle.std.specs.IoError.{error_kind};
+ghost use Rattle.std.specs.declared.io.ErrorKind.TheVariants.{OutOfMemory};
+ghost use Rattle.jslit.specs.Answer.{IsAnswerOn, IsCheckStatus, IsFaultOn, IsStatus, status_of};
 ghost use Rattle.jslit.specs.Counted.{device_of, failures_of};
-ghost use Rattle.jslit.specs.Devices.{OfToldText};
-ghost use Rattle.jslit.specs.InterleavingAnswer.{HasInterleaved, HasInterleavedSome, HasRefusedSchedule};
-ghost use Rattle.jslit.specs.ProgramAnswer.{HasAnswered, HasServed};
+ghost use Rattle.jslit.specs.InterleavingAnswer.{IsInterleavingOn, IsScheduleFaultOn};
+ghost use Rattle.jslit.specs.ProgramAnswer.{HasAnswered, IsAnswerBy, IsFaultBy};
+ghost use Rattle.jslit.specs.RunAnswer.{HasServed};
 ghost use Rattle.jslit.specs.Internal.Saying.{HasSaid, IsExplained, IsSaid};
 ghost use Rattle.clap.specs.Words.{kind_of};
 
@@ -109,9 +111,9 @@ fn serve<T: Threads + Sync, R: Read, W: Write, E: Write, G: Watch<Pass = ()>>(
     requires output { failures_of output.old < 2 ^ 64 - 1 }
     ensures status { IsCheckStatus result }
     ensures memory { result ≡ 3 → output.new ≡ output.old }
-    ensures served { HasServed W.contents (R.remaining (device_of input.old))
-        (failures_of input.old < failures_of input.new) line.now.options.quick
-        (option_map (λ text. text.now) line.now.schedule) result output.old output.new }
+    ensures served { HasServed W.contents (R.remaining (device_of input.old)) (failures_of input.old < failures_of input.new)
+        (IsAnswerBy line.now.options.quick (option_map (λ text. text.now) line.now.schedule))
+        (IsFaultBy (option_map (λ text. text.now) line.now.schedule)) result output.old output.new }
 {
     match line.schedule {
         Some(schedule) => check_schedule(alloc, input, output, errors, schedule.as_bytes()),
@@ -132,27 +134,9 @@ pub fn check<T: Threads + Sync, R: Read, W: Write, E: Write>(
     requires input { failures_of input.old < 2 ^ 64 - 1 }
     requires output { failures_of output.old < 2 ^ 64 - 1 }
     ensures status { IsCheckStatus result }
-    ensures reported { result ≡ 0 → OfToldText (R.remaining (device_of input.old)) (λ text.
-        HasReported options.quick text (W.contents (device_of output.old)) (W.contents (device_of output.new))) }
-
-    // The output takes the line of the refusal, or a beginning of it where a write failed.
-    ensures refused { result ≡ 1 → OfToldText (R.remaining (device_of input.old)) (λ text.
-        HasRefused text (W.contents (device_of output.old)) (W.contents (device_of output.new))
-        (failures_of output.old < failures_of output.new)) }
     ensures memory { result ≡ 3 → output.new ≡ output.old }
-    ensures input_failed { failures_of input.old < failures_of input.new → (result ≡ 4) × (output.new ≡ output.old) }
-
-    ensures unfailed { result ≡ 0 → failures_of output.new ≡ failures_of output.old }
-
-    // An input or output failed, or flushing the whole report did. The output takes a beginning of the report, or nothing.
-    ensures failed { result ≡ 4 →
-        (failures_of input.old < failures_of input.new)
-        ⊎ (failures_of output.old < failures_of output.new)
-        ⊎ OfToldText (R.remaining (device_of input.old)) (λ text.
-        HasReported options.quick text (W.contents (device_of output.old)) (W.contents (device_of output.new))) }
-    ensures begun { result ≡ 4 → (output.new ≡ output.old)
-        ⊎ OfToldText (R.remaining (device_of input.old)) (λ text.
-        HasBegun options.quick text (W.contents (device_of output.old)) (W.contents (device_of output.new))) }
+    ensures served { HasServed W.contents (R.remaining (device_of input.old)) (failures_of input.old < failures_of input.new)
+        (IsAnswerOn options.quick) IsFaultOn result output.old output.new }
 {
     check_watched(rt, alloc, input, output, errors, options, &OpenGate)
 }
@@ -170,27 +154,9 @@ pub fn check_watched<T: Threads + Sync, R: Read, W: Write, E: Write, G: Watch<Pa
     requires input { failures_of input.old < 2 ^ 64 - 1 }
     requires output { failures_of output.old < 2 ^ 64 - 1 }
     ensures status { IsCheckStatus result }
-    ensures reported { result ≡ 0 → OfToldText (R.remaining (device_of input.old)) (λ text.
-        HasReported options.quick text (W.contents (device_of output.old)) (W.contents (device_of output.new))) }
-
-    // The output takes the line of the refusal, or a beginning of it where a write failed.
-    ensures refused { result ≡ 1 → OfToldText (R.remaining (device_of input.old)) (λ text.
-        HasRefused text (W.contents (device_of output.old)) (W.contents (device_of output.new))
-        (failures_of output.old < failures_of output.new)) }
     ensures memory { result ≡ 3 → output.new ≡ output.old }
-    ensures input_failed { failures_of input.old < failures_of input.new → (result ≡ 4) × (output.new ≡ output.old) }
-
-    ensures unfailed { result ≡ 0 → failures_of output.new ≡ failures_of output.old }
-
-    // An input or output failed, or flushing the whole report did. The output takes a beginning of the report, or nothing.
-    ensures failed { result ≡ 4 →
-        (failures_of input.old < failures_of input.new)
-        ⊎ (failures_of output.old < failures_of output.new)
-        ⊎ OfToldText (R.remaining (device_of input.old)) (λ text.
-        HasReported options.quick text (W.contents (device_of output.old)) (W.contents (device_of output.new))) }
-    ensures begun { result ≡ 4 → (output.new ≡ output.old)
-        ⊎ OfToldText (R.remaining (device_of input.old)) (λ text.
-        HasBegun options.quick text (W.contents (device_of output.old)) (W.contents (device_of output.new))) }
+    ensures served { HasServed W.contents (R.remaining (device_of input.old)) (failures_of input.old < failures_of input.new)
+        (IsAnswerOn options.quick) IsFaultOn result output.old output.new }
 {
     let Ok(passes) = passes(alloc, options.workers) else {
         return say(output, errors, RunFault::OutOfMemory);
@@ -212,27 +178,9 @@ pub fn check_schedule<R: Read, W: Write, E: Write>(
     requires input { failures_of input.old < 2 ^ 64 - 1 }
     requires output { failures_of output.old < 2 ^ 64 - 1 }
     ensures status { IsCheckStatus result }
-    ensures answered { result ≡ 0 → OfToldText (R.remaining (device_of input.old)) (λ text.
-        HasInterleaved schedule.now text (W.contents (device_of output.old)) (W.contents (device_of output.new))) }
-
-    // The output takes the line of the refusal, or a beginning of it where a write failed.
-    ensures refused { result ≡ 1 → OfToldText (R.remaining (device_of input.old)) (λ text.
-        HasRefusedSchedule schedule.now text (W.contents (device_of output.old)) (W.contents (device_of output.new))
-        (failures_of output.old < failures_of output.new)) }
     ensures memory { result ≡ 3 → output.new ≡ output.old }
-    ensures input_failed { failures_of input.old < failures_of input.new → (result ≡ 4) × (output.new ≡ output.old) }
-
-    ensures unfailed { result ≡ 0 → failures_of output.new ≡ failures_of output.old }
-
-    // An input or output failed, or flushing the whole answer did. The output takes a beginning of the answer, or nothing.
-    ensures failed { result ≡ 4 →
-        (failures_of input.old < failures_of input.new)
-        ⊎ (failures_of output.old < failures_of output.new)
-        ⊎ OfToldText (R.remaining (device_of input.old)) (λ text.
-        HasInterleaved schedule.now text (W.contents (device_of output.old)) (W.contents (device_of output.new))) }
-    ensures begun { result ≡ 4 → (output.new ≡ output.old)
-        ⊎ OfToldText (R.remaining (device_of input.old)) (λ text.
-        HasInterleavedSome schedule.now text (W.contents (device_of output.old)) (W.contents (device_of output.new))) }
+    ensures served { HasServed W.contents (R.remaining (device_of input.old)) (failures_of input.old < failures_of input.new)
+        (IsInterleavingOn schedule.now) (IsScheduleFaultOn schedule.now) result output.old output.new }
 {
     let ran = run_schedule(alloc, input, output, schedule);
     finish(output, errors, ran)
@@ -316,7 +264,8 @@ fn explain<W: Write, E: Write>(output: &mut Counted<W>, errors: &mut E, error: &
 /// Prints why the words of the command line could not be read, and gives the status: 3 where memory ran out, and else 2,
 /// for words that are not text.
 pub fn no_words<E: Write>(errors: &mut E, error: &io::Error) -> u8
-    ensures { (result ≡ 2) ⊎ (result ≡ 3) }
+    ensures memory { error_kind error.now ≡ OutOfMemory → result ≡ 3 }
+    ensures other { error_kind error.now ≢ OutOfMemory → result ≡ 2 }
 {
     if error.kind() == io::ErrorKind::OutOfMemory {
         let _ = writeln!(errors, "{}", RunFault::OutOfMemory);

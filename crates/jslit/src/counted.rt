@@ -42,7 +42,11 @@ impl<D> Counted<D> {
     pub fn failures(&self) -> u64
         ensures { result ≡ failures_of self.now }
     {
-        self.failures
+        let Counted {
+            failures,
+            device: _,
+        } = self;
+        *failures
     }
 }
 

@@ -2,12 +2,11 @@
 
 pub(crate) mod answering;
 
-ghost use Rattle.std.specs.Prelude.{◌≡◌, ◌≢◌, ◌+◌, ◌≤◌, ◌<◌, ◌^◌, ◌-◌, ◌↔◌, IfErr, OnOk, IsErrOf, length};
-ghost use Rattle.lit_read.specs.declared.limits.TheConstants.{TEXT_LIMIT};
+ghost use Rattle.std.specs.Prelude.{◌≡◌, ◌≤◌, ◌<◌, ◌^◌, ◌-◌, length};
 ghost use Rattle.lit_share.specs.declared.limits.TheConstants.{CUT_LIMIT, WORKER_LIMIT};
-ghost use Rattle.jslit.specs.Answer.{IsFaultOn, HasReported, HasBegun};
-ghost use Rattle.jslit.specs.Counted.{device_of, failures_of};
-ghost use Rattle.jslit.specs.Devices.{OfToldText, ConsumesBeginning, ConsumesTold};
+ghost use Rattle.jslit.specs.Answer.{IsAnswerOn, IsFaultOn};
+ghost use Rattle.jslit.specs.Counted.{failures_of};
+ghost use Rattle.jslit.specs.RunAnswer.{HasRun};
 
 use crate::counted::Counted;
 use crate::engine::answering::{answer, passes};
@@ -51,30 +50,7 @@ pub fn run<T: Threads + Sync, R: Read, W: Write>(
 ) -> Result<(), RunFault>
     requires input { failures_of input.old < 2 ^ 64 - 1 }
     requires output { failures_of output.old < 2 ^ 64 - 1 }
-
-    // The writer holds what it held, and then the report on the test that the text spells: the quick one where it is
-    // asked for, and else the whole one.
-    ensures reported { OnOk result (OfToldText (R.remaining (device_of input.old)) (λ text.
-        HasReported options.quick text (W.contents (device_of output.old)) (W.contents (device_of output.new)))) }
-
-    // A text is refused for its first fault, and a test for the limit that it passes.
-    ensures refused { IfErr result (λ fault. OfToldText (R.remaining (device_of input.old)) (λ text. IsFaultOn text fault)) }
-
-    // A device is said to have failed exactly where it did, in this call.
-    ensures input_failed { IsErrOf result RunFault.InputFailed ↔ (failures_of input.old < failures_of input.new) }
-    ensures output_failed { IsErrOf result RunFault.OutputFailed ↔ (failures_of output.old < failures_of output.new) }
-    ensures input_count { failures_of input.old ≤ failures_of input.new }
-    ensures output_count { failures_of output.old ≤ failures_of output.new }
-
-    // Where a write failed, a beginning of the report was written, and else a refusal writes nothing.
-    ensures begun { IsErrOf result RunFault.OutputFailed → OfToldText (R.remaining (device_of input.old)) (λ text.
-        HasBegun options.quick text (W.contents (device_of output.old)) (W.contents (device_of output.new))) }
-    ensures unwritten { IfErr result (λ fault. fault ≢ RunFault.OutputFailed → output.new ≡ output.old) }
-
-    // No byte behind the text is read, and where the text was read whole, each byte of it is.
-    ensures consumed { ConsumesBeginning (R.remaining (device_of input.old)) (R.remaining (device_of input.new)) (TEXT_LIMIT + 1) }
-    ensures whole { ¬ IsErrOf result RunFault.InputFailed → ¬ IsErrOf result RunFault.OutOfMemory →
-        ConsumesTold (R.remaining (device_of input.old)) (R.remaining (device_of input.new)) }
+    ensures { HasRun R.remaining W.contents (IsAnswerOn options.quick) IsFaultOn result input.old input.new output.old output.new }
 {
     let passes = passes(alloc, options.workers)?;
     run_watched(rt, alloc, input, output, options, &OpenGate, passes)
@@ -94,30 +70,7 @@ pub fn run_watched<T: Threads + Sync, R: Read, W: Write, G: Watch>(
     requires passes { length passes.items ≡ options.workers }
     requires input { failures_of input.old < 2 ^ 64 - 1 }
     requires output { failures_of output.old < 2 ^ 64 - 1 }
-
-    // The writer holds what it held, and then the report on the test that the text spells: the quick one where it is
-    // asked for, and else the whole one.
-    ensures reported { OnOk result (OfToldText (R.remaining (device_of input.old)) (λ text.
-        HasReported options.quick text (W.contents (device_of output.old)) (W.contents (device_of output.new)))) }
-
-    // A text is refused for its first fault, and a test for the limit that it passes.
-    ensures refused { IfErr result (λ fault. OfToldText (R.remaining (device_of input.old)) (λ text. IsFaultOn text fault)) }
-
-    // A device is said to have failed exactly where it did, in this call.
-    ensures input_failed { IsErrOf result RunFault.InputFailed ↔ (failures_of input.old < failures_of input.new) }
-    ensures output_failed { IsErrOf result RunFault.OutputFailed ↔ (failures_of output.old < failures_of output.new) }
-    ensures input_count { failures_of input.old ≤ failures_of input.new }
-    ensures output_count { failures_of output.old ≤ failures_of output.new }
-
-    // Where a write failed, a beginning of the report was written, and else a refusal writes nothing.
-    ensures begun { IsErrOf result RunFault.OutputFailed → OfToldText (R.remaining (device_of input.old)) (λ text.
-        HasBegun options.quick text (W.contents (device_of output.old)) (W.contents (device_of output.new))) }
-    ensures unwritten { IfErr result (λ fault. fault ≢ RunFault.OutputFailed → output.new ≡ output.old) }
-
-    // No byte behind the text is read, and where the text was read whole, each byte of it is.
-    ensures consumed { ConsumesBeginning (R.remaining (device_of input.old)) (R.remaining (device_of input.new)) (TEXT_LIMIT + 1) }
-    ensures whole { ¬ IsErrOf result RunFault.InputFailed → ¬ IsErrOf result RunFault.OutOfMemory →
-        ConsumesTold (R.remaining (device_of input.old)) (R.remaining (device_of input.new)) }
+    ensures { HasRun R.remaining W.contents (IsAnswerOn options.quick) IsFaultOn result input.old input.new output.old output.new }
 {
     let text = read_text(alloc, input)?;
     answer(rt, alloc, &text, output, options, watch, passes)

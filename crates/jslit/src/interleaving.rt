@@ -2,14 +2,14 @@
 
 pub(crate) mod schedule;
 
-ghost use Rattle.std.specs.Prelude.{◌≡◌, ◌≢◌, ◌+◌, ◌≤◌, ◌<◌, ◌^◌, ◌-◌, ◌↔◌, IfErr, OnOk, OnErr, IsErrOf, length};
+ghost use Rattle.std.specs.Prelude.{◌≡◌, ◌≢◌, ◌<◌, ◌^◌, ◌-◌, IfErr, OnOk, OnErr, IsErrOf, length};
 ghost use Rattle.std.specs.Io.KnownBytes.{Appends};
-ghost use Rattle.lit_read.specs.declared.limits.TheConstants.{TEXT_LIMIT};
 ghost use Rattle.lit_paths.specs.Outcome.{names_of};
 ghost use Rattle.jslit.specs.Counted.{device_of, failures_of, one_more};
-ghost use Rattle.jslit.specs.Devices.{AppendsBeginning, ConsumesBeginning, ConsumesTold, OfToldText};
-ghost use Rattle.jslit.specs.InterleavingAnswer.{HasInterleaved, HasInterleavedSome, IsScheduleFaultOn};
+ghost use Rattle.jslit.specs.Devices.{AppendsBeginning};
+ghost use Rattle.jslit.specs.InterleavingAnswer.{HasInterleaved, HasInterleavedSome, IsInterleavingOn, IsScheduleFaultOn};
 ghost use Rattle.jslit.specs.ReportText.{interleaving_text};
+ghost use Rattle.jslit.specs.RunAnswer.{HasRun};
 ghost use Rattle.jslit.specs.Internal.Answering.{IsOfTextOrWriting};
 
 use crate::counted::Counted;
@@ -91,30 +91,8 @@ pub fn run_schedule<R: Read, W: Write>(
 ) -> Result<(), RunFault>
     requires input { failures_of input.old < 2 ^ 64 - 1 }
     requires output { failures_of output.old < 2 ^ 64 - 1 }
-
-    // The writer holds what it held, and then the outcome of the schedule on the test that the text spells.
-    ensures answered { OnOk result (OfToldText (R.remaining (device_of input.old)) (λ text.
-        HasInterleaved schedule.now text (W.contents (device_of output.old)) (W.contents (device_of output.new)))) }
-
-    // A text is refused for its first fault, and a schedule where it names no agents of the test.
-    ensures refused { IfErr result
-        (λ fault. OfToldText (R.remaining (device_of input.old)) (λ text. IsScheduleFaultOn schedule.now text fault)) }
-
-    // A device is said to have failed exactly where it did, in this call.
-    ensures input_failed { IsErrOf result RunFault.InputFailed ↔ (failures_of input.old < failures_of input.new) }
-    ensures output_failed { IsErrOf result RunFault.OutputFailed ↔ (failures_of output.old < failures_of output.new) }
-    ensures input_count { failures_of input.old ≤ failures_of input.new }
-    ensures output_count { failures_of output.old ≤ failures_of output.new }
-
-    // Where a write failed, a beginning of the answer was written, and else a refusal writes nothing.
-    ensures begun { IsErrOf result RunFault.OutputFailed → OfToldText (R.remaining (device_of input.old)) (λ text.
-        HasInterleavedSome schedule.now text (W.contents (device_of output.old)) (W.contents (device_of output.new))) }
-    ensures unwritten { IfErr result (λ fault. fault ≢ RunFault.OutputFailed → output.new ≡ output.old) }
-
-    // No byte behind the text is read, and where the text was read whole, each byte of it is.
-    ensures consumed { ConsumesBeginning (R.remaining (device_of input.old)) (R.remaining (device_of input.new)) (TEXT_LIMIT + 1) }
-    ensures whole { ¬ IsErrOf result RunFault.InputFailed → ¬ IsErrOf result RunFault.OutOfMemory →
-        ConsumesTold (R.remaining (device_of input.old)) (R.remaining (device_of input.new)) }
+    ensures { HasRun R.remaining W.contents (IsInterleavingOn schedule.now) (IsScheduleFaultOn schedule.now)
+        result input.old input.new output.old output.new }
 {
     let text = read_text(alloc, input)?;
     answer_schedule(alloc, &text, output, schedule)

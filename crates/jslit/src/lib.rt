@@ -4,7 +4,8 @@
 //! repository, from the bytes in to the bytes out. `run_schedule` carries a test out step by step, in turns that the caller
 //! names. `program` is the program around both. The definitions stand in specs/: `Answer` (what a run answers for a text),
 //! `InterleavingAnswer`, `Schedule`, `ReportText`, `ChoiceEvents`, `Verdict`, `Devices`, `Counted`, `Words` (what the words
-//! of the command line ask for) and `ProgramAnswer`; those in `Internal` serve private contracts alone.
+//! of the command line ask for) and `ProgramAnswer`; those in `Internal` serve private
+//! contracts, and say how a fault of a lower crate becomes one of a run.
 #![tactic(auto)]
 
 mod command;

@@ -15,7 +15,7 @@ ghost use Rattle.std.specs.Fmt.{decimal};
 ghost use Rattle.std.specs.Io.KnownBytes.{Appends};
 ghost use Rattle.jslit.specs.Counted.{device_of, failures_of, one_more};
 ghost use Rattle.jslit.specs.Devices.{AppendsBeginning};
-ghost use Rattle.jslit.specs.Internal.Writing.{HasPut, IsFinished, IsStopped, writing_of};
+ghost use Rattle.jslit.specs.Internal.Writing.{HasPut, HasPutOn, IsFinished, IsStopped, writing_of};
 
 use crate::counted::Counted;
 use crate::fault::RunFault;
@@ -49,7 +49,7 @@ impl Page {
     /// Puts bytes behind what waits. Where there is no room for them, what waits is written first.
     #[inline]
     pub(crate) fn put<W: Write>(&mut self, output: &mut Counted<W>, bytes: &[u8])
-        ensures { HasPut (writing_of W.contents output.old self.old) (writing_of W.contents output.new self.new) bytes.now }
+        ensures { HasPutOn W.contents output.old output.new self.old self.new bytes.now }
     {
         if self.waiting.try_put(bytes) {
             return;
@@ -61,7 +61,7 @@ impl Page {
     #[inline]
     pub(crate) fn put_short<W: Write>(&mut self, output: &mut Counted<W>, text: &ShortText)
         requires { text.now.length ≤ length text.now.bytes }
-        ensures { HasPut (writing_of W.contents output.old self.old) (writing_of W.contents output.new self.new)
+        ensures { HasPutOn W.contents output.old output.new self.old self.new
             (take text.now.length text.now.bytes) }
     {
         if self.waiting.try_put_short(text) {
@@ -73,7 +73,7 @@ impl Page {
     /// Puts one byte behind what waits.
     #[inline]
     pub(crate) fn put_byte<W: Write>(&mut self, output: &mut Counted<W>, byte: u8)
-        ensures { HasPut (writing_of W.contents output.old self.old) (writing_of W.contents output.new self.new) (byte ∷ []) }
+        ensures { HasPutOn W.contents output.old output.new self.old self.new (byte ∷ []) }
     {
         self.put(output, &[byte]);
     }
@@ -81,7 +81,7 @@ impl Page {
     /// Writes what waits, and puts bytes behind it.
     #[inline(never)]
     fn put_anew<W: Write>(&mut self, output: &mut Counted<W>, bytes: &[u8])
-        ensures { HasPut (writing_of W.contents output.old self.old) (writing_of W.contents output.new self.new) bytes.now }
+        ensures { HasPutOn W.contents output.old output.new self.old self.new bytes.now }
     {
         self.flush(output);
         if self.waiting.try_put(bytes) {
@@ -92,7 +92,7 @@ impl Page {
 
     /// Puts a number, in decimal digits.
     pub(crate) fn put_number<W: Write>(&mut self, output: &mut Counted<W>, number: u64)
-        ensures { HasPut (writing_of W.contents output.old self.old) (writing_of W.contents output.new self.new) (decimal number) }
+        ensures { HasPutOn W.contents output.old output.new self.old self.new (decimal number) }
     {
         if number < 10 {
             self.put_byte(output, b'0' + number as u8);
@@ -105,7 +105,7 @@ impl Page {
 
     /// Writes what waits.
     fn flush<W: Write>(&mut self, output: &mut Counted<W>)
-        ensures put { HasPut (writing_of W.contents output.old self.old) (writing_of W.contents output.new self.new) [] }
+        ensures put { HasPutOn W.contents output.old output.new self.old self.new [] }
         ensures empty { self.new.waiting ≡ [] }
     {
         self.failed = write_on(self.failed, output, self.waiting.as_slice());

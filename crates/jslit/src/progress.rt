@@ -11,15 +11,19 @@ use std::time::Instant;
 /// How long a run goes on before a line is shown, in seconds.
 const QUIET: u64 = 2;
 
-/// Shows one line that renews itself, once a second at the most and on entering a piece: how many pieces have begun, of
-/// how many, and the seconds gone. Nothing is shown in the first two seconds, and at the end the line is taken away. It is
-/// meant for a terminal: a line is renewed by a carriage return. What can't be written is not shown.
+/// At every one of so many heartbeats the clock is read, which takes as long as some of the frames between them.
+const BEATS: u64 = 4_096;
+
+/// Shows one line that renews itself, once a second at the most, on entering a piece and while outcomes are searched: how many
+/// pieces have begun, of how many, and the seconds gone. Nothing is shown in the first two seconds, and at the end the line
+/// is taken away. It is meant for a terminal: a line is renewed by a carriage return. What can't be written is not shown.
 #[derive(Drop)]
 pub struct Progress<'a, C, E> {
     clock: &'a C,
     began: Option<Instant>,
     pieces: AtomicU64,
     begun: AtomicU64,
+    beats: AtomicU64,
     /// The second that is shown, or 0 where nothing is.
     shown: AtomicU64,
     terminal: Mutex<E>,
@@ -33,6 +37,7 @@ impl<'a, C: Clock, E> Progress<'a, C, E> {
             began: Instant::now(clock).ok(),
             pieces: AtomicU64::new(0),
             begun: AtomicU64::new(0),
+            beats: AtomicU64::new(0),
             shown: AtomicU64::new(0),
             terminal: Mutex::new(terminal),
         }
@@ -47,19 +52,33 @@ impl<'a, C: Clock, E> Progress<'a, C, E> {
     }
 }
 
-impl<C: Clock + Sync, E: Write + Send + Drop> Gate for Progress<'_, C, E> {
-    type Pass = ();
-
-    fn at(&self, _pass: &mut (), _worker: usize, _piece: u64) {
-        let begun = self.begun.fetch_add(1, Ordering::SeqCst).saturating_add(1);
+impl<C: Clock, E: Write> Progress<'_, C, E> {
+    /// Shows the line as it is now, if it is time to.
+    fn show(&self) {
         let seconds = self.seconds();
         if seconds < QUIET || self.shown.swap(seconds, Ordering::SeqCst) == seconds {
             return;
         }
+        let begun = self.begun.load(Ordering::SeqCst);
         let pieces = self.pieces.load(Ordering::SeqCst);
         if let Some(mut terminal) = self.terminal.try_lock() {
             let _ = write!(*terminal, "\r{begun} of {pieces} pieces begun, {seconds} s");
             let _ = terminal.flush();
+        }
+    }
+}
+
+impl<C: Clock + Sync, E: Write + Send + Drop> Gate for Progress<'_, C, E> {
+    type Pass = ();
+
+    fn at(&self, _pass: &mut (), _worker: usize, _piece: u64) {
+        self.begun.fetch_add(1, Ordering::SeqCst);
+        self.show();
+    }
+
+    fn alive(&self) {
+        if self.beats.fetch_add(1, Ordering::SeqCst) % BEATS == 0 {
+            self.show();
         }
     }
 }

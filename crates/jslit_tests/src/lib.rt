@@ -15,6 +15,8 @@ mod devices;
 #[cfg(test)]
 mod many_paths;
 #[cfg(test)]
+mod named_files;
+#[cfg(test)]
 mod refusals;
 #[cfg(test)]
 mod schedules;

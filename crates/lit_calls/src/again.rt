@@ -6,7 +6,7 @@ ghost use Rattle.lit_share.specs.declared.limits.TheConstants.{WORKER_LIMIT};
 
 use lit_paths::{Plan, plan};
 use lit_read::{Test, read, show};
-use lit_search::{Collector, Example, Found};
+use lit_search::{Collector, Example, Found, NoHeartbeat};
 use lit_share::{OpenGate, Quick, quick, search};
 use std::alloc::{AllocError, Global};
 use std::io::{Eprint, Print};
@@ -99,9 +99,9 @@ fn take<R: Eprint>(rt: &R, collector: &mut Collector<'_>, from: u64, to: u64) ->
     ensures test { OnOk result (collector.new.test ≡ collector.old.test) }
     ensures end { OnOk result (collector.new.end ≡ to) }
 {
-    if let Err(fault) = collector.take(from, to) {
+    if let Err(fault) = collector.take(&NoHeartbeat, from, to) {
         eprintln!(rt; "take: {fault}")?;
-        collector.take(from, to)?;
+        collector.take(&NoHeartbeat, from, to)?;
     }
     Ok(())
 }

@@ -11,7 +11,7 @@ use Rattle.lit_desk.specs.declared.class.Class2.TheVariants.{Met, Unmet}
 use Rattle.lit_desk.specs.declared.rule.Terms.{Terms}
 use Rattle.lit_desk.specs.declared.words.TheConstants.{NONE_TOLD}
 use Rattle.lit_desk.specs.Accounts.{new_account, took, told, saw}
-use Rattle.lit_desk.specs.Internal.Gathered.{joined}
+use Rattle.lit_desk.specs.Internal.Gathered.{joined_accounts}
 use Rattle.lit_desk.specs.Internal.Words.{number_in}
 use Rattle.lit_desk.specs.Internal.Rule.{numbers_below, all_tickets, late_of, all_told_in, all_seen_in, IsKept, AreFair}
 use Rattle.lit_desk.proofs.Alike.{AreAlike}
@@ -119,7 +119,7 @@ kept_joined : (w : ℕ) (rs bs ts cs ds ss : List ℕ) → IsKept w (rs ++ (bs +
 kept_joined w rs bs ts cs ds ss h = subst (λ l. IsKept w l ((cs ++ ds) ++ ss)) (sym (append_assoc rs bs ts)) (subst (λ l. IsKept w (rs ++ (bs ++ ts)) l) (sym (append_assoc cs ds ss)) h)
 
 -- a seat takes in another, which is spent
-pub fair_joined : (t : Terms) (n m u : ℕ) (v w : Account) (vs : List Account) → AreFair t n m u (w ∷ v ∷ vs) → AreFair t n m u (new_account 0 ∷ joined w v ∷ vs)
+pub fair_joined : (t : Terms) (n m u : ℕ) (v w : Account) (vs : List Account) → AreFair t n m u (w ∷ v ∷ vs) → AreFair t n m u (new_account 0 ∷ joined_accounts w v ∷ vs)
 fair_joined t n m u v w vs h =
     let LateOf : Account → ℕ = λ x. length (late_of t.pieces x) in
     let Late : Account → Type 0 = λ x. length (late_of t.pieces x) ≤ x.places in
@@ -129,20 +129,20 @@ fair_joined t n m u v w vs h =
     let late_vs = All-tail Late w (v ∷ vs) h.late in
     let late_v = All-head Late v vs late_vs in
     let spent_vs = All-tail Spent w (v ∷ vs) h.spent in
-    let both : length (late_of t.pieces (joined w v)) ≡ length (late_of t.pieces w) + length (late_of t.pieces v) = ap length (filter-append (λ k. leb t.pieces k) w.tickets v.tickets) ∙ length-append (late_of t.pieces w) (late_of t.pieces v) in record {
+    let both : length (late_of t.pieces (joined_accounts w v)) ≡ length (late_of t.pieces w) + length (late_of t.pieces v) = ap length (filter-append (λ k. leb t.pieces k) w.tickets v.tickets) ∙ length-append (late_of t.pieces w) (late_of t.pieces v) in record {
       tickets = subst (λ l. IsPermutation l (numbers_below n)) (sym (append_assoc w.tickets v.tickets (all_tickets vs))) h.tickets;
-      late = All-cons Late (new_account 0) (joined w v ∷ vs) (omega arith) (first_changed Late v (joined w v) vs (omega arith) late_vs);
-      places = omega (arith, h.places, sum_by-cons Places w (v ∷ vs), sum_by-cons Places v vs, sum_by-cons Places (new_account 0) (joined w v ∷ vs), sum_by-cons Places (joined w v) vs);
-      reached = omega (arith, h.reached, sum_by-cons LateOf w (v ∷ vs), sum_by-cons LateOf v vs, sum_by-cons LateOf (new_account 0) (joined w v ∷ vs), sum_by-cons LateOf (joined w v) vs);
+      late = All-cons Late (new_account 0) (joined_accounts w v ∷ vs) (omega arith) (first_changed Late v (joined_accounts w v) vs (omega arith) late_vs);
+      places = omega (arith, h.places, sum_by-cons Places w (v ∷ vs), sum_by-cons Places v vs, sum_by-cons Places (new_account 0) (joined_accounts w v ∷ vs), sum_by-cons Places (joined_accounts w v) vs);
+      reached = omega (arith, h.reached, sum_by-cons LateOf w (v ∷ vs), sum_by-cons LateOf v vs, sum_by-cons LateOf (new_account 0) (joined_accounts w v ∷ vs), sum_by-cons LateOf (joined_accounts w v) vs);
       met_kept = kept_joined m w.met.told v.met.told (all_told_in Met vs) w.met.seen v.met.seen (all_seen_in Met vs) h.met_kept;
       unmet_kept = kept_joined u w.unmet.told v.unmet.told (all_told_in Unmet vs) w.unmet.seen v.unmet.seen (all_seen_in Unmet vs) h.unmet_kept;
       spent =
-          All-cons Spent (new_account 0) (joined w v ∷ vs) (λ _. refl)
-          (first_changed Spent v (joined w v) vs
+          All-cons Spent (new_account 0) (joined_accounts w v ∷ vs) (λ _. refl)
+          (first_changed Spent v (joined_accounts w v) vs
           (λ e.
           let w_none : w.places ≡ 0 = omega arith in
           let v_none : v.places ≡ 0 = omega arith in
-          ap (λ (x : Account). joined x v) (All-head Spent w (v ∷ vs) h.spent w_none) ∙ ap (λ (x : Account). joined (new_account 0) x) (All-head Spent v vs spent_vs v_none))
+          ap (λ (x : Account). joined_accounts x v) (All-head Spent w (v ∷ vs) h.spent w_none) ∙ ap (λ (x : Account). joined_accounts (new_account 0) x) (All-head Spent v vs spent_vs v_none))
           spent_vs);
     }
 

@@ -12,7 +12,7 @@ use Rattle.lit_desk.specs.declared.class.Class2.TheVariants.{Met, Unmet}
 use Rattle.lit_desk.specs.declared.rule.Terms.{Terms}
 use Rattle.lit_desk.specs.declared.words.TheConstants.{NONE_TOLD, TICKET_WORD, MET_WORD, UNMET_WORD}
 use Rattle.lit_desk.specs.Accounts.{new_account, numbers_in, took, told, saw}
-use Rattle.lit_desk.specs.Internal.Gathered.{joined}
+use Rattle.lit_desk.specs.Internal.Gathered.{joined_accounts}
 use Rattle.lit_desk.specs.Internal.Words.{number_in, word_of}
 use Rattle.lit_desk.specs.Internal.Rule.{late_of, all_told_in, all_seen_in, AreFair, IsFair}
 use Rattle.lit_desk.specs.Internal.Steps.{Takes, Tells, Sees, SeesIn}
@@ -122,10 +122,10 @@ leaves t id k s h at =
     let there = alike_then (new_account 1 ∷ new_account k ∷ R) (new_account 1 ∷ seats) (seats ++ new_account 1 ∷ []) (alike_below (new_account 1) (new_account k ∷ R) seats (set_alike s.views id (new_account (suc k)) (new_account k) at)) (last_alike (new_account 1) seats) in
     (n, m, u, is, fair_alike t n m u (new_account 1 ∷ new_account k ∷ R) (seats ++ new_account 1 ∷ []) there now)
 
-pub gathers : (t : Terms) (id : ℕ) (v : Account) (other : ℕ) (w : Account) → Joins (Holds t) id v other w (joined w v) (new_account 0)
+pub gathers : (t : Terms) (id : ℕ) (v : Account) (other : ℕ) (w : Account) → Joins (Holds t) id v other w (joined_accounts w v) (new_account 0)
 gathers t id v other w s h at apart there =
     let (n, m, u, is, fair) = h in
-    let both = joined w v in
+    let both = joined_accounts w v in
     let was : get_elem? s.views other ≡ some w = ⊎_elim (λ (x : (other ≡ id) × (both ≡ w)). absurd (apart x.0)) (λ (x : (other ≢ id) × (get_elem? s.views other ≡ some w)). x.1) (at_set s.views id other both w there) in
     let (k, found, moved) = other_place s.views id other v w apart at was in
     let R = without s.views other in

@@ -104,7 +104,8 @@ impl Desk {
             .fetch_min::<Tells>(&mut place.seat, word_of_class(class), number);
     }
 
-    /// The least number that any place told in a class so far, if one did.
+    /// A number that some place told in a class, no higher than any that this place told or saw there; `None` only where
+    /// this place has told and seen none there. That some place told it is said by `close`.
     pub fn look(&self, place: &mut Place, class: Class2) -> Option<u64>
         requires { IsPlaceOf self.now place.old }
         ensures seen { IfSome result (λ n. place.new ≡ with_seen class place.old n) }

@@ -1,7 +1,7 @@
 //! A desk where threads claim numbers and tell each other the least that they found.
 //!
 //! A `Desk` gives the numbers below its count of pieces out to its places, each number to one place. Each place tells
-//! numbers in two classes and looks at the least that any place told. `Desk::close` says what all places did:
+//! numbers in two classes and looks at what was told, no higher than what it told or saw itself. `Desk::close` says what all places did:
 //! the numbers drawn are those below `drawn`, each once, and `met` and `unmet` are the least told. This holds however the
 //! threads take turns; which place gets what, progress and time are left open. The definitions stand in `specs/Desk.antt`.
 #![tactic(auto)]

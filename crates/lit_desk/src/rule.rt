@@ -76,9 +76,9 @@ pub(crate) struct Gathers;
 
 impl Join<Account> for Gathers {
     ghost use Rattle.lit_desk.specs.Accounts.{new_account};
-    ghost use Rattle.lit_desk.specs.Internal.Gathered.{joined};
+    ghost use Rattle.lit_desk.specs.Internal.Gathered.{joined_accounts};
 
-    ghost both = { λ v w. joined w v };
+    ghost both = { λ v w. joined_accounts w v };
 
     ghost spent = { new_account 0 };
 }

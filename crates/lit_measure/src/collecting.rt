@@ -4,7 +4,7 @@ ghost use Rattle.std.specs.Prelude.{◌<◌};
 
 use lit_paths::{Plan, plan};
 use lit_read::read;
-use lit_search::{Collector, Found, SearchFault};
+use lit_search::{Collector, Found, NoHeartbeat, SearchFault};
 use std::alloc::Global;
 use std::test::Fail;
 
@@ -17,7 +17,7 @@ fn collect(alloc: Global, plan: &Plan<'_>, size: u64) -> Result<Found, SearchFau
     let mut from = 0;
     while from < total {
         let end = from.saturating_add(size).min(total);
-        collector.take(from, end)?;
+        collector.take(&NoHeartbeat, from, end)?;
         from = end;
     }
     collector.into_found()

@@ -28,9 +28,7 @@ length_from_once xs n only once =
     length-le_from_distinct_below xs n
     (IsDistinct-from_AllPairs Decides-eqb xs
     (λ i j d l h same.
-    let at_i : slice_get xs i ≡ Some (get_or xs i d) = slice_get-get_or xs i d (omega arith) in
-    let at_j : slice_get xs j ≡ Some (get_or xs i d) = slice_get-get_or xs j d h ∙ ap Some (sym same) in
-    let e : i ≡ j = once i j (get_or xs i d) at_i at_j in
+    let e = once i j (get_or xs i d) (slice_get-get_or xs i d (omega arith)) (slice_get-get_or xs j d h ∙ ap Some (sym same)) in
     absurd (omega arith)))
     (λ q h. let s = place_from_any xs q h in only s.place q s.at_place)
 

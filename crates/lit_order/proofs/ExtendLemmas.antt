@@ -1,8 +1,9 @@
 -- Orders where one pair more is given.
-use Rattle.std.proofs.Common.{◌≡◌, ◌≢◌, ◌⊎◌, ◌↔◌, ℕ, ◌<◌, List, [], ◌∷◌, refl, sym, subst, inl, inr}
-use Rattle.lit_rel.specs.HappensBefore.{Chain}
+use Rattle.std.proofs.Common.{◌≡◌, ◌≢◌, ◌⊎◌, ◌↔◌, ℕ, ◌<◌, List, [], refl, subst, inl, inr, arith}
 use Rattle.lit_rel.specs.declared.rows.Rows.{Rows}
 use Rattle.lit_rel.specs.Rows.{Holds, rows_len, IsTransitive, WithPair}
+use Rattle.lit_rel.proofs.ChainLemmas.{Chain-within}
+use Rattle.lit_rel.proofs.RowLemmas.{WithPair-within}
 use Rattle.lit_order.specs.Internal.Deciding.{AreDecided, IsUndecided}
 use Rattle.lit_order.specs.Forced.{AndPair}
 use Rattle.lit_order.specs.Forcing.{HasChain, IsForced, Given, Through, HasForcedCycle}
@@ -34,24 +35,8 @@ module _ (n : ℕ) (before more : ℕ → ℕ → Type 0) (forbidden : ℕ → �
   pub order_with : IsOrderOf n before forbidden order → StandsBefore order a d → IsOrderOf n more forbidden order
   order_with o here = record { complete = o.complete; keeps = λ x y h. keeps x y ((with_pair x y).0 h); avoids = o.avoids }
     where
-      through : (x m y : ℕ) → StandsBefore order x m → StandsBefore order m y → StandsBefore order x y
-      through = StandsBefore-through order o.complete.once
-
       keeps : (x y : ℕ) → WithPair before a d x y → StandsBefore order x y
-      keeps x y (inl old) = o.keeps x y old
-      keeps x y (inr led) =
-          let to_d : StandsBefore order x d =
-          elim led.0 [
-            | inl earlier ↦ through x a d (o.keeps x a earlier) here
-            | inr same ↦ subst (λ (e : ℕ). StandsBefore order e d) (sym same) here
-          ] in
-          elim led.1 [
-            | inl later ↦ through x d y to_d (o.keeps d y later)
-            | inr same ↦ subst (StandsBefore order x) (sym same) to_d
-          ]
-
-  pub order_without : IsOrderOf n more forbidden order → IsOrderOf n before forbidden order
-  order_without o = IsOrderOf-fewer n more before forbidden (λ x y h. (with_pair x y).1 (inl h)) order o
+      keeps = WithPair-within before (StandsBefore order) a d (StandsBefore-through order o.complete.once) o.keeps here
 
 -- in each order one side of a triple holds
 pub one_side : (n : ℕ) (before : ℕ → ℕ → Type 0) (forbidden : ℕ → ℕ → ℕ → Type 0) → AreTriplesBelow n forbidden → (order : List ℕ) → IsOrderOf n before forbidden order → (w r v : ℕ) → forbidden w r v → v ≢ w → v ≢ r → StandsBefore order r v ⊎ StandsBefore order v w
@@ -63,41 +48,23 @@ one_side n before forbidden triples order o w r v f not_source not_read =
 
 -- what leads through a pair is what chains of it lead to
 module _ (before more : ℕ → ℕ → Type 0) (a d : ℕ) (with_pair : (x y : ℕ) → more x y ↔ WithPair before a d x y) (transitive : IsTransitive more) where
-  pub chain_from_pair : (x y : ℕ) → WithPair before a d x y → HasChain (AndPair before a d) x y
-  chain_from_pair x y (inl old) = ([], inl old)
-  chain_from_pair x y (inr led) =
-      let here : HasChain (AndPair before a d) a d = ([], inr (refl, refl)) in
-      let to_d : HasChain (AndPair before a d) x d =
-      elim led.0 [
-        | inl earlier ↦ HasChain-through (AndPair before a d) x a d ([], inl earlier) here
-        | inr same ↦ subst (λ (e : ℕ). HasChain (AndPair before a d) e d) (sym same) here
-      ] in
-      elim led.1 [
-        | inl later ↦ HasChain-through (AndPair before a d) x d y to_d ([], inl later)
-        | inr same ↦ subst (HasChain (AndPair before a d) x) (sym same) to_d
-      ]
-
-  step_to_more : (x y : ℕ) → AndPair before a d x y → more x y
-  step_to_more x y (inl old) = (with_pair x y).1 (inl old)
-  step_to_more x y (inr same) = (with_pair x y).1 (inr (inr same.0, inr same.1))
-
-  chain_to_more : (x : ℕ) (middles : List ℕ) (y : ℕ) → Chain (AndPair before a d) x middles y → more x y
-  chain_to_more x [] y h = step_to_more x y h
-  chain_to_more x (m ∷ middles) y h = transitive x m y (step_to_more x m h.0) (chain_to_more m middles y h.1)
+  one : (x y : ℕ) → AndPair before a d x y → more x y
+  one x y (inl old) = (with_pair x y).1 (inl old)
+  one x y (inr same) = (with_pair x y).1 (inr (inr same.0, inr same.1))
 
   pub more_is_chain : (x y : ℕ) → more x y ↔ HasChain (AndPair before a d) x y
-  more_is_chain x y = ((λ h. chain_from_pair x y ((with_pair x y).0 h)), (λ chain. chain_to_more x chain.0 y chain.1))
+  more_is_chain x y = (
+    (λ h. WithPair-within before (HasChain (AndPair before a d)) a d (HasChain-through (AndPair before a d)) (λ e m old. ([], inl old)) ([], inr (refl, refl)) x y ((with_pair x y).0 h)),
+    (λ chain. Chain-within (AndPair before a d) more one transitive x chain.0 y chain.1),
+  )
 
 -- pairs between which rows decide, or not
 pub IsDecided-from_not : (rows : Rows) (forbidden : ℕ → ℕ → ℕ → Type 0) → ((w r v : ℕ) → forbidden w r v → ¬ IsUndecided (Holds rows) w r v) → AreDecided (Holds rows) forbidden
 IsDecided-from_not rows forbidden none w r v f not_source not_read =
+    let undecided = none w r v f in
     elim (holds_or_not rows r v) [
       | inl after ↦ inl after
-      | inr not_after ↦
-          elim (holds_or_not rows v w) [
-            | inl earlier ↦ inr earlier
-            | inr not_earlier ↦ absurd (none w r v f (record { not_source = not_source; not_read = not_read; not_after = not_after; not_earlier = not_earlier }))
-          ]
+      | inr not_after ↦ elim (holds_or_not rows v w) [ inl earlier ↦ inr earlier | inr not_earlier ↦ absurd (undecided (grind arith)) ]
     ]
 
 -- transitive rows without a cycle are strict

@@ -32,10 +32,3 @@ module _ (n : ℕ) (before : ℕ → ℕ → Type 0) (forbidden : ℕ → ℕ �
   keeps_forced a d (Through m p q) = StandsBefore-through order o.complete.once a m d (keeps_forced a m p) (keeps_forced m d q)
   keeps_forced r v (AfterRead w f ne_w ne_r p) = stands_after_read w r v f ne_r (keeps_forced w v p)
   keeps_forced v w (BeforeSource r f ne_w ne_r p) = stands_before_source w r v f ne_w (keeps_forced v r p)
-
-  pub IsOrderOf-forced : IsOrderOf n (IsForced before forbidden) forbidden order
-  IsOrderOf-forced = record { complete = o.complete; keeps = keeps_forced; avoids = o.avoids }
-
--- an order of what is forced is one of what was given
-pub IsOrderOf-given : (n : ℕ) (before : ℕ → ℕ → Type 0) (forbidden : ℕ → ℕ → ℕ → Type 0) (order : List ℕ) → IsOrderOf n (IsForced before forbidden) forbidden order → IsOrderOf n before forbidden order
-IsOrderOf-given n before forbidden order o = record { complete = o.complete; keeps = λ a d h. o.keeps a d (Given h); avoids = o.avoids }

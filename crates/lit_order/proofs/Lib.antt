@@ -6,9 +6,8 @@ pub mod StandingLemmas
 pub mod ForcedLemmas
 pub mod ExtendLemmas
 pub mod ForcingLemmas
-pub mod LevelLemmas
+pub mod GrownLemmas
 pub mod LinearLemmas
 pub mod MissingLemmas
 pub mod NarrowLemmas
-pub mod OtherLemmas
 pub mod RowsLemmas

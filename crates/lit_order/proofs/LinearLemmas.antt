@@ -40,23 +40,22 @@ module _ (n : ℕ) (before : ℕ → ℕ → Type 0) (strict : IsStrict n before
       split : (y : ℕ) → y < suc k → (y < k) ⊎ (y ≡ k)
       split y h = elim (cases_eq y k) [ inl same ↦ inr same | inr other ↦ inl (omega arith) ]
 
+      kept : (m : ℕ) → IsFirstLeft before order k m → (¬ Stands order k → ¬ before k m) → IsFirstLeft before order (suc k) m
+      kept m f last = record {
+        below = omega (arith, f.below);
+        left = f.left;
+        first = λ y h left b. elim (split y h) [ inl l ↦ f.first y l left b | inr same ↦ last (rw same at left) (rw same at b) ];
+      }
+
       passed : Stands order k → ((m : ℕ) × IsFirstLeft before order k m) ⊎ ((e : ℕ) → e < k → Stands order e) → ((m : ℕ) × IsFirstLeft before order (suc k) m) ⊎ ((e : ℕ) → e < suc k → Stands order e)
-      passed here (inl found) =
-          inl (
-            found.0,
-            record {
-              below = (let l : found.0 < k = found.1.below in omega arith);
-              left = found.1.left;
-              first = λ y h left b. elim (split y h) [ inl l ↦ found.1.first y l left b | inr same ↦ left (subst (Stands order) (sym same) here) ];
-            },
-          )
-      passed here (inr all) = inr (λ e h. elim (split e h) [ inl l ↦ all e l | inr same ↦ subst (Stands order) (sym same) here ])
+      passed here (inl found) = inl (found.0, kept found.0 found.1 (λ left b. left here))
+      passed here (inr all) = inr (λ e h. elim (split e h) [ inl l ↦ all e l | inr same ↦ rw same here ])
 
       itself : ¬ Stands order k → ((y : ℕ) → y < k → ¬ Stands order y → ¬ before y k) → IsFirstLeft before order (suc k) k
       itself left none = record {
         below = omega arith;
         left = left;
-        first = λ y h other b. elim (split y h) [ inl l ↦ none y l other b | inr same ↦ strict.no_cycle k (subst (λ (x : ℕ). before x k) same b) ];
+        first = λ y h other b. elim (split y h) [ inl l ↦ none y l other b | inr same ↦ strict.no_cycle k (rw same at b) ];
       }
 
       one_more : ¬ Stands order k → ((m : ℕ) × IsFirstLeft before order k m) ⊎ ((e : ℕ) → e < k → Stands order e) → ((m : ℕ) × IsFirstLeft before order (suc k) m) ⊎ ((e : ℕ) → e < suc k → Stands order e)
@@ -64,15 +63,7 @@ module _ (n : ℕ) (before : ℕ → ℕ → Type 0) (strict : IsStrict n before
       one_more left (inl found) =
           elim (strict.cases k found.0) [
             | inl earlier ↦ inl (k, itself left (λ y l other b. found.1.first y l other (strict.through y k found.0 b earlier)))
-            | inr not_earlier ↦
-                inl (
-                  found.0,
-                  record {
-                    below = (let l : found.0 < k = found.1.below in omega arith);
-                    left = found.1.left;
-                    first = λ y h other b. elim (split y h) [ inl l ↦ found.1.first y l other b | inr same ↦ not_earlier (subst (λ (x : ℕ). before x found.0) same b) ];
-                  },
-                )
+            | inr not_earlier ↦ inl (found.0, kept found.0 found.1 (λ other. not_earlier))
           ]
 
   module _ (forbidden : ℕ → ℕ → ℕ → Type 0) (triples : AreTriplesBelow n forbidden) (decided : AreDecided before forbidden) where

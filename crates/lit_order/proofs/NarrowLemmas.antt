@@ -1,6 +1,6 @@
 -- An event put before all that do not stand yet comes next in each order.
-use Rattle.std.proofs.Common.{◌≡◌, ◌≢◌, ◌⊎◌, ◌↔◌, ℕ, ◌<◌, Some, List, [], ◌∷◌, ◌++◌, length, refl, sym, ap, ◌∙◌, subst, arith, inl, inr, append_assoc, append-nil}
-use Rattle.std.proofs.lemmas.Bool.{cases_eq, cases_lt}
+use Rattle.std.proofs.Common.{◌≡◌, ◌≢◌, ◌⊎◌, ◌↔◌, ℕ, ◌<◌, List, [], ◌∷◌, ◌++◌, length, refl, sym, ap, ◌∙◌, subst, arith, inl, inr, append_assoc, append-nil}
+use Rattle.std.proofs.lemmas.Bool.{cases_eq, cases_order}
 use Rattle.std.proofs.lemmas.Option.{same_Some, slice_get_within}
 use Rattle.std.specs.List.{slice_get}
 use Rattle.lit_order.specs.Internal.Beginning.{Stands, HasNoOrder}
@@ -32,23 +32,20 @@ module _ (n : ℕ) (before : ℕ → ℕ → Type 0) (forbidden : ℕ → ℕ �
   not_other : (y : ℕ) (rest : List ℕ) → IsOrderOf n next forbidden (start ++ y ∷ rest) → ¬ (y ≢ event)
   not_other y rest o other =
       let in_y : y < n = o.complete.only (length start) y (place-middle start rest y) in
-      let not_there : ¬ (Stands start y ⊎ (y ≡ event)) =
-      λ s. elim s [
+      let not_there : ¬ (Stands start y ⊎ (y ≡ event)) = λ s. elim s [
         | inl here ↦
-            let same : here.place ≡ length start = o.complete.once here.place (length start) y (place-left start (y ∷ rest) here.place y here.at_place) (place-middle start rest y) in
-            let l : here.place < length start = slice_get_within start here.place y here.at_place in
-            absurd (omega arith)
+            let same = o.complete.once here.place (length start) y (place-left start (y ∷ rest) here.place y here.at_place) (place-middle start rest y) in
+            absurd (omega (arith, same, slice_get_within start here.place y here.at_place))
         | inr same ↦ other same
       ] in
       let s = o.keeps event y ((puts event y).1 (inr (refl, in_y, not_there))) in
-      let at_y : s.second ≡ length start = o.complete.once s.second (length start) y s.second_is (place-middle start rest y) in
-      let l : s.first < s.second = s.earlier in
-      left (record { place = s.first; at_place = place_from-left start (y ∷ rest) s.first event (omega arith) s.first_is })
+      let within : s.first < length start = omega (arith, s.earlier, o.complete.once s.second (length start) y s.second_is (place-middle start rest y)) in
+      left (record { place = s.first; at_place = place_from-left start (y ∷ rest) s.first event within s.first_is })
 
   begins_next : (rest : List ℕ) → IsOrderOf n next forbidden (start ++ rest) → (more : List ℕ) × (start ++ rest ≡ (start ++ event ∷ []) ++ more)
   begins_next [] o =
       let here = o.complete.all event within in
-      absurd (left (record { place = here.0; at_place = subst (λ (xs : List ℕ). slice_get xs here.0 ≡ Some event) (append-nil start) here.1 }))
+      absurd (left (record { place = here.0; at_place = rw append-nil at here.1 }))
   begins_next (y ∷ rest) o =
       elim (cases_eq y event) [
         | inl same ↦ (rest, ap (λ (x : ℕ). start ++ x ∷ rest) same ∙ sym (append_assoc start (event ∷ []) rest))
@@ -65,14 +62,12 @@ module _ (n : ℕ) (before : ℕ → ℕ → Type 0) (forbidden : ℕ → ℕ �
   comes_after : (rest : List ℕ) → IsOrderOf n narrow forbidden (start ++ event ∷ rest) → (d : ℕ) → d < n → ¬ (Stands start d ⊎ (d ≡ event)) → StandsBefore (start ++ event ∷ rest) event d
   comes_after rest o d in_d not_there =
       let here = o.complete.all d in_d in
-      let behind : length start < here.0 =
-      elim (cases_lt here.0 (length start)) [
-        | inl earlier ↦ absurd (not_there (inl (record { place = here.0; at_place = place_from-left start (event ∷ rest) here.0 d earlier here.1 })))
-        | inr later ↦
-            elim (cases_eq here.0 (length start)) [
-              | inl same ↦ absurd (not_there (inr (same_Some d event (sym here.1 ∙ ap (slice_get (start ++ event ∷ rest)) same ∙ place-middle start rest event))))
-              | inr other ↦ omega arith
-            ]
+      let behind : length start < here.0 = elim (cases_order here.0 (length start)) [
+        | inl same ↦ absurd (not_there (inr (same_Some d event (sym here.1 ∙ ap (slice_get (start ++ event ∷ rest)) same ∙ place-middle start rest event))))
+        | inr apart ↦ elim apart [
+          | inl earlier ↦ absurd (not_there (inl (record { place = here.0; at_place = place_from-left start (event ∷ rest) here.0 d earlier here.1 })))
+          | inr later ↦ later
+        ]
       ] in
       record { first = length start; second = here.0; earlier = behind; first_is = place-middle start rest event; second_is = here.1 }
 
@@ -100,18 +95,12 @@ module _ (n : ℕ) (before : ℕ → ℕ → Type 0) (forbidden : ℕ → ℕ �
 -- the same, of the events placed
 pub PutsNext-from_placed : (n m : ℕ) (narrow next : ℕ → ℕ → Type 0) (start : List ℕ) (event : ℕ) (placed more : ℕ → Type 0) → m ≡ n → ((e : ℕ) → placed e ↔ Stands start e) → ((e : ℕ) → more e ↔ (placed e ⊎ (e ≡ event)))
     → ((a d : ℕ) → next a d ↔ (narrow a d ⊎ ((a ≡ event) × (d < m) × ¬ more d))) → PutsNext n narrow next start event
-PutsNext-from_placed n m narrow next start event placed more len is_placed with_event pairs a d = (
-  (λ h. elim ((pairs a d).0 h) [
-    | inl old ↦ inl old
-    | inr put ↦
-        inr (put.0, subst (λ (x : ℕ). d < x) len put.1, λ s. put.2 ((with_event d).1 (elim s [ inl here ↦ inl ((is_placed d).1 here) | inr same ↦ inr same ])))
-  ]),
-  (λ h. elim h [
-    | inl old ↦ (pairs a d).1 (inl old)
-    | inr put ↦
-        (pairs a d).1 (inr (put.0, subst (λ (x : ℕ). d < x) (sym len) put.1, λ m. put.2 (elim ((with_event d).0 m) [ inl here ↦ inl ((is_placed d).0 here) | inr same ↦ inr same ])))
-  ]),
-)
+PutsNext-from_placed n m narrow next start event placed more len is_placed with_event pairs a d =
+    put_next (rw len at (pairs a d)) (with_event d) (is_placed d)
+  where
+    put_next : {Next Narrow First Below More Placed Standing Same : Type 0} → Next ↔ (Narrow ⊎ (First × Below × ¬ More)) → More ↔ (Placed ⊎ Same)
+        → Placed ↔ Standing → Next ↔ (Narrow ⊎ (First × Below × ¬ (Standing ⊎ Same)))
+    put_next next more placed = grind arith
 
 -- where the narrow relation has no order, none begins so
 pub HasNoOrder-narrow : (n m : ℕ) (before : ℕ → ℕ → Type 0) (forbidden : ℕ → ℕ → ℕ → Type 0) (narrow : ℕ → ℕ → Type 0) (start : List ℕ) → m ≡ n → IsNarrowed n before forbidden narrow start → ¬ HasOrder m narrow forbidden → HasNoOrder n before forbidden start

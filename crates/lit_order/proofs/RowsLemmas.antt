@@ -43,8 +43,6 @@ pairs_missing-le rows more len has =
 pub pairs_missing-lt : (rows more : Rows) → rows_len more ≡ rows_len rows → ((a d : ℕ) → Holds rows a d → Holds more a d) → (a d : ℕ) → ¬ Holds rows a d → Holds more a d → pairs_missing more < pairs_missing rows
 unfolding pairs_missing
 pairs_missing-lt rows more len has a d was is =
-    let in_a : a < rows_len rows = subst (λ (n : ℕ). a < n) len is.first_known in
-    let in_d : d < rows_len rows = subst (λ (n : ℕ). d < n) len is.second_known in
     subst (λ (n : ℕ). missing (has_pair more) n < missing (has_pair rows) (rows_len rows)) (sym len)
     (missing-lt (has_pair rows) (has_pair more) (rows_len rows) (λ x y h. test-from_Holds more x y (has x y (Holds-from_test rows x y h)))
-    a d in_a in_d (false_from_ne_true (has_pair rows a d) (λ h. was (Holds-from_test rows a d h))) (test-from_Holds more a d is))
+    a d (rw len at is.first_known) (rw len at is.second_known) (false_from_ne_true (has_pair rows a d) (λ h. was (Holds-from_test rows a d h))) (test-from_Holds more a d is))

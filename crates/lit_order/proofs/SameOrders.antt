@@ -1,6 +1,6 @@
 -- Orders of relations and triples that hold of the same events.
-use Rattle.std.proofs.Common.{◌≡◌, ◌↔◌, ℕ, List, [], ◌∷◌, refl, sym, subst}
-use Rattle.lit_rel.specs.HappensBefore.{Chain}
+use Rattle.std.proofs.Common.{◌≡◌, ◌↔◌, ℕ, List, [], refl, sym, subst}
+use Rattle.lit_rel.proofs.ChainLemmas.{Chain-within}
 use Rattle.lit_order.specs.Forcing.{HasChain}
 use Rattle.lit_order.specs.MemoryOrder.{StandsBefore, IsListOfAll, HaveSameOrders, IsOrderOf, IsLeastOrderOf}
 use Rattle.lit_order.proofs.StandingLemmas.{StandsBefore-through}
@@ -30,12 +30,8 @@ module _ (n m : ℕ) (before other : ℕ → ℕ → Type 0) (forbidden refused 
 
 -- an order of pairs keeps their chains
 module _ (n : ℕ) (before : ℕ → ℕ → Type 0) (forbidden : ℕ → ℕ → ℕ → Type 0) where
-  keeps_chain : (order : List ℕ) → IsOrderOf n before forbidden order → (a : ℕ) (middles : List ℕ) (d : ℕ) → Chain before a middles d → StandsBefore order a d
-  keeps_chain order o a [] d h = o.keeps a d h
-  keeps_chain order o a (m ∷ middles) d h = StandsBefore-through order o.complete.once a m d (o.keeps a m h.0) (keeps_chain order o m middles d h.1)
-
   pub HaveSameOrders-chains : HaveSameOrders n before (HasChain before) forbidden
   HaveSameOrders-chains order = (
-    (λ o. record { complete = o.complete; keeps = λ a d h. keeps_chain order o a h.0 d h.1; avoids = o.avoids }),
+    (λ o. record { complete = o.complete; keeps = λ a d h. Chain-within before (StandsBefore order) o.keeps (StandsBefore-through order o.complete.once) a h.0 d h.1; avoids = o.avoids }),
     (λ o. IsOrderOf-same n n (HasChain before) before forbidden forbidden refl (λ a d h. ([], h)) (λ w r v h. h) order o),
   )

@@ -1,5 +1,5 @@
 -- How events stand in a list that has each once.
-use Rattle.std.proofs.Common.{◌≡◌, ◌≢◌, ◌⊎◌, ℕ, ◌<◌, List, sym, ap, ◌∙◌, arith, inl, inr}
+use Rattle.std.proofs.Common.{◌≢◌, ◌⊎◌, ℕ, ◌<◌, List, sym, ap, ◌∙◌, arith, inl, inr}
 use Rattle.std.proofs.lemmas.Bool.{cases_order}
 use Rattle.std.proofs.lemmas.Option.{same_Some}
 use Rattle.std.specs.List.{slice_get}
@@ -9,16 +9,11 @@ use Rattle.lit_order.proofs.CountLemmas.{IsOnce}
 module _ (order : List ℕ) (once : IsOnce order) where
   pub StandsBefore-through : (a m d : ℕ) → StandsBefore order a m → StandsBefore order m d → StandsBefore order a d
   StandsBefore-through a m d p q =
-      let same : p.second ≡ q.first = once p.second q.first m p.second_is q.first_is in
-      let lp : p.first < p.second = p.earlier in
-      let lq : q.first < q.second = q.earlier in
-      record { first = p.first; second = q.second; earlier = omega arith; first_is = p.first_is; second_is = q.second_is }
+      let earlier : p.first < q.second = omega (arith, p.earlier, q.earlier, once p.second q.first m p.second_is q.first_is) in
+      record { first = p.first; second = q.second; earlier = earlier; first_is = p.first_is; second_is = q.second_is }
 
   pub never_before_itself : (a : ℕ) → StandsBefore order a a → ⊥
-  never_before_itself a p =
-      let same : p.first ≡ p.second = once p.first p.second a p.first_is p.second_is in
-      let l : p.first < p.second = p.earlier in
-      absurd (omega arith)
+  never_before_itself a p = absurd (omega (arith, p.earlier, once p.first p.second a p.first_is p.second_is))
 
 -- of two events one stands before the other
 pub either_before : (n : ℕ) (order : List ℕ) → IsListOfAll n order → (a d : ℕ) → a < n → d < n → a ≢ d → StandsBefore order a d ⊎ StandsBefore order d a

@@ -1,5 +1,4 @@
 pub mod MemoryOrder
 pub mod Forcing
 pub mod Forced
-pub mod Refuted
 pub mod Internal

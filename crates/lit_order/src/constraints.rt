@@ -15,8 +15,7 @@ fn pair_allows(pair: &Pair, event: usize, placed: EventSet) -> bool
     requires event { event < EVENT_LIMIT }
     requires source { pair.now.source < EVENT_LIMIT }
     requires read { pair.now.read < EVENT_LIMIT }
-    ensures { IsTrue result
-        ↔ (HasEvent pair.now.others event → HasEvent placed pair.now.source →
+    ensures { IsTrue result ↔ (HasEvent pair.now.others event → HasEvent placed pair.now.source →
         (pair.now.read ≡ event) ⊎ HasEvent placed pair.now.read) }
 {
     if !pair.others.contains(event) {
@@ -32,8 +31,7 @@ fn pair_allows(pair: &Pair, event: usize, placed: EventSet) -> bool
 /// read, unless the read is placed too, or is the event itself.
 fn allows(between: &Between, event: usize, placed: EventSet) -> bool
     requires { event < between.now.len }
-    ensures { IsTrue result
-        ↔ ((w r : ℕ) → Forbids between.now w r event → HasEvent placed w → (r ≡ event) ⊎ HasEvent placed r) }
+    ensures { IsTrue result ↔ ((w r : ℕ) → Forbids between.now w r event → HasEvent placed w → (r ≡ event) ⊎ HasEvent placed r) }
 {
     for pair in between.pairs() {
         if !pair_allows(pair, event, placed) {
@@ -93,8 +91,7 @@ impl<'a> Constraints<'a> {
     /// are, and it does not stand between a source and its read.
     pub(crate) fn can_stand_next(&self, event: usize, placed: EventSet) -> bool
         requires { event < constrained_len self.now }
-        ensures { IsTrue result
-            ↔ CanStandNext (ComesBefore self.now) (MayNotStand self.now) (HasEvent placed) event }
+        ensures { IsTrue result ↔ CanStandNext (ComesBefore self.now) (MayNotStand self.now) (HasEvent placed) event }
     {
         !placed.contains(event)
             && self.follows(event, placed)

@@ -31,8 +31,7 @@ pub(crate) fn has_order(before: &Rows, between: &Between) -> bool
     has_order(&earlier, between)
 }
 
-/// Precedences between events, closed under chains, with the triples that orders must avoid. No event comes before
-/// itself.
+/// Precedences between events, closed under chains, with the triples that orders must avoid. No event comes before itself.
 #[derive(Clone, Copy)]
 pub struct Forced<'a> {
     rows: Rows,

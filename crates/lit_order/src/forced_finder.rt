@@ -5,8 +5,7 @@ ghost use Rattle.arrayvec.specs.ArrayVec.{array_vec_len};
 ghost use Rattle.lit_rel.specs.Between.{Forbids};
 ghost use Rattle.lit_rel.specs.EventSet.{HasEvent};
 ghost use Rattle.lit_rel.specs.Rows.{rows_len, Holds};
-ghost use Rattle.lit_order.specs.Internal.Beginning.{Stands, IsBeginning, HasNoOrder, IsLeastFrom};
-ghost use Rattle.lit_order.specs.Internal.Constrained.{constrained_len, ComesBefore, MayNotStand};
+ghost use Rattle.lit_order.specs.Internal.Constrained.{BeginsNone, ComesBefore, IsBegun, IsLeastOf, MayNotStand, constrained_len};
 ghost use Rattle.lit_order.specs.Internal.Narrowed.{IsNarrowed};
 ghost use Rattle.lit_order.specs.MemoryOrder.{IsLeastOrderOf, IsOrderOf};
 
@@ -57,12 +56,8 @@ pub fn least_of(forced: &TwoWayRows, between: &Between) -> Option<Order>
 /// until none can. Says whether all events are placed then: the order is the least that begins so.
 fn walk(order: &mut Order, placed: EventSet, constraints: &Constraints<'_>) -> bool
     requires fits { array_vec_len order.old ≤ constrained_len constraints.now }
-    requires begins { IsBeginning (constrained_len constraints.now) (ComesBefore constraints.now)
-        (MayNotStand constraints.now) order.old.items }
-    requires placed { (e : ℕ) → HasEvent placed e ↔ Stands order.old.items e }
-    ensures { IsTrue result →
-        IsLeastFrom (constrained_len constraints.now) (ComesBefore constraints.now)
-        (MayNotStand constraints.now) order.old.items order.new.items }
+    requires begun { IsBegun constraints.now placed order.old.items }
+    ensures { IsTrue result → IsLeastOf constraints.now order.old.items order.new.items }
 {
     if order.len() == constraints.len() {
         return true;
@@ -87,17 +82,12 @@ fn complete(
     constraints: &Constraints<'_>,
 ) -> bool
     requires fits { array_vec_len order.old ≤ constrained_len constraints.now }
-    requires begins { IsBeginning (constrained_len constraints.now) (ComesBefore constraints.now)
-        (MayNotStand constraints.now) order.old.items }
-    requires placed { (e : ℕ) → HasEvent placed e ↔ Stands order.old.items e }
+    requires begun { IsBegun constraints.now placed order.old.items }
     requires len { rows_len narrow.now ≡ constrained_len constraints.now }
     requires narrowed { IsNarrowed (constrained_len constraints.now) (ComesBefore constraints.now) (MayNotStand constraints.now)
         (Holds narrow.now) order.old.items }
-    ensures found { IsTrue result →
-        IsLeastFrom (constrained_len constraints.now) (ComesBefore constraints.now)
-        (MayNotStand constraints.now) order.old.items order.new.items }
-    ensures none { ¬ IsTrue result →
-        HasNoOrder (constrained_len constraints.now) (ComesBefore constraints.now) (MayNotStand constraints.now) order.old.items }
+    ensures found { IsTrue result → IsLeastOf constraints.now order.old.items order.new.items }
+    ensures none { ¬ IsTrue result → BeginsNone constraints.now order.old.items }
 {
     if order.len() == constraints.len() {
         return true;
@@ -118,8 +108,7 @@ fn complete(
 fn placed_next(rows: &Rows, event: usize, placed: EventSet) -> Rows
     requires { event < rows_len rows.now }
     ensures len { rows_len result ≡ rows_len rows.now }
-    ensures pairs { (a d : ℕ) →
-        Holds result a d ↔ (Holds rows.now a d ⊎ ((a ≡ event) × (d < rows_len rows.now) × ¬ HasEvent placed d)) }
+    ensures pairs { (a d : ℕ) → Holds result a d ↔ (Holds rows.now a d ⊎ ((a ≡ event) × (d < rows_len rows.now) × ¬ HasEvent placed d)) }
 {
     let mut next = *rows;
     for other in 0..rows.len() {

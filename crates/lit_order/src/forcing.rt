@@ -8,8 +8,7 @@ ghost use Rattle.lit_order.specs.Forcing.{HasChain, HasCycle, HasForcedCycle, Is
 use crate::triple::next_forced;
 use lit_rel::{Between, Rows, TwoWayRows, close};
 
-/// The least transitive relation that has this one, or `None` exactly where a chain of its pairs leads from an event to
-/// itself.
+/// The least transitive relation that has this one, or `None` exactly where a chain of its pairs leads from an event to itself.
 pub(crate) fn closed(before: &Rows) -> Option<Rows>
     ensures cycle { IsNone result ↔ HasCycle (Holds before.now) }
     ensures len { IfSome result (λ rows. rows_len rows ≡ rows_len before.now) }
@@ -27,8 +26,7 @@ pub fn force(forced: &mut TwoWayRows, between: &Between) -> bool
     requires transitive { IsTransitive (Holds forced.old.rows) }
     ensures cycle { (¬ IsTrue result) ↔ HasForcedCycle (Holds forced.old.rows) (Forbids between.now) }
     ensures len { rows_len forced.new.rows ≡ rows_len forced.old.rows }
-    ensures pairs { IsTrue result → (a d : ℕ) →
-        Holds forced.new.rows a d ↔ IsForced (Holds forced.old.rows) (Forbids between.now) a d }
+    ensures pairs { IsTrue result → (a d : ℕ) → Holds forced.new.rows a d ↔ IsForced (Holds forced.old.rows) (Forbids between.now) a d }
 {
     if forced.rows.has_cycle() {
         return false;
@@ -48,8 +46,7 @@ pub fn forced_precedence(before: &Rows, between: &Between) -> Option<Rows>
     requires { rows_len before.now ≡ between.now.len }
     ensures cycle { IsNone result ↔ HasForcedCycle (Holds before.now) (Forbids between.now) }
     ensures len { IfSome result (λ forced. rows_len forced ≡ rows_len before.now) }
-    ensures pairs { IfSome result (λ forced. (a d : ℕ) →
-        Holds forced a d ↔ IsForced (Holds before.now) (Forbids between.now) a d) }
+    ensures pairs { IfSome result (λ forced. (a d : ℕ) → Holds forced a d ↔ IsForced (Holds before.now) (Forbids between.now) a d) }
 {
     let mut forced = TwoWayRows::closed(before);
     if force(&mut forced, between) {

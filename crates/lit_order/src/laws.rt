@@ -3,18 +3,13 @@
 ghost use Rattle.std.specs.Prelude.{◌≡◌, ◌↔◌, ℕ, List};
 ghost use Rattle.lit_rel.specs.declared.rows.Rows.{Rows};
 ghost use Rattle.lit_rel.specs.Between.{BetweenModel, Forbids};
-ghost use Rattle.lit_rel.specs.Part.{AreFirstSources, PartModel, part_events};
 ghost use Rattle.lit_rel.specs.Rows.{rows_len, Holds};
 ghost use Rattle.lit_order.specs.declared.forced.Forced.{Forced};
 ghost use Rattle.lit_order.specs.Forced.{AndPair, IsBefore, Refuses, forced_len};
 ghost use Rattle.lit_order.specs.Forcing.{HasChain, IsForced};
-ghost use Rattle.lit_order.specs.MemoryOrder.{StandsBefore, HaveSameOrders, IsMemoryOrder, IsOrderOf};
-ghost use Rattle.lit_order.specs.Refuted.{IsForcedRound};
+ghost use Rattle.lit_order.specs.MemoryOrder.{StandsBefore, HaveSameOrders, IsOrderOf};
 
-use lit_rel::laws::byte_reads_are_of_events;
-
-/// Each order of a relation and forbidden triples keeps what they force. So where an event is forced before itself, no
-/// order is there.
+/// Each order of a relation and forbidden triples keeps what they force. So where an event is forced before itself, no order is there.
 pub fn orders_keep_what_is_forced()
     ensures { (before : Rows) (between : BetweenModel) → rows_len before ≡ between.len →
         (order : List ℕ) → IsOrderOf (rows_len before) (Holds before) (Forbids between) order →
@@ -36,11 +31,3 @@ pub fn chains_keep_orders()
     ensures extended { (forced : Forced) (a d : ℕ)
         → HaveSameOrders (forced_len forced) (AndPair (IsBefore forced) a d) (HasChain (AndPair (IsBefore forced) a d)) (Refuses forced) }
 {}
-
-/// Where a part forces an event before itself, there is no memory-order of it.
-pub fn forced_rounds_have_no_order()
-    ensures { (part : PartModel) → AreFirstSources part → IsForcedRound part → (order : List ℕ)
-        → ¬ IsMemoryOrder (part_events part) part.sources order }
-{
-    byte_reads_are_of_events();
-}

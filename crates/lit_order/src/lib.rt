@@ -1,5 +1,4 @@
-//! Memory-orders of a candidate execution: the least list of its events that keeps a relation and that no forbidden
-//! triple refuses.
+//! Memory-orders of a candidate execution: the least list of its events that keeps a relation and that no forbidden triple refuses.
 //!
 //! `OrderFinder` is the law: `least_order` gives the least such list, and `None` exactly where there is none.
 //! `PlainFinder` and `ForcedFinder` keep it. The definitions stand in `specs/MemoryOrder`.

@@ -14,9 +14,8 @@ pub trait OrderFinder {
     ghost use Rattle.lit_rel.specs.Rows.{rows_len, Holds};
     ghost use Rattle.lit_order.specs.MemoryOrder.{IsOrderOf, IsLeastOrderOf};
 
-    /// The least list of all events, each once, in which each pair of `before` stands in that order and no event that
-    /// `between` forbids after a w and before an r stands there. `None` exactly where there is none. Both are on the
-    /// same events.
+    /// The least list of all events, each once, in which each pair of `before` stands in that order and no event that `between` forbids
+    /// after a w and before an r stands there. `None` exactly where there is none. Both are on the same events.
     fn least_order(&self, before: &Rows, between: &Between) -> Option<Order>
         requires { rows_len before.now ≡ between.now.len }
         ensures found { IfSome result (λ order.

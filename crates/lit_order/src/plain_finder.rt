@@ -1,10 +1,8 @@
 //! Memory-orders, event by event.
 
-ghost use Rattle.std.specs.Prelude.{◌≡◌, ℕ, ◌≤◌, ◌↔◌, IsTrue};
+ghost use Rattle.std.specs.Prelude.{◌≡◌, ◌≤◌, IsTrue};
 ghost use Rattle.arrayvec.specs.ArrayVec.{array_vec_len};
-ghost use Rattle.lit_rel.specs.EventSet.{HasEvent};
-ghost use Rattle.lit_order.specs.Internal.Beginning.{Stands, IsBeginning, HasNoOrder, IsLeastFrom};
-ghost use Rattle.lit_order.specs.Internal.Constrained.{constrained_len, ComesBefore, MayNotStand};
+ghost use Rattle.lit_order.specs.Internal.Constrained.{BeginsNone, IsBegun, IsLeastOf, constrained_len};
 
 use crate::constraints::Constraints;
 use crate::order::{Order, OrderFinder};
@@ -31,14 +29,9 @@ impl OrderFinder for PlainFinder {
 /// there is one. If not, the beginning stays.
 fn extend(order: &mut Order, placed: EventSet, constraints: &Constraints<'_>) -> bool
     requires fits { array_vec_len order.old ≤ constrained_len constraints.now }
-    requires begins { IsBeginning (constrained_len constraints.now) (ComesBefore constraints.now)
-        (MayNotStand constraints.now) order.old.items }
-    requires placed { (e : ℕ) → HasEvent placed e ↔ Stands order.old.items e }
-    ensures found { IsTrue result →
-        IsLeastFrom (constrained_len constraints.now) (ComesBefore constraints.now)
-        (MayNotStand constraints.now) order.old.items order.new.items }
-    ensures none { ¬ IsTrue result →
-        HasNoOrder (constrained_len constraints.now) (ComesBefore constraints.now) (MayNotStand constraints.now) order.old.items }
+    requires begun { IsBegun constraints.now placed order.old.items }
+    ensures found { IsTrue result → IsLeastOf constraints.now order.old.items order.new.items }
+    ensures none { ¬ IsTrue result → BeginsNone constraints.now order.old.items }
     ensures kept { ¬ IsTrue result → order.new.items ≡ order.old.items }
 {
     if order.len() == constraints.len() {

@@ -5,8 +5,7 @@ ghost use Rattle.lit_paths.specs.declared.limits.TheConstants.{EVENT_LIMIT};
 ghost use Rattle.lit_rel.specs.Between.{Forbids};
 ghost use Rattle.lit_rel.specs.EventSet.{HasEvent};
 ghost use Rattle.lit_rel.specs.Rows.{rows_len, Holds};
-ghost use Rattle.lit_order.specs.Internal.Deciding.{AreDecided, Forces, HasAllForced, HasForced, IsDecided};
-ghost use Rattle.lit_order.specs.Internal.Deciding.{IsForcedByPair, IsForcedNext, IsOtherOf, IsUndecided};
+ghost use Rattle.lit_order.specs.Internal.Deciding.{HasAllForced, HasForced, IsForcedByPair, IsForcedNext, IsOtherOf, IsUndecided};
 
 use lit_rel::{Between, EventSet, Pair, Rows, TwoWayRows};
 
@@ -42,8 +41,7 @@ impl Triple {
 
 /// The least event of one set and another that is not in a third.
 fn first_lacking(set: EventSet, other: EventSet, there: EventSet) -> Option<usize>
-    ensures { MatchOption result
-        ((e : ℕ) → HasEvent set e → HasEvent other e → ¬ ¬ HasEvent there e)
+    ensures { MatchOption result ((e : ℕ) → HasEvent set e → HasEvent other e → ¬ ¬ HasEvent there e)
         (λ event. HasEvent set event × HasEvent other event × ¬ HasEvent there event) }
 {
     match set.intersection(other).difference(there).split_first() {
@@ -56,8 +54,7 @@ fn first_lacking(set: EventSet, other: EventSet, there: EventSet) -> Option<usiz
 fn others_of(pair: &Pair) -> EventSet
     requires source { pair.now.source < EVENT_LIMIT }
     requires read { pair.now.read < EVENT_LIMIT }
-    ensures { (e : ℕ) →
-        HasEvent result e ↔ (HasEvent pair.now.others e × e ≢ pair.now.source × e ≢ pair.now.read) }
+    ensures { (e : ℕ) → HasEvent result e ↔ (HasEvent pair.now.others e × e ≢ pair.now.source × e ≢ pair.now.read) }
 {
     let source = EventSet::new().with(usize::from(pair.source));
     pair.others.difference(source.with(usize::from(pair.read)))
@@ -94,8 +91,7 @@ fn forced_by(rows: &TwoWayRows, pair: &Pair) -> Option<Precedence>
 /// A pair of events that some triple forces and that is not there yet.
 pub(crate) fn next_forced(rows: &TwoWayRows, between: &Between) -> Option<Precedence>
     requires { rows_len rows.now.rows ≡ between.now.len }
-    ensures { MatchOption result
-        (HasAllForced (Holds rows.now.rows) (Forbids between.now))
+    ensures { MatchOption result (HasAllForced (Holds rows.now.rows) (Forbids between.now))
         (λ forced. IsForcedNext (Holds rows.now.rows) (Forbids between.now) forced.first forced.second) }
 {
     for pair in between.pairs() {
@@ -131,8 +127,7 @@ fn undecided_of(rows: &Rows, pair: &Pair) -> Option<Triple>
 /// An undecided triple.
 pub(crate) fn undecided(rows: &Rows, between: &Between) -> Option<Triple>
     requires { rows_len rows.now ≡ between.now.len }
-    ensures { MatchOption result
-        ((w r v : ℕ) → Forbids between.now w r v → ¬ IsUndecided (Holds rows.now) w r v)
+    ensures { MatchOption result ((w r v : ℕ) → Forbids between.now w r v → ¬ IsUndecided (Holds rows.now) w r v)
         (λ t. Forbids between.now t.source t.read t.other × IsUndecided (Holds rows.now) t.source t.read t.other) }
 {
     for pair in between.pairs() {

@@ -22,10 +22,15 @@ pub record Choice : Type 0 where
 abbrev pub events_of : ℕ → List (List Event) → List Event
 events_of bytes lists = init_events bytes ++ flat_map (λ events. events) lists
 
--- each byte that is read has a source, and each source is a candidate of its byte
+-- these are sources of the first byte reads, each a candidate of its byte
+abbrev pub AreCandidates : List Event → List ℕ → Type 0
+AreCandidates events sources =
+    (i r b w : ℕ) → slice_get (byte_reads events) i ≡ Some (r, b) → slice_get sources i ≡ Some w → IsCandidate events r b w
+
+-- each byte that is read has a source, a candidate of it
 pub record AreSources (events : List Event) (sources : List ℕ) : Type 0 where
   pub one_each : length sources ≡ length (byte_reads events)
-  pub each : (i r b w : ℕ) → slice_get (byte_reads events) i ≡ Some (r, b) → slice_get sources i ≡ Some w → IsCandidate events r b w
+  pub each : AreCandidates events sources
 
 -- a path for each agent
 pub record AreCombined (t : Litmus) (paths : List Path) : Type 0 where

@@ -5,7 +5,7 @@ use Rattle.std.specs.Prelude.{◌++◌, length, map, drop, Some, slice_get}
 use Rattle.lit_read.specs.Syntax.{Litmus}
 use Rattle.lit_paths.specs.declared.event.Event.{Event}
 use Rattle.lit_paths.specs.ByteReads.{byte_reads, byte_read_at, IsCandidate}
-use Rattle.lit_paths.specs.Choice.{Choice, candidates_of, choices_of}
+use Rattle.lit_paths.specs.Choice.{AreCandidates, Choice, candidates_of, choices_of}
 use Rattle.lit_paths.specs.Plan.{combination_at, events_in, choices_before}
 
 -- the product of the lengths of lists
@@ -30,10 +30,10 @@ pub record IsBegunBy (t : Litmus) (c : ℕ) (given : List ℕ) (n : ℕ) : Type 
 abbrev pub AreNumbered : (t : Litmus) → (c : ℕ) → (given : List ℕ) → (low count : ℕ) → Type 0
 AreNumbered t c given low count = (n : ℕ) → IsBegunBy t c given n ↔ ((low ≤ n) × (n < low + count))
 
--- sources of the first byte reads, each a candidate of its byte
+-- some of the first byte reads, or all, have these sources
 pub record AreGiven (events : List Event) (given : List ℕ) : Type 0 where
   pub few : length given ≤ length (byte_reads events)
-  pub each : (i r b w : ℕ) → slice_get (byte_reads events) i ≡ Some (r, b) → slice_get given i ≡ Some w → IsCandidate events r b w
+  pub each : AreCandidates events given
 
 -- The choices on a combination that begin with given sources are a run of numbers, as many as there are ways to go on.
 -- Its parts for the candidates of the next byte read, by rising event number, follow one another and are equally long.

@@ -1,17 +1,16 @@
 -- When the relations of what is given are broken: with more bytes given, and byte by byte.
-use Rattle.std.proofs.Common.{◌≡◌, ◌↔◌, ℕ, Bool, true, false, not, List, inl, inr, refl, sym, ◌∙◌, subst}
-use Rattle.std.proofs.lemmas.Bool.{cases_eq, false≢true}
+use Rattle.std.proofs.Common.{◌↔◌, ℕ, Bool, true, false, not, List, inl, inr, sym, ◌∙◌, arith}
+use Rattle.std.proofs.lemmas.Bool.{cases_eq}
 use Rattle.std.specs.Bool.{IsTrue}
 use Rattle.lit_paths.specs.declared.event.Event.{Event}
-use Rattle.lit_paths.specs.Event.{event_at}
 use Rattle.lit_rel.specs.declared.given.SourcedByte.{SourcedByte}
 use Rattle.lit_rel.specs.Broken.{BytesStayBroken, HasIncoherentByteBy, HasTornReadBy, IsBrokenBy}
-use Rattle.lit_rel.specs.Coherent.{HasCoherentReads, IsCoherentRead}
+use Rattle.lit_rel.specs.Coherent.{HasCoherentReads}
 use Rattle.lit_rel.specs.Growth.{GivenBy}
 use Rattle.lit_rel.specs.HappensBefore.{HappensBefore, HappensBeforeBy}
 use Rattle.lit_rel.specs.Internal.Given.{AreFirstReads, HasByteSo, HasTornBytes, IsIncoherent, sources_of}
 use Rattle.lit_rel.specs.ReadsFrom.{ReadsByteFrom}
-use Rattle.lit_rel.specs.TearFree.{CanReadWhole, HasTearFreeReads}
+use Rattle.lit_rel.specs.TearFree.{HasTearFreeReads}
 use Rattle.lit_rel.proofs.GrowthLemmas.{Grows-from}
 use Rattle.lit_rel.proofs.SameRelations.{coherent_read_by}
 use Rattle.lit_rel.proofs.SourceLemmas.{byte_at, read_at}
@@ -66,10 +65,8 @@ module _ (events : List Event) (bytes : List SourcedByte) (first : AreFirstReads
             place = found.0;
             byte = p;
             at_place = found.2;
-            is_so = λ c. bad.incoherent (coherent_read_by events before (HappensBefore events (sources_of bytes)) (λ e d. (same e d).1) bad.read bad.byte bad.source
-                (subst (λ (x : ℕ). IsCoherentRead events before x bad.byte bad.source) found.3.read
-                (subst (λ (x : ℕ). IsCoherentRead events before p.read x bad.source) found.3.byte
-                (subst (λ (x : ℕ). IsCoherentRead events before p.read p.byte x) found.3.source c))));
+            is_so = rw (found.3.read, found.3.byte, found.3.source) (λ c. bad.incoherent
+                (coherent_read_by events before (HappensBefore events (sources_of bytes)) (λ e d. (same e d).1) bad.read bad.byte bad.source c));
           }
 
   -- two bytes that tear their read
@@ -86,17 +83,9 @@ module _ (events : List Event) (bytes : List SourcedByte) (first : AreFirstReads
             source = p.source;
             other = q.source;
             first = record { reads = (p.byte, read_at events bytes first h.place p h.at_place); can = t.first_whole };
-            second = record {
-              reads = (q.byte, subst (λ (x : ℕ). ReadsByteFrom events (sources_of bytes) x q.byte q.source) (sym t.one_read) (read_at events bytes first h.is_so.place q h.is_so.at_place));
-              can = subst (λ (x : ℕ). CanReadWhole (event_at events x) (event_at events q.source)) (sym t.one_read) t.second_whole;
-            };
+            second = rw t.one_read record { reads = (q.byte, read_at events bytes first h.is_so.place q h.is_so.at_place); can = t.second_whole };
             two_sources = λ same. t.two_sources (sym same);
           }
-
-      whole : (p : SourcedByte) (r w : ℕ) → p.read ≡ r → p.source ≡ w → CanReadWhole (event_at events r) (event_at events w) → CanReadWhole (event_at events p.read) (event_at events p.source)
-      whole p r w is_read is_source can =
-          subst (λ (x : ℕ). CanReadWhole (event_at events x) (event_at events p.source)) (sym is_read)
-          (subst (λ (x : ℕ). CanReadWhole (event_at events r) (event_at events x)) (sym is_source) can)
 
       from : HasTornReadBy events given → HasTornBytes events bytes
       from torn =
@@ -113,15 +102,15 @@ module _ (events : List Event) (bytes : List SourcedByte) (first : AreFirstReads
               is_so = record {
                 one_read = one.3.read ∙ sym two.3.read;
                 two_sources = λ same. torn.two_sources (sym two.3.source ∙ sym same ∙ one.3.source);
-                first_whole = whole one.1 torn.read torn.source one.3.read one.3.source torn.first.can;
-                second_whole = whole two.1 torn.read torn.other two.3.read two.3.source torn.second.can;
+                first_whole = rw (one.3.read, one.3.source) torn.first.can;
+                second_whole = rw (two.3.read, two.3.source) torn.second.can;
               };
             };
           }
 
 not_iff : (b : Bool) {P Q : Type 0} → (IsTrue b ↔ P) → (¬ P → Q) → (Q → ¬ P) → IsTrue (not b) ↔ Q
-not_iff true is to from = ((λ h. absurd (false≢true h)), (λ q. absurd (from q (is.0 refl))))
-not_iff false is to from = ((λ _. to (λ p. false≢true (is.1 p))), (λ _. refl))
+not_iff true is to from = grind arith
+not_iff false is to from = grind arith
 
 -- the reads are coherent where no byte is incoherent
 pub coherent_where_none : (events : List Event) (sources : List ℕ) (b : Bool) → (IsTrue b ↔ HasIncoherentByteBy events (ReadsByteFrom events sources)) → IsTrue (not b) ↔ HasCoherentReads events sources

@@ -1,5 +1,5 @@
 -- With more bytes given the relations grow, and what was read whole keeps its value.
-use Rattle.std.proofs.Common.{◌≡◌, ◌≢◌, ℕ, ◌==◌, suc, Bool, false, cond, Some, List, [], ◌∷◌, ◌++◌, filter, get_or, map, refl, sym, subst, ap, ◌∙◌, ◌⊎◌, arith, inl, inr}
+use Rattle.std.proofs.Common.{◌≡◌, ◌≢◌, ℕ, ◌==◌, suc, Some, List, [], ◌∷◌, ◌++◌, filter, get_or, map, refl, sym, subst, ap, ◌∙◌, ◌⊎◌, arith, inl, inr}
 use Rattle.std.proofs.lemmas.Bool.{cases_eq}
 use Rattle.std.proofs.lemmas.Bool.Decides.{nat_tests}
 use Rattle.std.proofs.lemmas.Option.{none-some, same_Some, slice_get-get_or}
@@ -9,7 +9,7 @@ use Rattle.lit_paths.specs.ByteReads.{byte_reads}
 use Rattle.lit_paths.specs.Event.{event_at, payload_at}
 use Rattle.lit_rel.specs.Coherent.{HasCoherentReadsBy}
 use Rattle.lit_rel.specs.Forbidden.{IsForbiddenBy}
-use Rattle.lit_rel.specs.Growth.{GivenBy, GivenValuesAgree, GrowWithBytes, Grows, IsGivenWholeBy, ValuesStay}
+use Rattle.lit_rel.specs.Growth.{GivenBy, GrowWithBytes, Grows, IsGivenWholeBy, ValuesStay}
 use Rattle.lit_rel.specs.HappensBefore.{HappensBeforeBy, StepBy}
 use Rattle.lit_rel.specs.ReadsFrom.{ReadsByteFrom, ReadsFromBy, composed, value_of}
 use Rattle.lit_rel.specs.SynchronizesWith.{SynchronizesBy}
@@ -17,6 +17,7 @@ use Rattle.lit_rel.specs.TearFree.{ReadsWholeBy}
 use Rattle.lit_rel.proofs.ByteReadLemmas.{read_once}
 use Rattle.lit_rel.proofs.ChainLemmas.{Chain-same}
 use Rattle.lit_rel.proofs.PlaceLemmas.{place-left}
+use Rattle.lit_rel.proofs.SameRelations.{between_by, coherent_read_by}
 
 module _ (events : List Event) (less more : ℕ → ℕ → ℕ → Type 0) (grows : (r b w : ℕ) → less r b w → more r b w) where
   reads_from : (r w : ℕ) → ReadsFromBy less r w → ReadsFromBy more r w
@@ -33,31 +34,13 @@ module _ (events : List Event) (less more : ℕ → ℕ → ℕ → Type 0) (gro
   happens_before e d h = record { middles = h.middles; chain = Chain-same (StepBy events less) (StepBy events more) step e h.middles d h.chain }
 
   forbidden : (w r v : ℕ) → IsForbiddenBy events less w r v → IsForbiddenBy events more w r v
-  forbidden w r v f =
-      record {
-        reads = reads_from r w f.reads;
-        between = record {
-          not_source = f.between.not_source;
-          not_read = f.between.not_read;
-          writes = f.between.writes;
-          ordered = f.between.ordered;
-          pattern = elim f.between.pattern [
-            | inl one ↦ inl one
-            | inr rest ↦ inr (elim rest [
-              | inl two ↦ inl record { source_before = happens_before w r two.source_before; other_before = happens_before v r two.other_before; source = two.source; same_range = two.same_range }
-              | inr three ↦ inr record { source_before = happens_before w r three.source_before; other_after = happens_before w v three.other_after; reader = three.reader; same_range = three.same_range }
-            ])
-          ];
-        };
-      }
+  forbidden w r v f = record {
+    reads = reads_from r w f.reads;
+    between = between_by events (HappensBeforeBy events less) (HappensBeforeBy events more) happens_before w r v f.between;
+  }
 
   coherent : HasCoherentReadsBy events more → HasCoherentReadsBy events less
-  coherent has r b w h =
-      let read = has r b w (grows r b w h) in
-      record {
-        not_later = λ later. read.not_later (happens_before r w later);
-        not_hidden = λ v hides. read.not_hidden v record { writes = hides.writes; in_range = hides.in_range; after_source = happens_before w v hides.after_source; before_read = happens_before v r hides.before_read };
-      }
+  coherent has r b w h = coherent_read_by events (HappensBeforeBy events more) (HappensBeforeBy events less) happens_before r b w (has r b w (grows r b w h))
 
   whole : (r w : ℕ) → ReadsWholeBy events less r w → ReadsWholeBy events more r w
   whole r w h = record { reads = reads_from r w h.reads; can = h.can }
@@ -92,9 +75,8 @@ none_left r [] rest none = refl
 none_left r (p ∷ reads) [] none = refl
 none_left r (p ∷ reads) (w ∷ rest) none =
     let other : p.0 ≢ r = λ same. none 0 p.1 (ap (λ (k : ℕ). Some (k, p.1)) same) in
-    let no_test : (p.0 == r) ≡ false = grind (arith, nat_tests) in
     let later : of_read r reads rest ≡ [] = none_left r reads rest (λ i b h. none (suc i) b h) in
-    ap (λ (t : Bool). cond t ((p, w) ∷ filter {X = (ℕ × ℕ) × ℕ} (λ q. q.0.0 == r) (zip reads rest)) (filter (λ q. q.0.0 == r) (zip reads rest))) no_test ∙ later
+    grind (arith, nat_tests)
 
 -- the sources of its bytes are the same in two lists
 of_read-same : (r : ℕ) (reads : List (ℕ × ℕ)) (sources others : List ℕ) → ((i b : ℕ) → slice_get reads i ≡ Some (r, b) → (w : ℕ) × (slice_get sources i ≡ Some w) × (slice_get others i ≡ Some w)) → of_read r reads others ≡ of_read r reads sources
@@ -108,16 +90,11 @@ of_read-same r (p ∷ reads) (v ∷ sources) (o ∷ others) agree = by (cases_eq
     by (inl is) later =
         let a = agree 0 p.1 (ap (λ (k : ℕ). Some (k, p.1)) is) in
         let head : o ≡ v = same_Some o a.0 a.2 ∙ sym (same_Some v a.0 a.1) in
-        ap (λ (w : ℕ). cond (p.0 == r) ((p, w) ∷ of_read r reads others) (of_read r reads others)) head
-        ∙ ap (λ (qs : List ((ℕ × ℕ) × ℕ)). cond (p.0 == r) ((p, v) ∷ qs) qs) later
-    by (inr other) later =
-        let no_test : (p.0 == r) ≡ false = grind (arith, nat_tests) in
-        ap (λ (t : Bool). cond t ((p, o) ∷ of_read r reads others) (of_read r reads others)) no_test
-        ∙ later
-        ∙ sym (ap (λ (t : Bool). cond t ((p, v) ∷ of_read r reads sources) (of_read r reads sources)) no_test)
+        rw (head, later)
+    by (inr other) later = grind (arith, nat_tests)
 
 -- the value of a read by lists of sources that have the same bytes of it
-value-given : (events : List Event) (given : ℕ → ℕ → ℕ → Type 0) (sources others : List ℕ) (r : ℕ) → IsGivenWholeBy events given r → ((b w : ℕ) → given r b w → ReadsByteFrom events sources r b w) → ((b w : ℕ) → given r b w → ReadsByteFrom events others r b w)
+pub value-given : (events : List Event) (given : ℕ → ℕ → ℕ → Type 0) (sources others : List ℕ) (r : ℕ) → IsGivenWholeBy events given r → ((b w : ℕ) → given r b w → ReadsByteFrom events sources r b w) → ((b w : ℕ) → given r b w → ReadsByteFrom events others r b w)
     → value_of events others r ≡ value_of events sources r
 unfolding of_read
 value-given events given sources others r whole to other_to =
@@ -126,9 +103,6 @@ value-given events given sources others r whole to other_to =
     let one = to b from.0 from.1 in
     let two = other_to b from.0 from.1 in
     (from.0, subst (λ (j : ℕ). slice_get sources j ≡ Some from.0) (read_once events one.0 i (r, b) one.1 at) one.2, subst (λ (j : ℕ). slice_get others j ≡ Some from.0) (read_once events two.0 i (r, b) two.1 at) two.2)))
-
-pub given_values_agree : GivenValuesAgree
-given_values_agree events given sources others r whole to other_to = value-given events (GivenBy given) sources others r whole to other_to
 
 pub values_stay : ValuesStay
 values_stay events sources rest r all =

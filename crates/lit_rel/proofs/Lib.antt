@@ -3,7 +3,7 @@ pub mod ByteReadLemmas
 pub mod ChainLemmas
 pub mod EachLemmas
 pub mod EdgeLemmas
-pub mod ForbiddenLemmas
+pub mod GivenLemmas
 pub mod GrowthLemmas
 pub mod OrderLemmas
 pub mod OwnByteLemmas
@@ -12,13 +12,11 @@ pub mod PlaceLemmas
 pub mod RaceLemmas
 pub mod ReadingLemmas
 pub mod RefusalLemmas
-pub mod RelatingLemmas
 pub mod RowLemmas
 pub mod SameRelations
 pub mod SetLemmas
 pub mod SourceLemmas
 pub mod TestedByteLemmas
 pub mod TripleLemmas
-pub mod TwoWayLemmas
 pub mod ValueLemmas
 pub mod WideLemmas

@@ -1,6 +1,5 @@
 -- happens-before as rows, with one byte more.
-use Rattle.std.proofs.Common.{◌≡◌, ◌↔◌, ◌⊎◌, ℕ, List, [], ◌∷◌, ◌++◌, Some, length, inl, inr, sym, ap, ◌∙◌, subst}
-use Rattle.std.proofs.lemmas.Option.{same_Some}
+use Rattle.std.proofs.Common.{◌≡◌, ◌↔◌, ◌⊎◌, ℕ, List, [], ◌∷◌, ◌++◌, Some, length, ◌∙◌}
 use Rattle.std.specs.List.{slice_get}
 use Rattle.lit_paths.specs.declared.event.Event.{Event}
 use Rattle.lit_paths.specs.ByteReads.{byte_reads}
@@ -14,29 +13,7 @@ use Rattle.lit_rel.specs.ReadsFrom.{ReadsByteFrom}
 use Rattle.lit_rel.specs.Rows.{Holds, WithPair, rows_len}
 use Rattle.lit_rel.specs.SynchronizesWith.{CanSynchronize}
 use Rattle.lit_rel.proofs.EdgeLemmas.{WithPair-same, happens_before-same, happens_before-with}
-use Rattle.lit_rel.proofs.PlaceLemmas.{place-left, place-middle, place-push}
-
--- the next byte read is given its source
-ReadsByteFrom-push : (events : List Event) (sources : List ℕ) (r b w : ℕ) → slice_get (byte_reads events) (length sources) ≡ Some (r, b)
-    → (r' b' w' : ℕ) → ReadsByteFrom events (sources ++ w ∷ []) r' b' w' ↔ (ReadsByteFrom events sources r' b' w' ⊎ ((r' ≡ r) × (b' ≡ b) × (w' ≡ w)))
-ReadsByteFrom-push events sources r b w left r' b' w' = (to, from)
-  where
-    to : ReadsByteFrom events (sources ++ w ∷ []) r' b' w' → ReadsByteFrom events sources r' b' w' ⊎ ((r' ≡ r) × (b' ≡ b) × (w' ≡ w))
-    to h =
-        elim (place-push sources w h.0 w' h.2) [
-          | inl old ↦ inl (h.0, h.1, old.1)
-          | inr last ↦
-              let same : (r, b) ≡ (r', b') = same_Some (r, b) (r', b') (sym left ∙ sym (ap (slice_get (byte_reads events)) last.0) ∙ h.1) in
-              inr (sym (ap (λ (q : ℕ × ℕ). q.0) same), sym (ap (λ (q : ℕ × ℕ). q.1) same), sym last.1)
-        ]
-
-    from : ReadsByteFrom events sources r' b' w' ⊎ ((r' ≡ r) × (b' ≡ b) × (w' ≡ w)) → ReadsByteFrom events (sources ++ w ∷ []) r' b' w'
-    from (inl h) = (h.0, h.1, place-left sources (w ∷ []) h.0 w' h.2)
-    from (inr (same_r, same_b, same_w)) = (
-      length sources,
-      subst (λ (x : ℕ). slice_get (byte_reads events) (length sources) ≡ Some (x, b')) (sym same_r) (subst (λ (y : ℕ). slice_get (byte_reads events) (length sources) ≡ Some (r, y)) (sym same_b) left),
-      place-middle sources [] w ∙ ap Some (sym same_w),
-    )
+use Rattle.lit_rel.proofs.GivenLemmas.{ReadsByteFrom-push}
 
 module _ (events : List Event) (sources : List ℕ) (byte : SourcedByte) (left : slice_get (byte_reads events) (length sources) ≡ Some (read_of byte)) (before : Rows) (is : IsOrder events sources before) where
   adds : (r b w : ℕ) → ReadsByteFrom events (sources ++ byte.source ∷ []) r b w ↔ (ReadsByteFrom events sources r b w ⊎ ((r ≡ byte.read) × (b ≡ byte.byte) × (w ≡ byte.source)))

@@ -1,14 +1,15 @@
 -- Of all bytes that are read, those of one read are the bytes of its event.
-use Rattle.std.proofs.Common.{◌≡◌, ◌≢◌, ℕ, zero, suc, ◌+◌, ◌<◌, ◌==◌, Bool, true, false, Some, List, [], ◌∷◌, ◌++◌, map, filter, refl, ap, ap₂, ◌∙◌, arith, append-nil}
-use Rattle.std.specs.Prelude.{if◌then◌else◌, slice_get}
-use Rattle.std.specs.List.{range_with_len}
-use Rattle.std.proofs.lemmas.Bool.{eq-eqb}
+use Rattle.std.proofs.Common.{◌≡◌, ◌≢◌, ℕ, zero, suc, ◌+◌, ◌<◌, ◌≤◌, ◌==◌, Some, List, [], ◌∷◌, ◌++◌, length, get_or, map, filter, refl, ap, ◌∙◌, arith, append-nil, inl, inr, IsTrue}
+use Rattle.std.specs.Prelude.{slice_get}
+use Rattle.std.proofs.lemmas.Bool.{cases_Bool}
 use Rattle.std.proofs.lemmas.Bool.Decides.{nat_tests}
 use Rattle.std.proofs.lemmas.List.Elements.{filter-append}
-use Rattle.std.proofs.lemmas.Option.{none-some}
+use Rattle.std.proofs.lemmas.List.FromFn.{length-map-range_with_len}
+use Rattle.std.proofs.lemmas.Option.{get_or_from_slice_get}
+use Rattle.std.specs.List.{range_with_len}
 use Rattle.lit_paths.specs.declared.event.Event.{Event}
-use Rattle.lit_paths.specs.ByteReads.{byte_reads_from, bytes_read_by}
-use Rattle.lit_paths.specs.Event.{does_read}
+use Rattle.lit_paths.specs.ByteReads.{byte_reads, byte_reads_from, bytes_read_by}
+use Rattle.lit_paths.specs.Event.{does_read, event_at, no_event}
 
 -- those of one read
 abbrev pub only : ℕ → List (ℕ × ℕ) → List (ℕ × ℕ)
@@ -16,45 +17,46 @@ only r qs = filter {X = ℕ × ℕ} (λ q. q.0 == r) qs
 
 all_kept : (r first : ℕ) (ks : List ℕ) → only r (map (λ k. (r, first + k)) ks) ≡ map (λ k. (r, first + k)) ks
 all_kept r first [] = refl
-all_kept r first (k ∷ ks) =
-    ap (λ (t : Bool). if t then (r, first + k) ∷ only r (map (λ k. (r, first + k)) ks) else only r (map (λ k. (r, first + k)) ks)) (eq-eqb r r refl)
-    ∙ ap (λ (qs : List (ℕ × ℕ)). (r, first + k) ∷ qs) (all_kept r first ks)
+all_kept r first (k ∷ ks) = grind (arith, nat_tests, all_kept r first ks)
 
 none_kept : (r n first : ℕ) (ks : List ℕ) → n ≢ r → only r (map (λ k. (n, first + k)) ks) ≡ []
 none_kept r n first [] other = refl
-none_kept r n first (k ∷ ks) other =
-    let no : (n == r) ≡ false = grind (arith, nat_tests) in
-    ap (λ (t : Bool). if t then (n, first + k) ∷ only r (map (λ k. (n, first + k)) ks) else only r (map (λ k. (n, first + k)) ks)) no ∙ none_kept r n first ks other
+none_kept r n first (k ∷ ks) other = grind (arith, nat_tests, none_kept r n first ks other)
 
 own_kept : (r : ℕ) (e : Event) → only r (bytes_read_by r e) ≡ bytes_read_by r e
-own_kept r e = by (does_read e.kind)
-  where
-    by : (t : Bool) → only r (if t then map (λ k. (r, e.first + k)) (range_with_len 0 e.size) else []) ≡ (if t then map (λ k. (r, e.first + k)) (range_with_len 0 e.size) else [])
-    by true = all_kept r e.first (range_with_len 0 e.size)
-    by false = refl
+own_kept r e = grind (arith, all_kept r e.first (range_with_len 0 e.size))
 
 other_dropped : (r n : ℕ) (e : Event) → n ≢ r → only r (bytes_read_by n e) ≡ []
-other_dropped r n e other = by (does_read e.kind)
-  where
-    by : (t : Bool) → only r (if t then map (λ k. (n, e.first + k)) (range_with_len 0 e.size) else []) ≡ []
-    by true = none_kept r n e.first (range_with_len 0 e.size) other
-    by false = refl
+other_dropped r n e other = grind (arith, none_kept r n e.first (range_with_len 0 e.size) other)
+
+only-append : (r : ℕ) (xs ys : List (ℕ × ℕ)) → only r (xs ++ ys) ≡ only r xs ++ only r ys
+only-append r = filter-append (λ q. q.0 == r)
 
 later_dropped : (r n : ℕ) (es : List Event) → r < n → only r (byte_reads_from n es) ≡ []
-later_dropped r n [] lt = refl
-later_dropped r n (e ∷ es) lt =
-    filter-append (λ (q : ℕ × ℕ). q.0 == r) (bytes_read_by n e) (byte_reads_from (n + 1) es)
-    ∙ ap₂ (λ (xs ys : List (ℕ × ℕ)). xs ++ ys) (other_dropped r n e (λ same. absurd (omega (arith, same, lt)))) (later_dropped r (n + 1) es (omega (arith, lt)))
+later_dropped r n [] less = refl
+later_dropped r n (e ∷ es) less =
+    rw (only-append r (bytes_read_by n e) (byte_reads_from (n + 1) es), other_dropped r n e (omega arith)) (later_dropped r (n + 1) es (omega arith))
 
 -- the bytes of one event are those that it reads, in place
-pub only_its : (r n k : ℕ) (es : List Event) (e : Event) → n + k ≡ r → slice_get es k ≡ Some e → only r (byte_reads_from n es) ≡ bytes_read_by r e
-only_its r n k [] e sum at = absurd (none-some e at)
-only_its r n zero (x ∷ es) e sum at =
-    let here : x ≡ e = cc in
-    let same : n ≡ r = omega (arith, sum) in
-    filter-append (λ (q : ℕ × ℕ). q.0 == r) (bytes_read_by n x) (byte_reads_from (n + 1) es)
-    ∙ ap₂ (λ (xs ys : List (ℕ × ℕ)). xs ++ ys) (ap (λ (m : ℕ). only r (bytes_read_by m x)) same ∙ own_kept r x ∙ ap (bytes_read_by r) here) (later_dropped r (n + 1) es (omega (arith, same)))
-    ∙ append-nil (bytes_read_by r e)
-only_its r n (suc k) (x ∷ es) e sum at =
-    filter-append (λ (q : ℕ × ℕ). q.0 == r) (bytes_read_by n x) (byte_reads_from (n + 1) es)
-    ∙ ap₂ (λ (xs ys : List (ℕ × ℕ)). xs ++ ys) (other_dropped r n x (λ same. absurd (omega (arith, same, sum)))) (only_its r (n + 1) k es e (omega (arith, sum)) at)
+only_at : (r n k : ℕ) (es : List Event) → n + k ≡ r → only r (byte_reads_from n es) ≡ bytes_read_by r (get_or es k no_event)
+only_at r n k [] sum = refl
+only_at r n zero (x ∷ es) sum =
+    let same : n ≡ r = omega arith in
+    rw (only-append r (bytes_read_by n x) (byte_reads_from (n + 1) es), later_dropped r (n + 1) es (omega arith), append-nil (only r (bytes_read_by n x)), same)
+    (own_kept r x)
+only_at r n (suc k) (x ∷ es) sum =
+    rw (only-append r (bytes_read_by n x) (byte_reads_from (n + 1) es), other_dropped r n x (omega arith)) (only_at r (n + 1) k es (omega arith))
+
+pub only_its : (r n k : ℕ) (es : List Event) (e : Event) → n + k ≡ r → slice_get es k ≡ Some e
+    → only r (byte_reads_from n es) ≡ bytes_read_by r e
+only_its r n k es e sum at = only_at r n k es sum ∙ ap (bytes_read_by r) (get_or_from_slice_get es k e no_event at)
+
+-- they are as many as it has, or none
+pub all_read : (r : ℕ) (e : Event) → IsTrue (does_read e.kind) → length (bytes_read_by r e) ≡ e.size
+all_read r e reads = rw reads (length-map-range_with_len {X = ℕ × ℕ} (λ k. (r, e.first + k)) 0 e.size)
+
+few_read : (r : ℕ) (e : Event) → length (bytes_read_by r e) ≤ e.size
+few_read r e = elim (cases_Bool (does_read e.kind)) [ inl reads ↦ omega (arith, all_read r e reads) | inr not ↦ rw not (omega arith) ]
+
+pub few_own : (events : List Event) (r : ℕ) → length (only r (byte_reads events)) ≤ (event_at events r).size
+few_own events r = rw (only_at r 0 r events (omega arith)) (few_read r (event_at events r))

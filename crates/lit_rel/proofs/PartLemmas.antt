@@ -25,21 +25,16 @@ use Rattle.lit_rel.proofs.BrokenLemmas.{incoherent-iff, torn-iff}
 use Rattle.lit_rel.proofs.PlaceLemmas.{place-push}
 use Rattle.lit_rel.proofs.SourceLemmas.{AreFirstReads-push, AreFirstReads-take, next_read, read_known, take_from}
 
-pub of_part : (P : List Event → List ℕ → Type 0) (events part_events : List Event) (sources part_sources : List ℕ) → events ≡ part_events → sources ≡ part_sources → P events sources → P part_events part_sources
-of_part P events part_events sources part_sources same_events same_sources h = subst (λ (es : List Event). P es part_sources) same_events (subst (P events) same_sources h)
-
 -- the rows of a part that is seen as this value are happens-before, of as many events and sources
 pub given_order : (part value : PartModel) (level : Level) → part ≡ value → IsLevel part level → (events : List Event) (sources : List ℕ) → events ≡ part_events value → sources ≡ value.sources → IsOrder events sources level.before.rows
-given_order part value level view is events sources same_events same_sources =
-    subst (λ (es : List Event). IsOrder es sources level.before.rows) (sym same_events) (subst (λ (xs : List ℕ). IsOrder (part_events value) xs level.before.rows) (sym same_sources)
-    (subst (λ (p : PartModel). IsOrder (part_events p) p.sources level.before.rows) view is.before))
+given_order part value level view is events sources same_events same_sources = rw (same_events, same_sources) (rw view at is.before)
 
 -- no event has more than four bytes
 pub small_events : (block : ℕ) (events : List Event) → AreEventsIn block events → (n : ℕ) → (event_at events n).size ≤ 4
 small_events block events sound n =
     elim (cases_lt n (length events)) [
-      | inl within ↦ elim (sound.sized n within) [ inl one ↦ omega arith | inr more ↦ elim more [ inl two ↦ omega arith | inr four ↦ omega arith ] ]
-      | inr past ↦ let none : event_at events n ≡ no_event = get_or_past events n no_event past in let size : (event_at events n).size ≡ 0 = ap (λ (e : Event). e.size) none in omega arith
+      | inl within ↦ let sized = sound.sized n within in grind arith
+      | inr past ↦ rw (get_or_past events n no_event past) (omega arith)
     ]
 
 -- a byte with its source is one of the first byte reads
@@ -76,23 +71,11 @@ AreFirstSources-push part byte left candidate are i r b w at_read at_source =
 pub broken-iff : (t : Litmus) (c : ℕ) (bytes : List SourcedByte) (rows : Rows) → AreFirstReads (events_in t c) bytes → IsOrder (events_in t c) (sources_of bytes) rows
     → (HasBrokenBytes (events_in t c) (Holds rows) bytes ⊎ HasFalseTest (part_of t c bytes)) ↔ IsBroken (part_of t c bytes)
 broken-iff t c bytes rows first is =
-    let bad = incoherent-iff (events_in t c) bytes first (Holds rows) is.pairs in
-    let torn = torn-iff (events_in t c) bytes first in (
-      (λ h. elim h [
-        | inl relations ↦ inl (elim relations [
-          | inl cycle ↦ inl (cycle.0, (is.pairs cycle.0 cycle.0).0 cycle.1)
-          | inr rest ↦ inr (elim rest [ inl incoherent ↦ inl (bad.0 incoherent) | inr tears ↦ inr (torn.0 tears) ])
-        ])
-        | inr f ↦ inr f
-      ]),
-      (λ h. elim h [
-        | inl relations ↦ inl (elim relations [
-          | inl cycle ↦ inl (cycle.0, (is.pairs cycle.0 cycle.0).1 cycle.1)
-          | inr rest ↦ inr (elim rest [ inl incoherent ↦ inl (bad.1 incoherent) | inr tears ↦ inr (torn.1 tears) ])
-        ])
-        | inr f ↦ inr f
-      ]),
-    )
+    sums ((λ h. (h.0, (is.pairs h.0 h.0).0 h.1)), (λ h. (h.0, (is.pairs h.0 h.0).1 h.1)))
+    (incoherent-iff (events_in t c) bytes first (Holds rows) is.pairs) (torn-iff (events_in t c) bytes first)
+  where
+    sums : {A B C A' B' C' D : Type 0} → A ↔ A' → B ↔ B' → C ↔ C' → ((A ⊎ B ⊎ C) ⊎ D) ↔ ((A' ⊎ B' ⊎ C') ⊎ D)
+    sums a b c = grind arith
 
 module _ (t : Litmus) (c : ℕ) (bytes : List SourcedByte) (earlier : List Level) (now : Level) where
   -- with one byte more
@@ -115,50 +98,36 @@ module _ (t : Litmus) (c : ℕ) (bytes : List SourcedByte) (earlier : List Level
 
     pub known_more : (more : List SourcedByte) → more ≡ bytes ++ byte ∷ [] → All (IsKnown (length (events_in t c))) more
     known_more more pushed =
-        subst (λ (xs : List SourcedByte). All (IsKnown (length (events_in t c))) xs) (sym pushed)
-        (All-push (IsKnown (length (events_in t c))) bytes byte kept.known (next_known (part_of t c bytes) bytes byte new))
+        rw pushed (All-push (IsKnown (length (events_in t c))) bytes byte kept.known (next_known (part_of t c bytes) bytes byte new))
 
     pub IsKept-push : (more : List SourcedByte) (levels : List Level) (next : Level) → more ≡ bytes ++ byte ∷ [] → levels ≡ earlier ++ now ∷ [] → IsLevel (part_of t c more) next → IsKept t c more levels next
-    IsKept-push more levels next pushed pushed_level is =
-        let one_each : length earlier ≡ length bytes = kept.one_each in
-        let longer : length more ≡ length bytes + 1 = ap length pushed ∙ length_push bytes byte in
-        let higher : length levels ≡ length earlier + 1 = ap length pushed_level ∙ length_push earlier now in
-        let front : (k : ℕ) → k ≤ length bytes → take k bytes ≡ take k more = λ k few. sym (take-append-le k bytes (byte ∷ []) few) ∙ ap (take k) (sym pushed) in
-        record {
-          sound = kept.sound;
-          first_reads = first_more more pushed;
-          known = known_more more pushed;
-          candidates = subst (λ (xs : List ℕ). AreFirstSources (with_sources (part_of t c bytes) xs)) (sym (sources_more more pushed)) (AreFirstSources-push (part_of t c bytes) byte left_of new.candidate kept.candidates);
-          one_each = omega arith;
-          at_all = is;
-          at_less = λ k l at_k.
-              elim (place-push earlier now k l (sym (ap (λ (xs : List Level). slice_get xs k) pushed_level) ∙ at_k)) [
-                | inl old ↦
-                    let below : k < length earlier = old.0 in
-                    subst (λ (xs : List SourcedByte). IsLevel (part_of t c xs) l) (front k (omega arith)) (kept.at_less k l old.1)
-                | inr last ↦
-                    let place : k ≡ length bytes = last.0 ∙ one_each in
-                    let whole : bytes ≡ take k more = sym (take_at bytes (byte ∷ []) k (sym place)) ∙ ap (take k) (sym pushed) in
-                    subst (λ (x : Level). IsLevel (part_of t c (take k more)) x) last.1 (subst (λ (xs : List SourcedByte). IsLevel (part_of t c xs) now) whole kept.at_all)
-              ];
-        }
+    IsKept-push more levels next pushed pushed_level is = record {
+      sound = kept.sound;
+      first_reads = first_more more pushed;
+      known = known_more more pushed;
+      candidates = rw (sources_more more pushed) (AreFirstSources-push (part_of t c bytes) byte left_of new.candidate kept.candidates);
+      one_each = rw (pushed, pushed_level, length_push bytes byte, length_push earlier now, kept.one_each);
+      at_all = is;
+      at_less = λ k l at_k. elim (place-push earlier now k l (rw pushed_level at at_k)) [
+        | inl old ↦ rw (pushed, take-append-le k bytes (byte ∷ []) (omega (arith, old.0, kept.one_each))) (kept.at_less k l old.1)
+        | inr last ↦ rw (← last.1, pushed, take_at bytes (byte ∷ []) k (omega (arith, last.0, kept.one_each))) kept.at_all
+      ];
+    }
 
   -- with one byte less
   pub IsKept-pop : (n : ℕ) (d : Level) (less : List SourcedByte) (levels : List Level) → IsKept t c bytes earlier now → n + 1 ≡ length bytes → less ≡ take n bytes → levels ≡ take n earlier → IsKept t c less levels (get_or earlier n d)
   IsKept-pop n d less levels kept count is_less is_levels =
       let one_each : length earlier ≡ length bytes = kept.one_each in
-      let shorter : length less ≡ n = ap length is_less ∙ length-take-le n bytes (omega arith) in
       let lower : length levels ≡ n = ap length is_levels ∙ length-take-le n earlier (omega arith) in
       record {
         sound = kept.sound;
-        first_reads = subst (AreFirstReads (events_in t c)) (sym is_less) (AreFirstReads-take (events_in t c) bytes kept.first_reads n (omega arith));
-        known = subst (λ (xs : List SourcedByte). All (IsKnown (length (events_in t c))) xs) (sym is_less) (All-take (IsKnown (length (events_in t c))) n bytes kept.known);
+        first_reads = rw is_less (AreFirstReads-take (events_in t c) bytes kept.first_reads n (omega arith));
+        known = rw is_less (All-take (IsKnown (length (events_in t c))) n bytes kept.known);
         candidates = λ i r b w at_read at_source.
-            kept.candidates i r b w at_read (take_from n (sources_of bytes) i w (sym (ap (λ (xs : List ℕ). slice_get xs i) (ap sources_of is_less ∙ sym (take-map (λ (b : SourcedByte). b.source) n bytes))) ∙ at_source));
-        one_each = omega arith;
-        at_all = subst (λ (xs : List SourcedByte). IsLevel (part_of t c xs) (get_or earlier n d)) (sym is_less) (kept.at_less n (get_or earlier n d) (slice_get-get_or earlier n d (omega arith)));
+            kept.candidates i r b w at_read (take_from n (sources_of bytes) i w (rw (is_less, ← take-map (λ (b : SourcedByte). b.source) n bytes) at at_source));
+        one_each = rw (is_less, length-take-le n bytes (omega arith)) lower;
+        at_all = rw is_less (kept.at_less n (get_or earlier n d) (slice_get-get_or earlier n d (omega arith)));
         at_less = λ k l at_k.
-            let within : k < n = (let w : k < length levels = slice_get_within levels k l at_k in omega arith) in
-            let old = kept.at_less k l (take_from n earlier k l (sym (ap (λ (xs : List Level). slice_get xs k) is_levels) ∙ at_k)) in
-            subst (λ (xs : List SourcedByte). IsLevel (part_of t c xs) l) (sym (take-take k n bytes (omega arith)) ∙ ap (take k) (sym is_less)) old;
+            let within = slice_get_within levels k l at_k in
+            rw (is_less, take-take k n bytes (omega arith)) (kept.at_less k l (take_from n earlier k l (rw is_levels at at_k)));
       }

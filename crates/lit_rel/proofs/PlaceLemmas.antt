@@ -1,23 +1,19 @@
 -- Places in lists after an append.
-use Rattle.std.proofs.Common.{◌≡◌, ◌≢◌, ◌⊎◌, ℕ, ◌<◌, suc, zero, Some, List, [], ◌∷◌, ◌++◌, length, drop, refl, ap, ◌∙◌, arith, inl, inr}
+use Rattle.std.proofs.Common.{◌≡◌, ◌≢◌, ◌⊎◌, ℕ, ◌<◌, suc, zero, Some, List, [], ◌∷◌, ◌++◌, length, drop, refl, sym, ap, ◌∙◌, arith, inl, inr}
 use Rattle.std.proofs.Math.ListN.{set, length-set}
 use Rattle.std.proofs.lemmas.List.{take_at}
-use Rattle.std.proofs.lemmas.Option.{none-some, same_Some}
+use Rattle.std.proofs.lemmas.Option.{none-some, same_Some, slice_get_within}
 use Rattle.std.specs.List.{refill, slice_get}
+use Rattle.lit_paths.proofs.Products.{slice_get_left, slice_get_right}
 
 pub place-left : {X : Type 0} (xs ys : List X) (k : ℕ) (e : X) → slice_get xs k ≡ Some e → slice_get (xs ++ ys) k ≡ Some e
-place-left [] ys k e h = absurd (none-some e h)
-place-left (x ∷ xs) ys zero e h = h
-place-left (x ∷ xs) ys (suc k) e h = place-left xs ys k e h
+place-left xs ys k e h = slice_get_left xs ys k (slice_get_within xs k e h) ∙ h
 
 pub place_from-left : {X : Type 0} (xs ys : List X) (k : ℕ) (e : X) → k < length xs → slice_get (xs ++ ys) k ≡ Some e → slice_get xs k ≡ Some e
-place_from-left [] ys k e l h = absurd (omega arith)
-place_from-left (x ∷ xs) ys zero e l h = h
-place_from-left (x ∷ xs) ys (suc k) e l h = place_from-left xs ys k e (omega arith) h
+place_from-left xs ys k e l h = sym (slice_get_left xs ys k l) ∙ h
 
 pub place-middle : {X : Type 0} (xs ys : List X) (e : X) → slice_get (xs ++ e ∷ ys) (length xs) ≡ Some e
-place-middle [] ys e = refl
-place-middle (x ∷ xs) ys e = place-middle xs ys e
+place-middle xs ys e = slice_get_right xs (e ∷ ys) (length xs) 0 (omega arith)
 
 pub place-push : {X : Type 0} (xs : List X) (e : X) (k : ℕ) (d : X) → slice_get (xs ++ e ∷ []) k ≡ Some d → ((k < length xs) × (slice_get xs k ≡ Some d)) ⊎ ((k ≡ length xs) × (e ≡ d))
 place-push [] e zero d h = inr (refl, same_Some e d h)

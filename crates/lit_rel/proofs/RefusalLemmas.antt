@@ -1,7 +1,7 @@
 -- Tests that are false of the sources given.
-use Rattle.std.proofs.Common.{◌≡◌, ◌≢◌, ◌↔◌, ℕ, ◌+◌, ◌<◌, ◌≤◌, Option, Some, None, List, ◌++◌, length, map, refl, sym, ap, ◌∙◌, subst, arith, inl, inr}
+use Rattle.std.proofs.Common.{◌≡◌, ◌≢◌, ◌↔◌, ℕ, ◌+◌, ◌<◌, ◌≤◌, Option, Some, None, List, length, map, refl, sym, ap, ◌∙◌, arith, inl, inr}
 use Rattle.std.proofs.lemmas.Bool.{cases_lt}
-use Rattle.std.proofs.lemmas.List.{length-append, length-map}
+use Rattle.std.proofs.lemmas.List.{length-map}
 use Rattle.std.proofs.lemmas.Option.{none-some, same_Some}
 use Rattle.std.specs.List.{slice_get}
 use Rattle.lit_read.specs.Syntax.{Litmus}
@@ -10,14 +10,10 @@ use Rattle.lit_paths.specs.declared.byte_reads.ByteRead.{ByteRead}
 use Rattle.lit_paths.specs.ByteReads.{byte_reads, pair_of}
 use Rattle.lit_paths.specs.Plan.{IsWalkIn, events_in, first_event, walk_in}
 use Rattle.lit_rel.specs.declared.given.SourcedByte.{SourcedByte}
-use Rattle.lit_rel.specs.Broken.{HasFalseTestOn, StaysBroken, number_on}
+use Rattle.lit_rel.specs.Broken.{HasFalseTestOn, number_on}
 use Rattle.lit_rel.specs.Growth.{IsGivenWhole}
-use Rattle.lit_rel.specs.Part.{part_events}
 use Rattle.lit_rel.specs.Internal.Given.{sources_of}
-use Rattle.lit_rel.specs.ReadsFrom.{ReadsByteFrom}
 use Rattle.lit_paths.proofs.Rising.{slice_get-map-found, slice_get-map-known}
-use Rattle.lit_rel.proofs.BrokenLemmas.{IsBrokenBy-grows}
-use Rattle.lit_rel.proofs.GrowthLemmas.{ReadsByteFrom-longer, values_stay}
 
 -- a read is given whole where no later byte read is of it
 pub given_whole-iff : (events : List Event) (reads : List ByteRead) (bytes : List SourcedByte) (read : ℕ) → map pair_of reads ≡ byte_reads events
@@ -50,14 +46,3 @@ asked_known t c r v walks f = by f.test.on refl f.asks
         let below : place < length _ = (walk.tests_reads f.place place f.test f.at_place is).0 in
         let within : first_event t c f.agent + length _ ≤ length (events_in t c) = walk.within in
         omega arith
-
--- a broken part stays broken
-pub stays_broken : StaysBroken
-stays_broken part rest (inl relations) = inl (IsBrokenBy-grows (part_events part) (ReadsByteFrom (part_events part) part.sources) (ReadsByteFrom (part_events part) (part.sources ++ rest)) (ReadsByteFrom-longer (part_events part) part.sources rest) relations)
-stays_broken part rest (inr (inl f)) = inr (inl f)
-stays_broken part rest (inr (inr (r, whole, f))) =
-    inr (inr (
-      r,
-      (λ i b at_i. let l : i < length part.sources = whole i b at_i in let c : length (part.sources ++ rest) ≡ length part.sources + length rest = length-append part.sources rest in omega arith),
-      subst (λ (v : ℕ). HasFalseTestOn part.test part.combination (Some r) v) (sym (values_stay (part_events part) part.sources rest r whole)) f,
-    ))

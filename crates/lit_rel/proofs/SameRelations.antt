@@ -1,5 +1,5 @@
 -- What is asked of reads, and what is forbidden, by two relations that hold of the same events.
-use Rattle.std.proofs.Common.{◌↔◌, ℕ, List, inl, inr}
+use Rattle.std.proofs.Common.{◌↔◌, ◌⊎◌, ℕ, List, inl, inr, arith}
 use Rattle.lit_paths.specs.declared.event.Event.{Event}
 use Rattle.lit_rel.specs.Coherent.{IsCoherentRead}
 use Rattle.lit_rel.specs.Forbidden.{IsForbiddenBetween, IsForbiddenTriple}
@@ -25,10 +25,17 @@ coherent_read_by events before other to r b w read = record {
   not_hidden = λ v hides. read.not_hidden v record { writes = hides.writes; in_range = hides.in_range; after_source = to w v hides.after_source; before_read = to v r hides.before_read };
 }
 
-module _ (events : List Event) (given : ℕ → ℕ → ℕ → Type 0) where
-  forbidden_by : (before other : ℕ → ℕ → Type 0) → ((e d : ℕ) → before e d → other e d) → (w r v : ℕ) → IsForbiddenTriple events given before w r v → IsForbiddenTriple events given other w r v
-  forbidden_by before other to w r v f = record { reads = f.reads; between = between_by events before other to w r v f.between }
+pub IsForbiddenTriple-same : (events : List Event) (given : ℕ → ℕ → ℕ → Type 0) (before other : ℕ → ℕ → Type 0)
+    → ((e d : ℕ) → before e d ↔ other e d) → (w r v : ℕ) → IsForbiddenTriple events given before w r v ↔ IsForbiddenTriple events given other w r v
+IsForbiddenTriple-same events given before other same w r v = (
+  (λ f. record { reads = f.reads; between = between_by events before other (λ e d. (same e d).0) w r v f.between }),
+  (λ f. record { reads = f.reads; between = between_by events other before (λ e d. (same e d).1) w r v f.between }),
+)
 
-  module _ (before other : ℕ → ℕ → Type 0) (same : (e d : ℕ) → before e d ↔ other e d) where
-    pub IsForbiddenTriple-same : (w r v : ℕ) → IsForbiddenTriple events given before w r v ↔ IsForbiddenTriple events given other w r v
-    IsForbiddenTriple-same w r v = (forbidden_by before other (λ e d. (same e d).0) w r v, forbidden_by other before (λ e d. (same e d).1) w r v)
+-- the patterns, set by set, and the first alone
+pub joined : {Whole Some Set After Before W A B C : Type 0} → Whole ↔ (Some ⊎ Before) → Some ↔ (Set ⊎ After) → Set ↔ (W × A) → After ↔ (W × B) → Before ↔ (W × C)
+    → Whole ↔ (W × (A ⊎ B ⊎ C))
+joined whole some set after before = grind arith
+
+pub alone : {Set W A B C : Type 0} → Set ↔ (W × A) → ¬ B → ¬ C → Set ↔ (W × (A ⊎ B ⊎ C))
+alone set no_after no_before = grind arith

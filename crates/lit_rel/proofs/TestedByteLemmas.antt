@@ -1,27 +1,23 @@
 -- A byte of a read's value is that of its source, and so a test that refuses it is false of the value.
-use Rattle.std.proofs.Common.{◌≡◌, ◌≢◌, ◌⊎◌, inl, inr, ℕ, zero, suc, ◌+◌, ◌-◌, ◌*◌, ◌<◌, ◌≤◌, ◌==◌, All, Bool, true, false, Some, List, [], ◌∷◌, length, map, filter, zip, refl, sym, subst, ap, ◌∙◌, arith}
+use Rattle.std.proofs.Common.{◌≡◌, ◌≢◌, inl, inr, ℕ, zero, suc, ◌+◌, ◌-◌, ◌*◌, ◌<◌, ◌==◌, All, Bool, true, false, Some, List, [], ◌∷◌, length, map, filter, zip, refl, sym, ap, ◌∙◌, arith}
 use Rattle.std.specs.Prelude.{if◌then◌else◌, not, slice_get, slice_index}
-use Rattle.std.specs.List.{range_with_len}
 use Rattle.std.proofs.lemmas.Bool.{cases_lt, eq-eqb}
 use Rattle.std.proofs.lemmas.Bool.Decides.{nat_tests}
 use Rattle.std.proofs.lemmas.List.{get_or_past, length-map}
-use Rattle.std.proofs.lemmas.List.Elements.{All-map, All-nil}
-use Rattle.std.proofs.lemmas.List.FromFn.{length-map-range_with_len}
-use Rattle.std.proofs.lemmas.Option.{none-some, same_Some, slice_get_within, slice_get-get_or}
+use Rattle.std.proofs.lemmas.List.Elements.{All-map}
+use Rattle.std.proofs.lemmas.Option.{none-some, same_Some, slice_get-get_or}
 use Rattle.lit_paths.specs.declared.event.Event.{Event}
 use Rattle.lit_paths.specs.declared.path.Tested.{Tested}
 use Rattle.lit_paths.specs.ByteReads.{byte_reads, bytes_read_by}
-use Rattle.lit_paths.specs.Event.{does_read, event_at, no_event, payload_at}
+use Rattle.lit_paths.specs.Event.{event_at, no_event, payload_at}
 use Rattle.lit_paths.specs.Path.{payload_of}
 use Rattle.lit_paths.specs.Plan.{AreEventsIn}
 use Rattle.lit_paths.specs.Run.{compares}
 use Rattle.lit_paths.proofs.Rising.{slice_get-map-found}
-use Rattle.lit_rel.specs.Part.{part_events}
 use Rattle.lit_rel.specs.ReadsFrom.{ReadsByteFrom, bytes_of_read, composed, value_of}
-use Rattle.lit_rel.specs.TestedBytes.{IsFalseOfByte, RefusedBytesMakeFalse}
-use Rattle.lit_rel.proofs.ByteReadLemmas.{range_at}
-use Rattle.lit_rel.proofs.OwnByteLemmas.{only, only_its}
-use Rattle.lit_rel.proofs.SourceLemmas.{read_known}
+use Rattle.lit_rel.specs.TestedBytes.{IsFalseOfByte}
+use Rattle.lit_rel.proofs.OwnByteLemmas.{all_read, only, only_its}
+use Rattle.lit_rel.proofs.SourceLemmas.{read_here, read_known}
 
 -- ---- the bytes of a number
 shifted : (b v j : ℕ) → b < 256 → j < 3 → slice_index (payload_of (b + 256 * v)) (suc j) ≡ slice_index (payload_of v) j
@@ -77,39 +73,17 @@ reads_of r (q ∷ reads) (w ∷ sources) long = by (q.0 == r) (reads_of r reads 
     by true e = ap (λ (qs : List (ℕ × ℕ)). q ∷ qs) e
     by false e = e
 
--- where a byte stands among those that its read takes
-record IsPlaced (e : Event) (r b place : ℕ) : Type 0 where
-  within : place < e.size
-  is : b ≡ e.first + place
-  count : length (bytes_read_by r e) ≡ e.size
-
-placed : (e : Event) (r b place : ℕ) → slice_get (bytes_read_by r e) place ≡ Some (r, b) → IsPlaced e r b place
-placed e r b place at = by (does_read e.kind) refl at
-  where
-    by : (t : Bool) → does_read e.kind ≡ t → slice_get {X = ℕ × ℕ} (if t then map (λ k. (r, e.first + k)) (range_with_len 0 e.size) else []) place ≡ Some (r, b) → IsPlaced e r b place
-    by true reads at =
-        let found = range_at r e.first 0 e.size place (r, b) at in
-        let byte : b ≡ e.first + (0 + place) = ap (λ (q : ℕ × ℕ). q.1) found.1 in
-        record {
-          within = found.0;
-          is = omega (arith, byte);
-          count = ap (λ (t : Bool). length {A = ℕ × ℕ} (if t then map (λ k. (r, e.first + k)) (range_with_len 0 e.size) else [])) reads ∙ length-map-range_with_len (λ k. (r, e.first + k)) 0 e.size;
-        }
-    by false reads at = absurd (none-some (r, b) at)
-
 -- ---- in a complete list of sources
 module _ (bytes : ℕ) (events : List Event) (sound : AreEventsIn bytes events) (sources : List ℕ) (complete : length sources ≡ length (byte_reads events)) where
   payload_small : (w b : ℕ) → payload_at (event_at events w) b < 256
-  payload_small w b = by (cases_lt w (length events))
+  payload_small w b =
+      elim (cases_lt w (length events)) [
+        | inl known ↦ inside (event_at events w).payload (b - (event_at events w).first) (sound.payload w known)
+        | inr past ↦ rw (get_or_past events w no_event past) (omega arith)
+      ]
     where
       inside : (xs : List ℕ) (i : ℕ) → All (λ x. x < 256) xs → slice_index xs i < 256
-      inside xs i small = elim (cases_lt i (length xs)) [ inl within ↦ small i 0 within | inr past ↦ (let none : slice_index xs i ≡ 0 = get_or_past xs i 0 past in omega (arith, none)) ]
-
-      by : (w < length events) ⊎ (length events ≤ w) → payload_at (event_at events w) b < 256
-      by (inl known) = inside (event_at events w).payload (b - (event_at events w).first) (sound.payload w known)
-      by (inr past) =
-          let none : event_at events w ≡ no_event = get_or_past events w no_event past in
-          subst (λ (e : Event). payload_at e b < 256) (sym none) (inside [] (b - no_event.first) (All-nil (λ (x : ℕ). x < 256)))
+      inside xs i small = elim (cases_lt i (length xs)) [ inl within ↦ small i 0 within | inr past ↦ rw (get_or_past xs i 0 past) (omega arith) ]
 
   -- the byte at its place in the read's value
   record IsTaken (r b x : ℕ) : Type 0 where
@@ -130,12 +104,12 @@ module _ (bytes : ℕ) (events : List Event) (sound : AreEventsIn bytes events) 
       reads_of r (byte_reads events) sources complete ∙ only_its r 0 r events e (omega arith) (slice_get-get_or events r no_event known) in
       let at_place : slice_get (bytes_read_by r e) found.0 ≡ Some (r, b) =
       ap (λ (qs : List (ℕ × ℕ)). slice_get qs found.0) (sym own) ∙ slice_get-map-found (λ (p : (ℕ × ℕ) × ℕ). p.0) ps found.0 ((r, b), w) found.1 in
-      let at = placed e r b found.0 at_place in
+      let at = read_here r e found.0 (r, b) at_place in
       record {
         place = found.0;
-        within = at.within;
-        is = at.is;
-        count = length-map ps stored ∙ sym (length-map ps (λ p. p.0)) ∙ ap length own ∙ at.count;
+        within = at.1;
+        is = at.3;
+        count = length-map ps stored ∙ sym (length-map ps (λ p. p.0)) ∙ ap length own ∙ all_read r e at.0;
         at_place = slice_get-map-found stored ps found.0 ((r, b), w) found.1;
       }
 
@@ -176,20 +150,3 @@ module _ (bytes : ℕ) (events : List Event) (sound : AreEventsIn bytes events) 
   false_of r b w test from (inr (differs, one, same)) =
       ap (λ (t : Bool). compares t (value_of events sources r) test.value) differs
       ∙ ap not (eq-eqb (value_of events sources r) test.value (value_alone r b w from one ∙ sym same))
-
-pub refused_bytes : RefusedBytesMakeFalse
-refused_bytes part r b w sound complete from refused =
-    let events = part_events part in
-    inr (
-      r,
-      (λ i b' at. let within : i < length (byte_reads events) = slice_get_within (byte_reads events) i (r, b') at in omega (arith, complete, within)),
-      record {
-        agent = refused.agent;
-        known = refused.known;
-        place = refused.place;
-        test = refused.test;
-        at_place = refused.at_place;
-        asks = refused.asks;
-        is_false = false_of part.test.bytes events sound part.sources complete r b w refused.test from refused.is_false;
-      },
-    )

@@ -1,27 +1,22 @@
 -- The bytes that a read takes from its sources, from the last to the first, and the number that they compose.
-use Rattle.std.proofs.Common.{◌≡◌, ◌≢◌, ℕ, suc, zero, ◌+◌, ◌-◌, ◌*◌, ◌^◌, ◌<◌, ◌≤◌, ◌==◌, List, [], ◌∷◌, ◌++◌, length, map, filter, drop, get_or, refl, sym, ap, ◌∙◌, subst, arith, Bool, true, false, cond, eq-eqb, length-append, Some}
+use Rattle.std.proofs.Common.{◌≡◌, ◌≢◌, ℕ, suc, zero, ◌+◌, ◌-◌, ◌*◌, ◌^◌, ◌<◌, ◌≤◌, ◌==◌, List, [], ◌∷◌, length, map, filter, drop, get_or, refl, sym, ap, ◌∙◌, subst, arith, Bool, true, false, cond, eq-eqb, Some}
 use Rattle.std.proofs.lemmas.Bool.Decides.{nat_tests}
 use Rattle.std.proofs.lemmas.List.{drop_more, drop-map, length-map}
-use Rattle.std.proofs.lemmas.List.Elements.{filter-append}
-use Rattle.std.proofs.lemmas.List.FromFn.{length-range_with_len}
 use Rattle.std.proofs.Math.Nat.{pow-le-pow_right}
 use Rattle.std.proofs.lemmas.Option.{none-some, same_Some}
-use Rattle.std.specs.List.{range_with_len, zip, slice_get}
+use Rattle.std.specs.List.{zip, slice_get}
 use Rattle.lit_rel.specs.declared.given.SourcedByte.{SourcedByte}
 use Rattle.lit_paths.specs.declared.event.Event.{Event}
-use Rattle.lit_paths.specs.Event.{does_read, event_at, no_event, payload_at}
-use Rattle.lit_paths.specs.ByteReads.{byte_reads, byte_reads_from, bytes_read_by}
+use Rattle.lit_paths.specs.Event.{event_at, payload_at}
+use Rattle.lit_paths.specs.ByteReads.{byte_reads}
 use Rattle.lit_rel.specs.Internal.Given.{AreFirstReads, read_of, sources_of}
 use Rattle.lit_rel.specs.ReadsFrom.{composed, value_of}
+use Rattle.lit_rel.proofs.OwnByteLemmas.{few_own}
 use Rattle.lit_rel.proofs.SourceLemmas.{read_place}
 
 -- the read and the byte, and then the source
 abbrev pub sourced : SourcedByte → (ℕ × ℕ) × ℕ
 sourced p = ((p.read, p.byte), p.source)
-
--- the bytes of an event's range, each with the event's number
-abbrev range_bytes : ℕ → Event → List (ℕ × ℕ)
-range_bytes n e = map (λ k. (n, e.first + k)) (range_with_len 0 e.size)
 
 -- the bytes are the byte reads with their sources
 zip-nil : (xs : List (ℕ × ℕ)) → zip {K = ℕ × ℕ} {X = ℕ} xs [] ≡ []
@@ -99,60 +94,6 @@ length-zip_reads r (p ∷ reads) (w ∷ sources) =
     elim (p.0 == r) as (λ b. length (cond b ((p, w) ∷ filter {X = (ℕ × ℕ) × ℕ} (λ q. q.0.0 == r) (zip reads sources)) (filter (λ q. q.0.0 == r) (zip reads sources))) ≤ length (cond b (p ∷ filter {X = ℕ × ℕ} (λ q. q.0 == r) reads) (filter (λ q. q.0 == r) reads)))
     [ true ↦ omega arith | false ↦ ih ]
 
-length-filter_le : {X : Type 0} (test : X → Bool) (xs : List X) → length (filter test xs) ≤ length xs
-length-filter_le test [] = omega arith
-length-filter_le test (x ∷ xs) =
-    let ih : length (filter test xs) ≤ length xs = length-filter_le test xs in
-    elim (test x) as (λ b. length (cond b (x ∷ filter test xs) (filter test xs)) ≤ suc (length xs)) [ true ↦ omega arith | false ↦ omega arith ]
-
-none_of_map : (r n first : ℕ) (ks : List ℕ) → n ≢ r → length (filter {X = ℕ × ℕ} (λ p. p.0 == r) (map (λ k. (n, first + k)) ks)) ≡ 0
-none_of_map r n first [] other = refl
-none_of_map r n first (k ∷ ks) other =
-    let no_test : (n == r) ≡ false = grind (arith, nat_tests) in
-    ap (λ (b : Bool). length (cond b ((n, first + k) ∷ filter {X = ℕ × ℕ} (λ p. p.0 == r) (map (λ j. (n, first + j)) ks)) (filter {X = ℕ × ℕ} (λ p. p.0 == r) (map (λ j. (n, first + j)) ks)))) no_test
-    ∙ none_of_map r n first ks other
-
--- of the bytes that one event reads
-of_other : (r n : ℕ) (e : Event) → n ≢ r → length (filter {X = ℕ × ℕ} (λ p. p.0 == r) (bytes_read_by n e)) ≡ 0
-of_other r n e other =
-    elim (does_read e.kind) as (λ b. length (filter {X = ℕ × ℕ} (λ p. p.0 == r) (cond b (range_bytes n e) [])) ≡ 0)
-    [ true ↦ none_of_map r n e.first (range_with_len 0 e.size) other | false ↦ refl ]
-
-of_itself : (r n : ℕ) (e : Event) → length (filter {X = ℕ × ℕ} (λ p. p.0 == r) (bytes_read_by n e)) ≤ e.size
-of_itself r n e =
-    elim (does_read e.kind) as (λ b. length (filter {X = ℕ × ℕ} (λ p. p.0 == r) (cond b (range_bytes n e) [])) ≤ e.size) [
-      | true ↦
-          let few : length (filter {X = ℕ × ℕ} (λ p. p.0 == r) (range_bytes n e)) ≤ length (range_bytes n e) = length-filter_le (λ p. p.0 == r) (range_bytes n e) in
-          let many : length (range_bytes n e) ≡ e.size = length-map (range_with_len 0 e.size) (λ k. (n, e.first + k)) ∙ length-range_with_len 0 e.size in
-          omega arith
-      | false ↦ omega arith
-    ]
-
-filtered_append : (r : ℕ) (xs ys : List (ℕ × ℕ)) → length (filter {X = ℕ × ℕ} (λ p. p.0 == r) (xs ++ ys)) ≡ length (filter {X = ℕ × ℕ} (λ p. p.0 == r) xs) + length (filter {X = ℕ × ℕ} (λ p. p.0 == r) ys)
-filtered_append r xs ys = ap length (filter-append (λ p. p.0 == r) xs ys) ∙ length-append (filter (λ p. p.0 == r) xs) (filter (λ p. p.0 == r) ys)
-
-none_later : (r n : ℕ) (es : List Event) → r < n → length (filter {X = ℕ × ℕ} (λ p. p.0 == r) (byte_reads_from n es)) ≡ 0
-none_later r n [] h = refl
-none_later r n (e ∷ es) h =
-    let other : n ≢ r = omega arith in
-    let here : length (filter {X = ℕ × ℕ} (λ p. p.0 == r) (bytes_read_by n e)) ≡ 0 = of_other r n e other in
-    let rest : length (filter {X = ℕ × ℕ} (λ p. p.0 == r) (byte_reads_from (n + 1) es)) ≡ 0 = none_later r (n + 1) es (omega arith) in
-    filtered_append r (bytes_read_by n e) (byte_reads_from (n + 1) es) ∙ omega arith
-
-few_from : (r n k : ℕ) (es : List Event) → n + k ≡ r → length (filter {X = ℕ × ℕ} (λ p. p.0 == r) (byte_reads_from n es)) ≤ (get_or es k no_event).size
-few_from r n k [] h = omega arith
-few_from r n zero (e ∷ es) h =
-    let here : length (filter {X = ℕ × ℕ} (λ p. p.0 == r) (bytes_read_by n e)) ≤ e.size = of_itself r n e in
-    let rest : length (filter {X = ℕ × ℕ} (λ p. p.0 == r) (byte_reads_from (n + 1) es)) ≡ 0 = none_later r (n + 1) es (omega arith) in
-    let both = filtered_append r (bytes_read_by n e) (byte_reads_from (n + 1) es) in
-    omega arith
-few_from r n (suc k) (e ∷ es) h =
-    let other : n ≢ r = omega arith in
-    let here : length (filter {X = ℕ × ℕ} (λ p. p.0 == r) (bytes_read_by n e)) ≡ 0 = of_other r n e other in
-    let rest : length (filter {X = ℕ × ℕ} (λ p. p.0 == r) (byte_reads_from (n + 1) es)) ≤ (get_or es k no_event).size = few_from r (n + 1) k es (omega arith) in
-    let both = filtered_append r (bytes_read_by n e) (byte_reads_from (n + 1) es) in
-    omega arith
-
 -- a read takes no more bytes than it has
 pub length-stored : (events : List Event) (r : ℕ) (bytes : List SourcedByte) (k : ℕ) → AreFirstReads events bytes → length (stored events r (drop k bytes)) ≤ (event_at events r).size
 length-stored events r bytes k first =
@@ -162,7 +103,7 @@ length-stored events r bytes k first =
     let dropped : Few (drop k (map sourced bytes)) ≤ Few (map sourced bytes) = length-filter_drop (λ p. p.0.0 == r) k (map sourced bytes) in
     let zipped : Few (map sourced bytes) ≡ Few (zip (byte_reads events) (sources_of bytes)) = ap Few (are_sourced events bytes first) in
     let reads : Few (zip (byte_reads events) (sources_of bytes)) ≤ length (filter {X = ℕ × ℕ} (λ p. p.0 == r) (byte_reads events)) = length-zip_reads r (byte_reads events) (sources_of bytes) in
-    let few : length (filter {X = ℕ × ℕ} (λ p. p.0 == r) (byte_reads events)) ≤ (event_at events r).size = few_from r 0 r events (omega arith) in
+    let few : length (filter {X = ℕ × ℕ} (λ p. p.0 == r) (byte_reads events)) ≤ (event_at events r).size = few_own events r in
     omega arith
 
 -- so the number fits, with one byte more

@@ -6,6 +6,7 @@ use Rattle.lit_read.specs.Syntax.{Litmus}
 use Rattle.lit_read.specs.SyntaxCodes.{coded_litmus}
 use Rattle.lit_paths.specs.declared.event.Event.{Event}
 use Rattle.lit_paths.specs.ByteReads.{byte_reads, IsCandidate}
+use Rattle.lit_paths.specs.Choice.{AreCandidates}
 use Rattle.lit_paths.specs.Plan.{events_in}
 
 -- the test, the combination's number, and the sources given so far
@@ -37,9 +38,7 @@ pub record IsNextSource (part : PartModel) (w : ℕ) : Type 0 where
 
 -- each source given is a candidate of its byte read
 abbrev pub AreFirstSources : PartModel → Type 0
-AreFirstSources part =
-    (i r b w : ℕ) → slice_get (byte_reads (part_events part)) i ≡ Some (r, b) → slice_get part.sources i ≡ Some w
-    → IsCandidate (part_events part) r b w
+AreFirstSources part = AreCandidates (part_events part) part.sources
 
 -- each byte read has a source
 abbrev pub IsComplete : PartModel → Type 0

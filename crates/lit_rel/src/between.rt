@@ -46,8 +46,7 @@ impl Model for Between {
 
 /// Where the pair of a source and a read stands.
 fn place_of(pairs: &[Pair], source: usize, read: usize) -> Option<usize>
-    ensures { MatchOption result
-        ((k : ℕ) (p : Pair) → slice_get pairs.now k ≡ Some p → ¬ IsPairOf source read p)
+    ensures { MatchOption result ((k : ℕ) (p : Pair) → slice_get pairs.now k ≡ Some p → ¬ IsPairOf source read p)
         (λ place. (p : Pair) × (slice_get pairs.now place ≡ Some p) × IsPairOf source read p) }
 {
     for (place, pair) in pairs.iter().enumerate() {

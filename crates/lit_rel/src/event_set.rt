@@ -1,4 +1,5 @@
 //! Sets of events.
+#![tactic(auto, using(crate::proofs::SetLemmas::bits))]
 
 ghost use Rattle.std.specs.Prelude.{◌≡◌, ◌⊎◌, ◌↔◌, ℕ, ◌<◌, ◌≤◌, IsTrue, MatchOption};
 ghost use Rattle.lit_paths.specs.declared.limits.TheConstants.{EVENT_LIMIT};
@@ -78,18 +79,16 @@ impl EventSet {
 
     /// The least event of it, and the set of the others.
     pub fn split_first(self) -> Option<(usize, Self)>
-        ensures { MatchOption result
-            ((e : ℕ) → ¬ HasEvent self e)
-            (λ split. IsSplit self split.0 split.1) }
+        ensures { MatchOption result ((e : ℕ) → ¬ HasEvent self e) (λ split. IsSplit self split.0 split.1) }
     {
         if self.bits == 0 {
             return None;
         }
-        let event = self.bits.trailing_zeros();
+        let event = self.bits.trailing_zeros() as usize;
         let others = EventSet {
-            bits: self.bits & (self.bits - 1),
+            bits: self.bits ^ (1 << event),
         };
-        Some((event as usize, others))
+        Some((event, others))
     }
 
     /// Whether there is no event in it.

@@ -7,7 +7,7 @@ pub(crate) mod reads;
 pub(crate) mod relations;
 pub(crate) mod values;
 
-ghost use Rattle.std.specs.Prelude.{◌≡◌, ◌≤◌, length};
+ghost use Rattle.std.specs.Prelude.{◌≤◌, length};
 ghost use Rattle.lit_paths.specs.declared.limits.TheConstants.{BYTE_READ_LIMIT as READS, EVENT_LIMIT};
 ghost use Rattle.lit_rel.specs.Internal.Given.{AreFirstReads, AreKnown};
 

@@ -1,9 +1,8 @@
 //! The relations of a candidate execution, and parts of choices.
 //!
-//! A `Part` is a combination of a test's paths with sources for its first byte reads. Once each byte read has one, it
-//! answers the relations of clause 29 of ECMA-262, whether the reads are coherent and tear free, what may not stand
-//! between a source and its read, whether there is a data race, and the values read, each exactly as its definition in
-//! `specs/`.
+//! A `Part` is a combination of a test's paths with sources for its first byte reads. Once each byte read has one, it answers the
+//! relations of clause 29 of ECMA-262, whether the reads are coherent and tear free, what may not stand between a source and its read,
+//! whether there is a data race, and the values read, each exactly as its definition in `specs/`.
 #![tactic(auto)]
 
 mod between;

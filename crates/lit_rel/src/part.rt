@@ -124,8 +124,7 @@ impl<'p> Part<'p> {
         self.level.broken
     }
 
-    /// How many sources are given. Each is a candidate of its byte read, so where each byte read has one they are sources
-    /// of them all.
+    /// How many sources are given. Each is a candidate of its byte read, so where each byte read has one they are sources of them all.
     pub fn len(&self) -> usize
         ensures value { result ≡ length self.now.sources }
         ensures few { result ≤ length (byte_reads (part_events self.now)) }

@@ -3,7 +3,7 @@
 pub(crate) mod closing;
 pub(crate) mod two_way_rows;
 
-ghost use Rattle.std.specs.Prelude.{◌≡◌, ◌≢◌, ◌⊎◌, ◌↔◌, ℕ, ◌<◌, ◌≤◌, IsTrue, length};
+ghost use Rattle.std.specs.Prelude.{◌≡◌, ◌⊎◌, ◌↔◌, ℕ, ◌<◌, ◌≤◌, IsTrue};
 ghost use Rattle.lit_paths.specs.declared.limits.TheConstants.{EVENT_LIMIT};
 ghost use Rattle.lit_rel.specs.EventSet.{AreWithin};
 
@@ -61,7 +61,7 @@ impl Rows {
     }
 
     /// Lets event a lead to all events of a set, all numbers below `len()`.
-    pub fn put_all(&mut self, a: usize, set: EventSet)
+    pub(crate) fn put_all(&mut self, a: usize, set: EventSet)
         requires first { a < rows_len self.old }
         requires second { (d : ℕ) → HasEvent set d → d < rows_len self.old }
         ensures len { rows_len self.new ≡ rows_len self.old }
@@ -78,16 +78,6 @@ impl Rows {
         ensures pairs { (x y : ℕ) → Holds self.new x y ↔ (Holds self.old x y ⊎ ((x ≡ a) × (y ≡ d))) }
     {
         self.put_all(a, EventSet::new().with(d));
-    }
-
-    /// Lets event `a` lead to all that event `d` leads to, both numbers below `len()`.
-    pub(crate) fn join(&mut self, a: usize, d: usize)
-        requires first { a < rows_len self.old }
-        requires second { d < rows_len self.old }
-        ensures len { rows_len self.new ≡ rows_len self.old }
-        ensures pairs { (x y : ℕ) → Holds self.new x y ↔ (Holds self.old x y ⊎ ((x ≡ a) × Holds self.old d y)) }
-    {
-        self.put_all(a, self.successors(d));
     }
 
     /// The events that an event leads to, whose number is below `len()`.
@@ -107,9 +97,22 @@ impl Rows {
         a == d || self.holds(a, d)
     }
 
-    /// Puts a pair in, both numbers below `len()`, and with it what it leads through: from a, and from all that lead
-    /// to a, to d, and to all that d leads to. A transitive relation becomes the least transitive one that has it and
-    /// the pair.
+    /// Lets event a and each that leads to it lead to all events of a set, all numbers below `len()`.
+    pub(crate) fn put_led(&mut self, a: usize, set: EventSet)
+        requires first { a < rows_len self.old }
+        requires second { (d : ℕ) → HasEvent set d → d < rows_len self.old }
+        ensures len { rows_len self.new ≡ rows_len self.old }
+        ensures pairs { (x y : ℕ) → Holds self.new x y ↔ (Holds self.old x y ⊎ ((Holds self.old x a ⊎ (x ≡ a)) × HasEvent set y)) }
+    {
+        for first in 0..self.len {
+            if self.leads(first, a) {
+                self.put_all(first, set);
+            }
+        }
+    }
+
+    /// Puts a pair in, both numbers below `len()`, and with it what it leads through: from a, and from all that lead to a, to d, and to
+    /// all that d leads to. A transitive relation becomes the least transitive one that has it and the pair.
     pub fn close_with(&mut self, a: usize, d: usize)
         requires first { a < rows_len self.old }
         requires second { d < rows_len self.old }
@@ -118,12 +121,7 @@ impl Rows {
         ensures transitive { IsTransitive (Holds self.old) → IsTransitive (Holds self.new) }
         ensures least { IsLeastWith (Holds self.old) a d (Holds self.new) }
     {
-        let behind = self.successors(d).with(d);
-        for first in 0..self.len {
-            if self.leads(first, a) {
-                self.put_all(first, behind);
-            }
-        }
+        self.put_led(a, self.successors(d).with(d));
     }
 
     /// Whether it holds of some event and itself.

@@ -1,13 +1,13 @@
--- What an access does: the event that it makes, the step that is walked, and the block that it leaves.
-use Rattle.std.proofs.Common.{◌≡◌, ℕ, ◌+◌, ◌==◌, Bool, true, false, Option, Some, None, List, [], ◌∷◌, ◌++◌, take, drop, refl, eq-eqb}
-use Rattle.std.specs.Prelude.{◌&&◌, if◌then◌else◌}
-use Rattle.lit_read.specs.Syntax.{Statement, Load, Store, Exchange, CompareExchange, If}
+-- What an access does, and the course of an agent from its turns: the steps that it walks, the `if`s before each access decided.
+use Rattle.std.proofs.Common.{◌≡◌, ℕ, ◌+◌, ◌==◌, Bool, true, false, Option, Some, None, List, [], ◌∷◌, ◌++◌, take, drop, refl, eq-eqb, inl, inr, sym, ap, subst, ◌∙◌, append_assoc, append-nil}
+use Rattle.std.specs.Prelude.{◌&&◌, if◌then◌else◌, slice_index}
+use Rattle.lit_read.specs.Syntax.{Statement, Load, Store, Exchange, CompareExchange, If, Statements, End, Then}
 use Rattle.lit_paths.specs.declared.event.Event.{Event}
 use Rattle.lit_paths.specs.Event.{does_read, does_write, no_event}
-use Rattle.lit_paths.specs.Path.{Step, LoadMet, StoreMet, ExchangeMet, CompareExchangeMet, IfMet, IsStatementWalk, compare_exchange_event, events_on, modify_event, read_event, write_event}
-use Rattle.lit_paths.specs.Run.{AgreesWith}
+use Rattle.lit_paths.specs.Path.{Step, LoadMet, StoreMet, ExchangeMet, CompareExchangeMet, IfMet, IsStatementWalk, compare_exchange_event, events_on, modify_event, read_event, write_event, IsWalk}
+use Rattle.lit_paths.specs.Run.{AgreesWith, compares}
 use Rattle.lit_rel.specs.ReadsFrom.{composed}
-use Rattle.lit_search.specs.Interleaving.{Contents, after_statement, number_in, with_number}
+use Rattle.lit_search.specs.Interleaving.{Contents, after_statement, number_in, with_number, access_or, from_access, from_access_in, joined_statements}
 use Rattle.lit_search.specs.Internal.Runners.{is_access}
 
 -- ---- events on a block
@@ -54,63 +54,161 @@ found_before (If reg equal value body other) block values = values
 
 pub act_agrees : (s : Statement) (c : Contents) (steps : List Step) (values last : List ℕ) → is_access s ≡ true → AgreesWith steps (after_statement s c).registers values last
     → AgreesWith (step_made s c.block ∷ steps) c.registers (found_before s c.block values) last
-act_agrees (Load reg window index atomic) c steps values last is agrees = (number_in c.block window index, values, refl, agrees)
 act_agrees (Store window index value atomic) c steps values last is agrees = agrees
-act_agrees (Exchange reg window index value) c steps values last is agrees = (number_in c.block window index, values, refl, agrees)
-act_agrees (CompareExchange reg window index expected value) c steps values last is agrees = (number_in c.block window index, values, refl, refl, agrees)
+act_agrees (CompareExchange reg window index expected value) c steps values last is agrees =
+    (number_in c.block window index, values, refl, refl, agrees)
 act_agrees (If reg equal value body other) c steps values last is agrees = absurd (let e : false ≡ true = is in cc)
+act_agrees (Load reg window index atomic) c steps values last is agrees = (number_in c.block window index, values, refl, agrees)
+act_agrees (Exchange reg window index value) c steps values last is agrees = (number_in c.block window index, values, refl, agrees)
 
 pub act_events : (owner place : ℕ) (s : Statement) (block : List ℕ) (steps : List Step) → is_access s ≡ true
     → events_on owner place (step_made s block ∷ steps) ≡ event_made owner place s block ∷ events_on owner (place + 1) steps
-act_events owner place (Load reg window index atomic) block steps is = refl
-act_events owner place (Store window index value atomic) block steps is = refl
-act_events owner place (Exchange reg window index value) block steps is = refl
-act_events owner place (CompareExchange reg window index expected value) block steps is = refl
 act_events owner place (If reg equal value body other) block steps is = absurd (let e : false ≡ true = is in cc)
+act_events owner place s block steps is = refl
 
 pub act_walked : (s : Statement) (block : List ℕ) → is_access s ≡ true → IsStatementWalk s (step_made s block ∷ [])
-act_walked (Load reg window index atomic) block is = refl
-act_walked (Store window index value atomic) block is = refl
-act_walked (Exchange reg window index value) block is = refl
 act_walked (CompareExchange reg window index expected value) block is = (number_in block window index == expected, refl)
 act_walked (If reg equal value body other) block is = absurd (let e : false ≡ true = is in cc)
+act_walked s block is = refl
 
 pub act_block : (owner place : ℕ) (s : Statement) (c : Contents) → is_access s ≡ true → after_event (event_made owner place s c.block) c.block ≡ (after_statement s c).block
-act_block owner place (Load reg window index atomic) c is = refl
-act_block owner place (Store window index value atomic) c is = refl
-act_block owner place (Exchange reg window index value) c is = refl
-act_block owner place (CompareExchange reg window index expected value) c is = by (number_in c.block window index == expected)
-  where
-    by : (b : Bool) → after_event (compare_exchange_event owner place window index value b) c.block ≡ (if b then with_number c.block window index value else c.block)
-    by true = refl
-    by false = refl
+act_block owner place (CompareExchange reg window index expected value) c is =
+    elim (number_in c.block window index == expected) as (λ b. after_event (compare_exchange_event owner place window index value b) c.block
+    ≡ (if b then with_number c.block window index value else c.block)) [ true ↦ refl | false ↦ refl ]
 act_block owner place (If reg equal value body other) c is = absurd (let e : false ≡ true = is in cc)
+act_block owner place s c is = refl
 
 -- ---- whose it is
 pub same_agent : (n : ℕ) → (n == n) ≡ true
 same_agent n = eq-eqb n n refl
 
 pub act_owner : (owner place : ℕ) (s : Statement) (block : List ℕ) → is_access s ≡ true → (event_made owner place s block).owner ≡ Some owner
-act_owner owner place (Load reg window index atomic) block is = refl
-act_owner owner place (Store window index value atomic) block is = refl
-act_owner owner place (Exchange reg window index value) block is = refl
-act_owner owner place (CompareExchange reg window index expected value) block is = by (number_in block window index == expected)
-  where
-    by : (b : Bool) → (compare_exchange_event owner place window index value b).owner ≡ Some owner
-    by true = refl
-    by false = refl
+act_owner owner place (CompareExchange reg window index expected value) block is =
+    elim (number_in block window index == expected) as (λ b. (compare_exchange_event owner place window index value b).owner ≡ Some owner) [
+      | true ↦ refl
+      | false ↦ refl
+    ]
 act_owner owner place (If reg equal value body other) block is = absurd (let e : false ≡ true = is in cc)
+act_owner owner place s block is = refl
 
 -- what its own agent finds, and what another does
 pub act_found : (owner place : ℕ) (s : Statement) (block : List ℕ) (es : List Event) → is_access s ≡ true
     → found_in_turn owner block (event_made owner place s block ∷ es) ≡ found_before s block (found_in_turn owner (after_event (event_made owner place s block) block) es)
-act_found owner place (Load reg window index atomic) block es is = rw (same_agent owner) refl
-act_found owner place (Store window index value atomic) block es is = rw (same_agent owner) refl
-act_found owner place (Exchange reg window index value) block es is = rw (same_agent owner) refl
-act_found owner place (CompareExchange reg window index expected value) block es is = by (number_in block window index == expected)
-  where
-    by : (b : Bool) → found_in_turn owner block (compare_exchange_event owner place window index value b ∷ es)
-        ≡ number_in block window index ∷ found_in_turn owner (after_event (compare_exchange_event owner place window index value b) block) es
-    by true = rw (same_agent owner) refl
-    by false = rw (same_agent owner) refl
+act_found owner place (CompareExchange reg window index expected value) block es is =
+    elim (number_in block window index == expected) as (λ b.
+    found_in_turn owner block (compare_exchange_event owner place window index value b ∷ es)
+    ≡ number_in block window index ∷ found_in_turn owner (after_event (compare_exchange_event owner place window index value b) block) es) [
+      | true ↦ rw (same_agent owner) refl
+      | false ↦ rw (same_agent owner) refl
+    ]
 act_found owner place (If reg equal value body other) block es is = absurd (let e : false ≡ true = is in cc)
+act_found owner place s block es is = rw (same_agent owner) refl
+
+-- ---- the course of an agent from its turns: the steps that it walks
+-- ---- walks of joined_statements statements
+pub record IsJoinedWalk (a b : Statements) (steps : List Step) : Type 0 where
+  pub first : List Step
+  pub rest : List Step
+  pub is : steps ≡ first ++ rest
+  pub walked : IsWalk a first
+  pub then_walked : IsWalk b rest
+
+pub walk_apart : (a b : Statements) (steps : List Step) → IsWalk (joined_statements a b) steps → IsJoinedWalk a b steps
+walk_apart End b steps walked = record { first = []; rest = steps; is = refl; walked = refl; then_walked = walked }
+walk_apart (Then s ss) b steps walked =
+    let more = walk_apart ss b walked.1 walked.4 in
+    record {
+      first = walked.0 ++ more.first;
+      rest = more.rest;
+      is = walked.2 ∙ ap (λ (xs : List Step). walked.0 ++ xs) more.is ∙ sym (append_assoc walked.0 more.first more.rest);
+      walked = (walked.0, more.first, refl, walked.3, more.walked);
+      then_walked = more.then_walked;
+    }
+
+-- ---- the `if`s before an access
+-- steps without an event or a value, as the registers decide
+pub record AreDecided (registers : List ℕ) (ifs : List Step) : Type 0 where
+  pub agrees : (steps : List Step) (values last : List ℕ) → AgreesWith steps registers values last
+      → AgreesWith (ifs ++ steps) registers values last
+  pub events : (owner place : ℕ) (steps : List Step) → events_on owner place (ifs ++ steps) ≡ events_on owner place steps
+
+none_decided : (registers : List ℕ) → AreDecided registers []
+none_decided registers = record { agrees = λ steps values last a. a; events = λ owner place steps. refl }
+
+-- `if`s lead to a walk of what is left from the next access on
+pub record LeadsTo (registers : List ℕ) (walk : List Step → Type 0) (steps : List Step) : Type 0 where
+  pub ifs : List Step
+  pub decided : AreDecided registers ifs
+  pub walked : walk (ifs ++ steps)
+
+-- an access leads to itself
+itself : (registers : List ℕ) (s : Statement) (steps : List Step) → IsWalk (Then s End) steps → LeadsTo registers (IsStatementWalk s) steps
+itself registers s steps walked =
+    let same : steps ≡ walked.0 = walked.2 ∙ ap (λ (xs : List Step). walked.0 ++ xs) walked.4 ∙ append-nil walked.0 in
+    record { ifs = []; decided = none_decided registers; walked = subst (IsStatementWalk s) (sym same) walked.3 }
+
+mutual
+  lead_in : (registers : List ℕ) (s : Statement) (steps : List Step) → IsWalk (from_access_in registers s) steps → LeadsTo registers (IsStatementWalk s) steps
+  lead_in registers (If reg equal value body other) steps walked =
+      (elim (compares equal (slice_index registers reg) value) as (λ b. compares equal (slice_index registers reg) value ≡ b
+      → IsWalk (if b then from_access registers body else from_access registers other) steps
+      → LeadsTo registers (IsStatementWalk (If reg equal value body other)) steps) [
+        | true ↦ λ is w.
+            let led = lead registers body steps w in
+            record {
+              ifs = IfMet reg equal value true ∷ led.ifs;
+              decided = record {
+                agrees = λ rest values last a. (sym is, led.decided.agrees rest values last a);
+                events = led.decided.events;
+              };
+              walked = inl (led.ifs ++ steps, refl, led.walked);
+            }
+        | false ↦ λ is w.
+            let led = lead registers other steps w in
+            record {
+              ifs = IfMet reg equal value false ∷ led.ifs;
+              decided = record {
+                agrees = λ rest values last a. (sym is, led.decided.agrees rest values last a);
+                events = led.decided.events;
+              };
+              walked = inr (led.ifs ++ steps, refl, led.walked);
+            }
+      ]) refl walked
+  lead_in registers s steps walked = itself registers s steps walked
+
+  pub lead : (registers : List ℕ) (ss : Statements) (steps : List Step) → IsWalk (from_access registers ss) steps → LeadsTo registers (IsWalk ss) steps
+  lead registers End steps walked = record { ifs = []; decided = none_decided registers; walked = walked }
+  lead registers (Then s ss) steps walked =
+      (elim (from_access_in registers s) as (λ a. ((w : List Step) → IsWalk a w → LeadsTo registers (IsStatementWalk s) w)
+      → IsWalk (access_or a ss (from_access registers ss)) steps → LeadsTo registers (IsWalk (Then s ss)) steps) [
+        | End ↦ λ p w.
+            let none = p [] refl in
+            let rest = lead registers ss steps w in
+            record {
+              ifs = none.ifs ++ rest.ifs;
+              decided = record {
+                agrees = λ more values last a. rw append_assoc
+                    (none.decided.agrees (rest.ifs ++ more) values last (rest.decided.agrees more values last a));
+                events = λ owner place more. rw append_assoc (none.decided.events owner place (rest.ifs ++ more)
+                    ∙ rest.decided.events owner place more);
+              };
+              walked = (
+                none.ifs,
+                rest.ifs ++ steps,
+                append_assoc none.ifs rest.ifs steps,
+                subst (IsStatementWalk s) (append-nil none.ifs) none.walked,
+                rest.walked,
+              );
+            }
+        | Then x more ↦ λ p w.
+            let cut = walk_apart more ss w.1 w.4 in
+            let first = p (w.0 ++ cut.first) (w.0, cut.first, refl, w.3, cut.walked) in
+            let same : first.ifs ++ steps ≡ (first.ifs ++ (w.0 ++ cut.first)) ++ cut.rest =
+            ap (λ (xs : List Step). first.ifs ++ xs) (w.2 ∙ ap (λ (xs : List Step). w.0 ++ xs) cut.is
+            ∙ sym (append_assoc w.0 cut.first cut.rest)) ∙ sym (append_assoc first.ifs (w.0 ++ cut.first) cut.rest) in
+            record {
+              ifs = first.ifs;
+              decided = first.decided;
+              walked = (first.ifs ++ (w.0 ++ cut.first), cut.rest, same, first.walked, cut.then_walked);
+            }
+      ]) (λ w. lead_in registers s w) walked

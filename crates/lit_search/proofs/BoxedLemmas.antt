@@ -1,13 +1,9 @@
 -- The choices of a range on one combination, by its boxes: which of them have completions of a box, and what those give.
 use Rattle.std.proofs.Common.{◌≡◌, ◌↔◌, ◌⊎◌, inl, inr, ℕ, ◌+◌, ◌<◌, ◌≤◌, zero, suc, Bool, List, [], ◌∷◌, ◌++◌, Some, length, map, refl, sym, ap, subst, ◌∙◌, arith}
 use Rattle.std.specs.Prelude.{IsTrue, slice_get}
-use Rattle.std.specs.Cmp.Lexicographic.{slice_cmp}
-use Rattle.std.specs.Ordering.{nat_cmp}
-use Rattle.std.specs.declared.cmp.Ordering.TheVariants.{Less}
 use Rattle.std.proofs.lemmas.Bool.{cases_lt, cases_order}
 use Rattle.std.proofs.lemmas.Option.{same_Some, slice_get_within}
 use Rattle.lit_read.specs.Syntax.{Litmus}
-use Rattle.lit_paths.specs.declared.event.Event.{Event}
 use Rattle.lit_paths.specs.ByteReads.{byte_reads}
 use Rattle.lit_paths.specs.Choice.{AreSources, Choice, choices_of}
 use Rattle.lit_paths.specs.Execution.{Execution, execution_choice, execution_outcome}
@@ -15,20 +11,20 @@ use Rattle.lit_paths.specs.Path.{Path}
 use Rattle.lit_paths.specs.Plan.{HasSources, IsOfCombination, choices_before, combination_at}
 use Rattle.lit_paths.specs.Run.{run_path}
 use Rattle.lit_rel.specs.declared.event_set.EventSet.{EventSet}
-use Rattle.lit_order.specs.MemoryOrder.{IsLeastMemoryOrder}
 use Rattle.lit_valid.specs.declared.class.Class.{Class}
-use Rattle.lit_valid.specs.Class.{GivesClass, is_of_class}
+use Rattle.lit_valid.specs.Class.{is_of_class}
 use Rattle.lit_valid.specs.Gives.{GivesRace}
 use Rattle.lit_valid.specs.Laws.{Laws}
 use Rattle.lit_valid.specs.ValidExecution.{IsValidExecution}
 use Rattle.lit_valid.proofs.RunLemmas.{maps}
 use Rattle.lit_solve.specs.declared.goal.Goal.TheVariants.{OfClass, Race}
-use Rattle.lit_solve.specs.Box.{Box, LiesIn, box_events, box_with, events_on}
+use Rattle.lit_solve.specs.Box.{Box, LiesIn, box_with, events_on}
 use Rattle.lit_solve.specs.Boxes.{AreDomainsIn, BoxesModel, LiesInBox, boxes_events, boxes_len}
 use Rattle.lit_solve.specs.Completion.{HasSolution, IsCompletion, IsLeastSolution}
 use Rattle.lit_solve.specs.Outcomes.{AddsEntries, AreNewEntries, HasEachOutcome, IsLeastEntry}
 use Rattle.lit_solve.proofs.CompletionLemmas.{events_same}
 use Rattle.lit_solve.proofs.EntryLemmas.{outcome_stays}
+use Rattle.lit_search.proofs.MergedEntries.{cmp_same}
 use Rattle.lit_solve.proofs.LexLemmas.{never_both_less}
 use Rattle.lit_solve.proofs.RangeLemmas.{sourced, sources_are, sources_rise}
 use Rattle.lit_search.specs.FirstOfClass.{HasNoneOf, IsFirstOf}
@@ -36,7 +32,7 @@ use Rattle.lit_search.specs.Report.{Entry, in_range}
 use Rattle.lit_search.specs.Internal.Boxed.{AreOfRange, HasNoneBefore, IsOfBox, IsOfFirst}
 use Rattle.lit_search.specs.Internal.Gained.{Gains, IsLeastOf}
 use Rattle.lit_valid.specs.Entry.{HasOutcome}
-use Rattle.lit_search.proofs.GainLemmas.{gains_as, gains_more}
+use Rattle.lit_search.proofs.GainLemmas.{gains_more, gains_none}
 use Rattle.lit_search.proofs.NumberSets.{before_end, not_below, within}
 
 -- an execution with a choice has the choice's sources
@@ -83,16 +79,9 @@ module _ (laws : Laws) (p : Litmus × ℕ) (from to : ℕ) (boxes : BoxesModel) 
   of_range : (n : ℕ) → IsTrue (in_range from to n) → IsOfCombination t n c
   of_range n among = placed n (omega (arith, not_below from to n among, are_in.begins)) (omega (arith, before_end from to n among, are_in.ends))
 
-  its : (n : ℕ) (sources : List ℕ) → IsOfCombination t n c → HasSources t n sources → AreSources (events_on p) sources
-  its n sources of has = sourced t c n sources of has
-
   covers : (n : ℕ) (sources : List ℕ) → choices_before t c ≤ n → n < choices_before t (c + 1) → HasSources t n sources
       → ((from ≤ n) × (n < to)) ↔ ((i : ℕ) × (i < boxes_len boxes) × LiesInBox boxes i sources)
-  covers =
-      subst
-      (λ (q : Litmus × ℕ). (n : ℕ) (sources : List ℕ) → choices_before q.0 q.1 ≤ n → n < choices_before q.0 (q.1 + 1) → HasSources q.0 n sources
-      → ((from ≤ n) × (n < to)) ↔ ((i : ℕ) × (i < boxes_len boxes) × LiesInBox boxes i sources))
-      are_in.same are_in.cuts.covers
+  covers = rw (← are_in.same) are_in.cuts.covers
 
   -- a choice of the range is of some box
   its_box : (n : ℕ) → IsTrue (in_range from to n) → IsOfFirst t boxes from to (boxes_len boxes) n
@@ -106,26 +95,23 @@ module _ (laws : Laws) (p : Litmus × ℕ) (from to : ℕ) (boxes : BoxesModel) 
 
   -- choices rise from box to box
   boxes_rise : (i j m n : ℕ) → i < j → j < boxes_len boxes → IsOfBox t boxes from to i m → IsOfBox t boxes from to j n → m < n
-  boxes_rise i j m n less inside a b = elim (cases_order m n) [
-    | inl same ↦
-        let one : b.sources ≡ a.sources = one_sources t m b.sources a.sources (subst (λ (k : ℕ). HasSources t k b.sources) (sym same) b.has) a.has in
-        absurd (never_both_less a.sources b.sources long rises (subst (λ (ws : List ℕ). slice_cmp nat_cmp ws a.sources ≡ Less) (sym one)
-        (subst (λ (ws : List ℕ). slice_cmp nat_cmp a.sources ws ≡ Less) one rises)))
-    | inr apart ↦ elim apart [
-      | inl below ↦ below
-      | inr over ↦ absurd (never_both_less a.sources b.sources long rises
-          (sources_rise t c n m b.sources a.sources (laws.chosen t) (of_range n b.among) (of_range m a.among) b.has a.has over))
-    ]
-  ]
-    where
-      long : length a.sources ≡ length b.sources
-      long = (its m a.sources (of_range m a.among) a.has).one_each ∙ sym (its n b.sources (of_range n b.among) b.has).one_each
-
-      rises : slice_cmp nat_cmp a.sources b.sources ≡ Less
-      rises =
-          subst (λ (q : Litmus × ℕ). AreSources (events_on q) a.sources → AreSources (events_on q) b.sources → slice_cmp nat_cmp a.sources b.sources ≡ Less)
-          are_in.same (λ a_are b_are. are_in.cuts.rising i j a.sources b.sources less inside a_are b_are a.lies b.lies)
-          (its m a.sources (of_range m a.among) a.has) (its n b.sources (of_range n b.among) b.has)
+  boxes_rise i j m n less inside a b =
+      let a_are = sourced t c m a.sources (of_range m a.among) a.has in
+      let b_are = sourced t c n b.sources (of_range n b.among) b.has in
+      let rises = are_in.cuts.rising i j a.sources b.sources less inside
+      (subst (λ (q : Litmus × ℕ). AreSources (events_on q) a.sources) (sym are_in.same) a_are)
+      (subst (λ (q : Litmus × ℕ). AreSources (events_on q) b.sources) (sym are_in.same) b_are) a.lies b.lies in
+      elim (cases_order m n) [
+        | inl same ↦
+            let one : b.sources ≡ a.sources =
+            one_sources t m b.sources a.sources (subst (λ (k : ℕ). HasSources t k b.sources) (sym same) b.has) a.has in
+            cc (cmp_same a.sources, rises)
+        | inr apart ↦ elim apart [
+          | inl below ↦ below
+          | inr over ↦ absurd (never_both_less a.sources b.sources (a_are.one_each ∙ sym b_are.one_each) rises
+              (sources_rise t c n m b.sources a.sources (laws.chosen t) (of_range n b.among) (of_range m a.among) b.has a.has over))
+        ]
+      ]
 
   module _ (i : ℕ) (inside : i < boxes_len boxes) (domains : List EventSet) (exact : AreDomainsIn boxes i domains) where
     abbrev box : Box
@@ -133,11 +119,14 @@ module _ (laws : Laws) (p : Litmus × ℕ) (from to : ℕ) (boxes : BoxesModel) 
 
     -- sources that lie in the i-th box are those in its domains
     by_domains : (sources : List ℕ) → AreSources (events_on p) sources → LiesIn box sources ↔ LiesInBox boxes i sources
-    by_domains sources are = (λ lies k w at. (exact k w (there k w at)).0 (lies k w at), λ lies k w at. (exact k w (there k w at)).1 (lies k w at))
-      where
-        there : (k w : ℕ) → slice_get sources k ≡ Some w → k < length (byte_reads (boxes_events boxes))
-        there k w at =
-            omega (arith, slice_get_within sources k w at, are.one_each, ap (λ (q : Litmus × ℕ). length (byte_reads (events_on q))) are_in.same)
+    by_domains sources are =
+        let there : (k w : ℕ) → slice_get sources k ≡ Some w → k < length (byte_reads (boxes_events boxes)) = λ k w at. omega (
+          arith,
+          slice_get_within sources k w at,
+          are.one_each,
+          ap (λ (q : Litmus × ℕ). length (byte_reads (events_on q))) are_in.same,
+        ) in
+        (λ lies k w at. (exact k w (there k w at)).0 (lies k w at), λ lies k w at. (exact k w (there k w at)).1 (lies k w at))
 
     -- a valid execution with a choice of the box is a completion of it
     its_completion : (n : ℕ) (x : Execution) → IsValidExecution t x → slice_get (choices_of t) n ≡ Some (execution_choice x) → IsOfBox t boxes from to i n
@@ -146,14 +135,14 @@ module _ (laws : Laws) (p : Litmus × ℕ) (from to : ℕ) (boxes : BoxesModel) 
       valid = valid;
       on_paths = (of_range n of.among).on_paths x valid.candidate chosen;
       within = subst (λ (ws : List ℕ). LiesIn box ws) (one_sources t n of.sources x.sources of.has (has_its_sources t n x chosen))
-          ((by_domains of.sources (its n of.sources (of_range n of.among) of.has)).1 of.lies);
+          ((by_domains of.sources (sourced t c n of.sources (of_range n of.among) of.has)).1 of.lies);
     }
 
     module _ (n : ℕ) (x : Execution) (is : IsCompletion box x) (low : choices_before t c ≤ n) (high : n < choices_before t (c + 1)) (has : HasSources t n x.sources) where
       -- a choice on the combination with a completion's sources is of the box
       of_box : IsOfBox t boxes from to i n
       of_box =
-          let lies = (by_domains x.sources (its n x.sources (placed n low high) has)).0 is.within in
+          let lies = (by_domains x.sources (sourced t c n x.sources (placed n low high) has)).0 is.within in
           let between = (covers n x.sources low high has).1 (i, inside, lies) in
           record { among = within from to n between.0 between.1; sources = x.sources; has = has; lies = lies }
 
@@ -182,41 +171,37 @@ module _ (laws : Laws) (p : Litmus × ℕ) (from to : ℕ) (boxes : BoxesModel) 
     pub first_found : (class : Class) (n : ℕ) (sources order : List ℕ) → HasNoneBefore t boxes class from to i
         → IsLeastSolution box (OfClass class) sources order → choices_before t c ≤ n → n < choices_before t (c + 1) → HasSources t n sources
         → IsFirstOf t class (in_range from to) n
-    first_found class n sources order none least low high has = record { among = here.among; gives = gives; least = before }
-      where
-        x : Execution
-        x = least.execution
-
-        has_x : HasSources t n x.sources
-        has_x = subst (λ (ws : List ℕ). HasSources t n ws) (sym least.same) has
-
-        here : IsOfBox t boxes from to i n
-        here = of_box n x least.solves.completes low high has_x
-
-        gives : GivesClass t class n
-        gives = record {
-          outcome = execution_outcome t x;
-          gives = record { execution = x; valid = least.solves.completes.valid; chosen = chosen_by n x least.solves.completes low high has_x; result = refl };
-          of_class = least.solves.meets;
+    first_found class n sources order none least low high has =
+        let x = least.execution in
+        let has_x : HasSources t n x.sources = subst (λ (ws : List ℕ). HasSources t n ws) (sym least.same) has in
+        let here = of_box n x least.solves.completes low high has_x in
+        record {
+          among = here.among;
+          gives = record {
+            outcome = execution_outcome t x;
+            gives = record {
+              execution = x;
+              valid = least.solves.completes.valid;
+              chosen = chosen_by n x least.solves.completes low high has_x;
+              result = refl;
+            };
+            of_class = least.solves.meets;
+          };
+          least = λ m among less g.
+              let y = g.gives.execution in
+              let of = its_box m among in
+              elim (cases_order of.place i) [
+                | inl same ↦ least.least y (record {
+                  completes = its_completion m y g.gives.valid g.gives.chosen (subst (λ (k : ℕ). IsOfBox t boxes from to k m) same of.is);
+                  meets = subst (λ (o : List ℕ). IsTrue (is_of_class t class o)) (sym g.gives.result) g.of_class;
+                }) (sources_rise t c m n y.sources sources (laws.chosen t) (of_range m among) (placed n low high)
+                    (has_its_sources t m y g.gives.chosen) has less)
+                | inr apart ↦ elim apart [
+                  | inl earlier ↦ none m (record { place = of.place; before = earlier; is = of.is }) g
+                  | inr later ↦ omega (arith, boxes_rise i of.place n m later of.before here of.is, less)
+                ]
+              ];
         }
-
-        before : (m : ℕ) → IsTrue (in_range from to m) → m < n → ¬ GivesClass t class m
-        before m among less g =
-            let y = g.gives.execution in
-            let of = its_box m among in
-            elim (cases_order of.place i) [
-              | inl same ↦ least.least y
-                  (record {
-                    completes = its_completion m y g.gives.valid g.gives.chosen (subst (λ (k : ℕ). IsOfBox t boxes from to k m) same of.is);
-                    meets = subst (λ (o : List ℕ). IsTrue (is_of_class t class o)) (sym g.gives.result) g.of_class;
-                  })
-                  (sources_rise t c m n y.sources sources (laws.chosen t) (of_range m among) (placed n low high)
-                  (has_its_sources t m y g.gives.chosen) has less)
-              | inr apart ↦ elim apart [
-                | inl earlier ↦ none m (record { place = of.place; before = earlier; is = of.is }) g
-                | inr later ↦ omega (arith, boxes_rise i of.place n m later of.before here of.is, less)
-              ]
-            ]
 
     -- ---- a data race
     race_here : HasSolution box Race ↔ ((n : ℕ) × IsOfBox t boxes from to i n × GivesRace t n)
@@ -244,25 +229,26 @@ module _ (laws : Laws) (p : Litmus × ℕ) (from to : ℕ) (boxes : BoxesModel) 
 
     -- ---- outcomes
     least_here : (e : Entry) → IsLeastEntry box e → IsLeastOf t (λ n. IsOfBox t boxes from to i n) e
-    least_here e is = record {
-      among = here;
-      gives = record { execution = x; valid = is.completes.valid; chosen = chosen_by e.choice x is.completes is.from is.to is.chosen; result = is.outcome };
-      least_choice = λ m of less g.
-          let y = g.execution in
-          is.least y (its_completion m y g.valid g.chosen of) g.result
-          (sources_rise t c m e.choice y.sources x.sources (laws.chosen t) (of_range m of.among) (placed e.choice is.from is.to)
-          (has_its_sources t m y g.chosen) is.chosen less);
-      least_order = λ y valid taken.
-          let same : x.sources ≡ y.sources = one_sources t e.choice x.sources y.sources is.chosen (has_its_sources t e.choice y taken) in
-          subst (λ (es : List Event). IsLeastMemoryOrder es y.sources e.order) (sym (events_same box y (its_completion e.choice y valid taken here)))
-          (subst (λ (ws : List ℕ). IsLeastMemoryOrder (box_events box) ws e.order) same is.ordered);
-    }
-      where
-        x : Execution
-        x = is.execution
-
-        here : IsOfBox t boxes from to i e.choice
-        here = of_box e.choice x is.completes is.from is.to is.chosen
+    least_here e is =
+        let x = is.execution in
+        let here = of_box e.choice x is.completes is.from is.to is.chosen in
+        record {
+          among = here;
+          gives = record {
+            execution = x;
+            valid = is.completes.valid;
+            chosen = chosen_by e.choice x is.completes is.from is.to is.chosen;
+            result = is.outcome;
+          };
+          least_choice = λ m of less g.
+              is.least g.execution (its_completion m g.execution g.valid g.chosen of) g.result
+              (sources_rise t c m e.choice g.execution.sources x.sources (laws.chosen t) (of_range m of.among)
+              (placed e.choice is.from is.to) (has_its_sources t m g.execution g.chosen) is.chosen less);
+          least_order = λ y valid taken. rw (
+            events_same box y (its_completion e.choice y valid taken here),
+            one_sources t e.choice y.sources x.sources (has_its_sources t e.choice y taken) is.chosen,
+          ) is.ordered;
+        }
 
     -- each new entry is one, and its outcome was lacked
     new_here : (old added : List Entry) → AreNewEntries box old added → (k : ℕ) (e : Entry) → slice_get added k ≡ Some e → IsLeastEntry box e × (¬ HasOutcome old e.outcome)
@@ -278,10 +264,8 @@ module _ (laws : Laws) (p : Litmus × ℕ) (from to : ℕ) (boxes : BoxesModel) 
         → AddsEntries box mid new → HasEachOutcome box new → IsTrue all ↔ (IsTrue some ⊎ HasSolution box Race)
         → Gains t (λ n. IsOfFirst t boxes from to (i + 1) n) old new mark all
     gained_more old mid new mark some all before adds each marks =
-        gains_as t (λ n. IsOfFirst t boxes from to i n ⊎ IsOfBox t boxes from to i n) (λ n. IsOfFirst t boxes from to (i + 1) n) old new mark all
-        (of_more t boxes from to i)
-        (gains_more t (λ n. IsOfFirst t boxes from to i n) (λ n. IsOfBox t boxes from to i n) old mid new mark some all
-        (λ m n of is. boxes_rise of.place i m n of.before inside of.is is) before here)
+        gains_more t (λ n. IsOfFirst t boxes from to i n) (λ n. IsOfBox t boxes from to i n) (λ n. IsOfFirst t boxes from to (i + 1) n)
+        (of_more t boxes from to i) old mid new mark some all (λ m n of is. boxes_rise of.place i m n of.before inside of.is is) before here
       where
         here : Gains t (λ n. IsOfBox t boxes from to i n) mid new some all
         here = record {
@@ -302,6 +286,7 @@ module _ (laws : Laws) (p : Litmus × ℕ) (from to : ℕ) (boxes : BoxesModel) 
 
   pub gained_all : (old new : List Entry) (mark all : Bool) → Gains t (λ n. IsOfFirst t boxes from to (boxes_len boxes) n) old new mark all
       → Gains t (λ n. IsTrue (in_range from to n)) old new mark all
-  gained_all old new mark all =
-      gains_as t (λ n. IsOfFirst t boxes from to (boxes_len boxes) n) (λ n. IsTrue (in_range from to n)) old new mark all
-      (λ n. (λ of. of.is.among, λ among. its_box n among))
+  gained_all old new mark all gains =
+      gains_more t (λ n. IsOfFirst t boxes from to (boxes_len boxes) n) (λ n. ⊥) (λ n. IsTrue (in_range from to n))
+      (λ n. (λ of. elim of [ inl is ↦ is.is.among | inr none ↦ absurd none ], λ among. inl (its_box n among)))
+      old new new mark all all (λ m n of none. absurd none) gains (gains_none t (λ n. ⊥) new all (λ n none. none))

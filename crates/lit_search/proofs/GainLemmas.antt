@@ -3,16 +3,16 @@ use Rattle.std.proofs.Common.{◌≡◌, ◌↔◌, ◌⊎◌, inl, inr, ℕ, ze
 use Rattle.std.specs.Prelude.{IsTrue, slice_get}
 use Rattle.std.specs.List.{IsDistinct}
 use Rattle.std.proofs.Math.Seq.{take-append_seam}
-use Rattle.std.proofs.lemmas.Bool.{cases_lt, false≢true}
+use Rattle.std.proofs.lemmas.Bool.{cases_lt, false≢true, or_left, or_right}
 use Rattle.lit_read.specs.Syntax.{Litmus}
 use Rattle.lit_valid.specs.Entry.{HasOutcome}
 use Rattle.lit_solve.proofs.EntryLemmas.{outcome_stays}
 use Rattle.lit_search.specs.Collected.{HasTaken}
 use Rattle.lit_search.specs.Report.{Entry, HasEntry, IsReport, in_either, in_range}
-use Rattle.lit_search.specs.Internal.Gained.{Gains, GoesOn, IsLeastOf}
+use Rattle.lit_search.specs.Internal.Gained.{Gains, GoesOn}
 use Rattle.lit_search.specs.Internal.Ranks.{are_same}
 use Rattle.lit_search.specs.Internal.Risen.{risen}
-use Rattle.lit_search.proofs.NumberSets.{before_end, either_cases, in_other, in_some, not_below, within}
+use Rattle.lit_search.proofs.NumberSets.{before_end, either_cases, not_below, within}
 use Rattle.lit_search.proofs.RisenEntries.{kept_from, kept_to, risen_from, risen_to, rises}
 
 -- ---- lists that go on
@@ -45,72 +45,52 @@ module _ (t : Litmus) where
     race = (λ p. inl p, λ h. elim h [ inl p ↦ p | inr one ↦ absurd (none one.0 one.1) ]);
   }
 
-  -- by the same choices
-  pub gains_as : (First Second : ℕ → Type 0) (a b : List Entry) (mark now : Bool) → ((n : ℕ) → First n ↔ Second n) → Gains t First a b mark now
-      → Gains t Second a b mark now
-  gains_as First Second a b mark now same g = record {
-    goes_on = g.goes_on;
-    each = λ e there.
-        let k = g.each e there in
-        record {
-          among = (same e.choice).0 k.among;
-          gives = k.gives;
-          least_choice = λ n p. k.least_choice n ((same n).1 p);
-          least_order = k.least_order;
-        };
-    lacked = g.lacked;
-    whole = λ n outcome p. g.whole n outcome ((same n).1 p);
-    race = (
-      λ p. elim (g.race.0 p) [ inl m ↦ inl m | inr one ↦ inr (one.0, (same one.0).0 one.1, one.2) ],
-      λ h. g.race.1 (elim h [ inl m ↦ inl m | inr one ↦ inr (one.0, (same one.0).1 one.1, one.2) ]),
-    );
-  }
-
   -- by some, and then by others behind them
-  module _ (First Second : ℕ → Type 0) (a b c : List Entry) (mark some all : Bool) (behind : (m n : ℕ) → First m → Second n → m < n)
-      (g : Gains t First a b mark some) (h : Gains t Second b c some all) where
-    abbrev Both : ℕ → Type 0
-    Both n = First n ⊎ Second n
-
-    of_first : (e : Entry) → IsLeastOf t First e → IsLeastOf t Both e
-    of_first e k = record {
-      among = inl k.among;
-      gives = k.gives;
-      least_choice = λ n which less gives. elim which [ inl p ↦ k.least_choice n p less gives | inr q ↦ omega (arith, behind e.choice n k.among q, less) ];
-      least_order = k.least_order;
-    }
-
-    of_second : (e : Entry) → HasEntry h.goes_on.added e → IsLeastOf t Second e → IsLeastOf t Both e
-    of_second e there k = record {
-      among = inr k.among;
-      gives = k.gives;
-      least_choice = λ n which less gives. elim which [ inl p ↦ h.lacked e there (g.whole n e.outcome p gives) | inr q ↦ k.least_choice n q less gives ];
-      least_order = k.least_order;
-    }
-
+  module _ (First Second Both : ℕ → Type 0) (same : (n : ℕ) → (First n ⊎ Second n) ↔ Both n) (a b c : List Entry) (mark some all : Bool)
+      (behind : (m n : ℕ) → First m → Second n → m < n) (g : Gains t First a b mark some) (h : Gains t Second b c some all) where
     pub gains_more : Gains t Both a c mark all
     gains_more = record {
       goes_on = goes_more a b c g.goes_on h.goes_on;
       each = λ e there. elim (in_one g.goes_on.added h.goes_on.added there.0 e there.1) [
-        | inl one ↦ of_first e (g.each e one)
-        | inr one ↦ of_second e one (h.each e one)
+        | inl one ↦
+            let k = g.each e one in
+            record {
+              among = (same e.choice).0 (inl k.among);
+              gives = k.gives;
+              least_choice = λ n which less gives. elim ((same n).1 which) [
+                | inl p ↦ k.least_choice n p less gives
+                | inr q ↦ omega (arith, behind e.choice n k.among q, less)
+              ];
+              least_order = k.least_order;
+            }
+        | inr one ↦
+            let k = h.each e one in
+            record {
+              among = (same e.choice).0 (inr k.among);
+              gives = k.gives;
+              least_choice = λ n which less gives. elim ((same n).1 which) [
+                | inl p ↦ h.lacked e one (g.whole n e.outcome p gives)
+                | inr q ↦ k.least_choice n q less gives
+              ];
+              least_order = k.least_order;
+            }
       ];
       lacked = λ e there. elim (in_one g.goes_on.added h.goes_on.added there.0 e there.1) [
         | inl one ↦ g.lacked e one
         | inr one ↦ (λ o. h.lacked e one (has_more a b e.outcome g.goes_on o))
       ];
-      whole = λ n outcome p gives. elim p [
+      whole = λ n outcome p gives. elim ((same n).1 p) [
         | inl q ↦ has_more b c outcome h.goes_on (g.whole n outcome q gives)
         | inr q ↦ h.whole n outcome q gives
       ];
       race = (
         λ p. elim (h.race.0 p) [
-          | inl q ↦ elim (g.race.0 q) [ inl m ↦ inl m | inr one ↦ inr (one.0, inl one.1, one.2) ]
-          | inr one ↦ inr (one.0, inr one.1, one.2)
+          | inl q ↦ elim (g.race.0 q) [ inl m ↦ inl m | inr one ↦ inr (one.0, (same one.0).0 (inl one.1), one.2) ]
+          | inr one ↦ inr (one.0, (same one.0).0 (inr one.1), one.2)
         ],
         λ some. elim some [
           | inl m ↦ h.race.1 (inl (g.race.1 (inl m)))
-          | inr one ↦ elim one.1 [
+          | inr one ↦ elim ((same one.0).1 one.1) [
             | inl p ↦ h.race.1 (inl (g.race.1 (inr (one.0, p, one.2))))
             | inr q ↦ h.race.1 (inr (one.0, q, one.2))
           ]
@@ -159,20 +139,20 @@ module _ (t : Litmus) where
       | inr q ↦ before_end from to n q
     ];
     reported = reported (in_either taken (in_range from to)) after mark
-        (gains_as (λ n. IsTrue (taken n) ⊎ IsTrue (in_range from to n)) (λ n. IsTrue (in_either taken (in_range from to) n)) [] after false mark
+        (gains_more (λ n. IsTrue (taken n)) (λ n. IsTrue (in_range from to n)) (λ n. IsTrue (in_either taken (in_range from to) n))
         (λ n. (
-          λ some. elim some [ inl p ↦ in_some (taken n) (in_range from to n) p | inr q ↦ in_other (taken n) (in_range from to n) q ],
+          λ some. elim some [ inl p ↦ or_left (taken n) (in_range from to n) p | inr q ↦ or_right (taken n) (in_range from to n) q ],
           λ p. either_cases (taken n) (in_range from to n) p,
         ))
-        (gains_more (λ n. IsTrue (taken n)) (λ n. IsTrue (in_range from to n)) [] before after false race mark
-        (λ m n p q. omega (arith, h.below m p, follows, not_below from to n q)) (recorded taken before race apart h.reported) gains));
+        [] before after false race mark
+        (λ m n p q. omega (arith, h.below m p, follows, not_below from to n q)) (recorded taken before race apart h.reported) gains);
   }
 
   -- a range up to a number, and one from there on
   pub gains_on : (from mid to : ℕ) → from ≤ mid → mid ≤ to → (a b c : List Entry) (mark some all : Bool) → Gains t (λ n. IsTrue (in_range from mid n)) a b mark some
       → Gains t (λ n. IsTrue (in_range mid to n)) b c some all → Gains t (λ n. IsTrue (in_range from to n)) a c mark all
   gains_on from mid to low high a b c mark some all g h =
-      gains_as (λ n. IsTrue (in_range from mid n) ⊎ IsTrue (in_range mid to n)) (λ n. IsTrue (in_range from to n)) a c mark all
+      gains_more (λ n. IsTrue (in_range from mid n)) (λ n. IsTrue (in_range mid to n)) (λ n. IsTrue (in_range from to n))
       (λ n. (
         λ either. elim either [
           | inl p ↦ within from to n (not_below from mid n p) (omega (arith, before_end from mid n p, high))
@@ -183,8 +163,7 @@ module _ (t : Litmus) where
           | inr more ↦ inr (within mid to n more (before_end from to n p))
         ],
       ))
-      (gains_more (λ n. IsTrue (in_range from mid n)) (λ n. IsTrue (in_range mid to n)) a b c mark some all
-      (λ m n p q. omega (arith, before_end from mid m p, not_below mid to n q)) g h)
+      a b c mark some all (λ m n p q. omega (arith, before_end from mid m p, not_below mid to n q)) g h
 
 -- a range without a number has nothing
 pub none_within : (from n : ℕ) → IsTrue (in_range from from n) → ⊥

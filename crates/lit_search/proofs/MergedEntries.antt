@@ -1,51 +1,167 @@
--- Two rising lists of entries, merged: rising, with each outcome of both and the lesser of its examples.
-use Rattle.std.proofs.Common.{◌≡◌, ◌⊎◌, ◌||◌, inl, inr, Bool, true, false, cond, Option, Some, None, List, [], ◌∷◌, ◌++◌, length, map, refl, sym, ap, subst, ◌∙◌}
-use Rattle.std.specs.Prelude.{IsFalse}
+-- Entries that rise by outcome: which stand in a list, how their examples compare, and two such lists merged.
+use Rattle.std.proofs.Common.{◌≡◌, ◌⊎◌, inl, inr, true, false, cond, Option, Some, None, List, [], ◌∷◌, ◌++◌, length, map, refl, sym, ap, subst, ◌∙◌, ◌≢◌, ℕ, zero, suc, rules}
+use Rattle.std.specs.Prelude.{IsFalse, slice_get}
 use Rattle.std.specs.Option.{option_map, option_to_list}
 use Rattle.std.specs.List.{AllByRecursion}
 use Rattle.std.specs.List.Sorted.{IsStrictlySortedBy}
-use Rattle.std.specs.Ordering.{is_gt, match_ordering}
-use Rattle.std.specs.declared.cmp.Ordering.{Ordering}
+use Rattle.std.specs.Ordering.{is_gt, match_ordering, nat_cmp, ordering_reverse, then_cmp, on}
 use Rattle.std.specs.declared.cmp.Ordering.TheVariants.{Less, Equal, Greater}
 use Rattle.std.proofs.lemmas.List.{nil_from_length}
 use Rattle.std.proofs.lemmas.Map.Lookups.{exact_bytes}
-use Rattle.lit_search.specs.Report.{Entry, Report, example_cmp, outcome_cmp}
-use Rattle.lit_search.specs.Merge.{AreMerged, HasInEither, IsMerge}
+use Rattle.lit_search.specs.Report.{Entry, example_cmp, outcome_cmp, HasEntry}
+use Rattle.lit_search.specs.Merge.{AreMerged, HasInEither}
 use Rattle.lit_search.specs.Internal.Merged.{heads_cmp, lesser, merged_from, merged}
-use Rattle.lit_search.proofs.Entries.{AreRising, Stands, all_stand, all_from_each, below_rising, first_stands, later_stands, not_after_greater, not_after_itself, once, reversed, same_below, stands_cases, stands_in_none}
+use Rattle.std.specs.Cmp.{IsTotalOrder}
+use Rattle.std.specs.Cmp.Rules.{comparing}
+use Rattle.std.specs.Cmp.Lexicographic.{slice_cmp, nat_list_cmp_total}
+use Rattle.std.specs.declared.cmp.Ordering.{Ordering}
+use Rattle.std.proofs.lemmas.Option.{same_Some}
+use Rattle.lit_read.proofs.ListLemmas.{all_weaker}
 
+-- entries with rising outcomes
+abbrev pub AreRising : List Entry → Type 0
+AreRising xs = IsStrictlySortedBy outcome_cmp xs
+
+abbrev pub cmp : List ℕ → List ℕ → Ordering
+cmp a b = slice_cmp nat_cmp a b
+
+-- ---- comparing
+pub less_is : (o : Ordering) → o ≡ Less → o ≢ Equal
+less_is o e f = absurd cc
+
+itself : (o : Ordering) → o ≡ ordering_reverse o → o ≡ Equal
+itself Less e = absurd cc
+itself Equal e = refl
+itself Greater e = absurd cc
+
+pub cmp_same : (a : List ℕ) → cmp a a ≡ Equal
+cmp_same a = itself (cmp a a) (nat_list_cmp_total.antisymm a a)
+
+-- what does not compare equal differs
+pub differs : (a b : List ℕ) → cmp a b ≢ Equal → a ≢ b
+differs a b ne e = let P : List ℕ → Type 0 = λ z. cmp a z ≡ Equal in ne (subst P e (cmp_same a))
+
+pub reversed : (a b : List ℕ) → cmp a b ≡ Greater → cmp b a ≡ Less
+reversed a b h = nat_list_cmp_total.antisymm b a ∙ ap ordering_reverse h
+
+-- ---- comparing examples
+example_total : IsTotalOrder (then_cmp (on (λ (e : Entry). e.choice) nat_cmp) (on (λ (e : Entry). e.order) (slice_cmp nat_cmp)))
+example_total = search (comparing, rules)
+
+pub not_after_itself : (a : Entry) → IsFalse (is_gt (example_cmp a a))
+not_after_itself a = ap is_gt (itself (example_cmp a a) (example_total.antisymm a a))
+
+pub not_after_greater : (a b : Entry) → is_gt (example_cmp a b) ≡ is_gt Greater → IsFalse (is_gt (example_cmp b a))
+not_after_greater a b h = ap is_gt (example_total.antisymm b a)
+    ∙ (elim (example_cmp a b) as (λ o. is_gt o ≡ is_gt Greater → is_gt (ordering_reverse o) ≡ is_gt Less) [
+      | Less ↦ λ e. sym e
+      | Equal ↦ λ e. refl
+      | Greater ↦ λ e. refl
+    ]) h
+
+-- ---- standing in a list
+abbrev pub Stands : List Entry → Entry → Type 0
+Stands xs entry = HasEntry xs entry
+
+pub first_stands : (x : Entry) (xs : List Entry) → Stands (x ∷ xs) x
+first_stands x xs = (0, refl)
+
+pub later_stands : (x y : Entry) (xs : List Entry) → Stands xs y → Stands (x ∷ xs) y
+later_stands x y xs s = (suc s.0, s.1)
+
+pub stands_in_none : (y : Entry) → Stands [] y → ⊥
+stands_in_none y s = absurd (let e = s.1 in cc)
+
+-- an entry of x ∷ xs is x, or stands in xs
+pub stands_cases : (x y : Entry) (xs : List Entry) → Stands (x ∷ xs) y → (y ≡ x) ⊎ Stands xs y
+stands_cases x y xs s = (elim s.0 as (λ k. slice_get (x ∷ xs) k ≡ Some y → (y ≡ x) ⊎ Stands xs y) [
+  | zero ↦ λ e. inl (sym (same_Some x y e))
+  | suc k ↦ λ e. inr (k, e)
+]) s.1
+
+-- what holds of all, by recursion, holds of one, and back
+pub all_stand : (P : Entry → Type 0) (xs : List Entry) → AllByRecursion P xs → (y : Entry) → Stands xs y → P y
+all_stand P [] h y s = absurd (stands_in_none y s)
+all_stand P (x ∷ xs) h y s = elim (stands_cases x y xs s) [ inl e ↦ subst P (sym e) h.0 | inr t ↦ all_stand P xs h.1 y t ]
+
+pub all_from_each : (P : Entry → Type 0) (xs : List Entry) → ((y : Entry) → Stands xs y → P y) → AllByRecursion P xs
+all_from_each P [] each = tt
+all_from_each P (x ∷ xs) each = (each x (first_stands x xs), all_from_each P xs (λ y s. each y (later_stands x y xs s)))
+
+-- what is below the first is below all
+pub below_rising : (e x : Entry) (xs : List Entry) → outcome_cmp e x ≡ Less → AllByRecursion (λ y. outcome_cmp x y ≡ Less) xs → AllByRecursion (λ y. outcome_cmp e y ≡ Less) xs
+below_rising e x xs lt h = all_weaker _ _ (λ y k. nat_list_cmp_total.trans e.outcome x.outcome y.outcome lt k) xs h
+
+-- what the first is below has another outcome
+outcome_after : (z y : Entry) (zs : List Entry) → AllByRecursion (λ w. outcome_cmp z w ≡ Less) zs → Stands zs y → z.outcome ≢ y.outcome
+outcome_after z y zs all s = differs z.outcome y.outcome (less_is _ (all_stand (λ w. outcome_cmp z w ≡ Less) zs all y s))
+
+-- ---- rising lists
+-- an outcome stands once
+pub once : (zs : List Entry) → AreRising zs → (e f : Entry) → Stands zs e → Stands zs f → e.outcome ≡ f.outcome → e ≡ f
+unfolding IsStrictlySortedBy
+once [] up e f s t same = absurd (stands_in_none e s)
+once (z ∷ zs) up e f s t same = elim (stands_cases z e zs s) [
+  | inl a ↦ elim (stands_cases z f zs t) [
+    | inl b ↦ a ∙ sym b
+    | inr u ↦ absurd (outcome_after z f zs up.0 u (sym (ap (λ (w : Entry). w.outcome) a) ∙ same))
+  ]
+  | inr u ↦ elim (stands_cases z f zs t) [
+    | inl b ↦ absurd (outcome_after z e zs up.0 u (sym (ap (λ (w : Entry). w.outcome) b) ∙ sym same))
+    | inr v ↦ once zs up.1 e f u v same
+  ]
+]
+
+-- two of which each entry of one is one of the other are the same
+pub same_rising : (xs ys : List Entry) → AreRising xs → AreRising ys → ((e : Entry) → Stands xs e → Stands ys e)
+    → ((e : Entry) → Stands ys e → Stands xs e) → xs ≡ ys
+unfolding IsStrictlySortedBy
+same_rising [] [] up vp f g = refl
+same_rising [] (y ∷ ys) up vp f g = absurd (stands_in_none y (g y (first_stands y ys)))
+same_rising (x ∷ xs) [] up vp f g = absurd (stands_in_none x (f x (first_stands x xs)))
+same_rising (x ∷ xs) (y ∷ ys) up vp f g =
+    let heads : x ≡ y = elim (stands_cases y x ys (f x (first_stands x xs))) [
+      | inl e ↦ e
+      | inr s ↦ elim (stands_cases x y xs (g y (first_stands y ys))) [
+        | inl e ↦ sym e
+        | inr t ↦ absurd (less_is _ (nat_list_cmp_total.trans x.outcome y.outcome x.outcome
+            (all_stand (λ w. outcome_cmp x w ≡ Less) xs up.0 y t)
+            (all_stand (λ w. outcome_cmp y w ≡ Less) ys vp.0 x s)) (cmp_same x.outcome))
+      ]
+    ] in
+    let rest : xs ≡ ys = same_rising xs ys up.1 vp.1 (λ e s. elim (stands_cases y e ys (f e (later_stands x e xs s))) [
+      | inl is ↦ absurd (outcome_after x e xs up.0 s (ap (λ (w : Entry). w.outcome) (heads ∙ sym is)))
+      | inr t ↦ t
+    ]) (λ e s. elim (stands_cases x e xs (g e (later_stands y e ys s))) [
+      | inl is ↦ absurd (outcome_after y e ys vp.0 s (ap (λ (w : Entry). w.outcome) (sym heads ∙ sym is)))
+      | inr t ↦ t
+    ]) in
+    cc
+
+-- ---- two rising lists merged: rising, with each outcome of both and the lesser of its examples
 -- ---- the lesser of two
-lesser_by : (P : Entry → Type 0) (a b : Entry) (g : Bool) → P a → P b → P (cond g b a)
-lesser_by P a b true p q = q
-lesser_by P a b false p q = p
-
 lesser_has : (P : Entry → Type 0) (a b : Entry) → P a → P b → P (lesser a b)
-lesser_has P a b p q = lesser_by P a b (is_gt (example_cmp a b)) p q
+lesser_has P a b p q = elim (is_gt (example_cmp a b)) as (λ g. P (cond g b a)) [ true ↦ q | false ↦ p ]
 
 lesser_before : (a b : Entry) → IsFalse (is_gt (example_cmp (lesser a b) a))
-lesser_before a b = by (is_gt (example_cmp a b)) refl
-  where
-    by : (g : Bool) → is_gt (example_cmp a b) ≡ g → IsFalse (is_gt (example_cmp (cond g b a) a))
-    by true e = not_after_greater a b e
-    by false e = not_after_itself a
+lesser_before a b = (elim (is_gt (example_cmp a b)) as (λ g. is_gt (example_cmp a b) ≡ g → IsFalse (is_gt (example_cmp (cond g b a) a)))
+    [ true ↦ λ e. not_after_greater a b e | false ↦ λ e. not_after_itself a ]) refl
 
 lesser_behind : (a b : Entry) → IsFalse (is_gt (example_cmp (lesser a b) b))
-lesser_behind a b = by (is_gt (example_cmp a b)) refl
-  where
-    by : (g : Bool) → is_gt (example_cmp a b) ≡ g → IsFalse (is_gt (example_cmp (cond g b a) b))
-    by true e = not_after_itself b
-    by false e = e
+lesser_behind a b = (elim (is_gt (example_cmp a b)) as (λ g. is_gt (example_cmp a b) ≡ g → IsFalse (is_gt (example_cmp (cond g b a) b)))
+    [ true ↦ λ e. not_after_itself b | false ↦ λ e. e ]) refl
 
 -- ---- what holds of all entries
 all_from : (P : Entry → Type 0) (x : Entry) (xs : List Entry) (rest : List Entry → List Entry) (ys : List Entry) → P x → AllByRecursion P xs → ((zs : List Entry) → AllByRecursion P zs → AllByRecursion P (rest zs)) → AllByRecursion P ys
     → AllByRecursion P (merged_from x xs rest ys)
 all_from P x xs rest [] p h r k = (p, h)
-all_from P x xs rest (y ∷ ys) p h r k = by (outcome_cmp x y) (all_from P x xs rest ys p h r k.1)
-  where
-    by : (o : Ordering) → AllByRecursion P (merged_from x xs rest ys) → AllByRecursion P (match_ordering o (x ∷ rest (y ∷ ys)) (lesser x y ∷ rest ys) (y ∷ merged_from x xs rest ys))
-    by Less later = (p, r (y ∷ ys) k)
-    by Equal later = (lesser_has P x y p k.0, r ys k.1)
-    by Greater later = (k.0, later)
+all_from P x xs rest (y ∷ ys) p h r k =
+    elim (outcome_cmp x y) as (λ o. AllByRecursion P (match_ordering o (x ∷ rest (y ∷ ys)) (lesser x y ∷ rest ys)
+    (y ∷ merged_from x xs rest ys))) [
+      | Less ↦ (p, r (y ∷ ys) k)
+      | Equal ↦ (lesser_has P x y p k.0, r ys k.1)
+      | Greater ↦ (k.0, all_from P x xs rest ys p h r k.1)
+    ]
 
 pub all_merged : (P : Entry → Type 0) (xs ys : List Entry) → AllByRecursion P xs → AllByRecursion P ys → AllByRecursion P (merged xs ys)
 all_merged P [] ys h k = k
@@ -55,23 +171,23 @@ all_merged P (x ∷ xs) ys h k = all_from P x xs (merged xs) ys h.0 h.1 (λ zs. 
 rise_from : (x : Entry) (xs ys : List Entry) → AreRising (x ∷ xs) → ((zs : List Entry) → AreRising zs → AreRising (merged xs zs)) → AreRising ys → AreRising (merged_from x xs (merged xs) ys)
 unfolding IsStrictlySortedBy
 rise_from x xs [] up r vp = up
-rise_from x xs (y ∷ ys) up r vp = by (outcome_cmp x y) refl (rise_from x xs ys up r vp.1)
-  where
-    by : (o : Ordering) → outcome_cmp x y ≡ o → AreRising (merged_from x xs (merged xs) ys) → AreRising (match_ordering o (x ∷ merged xs (y ∷ ys)) (lesser x y ∷ merged xs ys) (y ∷ merged_from x xs (merged xs) ys))
-    by Less e later = (all_merged (λ w. outcome_cmp x w ≡ Less) xs (y ∷ ys) up.0 (e, below_rising x y ys e vp.0), r (y ∷ ys) vp)
-    by Equal e later =
-        let same : x.outcome ≡ y.outcome = exact_bytes x.outcome y.outcome e in
-        let is_x : x.outcome ≡ (lesser x y).outcome = lesser_has (λ w. x.outcome ≡ w.outcome) x y refl same in
-        let is_y : y.outcome ≡ (lesser x y).outcome = sym same ∙ is_x in
-        let P : Entry → Type 0 = λ w. outcome_cmp (lesser x y) w ≡ Less in (
-          all_merged P xs ys (all_from_each P xs (λ w s. same_below x.outcome (lesser x y).outcome w.outcome is_x (all_stand (λ v. outcome_cmp x v ≡ Less) xs up.0 w s)))
-              (all_from_each P ys (λ w s. same_below y.outcome (lesser x y).outcome w.outcome is_y (all_stand (λ v. outcome_cmp y v ≡ Less) ys vp.0 w s))),
-          r ys vp.1,
-        )
-    by Greater e later =
-        let lt = reversed x.outcome y.outcome e in
-        let P : Entry → Type 0 = λ w. outcome_cmp y w ≡ Less in
-        (all_from P x xs (merged xs) ys lt (below_rising y x xs lt up.0) (λ zs h. all_merged P xs zs (below_rising y x xs lt up.0) h) vp.0, later)
+rise_from x xs (y ∷ ys) up r vp = (elim (outcome_cmp x y) as (λ o. outcome_cmp x y ≡ o
+    → AreRising (match_ordering o (x ∷ merged xs (y ∷ ys)) (lesser x y ∷ merged xs ys) (y ∷ merged_from x xs (merged xs) ys))) [
+      | Less ↦ λ e. (all_merged (λ w. outcome_cmp x w ≡ Less) xs (y ∷ ys) up.0 (e, below_rising x y ys e vp.0), r (y ∷ ys) vp)
+      | Equal ↦ λ e.
+          let same : x.outcome ≡ y.outcome = exact_bytes x.outcome y.outcome e in
+          let is_x : x.outcome ≡ (lesser x y).outcome = lesser_has (λ w. x.outcome ≡ w.outcome) x y refl same in (
+            all_merged (λ w. outcome_cmp (lesser x y) w ≡ Less) xs ys (rw (← is_x) up.0) (rw (← is_x, same) vp.0),
+            r ys vp.1,
+          )
+      | Greater ↦ λ e.
+          let lt = reversed x.outcome y.outcome e in
+          let P : Entry → Type 0 = λ w. outcome_cmp y w ≡ Less in (
+            all_from P x xs (merged xs) ys lt (below_rising y x xs lt up.0)
+                (λ zs h. all_merged P xs zs (below_rising y x xs lt up.0) h) vp.0,
+            rise_from x xs ys up r vp.1,
+          )
+    ]) refl
 
 pub AreRising-merged : (xs ys : List Entry) → AreRising xs → AreRising ys → AreRising (merged xs ys)
 unfolding IsStrictlySortedBy
@@ -86,8 +202,8 @@ pub record Comes (zs : List Entry) (w : Entry) : Type 0 where
   pub same : entry.outcome ≡ w.outcome
   pub least : IsFalse (is_gt (example_cmp entry w))
 
-comes_first : (w : Entry) (zs : List Entry) → Comes (w ∷ zs) w
-comes_first w zs = record { entry = w; stands = first_stands w zs; same = refl; least = not_after_itself w }
+comes_first : (z w : Entry) (zs : List Entry) → z.outcome ≡ w.outcome → IsFalse (is_gt (example_cmp z w)) → Comes (z ∷ zs) w
+comes_first z w zs same least = record { entry = z; stands = first_stands z zs; same = same; least = least }
 
 comes_later : (z w : Entry) (zs : List Entry) → Comes zs w → Comes (z ∷ zs) w
 comes_later z w zs c = record { entry = c.entry; stands = later_stands z c.entry zs c.stands; same = c.same; least = c.least }
@@ -98,45 +214,39 @@ comes_itself zs w s = record { entry = w; stands = s; same = refl; least = not_a
 comes_from : (w x : Entry) (xs : List Entry) (rest : List Entry → List Entry) (ys : List Entry) → ((zs : List Entry) → Stands xs w ⊎ Stands zs w → Comes (rest zs) w) → Stands (x ∷ xs) w ⊎ Stands ys w → Comes (merged_from x xs rest ys) w
 comes_from w x xs rest [] r (inl s) = comes_itself (x ∷ xs) w s
 comes_from w x xs rest [] r (inr s) = absurd (stands_in_none w s)
-comes_from w x xs rest (y ∷ ys) r s = by (outcome_cmp x y) refl s (λ t. comes_from w x xs rest ys r t)
-  where
-    less_left : (w ≡ x) ⊎ Stands xs w → Comes (x ∷ rest (y ∷ ys)) w
-    less_left (inl e) = let P : Entry → Type 0 = λ v. Comes (v ∷ rest (y ∷ ys)) w in subst P e (comes_first w (rest (y ∷ ys)))
-    less_left (inr t) = comes_later x w (rest (y ∷ ys)) (r (y ∷ ys) (inl t))
-
-    equal_left : x.outcome ≡ y.outcome → (w ≡ x) ⊎ Stands xs w → Comes (lesser x y ∷ rest ys) w
-    equal_left same (inl e) =
-        let P : Entry → Type 0 = λ v. Comes (lesser x y ∷ rest ys) v in
-        subst P (sym e) (record {
-          entry = lesser x y;
-          stands = first_stands (lesser x y) (rest ys);
-          same = lesser_has (λ (v : Entry). v.outcome ≡ x.outcome) x y refl (sym same);
-          least = lesser_before x y;
-        })
-    equal_left same (inr t) = comes_later (lesser x y) w (rest ys) (r ys (inl t))
-
-    equal_right : x.outcome ≡ y.outcome → (w ≡ y) ⊎ Stands ys w → Comes (lesser x y ∷ rest ys) w
-    equal_right same (inl e) =
-        let P : Entry → Type 0 = λ v. Comes (lesser x y ∷ rest ys) v in
-        subst P (sym e) (record {
-          entry = lesser x y;
-          stands = first_stands (lesser x y) (rest ys);
-          same = lesser_has (λ (v : Entry). v.outcome ≡ y.outcome) x y same refl;
-          least = lesser_behind x y;
-        })
-    equal_right same (inr t) = comes_later (lesser x y) w (rest ys) (r ys (inr t))
-
-    greater_right : (Stands (x ∷ xs) w ⊎ Stands ys w → Comes (merged_from x xs rest ys) w) → (w ≡ y) ⊎ Stands ys w → Comes (y ∷ merged_from x xs rest ys) w
-    greater_right later (inl e) = let P : Entry → Type 0 = λ v. Comes (v ∷ merged_from x xs rest ys) w in subst P e (comes_first w (merged_from x xs rest ys))
-    greater_right later (inr t) = comes_later y w (merged_from x xs rest ys) (later (inr t))
-
-    by : (o : Ordering) → outcome_cmp x y ≡ o → Stands (x ∷ xs) w ⊎ Stands (y ∷ ys) w → (Stands (x ∷ xs) w ⊎ Stands ys w → Comes (merged_from x xs rest ys) w) → Comes (match_ordering o (x ∷ rest (y ∷ ys)) (lesser x y ∷ rest ys) (y ∷ merged_from x xs rest ys)) w
-    by Less e (inl t) later = less_left (stands_cases x w xs t)
-    by Less e (inr t) later = comes_later x w (rest (y ∷ ys)) (r (y ∷ ys) (inr t))
-    by Equal e (inl t) later = equal_left (exact_bytes x.outcome y.outcome e) (stands_cases x w xs t)
-    by Equal e (inr t) later = equal_right (exact_bytes x.outcome y.outcome e) (stands_cases y w ys t)
-    by Greater e (inl t) later = comes_later y w (merged_from x xs rest ys) (later (inl t))
-    by Greater e (inr t) later = greater_right later (stands_cases y w ys t)
+comes_from w x xs rest (y ∷ ys) r s =
+    let later = comes_from w x xs rest ys r in
+    (elim (outcome_cmp x y) as (λ o. outcome_cmp x y ≡ o
+    → Comes (match_ordering o (x ∷ rest (y ∷ ys)) (lesser x y ∷ rest ys) (y ∷ merged_from x xs rest ys)) w) [
+      | Less ↦ λ e. elim s [
+        | inl t ↦ elim (stands_cases x w xs t) [
+          | inl is ↦ rw is (comes_first x x (rest (y ∷ ys)) refl (not_after_itself x))
+          | inr u ↦ comes_later x w (rest (y ∷ ys)) (r (y ∷ ys) (inl u))
+        ]
+        | inr t ↦ comes_later x w (rest (y ∷ ys)) (r (y ∷ ys) (inr t))
+      ]
+      | Equal ↦ λ e.
+          let same = exact_bytes x.outcome y.outcome e in
+          elim s [
+            | inl t ↦ elim (stands_cases x w xs t) [
+              | inl is ↦ rw is (comes_first (lesser x y) x (rest ys) (lesser_has (λ v. v.outcome ≡ x.outcome) x y refl (sym same))
+                  (lesser_before x y))
+              | inr u ↦ comes_later (lesser x y) w (rest ys) (r ys (inl u))
+            ]
+            | inr t ↦ elim (stands_cases y w ys t) [
+              | inl is ↦ rw is (comes_first (lesser x y) y (rest ys) (lesser_has (λ v. v.outcome ≡ y.outcome) x y same refl)
+                  (lesser_behind x y))
+              | inr u ↦ comes_later (lesser x y) w (rest ys) (r ys (inr u))
+            ]
+          ]
+      | Greater ↦ λ e. elim s [
+        | inl t ↦ comes_later y w (merged_from x xs rest ys) (later (inl t))
+        | inr t ↦ elim (stands_cases y w ys t) [
+          | inl is ↦ rw is (comes_first y y (merged_from x xs rest ys) refl (not_after_itself y))
+          | inr u ↦ comes_later y w (merged_from x xs rest ys) (later (inr u))
+        ]
+      ]
+    ]) refl
 
 comes : (w : Entry) (xs ys : List Entry) → Stands xs w ⊎ Stands ys w → Comes (merged xs ys) w
 comes w [] ys (inl s) = absurd (stands_in_none w s)
@@ -144,31 +254,18 @@ comes w [] ys (inr s) = comes_itself ys w s
 comes w (x ∷ xs) ys s = comes_from w x xs (merged xs) ys (λ zs t. comes w xs zs t) s
 
 -- ---- as reports
-pub AreMerged-merged : (a b c : List Entry) → AreRising a → AreRising b → c ≡ merged a b → AreMerged a b c
-AreMerged-merged a b c up vp is = record {
-  rising = up_merged;
-  of_either = λ e h. all_stand (HasInEither a b) c each e h;
-  least = λ e w h k same.
-      let m = come w k in
-      let one : m.entry ≡ e = once c up_merged m.entry e m.stands h (m.same ∙ same) in
-      let P : Entry → Type 0 = λ v. IsFalse (is_gt (example_cmp v w)) in
-      subst P one m.least;
-  whole = λ w k. let m = come w k in (m.entry, m.stands, m.same);
-}
-  where
-    up_merged : AreRising c
-    up_merged = subst AreRising (sym is) (AreRising-merged a b up vp)
-
-    each : AllByRecursion (HasInEither a b) c
-    each =
-        let P : List Entry → Type 0 = AllByRecursion (HasInEither a b) in
-        subst P (sym is) (all_merged (HasInEither a b) a b (all_from_each (HasInEither a b) a (λ e s. inl s)) (all_from_each (HasInEither a b) b (λ e s. inr s)))
-
-    come : (w : Entry) → HasInEither a b w → Comes c w
-    come w k = let P : List Entry → Type 0 = λ zs. Comes zs w in subst P (sym is) (comes w a b k)
-
-pub IsMerge-merged : (a b c : Report) → AreRising a.entries → AreRising b.entries → c.entries ≡ merged a.entries b.entries → c.race ≡ (a.race || b.race) → IsMerge a b c
-IsMerge-merged a b c up vp is race = record { entries = AreMerged-merged a.entries b.entries c.entries up vp is; race = race }
+pub AreMerged-merged : (a b : List Entry) → AreRising a → AreRising b → AreMerged a b (merged a b)
+AreMerged-merged a b up vp =
+    let rising = AreRising-merged a b up vp in
+    record {
+      rising = rising;
+      of_either = all_stand (HasInEither a b) (merged a b) (all_merged (HasInEither a b) a b
+          (all_from_each (HasInEither a b) a (λ e s. inl s)) (all_from_each (HasInEither a b) b (λ e s. inr s)));
+      least = λ e w h k same.
+          let m = comes w a b k in
+          subst (λ v. IsFalse (is_gt (example_cmp v w))) (once (merged a b) rising m.entry e m.stands h (m.same ∙ same)) m.least;
+      whole = λ w k. let m = comes w a b k in (m.entry, m.stands, m.same);
+    }
 
 -- ---- one entry after the other
 pub merged-none : (xs : List Entry) → merged xs [] ≡ xs

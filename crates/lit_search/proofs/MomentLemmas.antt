@@ -1,32 +1,52 @@
--- What turns keep, from moment to moment.
-use Rattle.std.proofs.Common.{◌≡◌, ℕ, zero, suc, ◌<◌, Bool, true, false, List, [], ◌∷◌, ◌++◌, length, map, take, drop, refl, sym, ap, ap₂, subst, ◌∙◌, arith, append-nil}
-use Rattle.std.specs.Prelude.{if◌then◌else◌, replicate, slice_index, slice_index_or, slice_set}
-use Rattle.std.proofs.lemmas.List.{drop_all, length-map, take_all}
+-- What accesses keep, and turns.
+use Rattle.std.proofs.Common.{◌≡◌, inl, inr, arith, ℕ, zero, suc, true, false, List, [], ◌∷◌, ◌++◌, length, map, take, drop, refl, sym, ap, subst, ◌∙◌, append-nil, ◌≤◌, ◌==◌, append_assoc}
+use Rattle.std.specs.Prelude.{if◌then◌else◌, replicate, slice_index, slice_index_or, slice_set, IsTrue}
+use Rattle.std.proofs.lemmas.Bool.{cases_lt}
+use Rattle.std.proofs.lemmas.List.{drop_all, get_or_past, get_or-map, length-map, length-replicate, take_all}
 use Rattle.lit_read.specs.declared.limits.TheConstants.{REGISTERS}
-use Rattle.lit_read.specs.Syntax.{Agent, Litmus, IsLitmus, Statement, Statements, Load, Store, Exchange, CompareExchange, If, End, Then, IsStatementIn, AreStatementsIn}
+use Rattle.lit_read.specs.Syntax.{Agent, Litmus, IsLitmus, Statement, Statements, If, End, Then, IsStatementIn, AreStatementsIn, Window, Uint16, Uint32, window_size, is_in_block, Load, Store, Exchange, CompareExchange}
 use Rattle.lit_paths.specs.Run.{compares}
-use Rattle.lit_search.specs.Interleaving.{Contents, Moment, Progress, accessed, after, after_each, after_end, after_statement, after_turn, beginning, found_by, from_access, left_behind, progress_of}
+use Rattle.lit_search.specs.Interleaving.{Contents, Moment, Progress, accessed, after, after_each, after_end, after_statement, after_turn, beginning, found_by, from_access, left_behind, progress_of, number_in, with_number}
 use Rattle.lit_paths.proofs.PathSteps.{length-slice_set}
-use Rattle.lit_search.proofs.AccessLemmas.{access_keeps}
 use Rattle.lit_search.proofs.NextAccess.{said_from}
+use Rattle.std.proofs.lemmas.List.Edits.{length-paste}
+use Rattle.lit_paths.specs.Path.{first_byte, payload_of}
+use Rattle.lit_search.specs.Internal.Runners.{is_access}
+use Rattle.lit_paths.proofs.EventFacts.{window-in_block}
 
+pub few_bytes : (window : Window) → window_size window ≤ 4
+few_bytes Uint16 = omega arith
+few_bytes Uint32 = omega arith
+few_bytes window = omega arith
+
+-- the block keeps its length
+pub number_keeps : (block : List ℕ) (window : Window) (index value : ℕ) → IsTrue (is_in_block (length block) window index) → length (with_number block window index value) ≡ length block
+number_keeps block window index value h = rw (← append_assoc)
+    (length-paste block (first_byte window index) (payload_of value) (window_size window) (window-in_block (length block) index window h)
+    (few_bytes window))
+
+pub access_keeps : (s : Statement) (c : Contents) → is_access s ≡ true → IsStatementIn (length c.block) s → length (after_statement s c).block ≡ length c.block
+access_keeps (Load reg window index atomic) c is said = refl
+access_keeps (Store window index value atomic) c is said = number_keeps c.block window index value said.0
+access_keeps (Exchange reg window index value) c is said = number_keeps c.block window index value said.1
+access_keeps (CompareExchange reg window index expected value) c is said =
+    elim (number_in c.block window index == expected) as (λ b. length (if b then with_number c.block window index value else c.block)
+    ≡ length c.block) [
+      | true ↦ number_keeps c.block window index value said.1
+      | false ↦ refl
+    ]
+access_keeps (If reg equal value body other) c is said = absurd (let e : false ≡ true = is in cc)
+
+-- ---- what turns keep, from moment to moment
 -- ---- what statements keep
 mutual
   keeps_in : (s : Statement) (c : Contents) (n : ℕ) → length c.block ≡ n → IsStatementIn n s → length (after_statement s c).block ≡ n
-  keeps_in (Load reg window index atomic) c n long said = long
-  keeps_in (Store window index value atomic) c n long said =
-      let P : ℕ → Type 0 = λ k. IsStatementIn k (Store window index value atomic) in access_keeps (Store window index value atomic) c refl (subst P (sym long) said) ∙ long
-  keeps_in (Exchange reg window index value) c n long said =
-      let P : ℕ → Type 0 = λ k. IsStatementIn k (Exchange reg window index value) in access_keeps (Exchange reg window index value) c refl (subst P (sym long) said) ∙ long
-  keeps_in (CompareExchange reg window index expected value) c n long said =
-      let P : ℕ → Type 0 = λ k. IsStatementIn k (CompareExchange reg window index expected value) in
-      access_keeps (CompareExchange reg window index expected value) c refl (subst P (sym long) said) ∙ long
   keeps_in (If reg equal value body other) c n long said =
-      by (compares equal (slice_index c.registers reg) value) (keeps body c n long said.2) (keeps other c n long said.3)
-    where
-      by : (b : Bool) → length (after body c).block ≡ n → length (after other c).block ≡ n → length (if b then after body c else after other c).block ≡ n
-      by true p q = p
-      by false p q = q
+      elim (compares equal (slice_index c.registers reg) value) as (λ b. length (if b then after body c else after other c).block ≡ n) [
+        | true ↦ keeps body c n long said.2
+        | false ↦ keeps other c n long said.3
+      ]
+  keeps_in s c n long said = access_keeps s c refl (subst (λ (k : ℕ). IsStatementIn k s) (sym long) said) ∙ long
 
   pub keeps : (ss : Statements) (c : Contents) (n : ℕ) → length c.block ≡ n → AreStatementsIn n ss → length (after ss c).block ≡ n
   keeps End c n long said = long
@@ -75,21 +95,16 @@ sound_each t step one m (agent ∷ agents) s = sound_each t step one (step m age
 abbrev pub at_first : Agent → Progress
 at_first agent = record { left = agent.body; registers = replicate REGISTERS 0 }
 
-said_first : (bytes : ℕ) (agents : List Agent) (a : Agent) (p : Progress) → p.left ≡ End → ((i : ℕ) → i < length agents → AreStatementsIn bytes (slice_index_or agents i a).body)
-    → (i : ℕ) → AreStatementsIn bytes (slice_index_or {A = Progress} (map at_first agents) i p).left
-said_first bytes [] a p none all i = subst (AreStatementsIn bytes) (sym none) tt
-said_first bytes (b ∷ agents) a p none all zero = all zero (omega arith)
-said_first bytes (b ∷ agents) a p none all (suc i) = said_first bytes agents a p none (λ k lt. all (suc k) (omega (arith, lt))) i
-
-pub long_zeros : (n x : ℕ) → length (replicate n x) ≡ n
-long_zeros zero x = refl
-long_zeros (suc n) x = ap suc (long_zeros n x)
-
 pub sound_beginning : (t : Litmus) → IsLitmus t → IsSound t (beginning t)
 sound_beginning t is = record {
-  long = long_zeros t.bytes 0;
+  long = length-replicate t.bytes 0;
   one_each = length-map t.agents at_first;
-  said = said_first t.bytes t.agents (record { name = []; body = End }) (record { left = End; registers = [] }) refl is.bodies;
+  said = λ i. elim (cases_lt i (length t.agents)) [
+    | inl lt ↦ rw (get_or-map at_first t.agents i (record { name = []; body = End }) (record { left = End; registers = [] }) lt)
+        (is.bodies i lt)
+    | inr past ↦ rw (get_or_past (map at_first t.agents) i (record { left = End; registers = [] })
+        (omega (arith, length-map t.agents at_first))) tt
+  ];
 }
 
 -- ---- one agent more
@@ -97,31 +112,13 @@ pub after_each-more : (step : Moment → ℕ → Moment) (m : Moment) (agents : 
 after_each-more step m [] agent = refl
 after_each-more step m (a ∷ agents) agent = after_each-more step (step m a) agents agent
 
--- ---- a turn, and all that is left, of one agent of a moment
-behind : (m : Moment) (agent : ℕ) (new : Progress) (now whole : List ℕ) (left : Statements) (c : Contents) → new.left ≡ left → record { block = now; registers = new.registers } ≡ c → whole ≡ now
-    → record { block = whole; agents = slice_set m.agents agent new } ≡ left_behind m agent left c
-behind m agent new now whole left c is done same =
-    let M : List ℕ → Progress → Moment = λ b p. record { block = b; agents = slice_set m.agents agent p } in
-    let P : Statements → List ℕ → Progress = λ ss rs. record { left = ss; registers = rs } in
-    ap₂ M (same ∙ ap (λ (d : Contents). d.block) done) (ap₂ P is (ap (λ (d : Contents). d.registers) done))
-
-pub turned : (m : Moment) (agent : ℕ) (p new : Progress) (found now whole : List ℕ) → p ≡ progress_of m agent → found ≡ m.block
-    → new.left ≡ (accessed (from_access p.registers p.left) (record { block = found; registers = p.registers })).0
-    → record { block = now; registers = new.registers } ≡ (accessed (from_access p.registers p.left) (record { block = found; registers = p.registers })).1
-    → whole ≡ now → record { block = whole; agents = slice_set m.agents agent new } ≡ after_turn m agent
-turned m agent p new found now whole is at left done same =
-    let F : Progress → List ℕ → Moment = λ q b.
-    left_behind m agent (accessed (from_access q.registers q.left) (record { block = b; registers = q.registers })).0 (accessed (from_access q.registers q.left) (record { block = b; registers = q.registers })).1 in
-    behind m agent new now whole (accessed (from_access p.registers p.left) (record { block = found; registers = p.registers })).0
-    (accessed (from_access p.registers p.left) (record { block = found; registers = p.registers })).1 left done same
-    ∙ ap₂ F is at
-
-pub ended : (m : Moment) (agent : ℕ) (p new : Progress) (found now whole : List ℕ) → p ≡ progress_of m agent → found ≡ m.block → new.left ≡ End
-    → record { block = now; registers = new.registers } ≡ after p.left (record { block = found; registers = p.registers }) → whole ≡ now
-    → record { block = whole; agents = slice_set m.agents agent new } ≡ after_end m agent
-ended m agent p new found now whole is at left done same =
-    let F : Progress → List ℕ → Moment = λ q b. left_behind m agent End (after q.left (record { block = b; registers = q.registers })) in
-    behind m agent new now whole End (after p.left (record { block = found; registers = p.registers })) left done same ∙ ap₂ F is at
+-- ---- a turn, or all that is left, of one agent of a moment
+pub stepped : (F : Progress → List ℕ → Statements × Contents) (m : Moment) (agent : ℕ) (p new : Progress) (found now whole : List ℕ)
+    → p ≡ progress_of m agent → found ≡ m.block → new.left ≡ (F p found).0
+    → record { block = now; registers = new.registers } ≡ (F p found).1
+    → whole ≡ now → record { block = whole; agents = slice_set m.agents agent new }
+    ≡ left_behind m agent (F (progress_of m agent) m.block).0 (F (progress_of m agent) m.block).1
+stepped F m agent p new found now whole is at left done same = rw (← is, ← at, ← left, ← done, same) refl
 
 -- what a write to all of a list leaves
 pub written_whole : (xs ys : List ℕ) (n : ℕ) → length ys ≡ length xs → n ≡ length xs → take n (ys ++ drop (length ys) xs) ≡ ys

@@ -1,50 +1,159 @@
--- Ranks of entries that stand in parts, one behind the other.
-use Rattle.std.proofs.Common.{◌≡◌, ◌≢◌, ℕ, Bool, zero, suc, ◌+◌, ◌<◌, ◌≤◌, List, [], ◌∷◌, ◌++◌, map, take, Some, length, refl, sym, ap, ap₂, subst, ◌∙◌, arith}
+-- Packed lists, which compare as the lists do as far as they are not equal, and ranks of entries.
+use Rattle.std.proofs.Common.{◌≡◌, ◌≢◌, inl, inr, ℕ, zero, suc, ◌+◌, ◌<◌, ◌≤◌, List, [], ◌∷◌, ◌++◌, map, take, Some, length, refl, sym, ap, ap₂, subst, ◌∙◌, arith, ◌-◌, ◌*◌, ◌^◌, drop, get_or}
 use Rattle.std.specs.Prelude.{None, slice_get, slice_index_or}
-use Rattle.std.specs.Cmp.Lexicographic.{slice_cmp}
-use Rattle.std.specs.List.{All}
+use Rattle.std.specs.Cmp.Lexicographic.{slice_cmp, nat_list_cmp_total}
 use Rattle.std.specs.List.Sorted.{IsSortedBy}
-use Rattle.std.specs.Ordering.{is_lt, nat_cmp, ordering_then}
+use Rattle.std.specs.Ordering.{is_lt, nat_cmp, ordering_then, ordering_reverse}
 use Rattle.std.specs.declared.cmp.Ordering.{Ordering}
 use Rattle.std.specs.declared.cmp.Ordering.TheVariants.{Less, Equal, Greater}
 use Rattle.std.proofs.Math.Seq.{take-suc}
-use Rattle.std.proofs.lemmas.List.{append-nil, get_or-append-add, get_or_append_left, length-append, length-map, map-append}
-use Rattle.std.proofs.lemmas.List.Elements.{All-append}
+use Rattle.std.proofs.lemmas.Bool.{cases_lt, cases_order, lt-leb, lt-ltb}
+use Rattle.std.proofs.lemmas.List.{get_or_past, get_or-append-add, get_or_append_left, length-append, length-map, map-append, drop_all, drop_more}
+use Rattle.std.proofs.lemmas.List.Elements.{All-map, All-push}
 use Rattle.std.proofs.lemmas.Grind.{flat_map-append}
 use Rattle.std.specs.Option.{option_map}
-use Rattle.std.proofs.lemmas.Option.{get_or_from_slice_get, slice_get-get_or, slice_get-map, slice_get_within}
+use Rattle.std.proofs.lemmas.Option.{get_or_from_slice_get, none-some, slice_get-get_or, slice_get-map, slice_get_within}
 use Rattle.lit_search.specs.declared.found.ranking.Rank.{Rank}
 use Rattle.lit_search.specs.declared.found.Found.TheInside.{Inside}
 use Rattle.lit_search.specs.Found.{report_of}
-use Rattle.lit_search.specs.Ranked.{joined, ranked_entry}
+use Rattle.lit_search.specs.Ranked.{joined_entries, ranked_entry}
 use Rattle.lit_search.specs.Report.{Entry, Report, entry_at, outcome_cmp}
 use Rattle.lit_search.specs.Internal.Merged.{heads_cmp, merged}
-use Rattle.lit_search.specs.Internal.Packed.{IsPacked}
+use Rattle.lit_search.specs.Internal.Packed.{IsPacked, packed}
 use Rattle.lit_search.specs.Internal.Ranks.{AreRanks, IsRank, IsRanked, rank_cmp}
-use Rattle.lit_search.proofs.PackedLemmas.{told}
+use Rattle.std.specs.Cmp.{nat_cmp_is}
+use Rattle.std.proofs.Math.Nat.{mul-le-mul_right, one-le-pow, pow-le-pow_right, pow-suc, pow-succ', suc-mul}
 
+-- ---- a value more in front
+pub packed-nil : (top n : ℕ) → packed top n [] ≡ 0
+packed-nil top zero = refl
+packed-nil top (suc n) = refl
+
+pub packed-small : (top n x : ℕ) (xs : List ℕ) → x < top → packed top (suc n) (x ∷ xs) ≡ x * (top + 1) ^ n + packed top n xs
+packed-small top n x xs below = rw (lt-ltb x top below) refl
+
+pub packed-large : (top n x : ℕ) (xs : List ℕ) → top ≤ x → packed top (suc n) (x ∷ xs) ≡ top * (top + 1) ^ n
+packed-large top n x xs above = rw (lt-leb (suc x) top (omega (arith, above))) refl
+
+-- there is room for it
+pub packed-below : (top n : ℕ) (xs : List ℕ) → packed top n xs < (top + 1) ^ n
+packed-below top zero xs = omega (arith, one-le-pow zero (top + 1) (omega arith))
+packed-below top (suc n) [] = omega (arith, one-le-pow (suc n) (top + 1) (omega arith))
+packed-below top (suc n) (x ∷ xs) =
+    let P = (top + 1) ^ n in
+    let rest = packed-below top n xs in
+    let all = pow-succ' (top + 1) n in
+    let one_more = suc-mul top P in
+    elim (cases_lt x top) [
+      | inl below ↦ omega (arith, packed-small top n x xs below, rest, all, one_more, suc-mul x P, mul-le-mul_right {m = suc x} {n = top} P (omega (arith, below)))
+      | inr above ↦ omega (arith, packed-large top n x xs above, one-le-pow n (top + 1) (omega arith), all, one_more)
+    ]
+
+-- ---- how they compare
+not_less : (top n x y : ℕ) (xs ys : List ℕ) → y < x → packed top (suc n) (x ∷ xs) < packed top (suc n) (y ∷ ys) → ⊥
+not_less top n x y xs ys less lt =
+    let P = (top + 1) ^ n in
+    elim (cases_lt y top) [
+      | inl small ↦
+          (let upper = packed-below top n ys in
+          elim (cases_lt x top) [
+            | inl below ↦ omega (arith, lt, packed-small top n y ys small, packed-small top n x xs below, upper, suc-mul y P, mul-le-mul_right {m = suc y} {n = x} P (omega (arith, less)))
+            | inr above ↦ omega (arith, lt, packed-small top n y ys small, packed-large top n x xs above, upper, suc-mul y P, mul-le-mul_right {m = suc y} {n = top} P (omega (arith, small)))
+          ])
+      | inr large ↦ omega (arith, lt, packed-large top n y ys large, packed-large top n x xs (omega (arith, large, less)))
+    ]
+
+heads : (x y : ℕ) (rest o : Ordering) → o ≡ nat_cmp x y → ordering_then (nat_cmp x y) rest ≡ ordering_then o rest
+heads x y rest o is = ap (λ (p : Ordering). ordering_then p rest) (sym is)
+
+rests : (top n x y : ℕ) (xs ys : List ℕ) → x ≡ y → packed top (suc n) (x ∷ xs) < packed top (suc n) (y ∷ ys) → packed top n xs < packed top n ys
+rests top n x y xs ys same lt =
+    let P = (top + 1) ^ n in
+    elim (cases_lt x top) [
+      | inl small ↦ omega (arith, lt, packed-small top n x xs small, packed-small top n y ys (omega (arith, small, same)), ap (λ (k : ℕ). k * P) same)
+      | inr large ↦ absurd (omega (arith, lt, packed-large top n x xs large, packed-large top n y ys (omega (arith, large, same))))
+    ]
+
+less : (top n : ℕ) (xs ys : List ℕ) → packed top n xs < packed top n ys → slice_cmp nat_cmp xs ys ≡ Less
+less top zero xs ys lt = absurd (omega (arith, lt))
+less top (suc n) [] [] lt = absurd (omega (arith, lt))
+less top (suc n) [] (y ∷ ys) lt = refl
+less top (suc n) (x ∷ xs) [] lt = absurd (omega (arith, lt))
+less top (suc n) (x ∷ xs) (y ∷ ys) lt =
+    elim (cases_order x y) [
+      | inl same ↦ heads x y (slice_cmp nat_cmp xs ys) Equal (nat_cmp_is x y Equal same) ∙ less top n xs ys (rests top n x y xs ys same lt)
+      | inr apart ↦ elim apart [
+        | inl below ↦ heads x y (slice_cmp nat_cmp xs ys) Less (nat_cmp_is x y Less below)
+        | inr further ↦ absurd (not_less top n x y xs ys further lt)
+      ]
+    ]
+
+greater : (top n : ℕ) (xs ys : List ℕ) → packed top n ys < packed top n xs → slice_cmp nat_cmp xs ys ≡ Greater
+greater top n xs ys lt = nat_list_cmp_total.antisymm xs ys ∙ ap ordering_reverse (less top n ys xs lt)
+
+-- so where the numbers differ they tell how the lists compare
+pub told : (top n : ℕ) (xs ys : List ℕ) (o : Ordering) → o ≡ nat_cmp (packed top n xs) (packed top n ys) → (o ≡ Equal → ⊥) → o ≡ slice_cmp nat_cmp xs ys
+told top n xs ys o is unequal =
+    let p = packed top n xs in
+    let q = packed top n ys in
+    elim (cases_order p q) [
+      | inl same ↦ absurd (unequal (is ∙ sym (nat_cmp_is p q Equal same)))
+      | inr apart ↦ elim apart [
+        | inl below ↦ is ∙ sym (nat_cmp_is p q Less below) ∙ sym (less top n xs ys below)
+        | inr further ↦ is ∙ sym (nat_cmp_is p q Greater further) ∙ sym (greater top n xs ys further)
+      ]
+    ]
+
+-- ---- value by value, from the last on
+pub room : (top count place : ℕ) → 0 < place → place ≤ count → (top + 1) ^ count ≤ 170141183460469231731687303715884105728 → (top + 1) * (top + 1) ^ (count - place) ≤ 170141183460469231731687303715884105728
+room top count place some few fits =
+    let k = count - place in
+    omega (arith, pow-succ' (top + 1) k, pow-le-pow_right {n = top + 1} (omega arith) {i = suc k} {j = count} (omega (arith, some, few)), fits)
+
+digit : (top v weight number : ℕ) → v < top → number < weight → v * weight + number < (top + 1) * weight
+digit top v weight number below fits = omega (arith, fits, suc-mul v weight, suc-mul top weight, mul-le-mul_right {m = suc v} {n = top} weight (omega (arith, below)))
+
+-- a digit more keeps below
+pub digit_fits : (top count place v weight number : ℕ) (xs : List ℕ) → 0 < place → place ≤ count
+    → (top + 1) ^ count ≤ 170141183460469231731687303715884105728 → weight ≡ (top + 1) ^ (count - place)
+    → number ≡ packed top (count - place) (drop place xs) → v < top → v * weight + number < 170141183460469231731687303715884105728
+digit_fits top count place v weight number xs some few fits weighs is below = omega (
+  arith,
+  digit top v weight number below (omega (arith, weighs, is, packed-below top (count - place) (drop place xs))),
+  room top count place some few fits,
+  ap (λ w. (top + 1) * w) weighs,
+)
+
+pub one_more : (top count place : ℕ) → 0 < place → place ≤ count → (top + 1) ^ (count - place) * (top + 1) ≡ (top + 1) ^ (count - (place - 1))
+one_more top count place some few =
+    sym (pow-suc (top + 1) (count - place)) ∙ ap (λ (k : ℕ). (top + 1) ^ k) (let e : suc (count - place) ≡ count - (place - 1) = omega (arith, some, few) in e)
+
+pub packed-past : (top n : ℕ) (xs : List ℕ) (i : ℕ) → length xs ≤ i → packed top n (drop i xs) ≡ 0
+packed-past top n xs i past = ap (packed top n) (drop_all i xs past) ∙ packed-nil top n
+
+pub stepped : (top count place v : ℕ) (xs : List ℕ) → 0 < place → place ≤ count → place - 1 < length xs → ((d : ℕ) → v ≡ get_or xs (place - 1) d)
+    → packed top (count - (place - 1)) (drop (place - 1) xs) ≡ packed top (suc (count - place)) (v ∷ drop place xs)
+stepped top count place v xs some few inside each =
+    ap (λ (k : ℕ). packed top k (drop (place - 1) xs)) (let e : count - (place - 1) ≡ suc (count - place) = omega (arith, some, few) in e)
+    ∙ ap (packed top (suc (count - place))) (drop_more xs (place - 1) 0 inside)
+    ∙ ap₂ (λ (u j : ℕ). packed top (suc (count - place)) (u ∷ drop j xs)) (sym (each 0)) (let e : place - 1 + 1 ≡ place = omega (arith, some) in e)
+
+-- ---- ranks of entries that stand in parts, one behind the other
 -- ---- the entry of a rank
-nothing_at : (es : List Entry) (i : ℕ) (d : Entry) → slice_get es i ≡ None → slice_index_or es i d ≡ d
-nothing_at [] i d h = refl
-nothing_at (x ∷ xs) zero d h = absurd (let e : Some x ≡ None = h in cc)
-nothing_at (x ∷ xs) (suc i) d h = nothing_at xs i d h
+pub past : (es : List Entry) (i : ℕ) → slice_get es i ≡ None → length es ≤ i
+past es i h = elim (cases_lt i (length es)) [
+  | inl lt ↦ absurd (none-some _ (sym h ∙ slice_get-get_or es i (record { outcome = []; choice = 0; order = [] }) lt))
+  | inr le ↦ le
+]
 
 pub no_outcome : (es : List Entry) (rank : Rank) → slice_get es rank.place ≡ None → (ranked_entry es rank).outcome ≡ []
-no_outcome es rank h = ap (λ (e : Entry). e.outcome) (nothing_at es rank.place (record { outcome = []; choice = 0; order = [] }) h)
-
-pub past : (es : List Entry) (i : ℕ) → slice_get es i ≡ None → length es ≤ i
-past [] i h = omega arith
-past (x ∷ xs) zero h = absurd (let e : Some x ≡ None = h in cc)
-past (x ∷ xs) (suc i) h = omega (arith, past xs i h)
+no_outcome es rank h =
+    ap (λ (e : Entry). e.outcome) (get_or_past es rank.place (record { outcome = []; choice = 0; order = [] }) (past es rank.place h))
 
 pub ranked_is : (es : List Entry) (rank : Rank) (e : Entry) → slice_get es rank.place ≡ Some e → ranked_entry es rank ≡ e
 ranked_is es rank e h = get_or_from_slice_get es rank.place e (record { outcome = []; choice = 0; order = [] }) h
 
 -- ---- all ranks, one after the other
-pub alone : (P : Rank → Type 0) (rank : Rank) → P rank → All P (rank ∷ [])
-alone P rank h zero d lt = h
-alone P rank h (suc k) d lt = absurd (omega (arith, lt))
-
 pub one_more_each : (es : List Entry) (ranks : List Rank) (rank : Rank) (e : Entry) → rank.place ≡ length ranks → slice_get es (length ranks) ≡ Some e
     → map (ranked_entry es) ranks ≡ take (length ranks) es → map (ranked_entry es) (ranks ++ rank ∷ []) ≡ take (length (ranks ++ rank ∷ [])) es
 one_more_each es ranks rank e at there each =
@@ -58,12 +167,10 @@ pub one_more_rank : (es : List Entry) (ranks : List Rank) (rank : Rank) (e : Ent
     → IsPacked rank.small rank.large e.outcome → AreRanks es ranks → AreRanks es (ranks ++ rank ∷ [])
 one_more_rank es ranks rank e at there packed all =
     let is = ranked_is es rank e (ap (slice_get es) at ∙ there) in
-    All-append (IsRank es) ranks (rank ∷ []) all (
-    alone (IsRank es) rank (record {
+    All-push (IsRank es) ranks rank all (record {
       within = omega (arith, at, slice_get_within es (length ranks) e there);
       packed = subst (λ (x : Entry). IsPacked rank.small rank.large x.outcome) (sym is) packed;
     })
-    )
 
 -- ---- how ranks compare
 then_told : (o rest c : Ordering) → (o ≢ Equal → o ≡ c) → rest ≡ c → ordering_then o rest ≡ c
@@ -89,29 +196,16 @@ abbrev pub moved : ℕ → Rank → Rank
 moved count rank = record { large = rank.large; small = rank.small; place = rank.place + count }
 
 -- ---- what is found
-pub joined_one : (xs : List Entry) → joined (xs ∷ []) ≡ xs
-joined_one xs = append-nil xs
-
-pub entry_at_rank : (es : List Entry) (ranks : List Rank) (race : Bool) (place : ℕ) (rank : Rank) (e : Entry) → slice_get ranks place ≡ Some rank → slice_get es rank.place ≡ Some e
-    → e ≡ entry_at (record { entries = map (ranked_entry es) ranks; race = race }) place
-entry_at_rank es ranks race place rank e here there =
-    sym (
-    get_or_from_slice_get (map (ranked_entry es) ranks) place (ranked_entry es rank) (record { outcome = []; choice = 0; order = [] })
-    (slice_get-map (ranked_entry es) ranks place ∙ ap (option_map (ranked_entry es)) here)
-    ∙ ranked_is es rank e there
-    )
-
 pub found_at : (x : Inside) (report : Report) → report_of x ≡ report → (parts : List (List Entry)) → parts ≡ x.parts.items → (place : ℕ) → place < length report.entries
-    → (rank : Rank) → rank ≡ slice_index_or x.ranks.items place rank → (e : Entry) → Some e ≡ slice_get (joined parts) rank.place → e ≡ entry_at report place
+    → (rank : Rank) → rank ≡ slice_index_or x.ranks.items place rank → (e : Entry) → Some e ≡ slice_get (joined_entries parts) rank.place → e ≡ entry_at report place
 found_at x report view parts same place known rank is e there =
-    let es = joined x.parts.items in
-    let P : Report → Type 0 = λ r. place < length r.entries in
-    let Q : Report → Type 0 = λ r. e ≡ entry_at r place in
-    let within : place < length x.ranks.items = omega (arith, subst P (sym view) known, length-map x.ranks.items (ranked_entry es)) in
-    subst Q view (
-    entry_at_rank es x.ranks.items x.race place rank e (slice_get-get_or x.ranks.items place rank within ∙ ap Some (sym is))
-    (ap (λ (ps : List (List Entry)). slice_get (joined ps) rank.place) (sym same) ∙ sym there)
-    )
+    let es = joined_entries x.parts.items in
+    let within : place < length x.ranks.items = omega (arith, rw (← view) at known, length-map x.ranks.items (ranked_entry es)) in
+    let here : slice_get x.ranks.items place ≡ Some rank = slice_get-get_or x.ranks.items place rank within ∙ ap Some (sym is) in
+    rw (← view) (sym (get_or_from_slice_get (map (ranked_entry es) x.ranks.items) place (ranked_entry es rank)
+    (record { outcome = []; choice = 0; order = [] })
+    (slice_get-map (ranked_entry es) x.ranks.items place ∙ ap (option_map (ranked_entry es)) here)
+    ∙ ranked_is es rank e (ap (λ (ps : List (List Entry)). slice_get (joined_entries ps) rank.place) (sym same) ∙ sym there)))
 
 -- ---- merging
 pub fronts : (es : List Entry) (xs ys : List Rank) (a b : Rank) → AreRanks es xs → AreRanks es ys → 0 < length xs → a ≡ slice_index_or xs 0 a → 0 < length ys → b ≡ slice_index_or ys 0 b
@@ -119,9 +213,6 @@ pub fronts : (es : List Entry) (xs ys : List Rank) (a b : Rank) → AreRanks es 
 fronts es [] ys a b h k some is more it = absurd (omega (arith, some))
 fronts es (x ∷ xs) [] a b h k some is more it = absurd (omega (arith, more))
 fronts es (x ∷ xs) (y ∷ ys) a b h k some is more it = ap₂ (rank_cmp es) is it ∙ as_outcomes es x y (h 0 x some) (k 0 y more)
-
-pub joined_both : (ps qs : List (List Entry)) → joined (ps ++ qs) ≡ joined ps ++ joined qs
-joined_both ps qs = flat_map-append (λ (part : List Entry). part) ps qs
 
 module _ (es more : List Entry) where
   before : (rank : Rank) → IsRank es rank → ranked_entry (es ++ more) rank ≡ ranked_entry es rank
@@ -143,9 +234,8 @@ module _ (es more : List Entry) where
   }
 
   pub ranks_behind : (ranks : List Rank) → AreRanks more ranks → AreRanks (es ++ more) (map (moved (length es)) ranks)
-  ranks_behind [] all k d lt = absurd (omega (arith, lt))
-  ranks_behind (r ∷ rs) all zero d lt = rank_behind r (all 0 r (omega arith))
-  ranks_behind (r ∷ rs) all (suc k) d lt = ranks_behind rs (λ k d lt. all (suc k) d (omega (arith, lt))) k d (omega (arith, lt))
+  ranks_behind ranks all =
+      All-map (IsRank (es ++ more)) (moved (length es)) ranks (λ k d lt. rank_behind (slice_index_or ranks k d) (all k d lt))
 
   pub map_behind : (ranks : List Rank) → map (ranked_entry (es ++ more)) (map (moved (length es)) ranks) ≡ map (ranked_entry more) ranks
   map_behind [] = refl
@@ -154,27 +244,27 @@ module _ (es more : List Entry) where
 -- what is found in two sets, with the parts of both
 module _ (x y : Inside) (first : IsRanked x) (second : IsRanked y) (parts : List (List Entry)) (others : List Rank) (both : parts ≡ x.parts.items ++ y.parts.items) (behind : others ≡ map (moved x.count) y.ranks.items) where
   abbrev es : List Entry
-  es = joined x.parts.items
+  es = joined_entries x.parts.items
 
   abbrev more : List Entry
-  more = joined y.parts.items
+  more = joined_entries y.parts.items
 
-  whole : joined parts ≡ es ++ more
-  whole = ap joined both ∙ joined_both x.parts.items y.parts.items
+  whole : joined_entries parts ≡ es ++ more
+  whole = ap joined_entries both ∙ flat_map-append (λ (part : List Entry). part) x.parts.items y.parts.items
 
   theirs : others ≡ map (moved (length es)) y.ranks.items
   theirs = behind ∙ ap (λ (k : ℕ). map (moved k) y.ranks.items) first.count
 
-  pub others_are : AreRanks (joined parts) others
+  pub others_are : AreRanks (joined_entries parts) others
   others_are =
       let P : List Entry → Type 0 = λ zs. AreRanks zs others in
       subst P (sym whole) (subst (AreRanks (es ++ more)) (sym theirs) (ranks_behind es more y.ranks.items second.ranks))
 
-  pub sum_is : x.count + y.count ≡ length (joined parts)
+  pub sum_is : x.count + y.count ≡ length (joined_entries parts)
   sum_is = omega (arith, first.count, second.count, length-append es more, ap (λ (zs : List Entry). length zs) whole)
 
-  pub entries_are : (ranks : List Rank) → map (ranked_entry (joined parts)) ranks ≡ merged (map (ranked_entry (joined parts)) x.ranks.items) (map (ranked_entry (joined parts)) others)
-      → map (ranked_entry (joined parts)) ranks ≡ merged (report_of x).entries (report_of y).entries
+  pub entries_are : (ranks : List Rank) → map (ranked_entry (joined_entries parts)) ranks ≡ merged (map (ranked_entry (joined_entries parts)) x.ranks.items) (map (ranked_entry (joined_entries parts)) others)
+      → map (ranked_entry (joined_entries parts)) ranks ≡ merged (report_of x).entries (report_of y).entries
   entries_are ranks is =
       is
       ∙ ap₂ merged

@@ -1,12 +1,11 @@
 -- Reports of sets of choices: of two sets, and that a set has one.
-use Rattle.std.proofs.Common.{◌≡◌, ◌⊎◌, inl, inr, ℕ, ◌<◌, ◌≤◌, Bool, true, false, ◌==◌, List, length, refl, sym, ap, subst, ◌∙◌, arith}
-use Rattle.std.specs.Prelude.{IsTrue, IsFalse, nat_lt}
+use Rattle.std.proofs.Common.{◌≡◌, ◌⊎◌, inl, inr, ℕ, ◌<◌, ◌≤◌, Bool, true, List, length, refl, sym, ap, ap₂, subst, ◌∙◌, arith}
+use Rattle.std.specs.Prelude.{IsTrue, IsFalse}
 use Rattle.std.specs.Ordering.{is_gt}
-use Rattle.std.specs.declared.cmp.Ordering.{Ordering}
 use Rattle.std.specs.declared.cmp.Ordering.TheVariants.{Less, Equal, Greater}
-use Rattle.std.proofs.lemmas.Bool.Decides.{nat_tests}
+use Rattle.std.specs.Cmp.{nat_cmp_is}
 use Rattle.std.proofs.lemmas.Map.Lookups.{exact_bytes}
-use Rattle.std.proofs.lemmas.Bool.{cases_lt, false≢true}
+use Rattle.std.proofs.lemmas.Bool.{cases_lt, false≢true, or_left, or_right}
 use Rattle.std.proofs.lemmas.Option.{slice_get_within}
 use Rattle.lit_read.specs.Syntax.{Litmus}
 use Rattle.lit_paths.specs.Choice.{choices_of}
@@ -15,8 +14,8 @@ use Rattle.lit_order.specs.MemoryOrder.{IsLeastMemoryOrder}
 use Rattle.lit_valid.specs.Gives.{Gives, GivesRace, HasLeastOrder}
 use Rattle.lit_search.specs.Report.{AreEntries, Entry, IsEntry, IsReport, Report, example_cmp, in_either}
 use Rattle.lit_search.specs.Merge.{AreMerged, HasInEither, IsMerge}
-use Rattle.lit_search.proofs.NumberSets.{either_cases, in_other, in_some, same_test}
-use Rattle.lit_search.proofs.Entries.{Stands, cmp, reversed, same_rising}
+use Rattle.lit_search.proofs.NumberSets.{either_cases, same_test}
+use Rattle.lit_search.proofs.MergedEntries.{Stands, cmp, reversed, same_rising}
 
 -- ---- what a choice gives
 listed : (t : Litmus) (n : ℕ) (outcome : List ℕ) → Gives t n outcome → n < length (choices_of t)
@@ -28,12 +27,11 @@ one_order t n outcome first second g f s =
     let x = g.execution in
     let p : IsLeastMemoryOrder (execution_events t x) x.sources first = f x g.valid g.chosen in
     let q : IsLeastMemoryOrder (execution_events t x) x.sources second = s x g.valid g.chosen in
-    exact_bytes first second (by (cmp first second) (q.least first p.is_order) (λ e. p.least second q.is_order (reversed first second e)))
-  where
-    by : (o : Ordering) → ¬ (o ≡ Less) → ¬ (o ≡ Greater) → o ≡ Equal
-    by Less f g = absurd (f refl)
-    by Equal f g = refl
-    by Greater f g = absurd (g refl)
+    (elim (cmp first second) as (λ o. cmp first second ≡ o → first ≡ second) [
+      | Less ↦ λ e. absurd (q.least first p.is_order e)
+      | Equal ↦ λ e. exact_bytes first second e
+      | Greater ↦ λ e. absurd (p.least second q.is_order (reversed first second e))
+    ]) refl
 
 -- ---- reports
 -- a report of a set with the same of the test's choices
@@ -52,16 +50,11 @@ AreEntries-same t some others r same h = record {
 }
 
 -- ---- merging
-below_not : (m n : ℕ) → n < m → (nat_lt m n ≡ false) × ((m == n) ≡ false)
-below_not m n less = (grind (arith, nat_tests), grind (arith, nat_tests))
-
 -- what is not greater by its example has no greater choice
 choice_of_least : (e w : Entry) → IsFalse (is_gt (example_cmp e w)) → e.choice ≤ w.choice
 choice_of_least e w h = elim (cases_lt w.choice e.choice) [
-  | inl lt ↦
-      let below = below_not e.choice w.choice lt in
-      let greater : is_gt (example_cmp e w) ≡ true = rw (below.0, below.1) refl in
-      absurd (false≢true (sym h ∙ greater))
+  | inl lt ↦ let greater : is_gt (example_cmp e w) ≡ true = rw (← nat_cmp_is e.choice w.choice Greater lt) refl in absurd
+      (false≢true (sym h ∙ greater))
   | inr le ↦ le
 ]
 
@@ -85,8 +78,8 @@ module _ (t : Litmus) (some others : ℕ → Bool) (a b c : List Entry) (h : Are
       (w.1, inr (w.0, w.2), w.3, no_greater t others w.1 n outcome (k.each w.0 w.1 w.2) q g w.3)
 
   of_either : (e : Entry) → HasInEither a b e → IsTrue (in_either some others e.choice) × Gives t e.choice e.outcome × HasLeastOrder t e.choice e.order
-  of_either e (inl p) = let is = h.each p.0 e p.1 in (in_some (some e.choice) (others e.choice) is.among, is.gives, is.least_order)
-  of_either e (inr q) = let is = k.each q.0 e q.1 in (in_other (some e.choice) (others e.choice) is.among, is.gives, is.least_order)
+  of_either e (inl p) = let is = h.each p.0 e p.1 in (or_left (some e.choice) (others e.choice) is.among, is.gives, is.least_order)
+  of_either e (inr q) = let is = k.each q.0 e q.1 in (or_right (some e.choice) (others e.choice) is.among, is.gives, is.least_order)
 
   AreEntries-merged : AreEntries t (in_either some others) c
   AreEntries-merged = record {
@@ -110,12 +103,15 @@ module _ (t : Litmus) (some others : ℕ → Bool) (a b c : List Entry) (h : Are
 -- ---- a set has one report
 one_entry : (t : Litmus) (numbers : ℕ → Bool) (e f : Entry) → IsEntry t numbers e → IsEntry t numbers f → e.outcome ≡ f.outcome → e ≡ f
 one_entry t numbers e f is other same =
-    let choices : e.choice ≡ f.choice = omega (arith, no_greater t numbers e f.choice f.outcome is other.among other.gives same, no_greater t numbers f e.choice e.outcome other is.among is.gives (sym same)) in
-    let P : ℕ → Type 0 = λ n. HasLeastOrder t n f.order in
-    let orders : e.order ≡ f.order = one_order t e.choice e.outcome e.order f.order is.gives is.least_order (subst P (sym choices) other.least_order) in
+    let choices : e.choice ≡ f.choice = omega (
+      arith,
+      no_greater t numbers e f.choice f.outcome is other.among other.gives same,
+      no_greater t numbers f e.choice e.outcome other is.among is.gives (sym same),
+    ) in
+    let orders = one_order t e.choice e.outcome e.order f.order is.gives is.least_order
+    (subst (λ (n : ℕ). HasLeastOrder t n f.order) (sym choices) other.least_order) in
     ap (λ (o : List ℕ). record { outcome = o; choice = e.choice; order = e.order }) same
-    ∙ ap (λ (n : ℕ). record { outcome = f.outcome; choice = n; order = e.order }) choices
-    ∙ ap (λ (o : List ℕ). record { outcome = f.outcome; choice = f.choice; order = o }) orders
+    ∙ ap₂ (λ (n : ℕ) (o : List ℕ). record { outcome = f.outcome; choice = n; order = o }) choices orders
 
 into : (t : Litmus) (numbers : ℕ → Bool) (a b : List Entry) → AreEntries t numbers a → AreEntries t numbers b → (e : Entry) → Stands a e → Stands b e
 into t numbers a b h k e s =
@@ -146,12 +142,12 @@ IsReport-merged t some others a b c h k m = record {
   listed = AreEntries-merged t some others a.entries b.entries c.entries h.listed k.listed m.entries;
   marked = (
     λ p. elim (either_cases a.race b.race (sym m.race ∙ p)) [
-      | inl q ↦ (let one = h.marked.0 q in (one.0, in_some (some one.0) (others one.0) one.1, one.2))
-      | inr q ↦ (let one = k.marked.0 q in (one.0, in_other (some one.0) (others one.0) one.1, one.2))
+      | inl q ↦ (let one = h.marked.0 q in (one.0, or_left (some one.0) (others one.0) one.1, one.2))
+      | inr q ↦ (let one = k.marked.0 q in (one.0, or_right (some one.0) (others one.0) one.1, one.2))
     ],
     λ one. m.race ∙ elim (either_cases (some one.0) (others one.0) one.1) [
-      | inl p ↦ in_some a.race b.race (h.marked.1 (one.0, p, one.2))
-      | inr q ↦ in_other a.race b.race (k.marked.1 (one.0, q, one.2))
+      | inl p ↦ or_left a.race b.race (h.marked.1 (one.0, p, one.2))
+      | inr q ↦ or_right a.race b.race (k.marked.1 (one.0, q, one.2))
     ],
   );
 }

@@ -11,8 +11,9 @@ use Rattle.std.specs.declared.cmp.Ordering.TheVariants.{Less, Equal, Greater}
 use Rattle.std.proofs.lemmas.List.Sorted.{Contains-permutation, IsPermutation-sym, ranks_by, sorted_far}
 use Rattle.std.proofs.lemmas.Map.Keys.{IsDistinct-IsPermutation}
 use Rattle.std.proofs.lemmas.Cmp.{nat_list_eq_equiv}
-use Rattle.std.proofs.lemmas.Option.{get_or_from_slice_get, slice_get-get_or, slice_get_within}
+use Rattle.std.proofs.lemmas.Option.{get_or_from_slice_get, same_Some, slice_get-get_or, slice_get_within}
 use native.Mathlib.Numerals.{unary_clauses}
+use Rattle.lit_paths.proofs.Rising.{slice_get-map-known}
 use Rattle.indexmap.specs.IndexMap.{insert_entry}
 use Rattle.lit_search.specs.Report.{Entry, outcome_cmp}
 use Rattle.lit_search.specs.Merge.{AreMerged, HasInEither}
@@ -20,8 +21,7 @@ use Rattle.lit_search.specs.Internal.Risen.{risen}
 use Rattle.lit_search.specs.Internal.Merged.{merged}
 use Rattle.lit_valid.specs.Entry.{HasOutcome}
 use Rattle.lit_search.specs.Internal.Ranks.{are_same}
-use Rattle.lit_search.proofs.Entries.{AreRising, Stands, all_from_each, all_stand, differs, first_stands, later_stands, once, same_rising, stands_cases, stands_in_none}
-use Rattle.lit_search.proofs.MergedEntries.{AreMerged-merged, AreRising-merged}
+use Rattle.lit_search.proofs.MergedEntries.{AreMerged-merged, AreRising-merged, AreRising, Stands, all_from_each, all_stand, differs, first_stands, later_stands, once, same_rising, stands_cases, stands_in_none}
 
 flips : (a b : Entry) → are_same a b ≡ are_same b a
 flips a b = nat_list_eq_equiv.symm a.outcome b.outcome
@@ -36,19 +36,23 @@ stands_alone e w s = elim (stands_cases e w [] s) [ inl is ↦ is | inr t ↦ ab
 
 module _ (xs : List Entry) (e : Entry) (up : AreRising xs) where
   with_one : AreMerged xs (e ∷ []) (merged xs (e ∷ []))
-  with_one = AreMerged-merged xs (e ∷ []) (merged xs (e ∷ [])) up (rises_alone e) refl
+  with_one = AreMerged-merged xs (e ∷ []) up (rises_alone e)
 
   stands_fewer : (w : Entry) → Stands (merged xs (e ∷ [])) w → (w ≡ e) ⊎ Stands xs w
   stands_fewer w s = elim (with_one.of_either w s) [ inl t ↦ inr t | inr t ↦ inl (stands_alone e w t) ]
 
   stands_more : ((y : Entry) → Stands xs y → y.outcome ≢ e.outcome) → (w : Entry) → HasInEither xs (e ∷ []) w → Stands (merged xs (e ∷ [])) w
-  stands_more new w h = let m = with_one.whole w h in subst (λ (v : Entry). Stands (merged xs (e ∷ [])) v) (one m.0 (with_one.of_either m.0 m.1) h m.2) m.1
-    where
-      one : (v : Entry) → HasInEither xs (e ∷ []) v → HasInEither xs (e ∷ []) w → v.outcome ≡ w.outcome → v ≡ w
-      one v (inl s) (inl t) same = once xs up v w s t same
-      one v (inl s) (inr t) same = absurd (new v s (same ∙ ap (λ (y : Entry). y.outcome) (stands_alone e w t)))
-      one v (inr s) (inl t) same = absurd (new w t (sym same ∙ ap (λ (y : Entry). y.outcome) (stands_alone e v s)))
-      one v (inr s) (inr t) same = stands_alone e v s ∙ sym (stands_alone e w t)
+  stands_more new w h =
+      let m = with_one.whole w h in
+      let its : (v : Entry) → v ≡ e → v.outcome ≡ e.outcome = λ v is. ap (λ (y : Entry). y.outcome) is in
+      let is : m.0 ≡ w = elim (with_one.of_either m.0 m.1) [
+        | inl s ↦ elim h [ inl t ↦ once xs up m.0 w s t m.2 | inr t ↦ absurd (new m.0 s (m.2 ∙ its w (stands_alone e w t))) ]
+        | inr s ↦ elim h [
+          | inl t ↦ absurd (new w t (sym m.2 ∙ its m.0 (stands_alone e m.0 s)))
+          | inr t ↦ stands_alone e m.0 s ∙ sym (stands_alone e w t)
+        ]
+      ] in
+      subst (λ (v : Entry). Stands (merged xs (e ∷ [])) v) is m.1
 
 -- ---- entries made to rise
 pub rises : (es : List Entry) → AreRising (risen es)
@@ -88,14 +92,14 @@ kept_from es outcome o = let s = risen_from es o.entry (o.place, o.is) in record
 pub kept_to : (es : List Entry) (outcome : List ℕ) → HasOutcome es outcome → HasOutcome (risen es) outcome
 kept_to [] outcome o = o
 kept_to (x ∷ xs) outcome o =
-    by (stands_cases x o.entry xs (o.place, o.is)) (λ t. kept_to xs outcome (record { place = t.0; entry = o.entry; is = t.1; same = o.same }))
-  where
-    there : (v : Entry) → HasInEither (risen xs) (x ∷ []) v → v.outcome ≡ outcome → HasOutcome (merged (risen xs) (x ∷ [])) outcome
-    there v h is = let m = (with_one (risen xs) x (rises xs)).whole v h in record { place = m.1.0; entry = m.0; is = m.1.1; same = m.2 ∙ is }
-
-    by : (o.entry ≡ x) ⊎ Stands xs o.entry → (Stands xs o.entry → HasOutcome (risen xs) outcome) → HasOutcome (merged (risen xs) (x ∷ [])) outcome
-    by (inl is) later = there x (inr (0, refl)) (sym (ap (λ (v : Entry). v.outcome) is) ∙ o.same)
-    by (inr t) later = let k = later t in there k.entry (inl (k.place, k.is)) k.same
+    let there : (v : Entry) → HasInEither (risen xs) (x ∷ []) v → v.outcome ≡ outcome → HasOutcome (merged (risen xs) (x ∷ [])) outcome =
+    λ v h is. let m = (with_one (risen xs) x (rises xs)).whole v h in record { place = m.1.0; entry = m.0; is = m.1.1; same = m.2 ∙ is } in
+    elim (stands_cases x o.entry xs (o.place, o.is)) [
+      | inl is ↦ there x (inr (0, refl)) (sym (ap (λ (v : Entry). v.outcome) is) ∙ o.same)
+      | inr t ↦
+          let k = kept_to xs outcome (record { place = t.0; entry = o.entry; is = t.1; same = o.same }) in
+          there k.entry (inl (k.place, k.is)) k.same
+    ]
 
 -- ---- sorted entries
 stands_moved : (xs ys : List Entry) → IsPermutation xs ys → (w : Entry) → Stands xs w → Stands ys w
@@ -105,9 +109,9 @@ stands_moved xs ys moved w s =
 
 module _ {A : Type 0} (f : A → Entry) where
   at_place : (xs : List A) (k : ℕ) (d : A) (y : Entry) → slice_get (map f xs) k ≡ Some y → (k < length xs) × (f (slice_index_or xs k d) ≡ y)
-  at_place [] k d y is = absurd (let e = is in cc)
-  at_place (x ∷ xs) zero d y is = (omega arith, (let e : Some (f x) ≡ Some y = is in cc))
-  at_place (x ∷ xs) (suc k) d y is = let h = at_place xs k d y is in (omega (arith, h.0), h.1)
+  at_place xs k d y is =
+      let h = slice_get-map-known f xs k y is in
+      (slice_get_within xs k h.0 h.1, ap f (get_or_from_slice_get xs k h.0 d h.1) ∙ h.2)
 
   -- those that are sorted, and of which no two have one outcome, rise
   sorted_rise : (xs : List A) → IsSortedBy (λ a b. is_lt (outcome_cmp (f a) (f b))) xs → IsDistinct are_same (map f xs) → AreRising (map f xs)
@@ -153,25 +157,25 @@ module _ {K X : Type 0} (key : K → List ℕ) (choice : X → ℕ) (order : X �
   -- what a look-up of an outcome says
   found_from : (outcome : List ℕ) (es : List (K × X)) → IsTrue (is_some (lookup (λ k. pointwise nat_eq outcome (key k)) es)) → HasOutcome (map kept es) outcome
   found_from outcome [] h = absurd (let e : false ≡ true = h in cc)
-  found_from outcome (p ∷ es) h = by (pointwise nat_eq outcome (key p.0)) refl h (found_from outcome es)
-    where
-      by : (b : Bool) → pointwise nat_eq outcome (key p.0) ≡ b → IsTrue (is_some (cond b (Some p.1) (lookup (λ k. pointwise nat_eq outcome (key k)) es)))
-          → (IsTrue (is_some (lookup (λ k. pointwise nat_eq outcome (key k)) es)) → HasOutcome (map kept es) outcome) → HasOutcome (kept p ∷ map kept es) outcome
-      by true e k later = record { place = 0; entry = kept p; is = refl; same = sym (same_text outcome (key p.0) (sym e)) }
-      by false e k later = let o = later k in record { place = suc o.place; entry = o.entry; is = o.is; same = o.same }
+  found_from outcome (p ∷ es) h =
+      let rest = lookup (λ k. pointwise nat_eq outcome (key k)) es in
+      (elim (pointwise nat_eq outcome (key p.0)) as (λ b. pointwise nat_eq outcome (key p.0) ≡ b → IsTrue (is_some (cond b (Some p.1) rest))
+      → HasOutcome (kept p ∷ map kept es) outcome) [
+        | true ↦ λ e k. record { place = 0; entry = kept p; is = refl; same = sym (same_text outcome (key p.0) (sym e)) }
+        | false ↦ λ e k. let o = found_from outcome es k in record { place = suc o.place; entry = o.entry; is = o.is; same = o.same }
+      ]) refl h
 
   found_to : (outcome : List ℕ) (es : List (K × X)) (i : ℕ) (entry : Entry) → slice_get (map kept es) i ≡ Some entry → entry.outcome ≡ outcome → IsTrue (is_some (lookup (λ k. pointwise nat_eq outcome (key k)) es))
   found_to outcome [] i entry is same = absurd (let e = is in cc)
   found_to outcome (p ∷ es) zero entry is same =
-      let here : kept p ≡ entry = (let e : Some (kept p) ≡ Some entry = is in cc) in
-      let equal : key p.0 ≡ outcome = ap (λ (e : Entry). e.outcome) here ∙ same in
-      let P : List ℕ → Type 0 = λ o. pointwise nat_eq outcome o ≡ true in
-      rw (subst P (sym equal) (nat_list_eq_equiv.refl outcome)) refl
-  found_to outcome (p ∷ es) (suc i) entry is same = by (pointwise nat_eq outcome (key p.0)) (found_to outcome es i entry is same)
-    where
-      by : (b : Bool) → IsTrue (is_some (lookup (λ k. pointwise nat_eq outcome (key k)) es)) → IsTrue (is_some (cond b (Some p.1) (lookup (λ k. pointwise nat_eq outcome (key k)) es)))
-      by true h = refl
-      by false h = h
+      let equal : key p.0 ≡ outcome = ap (λ (e : Entry). e.outcome) (same_Some (kept p) entry is) ∙ same in
+      rw (subst (λ o. pointwise nat_eq outcome o ≡ true) (sym equal) (nat_list_eq_equiv.refl outcome)) refl
+  found_to outcome (p ∷ es) (suc i) entry is same =
+      elim (pointwise nat_eq outcome (key p.0)) as (λ b. IsTrue
+      (is_some (cond b (Some p.1) (lookup (λ k. pointwise nat_eq outcome (key k)) es)))) [
+        | true ↦ refl
+        | false ↦ found_to outcome es i entry is same
+      ]
 
   pub has_kept : (outcome : List ℕ) (es : List (K × X)) → IsTrue (is_some (lookup (λ k. pointwise nat_eq outcome (key k)) es)) ↔ HasOutcome (map kept es) outcome
   has_kept outcome es = (found_from outcome es, λ o. found_to outcome es o.place o.entry o.is o.same)
@@ -180,10 +184,9 @@ module _ {K X : Type 0} (key : K → List ℕ) (choice : X → ℕ) (order : X �
   pub put_new : (es : List (K × X)) (k : K) (x : X) → ¬ HasOutcome (map kept es) (key k) → map kept (insert_entry key_eq es k x) ≡ map kept es ++ kept (k, x) ∷ []
   put_new [] k x new = refl
   put_new (p ∷ es) k x new =
-      by (key_eq k p.0) refl
-      (put_new es k x (λ o. new (record { place = suc o.place; entry = o.entry; is = o.is; same = o.same })))
-    where
-      by : (b : Bool) → key_eq k p.0 ≡ b → map kept (insert_entry key_eq es k x) ≡ map kept es ++ kept (k, x) ∷ []
-          → map kept (cond b ((p.0, x) ∷ es) (p ∷ insert_entry key_eq es k x)) ≡ kept p ∷ (map kept es ++ kept (k, x) ∷ [])
-      by true e rest = absurd (new (record { place = 0; entry = kept p; is = refl; same = sym (same_text (key k) (key p.0) (sym e)) }))
-      by false e rest = ap (λ (ys : List Entry). kept p ∷ ys) rest
+      (elim (key_eq k p.0) as (λ b. key_eq k p.0 ≡ b
+      → map kept (cond b ((p.0, x) ∷ es) (p ∷ insert_entry key_eq es k x)) ≡ kept p ∷ (map kept es ++ kept (k, x) ∷ [])) [
+        | true ↦ λ e. absurd (new (record { place = 0; entry = kept p; is = refl; same = sym (same_text (key k) (key p.0) (sym e)) }))
+        | false ↦ λ e. ap (λ (ys : List Entry). kept p ∷ ys)
+            (put_new es k x (λ o. new (record { place = suc o.place; entry = o.entry; is = o.is; same = o.same })))
+      ]) refl

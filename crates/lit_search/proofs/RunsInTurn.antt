@@ -1,17 +1,17 @@
--- The execution of an interleaving: the runs of its agents, and the last writers before each read.
-use Rattle.std.proofs.Common.{◌≡◌, ◌⊎◌, inl, inr, ℕ, ◌+◌, ◌<◌, ◌≤◌, Bool, true, false, Option, Some, None, List, [], ◌∷◌, ◌++◌, length, map, take, flat_map, get_or, refl, sym, ap, ap₂, subst, ◌∙◌, arith, append_assoc, length-append}
-use Rattle.std.specs.Prelude.{◌&&◌, if◌then◌else◌, replicate, slice_get}
+-- The execution of an interleaving: the runs of its agents, and the last writers before each read. It is valid, and reported.
+use Rattle.std.proofs.Common.{◌≡◌, inl, inr, ℕ, ◌+◌, ◌<◌, ◌≤◌, true, false, Option, Some, None, List, [], ◌∷◌, ◌++◌, length, map, take, flat_map, get_or, refl, sym, ap, ap₂, subst, ◌∙◌, arith, append_assoc, length-append}
+use Rattle.std.specs.Prelude.{◌&&◌, if◌then◌else◌, replicate, slice_get, All, nat_le, nat_lt}
 use Rattle.std.specs.List.{range_with_len}
-use Rattle.std.proofs.lemmas.Bool.{cases_lt}
-use Rattle.std.proofs.lemmas.List.{get_or-map, length-map, same_lists, take-append-le, take-map, take_all}
+use Rattle.std.proofs.lemmas.Bool.{cases_lt, and_from, le-leb, lt-ltb}
+use Rattle.std.proofs.lemmas.List.{get_or_past, get_or-map, length-map, same_lists, take-append-le, take-map, take_all}
 use Rattle.std.proofs.lemmas.List.Elements.{filter-append}
 use Rattle.std.proofs.lemmas.List.FromFn.{get_or-map-range_with_len, length-map-range_with_len}
 use Rattle.std.proofs.lemmas.Option.{get_or_from_slice_get, slice_get_within}
 use Rattle.lit_read.specs.Syntax.{End, IsLitmus, Litmus, agent_of}
 use Rattle.lit_paths.specs.declared.event.Event.{Event}
-use Rattle.lit_paths.specs.Choice.{events_of}
+use Rattle.lit_paths.specs.Choice.{events_of, choices_of}
 use Rattle.lit_paths.specs.Event.{does_read, event_at}
-use Rattle.lit_paths.specs.Execution.{Execution, IsCandidateExecution, execution_outcome}
+use Rattle.lit_paths.specs.Execution.{Execution, IsCandidateExecution, execution_outcome, execution_choice, execution_events}
 use Rattle.lit_paths.specs.Outcome.{outcome_of}
 use Rattle.lit_paths.specs.Path.{IsWalk, Path, decisions_on, events_on}
 use Rattle.lit_paths.specs.Plan.{accesses_on}
@@ -20,20 +20,20 @@ use Rattle.lit_paths.proofs.Products.{slice_get_right}
 use Rattle.lit_paths.proofs.Rising.{slice_get-map-found, slice_get-map-known}
 use Rattle.lit_rel.specs.InitReads.{AreOfEvents}
 use Rattle.lit_rel.specs.ReadsFrom.{value_of}
-use Rattle.lit_search.specs.InTurn.{makers_of}
+use Rattle.lit_search.specs.InTurn.{makers_of, HasExecution, IsReported}
 use Rattle.lit_search.specs.Interleaving.{Progress, beginning, ending, interleaved, progress_of}
 use Rattle.lit_search.specs.Sequential.{IsSequential}
-use Rattle.lit_valid.specs.ValidExecution.{HasValidChosenReads, read_numbers_from}
+use Rattle.lit_valid.specs.ValidExecution.{HasValidChosenReads, read_numbers_from, IsValidExecution}
 use Rattle.lit_search.proofs.ActLemmas.{after_event, found_at, found_in_turn, is_owned_by, same_agent}
-use Rattle.lit_search.proofs.BlockLemmas.{block_after, value_found}
-use Rattle.lit_search.proofs.FutureLemmas.{Future, ending_agents, no_progress, own_events, past_all}
+use Rattle.lit_search.proofs.FutureLemmas.{Future, ending_agents, no_progress, own_events, interleaving_future}
 use Rattle.lit_search.proofs.MomentLemmas.{at_first}
-use Rattle.lit_search.proofs.NumberedActs.{IsOwn, kept_at, number_in_lists, own_at, owner_is, start_in, timeline}
-use Rattle.lit_search.proofs.OwnAccesses.{AreAccessesOf, accesses_of}
 use Rattle.lit_valid.proofs.RunLemmas.{maps, no_run}
 use Rattle.lit_valid.proofs.Takings.{read_numbers-accesses, taken_each, taken_together}
-use Rattle.lit_search.proofs.TimeLemmas.{IsTimeline, order_in_turn, owners_in_turn}
-use Rattle.lit_search.proofs.WriterLemmas.{are_sources, sequential, sources_in_turn}
+use Rattle.lit_search.proofs.TimeLemmas.{IsTimeline, order_in_turn, owners_in_turn, AreAccessesOf, accesses_of, kept_at, number_in_lists, own_at, owner_is, start_in, timeline}
+use Rattle.lit_search.proofs.WriterLemmas.{are_sources, sequential, sources_in_turn, block_after, value_found}
+use Rattle.lit_order.specs.MemoryOrder.{IsMemoryOrder}
+use Rattle.lit_search.specs.Report.{IsReport, Report, in_range}
+use Rattle.lit_valid.specs.Laws.{Laws}
 
 block_more : (block : List ℕ) (es : List Event) (e : Event) → block_after block (es ++ e ∷ []) ≡ after_event e (block_after block es)
 block_more block [] e = refl
@@ -48,7 +48,7 @@ module _ (t : Litmus) (schedule : List ℕ) (litmus : IsLitmus t) (future : Futu
 
   abbrev pub run_of : ℕ → Run
   run_of i = record {
-    values = (future.course i).values;
+    values = found_in_turn i (replicate t.bytes 0) acts;
     decisions = decisions_on (future.course i).steps;
     events = own_events i acts;
     registers = (progress_of (ending t schedule) i).registers;
@@ -86,7 +86,8 @@ module _ (t : Litmus) (schedule : List ℕ) (litmus : IsLitmus t) (future : Futu
           walked = walked i lt;
           taken = ap (λ (es : List Event). record { decisions = decisions_on c.steps; events = es }) same;
         };
-        agrees = subst (λ (p : Progress). AgreesWith c.steps p.registers c.values (progress_of (ending t schedule) i).registers) (begun i lt) c.agrees;
+        agrees = subst (λ (p : Progress). AgreesWith c.steps p.registers (run_of i).values (progress_of (ending t schedule) i).registers)
+            (begun i lt) c.agrees;
       }
 
   -- ---- the acts as a timeline
@@ -103,28 +104,23 @@ module _ (t : Litmus) (schedule : List ℕ) (litmus : IsLitmus t) (future : Futu
   no_more : (i : ℕ) → count ≤ i → own_events i acts ≡ []
   no_more i past =
       let c = future.course i in
-      let ended : progress_of (beginning t) i ≡ no_progress = past_all (beginning t).agents i (omega (arith, past, length-map t.agents at_first)) in
+      let ended : progress_of (beginning t) i ≡ no_progress = get_or_past (beginning t).agents i no_progress
+      (omega (arith, past, length-map t.agents at_first)) in
       let none : c.steps ≡ [] = subst (λ (p : Progress). IsWalk p.left c.steps) ended c.walked in
       c.own ∙ ap (events_on i 0) none
 
   owned : (k : ℕ) (e : Event) → slice_get acts k ≡ Some e → (i : ℕ) × (i < length lists) × (e.owner ≡ Some i)
-  owned k e at = by (cases_lt i count)
-    where
-      maker : (i : ℕ) × (slice_get (makers_of t schedule) k ≡ Some i) × (Some i ≡ e.owner)
-      maker = slice_get-map-known (λ (agent : ℕ). Some agent) (makers_of t schedule) k e.owner (ap (λ (os : List (Option ℕ)). slice_get os k) (sym future.made_by) ∙ slice_get-map-found (λ (x : Event). x.owner) acts k e at)
-
-      i : ℕ
-      i = maker.0
-
-      is : e.owner ≡ Some i
-      is = sym maker.2
-
-      by : (i < count) ⊎ (count ≤ i) → (i : ℕ) × (i < length lists) × (e.owner ≡ Some i)
-      by (inl lt) = (i, omega (arith, lt, all_lists), is)
-      by (inr past) =
-          let there = kept_at (λ (x : Event). is_owned_by i x.owner) acts k e at (ap (is_owned_by i) is ∙ same_agent i) in
-          let inside = slice_get_within (own_events i acts) (length (own_events i (take k acts))) e there in
-          absurd (omega (arith, inside, ap (λ (es : List Event). length es) (no_more i past)))
+  owned k e at =
+      let maker = slice_get-map-known (λ (agent : ℕ). Some agent) (makers_of t schedule) k e.owner
+      (ap (λ (os : List (Option ℕ)). slice_get os k) (sym future.made_by) ∙ slice_get-map-found (λ (x : Event). x.owner) acts k e at) in
+      let i = maker.0 in
+      elim (cases_lt i count) [
+        | inl lt ↦ (i, omega (arith, all_lists), sym maker.2)
+        | inr past ↦
+            let there = kept_at (λ (x : Event). is_owned_by i x.owner) acts k e at (ap (is_owned_by i) (sym maker.2) ∙ same_agent i) in
+            let inside = slice_get_within (own_events i acts) (length (own_events i (take k acts))) e there in
+            absurd (omega (arith, inside, ap (λ (es : List Event). length es) (no_more i past)))
+      ]
 
   abbrev pub events : List Event
   events = events_of t.bytes lists
@@ -152,60 +148,37 @@ module _ (t : Litmus) (schedule : List ℕ) (litmus : IsLitmus t) (future : Futu
       → found_in_turn i (block_after (replicate t.bytes 0) before) rest ≡ map value (read_numbers_from ((t.bytes + start_in lists i) + length (own_events i before)) (own_events i rest))
   taken_in_turn i lt before [] is = refl
   taken_in_turn i lt before (e ∷ es) is =
-      by (is_owned_by i e.owner) refl (taken_in_turn i lt (before ++ e ∷ []) es (is ∙ sym (append_assoc before (e ∷ []) es)))
-    where
-      k : ℕ
-      k = length before
-
-      at : slice_get acts k ≡ Some e
-      at = ap (λ (xs : List Event). slice_get xs k) is ∙ slice_get_right before (e ∷ es) k 0 (let e : k ≡ length before + 0 = omega arith in e)
-
-      front : take k acts ≡ before
-      front = ap (take k) is ∙ take-append-le k before (e ∷ es) (omega arith) ∙ take_all k before (omega arith)
-
-      block : List ℕ
-      block = block_after (replicate t.bytes 0) before
-
-      n : ℕ
-      n = (t.bytes + start_in lists i) + length (own_events i before)
-
-      later : ℕ → List ℕ
-      later m = map value (read_numbers_from m (own_events i es))
-
-      rest_found : List ℕ
-      rest_found = found_in_turn i (after_event e block) es
-
-      passed : (o : Bool) → is_owned_by i e.owner ≡ o → length (own_events i (before ++ e ∷ [])) ≡ length (own_events i before) + (if o then 1 else 0)
-      passed o h =
-          ap (λ (xs : List Event). length xs) (filter-append (λ (x : Event). is_owned_by i x.owner) before (e ∷ []))
-          ∙ length-append (own_events i before) (own_events i (e ∷ []))
-          ∙ ap (λ (m : ℕ). length (own_events i before) + m) (ap (λ (b : Bool). length (if b then e ∷ [] else [])) h ∙ each o)
-        where
-          each : (b : Bool) → length {A = Event} (if b then e ∷ [] else []) ≡ (if b then 1 else 0)
-          each true = refl
-          each false = refl
-
-      by : (o : Bool) → is_owned_by i e.owner ≡ o
-          → found_in_turn i (block_after (replicate t.bytes 0) (before ++ e ∷ [])) es ≡ map value (read_numbers_from ((t.bytes + start_in lists i) + length (own_events i (before ++ e ∷ []))) (own_events i es))
-          → (if o && does_read e.kind then found_at e block ∷ rest_found else rest_found) ≡ map value (read_numbers_from n (if o then e ∷ own_events i es else own_events i es))
-      by false h again =
-          let same : (t.bytes + start_in lists i) + length (own_events i (before ++ e ∷ [])) ≡ n = omega (arith, passed false h) in
-          ap (λ (b : List ℕ). found_in_turn i b es) (sym (block_more (replicate t.bytes 0) before e)) ∙ again ∙ ap later same
-      by true h again =
-          let same : (t.bytes + start_in lists i) + length (own_events i (before ++ e ∷ [])) ≡ n + 1 = omega (arith, passed true h) in
-          on (does_read e.kind) refl (ap (λ (b : List ℕ). found_in_turn i b es) (sym (block_more (replicate t.bytes 0) before e)) ∙ again ∙ ap later same)
-        where
-          mine : IsOwn t.bytes acts lists own made owned k e i
-          mine = own_at t.bytes acts lists own made owned k e i (omega (arith, lt, all_lists)) at (owner_is i e.owner h)
-
-          on : (r : Bool) → does_read e.kind ≡ r → rest_found ≡ later (n + 1) → (if r then found_at e block ∷ rest_found else rest_found) ≡ map value (if r then n ∷ read_numbers_from (n + 1) (own_events i es) else read_numbers_from (n + 1) (own_events i es))
-          on false reads rest = rest
-          on true reads rest =
-              let here : found_at e block ≡ value n =
-              ap (λ (xs : List Event). found_at e (block_after (replicate t.bytes 0) xs)) (sym front)
-              ∙ sym (value_found t.bytes events acts number in_time k e at reads)
-              ∙ ap value (mine.numbered ∙ ap (λ (xs : List Event). (t.bytes + start_in lists i) + length (own_events i xs)) front) in
-              ap₂ (λ (v : ℕ) (vs : List ℕ). v ∷ vs) here rest
+      let k = length before in
+      let at : slice_get acts k ≡ Some e = ap (λ (xs : List Event). slice_get xs k) is ∙ slice_get_right before (e ∷ es) k 0
+      (let e : k ≡ length before + 0 = omega arith in e) in
+      let front : take k acts ≡ before = ap (take k) is ∙ take-append-le k before (e ∷ es) (omega arith)
+      ∙ take_all k before (omega arith) in
+      let block = block_after (replicate t.bytes 0) before in
+      let base = t.bytes + start_in lists i in
+      let n = base + length (own_events i before) in
+      let found = found_in_turn i (after_event e block) es in
+      let later : ℕ → List ℕ = λ m. map value (read_numbers_from m (own_events i es)) in
+      let next = base + length (own_events i (before ++ e ∷ [])) in
+      let long : length (own_events i (before ++ e ∷ [])) ≡ length (own_events i before) + length (own_events i (e ∷ [])) =
+      ap (λ (xs : List Event). length xs) (filter-append (λ (x : Event). is_owned_by i x.owner) before (e ∷ []))
+      ∙ length-append (own_events i before) (own_events i (e ∷ [])) in
+      let again : found ≡ later next = ap (λ (b : List ℕ). found_in_turn i b es) (sym (block_more (replicate t.bytes 0) before e))
+      ∙ taken_in_turn i lt (before ++ e ∷ []) es (is ∙ sym (append_assoc before (e ∷ []) es)) in
+      (elim (is_owned_by i e.owner) as (λ o. is_owned_by i e.owner ≡ o → (if o && does_read e.kind then found_at e block ∷ found else found)
+      ≡ map value (read_numbers_from n (if o then e ∷ own_events i es else own_events i es))) [
+        | false ↦ λ h. let same : next ≡ n = omega (arith, rw h at long) in again ∙ ap later same
+        | true ↦ λ h.
+            let mine = own_at t.bytes acts lists own made owned k e i (omega (arith, all_lists)) at (owner_is i e.owner h) in
+            let same : next ≡ n + 1 = omega (arith, rw h at long) in
+            (elim (does_read e.kind) as (λ r. does_read e.kind ≡ r → (if r then found_at e block ∷ found else found)
+            ≡ map value (if r then n ∷ read_numbers_from (n + 1) (own_events i es) else read_numbers_from (n + 1) (own_events i es))) [
+              | false ↦ λ reads. again ∙ ap later same
+              | true ↦ λ reads. ap₂ (λ (v : ℕ) (vs : List ℕ). v ∷ vs)
+                  (ap (λ (xs : List Event). found_at e (block_after (replicate t.bytes 0) xs)) (sym front)
+                  ∙ sym (value_found t.bytes events acts number in_time k e at reads)
+                  ∙ ap value (mine.numbered ∙ ap (λ (xs : List Event). base + length (own_events i xs)) front)) (again ∙ ap later same)
+            ]) refl
+      ]) refl
 
   starts : (i : ℕ) → start_in lists i ≡ length (accesses_on (take i (map run_path runs)))
   starts i =
@@ -222,7 +195,7 @@ module _ (t : Litmus) (schedule : List ℕ) (litmus : IsLitmus t) (future : Futu
       taken_together value t.bytes runs (taken_each value t.bytes runs (λ i run at.
       let w = which i run at in
       subst (λ (r : Run). r.values ≡ map value (read_numbers_from (t.bytes + length (accesses_on (take i (map run_path runs)))) r.events)) w.1
-      (sym (future.course i).found ∙ taken_in_turn i w.0 [] acts refl
+      (taken_in_turn i w.0 [] acts refl
       ∙ ap (λ (m : ℕ). map value (read_numbers_from m (own_events i acts))) (let e : (t.bytes + start_in lists i) + 0 ≡ t.bytes + length (accesses_on (take i (map run_path runs))) = omega (arith, starts i) in e))))
       ∙ sym (ap (map value) (read_numbers-accesses t.bytes (flat_map (λ (es : List Event). es) lists)))
 
@@ -251,3 +224,41 @@ module _ (t : Litmus) (schedule : List ℕ) (litmus : IsLitmus t) (future : Futu
 
   pub in_turn : map (λ e. (event_at events e).owner) order ≡ replicate t.bytes None ++ map (λ agent. Some agent) (makers_of t schedule)
   in_turn = owners_in_turn t.bytes events acts number in_time ∙ ap (λ (os : List (Option ℕ)). replicate t.bytes None ++ os) future.made_by
+
+-- ---- each schedule has a valid execution, and so an entry in the report of all choices
+pub has_execution : ((events : List Event) → AreOfEvents events)
+    → ((t : Litmus) (x : Execution) (order : List ℕ) → IsCandidateExecution t x → HasValidChosenReads t x → IsSequential (execution_events t x) x.sources order
+    → IsValidExecution t x × IsMemoryOrder (execution_events t x) x.sources order)
+    → (t : Litmus) (schedule : List ℕ) → IsLitmus t → All (λ agent. agent < length t.agents) schedule → HasExecution t schedule
+has_execution of law t schedule litmus known =
+    let future = interleaving_future t schedule known (λ agent. 0) in
+    let x = execution t schedule litmus future in
+    let list = order t schedule litmus future in
+    let is = of (events t schedule litmus future) in
+    let both = law t x list (candidate t schedule litmus future is) (chosen_reads t schedule litmus future) (one_order t schedule litmus future is) in (
+      x,
+      list,
+      record {
+        valid = both.0;
+        result = its_outcome t schedule litmus future;
+        sequential = one_order t schedule litmus future is;
+        ordered = both.1;
+        in_turn = in_turn t schedule litmus future;
+      },
+    )
+
+pub is_reported : Laws → (t : Litmus) (schedule : List ℕ) (report : Report) → HasExecution t schedule → IsReport t (in_range 0 (length (choices_of t))) report → IsReported t schedule report
+is_reported laws t schedule report has reports =
+    let x = has.0 in
+    let is = has.2 in
+    let listed = (laws.chosen t).all (execution_choice x) (laws.choice t x is.valid.candidate) in
+    let n = listed.0 in
+    let total = length (choices_of t) in
+    let inside : n < total = slice_get_within (choices_of t) n (execution_choice x) listed.1 in
+    reports.listed.whole n (interleaved t schedule) (and_from (nat_le 0 n) (nat_lt n total) (le-leb 0 n (omega arith)) (lt-ltb n total inside))
+    (record { execution = x; valid = is.valid; chosen = listed.1; result = is.result })
+
+pub some_entry : (t : Litmus) (report : Report) → (All (λ agent. agent < length t.agents) [] → IsReported t [] report) → 1 ≤ length report.entries
+some_entry t report reported =
+    let is = reported (λ k d lt. absurd (omega (arith, lt))) in
+    omega (arith, slice_get_within report.entries is.0 is.1 is.2)

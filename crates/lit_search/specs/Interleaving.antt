@@ -50,14 +50,14 @@ abbrev mutual
 
 -- ---- the next access
 -- statements, and then others
-abbrev pub joined : Statements → Statements → Statements
-joined End others = others
-joined (Then s ss) others = Then s (joined ss others)
+abbrev pub joined_statements : Statements → Statements → Statements
+joined_statements End others = others
+joined_statements (Then s ss) others = Then s (joined_statements ss others)
 
 -- statements whose first one is an access, and then others; where there are none, these instead
 abbrev pub access_or : Statements → (others instead : Statements) → Statements
 access_or End others instead = instead
-access_or (Then s ss) others instead = Then s (joined ss others)
+access_or (Then s ss) others instead = Then s (joined_statements ss others)
 
 -- What is left from the next access on, where the registers hold these: an `if` before it is decided by them, and its
 -- part takes its place. Where no access follows, nothing is left.

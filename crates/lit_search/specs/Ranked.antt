@@ -5,8 +5,8 @@ use Rattle.lit_search.specs.declared.found.ranking.Rank.{Rank}
 use Rattle.lit_search.specs.Report.{Entry}
 
 -- the lists, one behind the other
-abbrev pub joined : List (List Entry) → List Entry
-joined parts = flat_map (λ part. part) parts
+abbrev pub joined_entries : List (List Entry) → List Entry
+joined_entries parts = flat_map (λ part. part) parts
 
 -- past the last one, one with no outcome and no order
 abbrev pub ranked_entry : List Entry → Rank → Entry

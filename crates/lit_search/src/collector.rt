@@ -9,6 +9,7 @@ use crate::found::Found;
 use crate::found::examples::Examples;
 use crate::searching::record;
 use lit_paths::Plan;
+use lit_solve::Heartbeat;
 use std::alloc::Global;
 use std::marker::Model;
 
@@ -68,10 +69,16 @@ impl<'p> Collector<'p> {
         self.plan.total()
     }
 
-    /// Takes the choices with numbers from `from` up to and without `to` besides those taken so far, which have lesser
-    /// numbers: `from` is at least `end()` and at most `to`, and `to` at most `total()`. Answers
-    /// `SearchFault::OutOfMemory` where a growth was refused, and no other fault; the collector is then as it was.
-    pub fn take(&mut self, from: u64, to: u64) -> Result<(), SearchFault>
+    /// Takes the choices with numbers from `from` up to and without `to` besides those taken so far, which have lesser numbers: `from` is
+    /// at least `end()` and at most `to`, and `to` at most `total()`. Answers `SearchFault::OutOfMemory` where a growth was refused, and
+    /// no other fault: its test, `end()` and its report are then as before, so that it may take the same choices again, or others, or give
+    /// the report. Memory that the call took may stay with it until it is dropped.
+    pub fn take<H: Heartbeat>(
+        &mut self,
+        heartbeat: &H,
+        from: u64,
+        to: u64,
+    ) -> Result<(), SearchFault>
         requires follows { self.old.end ≤ from }
         requires order { from ≤ to }
         requires known { to ≤ length (choices_of self.old.test) }
@@ -82,7 +89,7 @@ impl<'p> Collector<'p> {
         ensures refused { OnErr result (self.new ≡ self.old) }
     {
         let count = self.table.len();
-        match record(self.plan, &mut self.table, self.race, from, to) {
+        match record(self.plan, &mut self.table, heartbeat, self.race, from, to) {
             Ok(race) => {
                 self.race = race;
                 self.end = to;
@@ -95,8 +102,7 @@ impl<'p> Collector<'p> {
         }
     }
 
-    /// The report of the choices taken. Answers `SearchFault::OutOfMemory` where a growth was refused, and no other
-    /// fault.
+    /// The report of the choices taken. Answers `SearchFault::OutOfMemory` where a growth was refused, and no other fault.
     pub fn into_found(self) -> Result<Found, SearchFault>
         ensures { IfOk result (λ found. found ≡ self.entry.report) }
     {

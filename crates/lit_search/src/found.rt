@@ -51,7 +51,7 @@ impl Model for Found {
 }
 
 impl Found {
-    ghost use Rattle.std.specs.Prelude.{◌≡◌, ◌<◌, ◌==◌, IfOk, length};
+    ghost use Rattle.std.specs.Prelude.{◌≡◌, ◌<◌, IfOk, length};
     ghost use Rattle.lit_search.specs.Internal.Risen.{risen};
     ghost use Rattle.lit_search.specs.Report.{entry_at};
 
@@ -73,21 +73,11 @@ impl Found {
     }
 
     /// The same outcomes, with another mark of data races.
-    pub(crate) fn marked(self, race: bool) -> Self
+    pub(crate) fn marked(mut self, race: bool) -> Self
         ensures { result ≡ record { entries = self.entries; race = race } }
     {
-        let Found {
-            parts,
-            ranks,
-            count,
-            race: _,
-        } = self;
-        Found {
-            parts,
-            ranks,
-            count,
-            race,
-        }
+        self.race = race;
+        self
     }
 
     /// Whether some valid execution of these choices has a data race (ECMA-262, 2024, 29.9). It takes no memory.
@@ -102,13 +92,6 @@ impl Found {
         ensures { result ≡ length self.now.entries }
     {
         self.ranks.len()
-    }
-
-    /// Whether there is no outcome.
-    pub fn is_empty(&self) -> bool
-        ensures { result ≡ (length self.now.entries == 0) }
-    {
-        self.ranks.is_empty()
     }
 
     /// The values of an outcome, by its place in the rising order, from 0. The place is below `len()`.

@@ -3,7 +3,7 @@
 mod schedules;
 mod sequential;
 
-ghost use Rattle.std.specs.Prelude.{◌≡◌, ℕ, ◌<◌, Bool, List, length};
+ghost use Rattle.std.specs.Prelude.{◌≡◌, ℕ, ◌<◌, Bool, length};
 ghost use Rattle.lit_read.specs.Syntax.{Litmus};
 ghost use Rattle.lit_paths.specs.Choice.{choices_of};
 ghost use Rattle.lit_search.specs.Report.{Report, IsReport};

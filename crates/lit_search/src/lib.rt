@@ -17,5 +17,6 @@ pub use fault::SearchFault;
 pub use found::merging::merge;
 pub use found::{Example, Found, Outcome};
 pub use interleaving::interleave;
+pub use lit_solve::{Heartbeat, NoHeartbeat};
 pub use lit_valid::Class;
 pub use searching::{first_in, search_range};

@@ -18,7 +18,9 @@ use crate::found::Found;
 use crate::found::examples::Examples;
 use lit_paths::{BYTE_READ_LIMIT, Plan};
 use lit_rel::EventSet;
-use lit_solve::{Boxes, Domains, Goal, Problem, exists, least, number_of, outcomes};
+use lit_solve::{
+    Boxes, Domains, Goal, Heartbeat, NoHeartbeat, Problem, exists, least, number_of, outcomes,
+};
 use lit_valid::Class;
 use lit_valid::laws::laws_below;
 use std::alloc::{AllocError, Global};
@@ -87,9 +89,10 @@ fn is_marked_with(problem: &Problem<'_>, domains: &Domains, mark: bool) -> bool
 
 /// Records the outcomes of the choices with numbers from `from` up to and without `to`, all of the problem's combination,
 /// that a table lacks. Whether it was marked, or one of these choices has a data race.
-fn record_on(
+fn record_on<H: Heartbeat>(
     problem: &Problem<'_>,
     table: &mut Examples,
+    heartbeat: &H,
     mark: bool,
     from: u64,
     to: u64,
@@ -107,7 +110,7 @@ fn record_on(
     let mut race = mark;
     for place in 0..boxes.len() {
         boxes.put(place, &mut domains);
-        outcomes(problem, &domains, table)?;
+        outcomes(problem, &domains, table, heartbeat)?;
         race = is_marked_with(problem, &domains, race);
     }
     Ok(race)
@@ -115,9 +118,10 @@ fn record_on(
 
 /// Records the outcomes of the choices with numbers from `from` up to and without `to` that a table lacks. Whether it was
 /// marked, or one of these choices has a data race.
-pub(crate) fn record(
+pub(crate) fn record<H: Heartbeat>(
     plan: &Plan<'_>,
     table: &mut Examples,
+    heartbeat: &H,
     mark: bool,
     from: u64,
     to: u64,
@@ -133,7 +137,7 @@ pub(crate) fn record(
     while next < to {
         let problem = Problem::open(&*plan, plan.combination(next));
         let end = problem.combination().end().min(to);
-        race = record_on(&problem, table, race, next, end)?;
+        race = record_on(&problem, table, heartbeat, race, next, end)?;
         next = end;
     }
     Ok(race)
@@ -152,6 +156,6 @@ pub fn search_range(
     ensures { IfOk result (IsReport plan.now (in_range from to)) }
 {
     let mut collector = Collector::new(alloc, &*plan);
-    collector.take(from, to)?;
+    collector.take(&NoHeartbeat, from, to)?;
     collector.into_found()
 }

@@ -2,7 +2,7 @@
 
 use lit_paths::{Plan, plan};
 use lit_read::read;
-use lit_search::{Class, Collector, Found, first_in, merge, search_range};
+use lit_search::{Class, Collector, Found, NoHeartbeat, first_in, merge, search_range};
 use lit_texts::{
     BOTH_EXCHANGE_FOR_ONE, EQUAL_STORES, LOAD_BUFFERING, LOAD_BUFFERING_ATOMIC, STORE_BUFFERING,
     TYPED_READ,
@@ -94,7 +94,7 @@ fn take_range(
 ) -> Result<(), Fail> {
     assert!(rt; collector.end() <= from);
     assert!(rt; from <= to && to <= collector.total());
-    Ok(collector.take(from, to)?)
+    Ok(collector.take(&NoHeartbeat, from, to)?)
 }
 
 /// A range of a test's choices has its report, by all choices of valid executions.

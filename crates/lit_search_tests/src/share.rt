@@ -14,6 +14,7 @@ use std::thread::Threads;
 mod callers;
 mod gates;
 mod looking;
+mod many_pieces;
 
 /// The report of all choices of a plan by three workers, a choice a piece.
 fn found_by_three(

@@ -1,5 +1,7 @@
 //! What each worker passes on entering a piece.
 
+use lit_search::Heartbeat;
+
 /// What each worker passes on entering each of its pieces. Workers on threads of their own share a gate by reference, so
 /// it sees the pieces as they are entered, and may hold a worker up or tell of its progress. The answer of a search does
 /// not depend on it.
@@ -9,6 +11,21 @@ pub trait Gate: Sync {
 
     /// The worker with this number, from 0, enters the piece with this number.
     fn at(&self, pass: &mut Self::Pass, worker: usize, piece: u64);
+
+    /// A worker that searches for all outcomes still goes on: it calls this often, thousands of times a second.
+    fn alive(&self) {}
+}
+
+/// The heartbeat of a search behind a gate.
+#[derive(Drop)]
+pub(crate) struct GateBeat<'a, G> {
+    pub gate: &'a G,
+}
+
+impl<G: Gate> Heartbeat for GateBeat<'_, G> {
+    fn beat(&self) {
+        self.gate.alive();
+    }
 }
 
 /// A gate that does nothing.

@@ -8,7 +8,7 @@ ghost use Rattle.lit_share.specs.Pieces.{pieces_of, in_pieces};
 ghost use Rattle.lit_share.specs.Drawn.{drawn_since, DrewOn, OnlyDrew};
 
 use crate::fault::ShareFault;
-use crate::gate::Gate;
+use crate::gate::{Gate, GateBeat};
 use crate::limits::CUT_LIMIT;
 use crate::pieces::piece;
 use lit_desk::{Desk, Place};
@@ -44,7 +44,7 @@ pub fn work<G: Gate>(
     while let Some(number) = desk.draw(&mut place) {
         gate.at(&mut pass, worker, number);
         let piece = piece(plan.total(), cut, number);
-        if let Err(fault) = collector.take(piece.start, piece.end) {
+        if let Err(fault) = collector.take(&GateBeat { gate }, piece.start, piece.end) {
             return (place, Err(fault.into()));
         }
     }

@@ -1,8 +1,6 @@
 -- Byte reads whose sources can force nothing.
-use Rattle.std.proofs.Common.{◌≡◌, ◌⊎◌, inl, inr, ℕ, ◌+◌, ◌<◌, ◌≤◌, Option, Some, None, length, subst, sym, ap, ◌∙◌, arith}
-use Rattle.std.specs.Prelude.{IfNone, IfSome, slice_get}
-use Rattle.std.proofs.lemmas.Option.{same_Some}
-use Rattle.lit_paths.specs.ByteReads.{byte_reads}
+use Rattle.lit_solve.proofs.Words.{◌+◌, ◌<◌, arith, byte_reads, IfNone, IfSome, inl, inr, length, None, Option, same_Some, slice_get, Some}
+use Rattle.lit_solve.proofs.Words.{subst, sym, ℕ, ◌≡◌, ◌≤◌, ◌⊎◌}
 use Rattle.lit_solve.specs.Box.{Box, HasSource, box_events}
 use Rattle.lit_solve.specs.Fill.{HasEffect, IsIdle, IsQuiet}
 use Rattle.lit_solve.specs.Given.{HasAlone}
@@ -11,9 +9,7 @@ use Rattle.lit_solve.proofs.FrameLemmas.{below_or_last}
 -- where no source of the byte read at a place has an effect on its read
 pub idle_at : (box : Box) (k r b : ℕ) → slice_get (byte_reads (box_events box)) k ≡ Some (r, b)
     → ((w : ℕ) → HasSource box k w → ¬ HasEffect (box_events box) w r) → IsIdle box k
-idle_at box k r b is_read none q c w is_read_too there effect =
-    let read : q ≡ r = ap (λ (p : ℕ × ℕ). p.0) (same_Some (q, c) (r, b) (sym is_read_too ∙ is_read)) in
-    none w there (subst (λ (x : ℕ). HasEffect (box_events box) w x) read effect)
+idle_at box k r b is_read none q c w is_read_too there effect = grind (arith, same_Some)
 
 -- what is known of the best so far
 pub record IsBestBelow (box : Box) (best : Option ℕ) (n : ℕ) : Type 0 where
@@ -25,15 +21,7 @@ module _ (box : Box) (best : Option ℕ) (n : ℕ) (is : IsBestBelow box best n)
   -- one more that has several sources, one of which can force something
   pub best_more : n < length (byte_reads (box_events box)) → ((w : ℕ) → ¬ HasAlone box n w) → (k : ℕ) → (k ≡ n) ⊎ (best ≡ Some k)
       → IsBestBelow box (Some k) (n + 1)
-  best_more below several k which = record { known = known which; several = several_there which; quiet = tt }
-    where
-      known : (k ≡ n) ⊎ (best ≡ Some k) → k < length (byte_reads (box_events box))
-      known (inl same) = subst (λ (j : ℕ). j < length (byte_reads (box_events box))) (sym same) below
-      known (inr other) = subst (λ (b : Option ℕ). IfSome b (λ k. k < length (byte_reads (box_events box)))) other is.known
-
-      several_there : (k ≡ n) ⊎ (best ≡ Some k) → (w : ℕ) → ¬ HasAlone box k w
-      several_there (inl same) = subst (λ (j : ℕ). (w : ℕ) → ¬ HasAlone box j w) (sym same) several
-      several_there (inr other) = subst (λ (b : Option ℕ). IfSome b (λ k. (w : ℕ) → ¬ HasAlone box k w)) other is.several
+  best_more below several k which = grind arith
 
   -- one more that is quiet
   pub best_kept : ((w : ℕ) × HasAlone box n w) ⊎ IsIdle box n → IsBestBelow box best (n + 1)

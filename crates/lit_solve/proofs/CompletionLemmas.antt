@@ -1,34 +1,18 @@
 -- Completions of a box take what it gives, keep what it forces, and have nothing that it leaves out.
-use Rattle.std.proofs.Common.{◌≡◌, inl, inr, ℕ, ◌<◌, Some, List, [], length, get_or, sym, ap, subst, ◌∙◌, arith, append-nil}
-use Rattle.std.specs.Prelude.{slice_get}
-use Rattle.std.proofs.lemmas.Option.{slice_get-get_or, slice_get_within}
-use Rattle.lit_paths.specs.declared.event.Event.{Event}
-use Rattle.lit_paths.specs.ByteReads.{byte_reads}
-use Rattle.lit_paths.specs.Choice.{AreSources}
-use Rattle.lit_paths.specs.Execution.{Execution, execution_events}
-use Rattle.lit_paths.specs.Plan.{AreEventsIn}
-use Rattle.lit_rel.specs.Broken.{IsBroken}
-use Rattle.lit_rel.specs.Coherent.{HasCoherentReads}
-use Rattle.lit_rel.specs.Forbidden.{IsForbidden}
-use Rattle.lit_rel.specs.Growth.{Grows, IsGivenWhole}
-use Rattle.lit_rel.specs.HappensBefore.{HappensBefore}
-use Rattle.lit_rel.specs.InitReads.{AreOfEvents}
-use Rattle.lit_rel.specs.Part.{PartModel}
-use Rattle.lit_rel.specs.ReadsFrom.{ReadsByteFrom}
-use Rattle.lit_rel.specs.TearFree.{HasTearFreeReads, ReadsWholeBy}
-use Rattle.lit_rel.specs.TestedBytes.{RefusedBytesMakeFalse}
+use Rattle.lit_solve.proofs.Words.{◌<◌, [], ap, AreEventsIn, AreOfEvents, AreSources, arith, byte_reads, Completes, Event, Execution}
+use Rattle.lit_solve.proofs.Words.{execution_events, get_or, Given, Grows, HappensBefore, HasCoherentReads, HasTearFreeReads, inl, inr}
+use Rattle.lit_solve.proofs.Words.{IsBroken, IsForbidden, IsGivenWhole, IsMemoryOrder, Laws, length, List, PartModel, ReadsByteFrom}
+use Rattle.lit_solve.proofs.Words.{ReadsWholeBy, RefusedBytesMakeFalse, slice_get, slice_get-get_or, slice_get_within, Some, StandsBefore}
+use Rattle.lit_solve.proofs.Words.{subst, sym, ℕ, ◌∙◌, ◌≡◌}
+use Rattle.std.proofs.Common.{append-nil}
 use Rattle.lit_rel.proofs.GrowthLemmas.{Grows-from}
 use Rattle.lit_rel.proofs.SameRelations.{between_by, coherent_read_by}
-use Rattle.lit_order.specs.Forcing.{Given}
-use Rattle.lit_order.specs.MemoryOrder.{IsMemoryOrder, StandsBefore}
 use Rattle.lit_order.proofs.ForcedLemmas.{keeps_forced}
-use Rattle.lit_order.proofs.LevelLemmas.{IsForced-grow}
+use Rattle.lit_order.proofs.ForcingLemmas.{IsForced-grow}
 use Rattle.lit_order.proofs.PartLemmas.{triples_below}
 use Rattle.lit_order.proofs.StandingLemmas.{StandsBefore-through, never_before_itself}
-use Rattle.lit_valid.specs.Completion.{Completes}
-use Rattle.lit_valid.specs.Laws.{Laws}
 use Rattle.lit_valid.proofs.CompletionLemmas.{its_events, not_broken}
-use Rattle.lit_solve.specs.Box.{Box, IsBox, box_events}
+use Rattle.lit_solve.specs.Box.{Box, IsBox, LiesIn, box_events}
 use Rattle.lit_solve.specs.Completion.{IsCompletion}
 use Rattle.lit_solve.specs.Given.{GivenIn, HappensBeforeIn, IsForbiddenIn, IsForcedIn}
 use Rattle.lit_solve.specs.Out.{IsOut, IsRefuted}
@@ -36,6 +20,20 @@ use Rattle.lit_solve.specs.Out.{IsOut, IsRefuted}
 -- the box's combination with these sources
 abbrev pub part_of : Box → List ℕ → PartModel
 part_of box sources = record { test = box.test; combination = box.combination; sources = sources }
+
+-- sources that lie in the box take what is given
+pub takes_given : (box : Box) (sources : List ℕ) → AreSources (box_events box) sources → LiesIn box sources → (r b w : ℕ) → GivenIn box r b
+    w
+    → ReadsByteFrom (box_events box) sources r b w
+takes_given box sources sourced lies r b w g =
+    let inside : g.place < length sources =
+    omega (arith, sourced.one_each, slice_get_within (byte_reads (box_events box)) g.place (r, b) g.is_read) in
+    let there : slice_get sources g.place ≡ Some (get_or sources g.place 0) = slice_get-get_or sources g.place 0 inside in (
+      g.place,
+      g.is_read,
+      there ∙ ap (λ (v : ℕ). Some v) (g.alone.alone (get_or sources g.place 0) (lies g.place (get_or sources g.place 0)
+          there)),
+    )
 
 module _ (box : Box) (x : Execution) (is : IsCompletion box x) where
   abbrev events : List Event
@@ -52,21 +50,13 @@ module _ (box : Box) (x : Execution) (is : IsCompletion box x) where
 
   -- it takes what is given
   pub given_taken : (r b w : ℕ) → GivenIn box r b w → ReadsByteFrom events x.sources r b w
-  given_taken r b w g = (
-    g.place,
-    g.is_read,
-    there
-        ∙ ap (λ (v : ℕ). Some v) (g.alone.alone (get_or x.sources g.place 0) (is.within g.place (get_or x.sources g.place 0) there)),
-  )
-    where
-      inside : g.place < length x.sources
-      inside = omega (arith, sourced.one_each, slice_get_within (byte_reads events) g.place (r, b) g.is_read)
-
-      there : slice_get x.sources g.place ≡ Some (get_or x.sources g.place 0)
-      there = slice_get-get_or x.sources g.place 0 inside
+  given_taken = takes_given box x.sources sourced is.within
 
   grows : Grows events (GivenIn box) (ReadsByteFrom events x.sources)
   grows = Grows-from events (GivenIn box) (ReadsByteFrom events x.sources) given_taken
+
+  pub all_given : (r : ℕ) → IsGivenWhole events x.sources r
+  all_given r i b at = omega (arith, sourced.one_each, slice_get_within (byte_reads events) i (r, b) at)
 
   pub order_here : (order : List ℕ) → IsMemoryOrder (execution_events box.test x) x.sources order → IsMemoryOrder events x.sources order
   order_here order o = subst (λ (es : List Event). IsMemoryOrder es x.sources order) events_same o
@@ -95,7 +85,7 @@ module _ (box : Box) (x : Execution) (is : IsCompletion box x) where
     stands : (a d : ℕ) → IsForcedIn box a d → StandsBefore its_order a d
     stands = forced_kept (laws.of_events events) its_order ordered
 
-    whole : ¬ IsBroken (part_of box x.sources)
+    pub whole : ¬ IsBroken (part_of box x.sources)
     whole = not_broken (part_of box x.sources) x completes laws laws.grow laws.stay (record { litmus = entered.litmus; known = entered.known })
 
     -- it has no source that is out
@@ -132,7 +122,4 @@ module _ (box : Box) (x : Execution) (is : IsCompletion box x) where
         taken : (r w : ℕ) → ReadsWholeBy events (GivenIn box) r w → ReadsWholeBy events (ReadsByteFrom events x.sources) r w
         taken r w reads = record { reads = (reads.reads.0, given_taken r reads.reads.0 w reads.reads.1); can = reads.can }
     not_refuted (inr (inr (inr (inl unwritten)))) = whole (inr (inl unwritten))
-    not_refuted (inr (inr (inr (inr (r, given, is_false))))) = whole (inr (inr (r, all_given, is_false x.sources sourced is.within)))
-      where
-        all_given : IsGivenWhole events x.sources r
-        all_given i b at = omega (arith, sourced.one_each, slice_get_within (byte_reads events) i (r, b) at)
+    not_refuted (inr (inr (inr (inr (r, given, is_false))))) = whole (inr (inr (r, all_given r, is_false x.sources sourced is.within)))

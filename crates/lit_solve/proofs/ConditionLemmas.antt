@@ -1,13 +1,7 @@
 -- What a condition comes to by its members, one after the other.
-use Rattle.std.proofs.Common.{◌≡◌, ℕ, ◌<◌, Bool, true, false, List, length, get_or, ◌∙◌, subst, Vec, Global}
-use Rattle.std.specs.List.{list_all, list_any, zip}
-use Rattle.std.proofs.lemmas.List.Folds.{list_all_at, list_any_at}
-use Rattle.lit_read.specs.declared.syntax.Cond.{Cond}
+use Rattle.lit_solve.proofs.Words.{◌<◌, Bool, Cond, Condition, condition_of, Execution, execution_outcome, false, get_or, Global, holds}
+use Rattle.lit_solve.proofs.Words.{length, List, list_all, list_all_at, list_any, list_any_at, names_of, subst, true, Vec, zip, ℕ, ◌∙◌, ◌≡◌}
 use Rattle.lit_read.specs.declared.syntax.Cond as code
-use Rattle.lit_read.specs.Litmus.{condition_of}
-use Rattle.lit_read.specs.Syntax.{Condition}
-use Rattle.lit_paths.specs.Execution.{Execution, execution_outcome}
-use Rattle.lit_paths.specs.Outcome.{holds, names_of}
 use Rattle.lit_paths.proofs.Conditions.{member_holds, holds-All, holds-Any}
 use Rattle.lit_solve.specs.declared.deciding.Decided.{Decided}
 use Rattle.lit_solve.specs.declared.deciding.Decided.TheVariants.{Comes, Hangs}

@@ -1,50 +1,27 @@
 -- How lists between two ends lie in the boxes of these.
-use Rattle.std.proofs.Common.{◌≡◌, ℕ, ◌+◌, ◌-◌, ◌*◌, ◌<◌, ◌≤◌, List, length, Option, Some, None, refl, sym, subst, ◌∙◌, ⊎_elim, arith}
-use Rattle.std.specs.Prelude.{IfSome}
-use Rattle.std.proofs.lemmas.Bool.{cases_order, cases_lt}
+use Rattle.lit_solve.proofs.Words.{◌*◌, ◌+◌, ◌-◌, ◌<◌, arith, cases_lt, cases_order, IfSome, length, List, None, Option, refl, Some, subst}
+use Rattle.lit_solve.proofs.Words.{sym, ℕ, ◌≡◌, ◌≤◌, ⊎_elim}
 use Rattle.lit_solve.specs.Internal.Cut.{IsCut, IsGreaterAt}
 
 -- what goes with l for longer than h does is below h where h leaves l
 pub below_as_low : (l h s : List ℕ) (p k : ℕ) → length l ≡ length s → IsGreaterAt l p h → IsGreaterAt l k s → p < k → IsGreaterAt s p h
-below_as_low l h s p k long part is less = record {
-  same = λ j inside. part.same j inside ∙ sym (is.same j (omega (arith, inside, less)));
-  greater = λ inside. omega (arith, is.same p less, part.greater (omega (arith, inside, long)));
-}
+below_as_low l h s p k long part is less = grind arith
 
 pub above_as_high : (l h s : List ℕ) (p k : ℕ) → IsGreaterAt l p h → IsGreaterAt s k h → p < k → IsGreaterAt l p s
-above_as_high l h s p k part is less = record {
-  same = λ j inside. sym (is.same j (omega (arith, inside, less))) ∙ part.same j inside;
-  greater = λ inside. omega (arith, is.same p less, part.greater inside);
-}
-
--- two lists part at one place only
-not_later : (l h : List ℕ) (p q : ℕ) → IsGreaterAt l p h → IsGreaterAt l q h → q ≤ length l → p < q → ⊥
-not_later l h p q first second inside less = omega (arith, first.greater (omega (arith, inside, less)), second.same p less)
+above_as_high l h s p k part is less = grind arith
 
 one_parting : (l h : List ℕ) (p q : ℕ) → IsGreaterAt l p h → IsGreaterAt l q h → p ≤ length l → q ≤ length l → p ≡ q
-one_parting l h p q first second p_in q_in =
-    ⊎_elim (λ same. same)
-    (λ apart. ⊎_elim (λ less. absurd (not_later l h p q first second q_in less)) (λ more. absurd (not_later l h q p second first p_in more)) apart)
-    (cases_order p q)
+one_parting l h p q first second p_in q_in = grind (arith, cases_order)
 
 -- of what is above l and below h, l and h part where the first of both is left
 parts_low : (l h s : List ℕ) (k e : ℕ) → IsGreaterAt l k s → IsGreaterAt s e h → k < e → IsGreaterAt l k h
-parts_low l h s k e up down less = record {
-  same = λ j inside. down.same j (omega (arith, inside, less)) ∙ up.same j inside;
-  greater = λ inside. omega (arith, up.greater inside, down.same k less);
-}
+parts_low l h s k e up down less = grind arith
 
 parts_high : (l h s : List ℕ) (k e : ℕ) → length l ≡ length s → IsGreaterAt l k s → IsGreaterAt s e h → e < k → IsGreaterAt l e h
-parts_high l h s k e long up down less = record {
-  same = λ j inside. down.same j inside ∙ up.same j (omega (arith, inside, less));
-  greater = λ inside. omega (arith, up.same e less, down.greater (omega (arith, inside, long)));
-}
+parts_high l h s k e long up down less = grind arith
 
 parts_both : (l h s : List ℕ) (k : ℕ) → length l ≡ length s → IsGreaterAt l k s → IsGreaterAt s k h → IsGreaterAt l k h
-parts_both l h s k long up down = record {
-  same = λ j inside. down.same j inside ∙ up.same j inside;
-  greater = λ inside. omega (arith, up.greater inside, down.greater (omega (arith, inside, long)));
-}
+parts_both l h s k long up down = grind arith
 
 -- where the i-th box parts
 abbrev pub parting : (shared lows i : ℕ) → ℕ
@@ -167,28 +144,7 @@ module _ (len shared lows highs : ℕ) (s : List ℕ) (long : length s ≡ len) 
 
   pub between : (low high : Option (List ℕ)) → IsCut len low high shared lows highs → (i : ℕ) → i < lows + 1 + highs
       → IsInCut low high shared lows i s → IsBetween len low high s
-  between None None cut i inside is = record { above = tt; below = tt }
-  between None (Some h) cut i inside is =
-      record {
-        above = tt;
-        below = (
-          parting shared lows i,
-          omega (arith, inside, cut.before.count, cut.behind.count),
-          is.below
-              (omega (arith, cut.before.count)),
-        );
-      }
-  between (Some l) None cut i inside is =
-      record {
-        above = (
-          parting shared lows i,
-          omega (arith, inside, cut.before.count, cut.behind.count),
-          is.above
-              (omega (arith, inside, cut.behind.count)),
-        );
-        below = tt;
-      }
-  between (Some l) (Some h) cut i inside is = between_both l h cut i inside is
+  between low high cut i inside is = grind (arith, between_both)
 
 -- ---- from box to box
 module _ (len shared lows highs : ℕ) (s u : List ℕ) (long : length s ≡ len) (long_too : length u ≡ len) (i j : ℕ) (less : i < j) (inside : j < lows + 1 + highs) where
@@ -198,26 +154,12 @@ module _ (len shared lows highs : ℕ) (s u : List ℕ) (long : length s ≡ len
   -- both before the middle box or there
   rises_before : (l : List ℕ) (high : Option (List ℕ)) → IsCut len (Some l) high shared lows highs → j ≤ lows
       → IsInCut (Some l) high shared lows i s → IsInCut (Some l) high shared lows j u → IsLess
-  rises_before l high cut low first second =
-      let low_long : length l ≡ len = cut.before.long in
-      let count : shared + lows ≡ len = cut.before.count in
-      let later : parting shared lows j < parting shared lows i = omega (arith, less, low) in (
-        parting shared lows j,
-        omega (arith, count, less, low),
-        below_as_low l u s (parting shared lows j) (parting shared lows i) (omega (arith, low_long, long)) (second.above low)
-            (first.above (omega (arith, less, low))) later,
-      )
+  rises_before l high cut low first second = grind arith
 
   -- both behind it or there
   rises_behind : (low : Option (List ℕ)) (h : List ℕ) → IsCut len low (Some h) shared lows highs → lows ≤ i
       → IsInCut low (Some h) shared lows i s → IsInCut low (Some h) shared lows j u → IsLess
-  rises_behind low h cut high first second =
-      let count : shared + highs ≡ len = cut.behind.count in (
-        parting shared lows i,
-        omega (arith, count, less, inside, high),
-        above_as_high s h u (parting shared lows i) (parting shared lows j) (first.below high) (second.below (omega (arith, less, high)))
-            (omega (arith, less, high)),
-      )
+  rises_behind low h cut high first second = grind arith
 
   -- one before it and one behind
   rises_across : (l h : List ℕ) → IsCut len (Some l) (Some h) shared lows highs → i < lows → lows < j
@@ -235,19 +177,8 @@ module _ (len shared lows highs : ℕ) (s u : List ℕ) (long : length s ≡ len
       )
 
   pub rises : (low high : Option (List ℕ)) → IsCut len low high shared lows highs → IsInCut low high shared lows i s → IsInCut low high shared lows j u → IsLess
-  rises None None cut first second = absurd (omega (arith, less, inside, cut.before.count, cut.behind.count))
-  rises None (Some h) cut first second = rises_behind None h cut (omega (arith, cut.before.count)) first second
-  rises (Some l) None cut first second = rises_before l None cut (omega (arith, inside, cut.behind.count)) first second
-  rises (Some l) (Some h) cut first second =
-      ⊎_elim
-      (λ before. ⊎_elim (λ behind. rises_across l h cut before behind first second)
-      (λ not_behind. rises_before l (Some h) cut not_behind first second) (cases_lt lows j))
-      (λ not_before. rises_behind (Some l) h cut not_before first second)
-      (cases_lt i lows)
+  rises low high cut first second = grind (arith, cases_lt, rises_across, rises_before, rises_behind)
 
 -- there are few boxes
 pub few_boxes : (len shared lows highs : ℕ) (low high : Option (List ℕ)) → IsCut len low high shared lows highs → lows + 1 + highs ≤ 2 * len + 1
-few_boxes len shared lows highs None None cut = omega (arith, cut.before.count, cut.behind.count)
-few_boxes len shared lows highs None (Some h) cut = omega (arith, cut.before.count, cut.behind.count)
-few_boxes len shared lows highs (Some l) None cut = omega (arith, cut.before.count, cut.behind.count)
-few_boxes len shared lows highs (Some l) (Some h) cut = omega (arith, cut.before.count, cut.behind.count)
+few_boxes len shared lows highs low high cut = grind arith

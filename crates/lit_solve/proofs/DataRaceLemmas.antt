@@ -1,16 +1,9 @@
 -- Data races of completions, by what a box gives.
-use Rattle.std.proofs.Common.{◌≡◌, ◌≢◌, ◌⊎◌, inl, inr, ℕ, ◌<◌, Some, List, length, refl, sym, ap, subst, ◌∙◌}
-use Rattle.std.specs.Prelude.{slice_get}
-use Rattle.std.proofs.lemmas.Bool.{cases_eq}
-use Rattle.lit_paths.specs.declared.event.Event.{Event}
-use Rattle.lit_paths.specs.ByteReads.{byte_reads}
-use Rattle.lit_paths.specs.Event.{event_at}
-use Rattle.lit_paths.specs.Execution.{Execution, execution_events}
-use Rattle.lit_rel.specs.DataRace.{HasDataRace, WriteOneByte}
-use Rattle.lit_rel.specs.HappensBefore.{HappensBefore}
-use Rattle.lit_rel.specs.ReadsFrom.{ReadsFrom}
+use Rattle.lit_solve.proofs.Words.{◌<◌, ◌==◌, ap, arith, byte_reads, cond, Event, event_at, Execution, execution_events, HappensBefore}
+use Rattle.lit_solve.proofs.Words.{HasDataRace, inl, inr, Laws, length, List, nat_tests, ReadsFrom, refl, slice_get, Some, subst, sym}
+use Rattle.lit_solve.proofs.Words.{WriteOneByte, ℕ, ◌∙◌, ◌≡◌, ◌⊎◌}
+use Rattle.std.specs.Prelude.{Bool, true, false}
 use Rattle.lit_rel.proofs.RaceLemmas.{HasDataRaceOf-wider}
-use Rattle.lit_valid.specs.Laws.{Laws}
 use Rattle.lit_solve.specs.declared.goal.Goal.TheVariants.{Race}
 use Rattle.lit_solve.specs.Box.{Box, IsBox, box_events}
 use Rattle.lit_solve.specs.Completion.{HasSolution, IsCompletion}
@@ -51,36 +44,21 @@ module _ (box : Box) (laws : Laws) (entered : IsBox box) where
   module _ (quiet : IsQuiet box) (coherent : AreCoherentSources box) (x : Execution) (is : IsCompletion box x) where
     -- another takes the sources of one read from elsewhere
     module _ (r : ℕ) (others : List ℕ) (lie : AreSourcesIn box others) (filled : IsFilled box r others) where
-      pick : (q : ℕ) → (q ≡ r) ⊎ (q ≢ r) → List ℕ
-      pick q (inl here) = others
-      pick q (inr elsewhere) = x.sources
-
-      picked : ℕ → List ℕ
-      picked q = pick q (cases_eq q r)
+      abbrev picked : ℕ → List ℕ
+      picked q = cond (q == r) others x.sources
 
       picked_lies : (q : ℕ) → q < length events → AreSourcesIn box (picked q)
-      unfolding pick picked
-      picked_lies q known = by (cases_eq q r)
-        where
-          by : (same_or : (q ≡ r) ⊎ (q ≢ r)) → AreSourcesIn box (pick q same_or)
-          by (inl here) = lie
-          by (inr elsewhere) = sources_lie box x is
+      picked_lies q known = grind (arith, nat_tests, sources_lie)
 
       picked_fills : (q : ℕ) → q < length events → IsFilled box q (picked q)
-      unfolding pick picked
-      picked_fills q known = by (cases_eq q r)
+      picked_fills q known = by (q == r) refl
         where
-          by : (same_or : (q ≡ r) ⊎ (q ≢ r)) → IsFilled box q (pick q same_or)
-          by (inl here) = subst (λ (p : ℕ). IsFilled box p others) (sym here) filled
-          by (inr elsewhere) = filled_by box x is laws entered q
+          by : (here : Bool) → (q == r) ≡ here → IsFilled box q (cond here others x.sources)
+          by true same = let equal : q ≡ r = grind (arith, nat_tests) in subst (λ (p : ℕ). IsFilled box p others) (sym equal) filled
+          by false other = filled_by box x is laws entered q
 
       picked_here : picked r ≡ others
-      unfolding pick picked
-      picked_here = by (cases_eq r r)
-        where
-          by : (same_or : (r ≡ r) ⊎ (r ≢ r)) → pick r same_or ≡ others
-          by (inl here) = refl
-          by (inr elsewhere) = absurd (elsewhere refl)
+      picked_here = grind (arith, nat_tests)
 
       with_fill : (y : Execution) × IsCompletion box y × (y.sources ≡ together box picked)
       with_fill =

@@ -1,19 +1,11 @@
 -- What the sources in a box's domains say of the value of a read, and of what is asked about it.
-use Rattle.std.proofs.Common.{◌≡◌, ◌≢◌, ◌⊎◌, inl, inr, ℕ, suc, ◌+◌, ◌-◌, ◌*◌, ◌^◌, ◌<◌, ◌≤◌, ◌==◌, All, Bool, true, false, cond, Some, None, List, [], ◌∷◌, length, map, filter, zip, get_or, refl, sym, ap, ap₂, subst, ◌∙◌, arith, eq-eqb}
-use Rattle.std.specs.Prelude.{if◌then◌else◌, slice_get, slice_index}
-use Rattle.std.specs.Int.{to_le_bytes, w32}
-use Rattle.std.specs.List.{range_with_len}
-use Rattle.std.proofs.lemmas.Bool.{cases_eq, cases_lt, false≢true, ne_eqb}
-use Rattle.std.proofs.lemmas.Bool.Decides.{nat_tests}
-use Rattle.std.proofs.lemmas.List.{get_or_past, length-map}
-use Rattle.std.proofs.lemmas.List.FromFn.{length-map-range_with_len}
-use Rattle.std.proofs.lemmas.Option.{get_or_from_slice_get, same_Some, slice_get-get_or, slice_get_within}
-use Rattle.lit_paths.specs.declared.event.Event.{Event}
-use Rattle.lit_paths.specs.ByteReads.{byte_read_at, byte_reads}
-use Rattle.lit_paths.specs.Event.{does_read, event_at, no_event, payload_at}
-use Rattle.lit_paths.specs.Path.{payload_of}
-use Rattle.lit_paths.specs.Plan.{AreEventsIn}
-use Rattle.lit_rel.specs.ReadsFrom.{composed, value_of}
+use Rattle.lit_solve.proofs.Words.{◌*◌, ◌+◌, ◌-◌, ◌<◌, ◌==◌, [], ◌^◌, ap, ap₂, AreEventsIn, arith, Bool, byte_read_at, byte_reads, cases_eq}
+use Rattle.lit_solve.proofs.Words.{cases_lt, common_steps, composed, cond, does_read, eq-eqb, Event, event_at, false, false≢true, filter}
+use Rattle.lit_solve.proofs.Words.{get_or, get_or_from_slice_get, get_or_past, if◌then◌else◌, inl, inr, length, length-map}
+use Rattle.lit_solve.proofs.Words.{length-map-range_with_len, List, map, nat_tests, ne_eqb, no_event, None, payload_at, payload_of}
+use Rattle.lit_solve.proofs.Words.{range_with_len, refl, same_Some, slice_get, slice_get-get_or, slice_get_within, slice_index, Some, subst}
+use Rattle.lit_solve.proofs.Words.{suc, sym, to_le_bytes, true, value_of, w32, ℕ, ◌∙◌, ◌∷◌, ◌≡◌, ◌≢◌, ◌≤◌, ◌⊎◌}
+use Rattle.std.proofs.Common.{zip}
 use Rattle.lit_rel.proofs.OwnByteLemmas.{only, only_its}
 use Rattle.lit_rel.proofs.TestedByteLemmas.{false_of}
 use Rattle.lit_solve.specs.declared.deciding.Decided.{Decided}
@@ -25,20 +17,7 @@ use Rattle.lit_solve.specs.Internal.Deciding.{IsByteDecided, IsReadDecided, IsUn
 -- two sources that store different bytes
 pub undecided_by : (box : Box) (k some other : ℕ) → k < length (byte_reads (box_events box)) → HasSource box k some → HasSource box k other
     → stored_for box k some ≢ stored_for box k other → IsUndecidedAt box k
-undecided_by box k some other inside some_there other_there apart =
-    let read = byte_read_at (box_events box) k in record {
-      read = read.0;
-      byte = read.1;
-      is_read = slice_get-get_or (byte_reads (box_events box)) k (0, 0) inside;
-      some = some;
-      other = other;
-      some_there = some_there;
-      other_there = other_there;
-      apart = apart;
-    }
-
-same_if : (a b : ℕ) → (a == b) ≡ true → a ≡ b
-same_if a b is = grind (arith, nat_tests)
+undecided_by box k some other inside some_there other_there apart = grind (arith, common_steps, slice_get-get_or)
 
 -- the byte at a place in a number's four bytes
 pub byte_at : (number : ℕ) (bytes : List ℕ) (offset b first same_first : ℕ) → bytes ≡ to_le_bytes w32 number → offset ≡ b - same_first
@@ -132,19 +111,7 @@ module _ (box : Box) (r number : ℕ) where
 
   module _ (sound : AreEventsIn box.test.bytes (box_events box)) (known : r < length (box_events box)) (reads : does_read (event_at (box_events box) r).kind ≡ true) where
     payload_small : (w b : ℕ) → payload_at (event_at events w) b < 256
-    payload_small w b = by (cases_lt w (length events))
-      where
-        inside : (xs : List ℕ) (i : ℕ) → All (λ x. x < 256) xs → slice_index xs i < 256
-        inside xs i small =
-            elim (cases_lt i (length xs)) [
-              | inl within ↦ small i 0 within
-              | inr past ↦
-                  (let none : slice_index xs i ≡ 0 = get_or_past xs i 0 past in omega (arith, none))
-            ]
-
-        by : (w < length events) ⊎ (length events ≤ w) → payload_at (event_at events w) b < 256
-        by (inl there) = inside (event_at events w).payload (b - (event_at events w).first) (sound.payload w there)
-        by (inr past) = subst (λ (d : Event). payload_at d b < 256) (sym (get_or_past events w no_event past)) (omega arith)
+    payload_small w b = grind (arith, cases_lt, get_or_past)
 
     module _ (sources : List ℕ) (lie : AreSourcesIn box sources) where
       same_number : number < 256 ^ e.size → ((k b w : ℕ) → slice_get (byte_reads events) k ≡ Some (r, b) → HasSource box k w → StoresIt b w)
@@ -173,17 +140,12 @@ module _ (box : Box) (r number : ℕ) where
           ∙ length-map-range_with_len (λ k. (r, e.first + k)) 0 e.size
 
       value_below : value_of events sources r < 256 ^ e.size
-      value_below =
-          subst (λ (n : ℕ). value_of events sources r < 256 ^ n) count
-          (composed_below (λ (p : (ℕ × ℕ) × ℕ). payload_at (event_at events p.1) p.0.1)
-          (filter (λ (p : (ℕ × ℕ) × ℕ). p.0.0 == r) (zip (byte_reads events) sources)) (λ p. payload_small p.1 p.0.1))
+      value_below = grind (arith, composed_below, count, payload_small)
 
     -- ---- what is decided
     -- a number that does not fit
     pub too_large : 256 ^ e.size ≤ number → IsReadDecided box r number (Comes false)
-    too_large large sources lie =
-        let below : value_of events sources r < 256 ^ e.size = value_below sources lie in
-        ne_eqb (value_of events sources r) number (λ same. absurd (omega (arith, below, large, same)))
+    too_large large sources lie = grind (arith, ne_eqb, value_below)
 
     -- another byte at one place
     pub other_byte : (k b : ℕ) → slice_get (byte_reads events) k ≡ Some (r, b) → IsByteDecided box k (byte_for b) (Comes false)
@@ -197,30 +159,9 @@ module _ (box : Box) (r number : ℕ) where
         other_number sources lie k b w at source (λ same. false≢true (sym (none w (lie.within k w source)) ∙ eq-eqb _ _ (sym stored ∙ same)))
 
     pub decided_all : number < 256 ^ e.size → (decided : Decided) → IsDecidedBelow (length (byte_reads events)) decided → IsReadDecided box r number decided
-    decided_all fits (Comes true) each = λ sources lie.
-        eq-eqb _ _ (same_number sources lie fits (λ k b w at there. each k b w (slice_get_within (byte_reads events) k (r, b) at) at there))
-    decided_all fits (Comes false) each = absurd each
-    decided_all fits (Hangs k) hangs = hangs
+    decided_all fits decided each = grind (arith, eq-eqb, same_number, slice_get_within)
 
     -- one place more, of another read or of a byte that is the number's
     pub decided_next : (place : ℕ) (q : ℕ × ℕ) (decided : Decided) → slice_get (byte_reads events) place ≡ Some q
         → (q.0 ≢ r) ⊎ IsByteDecided box place (byte_for q.1) (Comes true) → IsDecidedBelow place decided → IsDecidedBelow (place + 1) decided
-    decided_next place q (Comes true) at same each = λ k b w below here there. by k b w here there (cases_lt k place) (cases_eq k place) below
-      where
-        by : (k b w : ℕ) → slice_get (byte_reads events) k ≡ Some (r, b) → HasSource box k w → (k < place) ⊎ (place ≤ k) → (k ≡ place) ⊎ (k ≢ place)
-            → k < place + 1 → StoresIt b w
-        by k b w here there (inl before) is below = each k b w before here there
-        by k b w here there (inr past) (inr other) below = absurd (omega (arith, past, other, below))
-        by k b w here there (inr past) (inl is) below = last same
-          where
-            its : q ≡ (r, b)
-            its = same_Some q (r, b) (sym at ∙ ap (slice_get (byte_reads events)) (sym is) ∙ here)
-
-            last : (q.0 ≢ r) ⊎ IsByteDecided box place (byte_for q.1) (Comes true) → StoresIt b w
-            last (inl other) = absurd (other (ap (λ (p : ℕ × ℕ). p.0) its))
-            last (inr stored) =
-                ap (λ (p : ℕ × ℕ). payload_at (event_at events w) p.1) (sym its ∙ sym (get_or_from_slice_get (byte_reads events) place q (0, 0) at))
-                ∙ same_if _ _ (stored w (subst (λ (i : ℕ). HasSource box i w) is there))
-                ∙ ap (λ (p : ℕ × ℕ). byte_for p.1) its
-    decided_next place q (Comes false) at same each = each
-    decided_next place q (Hangs k) at same hangs = hangs
+    decided_next place q decided at same each = grind (arith, cases_eq, cases_lt, get_or_from_slice_get, same_Some)

@@ -1,27 +1,15 @@
 -- What is passed over on the way down.
-use Rattle.std.proofs.Common.{◌≡◌, ◌≢◌, ◌⊎◌, ◌↔◌, inl, inr, ℕ, ◌+◌, ◌<◌, ◌≤◌, List, Some, length, get_or, sym, subst, ◌∙◌, arith}
-use Rattle.std.specs.Prelude.{slice_get}
-use Rattle.std.specs.Cmp.Lexicographic.{slice_cmp}
-use Rattle.std.specs.Ordering.{nat_cmp}
-use Rattle.std.specs.declared.cmp.Ordering.TheVariants.{Less}
-use Rattle.std.proofs.lemmas.Bool.{cases_eq, cases_lt}
-use Rattle.std.proofs.lemmas.Option.{get_or_from_slice_get, slice_get-get_or}
-use Rattle.lit_read.specs.Syntax.{Litmus}
-use Rattle.lit_paths.specs.declared.event.Event.{Event}
-use Rattle.lit_paths.specs.ByteReads.{byte_reads}
-use Rattle.lit_paths.specs.Choice.{AreSources}
-use Rattle.lit_paths.specs.Execution.{Execution}
-use Rattle.lit_rel.specs.declared.event_set.EventSet.{EventSet}
-use Rattle.lit_rel.specs.EventSet.{HasEvent, IsSplit}
+use Rattle.lit_solve.proofs.Words.{◌+◌, ◌<◌, arith, byte_reads, cases_eq, cases_lt, EventSet, Execution, get_or, get_or_from_slice_get}
+use Rattle.lit_solve.proofs.Words.{HasEvent, inl, inr, IsSplit, length, Less, List, nat_cmp, slice_cmp, slice_get, slice_get-get_or, Some}
+use Rattle.lit_solve.proofs.Words.{subst, sym, ℕ, ◌↔◌, ◌∙◌, ◌≡◌, ◌≢◌, ◌≤◌, ◌⊎◌}
 use Rattle.lit_solve.specs.declared.goal.Goal.{Goal}
 use Rattle.lit_solve.specs.Box.{Box, HasEmptyDomain, HasSource, IsWithin, box_events}
 use Rattle.lit_solve.specs.Completion.{IsCompletion, IsSolution}
 use Rattle.lit_solve.specs.Given.{HasAlone}
 use Rattle.lit_solve.specs.Fill.{AreSourcesIn}
-use Rattle.lit_solve.specs.Goal.{Meets}
 use Rattle.lit_solve.specs.Internal.Descending.{AreAloneBelow, IsLowest, IsLowestAt, IsPassedAt}
 use Rattle.lit_solve.specs.Internal.Settled.{IsCut}
-use Rattle.lit_solve.proofs.BoxLemmas.{has_source, same_events}
+use Rattle.lit_solve.proofs.BoxLemmas.{has_source}
 use Rattle.lit_solve.proofs.CompletionLemmas.{sourced}
 use Rattle.lit_solve.proofs.FrameLemmas.{below_or_last}
 use Rattle.lit_solve.proofs.LexLemmas.{less_from_place}
@@ -71,15 +59,9 @@ pub alone_more : (box : Box) (n : ℕ) → AreAloneBelow box n → (w : ℕ) × 
 alone_more box n alone one k below = elim (below_or_last k n below) [ inl less ↦ alone k less | inr last ↦ subst (λ (j : ℕ). (w : ℕ) × HasAlone box j w) (sym last) one ]
 
 module _ (first was now : Box) (goal : Goal) (k : ℕ) (to : IsLowest first goal was) (on : IsLowestAt was goal k now) (alone : AreAloneBelow was k) (inside : k < length (byte_reads (box_events was))) where
-  events_now : box_events was ≡ box_events now
-  events_now = same_events now was on.within
-
   -- sources that lie in the box within lie in the other
   lie_out : (sources : List ℕ) → AreSourcesIn now sources → AreSourcesIn was sources
-  lie_out sources lie = record {
-    sourced = subst (λ (es : List Event). AreSources es sources) (sym events_now) lie.sourced;
-    within = λ j w at. on.within.domains j w (lie.within j w at);
-  }
+  lie_out sources lie = grind (arith, sourced)
 
   -- where a solution is passed at the place, all sources that lie in the box are less than its own
   less_than_passed : (x : Execution) → IsCompletion was x → IsPassedAt now k x → (sources : List ℕ) → AreSourcesIn now sources → slice_cmp nat_cmp sources x.sources ≡ Less
@@ -108,19 +90,4 @@ module _ (first was now : Box) (goal : Goal) (k : ℕ) (to : IsLowest first goal
           omega (arith, least, other, less)
 
   pub lowest_on : IsLowest first goal now
-  lowest_on = record {
-    within = record {
-      test = on.within.test ∙ to.within.test;
-      combination = on.within.combination ∙ to.within.combination;
-      domains = λ j w h. to.within.domains j w (on.within.domains j w h);
-    };
-    passed = λ x is. by x is (to.passed x is);
-  }
-    where
-      by : (x : Execution) → IsSolution first goal x → IsCompletion was x ⊎ ((sources : List ℕ) → AreSourcesIn was sources → slice_cmp nat_cmp sources x.sources ≡ Less)
-          → IsCompletion now x ⊎ ((sources : List ℕ) → AreSourcesIn now sources → slice_cmp nat_cmp sources x.sources ≡ Less)
-      by x is (inr less) = inr (λ sources lie. less sources (lie_out sources lie))
-      by x is (inl here) = elim (on.passed x record { completes = here; meets = subst (λ (t : Litmus). Meets t goal x) (sym to.within.test) is.meets }) [
-        | inl kept ↦ inl kept
-        | inr passed ↦ inr (less_than_passed x here passed)
-      ]
+  lowest_on = grind (arith, less_than_passed, lie_out)

@@ -1,17 +1,7 @@
 -- What becomes of a box where one domain is narrowed to what is not out.
-use Rattle.std.proofs.Common.{◌≡◌, ◌≢◌, inl, inr, ℕ, ◌<◌, ◌≤◌, ◌+◌, Some, length, get_or, refl, sym, subst, ◌∙◌, arith}
-use Rattle.std.specs.Prelude.{slice_get, slice_index_or, slice_set}
-use Rattle.std.specs.Int.{bit_at}
-use Rattle.std.specs.List.{sum_by}
-use Rattle.std.proofs.lemmas.Bool.{cases_eq}
-use Rattle.std.proofs.lemmas.List.{get_or-set_other, get_or-set_same}
-use Rattle.std.proofs.lemmas.List.Sums.{sum-map, sum_by-set}
-use Rattle.std.proofs.lemmas.Option.{slice_get-get_or}
-use Rattle.lit_paths.specs.ByteReads.{byte_read_at, byte_reads}
-use Rattle.lit_paths.specs.Execution.{Execution}
-use Rattle.lit_paths.specs.Plan.{AreEventsIn}
-use Rattle.lit_rel.specs.declared.event_set.EventSet.{EventSet}
-use Rattle.lit_rel.specs.EventSet.{HasEvent, no_events}
+use Rattle.lit_solve.proofs.Words.{◌<◌, AreEventsIn, arith, byte_read_at, byte_reads, cases_eq, EventSet, Execution, get_or}
+use Rattle.lit_solve.proofs.Words.{get_or-set_other, get_or-set_same, HasEvent, inl, inr, length, no_events, refl, slice_get}
+use Rattle.lit_solve.proofs.Words.{slice_get-get_or, slice_index_or, slice_set, Some, subst, sum-map, sum_by-set, sym, ℕ, ◌≡◌, ◌≢◌}
 use Rattle.lit_rel.proofs.SetLemmas.{event_or_not, within_le}
 use Rattle.lit_solve.specs.declared.frame.Frame.{Frame}
 use Rattle.lit_solve.specs.Box.{Box, HasEmptyDomain, HasSource, IsBox, IsWithin, box_events}
@@ -59,12 +49,7 @@ module _ (box : Box) (place : ℕ) (left : EventSet) (room : place < length box.
 
   module _ (within : (w : ℕ) → HasEvent left w → HasSource box place w) where
     source_before : (k w : ℕ) → HasSource (narrowed_at box place left) k w → HasSource box k w
-    source_before k w there = elim (cases_eq k place) [
-      | inl is ↦
-          let here : HasSource (narrowed_at box place left) place w = subst (λ (j : ℕ). HasSource (narrowed_at box place left) j w) is there in
-          subst (λ (j : ℕ). HasSource box j w) (sym is) (within w (subst (λ (set : EventSet). HasEvent set w) domain_here here))
-      | inr other ↦ subst (λ (set : EventSet). HasEvent set w) (domain_other k other) there
-    ]
+    source_before k w there = grind (arith, cases_eq, domain_here, domain_other)
 
     pub narrowed_within : IsWithin (narrowed_at box place left) box
     narrowed_within = record { test = refl; combination = refl; domains = source_before }
@@ -74,14 +59,7 @@ module _ (box : Box) (place : ℕ) (left : EventSet) (room : place < length box.
 
     -- less is left, where something was taken out
     pub size_less : ¬ ((w : ℕ) → HasSource box place w → HasEvent left w) → size_of (slice_set box.domains place left) < size_of box.domains
-    size_less not_all =
-        let was = slice_index_or box.domains place no_events in
-        let at_most : left.bits ≤ was.bits = within_le left was within in
-        let other : left.bits ≡ was.bits → ⊥ = λ same. not_all (λ w there. subst (λ (word : ℕ). bit_at word w ≡ 1) (sym same) there) in
-        let sums : sum_by (λ (set : EventSet). set.bits) (slice_set box.domains place left) + was.bits ≡ sum_by (λ (set : EventSet). set.bits)
-        box.domains + left.bits =
-        sum_by-set (λ (set : EventSet). set.bits) box.domains place left no_events room in
-        omega (arith, sums, sum-map (λ (set : EventSet). set.bits) box.domains, sum-map (λ (set : EventSet). set.bits) (slice_set box.domains place left))
+    size_less not_all = grind (arith, sum-map, sum_by-set, within_le)
 
     -- what a frame has is so of the new box, where something is left
     module _ (frame : Frame) (is : IsContained box frame) (some : (w : ℕ) × HasEvent left w) where
@@ -105,16 +83,7 @@ module _ (box : Box) (place : ℕ) (left : EventSet) (room : place < length box.
   -- a completion whose source at the place is left is one of the new box
   pub completion_at : (x : Execution) → IsCompletion box x → ((w : ℕ) → slice_get x.sources place ≡ Some w → HasEvent left w)
       → IsCompletion (narrowed_at box place left) x
-  completion_at x is source_left = record {
-    valid = is.valid;
-    on_paths = is.on_paths;
-    within = λ k w source. elim (cases_eq k place) [
-      | inl at ↦
-          let here : slice_get x.sources place ≡ Some w = subst (λ (j : ℕ). slice_get x.sources j ≡ Some w) at source in
-          subst (λ (j : ℕ). HasSource (narrowed_at box place left) j w) (sym at) (source_here w (source_left w here))
-      | inr other ↦ source_other k w other (is.within k w source)
-    ];
-  }
+  completion_at x is source_left = grind (arith, cases_eq, source_here, source_other)
 
   -- there is none where nothing is left
   pub none_at : place < length (byte_reads (box_events box)) → (x : Execution) → IsCompletion box x
@@ -143,11 +112,4 @@ module _ (box : Box) (place : ℕ) (left : EventSet) (room : place < length box.
 
 -- narrowed, and narrowed on
 pub narrows_on : (first was now : Box) → Narrows first was → Narrows was now → Narrows first now
-narrows_on first was now to on = record {
-  within = record {
-    test = on.within.test ∙ to.within.test;
-    combination = on.within.combination ∙ to.within.combination;
-    domains = λ k w there. to.within.domains k w (on.within.domains k w there);
-  };
-  kept = λ x is. on.kept x (to.kept x is);
-}
+narrows_on first was now to on = grind arith

@@ -1,61 +1,30 @@
 -- Quiet boxes: the relations of sources that lie in one are those of what it gives, so that sources are a completion's exactly
 -- where they fill each read and there is an order of what is given.
-use Rattle.std.proofs.Common.{◌≡◌, ◌≢◌, ◌⊎◌, inl, inr, ℕ, ◌+◌, ◌<◌, Option, Some, None, List, length, get_or, refl, sym, ap, subst, ◌∙◌, arith}
-use Rattle.std.specs.Prelude.{IsTrue, slice_get}
-use Rattle.std.proofs.lemmas.Option.{none-some, same_Some, slice_get-get_or, slice_get_within}
-use Rattle.lit_paths.specs.declared.event.Event.{Event}
-use Rattle.lit_paths.specs.ByteReads.{IsCandidate, byte_reads}
-use Rattle.lit_paths.specs.Event.{does_write, event_at}
-use Rattle.lit_paths.specs.Execution.{Execution}
-use Rattle.lit_paths.specs.Plan.{IsWalkIn, first_event, walk_in}
-use Rattle.lit_rel.specs.Broken.{HasFalseTestOn, IsBroken, number_on}
-use Rattle.lit_rel.specs.Forbidden.{IsForbidden, IsForbiddenBetween}
-use Rattle.lit_rel.specs.Growth.{Grows, IsGivenWhole}
-use Rattle.lit_rel.specs.HappensBefore.{HappensBefore, StepBy}
-use Rattle.lit_rel.specs.ReadsFrom.{ReadsByteFrom}
-use Rattle.lit_rel.specs.SynchronizesWith.{CanSynchronize, SynchronizesBy}
-use Rattle.lit_rel.specs.TearFree.{HasTearFreeReads}
+use Rattle.lit_solve.proofs.Words.{◌+◌, ◌<◌, arith, byte_reads, CanSynchronize, does_write, Event, event_at, Execution, first_event, Grows}
+use Rattle.lit_solve.proofs.Words.{HappensBefore, HasFalseTestOn, HasOrder, HasTearFreeReads, inl, inr, IsBroken, IsEntered, IsForbidden}
+use Rattle.lit_solve.proofs.Words.{IsForbiddenBetween, IsMemoryOrder, IsOrderOf, IsTrue, IsWalkIn, Laws, length, List, None, none-some}
+use Rattle.lit_solve.proofs.Words.{number_on, Option, ReadsByteFrom, refl, same_Some, slice_get_within, Some, StepBy, subst, sym}
+use Rattle.lit_solve.proofs.Words.{SynchronizesBy, walk_in, ℕ, ◌≡◌, ◌≢◌, ◌⊎◌}
 use Rattle.lit_rel.proofs.ChainLemmas.{Chain-same}
 use Rattle.lit_rel.proofs.GrowthLemmas.{Grows-from}
 use Rattle.lit_rel.proofs.SameRelations.{between_by, coherent_read_by}
-use Rattle.lit_order.specs.MemoryOrder.{HasOrder, IsMemoryOrder, IsOrderOf}
 use Rattle.lit_order.proofs.SameOrders.{IsOrderOf-same}
-use Rattle.lit_valid.specs.Completion.{IsEntered}
-use Rattle.lit_valid.specs.Laws.{Laws}
-use Rattle.lit_valid.proofs.CompletionLemmas.{example, example_paths, example_valid, not_broken}
+use Rattle.lit_valid.proofs.CompletionLemmas.{example, example_paths, example_valid}
 use Rattle.lit_solve.specs.Box.{Box, HasSource, IsBox, box_events}
 use Rattle.lit_solve.specs.Completion.{IsCompletion}
 use Rattle.lit_solve.specs.Fill.{AreCoherentSources, AreSourcesIn, HasEffect, IsFilled, IsIdle, IsQuiet}
 use Rattle.lit_solve.specs.Given.{GivenIn, HappensBeforeIn, HasAlone, IsForbiddenIn}
-use Rattle.lit_solve.proofs.CompletionLemmas.{completes, events_same, order_here, part_of, sourced}
+use Rattle.lit_solve.proofs.CompletionLemmas.{all_given, events_same, order_here, part_of, sourced, takes_given, whole}
 
 -- ---- what has an effect
 -- a source that writes, and can synchronize with its read
 effect_synchronized : (events : List Event) (w r : ℕ) → IsTrue (does_write (event_at events w).kind) → w ≢ r
     → CanSynchronize (event_at events w) (event_at events r) → HasEffect events w r
-effect_synchronized events w r writes other can = record {
-  write = w;
-  writes = writes;
-  ordered = can.writer;
-  not_read = other;
-  pattern = inl (can.reader, can.same_range);
-}
+effect_synchronized events w r writes other can = grind arith
 
 -- a source and its read, between which some event may not stand
 effect_between : (events : List Event) (before : ℕ → ℕ → Type 0) (w r v : ℕ) → IsForbiddenBetween events before w r v → HasEffect events w r
-effect_between events before w r v between = record {
-  write = v;
-  writes = between.writes;
-  ordered = between.ordered;
-  not_read = between.not_read;
-  pattern = elim between.pattern [
-    | inl one ↦ inl (one.synchronized.reader, one.same_range)
-    | inr rest ↦ elim rest [
-      | inl two ↦ inr (between.not_source, two.source, two.same_range)
-      | inr three ↦ inl (three.reader, three.same_range)
-    ]
-  ];
-}
+effect_between events before w r v between = grind arith
 
 -- ---- sources that lie in a box
 module _ (box : Box) (sources : List ℕ) (lie : AreSourcesIn box sources) where
@@ -65,21 +34,8 @@ module _ (box : Box) (sources : List ℕ) (lie : AreSourcesIn box sources) where
   abbrev from : ℕ → ℕ → ℕ → Type 0
   from = ReadsByteFrom events sources
 
-  -- they take what is given
-  pub takes_given : (r b w : ℕ) → GivenIn box r b w → ReadsByteFrom events sources r b w
-  takes_given r b w g = (g.place, g.is_read, there ∙ ap (λ (v : ℕ). Some v) same)
-    where
-      inside : g.place < length sources
-      inside = omega (arith, lie.sourced.one_each, slice_get_within (byte_reads events) g.place (r, b) g.is_read)
-
-      there : slice_get sources g.place ≡ Some (get_or sources g.place 0)
-      there = slice_get-get_or sources g.place 0 inside
-
-      same : get_or sources g.place 0 ≡ w
-      same = g.alone.alone (get_or sources g.place 0) (lie.within g.place (get_or sources g.place 0) there)
-
   pub grows_in : Grows events (GivenIn box) (ReadsByteFrom events sources)
-  grows_in = Grows-from events (GivenIn box) from takes_given
+  grows_in = Grows-from events (GivenIn box) from (takes_given box sources lie.sourced lie.within)
 
   -- so an order of theirs is one of what is given
   pub order_in : (order : List ℕ) → IsMemoryOrder events sources order → IsOrderOf (length events) (HappensBeforeIn box) (IsForbiddenIn box) order
@@ -105,41 +61,20 @@ module _ (box : Box) (sources : List ℕ) (lie : AreSourcesIn box sources) where
         by (inr idle) = inr (idle r b w f.1 there)
 
     synchronizes_back : (w r : ℕ) → SynchronizesBy events from w r → SynchronizesBy events (GivenIn box) w r
-    synchronizes_back w r s = by (given_or_idle r s.reads.0 w s.reads.1)
-      where
-        candidate : IsCandidate events r s.reads.0 w
-        candidate = let read = s.reads.1 in lie.sourced.each read.0 r s.reads.0 w read.1 read.2
-
-        by : GivenIn box r s.reads.0 w ⊎ ¬ HasEffect events w r → SynchronizesBy events (GivenIn box) w r
-        by (inl given) = record { reads = (s.reads.0, given); can = s.can }
-        by (inr idle) = absurd (idle (effect_synchronized events w r candidate.writes candidate.other s.can))
+    synchronizes_back w r s = grind (arith, effect_synchronized, given_or_idle)
 
     step_back : (e d : ℕ) → StepBy events from e d → StepBy events (GivenIn box) e d
-    step_back e d (inl ordered) = inl ordered
-    step_back e d (inr (inl s)) = inr (inl (synchronizes_back e d s))
-    step_back e d (inr (inr made)) = inr (inr made)
+    step_back e d h = grind (arith, synchronizes_back)
 
     pub before_back : (e d : ℕ) → HappensBefore events sources e d → HappensBeforeIn box e d
-    before_back e d h = record {
-      middles = h.middles;
-      chain = Chain-same (StepBy events from) (StepBy events (GivenIn box)) step_back e h.middles d h.chain;
-    }
+    before_back e d h = grind (arith, Chain-same, step_back)
 
     pub forbidden_back : (w r v : ℕ) → IsForbidden events sources w r v → IsForbiddenIn box w r v
-    forbidden_back w r v f = by (given_or_idle r f.reads.0 w f.reads.1)
-      where
-        between : IsForbiddenBetween events (HappensBeforeIn box) w r v
-        between = between_by events (HappensBefore events sources) (HappensBeforeIn box) before_back w r v f.between
-
-        by : GivenIn box r f.reads.0 w ⊎ ¬ HasEffect events w r → IsForbiddenIn box w r v
-        by (inl given) = record { reads = (f.reads.0, given); between = between }
-        by (inr idle) = absurd (idle (effect_between events (HappensBeforeIn box) w r v between))
+    forbidden_back w r v f = grind (arith, before_back, between_by, effect_between, given_or_idle)
 
     -- an order of what is given is one of theirs
     pub order_back_in : (order : List ℕ) → IsOrderOf (length events) (HappensBeforeIn box) (IsForbiddenIn box) order → IsMemoryOrder events sources order
-    order_back_in order o =
-        IsOrderOf-same (length events) (length events) (HappensBeforeIn box) (HappensBefore events sources) (IsForbiddenIn box)
-        (IsForbidden events sources) refl before_back forbidden_back order o
+    order_back_in order o = grind (arith, IsOrderOf-same, before_back, forbidden_back)
 
     -- ---- sources that fill each read are a completion's
     module _ (laws : Laws) (entered : IsBox box) (coherent : AreCoherentSources box) (no_cycle : (e : ℕ) → ¬ HappensBeforeIn box e e)
@@ -203,20 +138,14 @@ module _ (box : Box) (x : Execution) (is : IsCompletion box x) where
   order_given = (is.valid.ordered.0, order_in box x.sources sources_lie is.valid.ordered.0 (order_here box x is is.valid.ordered.0 is.valid.ordered.1))
 
   module _ (laws : Laws) (entered : IsBox box) where
-    whole : ¬ IsBroken (part_of box x.sources)
-    whole = not_broken (part_of box x.sources) x (completes box x is) laws laws.grow laws.stay (record { litmus = entered.litmus; known = entered.known })
-
     -- it fills each read
     pub filled_by : (r : ℕ) → IsFilled box r x.sources
     filled_by r = record {
       tear_free =
           λ w v first second. subst (λ (es : List Event). HasTearFreeReads es x.sources) (events_same box x is) is.valid.tear_free_reads r w v first
           second;
-      tests = λ bad. whole (inr (inr (r, all_given, bad)));
+      tests = λ bad. whole box x is laws entered (inr (inr (r, all_given box x is r, bad)));
     }
-      where
-        all_given : IsGivenWhole its x.sources r
-        all_given i b at = omega (arith, sources_lie.sourced.one_each, slice_get_within (byte_reads its) i (r, b) at)
 
     pub unwritten_true : ¬ HasFalseTestOn box.test box.combination None 0
-    unwritten_true bad = whole (inr (inl bad))
+    unwritten_true bad = whole box x is laws entered (inr (inl bad))

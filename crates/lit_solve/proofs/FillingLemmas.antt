@@ -1,19 +1,9 @@
 -- Filling a read byte by byte.
-use Rattle.std.proofs.Common.{◌≡◌, ◌≢◌, ◌⊎◌, ◌↔◌, inl, inr, ℕ, zero, suc, ◌+◌, ◌-◌, ◌*◌, ◌^◌, ◌<◌, ◌≤◌, ◌==◌, Bool, true, false, cond, Some, List, [], ◌∷◌, drop, filter, length, map, get_or, refl, sym, ap, subst, ◌∙◌, arith, eq-eqb}
-use Rattle.std.specs.Prelude.{slice_get}
-use Rattle.std.specs.List.{zip}
-use Rattle.std.proofs.lemmas.Bool.{cases_eq}
-use Rattle.std.proofs.lemmas.Bool.Decides.{nat_tests}
-use Rattle.std.proofs.lemmas.Grind.{pow_more}
-use Rattle.std.proofs.lemmas.Option.{none-some, same_Some, slice_get-get_or, slice_get_within}
-use Rattle.lit_paths.specs.declared.event.Event.{Event}
-use Rattle.lit_paths.specs.ByteReads.{byte_reads}
-use Rattle.lit_paths.specs.Event.{event_at, payload_at}
+use Rattle.lit_solve.proofs.Words.{◌*◌, ◌+◌, ◌-◌, ◌<◌, [], ◌^◌, ap, arith, byte_reads, CanReadWhole, cases_eq, composed, drop, eq-eqb}
+use Rattle.lit_solve.proofs.Words.{Event, event_at, get_or, HasEvent, HasFalseTestOn, inl, inr, length, List, nat_tests, none-some}
+use Rattle.lit_solve.proofs.Words.{payload_at, pow_more, ReadsByteFrom, ReadsWholeBy, refl, same_Some, slice_get, slice_get-get_or}
+use Rattle.lit_solve.proofs.Words.{slice_get_within, Some, subst, suc, sym, value_of, zero, ℕ, ◌↔◌, ◌∙◌, ◌∷◌, ◌≡◌, ◌≢◌, ◌≤◌, ◌⊎◌}
 use Rattle.lit_paths.proofs.Products.{slice_get-drop}
-use Rattle.lit_rel.specs.Broken.{HasFalseTestOn}
-use Rattle.lit_rel.specs.EventSet.{HasEvent}
-use Rattle.lit_rel.specs.ReadsFrom.{ReadsByteFrom, composed, value_of}
-use Rattle.lit_rel.specs.TearFree.{CanReadWhole, ReadsWholeBy}
 use Rattle.lit_solve.specs.declared.filling.Taken.{Taken}
 use Rattle.lit_solve.specs.Box.{Box, HasEmptyDomain, HasSource, IsBox, box_events}
 use Rattle.lit_solve.specs.Fill.{CanFill}
@@ -28,16 +18,10 @@ TakesHere events p w r x = (p.0 ≡ r) × (x ≡ w) × CanReadWhole (event_at ev
 
 module _ (events : List Event) (p : ℕ × ℕ) (reads : List (ℕ × ℕ)) (w : ℕ) (sources : List ℕ) (r : ℕ) where
   taken_same : p.0 ≡ r → bytes_taken events (p ∷ reads) (w ∷ sources) r ≡ payload_at (event_at events w) p.1 ∷ bytes_taken events reads sources r
-  taken_same same =
-      let is_test : (p.0 == r) ≡ true = eq-eqb p.0 r same in
-      ap (λ (b : Bool). map {A = (ℕ × ℕ) × ℕ} {B = ℕ} (λ q. payload_at (event_at events q.1) q.0.1)
-      (cond b ((p, w) ∷ filter {X = (ℕ × ℕ) × ℕ} (λ q. q.0.0 == r) (zip reads sources)) (filter (λ q. q.0.0 == r) (zip reads sources)))) is_test
+  taken_same same = grind (arith, eq-eqb)
 
   pub taken_other : p.0 ≢ r → bytes_taken events (p ∷ reads) (w ∷ sources) r ≡ bytes_taken events reads sources r
-  taken_other other =
-      let no_test : (p.0 == r) ≡ false = grind (arith, nat_tests) in
-      ap (λ (b : Bool). map {A = (ℕ × ℕ) × ℕ} {B = ℕ} (λ q. payload_at (event_at events q.1) q.0.1)
-      (cond b ((p, w) ∷ filter {X = (ℕ × ℕ) × ℕ} (λ q. q.0.0 == r) (zip reads sources)) (filter (λ q. q.0.0 == r) (zip reads sources)))) no_test
+  taken_other other = grind (arith, nat_tests)
 
   whole_later : (x : ℕ) → TakesWhole events reads sources r x → TakesWhole events (p ∷ reads) (w ∷ sources) r x
   whole_later x t = record { place = suc t.place; byte = t.byte; is_read = t.is_read; takes = t.takes; can = t.can }
@@ -47,19 +31,7 @@ module _ (events : List Event) (p : ℕ × ℕ) (reads : List (ℕ × ℕ)) (w :
 
   whole_split : (x : ℕ) → TakesWhole events (p ∷ reads) (w ∷ sources) r x
       → TakesHere events p w r x ⊎ TakesWhole events reads sources r x
-  whole_split x t = by t.place t.is_read t.takes
-    where
-      by : (i : ℕ) → slice_get (p ∷ reads) i ≡ Some (r, t.byte) → slice_get (w ∷ sources) i ≡ Some x
-          → TakesHere events p w r x ⊎ TakesWhole events reads sources r x
-      by zero is_read takes =
-          let same : w ≡ x = same_Some w x takes in
-          inl (
-            ap (λ (q : ℕ × ℕ). q.0) (same_Some p (r, t.byte) is_read),
-            sym same,
-            subst
-                (λ (y : ℕ). CanReadWhole (event_at events r) (event_at events y)) (sym same) t.can,
-          )
-      by (suc i) is_read takes = inr record { place = i; byte = t.byte; is_read = is_read; takes = takes; can = t.can }
+  whole_split x t = grind (arith, same_Some)
 
 -- ---- what fills the bytes of a read
 module _ (box : Box) (r : ℕ) where
@@ -152,16 +124,10 @@ module _ (box : Box) (r : ℕ) where
 
   module _ (reads : List (ℕ × ℕ)) (whole : ℕ → Type 0) (value bytes : ℕ) (sources : List ℕ) (none : (i b : ℕ) → slice_get reads i ≢ Some (r, b)) where
     pub no_more : value + 256 ^ bytes * composed (bytes_taken events reads sources r) ≡ value
-    no_more = ap (λ (bs : List ℕ). value + 256 ^ bytes * composed bs) (taken_none reads sources none) ∙ nothing (256 ^ bytes)
-      where
-        nothing : (unit : ℕ) → value + unit * 0 ≡ value
-        nothing unit = omega arith
+    no_more = grind (arith, taken_none)
 
     fills_none : ¬ has_false value → FillsBytes box r reads whole value bytes sources
-    fills_none tests = record {
-      tear_free = λ w v t h. absurd (none t.place t.byte t.is_read);
-      tests = subst (λ (n : ℕ). ¬ has_false n) (sym no_more) tests;
-    }
+    fills_none tests = grind (arith, no_more)
 
     fills_none_back : FillsBytes box r reads whole value bytes sources → ¬ has_false value
     fills_none_back f = subst (λ (n : ℕ). ¬ has_false n) no_more f.tests
@@ -340,10 +306,7 @@ module _ (box : Box) (r : ℕ) where
     module _ (whole : ℕ → Type 0) (not_yet : (v : ℕ) → ¬ whole v) where
       same_value : (sources : List ℕ)
           → 0 + 256 ^ 0 * composed (bytes_taken (box_events box) (reads_on (box_events box) 0) sources r) ≡ value_of (box_events box) sources r
-      same_value sources = once (value_of (box_events box) sources r)
-        where
-          once : (n : ℕ) → 0 + 256 ^ 0 * n ≡ n
-          once n = omega arith
+      same_value sources = grind arith
 
       filled_from_start : CanFill box r → CanFillOn box r 0 whole 0 0
       filled_from_start (sources, lie, filled) = (

@@ -1,24 +1,14 @@
 -- How the relations of a frame come to be those of its box.
-use Rattle.std.proofs.Common.{◌≡◌, ◌⊎◌, ◌↔◌, inl, inr, ℕ, ◌+◌, ◌<◌, Bool, true, false, List, [], ◌∷◌, ◌++◌, Some, length, ap, sym, subst, ◌∙◌, arith}
-use Rattle.std.specs.Prelude.{IsTrue, slice_get}
-use Rattle.std.proofs.lemmas.Bool.{cases_lt}
-use Rattle.std.proofs.lemmas.Option.{same_Some, slice_get_within}
-use Rattle.lit_paths.specs.ByteReads.{byte_reads}
-use Rattle.lit_paths.specs.Event.{event_at}
-use Rattle.lit_rel.specs.declared.rows.two_way_rows.TwoWayRows.{TwoWayRows}
-use Rattle.lit_rel.specs.declared.event_set.EventSet.{EventSet}
-use Rattle.lit_rel.specs.EventSet.{HasEvent}
-use Rattle.lit_rel.specs.Forbidden.{IsForbiddenBetween}
-use Rattle.lit_rel.specs.HappensBefore.{Chain, StepBy}
-use Rattle.lit_rel.specs.Rows.{Holds, IsTransitive, WithPair, rows_len}
-use Rattle.lit_rel.specs.SynchronizesWith.{CanSynchronize}
+use Rattle.lit_solve.proofs.Words.{◌+◌, ◌<◌, [], arith, Bool, byte_reads, CanSynchronize, cases_lt, Chain, event_at, EventSet, false, Given}
+use Rattle.lit_solve.proofs.Words.{HasEvent, Holds, inl, inr, IsForbiddenBetween, IsForced, IsTransitive, IsTrue, length, List, rows_len}
+use Rattle.lit_solve.proofs.Words.{same_Some, slice_get, slice_get_within, Some, StepBy, subst, sym, Through, true, TwoWayRows, WithPair, ℕ}
+use Rattle.lit_solve.proofs.Words.{◌↔◌, ◌∙◌, ◌∷◌, ◌≡◌, ◌⊎◌}
 use Rattle.lit_rel.proofs.ChainLemmas.{Chain-append}
 use Rattle.lit_rel.proofs.ReadingLemmas.{write_known}
 use Rattle.lit_rel.proofs.SameRelations.{between_by}
-use Rattle.lit_order.specs.Forcing.{IsForced, Given, Through}
 use Rattle.lit_rel.proofs.SourceLemmas.{read_known}
 use Rattle.lit_order.proofs.ForcedLemmas.{AreTriplesBelow}
-use Rattle.lit_order.proofs.LevelLemmas.{IsForced-grow}
+use Rattle.lit_order.proofs.ForcingLemmas.{IsForced-grow}
 use Rattle.lit_solve.specs.declared.frame.Frame.{Frame}
 use Rattle.lit_solve.specs.Box.{Box, IsBox, box_events}
 use Rattle.lit_solve.specs.Given.{GivenIn, HappensBeforeIn, HasAlone, IsForbiddenIn, IsForcedIn}
@@ -34,23 +24,10 @@ not_true b is holds = absurd (let e : true ≡ false = sym holds ∙ is in cc)
 -- what leads through a pair of a transitive relation is of that relation
 pub with_pair_within : (before more : ℕ → ℕ → Type 0) → IsTransitive more → ((x y : ℕ) → before x y → more x y) → (a d : ℕ) → more a d → (x y : ℕ)
     → WithPair before a d x y → more x y
-with_pair_within before more through within a d pair x y (inl old) = within x y old
-with_pair_within before more through within a d pair x y (inr led) = to_y led.1
-  where
-    to_d : more x d
-    to_d = elim led.0 [ inl earlier ↦ through x a d (within x a earlier) pair | inr same ↦ subst (λ (e : ℕ). more e d) (sym same) pair ]
-
-    to_y : before d y ⊎ (y ≡ d) → more x y
-    to_y (inl later) = through x d y to_d (within d y later)
-    to_y (inr same) = subst (λ (e : ℕ). more x e) (sym same) to_d
+with_pair_within before more through within a d pair x y h = grind arith
 
 pub before_through : (box : Box) → IsTransitive (HappensBeforeIn box)
-before_through box x y z p q =
-    record {
-      middles = p.middles ++ y ∷ q.middles;
-      chain = Chain-append (StepBy (box_events box) (GivenIn box)) x p.middles y q.middles z p.chain
-          q.chain;
-    }
+before_through box x y z p q = grind (arith, Chain-append)
 
 pub forced_through : (box : Box) → IsTransitive (IsForcedIn box)
 forced_through box x y z p q = Through y p q
@@ -62,55 +39,23 @@ synchronized_before box k r b w is_read alone can =
     record { middles = []; chain = inr (inl record { reads = (b, record { place = k; is_read = is_read; alone = alone }); can = can }) }
 
 module _ (box : Box) (before : ℕ → ℕ → Type 0) (k r b w : ℕ) (is_read : slice_get (byte_reads (box_events box)) k ≡ Some (r, b)) (alone : HasAlone box k w) where
-  same_pair : (q c v : ℕ) → slice_get (byte_reads (box_events box)) k ≡ Some (q, c) → HasAlone box k v → (v ≡ w) × (q ≡ r)
-  same_pair q c v is_read_too alone_too = (alone.alone v alone_too.there, ap (λ (p : ℕ × ℕ). p.0) (same_Some (q, c) (r, b) (sym is_read_too ∙ is_read)))
-
   pub synchronized_apart : ¬ CanSynchronize (event_at (box_events box) w) (event_at (box_events box) r) → IsSynchronizedAt box before k
-  synchronized_apart apart q c v is_read_too alone_too can =
-      let same = same_pair q c v is_read_too alone_too in
-      absurd (apart (subst (λ (x : ℕ). CanSynchronize (event_at (box_events box) x) (event_at (box_events box) r)) same.0
-      (subst (λ (x : ℕ). CanSynchronize (event_at (box_events box) v) (event_at (box_events box) x)) same.1 can)))
+  synchronized_apart apart q c v is_read_too alone_too can = grind arith
 
   pub synchronized_at : before w r → IsSynchronizedAt box before k
-  synchronized_at there q c v is_read_too alone_too can =
-      let same = same_pair q c v is_read_too alone_too in
-      subst (λ (x : ℕ). before x q) (sym same.0) (subst (λ (x : ℕ). before w x) (sym same.1) there)
+  synchronized_at there q c v is_read_too alone_too can = grind arith
 
 pub synchronized_kept : (box other : Box) (before more : ℕ → ℕ → Type 0) (k : ℕ) → box ≡ other → ((a d : ℕ) → before a d → more a d)
     → IsSynchronizedAt box before k → IsSynchronizedAt other more k
-synchronized_kept box other before more k same grows is =
-    subst (λ (b : Box). IsSynchronizedAt b more k) same (λ r b w is_read alone can. grows w r (is r b w is_read alone can))
+synchronized_kept box other before more k same grows is = grind arith
 
 -- what is so below a number, and at it
 pub one_more : (P : ℕ → Type 0) (n : ℕ) (Old New : Type 0) → Old ↔ ((k : ℕ) × (k < n) × P k) → New ↔ (Old ⊎ P n) → New ↔ ((k : ℕ) × (k < n + 1) × P k)
-one_more P n Old New old new = (to, from)
-  where
-    to_either : Old ⊎ P n → (k : ℕ) × (k < n + 1) × P k
-    to_either (inl h) = let found = old.0 h in (found.0, omega (arith, found.1), found.2)
-    to_either (inr h) = (n, omega arith, h)
-
-    to : New → (k : ℕ) × (k < n + 1) × P k
-    to h = to_either (new.0 h)
-
-    by : (k : ℕ) → P k → (k < n) ⊎ (k ≡ n) → New
-    by k h (inl below) = new.1 (inl (old.1 (k, below, h)))
-    by k h (inr last) = new.1 (inr (subst P last h))
-
-    from : (k : ℕ) × (k < n + 1) × P k → New
-    from (k, below, h) = by k h (below_or_last k n below)
+one_more P n Old New old new = grind arith
 
 -- a pair of both relations more
 with_pair_more : (before more : ℕ → ℕ → Type 0) → ((x y : ℕ) → before x y → more x y) → (a d x y : ℕ) → WithPair before a d x y → WithPair more a d x y
-with_pair_more before more within a d x y (inl old) = inl (within x y old)
-with_pair_more before more within a d x y (inr led) = inr (earlier led.0, later led.1)
-  where
-    earlier : before x a ⊎ (x ≡ a) → more x a ⊎ (x ≡ a)
-    earlier (inl h) = inl (within x a h)
-    earlier (inr same) = inr same
-
-    later : before d y ⊎ (y ≡ d) → more d y ⊎ (y ≡ d)
-    later (inl h) = inl (within d y h)
-    later (inr same) = inr same
+with_pair_more before more within a d x y h = grind arith
 
 pub record IsClosedWith (was now : TwoWayRows) (a d : ℕ) : Type 0 where
   pub len : rows_len now.rows ≡ rows_len was.rows
@@ -158,17 +103,7 @@ module _ (box : Box) (before : ℕ → ℕ → Type 0) (within : (a d : ℕ) →
   module _ (k r b w : ℕ) (is_read : slice_get (byte_reads (box_events box)) k ≡ Some (r, b)) (alone : HasAlone box k w) where
     pub forbidden_at : (x y v : ℕ) → IsForbiddenAt box k x y v
         → (x ≡ w) × (y ≡ r) × (v < length (box_events box)) × IsForbiddenBetween (box_events box) before w r v
-    forbidden_at x y v f =
-        let source : x ≡ w = alone.alone x f.alone.there in
-        let both : (y, f.byte) ≡ (r, b) = same_Some (y, f.byte) (r, b) (sym f.is_read ∙ is_read) in
-        let read : y ≡ r = ap (λ (p : ℕ × ℕ). p.0) both in
-        let here : IsForbiddenBetween (box_events box) before x y v = between_by (box_events box) (HappensBeforeIn box) before exact x y v f.between in (
-          source,
-          read,
-          write_known (box_events box) v here.writes,
-          subst (λ (s : ℕ). IsForbiddenBetween (box_events box) before s r v) source
-              (subst (λ (q : ℕ). IsForbiddenBetween (box_events box) before x q v) read here),
-        )
+    forbidden_at x y v f = grind (arith, between_by, same_Some, write_known)
 
     pub forbidden_there : (x y v : ℕ) → (x ≡ w) × (y ≡ r) × IsForbiddenBetween (box_events box) before w r v → IsForbiddenAt box k x y v
     forbidden_there x y v (source, read, between) =
@@ -206,15 +141,7 @@ module _ (box : Box) (before : ℕ → ℕ → Type 0) (within : (a d : ℕ) →
 -- all of them
 pub forbidden_in : (box : Box) (n w r v : ℕ) → n ≡ length (byte_reads (box_events box))
     → ((k : ℕ) × (k < n) × IsForbiddenAt box k w r v) ↔ IsForbiddenIn box w r v
-forbidden_in box n w r v all = (
-  λ (k, below, f). record { reads = (f.byte, record { place = k; is_read = f.is_read; alone = f.alone }); between = f.between },
-  λ f.
-      let given = f.reads.1 in (
-        given.place,
-        subst (λ (m : ℕ). given.place < m) (sym all) (slice_get_within (byte_reads (box_events box)) given.place (r, f.reads.0) given.is_read),
-        record { byte = f.reads.0; is_read = given.is_read; alone = given.alone; between = f.between },
-      ),
-)
+forbidden_in box n w r v all = grind (arith, slice_get_within)
 
 -- its triples are of its events
 pub triples_below_in : (box : Box) → IsBox box → AreTriplesBelow (length (box_events box)) (IsForbiddenIn box)

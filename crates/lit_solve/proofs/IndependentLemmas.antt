@@ -1,13 +1,8 @@
 -- A part of a box whose reads are independent: with one domain narrowed, what is given gives the same relations, so reads stay
 -- independent there as long as the narrowed one can be filled.
-use Rattle.std.proofs.Common.{◌≡◌, ◌≢◌, ◌⊎◌, inl, inr, ℕ, ◌<◌, Some, List, length, refl, sym, ap, subst, ◌∙◌}
-use Rattle.std.specs.Prelude.{slice_get}
-use Rattle.std.proofs.lemmas.Bool.{cases_eq}
-use Rattle.lit_paths.specs.declared.event.Event.{Event}
-use Rattle.lit_paths.specs.ByteReads.{byte_read_at, byte_reads}
-use Rattle.lit_rel.specs.declared.event_set.EventSet.{EventSet}
-use Rattle.lit_rel.specs.EventSet.{HasEvent}
-use Rattle.lit_rel.specs.InitReads.{AreOfEvents}
+use Rattle.lit_solve.proofs.Words.{◌<◌, ◌==◌, ap, AreOfEvents, arith, Bool, byte_read_at, byte_reads, cases_eq, cond, Event, EventSet}
+use Rattle.lit_solve.proofs.Words.{false, HasEvent, inl, inr, length, List, nat_tests, refl, rules, slice_get, Some, subst, sym, true, ℕ}
+use Rattle.lit_solve.proofs.Words.{◌∙◌, ◌≡◌}
 use Rattle.lit_rel.proofs.SameRelations.{coherent_read_by}
 use Rattle.lit_order.proofs.SameOrders.{IsLeastOrderOf-same, IsOrderOf-same}
 use Rattle.lit_solve.specs.declared.goal.Goal.TheVariants.{Any}
@@ -26,9 +21,7 @@ use Rattle.lit_solve.proofs.TogetherLemmas.{together, together_agrees, together_
 
 -- there is a completion
 pub independent_solution : (box : Box) → IsIndependent box → IsFilledReadByRead box → HasSolution box Any
-independent_solution box is law =
-    let found = (law is.filled.sources is.is_box is.quiet is.coherent is.calm is.filled.lie).1 (is.filled.each, is.unwritten, is.ordered) in
-    (found.0, record { completes = found.1; meets = tt })
+independent_solution box is law = grind arith
 
 module _ (box : Box) (of_events : AreOfEvents (box_events box)) (is : IsIndependent box) (place : ℕ) (left : EventSet) (room : place < length box.domains)
     (inside : place < length (byte_reads (box_events box))) (within : (w : ℕ) → HasEvent left w → HasSource box place w)
@@ -76,35 +69,23 @@ module _ (box : Box) (of_events : AreOfEvents (box_events box)) (is : IsIndepend
       coherent_read_by events (HappensBeforeIn box) (HappensBeforeIn part) before_out q b w (is.coherent k q b w at (inner.domains k w there))
 
   -- ---- sources that fill each read of the part: for its narrowed read those that fill it there, and for the others those of the box
-  pick : (q : ℕ) → (q ≡ r) ⊎ (q ≢ r) → List ℕ
-  pick q (inl same) = fills.0
-  pick q (inr other) = is.filled.sources
-
-  picked : ℕ → List ℕ
-  picked q = pick q (cases_eq q r)
-
-  pick_lies : (q : ℕ) (which : (q ≡ r) ⊎ (q ≢ r)) → AreSourcesIn box (pick q which)
-  unfolding pick
-  pick_lies q (inl same) = lie_out fills.0 fills.1
-  pick_lies q (inr other) = is.filled.lie
-
-  pick_fills : (q : ℕ) (which : (q ≡ r) ⊎ (q ≢ r)) → q < length events → IsFilled box q (pick q which)
-  unfolding pick
-  pick_fills q (inl same) known =
-      subst (λ (p : ℕ). IsFilled box p fills.0) (sym same) (record { tear_free = fills.2.tear_free; tests = fills.2.tests })
-  pick_fills q (inr other) known = is.filled.each q known
-
-  picked_here : picked r ≡ fills.0
-  unfolding pick picked
-  picked_here = by (cases_eq r r)
-    where
-      by : (which : (r ≡ r) ⊎ (r ≢ r)) → pick r which ≡ fills.0
-      by (inl same) = refl
-      by (inr other) = absurd (other refl)
+  abbrev picked : ℕ → List ℕ
+  picked q = cond (q == r) fills.0 is.filled.sources
 
   lies : (q : ℕ) → q < length events → AreSourcesIn box (picked q)
-  unfolding picked
-  lies q known = pick_lies q (cases_eq q r)
+  lies q known = grind (arith, nat_tests, lie_out)
+
+  picked_fills : (q : ℕ) → q < length events → IsFilled box q (picked q)
+  picked_fills q known = by (q == r) refl
+    where
+      by : (here : Bool) → (q == r) ≡ here → IsFilled box q (cond here fills.0 is.filled.sources)
+      by true same =
+          let equal : q ≡ r = grind (arith, nat_tests) in
+          subst (λ (p : ℕ). IsFilled box p fills.0) (sym equal) (record { tear_free = fills.2.tear_free; tests = fills.2.tests })
+      by false other = is.filled.each q known
+
+  picked_here : picked r ≡ fills.0
+  picked_here = grind (arith, nat_tests)
 
   all_lie : AreSourcesIn box (together box picked)
   all_lie = together_lies box picked of_events lies
@@ -125,12 +106,11 @@ module _ (box : Box) (of_events : AreOfEvents (box_events box)) (is : IsIndepend
   }
 
   part_fills : FillsAll part
-  unfolding picked
   part_fills = record {
     sources = together box picked;
     lie = part_lies;
     each = λ q known.
-        let filled = together_fills box picked of_events lies (λ p inside. pick_fills p (cases_eq p r) inside) q known in
+        let filled = together_fills box picked of_events lies picked_fills q known in
         record { tear_free = filled.tear_free; tests = filled.tests };
   }
 
@@ -151,6 +131,4 @@ module _ (box : Box) (of_events : AreOfEvents (box_events box)) (is : IsIndepend
   }
 
   pub order_of_part : (order : List ℕ) → HasLeastOrderIn box order → HasLeastOrderIn part order
-  order_of_part order least =
-      IsLeastOrderOf-same (length events) (length events) (HappensBeforeIn box) (HappensBeforeIn part) (IsForbiddenIn box) (IsForbiddenIn part) refl
-      (λ a d. (before_in a d, before_out a d)) (λ w q v. (forbidden_in w q v, forbidden_out w q v)) order least
+  order_of_part order least = search (rules, IsLeastOrderOf-same, before_in, before_out, forbidden_in, forbidden_out)

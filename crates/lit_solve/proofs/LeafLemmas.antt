@@ -1,14 +1,7 @@
 -- Leaves: what a settled and quiet frame has completions by.
-use Rattle.std.proofs.Common.{◌≡◌, ◌↔◌, ℕ, ◌<◌, Option, Some, None, List, length, refl}
-use Rattle.std.specs.Prelude.{IfNone, IfSome, IsTrue}
-use Rattle.std.specs.Option.{is_some}
-use Rattle.std.proofs.lemmas.Bool.{false≢true}
-use Rattle.lit_paths.specs.Execution.{Execution}
-use Rattle.lit_rel.specs.Broken.{HasFalseTestOn}
-use Rattle.lit_rel.specs.Rows.{Holds}
+use Rattle.lit_solve.proofs.Words.{◌<◌, arith, Execution, false≢true, Given, HasFalseTestOn, HasOrder, Holds, IfNone, IfSome, is_some}
+use Rattle.lit_solve.proofs.Words.{IsLeastOrderOf, IsOrderOf, IsTrue, length, List, None, Option, refl, ℕ, ◌↔◌, ◌≡◌}
 use Rattle.lit_rel.proofs.SameRelations.{coherent_read_by}
-use Rattle.lit_order.specs.Forcing.{Given}
-use Rattle.lit_order.specs.MemoryOrder.{HasOrder, IsLeastOrderOf, IsOrderOf}
 use Rattle.lit_solve.specs.declared.frame.Frame.{Frame}
 use Rattle.lit_solve.specs.declared.goal.Goal.TheVariants.{Any}
 use Rattle.lit_solve.specs.Box.{Box, IsBox, box_events}
@@ -48,9 +41,7 @@ module _ (box : Box) (frame : Frame) (settled : IsSettled box frame) where
     pub completion_found : ¬ HasFalseTestOn box.test box.combination None 0
         → ((sources : List ℕ) × AreSourcesIn box sources × ((r : ℕ) → r < length (box_events box) → IsFilled box r sources))
         → HasOrder (length (box_events box)) (HappensBeforeIn box) (IsForbiddenIn box) → HasSolution box Any
-    completion_found unwritten fills ordered =
-        let found = (by_law fills.0 fills.1).1 (fills.2, unwritten, ordered) in
-        (found.0, record { completes = found.1; meets = tt })
+    completion_found unwritten fills ordered = grind (arith, by_law)
 
     -- what a completion tells
     module _ (h : HasSolution box Any) where
@@ -70,5 +61,4 @@ module _ (box : Box) (frame : Frame) (settled : IsSettled box frame) where
 pub order_is_some : {A : Type 0} (found : Option A) (items : A → List ℕ) (n : ℕ) (before : ℕ → ℕ → Type 0) (forbidden : ℕ → ℕ → ℕ → Type 0)
     → IfSome found (λ order. IsLeastOrderOf n before forbidden (items order)) → IfNone found ((order : List ℕ) → ¬ IsOrderOf n before forbidden order)
     → IsTrue (is_some found) ↔ HasOrder n before forbidden
-order_is_some (Some order) items n before forbidden least none = ((λ _. (items order, least.is_order)), (λ _. refl))
-order_is_some None items n before forbidden least none = ((λ never. absurd (false≢true never)), (λ some. absurd (none some.0 some.1)))
+order_is_some found items n before forbidden least none = grind (arith, false≢true)

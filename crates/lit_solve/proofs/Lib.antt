@@ -1,3 +1,4 @@
+pub mod Words
 pub mod BoxLemmas
 pub mod CompletionLemmas
 pub mod FrameLemmas

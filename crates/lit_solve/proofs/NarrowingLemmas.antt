@@ -1,26 +1,10 @@
 -- What the tests of narrowing find, and what becomes of a box where a domain is narrowed.
-use Rattle.std.proofs.Common.{◌≡◌, ◌≢◌, ◌⊎◌, ◌↔◌, inl, inr, ℕ, zero, suc, ◌+◌, ◌^◌, ◌<◌, Bool, true, false, not, refl, Some, List, length, get_or, map, ap, sym, subst, arith}
-use Rattle.std.specs.Prelude.{IsTrue, slice_get}
-use Rattle.std.specs.Int.{bit_at}
-use Rattle.std.proofs.lemmas.Bool.{cases_eq, cases_lt, false≢true}
-use Rattle.std.proofs.lemmas.Nat.Bits.{bit_at_above}
-use Rattle.std.proofs.Math.Nat.{two-pow-succ}
-use Rattle.std.proofs.lemmas.List.{length-map}
-use Rattle.std.proofs.lemmas.Option.{get_or_from_slice_get, slice_get-get_or}
-use Rattle.lit_paths.specs.declared.byte_reads.ByteRead.{ByteRead}
-use Rattle.lit_paths.specs.declared.event.Event.{Event}
-use Rattle.lit_paths.specs.ByteReads.{byte_read_at, byte_reads, IsCandidate, pair_of}
-use Rattle.lit_paths.specs.Event.{event_at}
+use Rattle.lit_solve.proofs.Words.{◌+◌, ◌<◌, ◌^◌, AreOfEvents, arith, bit_at, bit_at_above, Bool, byte_read_at, byte_reads, ByteRead}
+use Rattle.lit_solve.proofs.Words.{CanReadWhole, CanSynchronize, cases_eq, cases_lt, Event, event_at, EventSet, false, false≢true, get_or}
+use Rattle.lit_solve.proofs.Words.{get_or_from_slice_get, HasEvent, Holds, inl, inr, IsCandidate, IsCoherentRead, IsForbiddenBetween}
+use Rattle.lit_solve.proofs.Words.{IsTrue, length, length-map, List, map, not, pair_of, ReadsWholeBy, refl, Rows, rows_len, slice_get}
+use Rattle.lit_solve.proofs.Words.{slice_get-get_or, Some, subst, suc, sym, true, two-pow-succ, zero, ℕ, ◌↔◌, ◌≡◌, ◌≢◌, ◌⊎◌}
 use Rattle.lit_paths.proofs.Rising.{slice_get-map-found}
-use Rattle.lit_rel.specs.declared.event_set.EventSet.{EventSet}
-use Rattle.lit_rel.specs.declared.rows.Rows.{Rows}
-use Rattle.lit_rel.specs.Coherent.{IsCoherentRead}
-use Rattle.lit_rel.specs.EventSet.{HasEvent}
-use Rattle.lit_rel.specs.Forbidden.{IsForbiddenBetween}
-use Rattle.lit_rel.specs.InitReads.{AreOfEvents}
-use Rattle.lit_rel.specs.Rows.{Holds, rows_len}
-use Rattle.lit_rel.specs.SynchronizesWith.{CanSynchronize}
-use Rattle.lit_rel.specs.TearFree.{CanReadWhole, ReadsWholeBy}
 use Rattle.lit_rel.proofs.SameRelations.{between_by, coherent_read_by}
 use Rattle.lit_rel.proofs.SetLemmas.{event_or_not}
 use Rattle.lit_solve.specs.declared.frame.Frame.{Frame}
@@ -70,17 +54,11 @@ read_here events k inside = slice_get-get_or (byte_reads events) k (0, 0) inside
 
 -- a list of all of them has as many, and each at its place
 pub as_many : (events : List Event) (reads : List ByteRead) → map pair_of reads ≡ byte_reads events → length reads ≡ length (byte_reads events)
-as_many events reads listed =
-    let same : length (map pair_of reads) ≡ length (byte_reads events) = ap length listed in
-    omega (arith, same, length-map reads pair_of)
+as_many events reads listed = grind (arith, length-map)
 
 pub read_listed : (events : List Event) (reads : List ByteRead) (k : ℕ) (d : ByteRead) → map pair_of reads ≡ byte_reads events
     → k < length (byte_reads events) → slice_get (byte_reads events) k ≡ Some (pair_of (get_or reads k d))
-read_listed events reads k d listed inside =
-    let within : k < length reads = omega (arith, as_many events reads listed, inside) in
-    let found : slice_get (map pair_of reads) k ≡ Some (pair_of (get_or reads k d)) =
-    slice_get-map-found pair_of reads k (get_or reads k d) (slice_get-get_or reads k d within) in
-    subst (λ (ps : List (ℕ × ℕ)). slice_get ps k ≡ Some (pair_of (get_or reads k d))) listed found
+read_listed events reads k d listed inside = grind (arith, as_many, slice_get-get_or, slice_get-map-found)
 
 -- the read of a byte read is one of the events
 pub read_known : (events : List Event) → AreOfEvents events → (reads : List ByteRead) (k : ℕ) (d : ByteRead) → map pair_of reads ≡ byte_reads events
@@ -97,25 +75,10 @@ source_known box is k w inside there = (is.candidates k (byte_read_at (box_event
 module _ (events : List Event) (rows : Rows) (len : rows_len rows ≡ length events) (r b w : ℕ) (shared : EventSet)
     (both : (v : ℕ) → HasEvent shared v ↔ (IsCandidate events r b v × Holds rows w v × Holds rows v r)) where
   pub coherent_if_none : ((e : ℕ) → ¬ Holds rows e e) → ¬ Holds rows r w → ((v : ℕ) → ¬ HasEvent shared v) → IsCoherentRead events (Holds rows) r b w
-  coherent_if_none calm not_later none = record {
-    not_later = not_later;
-    not_hidden = λ v hides.
-        none v ((both v).1 (
-          record {
-            known = subst (λ (n : ℕ). v < n) len hides.before_read.first_known;
-            writes = hides.writes;
-            in_range = hides.in_range;
-            other = λ same. calm r (subst (λ (e : ℕ). Holds rows e r) same hides.before_read);
-          },
-          hides.after_source,
-          hides.before_read,
-        ));
-  }
+  coherent_if_none calm not_later none = grind arith
 
   pub none_if_coherent : IsCoherentRead events (Holds rows) r b w → (v : ℕ) → ¬ HasEvent shared v
-  none_if_coherent coherent v there =
-      let is = (both v).0 there in
-      coherent.not_hidden v record { writes = is.0.writes; in_range = is.0.in_range; after_source = is.1; before_read = is.2 }
+  none_if_coherent coherent v there = grind arith
 
 -- ---- sources that are out
 -- what is so of the frame's relations is so of those of its box

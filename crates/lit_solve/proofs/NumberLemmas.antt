@@ -1,14 +1,10 @@
 -- The number of the choice on a combination that has given sources.
-use Rattle.std.proofs.Common.{◌≡◌, ℕ, ◌+◌, ◌*◌, ◌<◌, ◌≤◌, List, [], ◌∷◌, ◌++◌, length, map, take, get_or, Some, slice_get, refl, sym, ap, subst, ◌∙◌, arith}
-use Rattle.std.proofs.lemmas.List.{drop_more, drop_all, length-take-le, length_push, take_all, take_more}
-use Rattle.std.proofs.lemmas.Option.{same_Some, slice_get-get_or, slice_get_within}
-use Rattle.std.proofs.Math.Nat.{mul-le-mul_right}
-use Rattle.lit_read.specs.Syntax.{Litmus}
-use Rattle.lit_paths.specs.declared.event.Event.{Event}
-use Rattle.lit_paths.specs.ByteReads.{byte_reads, byte_read_at}
-use Rattle.lit_paths.specs.Choice.{AreSources, Choice, candidates_of}
-use Rattle.lit_paths.specs.Numbers.{AreNumbered, IsBegunBy, NumbersChoices, length_product, ways_from}
-use Rattle.lit_paths.specs.Plan.{HasSources, IsOfCombination, ListsCandidates, choices_before, events_in}
+use Rattle.lit_solve.proofs.Words.{◌*◌, ◌+◌, ◌++◌, ◌<◌, [], ap, AreNumbered, AreSources, arith, byte_read_at, byte_reads, candidates_of}
+use Rattle.lit_solve.proofs.Words.{Choice, choices_before, common_steps, drop_all, drop_more, Event, events_in, get_or, HasSources}
+use Rattle.lit_solve.proofs.Words.{IsBegunBy, IsOfCombination, length, length-take-le, length_product, length_push, List, ListsCandidates}
+use Rattle.lit_solve.proofs.Words.{Litmus, map, mul-le-mul_right, NumbersChoices, same_Some, slice_get-get_or, slice_get_within, Some}
+use Rattle.lit_solve.proofs.Words.{subst, sym, take, take_all, take_more, ways_from, ℕ, ◌∙◌, ◌∷◌, ◌≡◌, ◌≤◌}
+use Rattle.std.proofs.Common.{slice_get}
 
 -- the choices on a combination that begin with these sources have the numbers from `low` on
 pub record BeginAt (t : Litmus) (c : ℕ) (given : List ℕ) (low : ℕ) : Type 0 where
@@ -24,9 +20,7 @@ ways_end : (events : List Event) (k : ℕ) → length (byte_reads events) ≤ k 
 ways_end events k past = ap (λ (rs : List (ℕ × ℕ)). length_product (map (candidates_of events) rs)) (drop_all k (byte_reads events) past)
 
 rest_none : (xs ys : List ℕ) → length xs ≡ length (xs ++ ys) → xs ++ ys ≡ xs
-rest_none [] [] long = refl
-rest_none [] (y ∷ ys) long = absurd (omega (arith, long))
-rest_none (x ∷ xs) ys long = ap (λ (zs : List ℕ). x ∷ zs) (rest_none xs ys (omega (arith, long)))
+rest_none xs ys long = grind (arith, common_steps)
 
 module _ (t : Litmus) (c : ℕ) (numbers : NumbersChoices t c) where
   pub begin_none : BeginAt t c [] (choices_before t c)
@@ -36,15 +30,7 @@ module _ (t : Litmus) (c : ℕ) (numbers : NumbersChoices t c) where
       (here : slice_get (candidates_of (events_in t c) (byte_read_at (events_in t c) (length given))) i ≡ Some w) where
     -- what comes before the choices with the candidate, among those with the sources given, and these
     pub passed_fits : i * ways_from (events_in t c) (length given + 1) + ways_from (events_in t c) (length given + 1) ≤ ways_from (events_in t c) (length given)
-    passed_fits =
-        let within : i + 1 ≤ length (candidates_of (events_in t c) (byte_read_at (events_in t c) (length given))) =
-        omega (arith, slice_get_within (candidates_of (events_in t c) (byte_read_at (events_in t c) (length given))) i w here) in
-        omega (
-          arith,
-          mul-le-mul_right {m = i + 1} {n = length (candidates_of (events_in t c) (byte_read_at (events_in t c) (length given)))}
-              (ways_from (events_in t c) (length given + 1)) within,
-          ways_split (events_in t c) (length given) left,
-        )
+    passed_fits = grind (arith, mul-le-mul_right, slice_get_within, ways_split)
 
     pub begin_more : BeginAt t c (given ++ w ∷ []) (low + i * ways_from (events_in t c) (length given + 1))
     begin_more =
@@ -87,9 +73,7 @@ module _ (t : Litmus) (c : ℕ) (numbers : NumbersChoices t c) (sources : List �
   long = length-take-le place sources (omega (arith, inside))
 
   here_too : slice_get (candidates_of (events_in t c) (byte_read_at (events_in t c) (length (take place sources)))) index ≡ Some (get_or sources place 0)
-  here_too =
-      ap (λ (k : ℕ). slice_get (candidates_of (events_in t c) (byte_read_at (events_in t c) k)) index) long
-      ∙ ap (λ (ws : List ℕ). slice_get ws index) (sym listed) ∙ here
+  here_too = grind (arith, long)
 
   left : length (take place sources) < length (byte_reads (events_in t c))
   left = omega (arith, long, inside, few)

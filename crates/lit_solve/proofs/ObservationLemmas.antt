@@ -1,22 +1,15 @@
 -- What registers observe: the value of a read from bytes that are decided one after the other, and the outcomes of the parts of a
 -- box.
-use Rattle.std.proofs.Common.{◌≡◌, ◌≢◌, ℕ, zero, suc, ◌+◌, ◌*◌, ◌^◌, ◌<◌, ◌≤◌, Some, List, [], ◌∷◌, ◌++◌, drop, take, length, map, get_or, refl, sym, ap, ap₂, ◌∙◌, arith}
-use Rattle.std.specs.Prelude.{slice_get}
-use Rattle.std.proofs.lemmas.List.{get_or-map, length-map, take_all, take_more}
-use Rattle.std.proofs.lemmas.Option.{slice_get-get_or}
-use Rattle.lit_paths.specs.declared.event.Event.{Event}
-use Rattle.lit_paths.specs.ByteReads.{byte_read_at, byte_reads}
-use Rattle.lit_paths.specs.Execution.{Execution, execution_outcome}
-use Rattle.lit_paths.specs.Outcome.{names_of}
+use Rattle.lit_solve.proofs.Words.{◌*◌, ◌+◌, ◌++◌, ◌<◌, [], ◌^◌, ap, ap₂, arith, byte_read_at, byte_reads, composed, drop, Event, Execution}
+use Rattle.lit_solve.proofs.Words.{execution_outcome, get_or, get_or-map, Laws, length, length-map, List, map, names_of, read_held, refl}
+use Rattle.lit_solve.proofs.Words.{slice_get, slice_get-get_or, Some, suc, sym, take, take_all, take_more, value_held, value_of, zero, ℕ}
+use Rattle.lit_solve.proofs.Words.{◌∙◌, ◌∷◌, ◌≡◌, ◌≢◌, ◌≤◌}
 use Rattle.lit_paths.proofs.NameSteps.{names_from-within}
 use Rattle.lit_paths.proofs.Products.{slice_get-drop}
-use Rattle.lit_rel.specs.ReadsFrom.{composed, value_of}
-use Rattle.lit_valid.specs.Laws.{Laws}
-use Rattle.lit_valid.specs.PartOutcome.{read_held, value_held}
 use Rattle.lit_valid.proofs.CompletionLemmas.{its_outcome}
 use Rattle.lit_solve.specs.declared.filling.Taken.{Taken}
 use Rattle.lit_solve.specs.declared.observation.ReadValue.{ReadValue}
-use Rattle.lit_solve.specs.declared.observation.ReadValue.TheVariants.{One, Open}
+use Rattle.lit_solve.specs.declared.observation.ReadValue.TheVariants.{One}
 use Rattle.lit_solve.specs.Box.{Box, HasSource, IsBox, box_events}
 use Rattle.lit_solve.specs.Completion.{IsCompletion}
 use Rattle.lit_solve.specs.Fill.{AreSourcesIn}
@@ -62,13 +55,7 @@ module _ (box : Box) (r : ℕ) where
 
   pub composed_first : (k : ℕ) (taken : Taken) → k ≤ length reads → ((j q b : ℕ) → j < k → slice_get reads j ≡ Some (q, b) → q < r)
       → taken.value ≡ 0 → taken.bytes ≡ 0 → IsComposedOn box r k taken
-  composed_first k taken within before value bytes sources lie =
-      let rest = composed (bytes_taken events (drop k reads) (drop k sources) r) in
-      let unit : 256 ^ taken.bytes ≡ 1 = ap (λ (n : ℕ). 256 ^ n) bytes in
-      ap composed (passed k sources within lie.sourced.one_each before) ∙ alone (256 ^ taken.bytes) rest unit
-    where
-      alone : (unit rest : ℕ) → unit ≡ 1 → rest ≡ taken.value + unit * rest
-      alone unit rest is = sym (ap (λ (n : ℕ). taken.value + n * rest) is ∙ omega (arith, value))
+  composed_first k taken within before value bytes sources lie = grind (arith, passed)
 
   -- one more byte, which each source stores alike
   pub composed_next : (k w : ℕ) (taken next : Taken) → k < length reads → (byte_read_at events k).0 ≡ r
@@ -102,8 +89,7 @@ module _ (box : Box) (r : ℕ) where
 -- a register that holds a read has its value
 pub held_by_read : (box : Box) (name : ℕ × ℕ) (r : ℕ) (value : ReadValue) → Some r ≡ read_held box.test box.combination name → IsValueOf box r value
     → IsValueHeld box name value
-held_by_read box name r (One value) holds is = λ sources lie. ap (value_held (part_with box sources)) (sym holds) ∙ is sources lie
-held_by_read box name r (Open k) holds is = (is.0, is.1, (name, sym holds ∙ ap (λ (q : ℕ). Some q) (sym is.2)))
+held_by_read box name r value holds is = grind arith
 
 module _ (box : Box) (entered : IsBox box) (laws : Laws) (x : Execution) (is : IsCompletion box x) where
   -- what a register has at the end of the completion
@@ -133,5 +119,4 @@ module _ (box : Box) (entered : IsBox box) (laws : Laws) (x : Execution) (is : I
   -- all values
   pub all_values : (values : List ℕ) → length (names_of box.test) ≤ length values → values ≡ take (length values) (execution_outcome box.test x)
       → execution_outcome box.test x ≡ values
-  all_values values all first =
-      sym (first ∙ take_all (length values) (execution_outcome box.test x) (omega (arith, all, length_outcome)))
+  all_values values all first = grind (arith, length_outcome, take_all)

@@ -1,26 +1,13 @@
 -- Completions with one outcome take sources that store the same for a byte read that a register observes. So what is least in a
 -- part of a box by that byte is least in the box.
-use Rattle.std.proofs.Common.{◌≡◌, ◌⊎◌, ◌↔◌, inl, inr, ℕ, ◌<◌, true, Some, List, length, refl, sym, ap, subst, ◌∙◌, eq-eqb}
-use Rattle.std.specs.Prelude.{slice_get}
-use Rattle.std.specs.List.{zip}
-use Rattle.std.proofs.lemmas.Bool.{cases_eq, false≢true}
-use Rattle.std.proofs.lemmas.Option.{same_Some}
-use Rattle.lit_read.specs.Syntax.{Litmus}
-use Rattle.lit_paths.specs.declared.event.Event.{Event}
-use Rattle.lit_paths.specs.ByteReads.{byte_read_at, byte_reads}
-use Rattle.lit_paths.specs.Execution.{Execution, execution_outcome}
-use Rattle.lit_paths.specs.Outcome.{names_of, value_in}
-use Rattle.lit_paths.specs.Plan.{AreEventsIn}
-use Rattle.lit_rel.specs.declared.event_set.EventSet.{EventSet}
-use Rattle.lit_rel.specs.EventSet.{HasEvent}
-use Rattle.lit_rel.specs.ReadsFrom.{value_of}
+use Rattle.lit_solve.proofs.Words.{◌<◌, ap, AreEventsIn, arith, byte_read_at, byte_reads, cases_eq, Entry, eq-eqb, Event, EventSet}
+use Rattle.lit_solve.proofs.Words.{Execution, execution_outcome, false≢true, HasEvent, HasOutcome, inl, inr, Laws, length, List, names_of}
+use Rattle.lit_solve.proofs.Words.{refl, same_Some, slice_get, Some, subst, sym, true, value_held, value_in, value_of, zip, ℕ, ◌↔◌, ◌∙◌}
+use Rattle.lit_solve.proofs.Words.{◌≡◌, ◌⊎◌}
 use Rattle.lit_rel.proofs.SetLemmas.{event_or_not}
-use Rattle.lit_valid.specs.Entry.{Entry, HasOutcome}
-use Rattle.lit_valid.specs.Laws.{Laws}
-use Rattle.lit_valid.specs.PartOutcome.{value_held}
 use Rattle.lit_solve.specs.declared.goal.Goal.TheVariants.{Any}
 use Rattle.lit_solve.specs.declared.stepping.Branch.{Branch}
-use Rattle.lit_solve.specs.Box.{Box, HasSource, IsBox, IsWithin, box_events, box_with, events_on}
+use Rattle.lit_solve.specs.Box.{Box, HasSource, IsBox, IsWithin, box_events, box_with}
 use Rattle.lit_solve.specs.Completion.{IsCompletion}
 use Rattle.lit_solve.specs.Outcomes.{AddsEntries, HasEachOutcome, IsLeastEntry}
 use Rattle.lit_solve.specs.Internal.Deciding.{IsUndecidedAt, stored_for}
@@ -31,7 +18,7 @@ use Rattle.lit_solve.proofs.CompletionLemmas.{part_of}
 use Rattle.lit_solve.proofs.DecidingLemmas.{byte_for, other_number}
 use Rattle.lit_solve.proofs.EntryLemmas.{adds_more, adds_out, adds_stays}
 use Rattle.lit_solve.proofs.FillLemmas.{sources_lie}
-use Rattle.lit_solve.proofs.ReadByteLemmas.{byte_read_there}
+use Rattle.lit_solve.proofs.NarrowingLemmas.{read_here}
 use Rattle.lit_solve.proofs.RegisterLemmas.{register_value}
 use Rattle.lit_solve.proofs.SearchingLemmas.{not_all, takes_some}
 
@@ -43,28 +30,17 @@ takes_one box k inside x is = takes_some box Any k inside x (record { completes 
 -- a completion of a part of a box is one of the box
 pub completes_within : (box : Box) (domains : List EventSet) → IsWithin (box_with (box.test, box.combination) domains) box → (x : Execution)
     → IsCompletion (box_with (box.test, box.combination) domains) x → IsCompletion box x
-completes_within box domains within x is =
-    record { valid = is.valid; on_paths = is.on_paths; within = λ j w source. within.domains j w (is.within j w source) }
+completes_within box domains within x is = grind arith
 
 -- so the first values of outcomes stay
 pub first_within : (box : Box) (domains : List EventSet) (values : List ℕ) → IsWithin (box_with (box.test, box.combination) domains) box
     → AreFirstValues box values → AreFirstValues (box_with (box.test, box.combination) domains) values
-first_within box domains values within first =
-    record { few = first.few; first = λ x is. first.first x (completes_within box domains within x is) }
+first_within box domains values within first = grind arith
 
 -- what is least in a box that was narrowed is least in what it was
 pub least_narrowed : (box : Box) (domains : List EventSet) → Narrows box (box_with (box.test, box.combination) domains) → (entry : Entry)
     → IsLeastEntry (box_with (box.test, box.combination) domains) entry → IsLeastEntry box entry
-least_narrowed box domains narrows entry is = record {
-  execution = is.execution;
-  completes = completes_within box domains narrows.within is.execution is.completes;
-  outcome = is.outcome;
-  from = is.from;
-  to = is.to;
-  chosen = is.chosen;
-  least = λ x completes its. is.least x (narrows.kept x completes) its;
-  ordered = is.ordered;
-}
+least_narrowed box domains narrows entry is = grind arith
 
 module _ (laws : Laws) (box : Box) (entered : IsBox box) (sound : AreEventsIn box.test.bytes (box_events box)) (k : ℕ)
     (inside : k < length (byte_reads (box_events box))) (observed : IsObservedAt box k) where
@@ -78,7 +54,7 @@ module _ (laws : Laws) (box : Box) (entered : IsBox box) (sound : AreEventsIn bo
   b = (byte_read_at events k).1
 
   at : slice_get (byte_reads events) k ≡ Some (r, b)
-  at = byte_read_there events k inside
+  at = read_here events k inside
 
   -- what the register has at the end is the value of the read
   held : (x : Execution) → IsCompletion box x
@@ -87,10 +63,7 @@ module _ (laws : Laws) (box : Box) (entered : IsBox box) (sound : AreEventsIn bo
 
   same_value : (x y : Execution) → IsCompletion box x → IsCompletion box y → execution_outcome box.test x ≡ execution_outcome box.test y
       → value_of events x.sources r ≡ value_of events y.sources r
-  same_value x y is_x is_y same =
-      sym (held x is_x)
-      ∙ ap (λ (outcome : List ℕ). value_in (zip (names_of box.test) outcome) observed.0.0 observed.0.1) same
-      ∙ held y is_y
+  same_value x y is_x is_y same = grind (arith, held)
 
   -- a source stores the byte that the value has there
   stores : (number : ℕ) (x : Execution) → IsCompletion box x → (w : ℕ) → slice_get x.sources k ≡ Some w → value_of events x.sources r ≡ number
@@ -116,8 +89,7 @@ module _ (laws : Laws) (box : Box) (entered : IsBox box) (sound : AreEventsIn bo
     -- who takes one of them, with an outcome
     takes_too : (x y : Execution) → IsCompletion box x → IsCompletion box y → execution_outcome box.test x ≡ execution_outcome box.test y
         → (v : ℕ) → slice_get y.sources k ≡ Some v → HasEvent group v → TakesFrom x k group
-    takes_too x y is_x is_y same v at_y there w at_x =
-        (alike w).1 (is_x.within k w at_x, same_byte x y is_x is_y same w v at_x at_y ∙ ((alike v).0 there).1)
+    takes_too x y is_x is_y same v at_y there w at_x = grind (arith, same_byte)
 
     module _ (domains : List EventSet) (cut : IsCut box k group (box_with (box.test, box.combination) domains)) where
       abbrev part : Box
@@ -155,8 +127,7 @@ IsSeen box k entries left =
 module _ (box : Box) (k : ℕ) where
   seen_stays : (old new : List Entry) (left : EventSet) → ((outcome : List ℕ) → HasOutcome old outcome → HasOutcome new outcome)
       → IsSeen box k old left → IsSeen box k new left
-  seen_stays old new left stays seen x is =
-      elim (seen x is) [ inl has ↦ inl (stays (execution_outcome box.test x) has) | inr takes ↦ inr takes ]
+  seen_stays old new left stays seen x is = grind arith
 
   seen_more : (entries : List Entry) (left group rest : EventSet)
       → ((w : ℕ) → HasEvent rest w ↔ (HasEvent left w × ¬ HasEvent group w)) → k < length (byte_reads (box_events box))
@@ -177,8 +148,7 @@ module _ (box : Box) (k : ℕ) where
   pub seen_past : (old entries : List Entry) (left group rest : EventSet) → ((w : ℕ) → HasEvent rest w ↔ (HasEvent left w × ¬ HasEvent group w))
       → k < length (byte_reads (box_events box)) → AddsEntries box old entries → IsSeen box k entries left
       → ((x : Execution) → IsCompletion box x → ¬ TakesFrom x k group) → AddsEntries box old entries × IsSeen box k entries rest
-  seen_past old entries left group rest rest_is inside added seen none =
-      (added, seen_more entries left group rest rest_is inside (λ x is takes. absurd (none x is takes)) seen)
+  seen_past old entries left group rest rest_is inside added seen none = grind arith
 
   pub all_seen : (entries : List Entry) (left : EventSet) → ((w : ℕ) → ¬ HasEvent left w) → k < length (byte_reads (box_events box))
       → IsSeen box k entries left → HasEachOutcome box entries
@@ -210,10 +180,7 @@ module _ (laws : Laws) (box : Box) (entered : IsBox box) (sound : AreEventsIn bo
 pub alike_among : (box : Box) (k source : ℕ) (all group : EventSet) → ((w : ℕ) → HasEvent all w ↔ HasSource box k w)
     → ((w : ℕ) → HasEvent group w ↔ (HasEvent all w × (stored_for box k w ≡ stored_for box k source)))
     → (w : ℕ) → HasEvent group w ↔ (HasSource box k w × (stored_for box k w ≡ stored_for box k source))
-alike_among box k source all group all_is group_is w = (
-  λ there. (let is = (group_is w).0 there in ((all_is w).0 is.0, is.1)),
-  λ is. (group_is w).1 ((all_is w).1 is.0, is.1),
-)
+alike_among box k source all group all_is group_is w = grind arith
 
 -- it lacks some source of a byte read that is undecided
 pub some_differ : (box : Box) (k source : ℕ) (group : EventSet) → k < length (byte_reads (box_events box)) → IsUndecidedAt box k → HasSource box k source
@@ -222,6 +189,3 @@ pub some_differ : (box : Box) (k source : ℕ) (group : EventSet) → k < length
 some_differ box k source group inside undecided there alike =
     let branch : Branch = record { place = k; by_value = true } in
     not_all box branch (record { known = inside; several = undecided }) source there group (λ w h. ((alike w).0 h).1)
-
-pub sound_on : {q p : Litmus × ℕ} → q ≡ p → AreEventsIn q.0.bytes (events_on q) → AreEventsIn p.0.bytes (events_on p)
-sound_on is sound = subst (λ (q : Litmus × ℕ). AreEventsIn q.0.bytes (events_on q)) is sound

@@ -1,16 +1,8 @@
 -- Frames before anything follows from them, and boxes cut.
-use Rattle.std.proofs.Common.{◌≡◌, ◌↔◌, ℕ, ◌<◌, [], ◌∷◌, ◌++◌, Some, length, subst}
-use Rattle.std.specs.Prelude.{slice_get}
-use Rattle.lit_paths.specs.Execution.{Execution}
-use Rattle.lit_rel.specs.declared.event_set.EventSet.{EventSet}
-use Rattle.lit_rel.specs.declared.rows.two_way_rows.TwoWayRows.{TwoWayRows}
-use Rattle.lit_rel.specs.EventSet.{HasEvent}
-use Rattle.lit_rel.specs.HappensBefore.{HappensBefore, StepBy}
-use Rattle.lit_rel.specs.ReadsFrom.{ReadsByteFrom}
-use Rattle.lit_rel.specs.Rows.{Holds, IsTransitive, rows_len}
+use Rattle.lit_solve.proofs.Words.{◌<◌, [], arith, common_steps, EventSet, Execution, Given, HappensBefore, HasEvent, Holds, IsTransitive}
+use Rattle.lit_solve.proofs.Words.{length, ReadsByteFrom, rows_len, slice_get, Some, TwoWayRows, ℕ, ◌↔◌, ◌≡◌}
 use Rattle.lit_rel.proofs.ChainLemmas.{Chain-append}
 use Rattle.lit_rel.proofs.GrowthLemmas.{Grows-from}
-use Rattle.lit_order.specs.Forcing.{Given}
 use Rattle.lit_solve.specs.Box.{Box, HasEmptyDomain, HasSource, IsBox, box_events}
 use Rattle.lit_solve.specs.Completion.{IsCompletion}
 use Rattle.lit_solve.specs.Given.{GivenIn, HappensBeforeIn}
@@ -27,14 +19,7 @@ module _ (box : Box) (order : TwoWayRows) (len : rows_len order.rows ≡ length 
   before_in e d h = (Grows-from (box_events box) (ReadsByteFrom (box_events box) []) (GivenIn box) no_byte).happens_before e d ((pairs e d).0 h)
 
   through : IsTransitive (Holds order.rows)
-  through x y z p q =
-      let first = (pairs x y).0 p in
-      let second = (pairs y z).0 q in
-      (pairs x z).1 (record {
-        middles = first.middles ++ y ∷ second.middles;
-        chain = Chain-append
-            (StepBy (box_events box) (ReadsByteFrom (box_events box) [])) x first.middles y second.middles z first.chain second.chain;
-      })
+  through x y z p q = grind (arith, Chain-append)
 
   -- happens-before where no byte read has a source is contained in what follows from any box
   pub unsourced_contained : IsBox box → ¬ HasEmptyDomain box → IsContained box (record { happens_before = order; forced = order; domains = box.domains })
@@ -64,12 +49,4 @@ module _ (box : Box) (place : ℕ) (set left : EventSet) (room : place < length 
 
   -- narrowed further it is the cut
   pub cut_on : (now : Box) → Narrows (narrowed_at box place left) now → IsCut box place set now
-  cut_on now on = record {
-    within = record {
-      test = on.within.test;
-      combination = on.within.combination;
-      domains = λ k w h. (narrowed_within box place left room left_within).domains k w (on.within.domains k w h);
-    };
-    inside = λ w h. ((left_is w).0 (subst (λ (s : EventSet). HasEvent s w) (domain_here box place left room) (on.within.domains place w h))).1;
-    kept = λ x is takes. on.kept x (completion_taken x is takes);
-  }
+  cut_on now on = grind (arith, common_steps, completion_taken, domain_here, left_within, narrowed_within)

@@ -1,17 +1,10 @@
 -- What the boxes of a range keep, and what follows for a box.
-use Rattle.std.proofs.Common.{◌≡◌, ℕ, ◌+◌, ◌-◌, ◌*◌, ◌<◌, ◌≤◌, List, length, Option, Some, None, refl, sym, subst, ◌∙◌, ⊎_elim, arith}
-use Rattle.std.specs.Prelude.{IfSome, MatchOption, slice_index}
-use Rattle.std.proofs.lemmas.Bool.{cases_order}
-use Rattle.std.proofs.lemmas.Option.{same_Some, slice_get-get_or, slice_get_within}
-use Rattle.lit_read.specs.Syntax.{IsLitmus, Litmus}
-use Rattle.lit_paths.specs.declared.event.Event.{Event}
-use Rattle.lit_paths.specs.declared.limits.TheConstants.{BYTE_READ_LIMIT, EVENT_LIMIT}
-use Rattle.lit_paths.specs.ByteReads.{byte_reads, byte_read_at, IsCandidate}
-use Rattle.lit_paths.specs.Choice.{ListsChoices}
-use Rattle.lit_paths.specs.Plan.{AreEventsIn, IsOfCombination, choices_before, events_in}
-use Rattle.lit_rel.specs.declared.event_set.EventSet.{EventSet}
+use Rattle.lit_solve.proofs.Words.{◌*◌, ◌+◌, ◌-◌, ◌<◌, AreEventsIn, arith, byte_read_at, BYTE_READ_LIMIT, byte_reads, cases_order}
+use Rattle.lit_solve.proofs.Words.{choices_before, Event, EVENT_LIMIT, events_in, EventSet, IfSome, IsCandidate, IsLitmus, IsOfCombination}
+use Rattle.lit_solve.proofs.Words.{length, List, ListsChoices, Litmus, MatchOption, None, Option, refl, same_Some, slice_get-get_or}
+use Rattle.lit_solve.proofs.Words.{slice_get_within, slice_index, Some, subst, ℕ, ◌≡◌, ◌≤◌}
 use Rattle.lit_solve.specs.Box.{IsBox, box_with}
-use Rattle.lit_solve.specs.Boxes.{AreDomainsIn, BoxesModel, IsInBox, boxes_events, boxes_len}
+use Rattle.lit_solve.specs.Boxes.{AreDomainsIn, BoxesModel, boxes_events, boxes_len}
 use Rattle.lit_solve.specs.Internal.Cut.{AreEndSources, AreShared, IsCut, IsGreaterAt, IsHighEnd, IsLowEnd, IsSame, IsSide}
 use Rattle.lit_solve.specs.Internal.Parted.{IsParted}
 use Rattle.lit_solve.proofs.CutLemmas.{few_boxes}
@@ -35,33 +28,16 @@ module _ (boxes : BoxesModel) (is : IsParted boxes) where
   high_fits place inside = source_fits boxes.test.bytes (boxes_events boxes) boxes.high place is.sound is.high_sources inside
 
   pub len_fits : boxes_len boxes ≤ 2 * BYTE_READ_LIMIT + 1
-  len_fits =
-      omega (arith, is.sound.few_reads, few_boxes (length (byte_reads (boxes_events boxes))) boxes.shared boxes.lows boxes.highs boxes.low boxes.high is.cut)
+  len_fits = grind (arith, few_boxes)
 
   -- domains that are those of one of them make a box
   pub box_of_domains : (i : ℕ) (domains : List EventSet) → AreDomainsIn boxes i domains → IsLitmus boxes.test → IsBox (box_with (boxes.test, boxes.combination) domains)
-  box_of_domains i domains exact litmus = record {
-    litmus = litmus;
-    known = is.known;
-    candidates = λ k r b w at has.
-        let inside : k < length (byte_reads (boxes_events boxes)) = slice_get_within (byte_reads (boxes_events boxes)) k (r, b) at in
-        let in_box : IsInBox boxes i k w = (exact k w inside).0 has in
-        let same : byte_read_at (boxes_events boxes) k ≡ (r, b) =
-        same_Some (byte_read_at (boxes_events boxes) k) (r, b) (sym (slice_get-get_or (byte_reads (boxes_events boxes)) k (0, 0) inside) ∙ at) in
-        subst (λ (p : ℕ × ℕ). IsCandidate (boxes_events boxes) p.0 p.1 w) same in_box.candidate;
-  }
+  box_of_domains i domains exact litmus = grind (arith, same_Some, slice_get-get_or, slice_get_within)
 
 -- ---- a range cut
 -- of two lists of which the one is no greater, the places that are the same in both end where they part
 parts_at_shared : (a b : List ℕ) (k shared : ℕ) → k ≤ length a → IsSame a b shared → IsGreaterAt a k b → IsGreaterAt a shared b
-parts_at_shared a b k shared inside same is =
-    ⊎_elim
-    (λ here. subst (λ (j : ℕ). IsGreaterAt a j b) here is)
-    (λ apart. ⊎_elim
-    (λ less. absurd (omega (arith, is.greater (omega (arith, less, same.within)), same.same k less)))
-    (λ more. absurd (same.apart (omega (arith, more, inside)) (sym (is.same shared more))))
-    apart)
-    (cases_order k shared)
+parts_at_shared a b k shared inside same is = grind (arith, cases_order)
 
 -- as many boxes as places are left on the side of an end, and none where there is none
 abbrev pub IsCounted : (len : ℕ) → Option (List ℕ) → (shared count : ℕ) → Type 0
@@ -72,12 +48,10 @@ module _ (t : Litmus) (c from to : ℕ) (lists : ListsChoices t) (of : (n : ℕ)
   len = length (byte_reads (events_in t c))
 
   pub low_sourced : (low : Option (List ℕ)) → IsLowEnd t c from low → AreEndSources (events_in t c) low
-  low_sourced None is = tt
-  low_sourced (Some l) is = is.sourced
+  low_sourced low is = grind arith
 
   pub high_sourced : (high : Option (List ℕ)) → IsHighEnd t c to high → AreEndSources (events_in t c) high
-  high_sourced None is = tt
-  high_sourced (Some h) is = is.sourced
+  high_sourced high is = grind arith
 
   pub shared_fits : (low high : Option (List ℕ)) (shared : ℕ) → IsLowEnd t c from low → IsHighEnd t c to high → AreShared low high shared → shared ≤ len
   shared_fits None high shared low_is high_is are = omega (arith, are.no_low)
@@ -86,16 +60,13 @@ module _ (t : Litmus) (c from to : ℕ) (lists : ListsChoices t) (of : (n : ℕ)
 
   side : (end : Option (List ℕ)) (shared count : ℕ) → AreEndSources (events_in t c) end → MatchOption end (shared ≡ 0) (λ _. shared ≤ len) → shared ≤ len → IsCounted len end shared count
       → IsSide len end shared count
-  side None shared count are fits inside counted = record { long = tt; fits = fits; count = counted }
-  side (Some s) shared count are fits inside counted = record { long = are.one_each; fits = fits; count = omega (arith, counted, inside) }
+  side end shared count are fits inside counted = grind arith
 
   low_side : (low high : Option (List ℕ)) (shared : ℕ) → AreShared low high shared → shared ≤ len → MatchOption low (shared ≡ 0) (λ _. shared ≤ len)
-  low_side None high shared are inside = are.no_low
-  low_side (Some l) high shared are inside = inside
+  low_side low high shared are inside = grind arith
 
   high_side : (low high : Option (List ℕ)) (shared : ℕ) → AreShared low high shared → shared ≤ len → MatchOption high (shared ≡ 0) (λ _. shared ≤ len)
-  high_side low None shared are inside = are.no_high
-  high_side low (Some h) shared are inside = inside
+  high_side low high shared are inside = grind arith
 
   parted : (low high : Option (List ℕ)) (shared : ℕ) → IsLowEnd t c from low → IsHighEnd t c to high → AreShared low high shared
       → (a b : List ℕ) → low ≡ Some a → high ≡ Some b → IsGreaterAt a shared b
@@ -109,9 +80,4 @@ module _ (t : Litmus) (c from to : ℕ) (lists : ListsChoices t) (of : (n : ℕ)
   pub cut_of_range : (low high : Option (List ℕ)) (shared lows highs : ℕ) → IsLowEnd t c from low → IsHighEnd t c to high → AreShared low high shared
       → IsCounted len low shared lows → IsCounted len high shared highs → IsCut len low high shared lows highs
   cut_of_range low high shared lows highs low_is high_is are before behind =
-      let inside : shared ≤ len = shared_fits low high shared low_is high_is are in
-      record {
-        before = side low shared lows (low_sourced low low_is) (low_side low high shared are inside) inside before;
-        behind = side high shared highs (high_sourced high high_is) (high_side low high shared are inside) inside behind;
-        parting = parted low high shared low_is high_is are;
-      }
+      grind (arith, high_side, high_sourced, low_side, low_sourced, parted, shared_fits, side)

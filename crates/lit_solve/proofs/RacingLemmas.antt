@@ -1,17 +1,8 @@
 -- Data races that a frame foresees, place by place of the byte reads; a read filled with one source of a byte.
-use Rattle.std.proofs.Common.{◌≡◌, ◌⊎◌, ◌≢◌, ◌↔◌, inl, inr, ℕ, ◌<◌, Some, List, length, get_or, arith, refl, sym, ap, subst, ◌∙◌}
-use Rattle.std.specs.Prelude.{slice_get}
-use Rattle.std.proofs.lemmas.Bool.{cases_eq}
-use Rattle.std.proofs.lemmas.List.{get_or-set_other}
-use Rattle.std.proofs.lemmas.Option.{same_Some, slice_get-get_or, slice_get_within}
-use Rattle.lit_paths.specs.declared.byte_reads.ByteRead.{ByteRead}
-use Rattle.lit_paths.specs.declared.event.Event.{Event}
-use Rattle.lit_paths.specs.ByteReads.{byte_read_at, byte_reads, pair_of}
-use Rattle.lit_rel.specs.declared.event_set.EventSet.{EventSet}
-use Rattle.lit_rel.specs.DataRace.{HasDataRaceOf}
-use Rattle.lit_rel.specs.EventSet.{HasEvent, no_events}
-use Rattle.lit_rel.specs.Racing.{AreApart, HasApartPair, WritesWith}
-use Rattle.lit_rel.specs.Rows.{Holds}
+use Rattle.lit_solve.proofs.Words.{◌<◌, ap, arith, Bool, byte_read_at, byte_reads, ByteRead, cases_eq, Event, EventSet, false, get_or}
+use Rattle.lit_solve.proofs.Words.{get_or-set_other, HasApartPair, HasDataRaceOf, HasEvent, Holds, inl, inr, length, List, pair_of, refl}
+use Rattle.lit_solve.proofs.Words.{same_Some, slice_get, slice_get-get_or, slice_get_within, Some, subst, sym, true, WritesWith, ℕ, ◌↔◌}
+use Rattle.lit_solve.proofs.Words.{◌∙◌, ◌≡◌, ◌⊎◌}
 use Rattle.lit_rel.proofs.RaceLemmas.{HasDataRaceOf-iff, HasDataRaceOf-wider}
 use Rattle.lit_solve.specs.declared.frame.Frame.{Frame}
 use Rattle.lit_solve.specs.Box.{Box, HasSource, box_events}
@@ -19,16 +10,13 @@ use Rattle.lit_solve.specs.DataRace.{CanFillFrom, CanRaceIn, HasSourceOf, MayRac
 use Rattle.lit_solve.specs.Fill.{AreSourcesIn, CanFill, IsFilled}
 use Rattle.lit_solve.specs.Given.{HappensBeforeIn}
 use Rattle.lit_solve.specs.Internal.Frames.{IsExact}
-use Rattle.lit_solve.specs.Internal.Leaves.{CanFillAt, RacesAt}
+use Rattle.lit_solve.specs.Internal.Leaves.{CanFillAt, MayHave, RacesAt, RacesIn}
 use Rattle.lit_solve.proofs.DomainLemmas.{domain_here, narrowed_at, narrowed_within}
-use Rattle.lit_solve.proofs.NarrowingLemmas.{read_there}
-use Rattle.lit_solve.proofs.ReadByteLemmas.{byte_read_there}
+use Rattle.lit_solve.proofs.NarrowingLemmas.{read_here, read_there}
 
 -- the read at a place
 read_at : (box : Box) (k r b : ℕ) → slice_get (byte_reads (box_events box)) k ≡ Some (r, b) → r ≡ (byte_read_at (box_events box) k).0
-read_at box k r b at =
-    let inside = slice_get_within (byte_reads (box_events box)) k (r, b) at in
-    ap (λ (q : ℕ × ℕ). q.0) (same_Some (r, b) (byte_read_at (box_events box) k) (sym at ∙ byte_read_there (box_events box) k inside))
+read_at box k r b at = grind (arith, read_here, same_Some, slice_get_within)
 
 -- by its byte read, as a number of its own
 pub read_number : (events : List Event) (k : ℕ) (p : ByteRead) (r : ℕ) → r ≡ p.read → slice_get (byte_reads events) k ≡ Some (pair_of p)
@@ -53,20 +41,11 @@ module _ (box : Box) (frame : Frame) (exact : IsExact box frame) where
           first = read.0;
           second = race.source;
           apart = race.apart;
-          is_pair = to k read.1 read.0 race.source (byte_read_there (box_events box) k inside) refl race.may_have;
+          is_pair = to k read.1 read.0 race.source (read_here (box_events box) k inside) refl race.may_have;
         }
 
     place_racing : HasApartPair (box_events box) before reads → RacesSomewhere box before may
-    place_racing h =
-        let found = from h.first h.second h.is_pair in (
-          found.0,
-          slice_get_within (byte_reads (box_events box)) found.0 (h.first, found.1) found.2,
-          record {
-            source = h.second;
-            may_have = found.3;
-            apart = subst (λ (r : ℕ). AreApart (box_events box) before r h.second) (read_at box found.0 h.first found.1 found.2) h.apart;
-          },
-        )
+    place_racing h = grind (arith, read_at, slice_get_within)
 
     race_from : RacesSomewhere box before may ⊎ HasApartPair (box_events box) before (WritesWith (box_events box))
         → HasDataRaceOf (box_events box) (HappensBeforeIn box) reads
@@ -90,7 +69,8 @@ module _ (box : Box) (frame : Frame) (exact : IsExact box frame) where
         either (inl read) = inl (place_racing read)
         either (inr writes) = inr writes
 
-  pub may_race_iff : MayRaceIn box ↔ (RacesSomewhere box before (HasSource box) ⊎ HasApartPair (box_events box) before (WritesWith (box_events box)))
+  may_race_iff : MayRaceIn box ↔ (RacesSomewhere box before (HasSource box) ⊎ HasApartPair (box_events box) before (WritesWith (box_events
+      box)))
   may_race_iff = (race_to (HasSourceOf box) (HasSource box) to from, race_from (HasSourceOf box) (HasSource box) to from)
     where
       to : (k b r w : ℕ) → slice_get (byte_reads (box_events box)) k ≡ Some (r, b) → r ≡ (byte_read_at (box_events box) k).0 → HasSource box k w
@@ -100,7 +80,8 @@ module _ (box : Box) (frame : Frame) (exact : IsExact box frame) where
       from : (r w : ℕ) → HasSourceOf box r w → (k : ℕ) × (b : ℕ) × (slice_get (byte_reads (box_events box)) k ≡ Some (r, b)) × HasSource box k w
       from r w h = (h.place, h.byte, h.is_read, h.there)
 
-  pub can_race_iff : CanRaceIn box ↔ (RacesSomewhere box before (CanFillAt box) ⊎ HasApartPair (box_events box) before (WritesWith (box_events box)))
+  can_race_iff : CanRaceIn box ↔ (RacesSomewhere box before (CanFillAt box) ⊎ HasApartPair (box_events box) before (WritesWith (box_events
+      box)))
   can_race_iff = (race_to (CanFillFrom box) (CanFillAt box) to from, race_from (CanFillFrom box) (CanFillAt box) to from)
     where
       to : (k b r w : ℕ) → slice_get (byte_reads (box_events box)) k ≡ Some (r, b) → r ≡ (byte_read_at (box_events box) k).0 → CanFillAt box k w
@@ -128,29 +109,24 @@ module _ (box : Box) (frame : Frame) (exact : IsExact box frame) where
         },
       )
 
--- ---- a read filled with one source of a byte
--- the set of one event
-pub one_alone : (none one : EventSet) (w : ℕ) → ((v : ℕ) → ¬ HasEvent none v) → ((v : ℕ) → HasEvent one v ↔ (HasEvent none v ⊎ (v ≡ w))) → (v : ℕ)
-    → HasEvent one v ↔ (v ≡ w)
-one_alone none one w empty with_it v =
-    ((λ h. elim ((with_it v).0 h) [ inl there ↦ absurd (empty v there) | inr same ↦ same ]), (λ same. (with_it v).1 (inr same)))
+  pub races_iff : (filling : Bool) → RacesIn box filling
+      ↔ (RacesSomewhere box before (MayHave box filling) ⊎ HasApartPair (box_events box) before (WritesWith (box_events box)))
+  races_iff true = can_race_iff
+  races_iff false = may_race_iff
 
+-- what a read may have is in the domain
+pub may_have_source : (box : Box) (filling : Bool) (k w : ℕ) → MayHave box filling k w → HasSource box k w
+may_have_source box true k w can = can.lie.within k w can.takes
+may_have_source box false k w there = there
+
+-- ---- a read filled with one source of a byte
 module _ (box : Box) (place w : ℕ) (one : EventSet) (is_one : (v : ℕ) → HasEvent one v ↔ (v ≡ w)) (room : place < length box.domains) where
   pub one_within : HasSource box place w → (v : ℕ) → HasEvent one v → HasSource box place v
   one_within there v h = subst (λ (u : ℕ). HasSource box place u) (sym ((is_one v).0 h)) there
 
   -- sources with it lie in the box where it is alone at the place
   lie_alone : (sources : List ℕ) → AreSourcesIn box sources → slice_get sources place ≡ Some w → AreSourcesIn (narrowed_at box place one) sources
-  lie_alone sources lie takes = record { sourced = lie.sourced; within = λ k v at. by k v at (cases_eq k place) }
-    where
-      by : (k v : ℕ) → slice_get sources k ≡ Some v → (k ≡ place) ⊎ (k ≢ place) → HasSource (narrowed_at box place one) k v
-      by k v at (inl is) =
-          let here : slice_get sources place ≡ Some v = subst (λ (j : ℕ). slice_get sources j ≡ Some v) is at in
-          let same : v ≡ w = same_Some v w (sym here ∙ takes) in
-          let there : HasSource (narrowed_at box place one) place v = subst (λ (set : EventSet). HasEvent set v)
-          (sym (domain_here box place one room)) ((is_one v).1 same) in
-          subst (λ (j : ℕ). HasSource (narrowed_at box place one) j v) (sym is) there
-      by k v at (inr other) = subst (λ (set : EventSet). HasEvent set v) (sym (get_or-set_other box.domains place k one no_events other)) (lie.within k v at)
+  lie_alone sources lie takes = grind (arith, cases_eq, domain_here, get_or-set_other, same_Some)
 
   -- those that lie there have it
   takes_alone : place < length (byte_reads (box_events box)) → (sources : List ℕ) → AreSourcesIn (narrowed_at box place one) sources

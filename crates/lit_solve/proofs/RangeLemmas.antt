@@ -1,16 +1,9 @@
 -- The choices of a range on a combination are those of its boxes.
-use Rattle.std.proofs.Common.{◌≡◌, ◌↔◌, ℕ, ◌+◌, ◌-◌, ◌<◌, ◌≤◌, List, length, Option, Some, None, slice_get, refl, sym, ap, ap₂, subst, ◌∙◌, ⊎_elim, arith}
-use Rattle.std.specs.Prelude.{IfSome, slice_index}
-use Rattle.std.specs.Cmp.Lexicographic.{slice_cmp}
-use Rattle.std.specs.Ordering.{nat_cmp, ordering_then}
-use Rattle.std.specs.declared.cmp.Ordering.{Ordering}
-use Rattle.std.specs.declared.cmp.Ordering.TheVariants.{Less, Equal}
-use Rattle.std.proofs.lemmas.Bool.{cases_order, cases_lt}
-use Rattle.std.proofs.lemmas.Option.{same_Some, slice_get-get_or, slice_get_within}
-use Rattle.lit_read.specs.Syntax.{Litmus}
-use Rattle.lit_paths.specs.ByteReads.{byte_reads, byte_read_at}
-use Rattle.lit_paths.specs.Choice.{AreSources, Choice, ListsChoices, choice_cmp, choices_of, combinations_of}
-use Rattle.lit_paths.specs.Plan.{HasSources, IsOfCombination, choices_before, events_in}
+use Rattle.lit_solve.proofs.Words.{◌+◌, ◌-◌, ◌<◌, ap, AreSources, arith, byte_read_at, byte_reads, cases_lt, cases_order, Choice}
+use Rattle.lit_solve.proofs.Words.{choices_before, choices_of, combinations_of, events_in, HasSources, IfSome, IsOfCombination, length}
+use Rattle.lit_solve.proofs.Words.{Less, List, ListsChoices, Litmus, nat_cmp, None, Option, refl, same_Some, slice_cmp, slice_get-get_or}
+use Rattle.lit_solve.proofs.Words.{slice_get_within, slice_index, Some, subst, sym, ℕ, ◌↔◌, ◌∙◌, ◌≡◌, ◌≤◌, ⊎_elim}
+use Rattle.std.proofs.Common.{slice_get}
 use Rattle.lit_paths.proofs.Rising.{nat_cmp-same, slice_cmp-same}
 use Rattle.lit_paths.proofs.Totals.{before_all}
 use Rattle.lit_solve.specs.Boxes.{BoxesModel, CutsRange, IsAbove, IsBelow, LiesInBox, boxes_events, boxes_len, parting_in}
@@ -20,8 +13,7 @@ use Rattle.lit_solve.proofs.LexLemmas.{less_from_place, place_of_less}
 
 -- a combination with a first choice is one of the test
 pub known_by_first : (t : Litmus) (c first : ℕ) → first ≡ choices_before t c → first < length (choices_of t) → c < length (combinations_of t)
-known_by_first t c first same known =
-    ⊎_elim (λ less. less) (λ past. absurd (omega (arith, same, known, before_all t c past))) (cases_lt c (length (combinations_of t)))
+known_by_first t c first same known = grind (arith, before_all, cases_lt)
 
 -- ---- the sources of a choice
 module _ (t : Litmus) (c n : ℕ) (a : List ℕ) (of : IsOfCombination t n c) (has : HasSources t n a) where
@@ -32,61 +24,25 @@ module _ (t : Litmus) (c n : ℕ) (a : List ℕ) (of : IsOfCombination t n c) (h
   sourced = subst (λ (ws : List ℕ). AreSources (events_in t c) ws) sources_are of.sourced
 
 one_sources : (t : Litmus) (n : ℕ) (a b : List ℕ) → HasSources t n a → HasSources t n b → a ≡ b
-one_sources t n a b first second =
-    sym first.same ∙ ap (λ (ch : Choice). ch.sources) (same_Some first.choice second.choice (sym first.listed ∙ second.listed)) ∙ second.same
+one_sources t n a b first second = grind (arith, same_Some)
 
 -- ---- two choices on a combination
 module _ (t : Litmus) (c n m : ℕ) (a b : List ℕ) (lists : ListsChoices t) (first : IsOfCombination t n c) (second : IsOfCombination t m c)
     (has : HasSources t n a) (has_too : HasSources t m b) where
   -- sources rise with the numbers of choices
   pub sources_rise : n < m → slice_cmp nat_cmp a b ≡ Less
-  sources_rise less =
-      let before : choice_cmp first.choice second.choice ≡ Less = lists.rising n m first.choice second.choice less first.listed second.listed in
-      let decided : first.choice.decisions ≡ second.choice.decisions = sym first.decided ∙ second.decided in
-      let equal : slice_cmp (slice_cmp nat_cmp) first.choice.decisions second.choice.decisions ≡ Equal =
-      ap (λ (l : List (List ℕ)). slice_cmp (slice_cmp nat_cmp) first.choice.decisions l) (sym decided)
-      ∙ slice_cmp-same (slice_cmp nat_cmp) (λ xs. slice_cmp-same nat_cmp nat_cmp-same xs) first.choice.decisions in
-      let by_sources : slice_cmp nat_cmp first.choice.sources second.choice.sources ≡ Less =
-      sym (ap (λ (o : Ordering). ordering_then o (slice_cmp nat_cmp first.choice.sources second.choice.sources)) equal) ∙ before in
-      sym (ap₂ (λ (x y : List ℕ). slice_cmp nat_cmp x y) (sources_are t c n a first has) (sources_are t c m b second has_too)) ∙ by_sources
+  sources_rise less = grind (arith, nat_cmp-same, slice_cmp-same)
 
   long : length a ≡ length b
   long = (sourced t c n a first has).one_each ∙ sym (sourced t c m b second has_too).one_each
 
   -- where no lesser sources are left
   pub reaches : n ≤ m → (k : ℕ) × (k ≤ length (byte_reads (events_in t c))) × IsGreaterAt a k b
-  reaches le =
-      ⊎_elim
-      (λ same.
-      let one : b ≡ a = one_sources t m b a has_too (subst (λ (j : ℕ). HasSources t j a) same has) in (
-        length a,
-        omega (arith, (sourced t c n a first has).one_each),
-        record {
-          same = λ k _. ap (λ (ws : List ℕ). slice_index ws k) one;
-          greater = λ past. absurd (omega (arith, past));
-        },
-      ))
-      (λ apart. ⊎_elim
-      (λ less.
-      let at = place_of_less a b long (sources_rise less) in
-      (at.0, omega (arith, at.1, (sourced t c n a first has).one_each), at.2))
-      (λ more. absurd (omega (arith, more, le)))
-      apart)
-      (cases_order n m)
+  reaches le = grind (arith, cases_order, long, one_sources, place_of_less, sourced, sources_rise)
 
 -- no list is greater than another that is greater than it
 not_both : (a b : List ℕ) (k e : ℕ) → length a ≡ length b → e < length b → IsGreaterAt a k b → IsGreaterAt b e a → ⊥
-not_both a b k e long inside up down =
-    ⊎_elim
-    (λ less. omega (arith, up.same e less, down.greater inside))
-    (λ not_less. ⊎_elim
-    (λ more. omega (arith, down.same k more, up.greater (omega (arith, more, inside, long))))
-    (λ not_more.
-    let same : k ≡ e = omega (arith, not_less, not_more) in
-    let both : IsGreaterAt a e b = subst (λ (j : ℕ). IsGreaterAt a j b) same up in
-    omega (arith, both.greater (omega (arith, inside, long)), down.greater inside))
-    (cases_lt k e))
-    (cases_lt e k)
+not_both a b k e long inside up down = grind (arith, cases_lt)
 
 module _ (t : Litmus) (c n m : ℕ) (a b : List ℕ) (lists : ListsChoices t) (first : IsOfCombination t n c) (second : IsOfCombination t m c)
     (has : HasSources t n a) (has_too : HasSources t m b) where
@@ -124,10 +80,7 @@ module _ (t : Litmus) (c : ℕ) (lists : ListsChoices t) (of : (n : ℕ) → cho
       omega (arith, le, some)
 
   pub range_between : (low high : Option (List ℕ)) → IsLowEnd t c from low → IsHighEnd t c to high → ((from ≤ n) × (n < to)) ↔ IsBetween len low high s
-  range_between low high low_is high_is = (
-    λ inside. record { above = above_low low low_is inside.0; below = below_high high high_is inside.1 },
-    λ is. (from_low low low_is is.above, from_high high high_is is.below),
-  )
+  range_between low high low_is high_is = grind (arith, above_low, below_high, from_high, from_low)
 
 -- ---- sources that lie in a box
 above_known : (low : Option (List ℕ)) (place : ℕ) (s : List ℕ) → place ≤ length s → IfSome low (λ l. length l ≡ length s)
@@ -149,36 +102,14 @@ below_known (Some h) place s fits each = record {
 above_from : (low : Option (List ℕ)) (place : ℕ) (s : List ℕ) (k w : ℕ) → IfSome low (λ l. length l ≡ length s) → k < length s → w ≡ slice_index s k
     → IfSome low (λ l. IsGreaterAt l place s)
     → IfSome low (λ l. IsAbove l place k w)
-above_from None place s k w long inside here is = tt
-above_from (Some l) place s k w long inside here is = (
-  λ before. here ∙ is.same k before,
-  λ at.
-      let less : slice_index l k < slice_index s k = subst (λ (j : ℕ). slice_index l j < slice_index s j) (sym at)
-      (is.greater (omega (arith, at, inside, long))) in
-      omega (arith, less, here),
-)
+above_from low place s k w long inside here is = grind arith
 
 below_from : (high : Option (List ℕ)) (place : ℕ) (s : List ℕ) (k w : ℕ) → k < length s → w ≡ slice_index s k → IfSome high (λ h. IsGreaterAt s place h)
     → IfSome high (λ h. IsBelow h place k w)
-below_from None place s k w inside here is = tt
-below_from (Some h) place s k w inside here is = (
-  λ before. here ∙ sym (is.same k before),
-  λ at.
-      let less : slice_index s k < slice_index h k = subst (λ (j : ℕ). slice_index s j < slice_index h j) (sym at) (is.greater (omega (arith, at, inside))) in
-      omega (arith, less, here),
-)
-
--- the place where a box parts is one of a byte read, or behind the last one
-parting_fits : (len shared lows highs : ℕ) (low high : Option (List ℕ)) (i : ℕ) → IsCut len low high shared lows highs → i < lows + 1 + highs
-    → shared + ((lows - i) + (i - lows)) ≤ len
-parting_fits len shared lows highs None None i cut inside = omega (arith, inside, cut.before.fits, cut.before.count, cut.behind.count)
-parting_fits len shared lows highs None (Some h) i cut inside = omega (arith, inside, cut.before.fits, cut.before.count, cut.behind.count)
-parting_fits len shared lows highs (Some l) None i cut inside = omega (arith, inside, cut.behind.fits, cut.before.count, cut.behind.count)
-parting_fits len shared lows highs (Some l) (Some h) i cut inside = omega (arith, inside, cut.before.fits, cut.before.count, cut.behind.count)
+below_from high place s k w inside here is = grind arith
 
 low_long : (n : ℕ) (s : List ℕ) (low : Option (List ℕ)) → length s ≡ n → IfSome low (λ l. length l ≡ n) → IfSome low (λ l. length l ≡ length s)
-low_long n s None same is = tt
-low_long n s (Some l) same is = is ∙ sym same
+low_long n s low same is = grind arith
 
 module _ (boxes : BoxesModel) (cut : IsCut (length (byte_reads (boxes_events boxes))) boxes.low boxes.high boxes.shared boxes.lows boxes.highs)
     (s : List ℕ) (are : AreSources (boxes_events boxes) s) (i : ℕ) (inside : i < boxes_len boxes) where
@@ -186,13 +117,7 @@ module _ (boxes : BoxesModel) (cut : IsCut (length (byte_reads (boxes_events box
   at_place k within = slice_get-get_or s k 0 within
 
   fits : parting_in boxes i ≤ length s
-  fits =
-      omega (
-        arith,
-        are.one_each,
-        parting_fits (length (byte_reads (boxes_events boxes))) boxes.shared boxes.lows boxes.highs boxes.low boxes.high i
-            cut inside,
-      )
+  fits = grind arith
 
   pub in_cut : LiesInBox boxes i s → IsInCut boxes.low boxes.high boxes.shared boxes.lows i s
   in_cut lies = record {

@@ -1,29 +1,17 @@
 -- What a register has in the outcome of a completion is the value of the read that it holds at the end of its agent's path.
-use Rattle.std.proofs.Common.{◌≡◌, ◌≢◌, ◌⊎◌, inl, inr, ℕ, zero, suc, ◌+◌, ◌<◌, ◌≤◌, ◌==◌, ◌&&◌, ◌||◌, Bool, true, false, cond, Option, Some, None, List, [], ◌∷◌, ◌++◌, length, map, filter, zip, refl, sym, ap, ap₂, subst, ◌∙◌, arith, eq-eqb}
-use Rattle.std.specs.Prelude.{IsTrue, if◌then◌else◌, slice_get, slice_index_or}
-use Rattle.std.specs.List.{list_any, range_with_len}
-use Rattle.std.specs.Option.{option_or}
-use Rattle.std.proofs.lemmas.Bool.{cases_eq, cases_lt, false≢true, ne_eqb, or_parts}
-use Rattle.std.proofs.lemmas.Bool.Decides.{nat_tests}
-use Rattle.std.proofs.lemmas.List.{get_or_past, length-map}
-use Rattle.std.proofs.lemmas.List.Folds.{list_any-append}
-use Rattle.std.proofs.lemmas.List.FromFn.{get_or-map-range_with_len, length-map-range_with_len}
-use Rattle.std.proofs.lemmas.Option.{none-some, same_Some, slice_get-get_or}
-use Rattle.lit_read.specs.declared.limits.TheConstants.{REGISTERS}
-use Rattle.lit_read.specs.Syntax.{Agent, Is, Litmus, Statement, Statements, Load, Store, Exchange, CompareExchange, If, End, Then, agent_of, statement_writes, writes}
-use Rattle.lit_paths.specs.declared.event.Event.{Event}
-use Rattle.lit_paths.specs.Choice.{product}
-use Rattle.lit_paths.specs.Event.{does_read, event_at}
-use Rattle.lit_paths.specs.Execution.{Execution, execution_outcome}
-use Rattle.lit_paths.specs.Outcome.{names_from, names_in, names_of, value_in}
-use Rattle.lit_paths.specs.Path.{IsStatementWalk, IsWalk, Step, path_on, walks_of}
-use Rattle.lit_paths.specs.PathModel.{IsReadAt, accesses_of, last_read, last_read_from, reads_into}
-use Rattle.lit_paths.specs.Plan.{IsWalkIn, events_in, first_event, path_in, walk_in, walks_in}
+use Rattle.lit_solve.proofs.Words.{◌&&◌, ◌+◌, ◌++◌, ◌<◌, ◌==◌, [], accesses_of, Agent, agent_of, ap, ap₂, arith, Bool, cases_eq, cases_lt}
+use Rattle.lit_solve.proofs.Words.{CompareExchange, cond, does_read, End, eq-eqb, Event, event_at, events_in, Exchange, Execution}
+use Rattle.lit_solve.proofs.Words.{execution_outcome, false, false≢true, filter, first_event, get_or-map-range_with_len, get_or_past, If}
+use Rattle.lit_solve.proofs.Words.{if◌then◌else◌, inl, inr, Is, IsReadAt, IsStatementWalk, IsTrue, IsWalk, IsWalkIn, last_read}
+use Rattle.lit_solve.proofs.Words.{last_read_from, Laws, length, length-map, length-map-range_with_len, List, list_any, list_any-append}
+use Rattle.lit_solve.proofs.Words.{Litmus, Load, map, names_from, names_in, names_of, nat_tests, ne_eqb, None, none-some, number_on, Option}
+use Rattle.lit_solve.proofs.Words.{option_or, or_parts, path_in, path_on, range_with_len, read_held, reads_into, refl, REGISTERS, same_Some}
+use Rattle.lit_solve.proofs.Words.{slice_get, slice_get-get_or, slice_index_or, Some, Statement, statement_writes, Statements, Step, Store}
+use Rattle.lit_solve.proofs.Words.{subst, suc, sym, Then, true, value_held, value_in, walk_in, writes, zero, ◌||◌, ℕ, ◌∙◌, ◌∷◌, ◌≡◌, ◌≢◌}
+use Rattle.lit_solve.proofs.Words.{◌≤◌, ◌⊎◌}
+use Rattle.std.proofs.Common.{zip}
 use Rattle.lit_paths.proofs.NameSteps.{names_from-within}
 use Rattle.lit_paths.proofs.Products.{product-known}
-use Rattle.lit_rel.specs.Broken.{number_on}
-use Rattle.lit_valid.specs.Laws.{Laws}
-use Rattle.lit_valid.specs.PartOutcome.{read_held, value_held}
 use Rattle.lit_valid.proofs.CompletionLemmas.{its_outcome}
 use Rattle.lit_solve.specs.declared.deciding.Decided.{Decided}
 use Rattle.lit_solve.specs.declared.deciding.Decided.TheVariants.{Comes, Hangs}
@@ -93,9 +81,7 @@ value_named f (n ∷ names) agent reg = by (n.0 == agent) (n.1 == reg) refl refl
     by false false is_agent is_reg rest = rest
 
 either : (a b : Bool) → (a ≡ true) ⊎ (b ≡ true) → (a || b) ≡ true
-either true b h = refl
-either false b (inl h) = absurd (false≢true h)
-either false b (inr h) = h
+either a b h = grind (arith, false≢true)
 
 itself : (agent reg : ℕ) → is_name agent reg (agent, reg) ≡ true
 itself agent reg = ap₂ (λ (x y : Bool). x && y) (eq-eqb agent agent refl) (eq-eqb reg reg refl)
@@ -144,33 +130,17 @@ named_from n (suc k) reg (x ∷ agents) a at known picks =
 -- ---- what registers hold
 -- an agent that is not there has no walk
 pub walk_beyond : (t : Litmus) (c agent : ℕ) → length t.agents ≤ agent → walk_in t c agent ≡ []
-walk_beyond t c agent past = by (cases_lt c (length (product lists)))
-  where
-    lists : List (List (List Step))
-    lists = map (λ (a : Agent). walks_of a.body) t.agents
-
-    by : (c < length (product lists)) ⊎ (length (product lists) ≤ c) → walk_in t c agent ≡ []
-    by (inl known) =
-        let long : length (walks_in t c) ≡ length lists = (product-known lists c (walks_in t c) (slice_get-get_or (product lists) c [] known)).one_each in
-        get_or_past (walks_in t c) agent [] (omega (arith, long, length-map t.agents (λ (a : Agent). walks_of a.body), past))
-    by (inr beyond) = ap (λ (walks : List (List Step)). slice_index_or walks agent []) (get_or_past (product lists) c [] beyond)
+walk_beyond t c agent past = grind (arith, cases_lt, get_or_past, length-map, product-known, slice_get-get_or)
 
 -- such a register holds nothing at the end of its agent's path
 abbrev last_held : (t : Litmus) (c agent reg : ℕ) → Option ℕ
 last_held t c agent reg = slice_index_or (path_in t c agent).last reg None
 
 pub none_beyond : (t : Litmus) (c agent reg : ℕ) → REGISTERS ≤ reg → last_held t c agent reg ≡ None
-none_beyond t c agent reg past =
-    get_or_past (path_in t c agent).last reg None (omega (arith, length-map-range_with_len (last_read (walk_in t c agent)) 0 REGISTERS, past))
+none_beyond t c agent reg past = grind (arith, get_or_past, length-map-range_with_len)
 
 pub none_without_agent : (t : Litmus) (c agent reg : ℕ) → length t.agents ≤ agent → last_held t c agent reg ≡ None
-none_without_agent t c agent reg past = by (cases_lt reg REGISTERS)
-  where
-    by : (reg < REGISTERS) ⊎ (REGISTERS ≤ reg) → last_held t c agent reg ≡ None
-    by (inl known) =
-        get_or-map-range_with_len (last_read (walk_in t c agent)) 0 REGISTERS reg reg None known (omega arith)
-        ∙ ap (λ (steps : List Step). last_read steps reg) (walk_beyond t c agent past)
-    by (inr beyond) = none_beyond t c agent reg beyond
+none_without_agent t c agent reg past = grind (arith, cases_lt, get_or-map-range_with_len, none_beyond, walk_beyond)
 
 none_unwritten : (t : Litmus) (c agent reg : ℕ) → IsWalkIn t c agent (walk_in t c agent) → reg < REGISTERS
     → writes (agent_of t agent).body reg ≡ false → last_held t c agent reg ≡ None

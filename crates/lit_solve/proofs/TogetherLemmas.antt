@@ -1,18 +1,8 @@
 -- Sources put together: each byte read takes what a list of sources of its own read has there.
-use Rattle.std.proofs.Common.{◌≡◌, ◌≢◌, ◌⊎◌, inl, inr, ℕ, zero, suc, ◌+◌, ◌<◌, ◌≤◌, ◌==◌, Bool, false, cond, Some, List, [], ◌∷◌, filter, length, map, get_or, refl, sym, ap, subst, ◌∙◌, arith}
-use Rattle.std.specs.Prelude.{slice_get}
-use Rattle.std.specs.List.{zip}
-use Rattle.std.proofs.lemmas.Bool.{cases_eq, cases_lt}
-use Rattle.std.proofs.lemmas.Bool.Decides.{nat_tests}
-use Rattle.std.proofs.lemmas.Option.{none-some, same_Some, slice_get-get_or, slice_get_within}
-use Rattle.lit_paths.specs.declared.event.Event.{Event}
-use Rattle.lit_paths.specs.ByteReads.{byte_reads, byte_read_at}
-use Rattle.lit_paths.specs.Choice.{AreSources}
-use Rattle.lit_paths.specs.Event.{event_at, payload_at}
-use Rattle.lit_rel.specs.Broken.{HasFalseTestOn}
-use Rattle.lit_rel.specs.InitReads.{AreOfEvents}
-use Rattle.lit_rel.specs.ReadsFrom.{ReadsByteFrom, composed, value_of}
-use Rattle.lit_rel.specs.TearFree.{ReadsWholeBy}
+use Rattle.lit_solve.proofs.Words.{◌+◌, ◌<◌, ◌==◌, [], ap, AreOfEvents, AreSources, arith, Bool, byte_read_at, byte_reads, cases_eq}
+use Rattle.lit_solve.proofs.Words.{cases_lt, cond, Event, false, filter, get_or, inl, inr, length, List, nat_tests, none-some, refl}
+use Rattle.lit_solve.proofs.Words.{same_Some, slice_get, slice_get-get_or, slice_get_within, Some, suc, sym, value_of, zero, zip, ℕ, ◌∙◌}
+use Rattle.lit_solve.proofs.Words.{◌∷◌, ◌≡◌, ◌≢◌, ◌≤◌, ◌⊎◌}
 use Rattle.lit_solve.specs.Box.{Box, box_events}
 use Rattle.lit_solve.specs.Fill.{AreSourcesIn, CanFill, IsFilled}
 
@@ -49,26 +39,12 @@ AgreeOn events r sources others = (k b : ℕ) → slice_get (byte_reads events) 
 value_agrees : (events : List Event) (r : ℕ) (sources others : List ℕ) → AreSources events sources → AreSources events others
     → AgreeOn events r sources others → value_of events sources r ≡ value_of events others r
 unfolding of_read
-value_agrees events r sources others sourced other_sourced agree =
-    ap (λ (ps : List ((ℕ × ℕ) × ℕ)). composed (map (λ p. payload_at (event_at events p.1) p.0.1) ps))
-    (of_read-same r (byte_reads events) sources others sourced.one_each other_sourced.one_each agree)
+value_agrees events r sources others sourced other_sourced agree = grind (arith, of_read-same)
 
 -- what fills a read does so beside any sources of other reads
 pub fills_as_well : (box : Box) (r : ℕ) (sources others : List ℕ) → AreSources (box_events box) sources → AreSources (box_events box) others
     → AgreeOn (box_events box) r sources others → IsFilled box r sources → IsFilled box r others
-fills_as_well box r sources others sourced other_sourced agree filled = record {
-  tear_free = λ w v first second. filled.tear_free w v (back w first) (back v second);
-  tests = λ bad. filled.tests (subst (λ (value : ℕ). HasFalseTestOn box.test box.combination (Some r) value) (sym same_value) bad);
-}
-  where
-    same_value : value_of (box_events box) sources r ≡ value_of (box_events box) others r
-    same_value = value_agrees (box_events box) r sources others sourced other_sourced agree
-
-    back : (w : ℕ) → ReadsWholeBy (box_events box) (ReadsByteFrom (box_events box) others) r w
-        → ReadsWholeBy (box_events box) (ReadsByteFrom (box_events box) sources) r w
-    back w h =
-        let byte = h.reads.1 in
-        record { reads = (h.reads.0, (byte.0, byte.1, agree byte.0 h.reads.0 byte.1 ∙ byte.2)); can = h.can }
+fills_as_well box r sources others sourced other_sourced agree filled = grind (arith, value_agrees)
 
 -- ---- a list for each read
 module _ (box : Box) (chosen : ℕ → List ℕ) where
@@ -137,11 +113,7 @@ module _ (box : Box) (of_events : AreOfEvents (box_events box)) (fills : (r : �
 
   pick_fills : (r : ℕ) → r < length (box_events box) → AreSourcesIn box (picked r) × IsFilled box r (picked r)
   unfolding pick picked
-  pick_fills r known = by (cases_lt r (length (box_events box)))
-    where
-      by : (known_or : (r < length (box_events box)) ⊎ (length (box_events box) ≤ r)) → AreSourcesIn box (pick r known_or) × IsFilled box r (pick r known_or)
-      by (inl here) = ((fills r here).1, (fills r here).2)
-      by (inr past) = absurd (omega (arith, known, past))
+  pick_fills r known = grind (arith, cases_lt)
 
   pub filled_together : (sources : List ℕ) × AreSourcesIn box sources × ((r : ℕ) → r < length (box_events box) → IsFilled box r sources)
   filled_together = (

@@ -20,7 +20,8 @@ ghost use Rattle.lit_solve.specs.Boxes.{AreDomainsIn, CutsRange, IsAbove, IsBelo
 use crate::boxes::candidates::candidates_of;
 use crate::boxes::ends::End;
 use crate::domains::Domains;
-use lit_paths::laws::{choices_are_listed, choices_are_on_combinations};
+use crate::numbering::first_of;
+use lit_paths::laws::choices_are_listed;
 use lit_paths::{Combination, EVENT_LIMIT};
 use lit_rel::EventSet;
 use std::marker::Model;
@@ -74,9 +75,8 @@ impl<'a, 'p> Boxes<'a, 'p> {
         ensures cuts { CutsRange result from to }
     {
         choices_are_listed();
-        choices_are_on_combinations();
         // That the combination is one of the test is known of its first choice, and that it has few byte reads of its events.
-        let _first = combination.first();
+        let _first = first_of(combination);
         let _events = combination.events();
         let low = End::low(combination, from);
         let high = End::high(combination, to);

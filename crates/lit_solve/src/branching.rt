@@ -45,7 +45,7 @@ impl Problem<'_> {
         requires read { read < length (events_on self.now) }
         ensures { IsTrue result ↔ HasEffect (events_on self.now) source read }
     {
-        has_effect(self.combination.events(), &self.peers, source, read)
+        has_effect(self.events(), &self.peers, source, read)
     }
 
     /// Whether the byte read at a place has several sources left, one of which can force something.
@@ -71,8 +71,7 @@ impl Problem<'_> {
         false
     }
 
-    /// A byte read with several sources left, one of which can force something: one with the fewest. `None` exactly where
-    /// there is none.
+    /// A byte read with several sources left, one of which can force something: one with the fewest. `None` exactly where there is none.
     pub(crate) fn branch(&self, frame: &Frame) -> Option<usize>
         requires { IsContained (box_of self.now frame.now) frame.now }
         ensures known { IfSome result (λ place. place < length (byte_reads (events_on self.now))) }

@@ -1,10 +1,12 @@
 //! All outcomes of a frame: a search that branches on what registers observe.
 
-ghost use Rattle.std.specs.Prelude.{◌≡◌, ℕ, ◌<◌, IfSome, IsFalse, IsTrue, OnOk, length};
+ghost use Rattle.std.specs.Prelude.{◌≡◌, ◌<◌, IfSome, IsFalse, OnOk, length};
 ghost use Rattle.lit_paths.specs.ByteReads.{byte_read_at, byte_reads};
 ghost use Rattle.lit_paths.specs.Execution.{Execution, execution_outcome};
-ghost use Rattle.lit_solve.specs.Box.{events_on};
-ghost use Rattle.lit_solve.specs.Completion.{IsCompletion};
+ghost use Rattle.lit_valid.specs.Entry.{HasOutcome};
+ghost use Rattle.lit_solve.specs.Box.{box_with, events_on};
+ghost use Rattle.lit_solve.specs.declared.goal.Goal.TheVariants.{Any};
+ghost use Rattle.lit_solve.specs.Completion.{IsCompletion, IsLeastSolution};
 ghost use Rattle.lit_solve.specs.Fill.{IsQuiet};
 ghost use Rattle.lit_solve.specs.Internal.Deciding.{IsUndecidedAt};
 ghost use Rattle.lit_solve.specs.Internal.Frames.{box_of};
@@ -13,14 +15,16 @@ ghost use Rattle.lit_solve.specs.Internal.Observation.{AreFirstValues, IsObserva
 ghost use Rattle.lit_solve.specs.Internal.Settled.{IsSettled};
 ghost use Rattle.lit_solve.specs.Outcomes.{AddsEntries, HasEachOutcome};
 
+use crate::domains::Domains;
 use crate::frame::Frame;
 use crate::goal::Goal;
+use crate::heartbeat::Heartbeat;
 use crate::laws::{quiet_boxes_are_filled_read_by_read, reads_are_filled_together};
+use crate::leading::Least;
 use crate::numbering::number_of;
 use crate::observation::Values;
 use crate::problem::Problem;
 use crate::table::OutcomeTable;
-use lit_rel::has_false_test;
 use lit_valid::laws::laws_below;
 use std::alloc::AllocError;
 
@@ -51,7 +55,7 @@ impl Problem<'_> {
         ensures { IfSome result (λ k. (k < length (byte_reads (events_on self.now))) × IsUndecidedAt (box_of self.now frame.now) k
             × IsObservedAt (box_of self.now frame.now) k) }
     {
-        let _events = self.combination.events();
+        let _events = self.events();
         for name in self.names {
             if let Some(read) = self.read_held(name.0, name.1) {
                 if let Some(place) = self.forcing_byte(frame, read as u8) {
@@ -74,6 +78,25 @@ impl Problem<'_> {
         Some(self.forcing_observed(frame).unwrap_or(open))
     }
 
+    /// Records an outcome that each completion of a box has, and that the table lacks, with the least completion.
+    pub(crate) fn put<T: OutcomeTable>(
+        &self,
+        _domains: &Domains,
+        outcome: &[u32],
+        least: Least,
+        table: &mut T,
+    ) -> Result<(), AllocError>
+        requires lacked { ¬ HasOutcome (T.entries table.old) outcome.now }
+        requires same { (x : Execution) → IsCompletion (box_with self.now _domains.now) x → execution_outcome self.now.0 x ≡ outcome.now }
+        requires least { IsLeastSolution (box_with self.now _domains.now) Any least.sources.items least.order.items }
+        ensures added { AddsEntries (box_with self.now _domains.now) (T.entries table.old) (T.entries table.new) }
+        ensures whole { OnOk result (HasEachOutcome (box_with self.now _domains.now) (T.entries table.new)) }
+    {
+        let choice = number_of(&self.combination, least.sources.as_slice());
+        table.record(outcome, choice, least.order)?;
+        Ok(())
+    }
+
     /// Records the outcome of a frame, which each completion has, if the table lacks it and there is a completion. What is in
     /// doubt is then whether there was one.
     fn record<T: OutcomeTable>(
@@ -84,23 +107,19 @@ impl Problem<'_> {
         doubt: &mut bool,
     ) -> Result<(), AllocError>
         requires settled { IsSettled (box_of self.now frame.now) frame.now }
-        requires same { (x : Execution) → IsCompletion (box_of self.now frame.now) x
-            → execution_outcome self.now.0 x ≡ outcome.now }
+        requires same { (x : Execution) → IsCompletion (box_of self.now frame.now) x → execution_outcome self.now.0 x ≡ outcome.now }
         ensures added { AddsEntries (box_of self.now frame.now) (T.entries table.old) (T.entries table.new) }
         ensures whole { OnOk result (HasEachOutcome (box_of self.now frame.now) (T.entries table.new)) }
     {
         if table.has(outcome) {
             return Ok(());
         }
-        match self.least(frame, Goal::Any) {
-            Some(least) => {
-                *doubt = false;
-                let choice = number_of(&self.combination, least.sources.as_slice());
-                table.record(outcome, choice, least.order)?;
-            }
-            None => *doubt = true,
-        }
-        Ok(())
+        let Some(least) = self.least(frame, Goal::Any) else {
+            *doubt = true;
+            return Ok(());
+        };
+        *doubt = false;
+        self.put(&frame.domains, outcome, least, table)
     }
 
     /// Records the outcomes of a quiet frame's completions that a table lacks, of which these are the first values.
@@ -120,7 +139,7 @@ impl Problem<'_> {
         reads_are_filled_together();
         quiet_boxes_are_filled_read_by_read();
         *doubt = true;
-        if has_false_test(&self.combination, None, 0) {
+        if self.has_false_unwritten() {
             return Ok(());
         }
         if !self.can_fill_each(&frame.domains) {
@@ -143,12 +162,13 @@ impl Problem<'_> {
 
     /// Records the outcomes of a frame's completions that a table lacks, of which these are the first values. Where an outcome
     /// was without a completion, `doubt` is set, and before each further step down it is found out whether there is one.
-    pub(crate) fn outcomes<T: OutcomeTable>(
+    pub(crate) fn outcomes<T: OutcomeTable, H: Heartbeat>(
         &self,
         frame: &Frame,
         values: &Values,
         table: &mut T,
         doubt: &mut bool,
+        heartbeat: &H,
     ) -> Result<(), AllocError>
         requires settled { IsSettled (box_of self.now frame.now) frame.now }
         requires first { AreFirstValues (box_of self.now frame.now) values.now.items }
@@ -156,6 +176,7 @@ impl Problem<'_> {
         ensures whole { OnOk result (HasEachOutcome (box_of self.now frame.now) (T.entries table.new)) }
     {
         laws_below();
+        heartbeat.beat();
         let mut values = values.clone()?;
         let Some(place) = self.next_observed(frame, &mut values) else {
             return self.record(frame, values.as_slice(), table, doubt);
@@ -163,7 +184,7 @@ impl Problem<'_> {
         let Some(_branch) = self.branch(frame) else {
             return self.quiet_outcomes(frame, &values, table, doubt);
         };
-        let _events = self.combination.events();
+        let _events = self.events();
         let all = self.sources_left(frame, place);
         let mut left = all;
         while let Some((source, _others)) = left.split_first() {
@@ -171,7 +192,7 @@ impl Problem<'_> {
             let mut next = *frame;
             // An outcome without a completion is dear to find out, and its neighbours mostly have none either.
             if self.cut(&mut next, place, group) && self.may_complete(&next, *doubt) {
-                self.outcomes(&next, &values, table, doubt)?;
+                self.outcomes(&next, &values, table, doubt, heartbeat)?;
             }
             left = left.difference(group);
         }

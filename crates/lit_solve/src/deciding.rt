@@ -63,7 +63,7 @@ impl Problem<'_> {
             × (stored_for (box_with self.now domains.now) place w ≡ value)) }
     {
         let byte = self.byte_read(place).byte;
-        storing(self.combination.events(), domains[place], byte, value)
+        storing(self.events(), domains[place], byte, value)
     }
 
     /// Whether the byte read at a place is read as this byte, by the sources in its domain.
@@ -72,7 +72,7 @@ impl Problem<'_> {
         requires is_box { IsBox (box_with self.now domains.now) }
         ensures { IsByteDecided (box_with self.now domains.now) place value result }
     {
-        let _events = self.combination.events();
+        let _events = self.events();
         let storing = self.storing(domains, place, value);
         let Some(_some) = storing.split_first() else {
             return Decided::Comes(false);
@@ -91,7 +91,7 @@ impl Problem<'_> {
         ensures { IsReadDecided (box_with self.now domains.now) read value result }
     {
         laws_below();
-        let event = event_at(self.combination.events(), read);
+        let event = event_at(self.events(), read);
         if !fits(value, event.size) {
             return Decided::Comes(false);
         }
@@ -110,8 +110,7 @@ impl Problem<'_> {
         decided
     }
 
-    /// The read that a register of an agent holds at the end of the agent's path, by number; `None` where it was not
-    /// written.
+    /// The read that a register of an agent holds at the end of the agent's path, by number; `None` where it was not written.
     pub(crate) fn read_held(&self, agent: u8, reg: u8) -> Option<usize>
         ensures value { result ≡ read_of self.now.0 self.now.1 (agent, reg) }
         ensures reads { IfSome result (λ r. (r < length (events_on self.now))

@@ -1,6 +1,6 @@
 //! Going down to the least completion that is looked for: each byte read in turn takes its least source that is not refuted.
 
-ghost use Rattle.std.specs.Prelude.{◌≡◌, ℕ, ◌<◌, IfNone, IfSome, IsTrue, length};
+ghost use Rattle.std.specs.Prelude.{ℕ, ◌<◌, IfNone, IfSome, IsTrue, length};
 ghost use Rattle.lit_paths.specs.ByteReads.{byte_reads};
 ghost use Rattle.lit_solve.specs.Completion.{HasSolution};
 ghost use Rattle.lit_solve.specs.Given.{HasAlone};
@@ -9,11 +9,11 @@ ghost use Rattle.lit_solve.specs.Box.{events_on};
 ghost use Rattle.lit_solve.specs.Internal.Frames.{box_of};
 ghost use Rattle.lit_solve.specs.Internal.Settled.{IsSettled};
 
+use crate::domains::set_of;
 use crate::frame::Frame;
 use crate::goal::Goal;
 use crate::problem::Problem;
 use crate::stepping::Step;
-use lit_rel::EventSet;
 
 impl Problem<'_> {
     /// Whether a frame may have a completion that is what is looked for, as far as it shows; where `sure`, whether it has one.
@@ -42,13 +42,11 @@ impl Problem<'_> {
         ensures sure { IfSome result (λ next. IsTrue sure → HasSolution (box_of self.now next) goal) }
         ensures none { IfNone result (¬ HasSolution (box_of self.now frame.now) goal) }
     {
-        let _ = &self.combination;
+        let _events = self.events();
         let mut left = self.sources_left(frame, place);
         while let Some((source, others)) = left.split_first() {
             let mut next = *frame;
-            if self.cut(&mut next, place, EventSet::new().with(source))
-                && self.is_promising(&next, goal, sure)
-            {
+            if self.cut(&mut next, place, set_of(source)) && self.is_promising(&next, goal, sure) {
                 return Some(next);
             }
             left = others;

@@ -8,7 +8,7 @@ ghost use Rattle.lit_rel.specs.EventSet.{HasEvent};
 ghost use Rattle.lit_rel.specs.Peers.{ArePeers, IsPeer};
 ghost use Rattle.lit_solve.specs.Fill.{HasEffect};
 
-use crate::domains::has_some;
+use crate::domains::{has_some, set_of};
 use lit_paths::{Event, event_at};
 use lit_rel::{EventSet, Rows};
 
@@ -32,7 +32,7 @@ pub(crate) fn has_effect(events: &[Event], peers: &Rows, source: usize, read: us
     requires read { read < length events.now }
     ensures { IsTrue result ↔ HasEffect events.now source read }
 {
-    let reader = EventSet::new().with(read);
+    let reader = set_of(read);
     let both = reader.with(source);
     has_peer_beside(events, peers, read, reader) || has_peer_beside(events, peers, source, both)
 }

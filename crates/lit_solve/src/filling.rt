@@ -1,7 +1,6 @@
 //! Filling: whether a read has sources by itself, in the domains of its bytes.
 
-ghost use Rattle.std.specs.Prelude.{◌≡◌, ◌↔◌, ◌⊎◌, ℕ, ◌+◌, ◌*◌, ◌^◌, ◌<◌, ◌≤◌, IsTrue};
-ghost use Rattle.std.specs.Prelude.{MatchOption, length, slice_get, Some};
+ghost use Rattle.std.specs.Prelude.{◌≡◌, ◌↔◌, ℕ, ◌+◌, ◌*◌, ◌^◌, ◌<◌, ◌≤◌, IsTrue, MatchOption, length, slice_get, Some};
 ghost use Rattle.lit_paths.specs.ByteReads.{byte_read_at, byte_reads};
 ghost use Rattle.lit_paths.specs.declared.limits.TheConstants.{BYTE_READ_LIMIT, EVENT_LIMIT};
 ghost use Rattle.lit_paths.specs.Event.{event_at as event_of, payload_at as payload_of};
@@ -90,28 +89,31 @@ impl Problem<'_> {
         !has_false_test(&self.combination, Some(usize::from(read)), value)
     }
 
+    /// Whether a test is false of a register that was not written.
+    pub(crate) fn has_false_unwritten(&self) -> bool
+        ensures { IsTrue result ↔ HasFalseTestOn self.now.0 self.now.1 None 0 }
+    {
+        has_false_test(&self.combination, None, 0)
+    }
+
     /// The byte that a source stores for the byte read at a place.
     fn stored(&self, place: usize, source: usize) -> u8
         requires place { place < length (byte_reads (events_on self.now)) }
         requires source { source < length (events_on self.now) }
         ensures { result ≡ payload_of (event_of (events_on self.now) source) (byte_read_at (events_on self.now) place).1 }
     {
-        payload_at(
-            event_at(self.combination.events(), source),
-            self.byte_read(place).byte,
-        )
+        payload_at(event_at(self.events(), source), self.byte_read(place).byte)
     }
 
     /// The events from which a read reads whole, once it takes a byte from this source too: `None` where that would tear it.
     fn whole_with(&self, read: u8, whole: EventSet, source: usize) -> Option<EventSet>
         requires read { read < length (events_on self.now) }
         requires source { source < length (events_on self.now) }
-        ensures { MatchOption result
-            (¬ WouldNotTear (events_on self.now) read (HasEvent whole) source)
+        ensures { MatchOption result (¬ WouldNotTear (events_on self.now) read (HasEvent whole) source)
             (λ more. WouldNotTear (events_on self.now) read (HasEvent whole) source
             × ((v : ℕ) → HasEvent more v ↔ WholeWith (events_on self.now) read (HasEvent whole) source v)) }
     {
-        let events = self.combination.events();
+        let events = self.events();
         let reader = event_at(events, usize::from(read));
         if !can_read_whole(reader, event_at(events, source)) {
             return Some(whole);
@@ -149,8 +151,7 @@ impl Problem<'_> {
         requires read { (byte_read_at (events_on self.now) place).0 ≡ read }
         requires source { source < length (events_on self.now) }
         requires room { HasRoom (events_on self.now) read place taken }
-        ensures { MatchOption result
-            (¬ WouldNotTear (events_on self.now) read (HasEvent taken.whole) source)
+        ensures { MatchOption result (¬ WouldNotTear (events_on self.now) read (HasEvent taken.whole) source)
             (λ next. TakesOn (events_on self.now) read place (byte_read_at (events_on self.now) place).1 source taken next) }
     {
         let Some(whole) = self.whole_with(read, taken.whole, source) else {
@@ -171,7 +172,7 @@ impl Problem<'_> {
     {
         let byte = self.byte_read(place).byte;
         let stored = self.stored(place, source);
-        storing(self.combination.events(), among, byte, stored)
+        storing(self.events(), among, byte, stored)
     }
 
     /// Of the other sources of the byte read at a place, those to try after one in vain, with which its read took `next`. What
@@ -188,8 +189,7 @@ impl Problem<'_> {
         requires source { source < length (events_on self.now) }
         requires known { (v : ℕ) → HasEvent others v → v < length (events_on self.now) }
         ensures within { (v : ℕ) → HasEvent result v → HasEvent others v }
-        ensures left_out { (v : ℕ) → HasEvent others v → ¬ HasEvent result v
-            → ((u : ℕ) → HasEvent next.whole u → HasEvent taken.whole u)
+        ensures left_out { (v : ℕ) → HasEvent others v → ¬ HasEvent result v → ((u : ℕ) → HasEvent next.whole u → HasEvent taken.whole u)
             × (payload_of (event_of (events_on self.now) v) (byte_read_at (events_on self.now) place).1
             ≡ payload_of (event_of (events_on self.now) source) (byte_read_at (events_on self.now) place).1) }
     {
@@ -223,8 +223,7 @@ impl Problem<'_> {
         false
     }
 
-    /// Whether a read can be filled: by sources in the domains of its bytes, with which it is tear free (29.7.3) and its tests
-    /// are true.
+    /// Whether a read can be filled: by sources in the domains of its bytes, with which it is tear free (29.7.3) and its tests are true.
     pub(crate) fn can_fill(&self, domains: &Domains, read: u8) -> bool
         requires is_box { IsBox (box_with self.now domains.now) }
         requires some { ¬ HasEmptyDomain (box_with self.now domains.now) }
@@ -232,7 +231,7 @@ impl Problem<'_> {
         ensures { IsTrue result ↔ CanFill (box_with self.now domains.now) read }
     {
         // None of a problem's events has more than four bytes.
-        let _ = &self.combination;
+        let _events = self.events();
         self.fills_on(domains, read, self.first_place(read), Taken::nothing())
     }
 }

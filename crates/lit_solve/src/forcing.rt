@@ -26,12 +26,11 @@ impl Problem<'_> {
     pub(crate) fn given(&self, frame: &Frame, place: usize) -> Option<usize>
         requires place { place < length (byte_reads (events_on self.now)) }
         requires contained { IsContained (box_of self.now frame.now) frame.now }
-        ensures { MatchOption result
-            ((w : ℕ) → ¬ HasAlone (box_of self.now frame.now) place w)
+        ensures { MatchOption result ((w : ℕ) → ¬ HasAlone (box_of self.now frame.now) place w)
             (λ w. HasAlone (box_of self.now frame.now) place w × (w < length (events_on self.now)) × (w < EVENT_LIMIT)) }
     {
         let _read = self.byte_read(place);
-        let _events = self.combination.events();
+        let _events = self.events();
         match only_one(frame.domains[place]) {
             Some(source) => Some(source),
             None => None,
@@ -44,7 +43,7 @@ impl Problem<'_> {
         requires read { read < length (events_on self.now) }
         ensures { IsTrue result ↔ CanSynchronize (event_of (events_on self.now) source) (event_of (events_on self.now) read) }
     {
-        let events = self.combination.events();
+        let events = self.events();
         can_synchronize(event_at(events, source), event_at(events, read))
     }
 
@@ -88,11 +87,10 @@ impl Problem<'_> {
         requires contained { IsContained (box_of self.now frame.now) frame.now }
         requires source { source < length (events_on self.now) }
         requires read { read < length (events_on self.now) }
-        ensures { (v : ℕ) → HasEvent result v
-            ↔ ((v < length (events_on self.now))
+        ensures { (v : ℕ) → HasEvent result v ↔ ((v < length (events_on self.now))
             × IsForbiddenBetween (events_on self.now) (Holds frame.now.happens_before.rows) source read v) }
     {
-        let events = self.combination.events();
+        let events = self.events();
         let (before, peers) = (&frame.happens_before, &self.peers);
         others_between(events, source as u8, read as u8, before, peers)
     }
@@ -126,7 +124,7 @@ impl Problem<'_> {
         ensures len { between.new.len ≡ length (events_on self.now) }
         ensures triples { (w r v : ℕ) → Forbids between.new w r v ↔ IsForbiddenIn (box_of self.now frame.now) w r v }
     {
-        between.begin(self.combination.events().len());
+        between.begin(self.events().len());
         for place in 0..self.reads() {
             self.forbid(frame, between, place);
         }

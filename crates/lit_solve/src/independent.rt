@@ -5,22 +5,22 @@ ghost use Rattle.std.specs.Prelude.{◌≡◌, ℕ, ◌<◌, IsFalse, IsTrue, Li
 ghost use Rattle.lit_paths.specs.ByteReads.{byte_reads};
 ghost use Rattle.lit_paths.specs.Execution.{Execution, execution_outcome};
 ghost use Rattle.lit_rel.specs.EventSet.{HasEvent};
-ghost use Rattle.lit_solve.specs.Box.{HasSource, LiesIn, box_with, events_on};
+ghost use Rattle.lit_solve.specs.Box.{HasSource, box_with, events_on};
 ghost use Rattle.lit_solve.specs.Completion.{IsCompletion, IsLeastSolution};
 ghost use Rattle.lit_solve.specs.declared.goal.Goal.TheVariants.{Any};
 ghost use Rattle.lit_solve.specs.Given.{HasAlone};
-ghost use Rattle.lit_solve.specs.Internal.Descending.{AreAloneBelow, IsLowestAt};
+ghost use Rattle.lit_solve.specs.Internal.Descending.{IsLowestAt};
 ghost use Rattle.lit_solve.specs.Internal.Independent.{HasLeastOrderIn, IsIndependent};
 ghost use Rattle.lit_solve.specs.Internal.Narrowing.{size_of};
 ghost use Rattle.lit_solve.specs.Internal.Observation.{AreFirstValues};
 ghost use Rattle.lit_solve.specs.Internal.Settled.{IsCut, TakesFrom};
 ghost use Rattle.lit_solve.specs.Outcomes.{AddsEntries, HasEachOutcome};
 
-use crate::domains::{Domains, only_one};
+use crate::domains::{Domains, only_one, set_of};
 use crate::laws::{
     completions_fill_each_read, quiet_boxes_are_filled_read_by_read, quiet_boxes_have_one_order,
 };
-use crate::numbering::number_of;
+use crate::leading::Least;
 use crate::observation::Values;
 use crate::problem::Problem;
 use crate::table::OutcomeTable;
@@ -67,7 +67,7 @@ impl Problem<'_> {
         ensures lowest { IsLowestAt (box_with self.now domains.old) Any place (box_with self.now domains.new) }
     {
         quiet_boxes_are_filled_read_by_read();
-        let _ = &self.combination;
+        let _events = self.events();
         let _reads = self.reads();
         if let Some(_source) = only_one(domains[place]) {
             return;
@@ -75,7 +75,7 @@ impl Problem<'_> {
         let mut left = domains[place];
         while let Some((source, others)) = left.split_first() {
             let mut next = *domains;
-            if self.cut_independent(&mut next, place, EventSet::new().with(source)) {
+            if self.cut_independent(&mut next, place, set_of(source)) {
                 *domains = next;
                 return;
             }
@@ -109,8 +109,7 @@ impl Problem<'_> {
     ) -> Result<(), AllocError>
         requires independent { IsIndependent (box_with self.now domains.now) }
         requires order { HasLeastOrderIn (box_with self.now domains.now) order.now.items }
-        requires same { (x : Execution) → IsCompletion (box_with self.now domains.now) x
-            → execution_outcome self.now.0 x ≡ outcome.now }
+        requires same { (x : Execution) → IsCompletion (box_with self.now domains.now) x → execution_outcome self.now.0 x ≡ outcome.now }
         ensures added { AddsEntries (box_with self.now domains.now) (T.entries table.old) (T.entries table.new) }
         ensures whole { OnOk result (HasEachOutcome (box_with self.now domains.now) (T.entries table.new)) }
     {
@@ -118,9 +117,8 @@ impl Problem<'_> {
             return Ok(());
         }
         let sources = self.least_filling(domains);
-        let choice = number_of(&self.combination, sources.as_slice());
-        table.record(outcome, choice, order.clone()?)?;
-        Ok(())
+        let order = order.clone()?;
+        self.put(domains, outcome, Least { sources, order }, table)
     }
 
     /// Records the outcomes that a table lacks, of which these are the first values. `order` is the least memory-order.
@@ -142,7 +140,7 @@ impl Problem<'_> {
         let Some(place) = self.observe(domains, &mut values) else {
             return self.record_independent(domains, values.as_slice(), order, table);
         };
-        let _events = self.combination.events();
+        let _events = self.events();
         let _reads = self.reads();
         let all = domains[place];
         let mut left = all;

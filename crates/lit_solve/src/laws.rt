@@ -66,8 +66,7 @@ pub fn completions_fill_each_read()
 /// and there is an order of what is given.
 pub fn quiet_boxes_are_filled_read_by_read()
     ensures { (box : Box) (sources : List ℕ) → IsBox box → IsQuiet box → AreCoherentSources box → ((e : ℕ) → ¬ HappensBeforeIn box e e)
-        → AreSourcesIn box sources
-        → ((x : Execution) × IsCompletion box x × (x.sources ≡ sources))
+        → AreSourcesIn box sources → ((x : Execution) × IsCompletion box x × (x.sources ≡ sources))
         ↔ (((r : ℕ) → r < length (box_events box) → IsFilled box r sources) × (¬ HasFalseTestOn box.test box.combination None 0)
         × HasOrder (length (box_events box)) (HappensBeforeIn box) (IsForbiddenIn box)) }
 {
@@ -104,8 +103,7 @@ pub fn boxes_foresee_races()
 /// A quiet box whose sources are coherent, and that has a completion, has one with a data race exactly where there is one by
 /// what it gives: of two writes, or of a read and a source with which it can be filled.
 pub fn quiet_boxes_race_as_reads_are_filled()
-    ensures { (box : Box) → IsBox box → IsQuiet box → AreCoherentSources box → HasSolution box Any
-        → HasSolution box Race ↔ CanRaceIn box }
+    ensures { (box : Box) → IsBox box → IsQuiet box → AreCoherentSources box → HasSolution box Any → HasSolution box Race ↔ CanRaceIn box }
 {
     laws_below();
 }

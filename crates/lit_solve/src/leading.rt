@@ -1,6 +1,6 @@
 //! The least completion that is looked for: down by least sources, and again, surely, where that did not end at one.
 
-ghost use Rattle.std.specs.Prelude.{◌≡◌, ◌↔◌, ℕ, IfNone, IfSome, IsFalse, IsTrue, MatchOption, length};
+ghost use Rattle.std.specs.Prelude.{◌≡◌, IsFalse, IsTrue, MatchOption, length};
 ghost use Rattle.lit_paths.specs.ByteReads.{byte_reads};
 ghost use Rattle.lit_solve.specs.Box.{IsBox, LiesIn, box_with, events_on};
 ghost use Rattle.lit_solve.specs.Completion.{HasSolution, IsLeastSolution};
@@ -31,7 +31,7 @@ impl Problem<'_> {
         ensures one_each { length result.items ≡ length (byte_reads (events_on self.now)) }
         ensures within { LiesIn (box_with self.now domains.now) result.items }
     {
-        let _events = self.combination.events();
+        let _events = self.events();
         let mut sources = Sources::new();
         for place in 0..self.reads() {
             if let Some(source) = only_one(domains[place]) {
@@ -63,8 +63,7 @@ impl Problem<'_> {
     /// The least completion of a frame that is what is looked for, or `None` exactly where there is none.
     pub(crate) fn least(&self, frame: &Frame, goal: Goal) -> Option<Least>
         requires { IsSettled (box_of self.now frame.now) frame.now }
-        ensures { MatchOption result
-            (¬ HasSolution (box_of self.now frame.now) goal)
+        ensures { MatchOption result (¬ HasSolution (box_of self.now frame.now) goal)
             (λ least. IsLeastSolution (box_of self.now frame.now) goal least.sources.items least.order.items) }
     {
         quiet_boxes_have_one_order();

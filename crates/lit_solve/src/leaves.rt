@@ -1,24 +1,23 @@
 //! Leaves of a search: whether a settled frame in which nothing that is left can force anything has a completion, and
 //! which data races (ECMA-262, 2024, 29.8 and 29.9) a frame foresees.
 
-ghost use Rattle.std.specs.Prelude.{◌≡◌, ◌↔◌, ℕ, ◌<◌, IsTrue, length};
-ghost use Rattle.lit_paths.specs.ByteReads.{byte_read_at, byte_reads};
+ghost use Rattle.std.specs.Prelude.{◌↔◌, ℕ, ◌<◌, IsTrue, length};
+ghost use Rattle.lit_paths.specs.ByteReads.{byte_reads};
 ghost use Rattle.lit_rel.specs.Racing.{AreApart, HasApartPair, WritesWith};
 ghost use Rattle.lit_rel.specs.Rows.{Holds};
 ghost use Rattle.lit_solve.specs.Box.{HasEmptyDomain, HasSource, IsBox, box_with, events_on};
 ghost use Rattle.lit_solve.specs.Completion.{HasSolution};
-ghost use Rattle.lit_solve.specs.DataRace.{CanRaceIn, MayRaceIn};
 ghost use Rattle.lit_solve.specs.Fill.{CanFill, IsQuiet};
 ghost use Rattle.lit_solve.specs.declared.goal.Goal.TheVariants.{Any};
 ghost use Rattle.lit_solve.specs.Internal.Frames.{IsContained, IsExact, box_of};
-ghost use Rattle.lit_solve.specs.Internal.Leaves.{CanFillAt, RacesAt};
+ghost use Rattle.lit_solve.specs.Internal.Leaves.{CanFillAt, MayHave, RacesAt, RacesIn};
 ghost use Rattle.lit_solve.specs.Internal.Settled.{IsSettled};
 
-use crate::domains::Domains;
+use crate::domains::{Domains, set_of};
 use crate::frame::Frame;
 use crate::laws::{quiet_boxes_are_filled_read_by_read, reads_are_filled_together};
 use crate::problem::Problem;
-use lit_rel::{EventSet, are_apart, has_false_test, has_racing_writes};
+use lit_rel::{are_apart, has_racing_writes};
 
 impl Problem<'_> {
     /// Whether each event can be filled. One that does not read has no byte to fill.
@@ -27,7 +26,7 @@ impl Problem<'_> {
         requires some { ¬ HasEmptyDomain (box_with self.now domains.now) }
         ensures { IsTrue result ↔ ((r : ℕ) → r < length (events_on self.now) → CanFill (box_with self.now domains.now) r) }
     {
-        for read in 0..self.combination.events().len() {
+        for read in 0..self.events().len() {
             if !self.can_fill(domains, read as u8) {
                 return false;
             }
@@ -44,25 +43,19 @@ impl Problem<'_> {
     {
         reads_are_filled_together();
         quiet_boxes_are_filled_read_by_read();
-        if has_false_test(&self.combination, None, 0) {
+        if self.has_false_unwritten() {
             return false;
         }
         self.can_fill_each(&frame.domains) && self.least_order(frame).is_some()
     }
 
-    /// Whether two events are in a data race where both write a byte or one reads from the other, by a frame's
-    /// happens-before.
+    /// Whether two events are in a data race where both write a byte or one reads from the other, by a frame's happens-before.
     fn are_apart(&self, frame: &Frame, first: usize, second: usize) -> bool
         requires first { first < length (events_on self.now) }
         requires second { second < length (events_on self.now) }
         ensures { IsTrue result ↔ AreApart (events_on self.now) (Holds frame.now.happens_before.rows) first second }
     {
-        are_apart(
-            self.combination.events(),
-            &frame.happens_before.rows,
-            first,
-            second,
-        )
+        are_apart(self.events(), &frame.happens_before.rows, first, second)
     }
 
     /// Whether two events that write a byte are in a data race.
@@ -70,39 +63,7 @@ impl Problem<'_> {
         ensures { IsTrue result
             ↔ HasApartPair (events_on self.now) (Holds frame.now.happens_before.rows) (WritesWith (events_on self.now)) }
     {
-        has_racing_writes(self.combination.events(), &frame.happens_before.rows)
-    }
-
-    /// Whether the read at a place is in a data race with some source in the domain there.
-    fn may_race_at(&self, frame: &Frame, place: usize) -> bool
-        requires place { place < length (byte_reads (events_on self.now)) }
-        requires contained { IsContained (box_of self.now frame.now) frame.now }
-        ensures { IsTrue result ↔ RacesAt (box_of self.now frame.now) (Holds frame.now.happens_before.rows)
-            (HasSource (box_of self.now frame.now)) place }
-    {
-        let _reads = self.reads();
-        let read = usize::from(self.byte_read(place).read);
-        let mut left = frame.domains[place];
-        while let Some((source, others)) = left.split_first() {
-            if self.are_apart(frame, read, source) {
-                return true;
-            }
-            left = others;
-        }
-        false
-    }
-
-    /// Whether a data race may come of a frame: two writes are in one, or a byte read and a source in its domain are.
-    pub(crate) fn may_race(&self, frame: &Frame) -> bool
-        requires { IsExact (box_of self.now frame.now) frame.now }
-        ensures { IsTrue result ↔ MayRaceIn (box_of self.now frame.now) }
-    {
-        for place in 0..self.reads() {
-            if self.may_race_at(frame, place) {
-                return true;
-            }
-        }
-        self.has_racing_writes(frame)
+        has_racing_writes(self.events(), &frame.happens_before.rows)
     }
 
     /// Whether the read at a place can be filled with this source in the domain there: where it is alone in it.
@@ -113,26 +74,40 @@ impl Problem<'_> {
         ensures { IsTrue result ↔ CanFillAt (box_of self.now frame.now) place source }
     {
         // A set has room for each event of a combination.
-        let _ = &self.combination;
+        let _events = self.events();
         let _reads = self.reads();
         let read = self.byte_read(place).read;
         let mut alone = frame.domains;
-        alone[place] = EventSet::new().with(source);
+        alone[place] = set_of(source);
         self.can_fill(&alone, read)
     }
 
-    /// Whether the read at a place is in a data race with some source with which it can be filled there.
-    fn can_race_at(&self, frame: &Frame, place: usize) -> bool
+    /// Whether the read at a place may have this source in the domain there: it can be filled with it, where that is asked.
+    fn may_have(&self, frame: &Frame, place: usize, source: usize, filling: bool) -> bool
+        requires contained { IsContained (box_of self.now frame.now) frame.now }
+        requires place { place < length (byte_reads (events_on self.now)) }
+        requires there { HasSource (box_of self.now frame.now) place source }
+        ensures { IsTrue result ↔ MayHave (box_of self.now frame.now) filling place source }
+    {
+        if filling {
+            self.can_fill_from(frame, place, source)
+        } else {
+            true
+        }
+    }
+
+    /// Whether the read at a place is in a data race with some source that it may have there.
+    fn races_at(&self, frame: &Frame, place: usize, filling: bool) -> bool
         requires place { place < length (byte_reads (events_on self.now)) }
         requires contained { IsContained (box_of self.now frame.now) frame.now }
         ensures { IsTrue result ↔ RacesAt (box_of self.now frame.now) (Holds frame.now.happens_before.rows)
-            (CanFillAt (box_of self.now frame.now)) place }
+            (MayHave (box_of self.now frame.now) filling) place }
     {
         let _reads = self.reads();
         let read = usize::from(self.byte_read(place).read);
         let mut left = frame.domains[place];
         while let Some((source, others)) = left.split_first() {
-            if self.are_apart(frame, read, source) && self.can_fill_from(frame, place, source) {
+            if self.are_apart(frame, read, source) && self.may_have(frame, place, source, filling) {
                 return true;
             }
             left = others;
@@ -140,14 +115,14 @@ impl Problem<'_> {
         false
     }
 
-    /// Whether a data race comes of a frame by what its reads can be filled with: two writes are in one, or a read and a
-    /// source with which it can be filled are.
-    pub(crate) fn can_race(&self, frame: &Frame) -> bool
+    /// Whether a data race may come of a frame: two writes are in one, or a read and a source in the domain of its byte are;
+    /// with `filling`, only a source with which the read can be filled there.
+    pub(crate) fn races(&self, frame: &Frame, filling: bool) -> bool
         requires { IsExact (box_of self.now frame.now) frame.now }
-        ensures { IsTrue result ↔ CanRaceIn (box_of self.now frame.now) }
+        ensures { IsTrue result ↔ RacesIn (box_of self.now frame.now) filling }
     {
         for place in 0..self.reads() {
-            if self.can_race_at(frame, place) {
+            if self.races_at(frame, place, filling) {
                 return true;
             }
         }

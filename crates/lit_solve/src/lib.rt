@@ -1,6 +1,5 @@
-//! A finite-domain solver for litmus tests: which valid executions a box has. A box is a combination of paths with a set of
-//! candidates, the domain, for each byte read; a completion of it is a valid execution on the combination whose every
-//! source lies in its domain.
+//! A finite-domain solver for litmus tests: which valid executions a box has. A box is a combination of paths with a set of candidates,
+//! the domain, for each byte read; a completion of it is a valid execution on the combination whose every source lies in its domain.
 //!
 //! The definitions stand in `specs/`: `Box`, `Completion` and `Goal`.
 #![tactic(auto)]
@@ -16,6 +15,7 @@ mod filling;
 mod forcing;
 mod frame;
 mod goal;
+mod heartbeat;
 mod independent;
 pub mod laws;
 mod leading;
@@ -38,6 +38,7 @@ pub use boxes::Boxes;
 pub use boxes::candidates::candidates_of;
 pub use domains::Domains;
 pub use goal::Goal;
+pub use heartbeat::{Heartbeat, NoHeartbeat};
 pub use leading::Least;
 pub use numbering::number_of;
 pub use problem::Problem;

@@ -43,8 +43,7 @@ impl Problem<'_> {
         requires source { source < length (events_on self.now) }
         requires calm { (e : ℕ) → ¬ Holds frame.now.happens_before.rows e e }
         ensures { IsTrue result ↔ IsCoherentRead (events_on self.now) (Holds frame.now.happens_before.rows)
-            (byte_read_at (events_on self.now) place).0
-            (byte_read_at (events_on self.now) place).1 source }
+            (byte_read_at (events_on self.now) place).0 (byte_read_at (events_on self.now) place).1 source }
     {
         let read = usize::from(self.byte_read(place).read);
         let before = &frame.happens_before;
@@ -63,7 +62,7 @@ impl Problem<'_> {
         ensures { IsTrue result ↔ (CanSynchronize (event_of (events_on self.now) source)
             (event_of (events_on self.now) read) × Holds frame.now.forced.rows read source) }
     {
-        let events = self.combination.events();
+        let events = self.events();
         can_synchronize(event_at(events, source), event_at(events, read))
             && frame.forced.rows.holds(read, source)
     }
@@ -84,7 +83,7 @@ impl Problem<'_> {
         if between.is_empty() {
             return false;
         }
-        let events = self.combination.events();
+        let events = self.events();
         let (before, peers) = (&frame.happens_before, &self.peers);
         let others = others_between(events, source as u8, read as u8, before, peers);
         !others.intersection(between).is_empty()
@@ -97,7 +96,7 @@ impl Problem<'_> {
         ensures { (u : ℕ) → HasEvent result u → HasAlone (box_of self.now frame.now) place u
             × CanReadWhole (event_of (events_on self.now) (byte_read_at (events_on self.now) place).0) (event_of (events_on self.now) u) }
     {
-        let events = self.combination.events();
+        let events = self.events();
         let read = usize::from(self.byte_read(place).read);
         let Some(source) = only_one(frame.domains[place]) else {
             return EventSet::new();
@@ -119,7 +118,7 @@ impl Problem<'_> {
     {
         let read = self.byte_read(place).read;
         let mut whole = EventSet::new();
-        if event_at(self.combination.events(), usize::from(read)).size == 1 {
+        if event_at(self.events(), usize::from(read)).size == 1 {
             return whole;
         }
         for other in 0..self.reads() {
@@ -138,7 +137,7 @@ impl Problem<'_> {
         ensures { IsTrue result ↔ (CanReadWhole (event_of (events_on self.now) read) (event_of (events_on self.now) source)
             × ((u : ℕ) × HasEvent whole u × (u ≢ source))) }
     {
-        let events = self.combination.events();
+        let events = self.events();
         let others = whole.difference(EventSet::new().with(source));
         !others.is_empty() && can_read_whole(event_at(events, read), event_at(events, source))
     }
@@ -164,20 +163,18 @@ impl Problem<'_> {
             || self.would_tear(read, source, whole)
     }
 
-    /// The sources in the domain of the byte read at a place that the frame does not leave out. No event happens before
-    /// itself.
+    /// The sources in the domain of the byte read at a place that the frame does not leave out. No event happens before itself.
     fn left(&self, frame: &Frame, place: usize) -> EventSet
         requires place { place < length (byte_reads (events_on self.now)) }
         requires contained { IsContained (box_of self.now frame.now) frame.now }
         requires calm { (e : ℕ) → ¬ Holds frame.now.happens_before.rows e e }
         ensures within { (w : ℕ) → HasEvent result w → HasSource (box_of self.now frame.now) place w }
         ensures out { (w : ℕ) → HasSource (box_of self.now frame.now) place w → ¬ HasEvent result w
-            → IsOut (box_of self.now frame.now) (byte_read_at (events_on self.now) place).0
-            (byte_read_at (events_on self.now) place).1 w }
+            → IsOut (box_of self.now frame.now) (byte_read_at (events_on self.now) place).0 (byte_read_at (events_on self.now) place).1 w }
         ensures coherent { (w : ℕ) → HasEvent result w → IsCoherentRead (events_on self.now) (Holds frame.now.happens_before.rows)
             (byte_read_at (events_on self.now) place).0 (byte_read_at (events_on self.now) place).1 w }
     {
-        let _ = &self.combination;
+        let _events = self.events();
         let whole = self.whole_sources(frame, place);
         let mut left = EventSet::new();
         let mut rest = frame.domains[place];
@@ -190,8 +187,7 @@ impl Problem<'_> {
         left
     }
 
-    /// Takes out of the domain of the byte read at a place the sources that the frame leaves out. No event happens before
-    /// itself.
+    /// Takes out of the domain of the byte read at a place the sources that the frame leaves out. No event happens before itself.
     fn narrow_at(&self, frame: &mut Frame, place: usize) -> Narrowed
         requires place { place < length (byte_reads (events_on self.now)) }
         requires contained { IsContained (box_of self.now frame.old) frame.old }
@@ -207,7 +203,7 @@ impl Problem<'_> {
         ensures empty { result ≡ Empty → HasNoCompletion (box_of self.now frame.old) }
     {
         completions_have_no_source_that_is_out();
-        let _ = &self.combination;
+        let _events = self.events();
         let left = self.left(&*frame, place);
         if left.is_empty() {
             return Narrowed::Empty;

@@ -34,7 +34,7 @@ impl Problem<'_> {
             ((w : ℕ) → HasSource (box_with self.now domains.now) place w
             → stored_for (box_with self.now domains.now) place w ≡ stored_for (box_with self.now domains.now) place source) }
     {
-        let _events = self.combination.events();
+        let _events = self.events();
         let alike = self.storing_alike(domains[place], place, source);
         match domains[place].difference(alike).split_first() {
             Some(_other) => true,
@@ -50,7 +50,7 @@ impl Problem<'_> {
         ensures { IsValueOf (box_with self.now domains.now) read result }
     {
         // None of a problem's events has more than four bytes.
-        let _ = &self.combination;
+        let _events = self.events();
         let mut taken = Taken::nothing();
         let mut place = self.first_place(read);
         'bytes: while self.is_of(read, place) {
@@ -72,16 +72,15 @@ impl Problem<'_> {
         requires some { ¬ HasEmptyDomain (box_with self.now domains.now) }
         ensures { IsValueHeld (box_with self.now domains.now) name result }
     {
-        let _events = self.combination.events();
+        let _events = self.events();
         match self.read_held(name.0, name.1) {
             Some(read) => self.read_value(domains, read as u8),
             None => ReadValue::One(0),
         }
     }
 
-    /// Adds to the first values of an outcome those of the registers after them, as long as the sources in a box's domains say
-    /// the same of each completion. Answers the place of a byte read on which the next one hangs, or `None` where there is none
-    /// left.
+    /// Adds to the first values of an outcome those of the registers after them, as long as the sources in a box's domains say the same of
+    /// each completion. Answers the place of a byte read on which the next one hangs, or `None` where there is none left.
     pub(crate) fn observe(&self, domains: &Domains, values: &mut Values) -> Option<usize>
         requires is_box { IsBox (box_with self.now domains.now) }
         requires some { ¬ HasEmptyDomain (box_with self.now domains.now) }

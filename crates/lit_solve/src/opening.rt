@@ -17,7 +17,7 @@ use crate::laws::{
     refuted_boxes_have_no_completion,
 };
 use crate::problem::Problem;
-use lit_rel::{EventSet, has_false_test, unsourced_order};
+use lit_rel::{EventSet, unsourced_order};
 
 impl Problem<'_> {
     /// Whether some byte read has an empty domain.
@@ -39,7 +39,7 @@ impl Problem<'_> {
         ensures domains { result.domains ≡ domains.now }
         ensures contained { IsContained (box_of self.now result) result }
     {
-        let before = unsourced_order(self.combination.events());
+        let before = unsourced_order(self.events());
         Frame {
             happens_before: before,
             forced: before,
@@ -70,7 +70,7 @@ impl Problem<'_> {
     {
         refuted_boxes_have_no_completion();
         completions_fill_each_read();
-        if has_false_test(&self.combination, None, 0) {
+        if self.has_false_unwritten() {
             return None;
         }
         let domains = self.consistent(domains);

@@ -1,6 +1,6 @@
 //! The least memory-order that a frame leaves.
 
-ghost use Rattle.std.specs.Prelude.{◌≡◌, ℕ, IfNone, IfSome, List, length};
+ghost use Rattle.std.specs.Prelude.{ℕ, IfNone, IfSome, List, length};
 ghost use Rattle.lit_order.specs.MemoryOrder.{IsLeastOrderOf, IsOrderOf};
 ghost use Rattle.lit_solve.specs.Given.{HappensBeforeIn, IsForbiddenIn};
 ghost use Rattle.lit_solve.specs.Box.{events_on};
@@ -12,12 +12,10 @@ use lit_order::{Order, least_of};
 use lit_rel::Between;
 
 impl Problem<'_> {
-    /// The least memory-order of what a frame gives, or `None` exactly where there is none. Its relations are those of its
-    /// box.
+    /// The least memory-order of what a frame gives, or `None` exactly where there is none. Its relations are those of its box.
     pub(crate) fn least_order(&self, frame: &Frame) -> Option<Order>
         requires { IsExact (box_of self.now frame.now) frame.now }
-        ensures found { IfSome result (λ order.
-            IsLeastOrderOf (length (events_on self.now)) (HappensBeforeIn (box_of self.now frame.now))
+        ensures found { IfSome result (λ order. IsLeastOrderOf (length (events_on self.now)) (HappensBeforeIn (box_of self.now frame.now))
             (IsForbiddenIn (box_of self.now frame.now)) order.items) }
         ensures none { IfNone result ((order : List ℕ) →
             ¬ IsOrderOf (length (events_on self.now)) (HappensBeforeIn (box_of self.now frame.now))

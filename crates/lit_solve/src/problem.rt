@@ -1,15 +1,16 @@
 //! What the boxes of one combination share.
 
 ghost use Rattle.std.specs.Prelude.{◌≡◌, ℕ, ◌<◌, ◌≤◌, Some, length, slice_get};
-ghost use Rattle.lit_paths.specs.ByteReads.{byte_reads, pair_of};
+ghost use Rattle.lit_paths.specs.ByteReads.{byte_read_at, byte_reads, pair_of};
 ghost use Rattle.lit_paths.specs.Choice.{combinations_of};
+ghost use Rattle.lit_paths.specs.Plan.{AreEventsIn};
 ghost use Rattle.lit_paths.specs.declared.limits.TheConstants.{BYTE_READ_LIMIT};
 ghost use Rattle.lit_solve.specs.Box.{events_on};
 
 use crate::boxes::candidates::candidates_of;
 use crate::domains::Domains;
 use crate::testing::refused_among;
-use lit_paths::{BYTE_READ_LIMIT, ByteRead, Combination, Plan};
+use lit_paths::{BYTE_READ_LIMIT, ByteRead, Combination, Event, Plan};
 use lit_rel::laws::byte_reads_are_of_events;
 use lit_rel::{EventSet, Rows, peers_of};
 use std::marker::Model;
@@ -77,6 +78,14 @@ impl<'p> Problem<'p> {
         &self.combination
     }
 
+    /// All events of the combination, by number.
+    pub(crate) fn events(&self) -> &[Event]
+        ensures value { result.now ≡ events_on self.now }
+        ensures sound { AreEventsIn self.now.0.bytes (events_on self.now) }
+    {
+        self.combination.events()
+    }
+
     /// How many byte reads there are.
     pub(crate) fn reads(&self) -> usize
         ensures value { result ≡ length (byte_reads (events_on self.now)) }
@@ -89,6 +98,7 @@ impl<'p> Problem<'p> {
     pub(crate) fn byte_read(&self, place: usize) -> ByteRead
         requires { place < length (byte_reads (events_on self.now)) }
         ensures at { slice_get (byte_reads (events_on self.now)) place ≡ Some (pair_of result) }
+        ensures is { pair_of result ≡ byte_read_at (events_on self.now) place }
         ensures read { result.read < length (events_on self.now) }
     {
         byte_reads_are_of_events();

@@ -1,6 +1,6 @@
 //! Propagation: what is given forces pairs of events, and these leave sources out, until nothing changes.
 
-ghost use Rattle.std.specs.Prelude.{◌≡◌, ◌≤◌, ℕ, IsFalse, IsTrue};
+ghost use Rattle.std.specs.Prelude.{◌≤◌, ℕ, IsFalse, IsTrue};
 ghost use Rattle.lit_solve.specs.Given.{IsForcedIn};
 ghost use Rattle.lit_solve.specs.Internal.Frames.{AreCoherentAt, IsContained, IsExact, box_of};
 ghost use Rattle.lit_solve.specs.Internal.Narrowing.{HasNoCompletion, Narrows, size_of};

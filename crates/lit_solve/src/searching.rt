@@ -27,7 +27,7 @@ impl Problem<'_> {
         quiet_boxes_race_as_reads_are_filled();
         match goal {
             Goal::Any | Goal::OfClass(_) => self.has_completion(frame),
-            Goal::Race => self.has_completion(frame) && self.can_race(frame),
+            Goal::Race => self.has_completion(frame) && self.races(frame, true),
         }
     }
 

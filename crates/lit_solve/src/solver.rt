@@ -7,6 +7,7 @@ ghost use Rattle.lit_solve.specs.Outcomes.{AddsEntries, HasEachOutcome};
 
 use crate::domains::Domains;
 use crate::goal::Goal;
+use crate::heartbeat::Heartbeat;
 use crate::leading::Least;
 use crate::observation::Values;
 use crate::problem::Problem;
@@ -27,8 +28,7 @@ pub fn exists(problem: &Problem<'_>, domains: &Domains, goal: Goal) -> bool
 /// The least sources of such a completion, with their least memory-order, or `None` exactly where there is none.
 pub fn least(problem: &Problem<'_>, domains: &Domains, goal: Goal) -> Option<Least>
     requires { IsBox (box_with problem.now domains.now) }
-    ensures { MatchOption result
-        (¬ HasSolution (box_with problem.now domains.now) goal)
+    ensures { MatchOption result (¬ HasSolution (box_with problem.now domains.now) goal)
         (λ least. IsLeastSolution (box_with problem.now domains.now) goal least.sources.items least.order.items) }
 {
     match problem.settle(domains) {
@@ -39,18 +39,19 @@ pub fn least(problem: &Problem<'_>, domains: &Domains, goal: Goal) -> Option<Lea
 
 /// Records the outcomes of a box's completions that a table lacks, each with the choice of the least sources with which some
 /// completion has it, and their least memory-order. Answers `AllocError` where the table refused to record one; then some
-/// outcomes may not be recorded.
-pub fn outcomes<T: OutcomeTable>(
+/// outcomes may not be recorded. The heartbeat is called at each frame.
+pub fn outcomes<T: OutcomeTable, H: Heartbeat>(
     problem: &Problem<'_>,
     domains: &Domains,
     table: &mut T,
+    heartbeat: &H,
 ) -> Result<(), AllocError>
     requires { IsBox (box_with problem.now domains.now) }
     ensures added { AddsEntries (box_with problem.now domains.now) (T.entries table.old) (T.entries table.new) }
     ensures whole { OnOk result (HasEachOutcome (box_with problem.now domains.now) (T.entries table.new)) }
 {
     match problem.settle(domains) {
-        Some(frame) => problem.outcomes(&frame, &Values::new(), table, &mut false),
+        Some(frame) => problem.outcomes(&frame, &Values::new(), table, &mut false, heartbeat),
         None => Ok(()),
     }
 }

@@ -1,6 +1,6 @@
 //! What a search does at a frame: the constraint solver's choice of a variable.
 
-ghost use Rattle.std.specs.Prelude.{◌≡◌, ◌<◌, ℕ, [], length};
+ghost use Rattle.std.specs.Prelude.{◌<◌, ℕ, [], length};
 ghost use Rattle.lit_paths.specs.ByteReads.{byte_reads};
 ghost use Rattle.lit_rel.specs.EventSet.{HasEvent};
 ghost use Rattle.lit_solve.specs.Internal.Deciding.{IsProspect};
@@ -9,6 +9,7 @@ ghost use Rattle.lit_solve.specs.Internal.Frames.{box_of};
 ghost use Rattle.lit_solve.specs.Internal.Searching.{GoesWith, IsStep};
 ghost use Rattle.lit_solve.specs.Internal.Settled.{IsSettled};
 
+use crate::domains::set_of;
 use crate::frame::Frame;
 use crate::goal::Goal;
 use crate::laws::boxes_foresee_races;
@@ -47,7 +48,7 @@ impl Problem<'_> {
             Goal::Any => Prospect::Each,
             Goal::OfClass(class) => self.prospect_of(&frame.domains, class),
             Goal::Race => {
-                if self.may_race(frame) {
+                if self.races(frame, false) {
                     Prospect::Each
                 } else {
                     Prospect::Nothing
@@ -89,8 +90,8 @@ impl Problem<'_> {
         if branch.by_value {
             self.storing_alike(among, branch.place, source)
         } else {
-            let _ = &self.combination;
-            EventSet::new().with(source)
+            let _events = self.events();
+            set_of(source)
         }
     }
 }

@@ -90,7 +90,8 @@ r2 = DV.getUint32(0, true)
 r3 = DV.getUint32(0, true)
 agent C
 U32[0] = 16843009
-check A.r0 != 0 && A.r0 == 0 && A.r1 == 0 && A.r2 == 0 && A.r3 == 0 && A.r4 == 0 && A.r5 == 0 && A.r6 == 0 && A.r7 == 0 && B.r0 == 0 && B.r1 == 0 && B.r2 == 0 && B.r3 == 0
+check A.r0 != 0 && A.r0 == 0 && A.r1 == 0 && A.r2 == 0 && A.r3 == 0 && A.r4 == 0 && A.r5 == 0 && A.r6 == 0 \
+    && A.r7 == 0 && B.r0 == 0 && B.r1 == 0 && B.r2 == 0 && B.r3 == 0
 ";
 
 /// A goal that valid choices meet exactly where one of these events is a source, or, if not `some`, where none is.

@@ -256,6 +256,39 @@ r0 = DV.getUint16(0, true)
 check C.r0 == 258 || C.r0 == 513
 ";
 
+/// Twelve decisions, none of which changes what is read: 4,096 combinations of paths, each with one choice. Only the one of
+/// then-parts alone has a valid execution.
+pub const TWELVE_BRANCHES: &str = "test branches
+bytes 1
+agent A
+r0 = U8[0]
+if r0 == 0 {
+}
+if r0 == 0 {
+}
+if r0 == 0 {
+}
+if r0 == 0 {
+}
+if r0 == 0 {
+}
+if r0 == 0 {
+}
+if r0 == 0 {
+}
+if r0 == 0 {
+}
+if r0 == 0 {
+}
+if r0 == 0 {
+}
+if r0 == 0 {
+}
+if r0 == 0 {
+}
+check A.r0 == 0
+";
+
 /// Exchanges and DataView accesses that overlap.
 pub const EXCHANGES: &str = "test exchanges
 bytes 4

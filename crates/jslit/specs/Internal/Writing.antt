@@ -41,6 +41,10 @@ pub record HasPut (old new : Writing) (text : List ℕ) : Type 0 where
   pub failing : old.failed ≡ false → new.failed ≡ true → Fails old new text
   pub failed : old.failed ≡ true → Stays old new
 
+-- the same of an output and a page of bytes for it, from one moment to another
+abbrev pub HasPutOn : {W : Type 0} → (W → Option (List ℕ)) → (old new : Counted W) → (page new_page : Page) → (text : List ℕ) → Type 0
+HasPutOn contents old new page new_page text = HasPut (writing_of contents old page) (writing_of contents new new_page) text
+
 -- no write has failed, and the writer holds, behind what it held, what waited
 pub record IsFinished (old : Writing) (known : Option (List ℕ)) (failures : ℕ) : Type 0 where
   pub going : old.failed ≡ false

@@ -2,4 +2,4 @@
 
 /// What `--version` prints behind the program's name.
 pub(crate) const VERSION: &str = "0.1.0
-rattle-kit-13b logic dac8208d650f15bf";
+rattle-kit-13f logic dac8208d650f15bf";

@@ -9,7 +9,7 @@ ghost use Rattle.jslit.specs.Internal.Lining.{HoldsLines, IsBegun};
 ghost use Rattle.jslit.specs.Internal.Names.{AreNames};
 ghost use Rattle.jslit.specs.Internal.ReadLine.{OnlyFirstReads, first_source_head, lines_up_to, line_end};
 ghost use Rattle.jslit.specs.Internal.Sourcing.{IsIn};
-ghost use Rattle.jslit.specs.Internal.Writing.{HasPut, writing_of};
+ghost use Rattle.jslit.specs.Internal.Writing.{HasPutOn};
 
 use crate::counted::Counted;
 use crate::page::Page;
@@ -72,7 +72,7 @@ fn last_read(events: &[Event]) -> (usize, usize)
 /// Puts the line of the first of these events up to its sources, if there is one.
 fn put_first_head<W: Write>(page: &mut Page, output: &mut Counted<W>, test: &Test, events: &[Event])
     requires owned { All (λ e. IfSome e.owner (λ agent. agent < length test.now.agents)) events.now }
-    ensures { HasPut (writing_of W.contents output.old page.old) (writing_of W.contents output.new page.new)
+    ensures { HasPutOn W.contents output.old output.new page.old page.new
         (first_source_head test.now events.now) }
 {
     if let [read, ..] = events {
@@ -95,7 +95,7 @@ fn put_front<W: Write>(
     requires part { part ≤ length events.now }
     requires one_each { length sources.now ≡ length (byte_reads (take part events.now)) }
     requires names { AreNames test.now names.now.names }
-    ensures { HasPut (writing_of W.contents output.old page.old) (writing_of W.contents output.new page.new)
+    ensures { HasPutOn W.contents output.old output.new page.old page.new
         (lines_up_to test.now events.now part sources.now) }
 {
     let (first, last) = events.split_at(part);
@@ -184,7 +184,7 @@ fn put_kept_lines<W: Write>(
     requires one_each { length kept.now.sources.items ≡ length (byte_reads (take kept.now.part events.now)) }
     requires names { AreNames test.now names.now.names }
     requires kept { Holds kept.now.text (lines_up_to test.now events.now kept.now.part kept.now.sources.items) }
-    ensures { HasPut (writing_of W.contents output.old page.old) (writing_of W.contents output.new page.new)
+    ensures { HasPutOn W.contents output.old output.new page.old page.new
         (lines_up_to test.now events.now kept.now.part kept.now.sources.items) }
 {
     if kept.text.is_kept() {
@@ -215,7 +215,7 @@ fn put_line_end<W: Write>(
     requires owned { All (λ e. IfSome e.owner (λ agent. agent < length test.now.agents)) events.now }
     requires known { All (λ n. n < length events.now) sources.now }
     requires names { AreNames test.now names.now.names }
-    ensures { HasPut (writing_of W.contents output.old page.old) (writing_of W.contents output.new page.new)
+    ensures { HasPutOn W.contents output.old output.new page.old page.new
         (line_end test.now events.now last.now sources.now) }
 {
     if let [_read, ..] = last {
@@ -243,7 +243,7 @@ pub(crate) fn put_lines<W: Write>(
     requires names { AreNames combination.now.0 names.now.names }
     ensures kept { HoldsLines combination.now.0 combination.now.1 kept.new }
     ensures text { (sources : List ℕ) → HasSources combination.now.0 choice sources
-        → HasPut (writing_of W.contents output.old page.old) (writing_of W.contents output.new page.new)
+        → HasPutOn W.contents output.old output.new page.old page.new
         (from_lines combination.now.0 (events_in combination.now.0 combination.now.1) sources) }
 {
     keep_lines(kept, combination, choice, names);

@@ -5,7 +5,7 @@ ghost use Rattle.lit_paths.specs.Event.{event_at};
 ghost use Rattle.jslit.specs.ReportText.{event_name, names_text};
 ghost use Rattle.jslit.specs.Internal.Keeping.{Holds};
 ghost use Rattle.jslit.specs.Internal.Names.{AreNames, IsNameOf, Remembers};
-ghost use Rattle.jslit.specs.Internal.Writing.{HasPut, writing_of};
+ghost use Rattle.jslit.specs.Internal.Writing.{HasPutOn};
 
 use crate::counted::Counted;
 use crate::page::Page;
@@ -131,7 +131,7 @@ pub(crate) fn put_name<W: Write>(
     requires owned { All (λ e. IfSome e.owner (λ agent. agent < length test.now.agents)) events.now }
     requires known { number < length events.now }
     requires kept { AreNames test.now names.now.names }
-    ensures { HasPut (writing_of W.contents output.old page.old) (writing_of W.contents output.new page.new)
+    ensures { HasPutOn W.contents output.old output.new page.old page.new
         (codes " " ++ event_name test.now (event_at events.now number)) }
 {
     let event = &events[number];
@@ -154,7 +154,7 @@ pub(crate) fn put_names<W: Write>(
     requires owned { All (λ e. IfSome e.owner (λ agent. agent < length test.now.agents)) events.now }
     requires known { All (λ n. n < length events.now) numbers.now }
     requires kept { AreNames test.now names.now.names }
-    ensures { HasPut (writing_of W.contents output.old page.old) (writing_of W.contents output.new page.new)
+    ensures { HasPutOn W.contents output.old output.new page.old page.new
         (names_text test.now events.now numbers.now) }
 {
     for number in numbers {

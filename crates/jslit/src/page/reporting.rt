@@ -16,7 +16,7 @@ ghost use Rattle.jslit.specs.Internal.FirstEntry.{IsOnlyEntry, entry_of_option};
 ghost use Rattle.jslit.specs.Internal.Sharing.{register_head};
 ghost use Rattle.jslit.specs.Internal.Names.{AreNames};
 ghost use Rattle.jslit.specs.Internal.ReadLine.{source_head, read_line, rest_after, lines_from};
-ghost use Rattle.jslit.specs.Internal.Writing.{HasPut, writing_of};
+ghost use Rattle.jslit.specs.Internal.Writing.{HasPutOn};
 
 use crate::counted::Counted;
 use crate::fault::RunFault;
@@ -31,7 +31,7 @@ use std::io::Write;
 
 /// Puts a blank and the name of an access, by its agent's name and its place. A short one is put at once.
 fn put_access<W: Write>(page: &mut Page, output: &mut Counted<W>, agent: &[u8], place: u8)
-    ensures { HasPut (writing_of W.contents output.old page.old) (writing_of W.contents output.new page.new)
+    ensures { HasPutOn W.contents output.old output.new page.old page.new
         (codes " " ++ agent.now ++ codes "." ++ decimal place) }
 {
     if agent.len() == 1 && place < 10 {
@@ -52,7 +52,7 @@ pub(crate) fn put_event<W: Write>(
     event: &Event,
 )
     requires { IfSome event.now.owner (λ agent. agent < length test.now.agents) }
-    ensures { HasPut (writing_of W.contents output.old page.old) (writing_of W.contents output.new page.new)
+    ensures { HasPutOn W.contents output.old output.new page.old page.new
         (codes " " ++ event_name test.now event.now) }
 {
     let Some(agent) = event.owner else {
@@ -77,7 +77,7 @@ pub(crate) fn put_source_head<W: Write>(
     read: &Event,
 )
     requires { IfSome read.now.owner (λ agent. agent < length test.now.agents) }
-    ensures { HasPut (writing_of W.contents output.old page.old) (writing_of W.contents output.new page.new)
+    ensures { HasPutOn W.contents output.old output.new page.old page.new
         (source_head test.now read.now) }
 {
     page.put(output, b"  from");
@@ -98,7 +98,7 @@ fn put_source_line<W: Write>(
     requires owned { All (λ e. IfSome e.owner (λ agent. agent < length test.now.agents)) events.now }
     requires known { All (λ n. n < length events.now) sources.now }
     requires names { AreNames test.now names.now.names }
-    ensures { HasPut (writing_of W.contents output.old page.old) (writing_of W.contents output.new page.new)
+    ensures { HasPutOn W.contents output.old output.new page.old page.new
         (source_line test.now events.now read.now sources.now) }
 {
     put_source_head(page, output, test, read);
@@ -121,7 +121,7 @@ fn put_read<'s, W: Write>(
     requires known { All (λ n. n < length events.now) sources.now }
     requires names { AreNames test.now names.now.names }
     requires room { does_read event.now.kind ≡ true → event.now.size ≤ length sources.now }
-    ensures text { HasPut (writing_of W.contents output.old page.old) (writing_of W.contents output.new page.new)
+    ensures text { HasPutOn W.contents output.old output.new page.old page.new
         (read_line test.now events.now event.now sources.now) }
     ensures rest { result.now ≡ rest_after event.now sources.now }
 {
@@ -150,7 +150,7 @@ pub(crate) fn put_sources<W: Write>(
     requires known { All (λ n. n < length events.now) sources.now }
     requires names { AreNames test.now names.now.names }
     requires one_each { length sources.now ≡ length (byte_reads part.now) }
-    ensures { HasPut (writing_of W.contents output.old page.old) (writing_of W.contents output.new page.new)
+    ensures { HasPutOn W.contents output.old output.new page.old page.new
         (lines_from test.now events.now part.now sources.now) }
 {
     let mut rest = sources;
@@ -161,7 +161,7 @@ pub(crate) fn put_sources<W: Write>(
 
 /// Puts a blank and the name of a register, by its agent's name and its number. A short one is put at once.
 fn put_register_name<W: Write>(page: &mut Page, output: &mut Counted<W>, agent: &[u8], register: u8)
-    ensures { HasPut (writing_of W.contents output.old page.old) (writing_of W.contents output.new page.new)
+    ensures { HasPutOn W.contents output.old output.new page.old page.new
         (codes " " ++ agent.now ++ codes ".r" ++ decimal register) }
 {
     if agent.len() == 1 && register < 10 {
@@ -182,7 +182,7 @@ pub(crate) fn put_register_head<W: Write>(
     name: (u8, u8),
 )
     requires { name.0 < length test.now.agents }
-    ensures { HasPut (writing_of W.contents output.old page.old) (writing_of W.contents output.new page.new) (register_head test.now name) }
+    ensures { HasPutOn W.contents output.old output.new page.old page.new (register_head test.now name) }
 {
     put_register_name(
         page,
@@ -202,7 +202,7 @@ fn put_register<W: Write>(
     value: u32,
 )
     requires { name.0 < length test.now.agents }
-    ensures { HasPut (writing_of W.contents output.old page.old) (writing_of W.contents output.new page.new)
+    ensures { HasPutOn W.contents output.old output.new page.old page.new
         (register_text test.now (name, value)) }
 {
     put_register_head(page, output, test, name);
@@ -219,7 +219,7 @@ pub(crate) fn put_registers<W: Write>(
 )
     requires known { All (λ name. name.0 < length test.now.agents) names.now }
     requires named { length values.now ≤ length names.now }
-    ensures { HasPut (writing_of W.contents output.old page.old) (writing_of W.contents output.new page.new)
+    ensures { HasPutOn W.contents output.old output.new page.old page.new
         (registers_text test.now names.now values.now) }
 {
     for (place, value) in values.iter().enumerate() {
@@ -229,7 +229,7 @@ pub(crate) fn put_registers<W: Write>(
 
 /// Puts the first line of a report.
 pub(crate) fn put_head<W: Write>(page: &mut Page, output: &mut Counted<W>, test: &Test)
-    ensures { HasPut (writing_of W.contents output.old page.old) (writing_of W.contents output.new page.new)
+    ensures { HasPutOn W.contents output.old output.new page.old page.new
         (line (codes "test " ++ test.now.name)) }
 {
     page.put(output, b"test ");
@@ -239,7 +239,7 @@ pub(crate) fn put_head<W: Write>(page: &mut Page, output: &mut Counted<W>, test:
 
 /// Puts the line of the verdict.
 fn put_verdict<W: Write>(page: &mut Page, output: &mut Counted<W>, verdict: Verdict)
-    ensures { HasPut (writing_of W.contents output.old page.old) (writing_of W.contents output.new page.new)
+    ensures { HasPutOn W.contents output.old output.new page.old page.new
         (line (codes "verdict " ++ verdict_text verdict)) }
 {
     page.put(output, b"verdict ");
@@ -256,7 +256,7 @@ pub(crate) fn word_for(answer: bool) -> &'static [u8]
 
 /// Puts the line that says whether some valid execution has a data race.
 fn put_race<W: Write>(page: &mut Page, output: &mut Counted<W>, race: bool)
-    ensures { HasPut (writing_of W.contents output.old page.old) (writing_of W.contents output.new page.new)
+    ensures { HasPutOn W.contents output.old output.new page.old page.new
         (line (codes "data race " ++ yes_or_no race)) }
 {
     page.put(output, b"data race ");
@@ -279,7 +279,7 @@ fn choice_at(found: &Found, place: usize) -> u64
 /// one entry before it is put: till then the memory is at hand.
 fn put_entries<W: Write>(page: &mut Page, output: &mut Counted<W>, plan: &Plan<'_>, found: &Found)
     requires report { IsReport plan.now (in_range 0 (length (choices_of plan.now))) found.now }
-    ensures { HasPut (writing_of W.contents output.old page.old) (writing_of W.contents output.new page.new)
+    ensures { HasPutOn W.contents output.old output.new page.old page.new
         (flat_map (entry_text plan.now) found.now.entries) }
 {
     let _some = plan.combinations();
@@ -341,7 +341,7 @@ fn put_class<W: Write>(
     first: &Option<Found>,
 )
     requires first { IfSome first.now (IsOnlyEntry plan.now) }
-    ensures { HasPut (writing_of W.contents output.old page.old) (writing_of W.contents output.new page.new)
+    ensures { HasPutOn W.contents output.old output.new page.old page.new
         (class_text plan.now word.now (entry_of_option first.now)) }
 {
     page.put(output, word);

@@ -9,7 +9,7 @@ ghost use Rattle.jslit.specs.ReportText.{line, registers_text, entry_text};
 ghost use Rattle.jslit.specs.Internal.Names.{AreNames};
 ghost use Rattle.jslit.specs.Internal.Sharing.{HoldsOutcome, HoldsOrder, IsShared, first_head, first_value};
 ghost use Rattle.jslit.specs.Internal.Sharing.{outcome_head, outcome_text, order_line};
-ghost use Rattle.jslit.specs.Internal.Writing.{HasPut, writing_of};
+ghost use Rattle.jslit.specs.Internal.Writing.{HasPutOn};
 
 use crate::counted::Counted;
 use crate::page::Page;
@@ -77,7 +77,7 @@ impl<'f> Shared<'f> {
 /// Puts the first of these registers up to its value, if there is one.
 fn put_first<W: Write>(page: &mut Page, output: &mut Counted<W>, test: &Test, names: &[(u8, u8)])
     requires known { All (λ name. name.0 < length test.now.agents) names.now }
-    ensures { HasPut (writing_of W.contents output.old page.old) (writing_of W.contents output.new page.new)
+    ensures { HasPutOn W.contents output.old output.new page.old page.new
         (first_head test.now names.now) }
 {
     if let [name, ..] = names {
@@ -95,7 +95,7 @@ fn put_values<W: Write>(
 )
     requires known { All (λ name. name.0 < length test.now.agents) names.now }
     requires named { length values.now ≤ length names.now }
-    ensures { HasPut (writing_of W.contents output.old page.old) (writing_of W.contents output.new page.new)
+    ensures { HasPutOn W.contents output.old output.new page.old page.new
         (outcome_head test.now names.now values.now) }
 {
     page.put(output, b"outcome");
@@ -138,7 +138,7 @@ fn put_kept_values<'f, W: Write>(
     requires named { length values.now ≤ length names.now }
     requires kept { HoldsOutcome test.now names.now kept.old }
     ensures kept { HoldsOutcome test.now names.now kept.new }
-    ensures text { HasPut (writing_of W.contents output.old page.old) (writing_of W.contents output.new page.new)
+    ensures text { HasPutOn W.contents output.old output.new page.old page.new
         (outcome_head test.now names.now values.now) }
 {
     keep_values(kept, test, names, values);
@@ -151,7 +151,7 @@ fn put_kept_values<'f, W: Write>(
 
 /// Puts a value, if there is one.
 fn put_last<W: Write>(page: &mut Page, output: &mut Counted<W>, values: &[u32])
-    ensures { HasPut (writing_of W.contents output.old page.old) (writing_of W.contents output.new page.new) (first_value values.now) }
+    ensures { HasPutOn W.contents output.old output.new page.old page.new (first_value values.now) }
 {
     if let [value, ..] = values {
         page.put_number(output, *value as u64);
@@ -171,7 +171,7 @@ fn put_outcome<'f, W: Write>(
     requires one_each { length outcome.now ≡ length names.now }
     requires kept { HoldsOutcome test.now names.now kept.old }
     ensures kept { HoldsOutcome test.now names.now kept.new }
-    ensures text { HasPut (writing_of W.contents output.old page.old) (writing_of W.contents output.new page.new)
+    ensures text { HasPutOn W.contents output.old output.new page.old page.new
         (line (outcome_text test.now names.now outcome.now)) }
 {
     let count = outcome.len().saturating_sub(1);
@@ -193,7 +193,7 @@ fn put_order<W: Write>(
     requires owned { All (λ e. IfSome e.owner (λ agent. agent < length test.now.agents)) events.now }
     requires known { All (λ n. n < length events.now) order.now }
     requires names { AreNames test.now names.now.names }
-    ensures { HasPut (writing_of W.contents output.old page.old) (writing_of W.contents output.new page.new)
+    ensures { HasPutOn W.contents output.old output.new page.old page.new
         (order_line test.now events.now order.now) }
 {
     page.put(output, b"  order");
@@ -246,7 +246,7 @@ fn put_kept_order<'f, W: Write>(
     requires names { AreNames test.now names.now.names }
     requires kept { HoldsOrder test.now events.now kept.old }
     ensures kept { HoldsOrder test.now events.now kept.new }
-    ensures text { HasPut (writing_of W.contents output.old page.old) (writing_of W.contents output.new page.new)
+    ensures text { HasPutOn W.contents output.old output.new page.old page.new
         (order_line test.now events.now order.now) }
 {
     keep_order(kept, test, events, order, names);
@@ -319,7 +319,7 @@ pub(crate) fn put_entry<'p, 'f, W: Write>(
     requires shared { IsShared plan.now combination.old.1 shared.old }
     ensures plan { combination.new.0 ≡ plan.now }
     ensures shared { IsShared plan.now combination.new.1 shared.new }
-    ensures text { HasPut (writing_of W.contents output.old page.old) (writing_of W.contents output.new page.new)
+    ensures text { HasPutOn W.contents output.old output.new page.old page.new
         (entry_text plan.now (record { outcome = outcome.now; choice = choice; order = order.now })) }
 {
     combinations_are_listed();

@@ -1,5 +1,5 @@
 -- Beginnings of memory-orders.
-use Rattle.std.specs.Prelude.{◌≡◌, ◌≢◌, ◌⊎◌, ℕ, ◌<◌, List, ◌++◌, Some, slice_get}
+use Rattle.std.specs.Prelude.{◌≡◌, ◌≢◌, ◌⊎◌, ◌↔◌, ℕ, ◌<◌, List, ◌++◌, Some, slice_get}
 use Rattle.std.specs.Cmp.Lexicographic.{slice_cmp}
 use Rattle.std.specs.Ordering.{nat_cmp}
 use Rattle.std.specs.declared.cmp.Ordering.TheVariants.{Less}
@@ -17,6 +17,11 @@ pub record IsBeginning (n : ℕ) (before : ℕ → ℕ → Type 0) (forbidden : 
   pub once : (k l e : ℕ) → slice_get order k ≡ Some e → slice_get order l ≡ Some e → k ≡ l
   pub closed : (a d k : ℕ) → before a d → slice_get order k ≡ Some d → StandsBefore order a d
   pub whole : (w r v : ℕ) → forbidden w r v → StandsBefore order w v → (r ≡ v) ⊎ StandsBefore order r v
+
+-- a beginning, and its events
+pub record IsPlaced (n : ℕ) (before : ℕ → ℕ → Type 0) (forbidden : ℕ → ℕ → ℕ → Type 0) (placed : ℕ → Type 0) (order : List ℕ) : Type 0 where
+  pub begins : IsBeginning n before forbidden order
+  pub events : (e : ℕ) → placed e ↔ Stands order e
 
 -- The event may stand next after those placed: it is not placed, all that come before it are, and of each triple
 -- (w, r, v) with it as v and w placed, r is placed too, or is v itself.

@@ -1,8 +1,11 @@
 -- What constraints ask of orders.
-use Rattle.std.specs.Prelude.{ℕ}
+use Rattle.std.specs.Prelude.{ℕ, List}
 use Rattle.lit_rel.specs.Between.{Forbids}
+use Rattle.lit_rel.specs.EventSet.{HasEvent}
 use Rattle.lit_rel.specs.Rows.{Holds}
+use Rattle.lit_rel.specs.declared.event_set.EventSet.{EventSet}
 use Rattle.lit_order.specs.declared.constraints.Constraints.{Constraints}
+use Rattle.lit_order.specs.Internal.Beginning.{HasNoOrder, IsLeastFrom, IsPlaced}
 
 -- of how many events
 abbrev pub constrained_len : Constraints → ℕ
@@ -15,3 +18,17 @@ ComesBefore constraints a e = Holds constraints.converse.now e a
 -- v may not stand after w and before r
 abbrev pub MayNotStand : Constraints → ℕ → ℕ → ℕ → Type 0
 MayNotStand constraints = Forbids constraints.between.now
+
+-- a beginning of an order, of these events
+abbrev pub IsBegun : Constraints → EventSet → List ℕ → Type 0
+IsBegun constraints placed order =
+    IsPlaced (constrained_len constraints) (ComesBefore constraints) (MayNotStand constraints) (HasEvent placed) order
+
+-- no order begins so
+abbrev pub BeginsNone : Constraints → List ℕ → Type 0
+BeginsNone constraints start = HasNoOrder (constrained_len constraints) (ComesBefore constraints) (MayNotStand constraints) start
+
+-- the least order that begins so
+abbrev pub IsLeastOf : Constraints → List ℕ → List ℕ → Type 0
+IsLeastOf constraints start order =
+    IsLeastFrom (constrained_len constraints) (ComesBefore constraints) (MayNotStand constraints) start order

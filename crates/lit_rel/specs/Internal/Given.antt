@@ -7,6 +7,7 @@ use Rattle.lit_paths.specs.Event.{event_at}
 use Rattle.lit_rel.specs.declared.given.SourcedByte.{SourcedByte}
 use Rattle.lit_rel.specs.Coherent.{IsCoherentRead}
 use Rattle.lit_rel.specs.Part.{PartModel}
+use Rattle.lit_rel.specs.Racing.{AreApart}
 use Rattle.lit_rel.specs.TearFree.{CanReadWhole}
 
 -- the read and the byte
@@ -49,6 +50,10 @@ pub record HasByteSo (bytes : List SourcedByte) (IsSo : SourcedByte → Type 0) 
 -- the byte is not coherent by this relation
 abbrev pub IsIncoherent : List Event → (ℕ → ℕ → Type 0) → SourcedByte → Type 0
 IsIncoherent events before p = ¬ IsCoherentRead events before p.read p.byte p.source
+
+-- its read and its source are in a data race by this relation
+abbrev pub IsRacing : List Event → (ℕ → ℕ → Type 0) → SourcedByte → Type 0
+IsRacing events before p = AreApart events before p.read p.source
 
 -- two of these bytes tear their read
 abbrev pub HasTornBytes : List Event → List SourcedByte → Type 0

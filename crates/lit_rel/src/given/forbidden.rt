@@ -1,6 +1,6 @@
 //! Which events may not stand between a source and its read in the order of memory (ECMA-262, 2024, 29.7.4).
 
-ghost use Rattle.std.specs.Prelude.{◌≡◌, ◌⊎◌, ◌↔◌, ℕ, ◌+◌, ◌<◌, ◌≤◌, IsTrue, length};
+ghost use Rattle.std.specs.Prelude.{◌≡◌, ◌⊎◌, ◌↔◌, ℕ, ◌+◌, ◌<◌, ◌≤◌, length};
 ghost use Rattle.lit_paths.specs.declared.limits.TheConstants.{BYTE_READ_LIMIT, EVENT_LIMIT};
 ghost use Rattle.lit_rel.specs.Between.{Forbids};
 ghost use Rattle.lit_rel.specs.EventSet.{HasEvent};
@@ -54,28 +54,46 @@ impl Given<'_> {
         ensures triples { (w r v : ℕ) → Forbids between.new w r v
             ↔ (Forbids between.old w r v ⊎ IsForbidding self.now.events.now (Holds before.now.rows) w r v byte) }
     {
-        let others = self.forbidden(byte, before, peers);
+        let (source, read) = (usize::from(byte.source), usize::from(byte.read));
+        let others = self.forbidden(source, read, before, peers);
         if !others.is_empty() {
             between.forbid(byte.source, byte.read, others);
         }
     }
 
-    /// The events that may not stand between a byte's source and its read: the sequentially consistent writes in one of
+    /// The events that may not stand between a source and a read: the sequentially consistent writes in one of
     /// the patterns, but for these two.
-    fn forbidden(&self, byte: SourcedByte, before: &TwoWayRows, peers: &Rows) -> EventSet
+    fn forbidden(&self, source: usize, read: usize, before: &TwoWayRows, peers: &Rows) -> EventSet
         requires rows { rows_len before.now.rows ≡ length self.now.events.now }
         requires peers { ArePeers self.now.events.now peers.now }
-        requires known { IsKnown (length self.now.events.now) byte }
+        requires source { source < length self.now.events.now }
+        requires read { read < length self.now.events.now }
         ensures { (v : ℕ) → HasEvent result v
-            ↔ ((v < length self.now.events.now) × IsForbiddenBetween self.now.events.now (Holds before.now.rows) byte.source byte.read v) }
+            ↔ ((v < length self.now.events.now) × IsForbiddenBetween self.now.events.now (Holds before.now.rows) source read v) }
     {
-        let (source, read) = (usize::from(byte.source), usize::from(byte.read));
-        let mut others = self.between_synchronized(source, read, peers);
-        if before.rows.holds(source, read) {
-            others = others.union(self.after_source(source, read, before, peers));
-            others = others.union(self.before_read(source, read, before, peers));
-        }
+        let others = self.in_pattern(source, read, before, peers);
         others.difference(EventSet::new().with(source).with(read))
+    }
+
+    /// The sequentially consistent writes in one of the patterns between a source and a read.
+    fn in_pattern(&self, source: usize, read: usize, before: &TwoWayRows, peers: &Rows) -> EventSet
+        requires peers { ArePeers self.now.events.now peers.now }
+        requires rows { rows_len before.now.rows ≡ length self.now.events.now }
+        requires source { source < length self.now.events.now }
+        requires read { read < length self.now.events.now }
+        ensures { (v : ℕ) → HasEvent result v ↔ (IsSeqCstWrite self.now.events.now v
+            × (IsBetweenSynchronized self.now.events.now source read v
+            ⊎ IsAfterSource self.now.events.now (Holds before.now.rows) source read v
+            ⊎ IsBeforeRead self.now.events.now (Holds before.now.rows) source read v)) }
+    {
+        let others = self.between_synchronized(source, read, peers);
+        if before.rows.holds(source, read) {
+            others
+                .union(self.after_source(source, read, before, peers))
+                .union(self.before_read(source, read, before, peers))
+        } else {
+            others
+        }
     }
 
     /// The sequentially consistent writes that have the range of a read that its source can synchronize with.
@@ -95,6 +113,7 @@ impl Given<'_> {
 
     /// The sequentially consistent writes before a read that have the range of its source, where that is sequentially
     /// consistent. The source is before the read.
+    #[tactic(auto, using(crate::proofs::RaceLemmas::same_range_back))]
     fn after_source(
         &self,
         source: usize,
@@ -140,9 +159,8 @@ impl Given<'_> {
     }
 }
 
-/// What may not stand between a source and a read in the order of memory (29.7.4), if the read has that source, by a
-/// relation that orders the events, and the sequentially consistent writes that have the range of each. Source and read
-/// are event numbers.
+/// What may not stand between a source and a read in the order of memory (29.7.4), if the read has that source, by a relation that orders
+/// the events, and the sequentially consistent writes that have the range of each. Source and read are event numbers.
 pub fn others_between(
     events: &[Event],
     source: u8,
@@ -159,10 +177,5 @@ pub fn others_between(
         ↔ ((v < length events.now) × IsForbiddenBetween events.now (Holds before.now.rows) source read v) }
 {
     let given = Given { events, bytes: &[] };
-    let byte = SourcedByte {
-        read,
-        byte: 0,
-        source,
-    };
-    given.forbidden(byte, before, peers)
+    given.forbidden(usize::from(source), usize::from(read), before, peers)
 }

@@ -2,7 +2,7 @@
 
 ghost use Rattle.std.specs.Prelude.{◌↔◌, ℕ, ◌<◌, IsTrue, length};
 ghost use Rattle.lit_rel.specs.DataRace.{AreUnguarded, HasDataRaceOf, WriteOneByte};
-ghost use Rattle.lit_rel.specs.Internal.Given.{sources_of};
+ghost use Rattle.lit_rel.specs.Internal.Given.{HasByteSo, IsRacing, sources_of};
 ghost use Rattle.lit_rel.specs.Racing.{AreApart, HasApartPair, WritesWith};
 ghost use Rattle.lit_rel.specs.ReadsFrom.{ReadsFrom};
 ghost use Rattle.lit_rel.specs.Rows.{Holds};
@@ -70,8 +70,7 @@ pub fn has_racing_writes(events: &[Event], before: &Rows) -> bool
 impl Given<'_> {
     /// Whether a read and its source are in a data race.
     fn has_racing_read(&self, before: &Rows) -> bool
-        ensures { IsTrue result ↔ HasApartPair self.now.events.now (Holds before.now)
-            (ReadsFrom self.now.events.now (sources_of self.now.bytes.now)) }
+        ensures { IsTrue result ↔ HasByteSo self.now.bytes.now (IsRacing self.now.events.now (Holds before.now)) }
     {
         for byte in self.bytes {
             if are_apart(

@@ -1,6 +1,6 @@
 //! What valid executions ask of reads (ECMA-262, 2024, 29.7).
 
-ghost use Rattle.std.specs.Prelude.{◌≡◌, ◌↔◌, ℕ, ◌<◌, IsTrue, length};
+ghost use Rattle.std.specs.Prelude.{◌≡◌, ◌↔◌, ◌<◌, IsTrue, length};
 ghost use Rattle.lit_paths.specs.Event.{HasByte, does_write, event_at};
 ghost use Rattle.lit_rel.specs.Coherent.{IsCoherentRead};
 ghost use Rattle.lit_rel.specs.Internal.Given.{HasBrokenBytes, HasByteSo, HasTornBytes, IsIncoherent, IsKnown, Tears};
@@ -47,8 +47,7 @@ fn is_coherent_byte(events: &[Event], byte: SourcedByte, before: &TwoWayRows) ->
 }
 
 impl Given<'_> {
-    /// Whether some event comes before itself by a relation that orders the events, or some byte is not coherent or tears
-    /// its read.
+    /// Whether some event comes before itself by a relation that orders the events, or some byte is not coherent or tears its read.
     pub(crate) fn is_broken(&self, before: &TwoWayRows) -> bool
         requires { rows_len before.now.rows ≡ length self.now.events.now }
         ensures { IsTrue result ↔ HasBrokenBytes self.now.events.now (Holds before.now.rows) self.now.bytes.now }
@@ -109,8 +108,7 @@ impl Given<'_> {
     /// Whether neither a byte's read nor its source may tear, and their ranges are equal.
     fn reads_whole(&self, byte: SourcedByte) -> bool
         requires { IsKnown (length self.now.events.now) byte }
-        ensures { IsTrue result
-            ↔ CanReadWhole (event_at self.now.events.now byte.read) (event_at self.now.events.now byte.source) }
+        ensures { IsTrue result ↔ CanReadWhole (event_at self.now.events.now byte.read) (event_at self.now.events.now byte.source) }
     {
         let read = event_at(self.events, usize::from(byte.read));
         let source = event_at(self.events, usize::from(byte.source));

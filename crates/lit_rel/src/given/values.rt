@@ -8,8 +8,7 @@ ghost use Rattle.lit_rel.specs.ReadsFrom.{value_of};
 use crate::given::Given;
 use lit_paths::{Event, event_at};
 
-/// The one of some bytes, of which the first is for byte `first` of the block, that is for this byte of it: 0 where there
-/// is none.
+/// The one of some bytes, of which the first is for byte `first` of the block, that is for this byte of it: 0 where there is none.
 pub(crate) fn byte_from(bytes: [u8; 4], first: u8, byte: u8) -> u8
     ensures { result ≡ slice_index bytes (byte - first) }
 {

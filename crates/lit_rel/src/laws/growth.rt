@@ -5,11 +5,13 @@ ghost use Rattle.lit_rel.specs.Growth.{GivenValuesAgree, GrowWithBytes, ValuesSt
 
 /// With more bytes given, reads-from, synchronizes-with, happens-before and the forbidden triples only grow, and that
 /// the reads are coherent and tear free only goes from true to false.
+#[tactic(auto, using(crate::proofs::GrowthLemmas::grow_with_bytes))]
 pub fn relations_grow_with_bytes()
     ensures { GrowWithBytes }
 {}
 
 /// Once all bytes of a read are given, further bytes do not change its value.
+#[tactic(auto, using(crate::proofs::GrowthLemmas::values_stay))]
 pub fn values_stay()
     ensures { ValuesStay }
 {}
@@ -25,6 +27,7 @@ pub fn broken_parts_stay_broken()
 {}
 
 /// Any bytes given that are broken are so with any bytes more, and in each list of sources that has them.
+#[tactic(auto, using(crate::proofs::BrokenLemmas::bytes_stay_broken))]
 pub fn bytes_stay_broken()
     ensures { BytesStayBroken }
 {}

@@ -1,5 +1,4 @@
-//! What the model says of small executions with accesses of two bytes. The functions do nothing: their contracts are
-//! theorems.
+//! What the model says of small executions with accesses of two bytes. The functions do nothing: their contracts are theorems.
 
 ghost use Rattle.lit_rel.specs.WideEvents.{MixedSizesNeverSynchronize, NeverReadsItself, TypedLoadMixesWithInitOnly, ViewedLoadMixes};
 
@@ -10,11 +9,13 @@ pub fn mixed_sizes_never_synchronize()
 
 /// Tear free reads allow no load of two bytes through a typed array to mix two stores of its range, but they allow it to
 /// mix one of them with init.
+#[tactic(auto, using(crate::proofs::WideLemmas::typed_load_mixes_with_init_only))]
 pub fn typed_load_mixes_with_init_only()
     ensures { TypedLoadMixesWithInitOnly }
 {}
 
 /// Tear free reads allow a load of two bytes through a DataView to mix two stores of its range.
+#[tactic(auto, using(crate::proofs::WideLemmas::viewed_load_mixes))]
 pub fn viewed_load_mixes()
     ensures { ViewedLoadMixes }
 {}

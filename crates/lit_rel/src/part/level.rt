@@ -26,8 +26,7 @@ pub(crate) struct Level {
 fn is_broken(combination: &Combination<'_>, given: &Given<'_>, before: &TwoWayRows) -> bool
     requires events { given.now.events.now ≡ events_in combination.now.0 combination.now.1 }
     requires len { rows_len before.now.rows ≡ length given.now.events.now }
-    ensures { IsTrue result
-        ↔ (HasBrokenBytes given.now.events.now (Holds before.now.rows) given.now.bytes.now
+    ensures { IsTrue result ↔ (HasBrokenBytes given.now.events.now (Holds before.now.rows) given.now.bytes.now
         ⊎ HasFalseTest (part_of combination.now.0 combination.now.1 given.now.bytes.now)) }
 {
     given.is_broken(before) || is_refused(combination, given)

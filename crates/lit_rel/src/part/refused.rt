@@ -2,8 +2,7 @@
 
 ghost use Rattle.std.specs.Prelude.{◌≡◌, ◌↔◌, ℕ, ◌<◌, ◌≤◌, None, Some, false, IsTrue, length, slice_get};
 ghost use Rattle.lit_paths.specs.declared.byte_reads.ByteRead.{ByteRead as Read};
-ghost use Rattle.lit_paths.specs.Event.{event_at};
-ghost use Rattle.lit_paths.specs.Plan.{AreEventsIn, IsWalkIn, events_in, walk_in};
+ghost use Rattle.lit_paths.specs.Plan.{IsWalkIn, events_in, walk_in};
 ghost use Rattle.lit_paths.specs.Run.{compares};
 ghost use Rattle.lit_rel.specs.Broken.{HasFalseTest, HasFalseTestOn, number_on as number_asked};
 ghost use Rattle.lit_rel.specs.Internal.Given.{part_of};

@@ -40,8 +40,7 @@ fn has_false_byte(tests: &[Tested], first: u8, event: &Event, at: ByteRead, valu
 pub fn is_source_refused(combination: &Combination<'_>, at: ByteRead, source: u8) -> bool
     requires read { at.read < length (events_in combination.now.0 combination.now.1) }
     requires source { source < length (events_in combination.now.0 combination.now.1) }
-    ensures { IsTrue result
-        ↔ HasFalseByteOn combination.now.0 combination.now.1 at.read at.byte
+    ensures { IsTrue result ↔ HasFalseByteOn combination.now.0 combination.now.1 at.read at.byte
         (payload_of_event (event_of (events_in combination.now.0 combination.now.1) source) at.byte) }
 {
     let events = combination.events();

@@ -20,12 +20,7 @@ pub fn close(rows: &mut Rows)
 fn lead_through(rows: &mut Rows, middle: usize)
     requires { middle < rows_len rows.old }
     ensures len { rows_len rows.new ≡ rows_len rows.old }
-    ensures pairs { (e d : ℕ) →
-        Holds rows.new e d ↔ (Holds rows.old e d ⊎ (Holds rows.old e middle × Holds rows.old middle d)) }
+    ensures pairs { (e d : ℕ) → Holds rows.new e d ↔ (Holds rows.old e d ⊎ (Holds rows.old e middle × Holds rows.old middle d)) }
 {
-    for first in 0..rows.len() {
-        if rows.holds(first, middle) {
-            rows.join(first, middle);
-        }
-    }
+    rows.put_led(middle, rows.successors(middle));
 }

@@ -47,8 +47,11 @@ pub struct TwoWayRows {
 }
 
 impl Default for TwoWayRows {
-    /// On no events.
-    fn default() -> Self {
+    /// Of the empty relation on no events.
+    fn default() -> Self
+        ensures len { rows_len result.rows ≡ 0 }
+        ensures empty { (a d : ℕ) → ¬ Holds result.rows a d }
+    {
         TwoWayRows {
             rows: Rows::new(0),
             converse: Rows::new(0),

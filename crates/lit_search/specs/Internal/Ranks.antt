@@ -8,7 +8,7 @@ use Rattle.std.specs.declared.cmp.Ordering.{Ordering}
 use Rattle.lit_search.specs.declared.found.Found.TheInside.{Inside}
 use Rattle.lit_search.specs.declared.found.ranking.Rank.{Rank}
 use Rattle.lit_search.specs.Found.{report_of}
-use Rattle.lit_search.specs.Ranked.{joined, ranked_entry}
+use Rattle.lit_search.specs.Ranked.{joined_entries, ranked_entry}
 use Rattle.lit_search.specs.Report.{Entry, outcome_cmp}
 use Rattle.lit_search.specs.Internal.Packed.{IsPacked}
 
@@ -34,5 +34,5 @@ rank_cmp entries a b = slice_cmp nat_cmp (rank_key entries a) (rank_key entries 
 -- The ranks rise by outcome, and are of the entries that are counted.
 pub record IsRanked (found : Inside) : Type 0 where
   pub rising : IsStrictlySortedBy outcome_cmp (report_of found).entries
-  pub ranks : AreRanks (joined found.parts.items) found.ranks.items
-  pub count : found.count ≡ length (joined found.parts.items)
+  pub ranks : AreRanks (joined_entries found.parts.items) found.ranks.items
+  pub count : found.count ≡ length (joined_entries found.parts.items)

@@ -5,16 +5,16 @@ use Rattle.std.specs.Coded.{Coded, code_by, coded×, coded_ℕ, coded_list}
 use Rattle.std.proofs.Common.{refl}
 use Rattle.lit_read.specs.declared.syntax.Stmt.{Stmt}
 use Rattle.lit_read.specs.Litmus.{statement_of, statements_of}
-use Rattle.lit_read.specs.Syntax.{Statement, Statements, Load, Store, Exchange, CompareExchange, If, End, Then}
+use Rattle.lit_read.specs.Syntax.{AreStatementsIn, IsStatementIn, Statement, Statements, Load, Store, Exchange, CompareExchange, If, End, Then}
 use Rattle.lit_read.specs.SyntaxCodes.{coded_statements}
 use Rattle.lit_paths.specs.Run.{compares}
-use Rattle.lit_search.specs.Interleaving.{Progress, from_access, joined}
+use Rattle.lit_search.specs.Interleaving.{Progress, from_access, joined_statements}
 use Rattle.lit_search.specs.declared.interleaving.runner.Runner.TheInside.{Inside}
 
 -- the statements left of lists one in the other, the innermost last, and then others
 abbrev pub joined_all : List (Bor (List Stmt)) → Statements → Statements
 joined_all [] others = others
-joined_all (list ∷ lists) others = joined_all lists (joined (statements_of list.now) others)
+joined_all (list ∷ lists) others = joined_all lists (joined_statements (statements_of list.now) others)
 
 abbrev pub progress : Inside → Progress
 progress r = record { left = joined_all r.left.items End; registers = r.registers }
@@ -43,8 +43,13 @@ pub record ChoosesPart (registers : List ℕ) (s : Statement) (part : Statements
   pub is : s ≡ If reg equal value body other
   pub chosen : part ≡ (if compares equal (slice_index registers reg) value then body else other)
 
--- the next access of statements, and what is left behind it
+-- the next access of statements, and what is left behind it, of which nothing new is said
+pub record IsNextAccess (registers : List ℕ) (before : Statements) (s : Statement) (left : Statements) : Type 0 where
+  pub access : is_access s ≡ true
+  pub next : from_access registers before ≡ Then s left
+  pub said : (bytes : ℕ) → AreStatementsIn bytes before → IsStatementIn bytes s × AreStatementsIn bytes left
+
+-- that, or there is none
 abbrev pub IsNext : List ℕ → Statements → Option (Bor Stmt) → Statements → Type 0
 IsNext registers before None left = (from_access registers before ≡ End) × (left ≡ End)
-IsNext registers before (Some access) left =
-    (is_access (statement_of access.now) ≡ true) × (from_access registers before ≡ Then (statement_of access.now) left)
+IsNext registers before (Some access) left = IsNextAccess registers before (statement_of access.now) left

@@ -4,7 +4,7 @@ ghost use Rattle.std.specs.Prelude.{◌≡◌, ℕ, ◌+◌, ◌<◌, ◌++◌, 
 ghost use Rattle.std.specs.Option.{option_to_list, option_map};
 ghost use Rattle.lit_read.specs.Syntax.{Litmus};
 ghost use Rattle.lit_search.specs.Merge.{IsMerge};
-ghost use Rattle.lit_search.specs.Ranked.{joined, ranked_entry};
+ghost use Rattle.lit_search.specs.Ranked.{joined_entries, ranked_entry};
 ghost use Rattle.lit_search.specs.Report.{IsReport, in_either};
 ghost use Rattle.lit_search.specs.Internal.Merged.{heads_cmp, lesser as lesser_of, merged};
 ghost use Rattle.lit_search.specs.Internal.Ranks.{AreRanks, IsRank};
@@ -19,11 +19,11 @@ use std::collections::VecDeque;
 
 /// Of two ranks of one outcome the one with the lesser example: by choice, and then by order as a list.
 fn lesser(parts: &[Examples], a: Rank, b: Rank) -> Rank
-    requires first { IsRank (joined parts.now) a }
-    requires second { IsRank (joined parts.now) b }
-    ensures lesser { ranked_entry (joined parts.now) result
-        ≡ lesser_of (ranked_entry (joined parts.now) a) (ranked_entry (joined parts.now) b) }
-    ensures rank { IsRank (joined parts.now) result }
+    requires first { IsRank (joined_entries parts.now) a }
+    requires second { IsRank (joined_entries parts.now) b }
+    ensures lesser { ranked_entry (joined_entries parts.now) result
+        ≡ lesser_of (ranked_entry (joined_entries parts.now) a) (ranked_entry (joined_entries parts.now) b) }
+    ensures rank { IsRank (joined_entries parts.now) result }
 {
     let (Some((_, first)), Some((_, second))) = (find(parts, a.place), find(parts, b.place)) else {
         unreachable!()
@@ -36,9 +36,9 @@ fn lesser(parts: &[Examples], a: Rank, b: Rank) -> Rank
 
 /// How the outcomes at the fronts of two lists compare. Where one list has ended, the other's is less.
 fn compared(parts: &[Examples], a: &VecDeque<Rank>, b: &VecDeque<Rank>) -> Ordering
-    requires first { AreRanks (joined parts.now) a.now.items }
-    requires second { AreRanks (joined parts.now) b.now.items }
-    ensures { result ≡ heads_cmp (map (ranked_entry (joined parts.now)) a.now.items) (map (ranked_entry (joined parts.now)) b.now.items) }
+    requires first { AreRanks (joined_entries parts.now) a.now.items }
+    requires second { AreRanks (joined_entries parts.now) b.now.items }
+    ensures { result ≡ heads_cmp (map (ranked_entry (joined_entries parts.now)) a.now.items) (map (ranked_entry (joined_entries parts.now)) b.now.items) }
 {
     match (a.front(), b.front()) {
         (Some(first), Some(second)) => cmp_ranks(parts, first, second),
@@ -49,17 +49,17 @@ fn compared(parts: &[Examples], a: &VecDeque<Rank>, b: &VecDeque<Rank>) -> Order
 
 /// Takes the rank of the least outcome from the fronts of two rising lists: where both have it, the lesser one.
 fn take_least(parts: &[Examples], a: &mut VecDeque<Rank>, b: &mut VecDeque<Rank>) -> Option<Rank>
-    requires first { AreRanks (joined parts.now) a.old.items }
-    requires second { AreRanks (joined parts.now) b.old.items }
-    ensures taken { merged (map (ranked_entry (joined parts.now)) a.old.items) (map (ranked_entry (joined parts.now)) b.old.items)
-        ≡ option_to_list (option_map (ranked_entry (joined parts.now)) result)
-        ++ merged (map (ranked_entry (joined parts.now)) a.new.items) (map (ranked_entry (joined parts.now)) b.new.items) }
-    ensures rank { IfSome result (IsRank (joined parts.now)) }
-    ensures first { AreRanks (joined parts.now) a.new.items }
-    ensures second { AreRanks (joined parts.now) b.new.items }
+    requires first { AreRanks (joined_entries parts.now) a.old.items }
+    requires second { AreRanks (joined_entries parts.now) b.old.items }
+    ensures taken { merged (map (ranked_entry (joined_entries parts.now)) a.old.items) (map (ranked_entry (joined_entries parts.now)) b.old.items)
+        ≡ option_to_list (option_map (ranked_entry (joined_entries parts.now)) result)
+        ++ merged (map (ranked_entry (joined_entries parts.now)) a.new.items) (map (ranked_entry (joined_entries parts.now)) b.new.items) }
+    ensures rank { IfSome result (IsRank (joined_entries parts.now)) }
+    ensures first { AreRanks (joined_entries parts.now) a.new.items }
+    ensures second { AreRanks (joined_entries parts.now) b.new.items }
     ensures fewer { OnSome result (length a.new.items + length b.new.items < length a.old.items + length b.old.items) }
     ensures end { IfNone result
-        (merged (map (ranked_entry (joined parts.now)) a.new.items) (map (ranked_entry (joined parts.now)) b.new.items) ≡ []) }
+        (merged (map (ranked_entry (joined_entries parts.now)) a.new.items) (map (ranked_entry (joined_entries parts.now)) b.new.items) ≡ []) }
 {
     match compared(parts, a, b) {
         Ordering::Less => a.pop_front(),
@@ -75,11 +75,11 @@ fn merged_ranks(
     a: Vec<Rank>,
     b: Vec<Rank>,
 ) -> Result<Vec<Rank>, AllocError>
-    requires first { AreRanks (joined parts.now) a.items }
-    requires second { AreRanks (joined parts.now) b.items }
-    ensures merged { IfOk result (λ ranks. map (ranked_entry (joined parts.now)) ranks.items
-        ≡ merged (map (ranked_entry (joined parts.now)) a.items) (map (ranked_entry (joined parts.now)) b.items)) }
-    ensures ranks { IfOk result (λ ranks. AreRanks (joined parts.now) ranks.items) }
+    requires first { AreRanks (joined_entries parts.now) a.items }
+    requires second { AreRanks (joined_entries parts.now) b.items }
+    ensures merged { IfOk result (λ ranks. map (ranked_entry (joined_entries parts.now)) ranks.items
+        ≡ merged (map (ranked_entry (joined_entries parts.now)) a.items) (map (ranked_entry (joined_entries parts.now)) b.items)) }
+    ensures ranks { IfOk result (λ ranks. AreRanks (joined_entries parts.now) ranks.items) }
 {
     let mut ranks = Vec::with_capacity(alloc, a.len().saturating_add(b.len()))?;
     let mut left = VecDeque::from_vec(a);
@@ -90,11 +90,25 @@ fn merged_ranks(
     Ok(ranks)
 }
 
-/// The outcomes of both, with a mark of data races.
-fn with_both(alloc: Global, a: Found, b: Found, race: bool) -> Result<Found, AllocError>
-    ensures entries { IfOk result (λ found. found.entries ≡ merged a.entries b.entries) }
-    ensures race { IfOk result (λ found. found.race ≡ race) }
+/// Whether one of two is marked with a data race.
+fn is_one_marked(a: &Found, b: &Found) -> bool
+    ensures { result ≡ (a.now.race || b.now.race) }
 {
+    a.race() || b.race()
+}
+
+/// The outcomes of both, and their mark of data races.
+fn with_both(alloc: Global, a: Found, b: Found) -> Result<Found, AllocError>
+    ensures { IfOk result (IsMerge a b) }
+{
+    let (first, second) = (a.len(), b.len());
+    let race = is_one_marked(&a, &b);
+    if first == 0 {
+        return Ok(b.marked(race));
+    }
+    if second == 0 {
+        return Ok(a.marked(race));
+    }
     let Found {
         mut parts,
         ranks,
@@ -121,13 +135,6 @@ fn with_both(alloc: Global, a: Found, b: Found, race: bool) -> Result<Found, All
     })
 }
 
-/// Whether one of two is marked with a data race.
-fn is_one_marked(a: &Found, b: &Found) -> bool
-    ensures { result ≡ (a.now.race || b.now.race) }
-{
-    a.race() || b.race()
-}
-
 /// The outcomes of both, each with the lesser of its examples: by choice, and then by order as a list; and a data race
 /// where either has one. The report of two sets of choices is the merge of theirs. Answers `SearchFault::OutOfMemory`
 /// where a growth was refused, and no other fault.
@@ -136,13 +143,5 @@ pub fn merge(alloc: Global, a: Found, b: Found) -> Result<Found, SearchFault>
     ensures reported { IfOk result (λ found. (t : Litmus) (some others : ℕ → Bool) → IsReport t some a → IsReport t others b
         → IsReport t (in_either some others) found) }
 {
-    let (first, second) = (a.len(), b.len());
-    let race = is_one_marked(&a, &b);
-    if first == 0 {
-        return Ok(b.marked(race));
-    }
-    if second == 0 {
-        return Ok(a.marked(race));
-    }
-    Ok(with_both(alloc, a, b, race)?)
+    Ok(with_both(alloc, a, b)?)
 }

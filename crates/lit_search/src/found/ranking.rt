@@ -5,7 +5,7 @@ ghost use Rattle.std.specs.Cmp.Lexicographic.{slice_cmp};
 ghost use Rattle.std.specs.List.{All, IsDistinct};
 ghost use Rattle.std.specs.Option.{option_map};
 ghost use Rattle.std.specs.Ordering.{nat_cmp};
-ghost use Rattle.lit_search.specs.Ranked.{joined, ranked_entry};
+ghost use Rattle.lit_search.specs.Ranked.{joined_entries, ranked_entry};
 ghost use Rattle.lit_search.specs.Internal.Risen.{risen};
 ghost use Rattle.lit_search.specs.Internal.Packed.{IsPacked};
 ghost use Rattle.lit_search.specs.Internal.Ranks.{AreRanks, are_same, rank_cmp};
@@ -53,7 +53,7 @@ impl Rank {
 
 /// The outcome at a place of parts, and its example.
 pub(crate) fn find(parts: &[Examples], place: usize) -> Option<(&[u32], &Example)>
-    ensures { option_map (λ p. shown_entry p.0.now p.1.now) result ≡ slice_get (joined parts.now) place }
+    ensures { option_map (λ p. shown_entry p.0.now p.1.now) result ≡ slice_get (joined_entries parts.now) place }
 {
     let mut left = place;
     let mut rest = parts;
@@ -69,7 +69,7 @@ pub(crate) fn find(parts: &[Examples], place: usize) -> Option<(&[u32], &Example
 
 /// The outcome of a rank, or no value where there is none at its place.
 fn outcome_of<'a>(parts: &'a [Examples], rank: &Rank) -> &'a [u32]
-    ensures { result.now ≡ (ranked_entry (joined parts.now) rank.now).outcome }
+    ensures { result.now ≡ (ranked_entry (joined_entries parts.now) rank.now).outcome }
 {
     match find(parts, rank.place) {
         Some((outcome, _)) => outcome,
@@ -80,7 +80,7 @@ fn outcome_of<'a>(parts: &'a [Examples], rank: &Rank) -> &'a [u32]
 /// How the outcomes of ranks compare, value by value.
 #[inline(never)]
 fn cmp_outcomes(parts: &[Examples], a: &Rank, b: &Rank) -> Ordering
-    ensures { result ≡ slice_cmp nat_cmp (ranked_entry (joined parts.now) a.now).outcome (ranked_entry (joined parts.now) b.now).outcome }
+    ensures { result ≡ slice_cmp nat_cmp (ranked_entry (joined_entries parts.now) a.now).outcome (ranked_entry (joined_entries parts.now) b.now).outcome }
 {
     outcome_of(parts, a).cmp(outcome_of(parts, b))
 }
@@ -88,8 +88,8 @@ fn cmp_outcomes(parts: &[Examples], a: &Rank, b: &Rank) -> Ordering
 /// How they compare by their large values packed, and then value by value.
 #[inline(always)]
 fn cmp_large(parts: &[Examples], a: &Rank, b: &Rank) -> Ordering
-    ensures { result ≡ slice_cmp nat_cmp (a.now.large ∷ (ranked_entry (joined parts.now) a.now).outcome)
-        (b.now.large ∷ (ranked_entry (joined parts.now) b.now).outcome) }
+    ensures { result ≡ slice_cmp nat_cmp (a.now.large ∷ (ranked_entry (joined_entries parts.now) a.now).outcome)
+        (b.now.large ∷ (ranked_entry (joined_entries parts.now) b.now).outcome) }
 {
     match a.large.cmp(&b.large) {
         Ordering::Equal => cmp_outcomes(parts, a, b),
@@ -101,7 +101,7 @@ fn cmp_large(parts: &[Examples], a: &Rank, b: &Rank) -> Ordering
 /// as their outcomes do, and most differ in the first or the second.
 #[inline(always)]
 pub(crate) fn cmp_ranks(parts: &[Examples], a: &Rank, b: &Rank) -> Ordering
-    ensures { result ≡ rank_cmp (joined parts.now) a.now b.now }
+    ensures { result ≡ rank_cmp (joined_entries parts.now) a.now b.now }
 {
     match a.small.cmp(&b.small) {
         Ordering::Equal => cmp_large(parts, a, b),
@@ -111,8 +111,8 @@ pub(crate) fn cmp_ranks(parts: &[Examples], a: &Rank, b: &Rank) -> Ordering
 
 /// The ranks of all outcomes of parts, in their order.
 fn ranks_of(alloc: Global, parts: &[Examples], count: usize) -> Result<Vec<Rank>, AllocError>
-    ensures each { IfOk result (λ ranks. map (ranked_entry (joined parts.now)) ranks.items ≡ joined parts.now) }
-    ensures ranks { IfOk result (λ ranks. AreRanks (joined parts.now) ranks.items) }
+    ensures each { IfOk result (λ ranks. map (ranked_entry (joined_entries parts.now)) ranks.items ≡ joined_entries parts.now) }
+    ensures ranks { IfOk result (λ ranks. AreRanks (joined_entries parts.now) ranks.items) }
 {
     let mut ranks = Vec::with_capacity(alloc, count)?;
     while let Some((outcome, _)) = find(parts, ranks.len()) {
@@ -122,21 +122,20 @@ fn ranks_of(alloc: Global, parts: &[Examples], count: usize) -> Result<Vec<Rank>
     Ok(ranks)
 }
 
-/// The ranks of all outcomes of parts, no two of which are the same, rising by outcome. `count` is for how many there is room
-/// at once.
+/// The ranks of all outcomes of parts, no two of which are the same, rising by outcome. `count` is for how many there is room at once.
 pub(crate) fn ranked(
     alloc: Global,
     parts: &[Examples],
     count: usize,
 ) -> Result<Vec<Rank>, AllocError>
-    requires { IsDistinct are_same (joined parts.now) }
-    ensures rising { IfOk result (λ ranks. map (ranked_entry (joined parts.now)) ranks.items ≡ risen (joined parts.now)) }
-    ensures ranks { IfOk result (λ ranks. AreRanks (joined parts.now) ranks.items) }
+    requires { IsDistinct are_same (joined_entries parts.now) }
+    ensures rising { IfOk result (λ ranks. map (ranked_entry (joined_entries parts.now)) ranks.items ≡ risen (joined_entries parts.now)) }
+    ensures ranks { IfOk result (λ ranks. AreRanks (joined_entries parts.now) ranks.items) }
 {
     let mut ranks = ranks_of(alloc, parts, count)?;
     ranks.sort_unstable_by(
         |a: &Rank, b: &Rank| -> Ordering
-            ensures { result ≡ rank_cmp (joined parts.entry.now) a.now b.now }
+            ensures { result ≡ rank_cmp (joined_entries parts.entry.now) a.now b.now }
         { cmp_ranks(parts, a, b) },
     );
     Ok(ranks)

@@ -1,6 +1,7 @@
 //! The next access of an agent, after the `if`s that its registers decide.
 
-ghost use Rattle.std.specs.Prelude.{◌≡◌, ℕ, true, IfOk, MatchOption, length};
+ghost use Rattle.std.specs.Prelude.{◌≡◌, ℕ, ◌<◌, true, IfOk, MatchOption, length, slice_index};
+ghost use Rattle.lit_paths.specs.Run.{compares};
 ghost use Rattle.lit_read.specs.declared.limits.TheConstants.{REGISTERS};
 ghost use Rattle.lit_read.specs.Litmus.{statement_of, statements_of};
 ghost use Rattle.lit_read.specs.Syntax.{AreStatementsIn, IsStatementIn, End};
@@ -9,12 +10,20 @@ ghost use Rattle.lit_search.specs.Internal.Runners.{ChoosesPart, IsNext, is_acce
 use lit_read::Stmt;
 use std::alloc::AllocError;
 
+/// How a comparison of a register with a value comes out.
+fn comes_out(registers: &[u32], reg: u8, equal: bool, value: u32) -> bool
+    requires { reg < length registers.now }
+    ensures { result ≡ compares equal (slice_index registers.now reg) value }
+{
+    let same = registers[usize::from(reg)] == value;
+    if equal { same } else { !same }
+}
+
 /// The part of an `if` that the registers choose, or `None` of an access.
 fn chosen_part<'t>(registers: &[u32], statement: &'t Stmt) -> Option<&'t [Stmt]>
     requires said { (bytes : ℕ) × IsStatementIn bytes (statement_of statement.now) }
     requires all { length registers.now ≡ REGISTERS }
-    ensures { MatchOption result
-        (is_access (statement_of statement.now) ≡ true)
+    ensures { MatchOption result (is_access (statement_of statement.now) ≡ true)
         (λ part. ChoosesPart registers.now (statement_of statement.now) (statements_of part.now)) }
 {
     match statement {
@@ -25,7 +34,7 @@ fn chosen_part<'t>(registers: &[u32], statement: &'t Stmt) -> Option<&'t [Stmt]>
             body,
             other,
         } => {
-            if (registers[usize::from(*reg)] == *value) == *equal {
+            if comes_out(registers, *reg, *equal, *value) {
                 Some(body)
             } else {
                 Some(other)

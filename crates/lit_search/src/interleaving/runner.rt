@@ -28,12 +28,12 @@ impl<'t> Model for Runner<'t> {
 }
 
 impl<'t> Runner<'t> {
-    ghost use Rattle.std.specs.Prelude.{◌≡◌, ◌<◌, IfOk, true, replicate, length, slice_index};
+    ghost use Rattle.std.specs.Prelude.{◌≡◌, ℕ, ◌<◌, IfOk, true, replicate, length, slice_index};
     ghost use Rattle.lit_read.specs.declared.limits.TheConstants.{REGISTERS as HELD};
     ghost use Rattle.lit_read.specs.Litmus.{statement_of, statements_of};
     ghost use Rattle.lit_read.specs.Syntax.{AreStatementsIn, IsStatementIn, End};
     ghost use Rattle.lit_search.specs.Interleaving.{accessed, after, after_statement, from_access};
-    ghost use Rattle.lit_search.specs.Internal.Runners.{is_access};
+    ghost use Rattle.lit_search.specs.Internal.Runners.{IsNext, is_access};
 
     /// An agent before its first statement.
     pub(crate) fn new(alloc: Global, body: &'t [Stmt]) -> Result<Self, AllocError>
@@ -53,6 +53,15 @@ impl<'t> Runner<'t> {
         ensures { result ≡ slice_index self.now.registers reg }
     {
         self.registers[usize::from(reg)]
+    }
+
+    /// Takes the next access off what is left, and decides each `if` before it. `None` where no access is left.
+    fn next(&mut self) -> Result<Option<&'t Stmt>, AllocError>
+        requires { (bytes : ℕ) × AreStatementsIn bytes self.old.left }
+        ensures registers { self.new.registers ≡ self.old.registers }
+        ensures next { IfOk result (λ next. IsNext self.old.registers self.old.left next self.new.left) }
+    {
+        next_access(&mut self.left, &self.registers)
     }
 
     /// Carries out an access.
@@ -107,14 +116,12 @@ impl<'t> Runner<'t> {
     /// A turn: the statements up to and including the next access, on the block.
     pub(crate) fn turn(&mut self, block: &mut [u8]) -> Result<(), AllocError>
         requires { AreStatementsIn (length block.old) self.old.left }
-        ensures left { IfOk result
-            (λ _. self.new.left
-            ≡ (accessed (from_access self.old.registers self.old.left)
+        ensures left { IfOk result (λ _. self.new.left ≡ (accessed (from_access self.old.registers self.old.left)
             (record { block = block.old; registers = self.old.registers })).0) }
         ensures done { IfOk result (λ _. record { block = block.new; registers = self.new.registers }
             ≡ (accessed (from_access self.old.registers self.old.left) (record { block = block.old; registers = self.old.registers })).1) }
     {
-        if let Some(access) = next_access(&mut self.left, &self.registers)? {
+        if let Some(access) = self.next()? {
             self.carry_out(access, block);
         }
         Ok(())
@@ -124,11 +131,10 @@ impl<'t> Runner<'t> {
     pub(crate) fn finish(&mut self, block: &mut [u8]) -> Result<(), AllocError>
         requires { AreStatementsIn (length block.old) self.old.left }
         ensures left { IfOk result (λ _. self.new.left ≡ End) }
-        ensures done { IfOk result
-            (λ _. record { block = block.new; registers = self.new.registers }
+        ensures done { IfOk result (λ _. record { block = block.new; registers = self.new.registers }
             ≡ after self.old.left (record { block = block.old; registers = self.old.registers })) }
     {
-        'accesses: while let Some(next) = next_access(&mut self.left, &self.registers)? {
+        'accesses: while let Some(next) = self.next()? {
             self.carry_out(next, block);
         }
         Ok(())

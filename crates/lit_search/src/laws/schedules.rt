@@ -1,6 +1,6 @@
 //! Outcomes of schedules. The functions do nothing: their contracts are theorems.
 
-ghost use Rattle.std.specs.Prelude.{◌<◌, ◌≤◌, All, ℕ, List, [], length};
+ghost use Rattle.std.specs.Prelude.{◌<◌, ◌≤◌, All, ℕ, List, length};
 ghost use Rattle.lit_read.specs.Syntax.{IsLitmus, Litmus};
 ghost use Rattle.lit_paths.specs.Choice.{choices_of};
 ghost use Rattle.lit_search.specs.InTurn.{HasExecution, IsReported};

@@ -1,8 +1,9 @@
 -- Data races of a byte read and a source, by what a box leaves to read.
-use Rattle.std.specs.Prelude.{◌≡◌, ℕ, List, Some, slice_get}
+use Rattle.std.specs.Prelude.{◌≡◌, ℕ, Bool, List, Some, false, slice_get, true}
 use Rattle.lit_paths.specs.ByteReads.{byte_read_at}
 use Rattle.lit_rel.specs.Racing.{AreApart}
-use Rattle.lit_solve.specs.Box.{Box, box_events}
+use Rattle.lit_solve.specs.Box.{Box, HasSource, box_events}
+use Rattle.lit_solve.specs.DataRace.{CanRaceIn, MayRaceIn}
 use Rattle.lit_solve.specs.Fill.{AreSourcesIn, IsFilled}
 
 -- the read at the k-th byte read can be filled with w as the source there
@@ -17,3 +18,13 @@ pub record RacesAt (box : Box) (before may : ℕ → ℕ → Type 0) (k : ℕ) :
   pub source : ℕ
   pub may_have : may k source
   pub apart : AreApart (box_events box) before (byte_read_at (box_events box) k).0 source
+
+-- the read at a byte read may have a source in the domain there, or it has to be one with which the read can be filled
+abbrev pub MayHave : Box → Bool → ℕ → ℕ → Type 0
+MayHave box true = CanFillAt box
+MayHave box false = HasSource box
+
+-- a data race by what reads may have
+abbrev pub RacesIn : Box → Bool → Type 0
+RacesIn box true = CanRaceIn box
+RacesIn box false = MayRaceIn box

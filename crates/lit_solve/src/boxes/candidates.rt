@@ -1,6 +1,6 @@
 //! The candidates of a byte read, as a set.
 
-ghost use Rattle.std.specs.Prelude.{◌≡◌, ◌↔◌, ℕ, ◌<◌, length};
+ghost use Rattle.std.specs.Prelude.{◌↔◌, ℕ, ◌<◌, length};
 ghost use Rattle.lit_paths.specs.ByteReads.{byte_reads, byte_read_at, IsCandidate};
 ghost use Rattle.lit_paths.specs.Plan.{events_in};
 ghost use Rattle.lit_rel.specs.EventSet.{HasEvent};

@@ -1,6 +1,6 @@
 //! The ends of a range of choices on a combination.
 
-ghost use Rattle.std.specs.Prelude.{◌≡◌, ◌↔◌, ℕ, ◌+◌, ◌<◌, ◌≤◌, IfSome, MatchOption, Some, List, length, slice_index};
+ghost use Rattle.std.specs.Prelude.{◌≡◌, ◌↔◌, ℕ, ◌+◌, ◌<◌, IfSome, MatchOption, Some, List, length, slice_index};
 ghost use Rattle.lit_paths.specs.declared.limits.TheConstants.{EVENT_LIMIT as EVENTS};
 ghost use Rattle.lit_paths.specs.Plan.{choices_before};
 ghost use Rattle.lit_rel.specs.EventSet.{HasEvent};
@@ -10,8 +10,7 @@ ghost use Rattle.lit_solve.specs.Internal.Cut.{AreShared, IsHighEnd, IsLowEnd, I
 use lit_paths::{Combination, EVENT_LIMIT, Sources};
 use lit_rel::EventSet;
 
-/// An end of a range of choices on a combination: the sources of the choice there, if the combination's choices go on
-/// beyond it.
+/// An end of a range of choices on a combination: the sources of the choice there, if the combination's choices go on beyond it.
 #[derive(Drop)]
 pub(crate) struct End {
     sources: Option<Sources>,

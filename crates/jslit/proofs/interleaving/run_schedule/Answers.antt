@@ -1,20 +1,22 @@
-use Rattle.std.proofs.Common.{List, ℕ, sym, subst}
-use Rattle.jslit.specs.InterleavingAnswer.{HasInterleavedSome, IsScheduleFaultOn}
-use Rattle.jslit.specs.Counted.{device_of, failures_of}
-use Rattle.jslit.specs.Internal.Reading.{IsReadFailure}
-use Rattle.jslit.proofs.Refusals.{if_err, of_any_text, read_failed, not_output}
+use Rattle.std.proofs.Common.{sym, subst}
+use Rattle.std.specs.Io.KnownBytes.{Consumes}
+use Rattle.jslit.specs.InterleavingAnswer.{IsInterleavingOn, IsScheduleFaultOn}
+use Rattle.jslit.specs.Counted.{device_of}
+use Rattle.jslit.specs.Devices.{IsTold}
+use Rattle.jslit.proofs.Running.{ran, unread}
 use Rattle.jslit.proofs.interleaving.run_schedule.Goals as goal
 
-pub returns-in_err-text-clause-refused : goal.returns-in_err-text-clause-refused
-returns-in_err-text-clause-refused g c =
-    if_err c.from_residual.result _ _ c.from_residual.ensures.1 (λ e is.
-    of_any_text _ (λ text. IsScheduleFaultOn c.args.schedule.now text e) (λ text. subst (IsScheduleFaultOn c.args.schedule.now text) (sym is) (read_failed (IsScheduleFaultOn c.args.schedule.now text) tt tt _ _ c.in_err-text.field-0.0 c.in_err-text.ensures.failed)))
+pub returns-in_err-text : goal.returns-in_err-text
+returns-in_err-text g c =
+    unread g.R.Read.remaining g.W.Write.contents (IsInterleavingOn c.args.schedule.now) (IsScheduleFaultOn c.args.schedule.now) (λ _. tt) (λ _. tt) c.from_residual.result c.in_err-text.field-0.0
+    c.args.input.now c.read_text.new.input c.args.output.now c.from_residual.ensures.1 c.in_err-text.ensures.failed c.read_text.ensures.consumed
 
-pub returns-in_err-text-clause-begun : goal.returns-in_err-text-clause-begun
-returns-in_err-text-clause-begun g c failed =
-    absurd (not_output c.from_residual.result c.in_err-text.field-0.0 (IsReadFailure (failures_of c.args.input.now) (failures_of c.read_text.new.input)) c.from_residual.ensures.1 c.in_err-text.ensures.failed (λ never. never) failed)
-
-pub returns-clause-begun : goal.returns-clause-begun
-returns-clause-begun g c failed =
-    let P : List ℕ → Type 0 = λ text. HasInterleavedSome c.args.schedule.now text (g.W.Write.contents (device_of c.args.output.now)) (g.W.Write.contents (device_of c.answer_schedule.new.output)) in
-    record { text = c.in_ok-text.text.items; is_told = c.in_ok-text.ensures.text; holds = subst P c.deref.ensures.value (c.answer_schedule.ensures.begun failed) }
+pub returns : goal.returns
+returns g c =
+    let old = g.R.Read.remaining (device_of c.args.input.now) in
+    let new = g.R.Read.remaining (device_of c.read_text.new.input) in
+    ran g.R.Read.remaining g.W.Write.contents (IsInterleavingOn c.args.schedule.now) (IsScheduleFaultOn c.args.schedule.now) c.deref.result.now c.args.input.now c.read_text.new.input
+    c.args.output.now c.answer_schedule.new.output (subst (IsTold old) (sym c.deref.ensures.value) c.in_ok-text.ensures.text)
+    (subst (Consumes old new) (sym c.deref.ensures.value) c.in_ok-text.ensures.whole) c.in_ok-text.ensures.not_failed c.read_text.ensures.consumed
+    c.answer_schedule.result c.requires.output c.answer_schedule.ensures.answered c.answer_schedule.ensures.not_failed c.answer_schedule.ensures.begun c.answer_schedule.ensures.failed
+    c.answer_schedule.ensures.unwritten c.answer_schedule.ensures.refused c.answer_schedule.ensures.of_text

@@ -1,8 +1,7 @@
 use Rattle.std.proofs.Common.{◌≡◌, ◌-◌, ◌<◌, ℕ, [], ◌∷◌, ◌++◌}
 use Rattle.arrayvec.specs.ArrayVec.{array_vec_len}
 use Rattle.lit_rel.specs.EventSet.{HasEvent}
-use Rattle.lit_order.specs.Internal.Beginning.{HasNoOrder}
-use Rattle.lit_order.specs.Internal.Constrained.{constrained_len, ComesBefore, MayNotStand}
+use Rattle.lit_order.specs.Internal.Constrained.{BeginsNone, constrained_len}
 use Rattle.lit_order.proofs.forced_finder.+walk.Given as goal
 
 abbrev pub decreases-walk : goal.decreases-walk
@@ -15,5 +14,5 @@ abbrev pub invariant-walking : goal.invariant-walking
 invariant-walking l = record {
   kept : l.order.items ≡ l.fn.order.items;
   known : (e : ℕ) → HasEvent l.left e → e < constrained_len l.constraints;
-  none : (e : ℕ) → e < constrained_len l.constraints → ¬ HasEvent l.left e → HasNoOrder (constrained_len l.constraints) (ComesBefore l.constraints) (MayNotStand l.constraints) (l.fn.order.items ++ e ∷ []);
+  none : (e : ℕ) → e < constrained_len l.constraints → ¬ HasEvent l.left e → BeginsNone l.constraints (l.fn.order.items ++ e ∷ []);
 }

@@ -7,10 +7,8 @@ use Rattle.lit_order.proofs.ForcingLemmas.{forced_within, next_is_forced, with_p
 use Rattle.lit_order.proofs.RowsLemmas.{pairs_missing-lt}
 use Rattle.lit_order.proofs.forcing.force.Goals as goal
 
-pub returns-then-has_cycle : goal.returns-then-has_cycle
-returns-then-has_cycle c =
-    let loop = c.if-has_cycle.ensures.0 refl in
-    record { cycle = ((λ _. (loop.0, Given loop.1)), (λ _. false≢true)); len = refl; pairs = λ h. absurd (false≢true h) }
+pub returns-then-has_cycle-clause-cycle : goal.returns-then-has_cycle-clause-cycle
+returns-then-has_cycle-clause-cycle c = let loop = c.if-has_cycle.ensures.0 refl in ((λ _. (loop.0, Given loop.1)), (λ _. false≢true))
 
 pub forcing-init : goal.forcing-init
 forcing-init c = record {
@@ -21,15 +19,12 @@ forcing-init c = record {
   no_cycle = λ e h. false≢true (c.if-has_cycle.ensures.1 (e, h));
 }
 
-pub returns-then-holds : goal.returns-then-holds
-returns-then-holds c =
-    let before = Holds c.args.forced.now.rows in
-    let forbidden = Forbids c.args.between.now in
+pub returns-then-holds-clause-cycle : goal.returns-then-holds-clause-cycle
+returns-then-holds-clause-cycle c =
     let first = c.in-Some.next.first in
     let second = c.in-Some.next.second in
-    let forced = next_is_forced before forbidden (Holds c.forcing.forced.rows) c.forcing.invariant.sound first second c.in-Some.ensures in
-    let back = c.forcing.invariant.sound second first (c.if-holds.ensures.0 refl) in
-    record { cycle = ((λ _. (first, Through second forced back)), (λ _. false≢true)); len = c.forcing.invariant.len; pairs = λ h. absurd (false≢true h) }
+    let forced = next_is_forced (Holds c.args.forced.now.rows) (Forbids c.args.between.now) (Holds c.forcing.forced.rows) c.forcing.invariant.sound first second c.in-Some.ensures in
+    ((λ _. (first, Through second forced (c.forcing.invariant.sound second first (c.if-holds.ensures.0 refl)))), (λ _. false≢true))
 
 pub forcing-preserved : goal.forcing-preserved
 forcing-preserved c =

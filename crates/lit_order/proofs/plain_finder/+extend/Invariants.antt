@@ -1,7 +1,6 @@
 use Rattle.std.proofs.Common.{◌≡◌, ◌-◌, ◌<◌, ℕ, [], ◌∷◌, ◌++◌}
 use Rattle.arrayvec.specs.ArrayVec.{array_vec_len}
-use Rattle.lit_order.specs.Internal.Beginning.{HasNoOrder}
-use Rattle.lit_order.specs.Internal.Constrained.{constrained_len, ComesBefore, MayNotStand}
+use Rattle.lit_order.specs.Internal.Constrained.{BeginsNone, constrained_len}
 use Rattle.lit_order.proofs.plain_finder.+extend.Given as goal
 
 abbrev pub decreases-extend : goal.decreases-extend
@@ -10,5 +9,5 @@ decreases-extend l = constrained_len l.constraints.now - array_vec_len l.order.n
 abbrev pub invariant-loop-event : goal.invariant-loop-event
 invariant-loop-event l = record {
   kept : l.order.items ≡ l.fn.order.items;
-  none : (e : ℕ) → e < l.event → HasNoOrder (constrained_len l.constraints) (ComesBefore l.constraints) (MayNotStand l.constraints) (l.fn.order.items ++ e ∷ []);
+  none : (e : ℕ) → e < l.event → BeginsNone l.constraints (l.fn.order.items ++ e ∷ []);
 }

@@ -4,41 +4,20 @@ use Rattle.lit_rel.specs.Rows.{Holds}
 use Rattle.lit_order.proofs.RowsLemmas.{holds_or_not}
 use Rattle.lit_order.proofs.triple.forced_by.Goals as goal
 
-pub returns-in-Some : goal.returns-in-Some
-returns-in-Some c =
-    let v = c.in-Some.other in
-    let w = c.from-source.result in
-    let r = c.from-read.result in
-    let rows = c.args.rows.now.rows in
-    let apart = (c.others_of-others.ensures v).0 c.in-Some.ensures.0 in
-    let after : Holds rows w v = (c.successors-after_source.ensures v).0 c.in-Some.ensures.1 in
-    record {
-      other = v;
-      is_other = record { known = after.second_known; marked = apart.0 };
-      forces = record {
-        not_source = apart.1;
-        not_read = apart.2;
-        new = λ there. c.in-Some.ensures.2 ((c.successors.ensures v).1 there);
-        side = inl (c.from-read.ensures, refl, subst (λ (x : ℕ). Holds rows x v) c.from-source.ensures after);
-      };
-    }
-
 pub returns-in-Some-first_lacking : goal.returns-in-Some-first_lacking
 returns-in-Some-first_lacking c =
     let v = c.in-Some-first_lacking.other in
-    let w = c.from-source.result in
-    let r = c.from-read.result in
-    let rows = c.args.rows.now.rows in
+    let turned = c.args.rows.now.same.pairs in
     let apart = (c.others_of-others.ensures v).0 c.in-Some-first_lacking.ensures.0 in
-    let earlier : Holds rows v r = (c.args.rows.now.same.pairs v r).0 ((c.successors-before_read.ensures v).0 c.in-Some-first_lacking.ensures.1) in
+    let earlier = (turned v c.from-read.result).0 ((c.successors-before_read.ensures v).0 c.in-Some-first_lacking.ensures.1) in
     record {
       other = v;
       is_other = record { known = earlier.first_known; marked = apart.0 };
       forces = record {
         not_source = apart.1;
         not_read = apart.2;
-        new = λ there. c.in-Some-first_lacking.ensures.2 ((c.successors-2.ensures v).1 ((c.args.rows.now.same.pairs v w).1 there));
-        side = inr (refl, c.from-source.ensures, subst (Holds rows v) c.from-read.ensures earlier);
+        new = λ there. c.in-Some-first_lacking.ensures.2 ((c.successors-2.ensures v).1 ((turned v c.from-source.result).1 there));
+        side = inr (refl, c.from-source.ensures, rw c.from-read.ensures at earlier);
       };
     }
 

@@ -3,8 +3,8 @@ use Rattle.std.specs.List.{range_with_len}
 use Rattle.std.proofs.lemmas.List.{get_or_default, take_more}
 use Rattle.lit_read.specs.Syntax.{AreStatementsIn, IsLitmus, Litmus, End}
 use Rattle.lit_paths.proofs.NameSteps.{range_more}
-use Rattle.lit_search.specs.Interleaving.{Moment, Progress, after_each, after_end, after_turn, beginning, progress_of}
-use Rattle.lit_search.proofs.MomentLemmas.{IsSound, after_each-more, ended, sound_beginning, sound_each, sound_end, sound_turn, turned, written_whole}
+use Rattle.lit_search.specs.Interleaving.{Moment, Progress, accessed, after, after_each, after_end, after_turn, beginning, from_access, progress_of}
+use Rattle.lit_search.proofs.MomentLemmas.{IsSound, after_each-more, sound_beginning, sound_each, sound_end, sound_turn, stepped, written_whole}
 use Rattle.lit_search.proofs.interleaving.interleave.Goals as goal
 
 -- after some turns, and after some agents' ends
@@ -47,7 +47,9 @@ turns-preserved c =
     let s = in_turns t m done c.bytes.ensures.litmus c.turns.invariant in
     let agent = c.from-in-turns.result in
     let inside : agent < length m.agents = omega (arith, c.from-in-turns.ensures, c.requires c.turns.agent-index 0 c.turns-test.true, s.one_each) in
-    turned m agent c.index_mut.result.now c.turn.new.self c.deref_mut.result.now c.turn.new.block _ (progress_is m agent c.index_mut.result.now inside c.index_mut.ensures.value) c.deref_mut.ensures.value
+    stepped (λ q b. accessed (from_access q.registers q.left) (record { block = b; registers = q.registers }))
+    m agent c.index_mut.result.now c.turn.new.self c.deref_mut.result.now c.turn.new.block _
+    (progress_is m agent c.index_mut.result.now inside c.index_mut.ensures.value) c.deref_mut.ensures.value
     c.in_ok-turn.ensures.left c.in_ok-turn.ensures.done
     (written_whole c.turns.block.items c.turn.new.block c.turns.block.len (c.turn.auto.block ∙ ap (λ (bs : List ℕ). length bs) c.deref_mut.ensures.value) c.turns.block.ok.0)
     ∙ ap (λ (w : Moment). after_turn w agent) c.turns.invariant
@@ -77,8 +79,10 @@ ends-preserved c =
     let begun = after_each after_turn (beginning t) c.args.schedule.now in
     let agent = c.ends.agent in
     let inside : agent < length m.agents = omega (arith, c.ends-test.true, c.agents-agent-end.ensures.value, s.one_each) in
-    ended m agent c.index_mut-in-ends.result.now c.finish.new.self c.deref_mut-in-ends.result.now c.finish.new.block _
-    (progress_is m agent c.index_mut-in-ends.result.now inside c.index_mut-in-ends.ensures.value) c.deref_mut-in-ends.ensures.value c.in_ok-finish.ensures.left c.in_ok-finish.ensures.done
+    stepped (λ q b. (End, after q.left (record { block = b; registers = q.registers })))
+    m agent c.index_mut-in-ends.result.now c.finish.new.self c.deref_mut-in-ends.result.now c.finish.new.block _
+    (progress_is m agent c.index_mut-in-ends.result.now inside c.index_mut-in-ends.ensures.value) c.deref_mut-in-ends.ensures.value
+    c.in_ok-finish.ensures.left c.in_ok-finish.ensures.done
     (written_whole c.ends.block.items c.finish.new.block c.ends.block.len (c.finish.auto.block ∙ ap (λ (bs : List ℕ). length bs) c.deref_mut-in-ends.ensures.value) c.ends.block.ok.0)
     ∙ ap (λ (w : Moment). after_end w agent) c.ends.invariant
     ∙ sym (after_each-more after_end begun (range_with_len 0 agent) agent)

@@ -1,8 +1,5 @@
-use Rattle.std.proofs.Common.{ℕ, ◌+◌, ◌<◌, ◌≤◌, List, sym, subst, arith}
-use Rattle.lit_read.specs.Syntax.{Litmus}
-use Rattle.lit_paths.specs.Choice.{AreSources}
-use Rattle.lit_paths.specs.Plan.{HasSources, choices_before, events_in}
-use Rattle.lit_solve.specs.Box.{box_events, box_with}
+use Rattle.std.proofs.Common.{ℕ, subst, arith}
+use Rattle.lit_solve.specs.Box.{box_with}
 use Rattle.lit_solve.proofs.CompletionLemmas.{sourced}
 use Rattle.lit_search.specs.Internal.Boxed.{HasNoneBefore}
 use Rattle.lit_search.proofs.BoxedLemmas.{first_found, none_at_all, none_more, of_none}
@@ -15,10 +12,7 @@ pub number_of-requires : goal.number_of-requires
 number_of-requires c =
     let least = c.in-Some.ensures in
     let box = box_with c.args.problem.now c.put.new.domains in
-    let its : AreSources (box_events box) c.in-Some.least.sources.items =
-    subst (λ (ws : List ℕ). AreSources (box_events box) ws) least.same (sourced box least.execution least.solves.completes) in
-    subst (λ (p : Litmus × ℕ). AreSources (events_in p.0 p.1) c.as_slice.result.now) (sym c.combination.ensures)
-    (subst (λ (ws : List ℕ). AreSources (events_in c.args.problem.now.0 c.args.problem.now.1) ws) (sym c.as_slice.ensures.value) its)
+    rw (c.combination.ensures, c.as_slice.ensures.value, ← least.same) (sourced box least.execution least.solves.completes)
 
 pub returns-in-Some : goal.returns-in-Some
 returns-in-Some c =
@@ -27,10 +21,8 @@ returns-in-Some c =
     first_found c.laws_below.ensures c.args.problem.now c.args.from c.args.to c.boxes_of-boxes.result c.boxes_of-boxes.ensures
     c.loop-i.i (omega (arith, c.loop-i-test.true, c.len-i-end.ensures)) c.put.new.domains c.put.ensures.exact c.args.class
     n c.in-Some.least.sources.items c.in-Some.least.order.items c.loop-i.invariant c.in-Some.ensures
-    (subst (λ (p : Litmus × ℕ). choices_before p.0 p.1 ≤ n) same c.number_of.ensures.low)
-    (subst (λ (p : Litmus × ℕ). n < choices_before p.0 (p.1 + 1)) same c.number_of.ensures.high)
-    (subst (λ (ws : List ℕ). HasSources c.args.problem.now.0 n ws) c.as_slice.ensures.value
-    (subst (λ (p : Litmus × ℕ). HasSources p.0 n c.as_slice.result.now) same c.number_of.ensures.has))
+    (rw same at c.number_of.ensures.low) (rw same at c.number_of.ensures.high)
+    (rw (same, c.as_slice.ensures.value) at c.number_of.ensures.has)
 
 pub loop-i-preserved : goal.loop-i-preserved
 loop-i-preserved c =

@@ -8,14 +8,14 @@ use Rattle.lit_search.proofs.GainLemmas.{gains_none, gains_on, none_within}
 use Rattle.lit_search.proofs.searching.record.Goals as goal
 
 pub loop-next-init : goal.loop-next-init
-loop-next-init c = record {
+loop-next-init g c = record {
   after = omega arith;
   inside = c.requires.order;
   gains = gains_none c.args.plan.now (λ n. IsTrue (in_range c.args.from c.args.from n)) c.args.table.now c.args.mark (none_within c.args.from);
 }
 
 pub loop-next-preserved : goal.loop-next-preserved
-loop-next-preserved c =
+loop-next-preserved g c =
     let t = c.args.plan.now in
     let end = c.min-end.result in
     let behind : c.end.result ≡ choices_before t (c.combination.result + 1) =
@@ -32,6 +32,6 @@ loop-next-preserved c =
     }
 
 pub returns-clause-gains : goal.returns-clause-gains
-returns-clause-gains c =
+returns-clause-gains g c =
     subst (λ (n : ℕ). Gains c.args.plan.now (λ m. IsTrue (in_range c.args.from n m)) c.args.table.now c.loop-next.table c.args.mark c.loop-next.race)
     (let e : c.loop-next.next ≡ c.args.to = omega (arith, c.loop-next.invariant.inside, c.loop-next-test.false) in e) c.loop-next.invariant.gains

@@ -1,4 +1,4 @@
-use Rattle.std.proofs.Common.{◌≡◌, ◌↔◌, inl, inr, ℕ, Bool, arith, subst, sym, ◌∙◌}
+use Rattle.std.proofs.Common.{◌≡◌, ℕ, arith, subst}
 use Rattle.lit_solve.specs.Boxes.{boxes_len}
 use Rattle.lit_search.specs.Internal.Boxed.{IsOfFirst}
 use Rattle.lit_search.specs.Internal.Gained.{Gains}
@@ -7,25 +7,25 @@ use Rattle.lit_search.proofs.GainLemmas.{gains_none, goes_more}
 use Rattle.lit_search.proofs.searching.record_on.Goals as goal
 
 pub loop-place-init : goal.loop-place-init
-loop-place-init c =
+loop-place-init g c =
     let t = c.args.problem.now.0 in
     gains_none t (λ n. IsOfFirst t c.boxes_of-boxes.result c.args.from c.args.to 0 n) c.args.table.now c.args.mark
     (of_none t c.boxes_of-boxes.result c.args.from c.args.to 0)
 
 pub loop-place-preserved : goal.loop-place-preserved
-loop-place-preserved c =
+loop-place-preserved g c =
     gained_more c.laws_below.ensures c.args.problem.now c.args.from c.args.to c.boxes_of-boxes.result c.boxes_of-boxes.ensures
     c.loop-place.place (omega (arith, c.loop-place-test.true, c.len-place-end.ensures)) c.put.new.domains c.put.ensures.exact
     c.args.table.now c.loop-place.table c.outcomes.new.table c.args.mark c.loop-place.race c.is_marked_with-race.result
     c.loop-place.invariant c.outcomes.ensures.added c.in_ok-outcomes.ensures.whole c.is_marked_with-race.ensures
 
 pub returns-in_err-outcomes-clause-goes_on : goal.returns-in_err-outcomes-clause-goes_on
-returns-in_err-outcomes-clause-goes_on c =
+returns-in_err-outcomes-clause-goes_on g c =
     goes_more c.args.table.now c.loop-place.table c.outcomes.new.table c.loop-place.invariant.goes_on
     (record { added = c.outcomes.ensures.added.added; is = c.outcomes.ensures.added.goes_on })
 
 pub returns-clause-gains : goal.returns-clause-gains
-returns-clause-gains c =
+returns-clause-gains g c =
     let p = c.args.problem.now in
     let boxes = c.boxes_of-boxes.result in
     gained_all c.laws_below.ensures p c.args.from c.args.to boxes c.boxes_of-boxes.ensures c.args.table.now c.loop-place.table c.args.mark c.loop-place.race

@@ -1,6 +1,4 @@
-use Rattle.std.proofs.Common.{◌≡◌, ◌↔◌, ℕ}
-use Rattle.lit_paths.specs.Event.{event_at, payload_at}
-use Rattle.lit_rel.specs.EventSet.{HasEvent}
+use Rattle.lit_solve.proofs.Words.{event_at, HasEvent, payload_at, ℕ, ◌↔◌, ◌≡◌}
 use Rattle.lit_solve.proofs.filling.storing.Given as goal
 
 abbrev pub invariant-loop-event : goal.invariant-loop-event

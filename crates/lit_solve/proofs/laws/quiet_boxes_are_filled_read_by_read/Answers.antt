@@ -1,4 +1,4 @@
-use Rattle.std.proofs.Common.{ℕ, List, subst}
+use Rattle.lit_solve.proofs.Words.{List, subst, ℕ}
 use Rattle.lit_solve.specs.Fill.{IsFilled}
 use Rattle.lit_solve.proofs.FillLemmas.{completion_of_filled, filled_by, order_given, unwritten_true}
 use Rattle.lit_solve.proofs.laws.quiet_boxes_are_filled_read_by_read.Goals as goal

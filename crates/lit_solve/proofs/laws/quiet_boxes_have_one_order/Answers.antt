@@ -1,6 +1,4 @@
-use Rattle.std.proofs.Common.{List, sym, subst}
-use Rattle.lit_paths.specs.declared.event.Event.{Event}
-use Rattle.lit_order.specs.MemoryOrder.{IsMemoryOrder}
+use Rattle.lit_solve.proofs.Words.{Event, IsMemoryOrder, List, subst, sym}
 use Rattle.lit_solve.proofs.CompletionLemmas.{events_same, order_here}
 use Rattle.lit_solve.proofs.FillLemmas.{order_back_in, order_in, sources_lie}
 use Rattle.lit_solve.proofs.laws.quiet_boxes_have_one_order.Goals as goal

@@ -1,4 +1,4 @@
-use Rattle.std.proofs.Common.{take}
+use Rattle.lit_solve.proofs.Words.{take}
 use Rattle.lit_solve.proofs.NumberLemmas.{BeginAt}
 use Rattle.lit_solve.proofs.numbering.number_of.Given as goal
 

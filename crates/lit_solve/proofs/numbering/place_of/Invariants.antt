@@ -1,4 +1,4 @@
-use Rattle.std.proofs.Common.{◌≡◌, ℕ, ◌<◌, get_or}
+use Rattle.lit_solve.proofs.Words.{◌<◌, get_or, ℕ, ◌≡◌}
 use Rattle.lit_solve.proofs.numbering.place_of.Given as goal
 
 abbrev pub invariant-loop-place : goal.invariant-loop-place

@@ -1,8 +1,4 @@
-use Rattle.std.proofs.Common.{ℕ, List, ap, get_or, arith, length, subst, sym, ◌∙◌}
-use Rattle.std.proofs.lemmas.Bool.{false≢true}
-use Rattle.lit_paths.specs.declared.byte_reads.ByteRead.{ByteRead}
-use Rattle.lit_paths.specs.declared.event.Event.{Event}
-use Rattle.lit_paths.specs.ByteReads.{byte_read_at}
+use Rattle.lit_solve.proofs.Words.{arith, byte_read_at, ByteRead, common_steps, false≢true, get_or, subst, sym, ℕ, ◌∙◌}
 use Rattle.lit_rel.proofs.SetLemmas.{split_less}
 use Rattle.lit_solve.specs.Box.{events_on}
 use Rattle.lit_solve.specs.Out.{IsRefusedOn}
@@ -22,13 +18,7 @@ pub is_source_refused-requires-clause-source : goal.is_source_refused-requires-c
 is_source_refused-requires-clause-source c = c.requires.known c.in-Some.source (c.loop-source.invariant.left c.in-Some.source c.in-Some.ensures.there)
 
 pub with-refused-requires : goal.with-refused-requires
-with-refused-requires c =
-    omega (
-      arith,
-      c.requires.known c.in-Some.source (c.loop-source.invariant.left c.in-Some.source c.in-Some.ensures.there),
-      c.events-events.ensures.sound.few,
-      ap (λ (es : List Event). length es) c.events-events.ensures.value,
-    )
+with-refused-requires c = grind (arith, common_steps, c.requires.known, c.loop-source.invariant.left)
 
 pub loop-source-smaller : goal.loop-source-smaller
 loop-source-smaller c = split_less c.loop-source.left c.in-Some.source c.in-Some.others c.in-Some.ensures

@@ -1,6 +1,4 @@
-use Rattle.std.proofs.Common.{◌↔◌, ℕ}
-use Rattle.lit_paths.specs.ByteReads.{byte_read_at}
-use Rattle.lit_rel.specs.EventSet.{HasEvent}
+use Rattle.lit_solve.proofs.Words.{byte_read_at, HasEvent, ℕ, ◌↔◌}
 use Rattle.lit_solve.specs.Box.{events_on}
 use Rattle.lit_solve.specs.Out.{IsRefusedOn}
 use Rattle.lit_solve.proofs.testing.refused_among.Given as goal

@@ -3,7 +3,7 @@ use Rattle.lit_rel.proofs.given.Given.forbid_others.Goals as goal
 
 pub returns-then-not-is_empty-clause-triples : goal.returns-then-not-is_empty-clause-triples
 returns-then-not-is_empty-clause-triples c w r v =
-    let found = c.forbidden-others.ensures v in
+    let found = rw (c.from-source.ensures, c.from-read.ensures) at (c.forbidden-others.ensures v) in
     let put = c.forbid.ensures.triples w r v in (
       (λ f. elim (put.0 f) [
         | inl old ↦ inl old

@@ -1,18 +1,16 @@
-use Rattle.std.proofs.Common.{◌≡◌, sym, ◌∙◌}
-use Rattle.lit_rel.specs.declared.given.SourcedByte.{SourcedByte}
-use Rattle.lit_rel.specs.Rows.{Holds}
-use Rattle.lit_rel.proofs.EachLemmas.{SomeBelow-put}
-use Rattle.lit_rel.proofs.RelatingLemmas.{ReadsFrom-iff}
+use Rattle.std.proofs.Common.{arith, ◌∙◌}
+use Rattle.std.proofs.lemmas.List.{take_all}
+use Rattle.lit_rel.proofs.GivenLemmas.{one_more, put_more, reads_from_more}
+use Rattle.lit_rel.proofs.SourceLemmas.{no_byte}
 use Rattle.lit_rel.proofs.given.Given.reads_from.Goals as goal
 
 pub loop-byte-preserved : goal.loop-byte-preserved
-loop-byte-preserved c = record {
-  len = c.put.ensures.len ∙ c.loop-byte.invariant.len;
-  pairs = λ r w. SomeBelow-put {X = SourcedByte} (λ p. (r ≡ p.read) × (w ≡ p.source)) c.args.self.now.bytes.now c.loop-byte.byte-index _ (Holds c.loop-byte.rows r w) (Holds c.put.new.self r w) _ c.loop-byte-test.true (c.loop-byte.invariant.pairs r w) (c.put.ensures.pairs r w)
-      (λ h. (h.0 ∙ c.from.ensures, h.1 ∙ c.from-in-loop-byte.ensures), λ h. (h.0 ∙ sym c.from.ensures, h.1 ∙ sym c.from-in-loop-byte.ensures));
-}
+loop-byte-preserved c =
+    let more = one_more c.args.self.now.events.now c.args.self.now.bytes.now c.args.self.now.first_reads c.loop-byte.byte-index no_byte c.loop-byte-test.true in
+    record {
+      len = c.put.ensures.len ∙ c.loop-byte.invariant.len;
+      pairs = λ r w. put_more (c.put.ensures.pairs r w) (c.loop-byte.invariant.pairs r w) (reads_from_more _ _ _ _ _ more r w) (grind arith);
+    }
 
 pub returns-clause-pairs : goal.returns-clause-pairs
-returns-clause-pairs c r w =
-    let iff = ReadsFrom-iff c.args.self.now.events.now c.args.self.now.bytes.now c.loop-byte.byte-index c.args.self.now.first_reads c.loop-byte-test.false r w in
-    (λ x. iff.0 ((c.loop-byte.invariant.pairs r w).0 x), λ x. (c.loop-byte.invariant.pairs r w).1 (iff.1 x))
+returns-clause-pairs c r w = rw (take_all c.loop-byte.byte-index c.args.self.now.bytes.now c.loop-byte-test.false) at (c.loop-byte.invariant.pairs r w)

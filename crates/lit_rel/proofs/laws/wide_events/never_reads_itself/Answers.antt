@@ -1,5 +1,5 @@
-use Rattle.lit_rel.proofs.WideLemmas.{never_reads_itself}
+use Rattle.lit_rel.proofs.WideLemmas.{candidate}
 use Rattle.lit_rel.proofs.laws.wide_events.never_reads_itself.Goals as goal
 
 pub returns : goal.returns
-returns c = never_reads_itself
+returns c events sources are r w (b, h) = (candidate events sources are r b w h).other

@@ -32,10 +32,7 @@ module _ (inside : Inside) (byte : SourcedByte) (kept : IsKept inside.combinatio
   next_order events order more same pushed with =
       let left = left_of inside.combination.0 inside.combination.1 inside.bytes.items inside.earlier.items inside.level byte kept new in
       let sources = sources_more inside.combination.0 inside.combination.1 inside.bytes.items inside.earlier.items inside.level byte kept new more pushed in
-      subst (λ (xs : List ℕ). IsOrder (events_in inside.combination.0 inside.combination.1) xs order.rows) (sym sources)
-      (subst (λ (es : List Event). IsOrder es (sources_of inside.bytes.items ++ byte.source ∷ []) order.rows) same
-      (with (sources_of inside.bytes.items) (subst (λ (es : List Event). slice_get (byte_reads es) (length (sources_of inside.bytes.items)) ≡ Some (read_of byte)) (sym same) left)
-      (subst (λ (es : List Event). IsOrder es (sources_of inside.bytes.items) inside.level.before.rows) (sym same) kept.at_all.before)))
+      rw sources (rw same at (with (sources_of inside.bytes.items) (rw same left) (rw same kept.at_all.before)))
 
 pub order_with-before-requires-clause-known : goal.order_with-before-requires-clause-known
 order_with-before-requires-clause-known c =

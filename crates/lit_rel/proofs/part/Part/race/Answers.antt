@@ -1,11 +1,9 @@
-use Rattle.std.proofs.Common.{◌↔◌, refl}
-use Rattle.std.specs.Bool.{IsTrue}
-use Rattle.lit_rel.specs.DataRace.{HasDataRaceOf}
+use Rattle.std.proofs.Common.{refl}
 use Rattle.lit_rel.specs.HappensBefore.{HappensBefore}
 use Rattle.lit_rel.specs.Part.{part_events}
 use Rattle.lit_rel.specs.ReadsFrom.{ReadsFrom}
 use Rattle.lit_rel.specs.Rows.{Holds}
-use Rattle.lit_rel.proofs.PartLemmas.{given_order, of_part}
+use Rattle.lit_rel.proofs.PartLemmas.{given_order}
 use Rattle.lit_rel.proofs.RaceLemmas.{HasDataRaceOf-wider}
 use Rattle.lit_rel.proofs.part.Part.race.Goals as goal
 
@@ -14,9 +12,10 @@ returns c =
     let part = c.args.self.now in
     let events = part_events part in
     let rows = Holds c.self.inside.level.before.rows in
+    let before = HappensBefore events part.sources in
     let reads = ReadsFrom events part.sources in
     let order = given_order _ part _ c.self.view_is c.self.invariant.at_all events part.sources refl refl in
-    let by = of_part (λ es sources. IsTrue c.has_data_race.result ↔ HasDataRaceOf es rows (ReadsFrom es sources)) _ _ _ _ c.given.ensures.events c.given.ensures.sources c.has_data_race.ensures in (
-      (λ h. HasDataRaceOf-wider events rows (HappensBefore events part.sources) reads reads (λ e d. (order.pairs e d).1) (λ r w there. there) (by.0 h)),
-      (λ race. by.1 (HasDataRaceOf-wider events (HappensBefore events part.sources) rows reads reads (λ e d. (order.pairs e d).0) (λ r w there. there) race)),
+    let by = rw (c.given.ensures.events, c.given.ensures.sources) at c.has_data_race.ensures in (
+      (λ h. HasDataRaceOf-wider events rows before reads reads (λ e d. (order.pairs e d).1) (λ r w there. there) (by.0 h)),
+      (λ race. by.1 (HasDataRaceOf-wider events before rows reads reads (λ e d. (order.pairs e d).0) (λ r w there. there) race)),
     )

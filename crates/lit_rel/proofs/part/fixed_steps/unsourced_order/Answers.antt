@@ -1,16 +1,20 @@
 use Rattle.std.proofs.Common.{ℕ, [], inl, inr}
 use Rattle.std.proofs.lemmas.Option.{none-some}
+use Rattle.lit_rel.specs.HappensBefore.{StepBy}
+use Rattle.lit_rel.specs.ReadsFrom.{ReadsByteFrom}
 use Rattle.lit_rel.specs.Rows.{Holds}
-use Rattle.lit_rel.specs.SynchronizesWith.{Synchronizes}
-use Rattle.lit_rel.proofs.ChainLemmas.{HappensBefore-iff}
-use Rattle.lit_rel.proofs.RelatingLemmas.{Step-iff}
+use Rattle.lit_rel.proofs.ChainLemmas.{Chain-same}
 use Rattle.lit_rel.proofs.part.fixed_steps.unsourced_order.Goals as goal
 
 pub returns-clause-pairs : goal.returns-clause-pairs
 returns-clause-pairs c e d =
-    let events = c.args.events.now in
-    let steps = Holds c.fixed_steps.result in
-    let none : (a b : ℕ) → Synchronizes events [] a b → ⊥ = λ a b s. none-some a s.reads.1.2 in
-    HappensBefore-iff events [] steps
-    (λ a b. Step-iff events [] a b (steps a b) (steps a b) (c.fixed_steps.ensures.pairs a b) (λ h. inl h, λ h. elim h [ inl old ↦ old | inr s ↦ absurd (none a b s) ]))
-    e d (Holds c.closed.result.rows e d) (c.closed.ensures.pairs e d)
+    let fixed = Holds c.fixed_steps.result in
+    let steps = StepBy c.args.events.now (ReadsByteFrom c.args.events.now []) in
+    let to : (a b : ℕ) → fixed a b → steps a b = λ a b h. elim ((c.fixed_steps.ensures.pairs a b).0 h) [ inl first ↦ inl first | inr made ↦ inr (inr made) ] in
+    let from : (a b : ℕ) → steps a b → fixed a b = λ a b h. (c.fixed_steps.ensures.pairs a b).1 (elim h [
+      | inl first ↦ inl first
+      | inr rest ↦ elim rest [ inl s ↦ absurd (none-some a s.reads.1.2) | inr made ↦ inr made ]
+    ]) in (
+      (λ h. let chain = (c.closed.ensures.pairs e d).0 h in record { middles = chain.0; chain = Chain-same fixed steps to e chain.0 d chain.1 }),
+      (λ h. (c.closed.ensures.pairs e d).1 (h.middles, Chain-same steps fixed from e h.middles d h.chain)),
+    )

@@ -1,22 +1,22 @@
-use Rattle.std.proofs.Common.{◌≡◌, ◌++◌, List, [], ◌∷◌, ◌∙◌, ap, length, map, subst, sym}
-use Rattle.lit_search.specs.Ranked.{joined, ranked_entry}
+use Rattle.std.proofs.Common.{append-nil, ◌≡◌, ◌++◌, List, [], ◌∷◌, ◌∙◌, ap, length, map, subst, sym}
+use Rattle.lit_search.specs.Ranked.{joined_entries, ranked_entry}
 use Rattle.lit_search.specs.Report.{Entry}
 use Rattle.lit_search.specs.Internal.Ranks.{AreRanks}
-use Rattle.lit_search.proofs.Entries.{AreRising}
+use Rattle.lit_search.proofs.MergedEntries.{AreRising}
 use Rattle.lit_search.proofs.RisenEntries.{rises}
-use Rattle.lit_search.proofs.RankLemmas.{joined_one}
 use Rattle.lit_search.proofs.found.Found.new.Goals as goal
 
 pub invariant_of-result : goal.invariant_of-result
 invariant_of-result c =
     let items : c.push.new.self.items ≡ c.in_ok-parts.parts.items ++ c.args.examples ∷ [] = c.in_ok-push.ensures.items in
-    let one : joined c.push.new.self.items ≡ c.args.examples =
-    ap joined (items ∙ ap (λ (xs : List (List Entry)). xs ++ c.args.examples ∷ []) c.in_ok-parts.ensures.items) ∙ joined_one c.args.examples in
+    let one : joined_entries c.push.new.self.items ≡ c.args.examples =
+    ap joined_entries (items ∙ ap (λ (xs : List (List Entry)). xs ++ c.args.examples ∷ []) c.in_ok-parts.ensures.items)
+    ∙ append-nil c.args.examples in
     let ranks = c.in_ok-ranks.ranks.items in
-    let P : List (List Entry) → Type 0 = λ ps. AreRising (map (ranked_entry (joined ps)) ranks) in
-    let Q : List (List Entry) → Type 0 = λ ps. AreRanks (joined ps) ranks in
+    let P : List (List Entry) → Type 0 = λ ps. AreRising (map (ranked_entry (joined_entries ps)) ranks) in
+    let Q : List (List Entry) → Type 0 = λ ps. AreRanks (joined_entries ps) ranks in
     record {
-      rising = subst P c.as_slice.ensures.value (subst AreRising (sym c.in_ok-ranks.ensures.rising) (rises (joined c.as_slice.result.now)));
+      rising = subst P c.as_slice.ensures.value (subst AreRising (sym c.in_ok-ranks.ensures.rising) (rises (joined_entries c.as_slice.result.now)));
       ranks = subst Q c.as_slice.ensures.value c.in_ok-ranks.ensures.ranks;
       count = c.len-count.ensures.len ∙ ap (λ (xs : List Entry). length xs) (sym one);
     }

@@ -1,17 +1,16 @@
 use Rattle.std.proofs.Common.{◌≡◌, ◌++◌, List, [], ◌∷◌, ◌∙◌, ap, map, subst, sym}
 use Rattle.std.proofs.lemmas.List.{append_assoc, map-append}
-use Rattle.std.proofs.lemmas.List.Elements.{All-append}
+use Rattle.std.proofs.lemmas.List.Elements.{All-push}
 use Rattle.lit_search.specs.declared.found.ranking.Rank.{Rank}
-use Rattle.lit_search.specs.Ranked.{joined, ranked_entry}
+use Rattle.lit_search.specs.Ranked.{joined_entries, ranked_entry}
 use Rattle.lit_search.specs.Report.{Entry}
 use Rattle.lit_search.specs.Internal.Merged.{merged}
 use Rattle.lit_search.specs.Internal.Ranks.{AreRanks, IsRank}
-use Rattle.lit_search.proofs.RankLemmas.{alone}
 use Rattle.lit_search.proofs.found.merging.merged_ranks.Goals as goal
 
 pub loop-rank-preserved : goal.loop-rank-preserved
 loop-rank-preserved c =
-    let es = joined c.args.parts.now in
+    let es = joined_entries c.args.parts.now in
     let f = ranked_entry es in
     let old = c.loop-rank.ranks.items in
     let rank = c.in-Some.rank in
@@ -24,7 +23,7 @@ loop-rank-preserved c =
           ∙ append_assoc (map f old) (f rank ∷ []) rest
           ∙ ap (λ (xs : List Entry). map f old ++ xs) (sym c.in-Some.ensures.taken)
           ∙ c.loop-rank.invariant.taken;
-      ranks = subst (AreRanks es) (sym items) (All-append (IsRank es) old (rank ∷ []) c.loop-rank.invariant.ranks (alone (IsRank es) rank c.in-Some.ensures.rank));
+      ranks = subst (AreRanks es) (sym items) (All-push (IsRank es) old rank c.loop-rank.invariant.ranks c.in-Some.ensures.rank);
       left = c.in-Some.ensures.first;
       right = c.in-Some.ensures.second;
     }

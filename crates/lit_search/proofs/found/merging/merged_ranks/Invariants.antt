@@ -1,12 +1,12 @@
 use Rattle.std.proofs.Common.{◌≡◌, ◌+◌, ◌++◌, length, map}
-use Rattle.lit_search.specs.Ranked.{joined, ranked_entry}
+use Rattle.lit_search.specs.Ranked.{joined_entries, ranked_entry}
 use Rattle.lit_search.specs.Internal.Merged.{merged}
 use Rattle.lit_search.specs.Internal.Ranks.{AreRanks}
 use Rattle.lit_search.proofs.found.merging.merged_ranks.Given as goal
 
 abbrev pub invariant-loop-rank : goal.invariant-loop-rank
 invariant-loop-rank l =
-    let es = joined l.parts in
+    let es = joined_entries l.parts in
     let f = ranked_entry es in
     record {
       taken : map f l.ranks.items ++ merged (map f l.left.items) (map f l.right.items) ≡ merged (map f l.initial.left.items) (map f l.initial.right.items);

@@ -1,5 +1,5 @@
 use Rattle.std.proofs.Common.{◌+◌, ◌-◌, ◌*◌, ◌^◌, ◌<◌, drop, sym, ap, ap₂, ◌∙◌, arith}
-use Rattle.lit_search.proofs.PackedLemmas.{digit, one_more, packed-below, packed-large, packed-past, packed-small, room, stepped}
+use Rattle.lit_search.proofs.RankLemmas.{digit_fits, one_more, packed-large, packed-past, packed-small, room, stepped}
 use Rattle.std.proofs.Math.Nat.{le-mul_of_pos_right, one-le-pow, pow-le-pow_right, suc-mul}
 use Rattle.lit_search.proofs.found.packing.packed.Goals as goal
 use Rattle.lit_search.proofs.found.packing.packed.Goals.{in-Some, in-Some-2, in-None}
@@ -7,20 +7,18 @@ use Rattle.lit_search.proofs.found.packing.packed.Goals.{in-Some, in-Some-2, in-
 pub overflow_mul-number : goal.overflow_mul-number
 overflow_mul-number c =
     let inv = c.loop-place.invariant in
-    let top = c.args.top in
-    let k = c.args.count - c.loop-place.place in
-    let below = packed-below top k (drop c.loop-place.place c.args.values.now) in
-    let one = digit top c.from-in-Some.result c.loop-place.weight c.loop-place.number (omega (arith, c.if-from-top.true, c.from.ensures, c.from-in-Some.ensures)) (omega (arith, inv.number, inv.weight, below)) in
-    omega (arith, one, room top c.args.count c.loop-place.place c.loop-place-test.true inv.few c.requires, ap (λ w. (top + 1) * w) inv.weight)
+    let fits = digit_fits c.args.top c.args.count c.loop-place.place c.from-in-Some.result c.loop-place.weight c.loop-place.number
+    c.args.values.now c.loop-place-test.true inv.few c.requires inv.weight inv.number
+    (omega (arith, c.if-from-top.true, c.from.ensures, c.from-in-Some.ensures)) in
+    omega arith
 
 pub overflow_add-number : goal.overflow_add-number
 overflow_add-number c =
     let inv = c.loop-place.invariant in
-    let top = c.args.top in
-    let k = c.args.count - c.loop-place.place in
-    let below = packed-below top k (drop c.loop-place.place c.args.values.now) in
-    let one = digit top c.from-in-Some.result c.loop-place.weight c.loop-place.number (omega (arith, c.if-from-top.true, c.from.ensures, c.from-in-Some.ensures)) (omega (arith, inv.number, inv.weight, below)) in
-    omega (arith, one, room top c.args.count c.loop-place.place c.loop-place-test.true inv.few c.requires, ap (λ w. (top + 1) * w) inv.weight)
+    let fits = digit_fits c.args.top c.args.count c.loop-place.place c.from-in-Some.result c.loop-place.weight c.loop-place.number
+    c.args.values.now c.loop-place-test.true inv.few c.requires inv.weight inv.number
+    (omega (arith, c.if-from-top.true, c.from.ensures, c.from-in-Some.ensures)) in
+    omega arith
 
 pub overflow_mul-number-in-Some-2 : goal.overflow_mul-number-in-Some-2
 overflow_mul-number-in-Some-2 c =

@@ -1,10 +1,10 @@
 use Rattle.std.proofs.Common.{◌≡◌, length}
 use Rattle.std.specs.Prelude.{slice_get}
-use Rattle.lit_search.specs.Ranked.{joined}
+use Rattle.lit_search.specs.Ranked.{joined_entries}
 use Rattle.lit_search.proofs.found.ranking.find.Given as goal
 
 abbrev pub invariant-loop-part : goal.invariant-loop-part
-invariant-loop-part l = slice_get (joined l.rest) l.left ≡ slice_get (joined l.parts) l.place
+invariant-loop-part l = slice_get (joined_entries l.rest) l.left ≡ slice_get (joined_entries l.parts) l.place
 
 abbrev pub decreases-loop-part : goal.decreases-loop-part
 decreases-loop-part l = length l.rest

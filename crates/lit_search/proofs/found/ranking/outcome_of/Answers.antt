@@ -1,7 +1,7 @@
 use Rattle.std.proofs.Common.{sym}
-use Rattle.lit_search.specs.Ranked.{joined}
+use Rattle.lit_search.specs.Ranked.{joined_entries}
 use Rattle.lit_search.proofs.RankLemmas.{no_outcome}
 use Rattle.lit_search.proofs.found.ranking.outcome_of.Goals as goal
 
 pub returns-in-None : goal.returns-in-None
-returns-in-None c = sym (no_outcome (joined c.args.parts.now) c.args.rank.now (sym c.in-None.ensures))
+returns-in-None c = sym (no_outcome (joined_entries c.args.parts.now) c.args.rank.now (sym c.in-None.ensures))

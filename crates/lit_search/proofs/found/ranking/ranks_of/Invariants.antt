@@ -1,14 +1,14 @@
 use Rattle.std.proofs.Common.{◌≡◌, ◌-◌, ◌≤◌, length, map, take}
-use Rattle.lit_search.specs.Ranked.{joined, ranked_entry}
+use Rattle.lit_search.specs.Ranked.{joined_entries, ranked_entry}
 use Rattle.lit_search.specs.Internal.Ranks.{AreRanks}
 use Rattle.lit_search.proofs.found.ranking.ranks_of.Given as goal
 
 abbrev pub invariant-loop-outcome : goal.invariant-loop-outcome
 invariant-loop-outcome l = record {
-  few : length l.ranks.items ≤ length (joined l.parts);
-  each : map (ranked_entry (joined l.parts)) l.ranks.items ≡ take (length l.ranks.items) (joined l.parts);
-  ranks : AreRanks (joined l.parts) l.ranks.items;
+  few : length l.ranks.items ≤ length (joined_entries l.parts);
+  each : map (ranked_entry (joined_entries l.parts)) l.ranks.items ≡ take (length l.ranks.items) (joined_entries l.parts);
+  ranks : AreRanks (joined_entries l.parts) l.ranks.items;
 }
 
 abbrev pub decreases-loop-outcome : goal.decreases-loop-outcome
-decreases-loop-outcome l = length (joined l.parts) - length l.ranks.items
+decreases-loop-outcome l = length (joined_entries l.parts) - length l.ranks.items

@@ -1,48 +1,28 @@
-use Rattle.std.proofs.Common.{◌≡◌, ℕ, Bool, true, false, ◌==◌, refl, ap, ◌∙◌, sym}
-use Rattle.std.specs.Prelude.{not, if◌then◌else◌, slice_index}
-use mathlib.Core.Bool.{beq}
+use Rattle.std.proofs.Common.{◌≡◌, ℕ, List, Bool, true, false, ap, ◌∙◌, sym}
+use Rattle.std.specs.Prelude.{if◌then◌else◌, slice_index}
 use Rattle.lit_read.specs.Litmus.{statement_of, statements_of}
-use Rattle.lit_read.specs.Syntax.{Statements}
+use Rattle.lit_read.specs.Syntax.{Statement, Statements, If}
 use Rattle.lit_read.proofs.TreeViews.{if_views}
 use Rattle.lit_paths.specs.Run.{compares}
+use Rattle.lit_search.specs.Internal.Runners.{ChoosesPart}
 use Rattle.lit_search.proofs.interleaving.deciding.chosen_part.Goals as goal
 
-as_asked : (equal : Bool) (a b : ℕ) (chosen : Bool) → beq (a == b) equal ≡ chosen → compares equal a b ≡ chosen
-as_asked equal a b chosen is = by equal (a == b) refl is
-  where
-    by : (equal same : Bool) → (a == b) ≡ same → beq same equal ≡ chosen → compares equal a b ≡ chosen
-    by true true e is = e ∙ is
-    by true false e is = e ∙ is
-    by false true e is = ap not e ∙ is
-    by false false e is = ap not e ∙ is
+chosen_by : (registers : List ℕ) (reg : ℕ) (equal : Bool) (value : ℕ) (body other part : Statements) (s : Statement) (chosen : Bool)
+    → s ≡ If reg equal value body other → compares equal (slice_index registers reg) value ≡ chosen
+    → part ≡ (if chosen then body else other) → ChoosesPart registers s part
+chosen_by registers reg equal value body other part s chosen is came chose =
+    record { reg = reg; equal = equal; value = value; body = body; other = other; is = is; chosen = rw came chose }
 
-part : (asked chosen : Bool) (body other : Statements) → asked ≡ chosen → (if chosen then body else other) ≡ (if asked then body else other)
-part asked chosen body other is = ap (λ (x : Bool). if x then body else other) (sym is)
+pub returns-then-comes_out : goal.returns-then-comes_out
+returns-then-comes_out c =
+    chosen_by c.args.registers.now c.in-If.reg c.in-If.equal c.in-If.value (statements_of c.in-If.body.items)
+    (statements_of c.in-If.other.items) _ _ true
+    (ap statement_of c.in-If.is ∙ if_views c.in-If.reg c.in-If.equal c.in-If.value c.in-If.body c.in-If.other)
+    (sym c.comes_out.ensures ∙ c.if-comes_out.true) (ap statements_of c.deref.ensures.value)
 
-pub returns-then-registers-from : goal.returns-then-registers-from
-returns-then-registers-from c = record {
-  reg = c.in-If.reg;
-  equal = c.in-If.equal;
-  value = c.in-If.value;
-  body = statements_of c.in-If.body.items;
-  other = statements_of c.in-If.other.items;
-  is = ap statement_of c.in-If.is ∙ if_views c.in-If.reg c.in-If.equal c.in-If.value c.in-If.body c.in-If.other;
-  chosen = ap statements_of c.deref.ensures.value
-      ∙ part (compares c.in-If.equal (slice_index c.args.registers.now c.in-If.reg) c.in-If.value) true (statements_of c.in-If.body.items) (statements_of c.in-If.other.items)
-      (ap (λ (reg : ℕ). compares c.in-If.equal (slice_index c.args.registers.now reg) c.in-If.value) (sym c.from.ensures)
-      ∙ as_asked c.in-If.equal (slice_index c.args.registers.now c.from.result) c.in-If.value true c.if-registers-from.true);
-}
-
-pub returns-else-registers-from : goal.returns-else-registers-from
-returns-else-registers-from c = record {
-  reg = c.in-If.reg;
-  equal = c.in-If.equal;
-  value = c.in-If.value;
-  body = statements_of c.in-If.body.items;
-  other = statements_of c.in-If.other.items;
-  is = ap statement_of c.in-If.is ∙ if_views c.in-If.reg c.in-If.equal c.in-If.value c.in-If.body c.in-If.other;
-  chosen = ap statements_of c.deref-else-registers-from.ensures.value
-      ∙ part (compares c.in-If.equal (slice_index c.args.registers.now c.in-If.reg) c.in-If.value) false (statements_of c.in-If.body.items) (statements_of c.in-If.other.items)
-      (ap (λ (reg : ℕ). compares c.in-If.equal (slice_index c.args.registers.now reg) c.in-If.value) (sym c.from.ensures)
-      ∙ as_asked c.in-If.equal (slice_index c.args.registers.now c.from.result) c.in-If.value false c.if-registers-from.false);
-}
+pub returns-else-comes_out : goal.returns-else-comes_out
+returns-else-comes_out c =
+    chosen_by c.args.registers.now c.in-If.reg c.in-If.equal c.in-If.value (statements_of c.in-If.body.items)
+    (statements_of c.in-If.other.items) _ _ false
+    (ap statement_of c.in-If.is ∙ if_views c.in-If.reg c.in-If.equal c.in-If.value c.in-If.body c.in-If.other)
+    (sym c.comes_out.ensures ∙ c.if-comes_out.false) (ap statements_of c.deref-else-comes_out.ensures.value)

@@ -1,9 +1,9 @@
 use Rattle.std.proofs.Common.{◌≡◌, ap, sym, subst, ◌∙◌, arith}
 use Rattle.lit_read.specs.Litmus.{statement_of, statements_of}
 use Rattle.lit_read.specs.Syntax.{AreStatementsIn, Statements, End}
-use Rattle.lit_search.specs.Interleaving.{from_access, joined}
+use Rattle.lit_search.specs.Interleaving.{from_access, joined_statements}
 use Rattle.lit_search.specs.Internal.Runners.{joined_all}
-use Rattle.lit_search.proofs.NextAccess.{from_access-part, from_access-then, lists_size, lists_size-more, met, met-size, none_left, opened, said-joined, said-part, size_of-part}
+use Rattle.lit_search.proofs.NextAccess.{from_access-part, from_access-then, lists_size, lists_size-more, met, met-size, none_left, opened, said_from, said-joined, said-part, size_of-part}
 use Rattle.lit_search.proofs.interleaving.deciding.next_access.Goals as goal
 
 pub chosen_part-requires-clause-said : goal.chosen_part-requires-clause-said
@@ -32,7 +32,7 @@ deciding-preserved-in-Continue-branch-2 c =
     let first = statement_of c.in-Some-split_first.first.now in
     let part = statements_of c.in-Some-chosen_part.part.now in
     let rest = joined_all c.push.new.self.items End in
-    let now : joined_all c.push-in-Some-chosen_part.new.self.items End ≡ joined part rest =
+    let now : joined_all c.push-in-Some-chosen_part.new.self.items End ≡ joined_statements part rest =
     opened c.push-in-Some-chosen_part.new.self.items c.push.new.self.items c.in-Some-chosen_part.part c.in_ok-push-in-Some-chosen_part.ensures.items in
     let said = c.deciding.invariant.said in
     let there = subst (AreStatementsIn said.0) is said.1 in
@@ -44,11 +44,15 @@ deciding-preserved-in-Continue-branch-2 c =
 pub returns-in-None : goal.returns-in-None
 returns-in-None c =
     let is = met c.deciding.left.items c.pop.new.self.items c.push.new.self.items c.in-Some.list c.in-Some-split_first.others c.in-Some-split_first.first.now
-    c.in-Some.ensures.items c.in-Some-split_first.ensures.cases.0 c.in_ok-push.ensures.items in (
-      c.in-None.ensures,
-      sym c.deciding.invariant.same ∙ ap (from_access c.args.registers.now) is
-          ∙ from_access-then c.args.registers.now (statement_of c.in-Some-split_first.first.now) (joined_all c.push.new.self.items End) c.in-None.ensures,
-    )
+    c.in-Some.ensures.items c.in-Some-split_first.ensures.cases.0 c.in_ok-push.ensures.items in
+    let registers = c.args.registers.now in
+    let next = sym c.deciding.invariant.same ∙ ap (from_access registers) is
+    ∙ from_access-then registers (statement_of c.in-Some-split_first.first.now) (joined_all c.push.new.self.items End) c.in-None.ensures in
+    record {
+      access = c.in-None.ensures;
+      next = next;
+      said = λ bytes said. subst (AreStatementsIn bytes) next (said_from bytes registers (joined_all c.args.left.now.items End) said);
+    }
 
 pub deciding-smaller : goal.deciding-smaller
 deciding-smaller c = omega (arith, ap lists_size c.in-Some.ensures.items, lists_size-more c.pop.new.self.items c.in-Some.list)
@@ -58,7 +62,7 @@ deciding-preserved c =
     let rest = joined_all c.pop.new.self.items End in
     let is : joined_all c.deciding.left.items End ≡ rest =
     opened c.deciding.left.items c.pop.new.self.items c.in-Some.list c.in-Some.ensures.items
-    ∙ ap (λ (ss : Statements). joined ss rest) (none_left c.in-Some.list.now c.in_default-split_first.ensures.cases) in
+    ∙ ap (λ (ss : Statements). joined_statements ss rest) (none_left c.in-Some.list.now c.in_default-split_first.ensures.cases) in
     let said = c.deciding.invariant.said in
     record {
       said = (said.0, subst (AreStatementsIn said.0) is said.1);

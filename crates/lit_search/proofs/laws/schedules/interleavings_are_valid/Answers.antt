@@ -1,4 +1,4 @@
-use Rattle.lit_search.proofs.ScheduleLemmas.{has_execution}
+use Rattle.lit_search.proofs.RunsInTurn.{has_execution}
 use Rattle.lit_search.proofs.laws.schedules.interleavings_are_valid.Goals as goal
 
 pub returns : goal.returns

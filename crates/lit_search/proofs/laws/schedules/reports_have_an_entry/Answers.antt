@@ -1,5 +1,5 @@
 use Rattle.std.specs.Prelude.{[]}
-use Rattle.lit_search.proofs.ScheduleLemmas.{some_entry}
+use Rattle.lit_search.proofs.RunsInTurn.{some_entry}
 use Rattle.lit_search.proofs.laws.schedules.reports_have_an_entry.Goals as goal
 
 pub returns : goal.returns

@@ -1,5 +1,4 @@
-use Rattle.std.proofs.Common.{arith, ap, length}
-use Rattle.lit_paths.specs.ByteReads.{byte_reads}
+use Rattle.lit_solve.proofs.Words.{ap, arith, byte_reads, length}
 use Rattle.lit_solve.specs.Boxes.{BoxesModel, boxes_events}
 use Rattle.lit_solve.proofs.PartedLemmas.{high_fits}
 use Rattle.lit_solve.proofs.boxes.Boxes.below.Goals as goal

@@ -1,4 +1,4 @@
-use Rattle.std.proofs.Common.{arith}
+use Rattle.lit_solve.proofs.Words.{arith}
 use Rattle.lit_solve.proofs.PartedLemmas.{len_fits}
 use Rattle.lit_solve.proofs.boxes.Boxes.len.Goals as goal
 

@@ -1,6 +1,4 @@
-use Rattle.std.proofs.Common.{◌≡◌, ◌∙◌, arith, ap, length, subst, sym}
-use Rattle.std.proofs.lemmas.List.{length-map}
-use Rattle.lit_paths.specs.ByteReads.{byte_reads, pair_of}
+use Rattle.lit_solve.proofs.Words.{ap, arith, byte_reads, length, length-map, pair_of, subst, sym, ◌∙◌, ◌≡◌}
 use Rattle.lit_solve.specs.Boxes.{BoxesModel, boxes_events}
 use Rattle.lit_solve.specs.Internal.Parted.{IsParted}
 use Rattle.lit_solve.proofs.BoxesLemmas.{one_domain_more}

@@ -1,7 +1,4 @@
-use Rattle.std.proofs.Common.{◌∙◌, ℕ, arith, ap, get_or, length, sym, Some}
-use Rattle.std.proofs.lemmas.Option.{slice_get-get_or}
-use Rattle.lit_paths.specs.ByteReads.{byte_read_at}
-use Rattle.lit_paths.specs.Plan.{events_in}
+use Rattle.lit_solve.proofs.Words.{ap, arith, byte_read_at, events_in, get_or, length, slice_get-get_or, Some, sym, ℕ, ◌∙◌}
 use Rattle.lit_solve.proofs.CandidateLemmas.{has_all, has_more}
 use Rattle.lit_solve.proofs.boxes.candidates.candidates_of.Goals as goal
 

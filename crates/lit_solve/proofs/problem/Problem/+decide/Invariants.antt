@@ -1,5 +1,4 @@
-use Rattle.std.proofs.Common.{drop}
-use Rattle.lit_read.specs.Litmus.{condition_of}
+use Rattle.lit_solve.proofs.Words.{condition_of, drop}
 use Rattle.lit_solve.specs.Box.{box_with}
 use Rattle.lit_solve.proofs.ConditionLemmas.{IsAllLeft, IsAnyLeft}
 use Rattle.lit_solve.proofs.problem.Problem.+decide.Given as goal

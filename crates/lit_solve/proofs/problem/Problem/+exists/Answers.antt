@@ -1,6 +1,5 @@
-use Rattle.std.proofs.Common.{ℕ, ◌<◌, refl, subst, sym}
-use Rattle.lit_paths.specs.Execution.{Execution}
-use Rattle.lit_rel.specs.EventSet.{HasEvent}
+use Rattle.std.proofs.Common.{arith}
+use Rattle.lit_solve.proofs.Words.{◌<◌, Execution, HasEvent, subst, sym, ℕ}
 use Rattle.lit_rel.proofs.SetLemmas.{split_less_yet}
 use Rattle.lit_solve.specs.Completion.{IsSolution}
 use Rattle.lit_solve.specs.Internal.Frames.{box_of}
@@ -27,15 +26,7 @@ exists-requires t c = (
 )
 
 pub returns-then-exists : goal.returns-then-exists
-returns-then-exists t c =
-    let found = c.exists.ensures.0 c.if-exists.true in (
-      λ _. (
-        found.0,
-        solution_out (box_of c.args.self.now c.cut.new.frame) (box_of c.args.self.now c.args.frame.now) c.args.goal
-            (c.cut.ensures.cut c.if-cut.true).within found.0 found.1,
-      ),
-      λ _. refl,
-    )
+returns-then-exists t c = grind (arith, solution_out)
 
 pub loop-source-smaller : goal.loop-source-smaller
 loop-source-smaller t c =

@@ -1,7 +1,4 @@
-use Rattle.std.proofs.Common.{rules, arith, ◌-◌, ◌<◌, ◌+◌, length, refl}
-use Rattle.std.proofs.lemmas.Bool.{false≢true}
-use Rattle.lit_paths.specs.ByteReads.{byte_read_at, byte_reads}
-use Rattle.lit_rel.specs.EventSet.{HasEvent}
+use Rattle.lit_solve.proofs.Words.{◌+◌, arith, byte_read_at, common_steps, false≢true, HasEvent, refl}
 use Rattle.lit_rel.proofs.SetLemmas.{split_less, split_less_yet}
 use Rattle.lit_solve.specs.Box.{HasSource, box_with, events_on}
 use Rattle.lit_solve.specs.Internal.Filling.{CanFillOn, CanFillWith}
@@ -18,11 +15,7 @@ returns-then-not-is_of t c =
     (λ h. end.1 (c.are_tests_true.ensures.0 h), λ h. c.are_tests_true.ensures.1 (end.0 h))
 
 pub fills_on-requires : goal.fills_on-requires
-fills_on-requires t c =
-    let is = c.if-not-is_of.ensures.of.0 refl in
-    let reads = length (byte_reads (events_on c.args.self.now)) in
-    let nearer : reads - (c.args.place + 1) < reads - c.args.place = omega (arith, is.0) in
-    (search rules, (c.requires.is_box, (c.requires.some, c.in-Some-take.ensures.room)))
+fills_on-requires t c = grind (arith, common_steps, c.if-not-is_of.ensures.of)
 
 pub take-requires-clause-source : goal.take-requires-clause-source
 take-requires-clause-source t c =

@@ -1,6 +1,4 @@
-use Rattle.std.proofs.Common.{◌-◌, ℕ, length}
-use Rattle.lit_paths.specs.ByteReads.{byte_read_at, byte_reads}
-use Rattle.lit_rel.specs.EventSet.{HasEvent}
+use Rattle.lit_solve.proofs.Words.{◌-◌, byte_read_at, byte_reads, HasEvent, length, ℕ}
 use Rattle.lit_solve.specs.Box.{HasSource, box_with, events_on}
 use Rattle.lit_solve.specs.Internal.Filling.{CanFillWith}
 use Rattle.lit_solve.proofs.problem.Problem.+fills_on.Given as goal

@@ -1,14 +1,11 @@
-use Rattle.std.proofs.Common.{ℕ, ◌<◌, List, ap, refl, subst, sym}
-use Rattle.std.specs.Prelude.{slice_index_or}
-use Rattle.lit_rel.specs.EventSet.{HasEvent, no_events}
+use Rattle.lit_solve.proofs.Words.{◌<◌, ap, Entry, HasEvent, List, no_events, refl, slice_index_or, subst, sym, ℕ}
 use Rattle.lit_rel.proofs.SetLemmas.{split_less_yet}
-use Rattle.lit_valid.specs.Entry.{Entry}
 use Rattle.lit_solve.specs.Box.{box_with}
 use Rattle.lit_solve.specs.Outcomes.{AddsEntries}
 use Rattle.lit_solve.specs.Internal.Narrowing.{size_of}
 use Rattle.lit_solve.proofs.EntryLemmas.{adds_more}
 use Rattle.lit_solve.proofs.NarrowingLemmas.{source_known}
-use Rattle.lit_solve.proofs.ObservedLemmas.{IsSeen, alike_among, all_seen, first_within, part_adds, seen_part, seen_past, some_differ, sound_on}
+use Rattle.lit_solve.proofs.ObservedLemmas.{IsSeen, alike_among, all_seen, first_within, part_adds, seen_part, seen_past, some_differ}
 use Rattle.lit_solve.proofs.problem.Problem.+independent_outcomes.Goals as goal
 use Rattle.lit_solve.proofs.problem.Problem.+independent_outcomes.Goals.{then-cut_independent+in_ok-independent_outcomes, else-cut_independent}
 
@@ -55,7 +52,7 @@ returns-in_err-independent_outcomes-clause-added g t c =
     let mid = g.T.OutcomeTable.entries c.loop-source.table in
     let new = g.T.OutcomeTable.entries c.independent_outcomes.new.table in
     adds_more box old mid new c.loop-source.invariant.added
-    (part_adds c.laws_below.ensures box c.requires.independent.is_box (sound_on c.self.view_is c.self.invariant.sound) place c.in-Some.ensures.observed.0
+    (part_adds c.laws_below.ensures box c.requires.independent.is_box c.events-events.ensures.sound place c.in-Some.ensures.observed.0
     c.in-Some.ensures.observed.2 c.in-Some-split_first.source c.storing_alike-group.result alike c.cut_independent.new.domains
     (c.cut_independent.ensures.cut c.if-cut_independent.true) mid new c.independent_outcomes.ensures.added)
 
@@ -84,7 +81,7 @@ loop-source-preserved g t c =
     let goes : AddsEntries box old (entries c.if-cut_independent.table) × IsSeen box place (entries c.if-cut_independent.table) rest = elim c.if-cut_independent.branch [
       | then-cut_independent+in_ok-independent_outcomes w ↦
           subst (λ (es : List Entry). AddsEntries box old es × IsSeen box place es rest) (sym (ap entries w.table-is))
-          (seen_part c.laws_below.ensures box c.requires.independent.is_box (sound_on c.self.view_is c.self.invariant.sound) place
+          (seen_part c.laws_below.ensures box c.requires.independent.is_box c.events-events.ensures.sound place
           c.in-Some.ensures.observed.0 c.in-Some.ensures.observed.2 c.in-Some-split_first.source group alike c.cut_independent.new.domains
           (c.cut_independent.ensures.cut w.if-cut_independent.true) old mid (entries w.independent_outcomes.new.table) c.loop-source.left rest
           c.difference-left.ensures c.loop-source.invariant.added c.loop-source.invariant.seen w.independent_outcomes.ensures.added

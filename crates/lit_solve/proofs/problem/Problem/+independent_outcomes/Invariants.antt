@@ -1,5 +1,4 @@
-use Rattle.std.proofs.Common.{ℕ}
-use Rattle.lit_rel.specs.EventSet.{HasEvent}
+use Rattle.lit_solve.proofs.Words.{HasEvent, ℕ}
 use Rattle.lit_solve.specs.Box.{HasSource, box_with}
 use Rattle.lit_solve.specs.Internal.Narrowing.{size_of}
 use Rattle.lit_solve.specs.Outcomes.{AddsEntries}

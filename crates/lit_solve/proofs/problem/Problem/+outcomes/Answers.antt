@@ -1,8 +1,5 @@
-use Rattle.std.proofs.Common.{inr, ℕ, ◌<◌, List, ap, refl, subst, sym}
-use Rattle.lit_paths.specs.Execution.{Execution}
-use Rattle.lit_rel.specs.EventSet.{HasEvent}
+use Rattle.lit_solve.proofs.Words.{◌<◌, ap, Entry, Execution, HasEvent, inr, List, refl, subst, sym, ℕ}
 use Rattle.lit_rel.proofs.SetLemmas.{split_less_yet}
-use Rattle.lit_valid.specs.Entry.{Entry}
 use Rattle.lit_solve.specs.Completion.{IsCompletion}
 use Rattle.lit_solve.specs.Outcomes.{AddsEntries}
 use Rattle.lit_solve.specs.Internal.Frames.{box_of}
@@ -10,7 +7,7 @@ use Rattle.lit_solve.specs.Internal.Narrowing.{size_of}
 use Rattle.lit_solve.specs.Internal.Settled.{TakesFrom}
 use Rattle.lit_solve.proofs.EntryLemmas.{adds_more, adds_none}
 use Rattle.lit_solve.proofs.NarrowingLemmas.{source_known}
-use Rattle.lit_solve.proofs.ObservedLemmas.{IsSeen, alike_among, all_seen, first_within, part_adds, seen_part, seen_past, some_differ, sound_on}
+use Rattle.lit_solve.proofs.ObservedLemmas.{IsSeen, alike_among, all_seen, first_within, part_adds, seen_part, seen_past, some_differ}
 use Rattle.lit_solve.proofs.problem.Problem.+outcomes.Goals as goal
 use Rattle.lit_solve.proofs.problem.Problem.+outcomes.Goals.{then-cut+then-may_complete+in_ok-outcomes, else-cut, else-cut-via-then-cut+else-may_complete, else-cut-via-else-cut}
 
@@ -42,11 +39,14 @@ outcomes-requires g t c κs within =
           (c.cut.ensures.less c.if-cut.true
           (some_differ box place c.in-Some-split_first.source c.storing_alike-group.result c.in-Some.ensures.observed.0 c.in-Some.ensures.observed.1 there alike)),
       (
-        within,
+        within.0,
         (
-          c.cut.ensures.settled c.if-cut.true,
-          first_within box c.cut.new.frame.domains c.next_observed.new.values.items (c.cut.ensures.cut c.if-cut.true).within
-              c.next_observed.ensures.first,
+          within.1,
+          (
+            c.cut.ensures.settled c.if-cut.true,
+            first_within box c.cut.new.frame.domains c.next_observed.new.values.items (c.cut.ensures.cut c.if-cut.true).within
+                c.next_observed.ensures.first,
+          ),
         ),
       ),
     )
@@ -61,7 +61,7 @@ returns-in_err-outcomes-clause-added g t c =
     let mid = g.T.OutcomeTable.entries c.loop-source.table in
     let new = g.T.OutcomeTable.entries c.outcomes.new.table in
     adds_more box old mid new c.loop-source.invariant.added
-    (part_adds c.laws_below.ensures box c.requires.settled.exact.contained.is_box (sound_on c.self.view_is c.self.invariant.sound) place
+    (part_adds c.laws_below.ensures box c.requires.settled.exact.contained.is_box c.events-events.ensures.sound place
     c.in-Some.ensures.observed.0 c.in-Some.ensures.observed.2 c.in-Some-split_first.source c.storing_alike-group.result alike
     c.cut.new.frame.domains (c.cut.ensures.cut c.if-cut.true) mid new c.outcomes.ensures.added)
 
@@ -93,7 +93,7 @@ loop-source-preserved g t c =
     let goes : AddsEntries box old (entries c.if-cut.table) × IsSeen box place (entries c.if-cut.table) rest = elim c.if-cut.branch [
       | then-cut+then-may_complete+in_ok-outcomes w ↦
           subst (λ (es : List Entry). AddsEntries box old es × IsSeen box place es rest) (sym (ap entries w.table-is))
-          (seen_part c.laws_below.ensures box c.requires.settled.exact.contained.is_box (sound_on c.self.view_is c.self.invariant.sound) place
+          (seen_part c.laws_below.ensures box c.requires.settled.exact.contained.is_box c.events-events.ensures.sound place
           c.in-Some.ensures.observed.0 c.in-Some.ensures.observed.2 c.in-Some-split_first.source group alike c.cut.new.frame.domains
           (c.cut.ensures.cut w.if-cut.true) old mid (entries w.outcomes.new.table) c.loop-source.left rest c.difference-left.ensures
           c.loop-source.invariant.added c.loop-source.invariant.seen w.outcomes.ensures.added w.in_ok-outcomes.ensures.whole)

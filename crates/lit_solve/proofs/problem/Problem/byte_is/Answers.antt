@@ -1,4 +1,4 @@
-use Rattle.std.proofs.Common.{inl, inr, sym, ◌∙◌, eq-eqb, refl}
+use Rattle.lit_solve.proofs.Words.{arith, common_steps, eq-eqb, refl, sym, ◌∙◌}
 use Rattle.lit_rel.proofs.SetLemmas.{event_or_not}
 use Rattle.lit_solve.specs.Box.{box_with}
 use Rattle.lit_solve.proofs.DecidingLemmas.{undecided_by}
@@ -6,10 +6,7 @@ use Rattle.lit_solve.proofs.problem.Problem.byte_is.Goals as goal
 
 pub returns-in_default-split_first : goal.returns-in_default-split_first
 returns-in_default-split_first c w there =
-    elim (event_or_not c.storing-storing.result w) [
-      | inl stores ↦ eq-eqb _ _ ((c.storing-storing.ensures w).0 stores).1
-      | inr other ↦ absurd (c.in_default-split_first.ensures w ((c.difference.ensures w).1 (there, other)))
-    ]
+    grind (arith, common_steps, eq-eqb, event_or_not, c.storing-storing.ensures, c.in_default-split_first.ensures, c.difference.ensures)
 
 pub returns : goal.returns
 returns c =

@@ -1,8 +1,4 @@
-use Rattle.std.proofs.Common.{arith, ℕ, ◌≤◌, inl, inr, subst, sym}
-use Rattle.lit_read.specs.Syntax.{Litmus}
-use Rattle.lit_paths.specs.Event.{event_at}
-use Rattle.lit_paths.specs.Plan.{AreEventsIn}
-use Rattle.lit_rel.specs.EventSet.{HasEvent}
+use Rattle.lit_solve.proofs.Words.{arith, event_at, HasEvent, inl, inr, sym, ◌≤◌}
 use Rattle.lit_solve.specs.Box.{box_with, events_on}
 use Rattle.lit_solve.proofs.FillingLemmas.{CanFillOn-same, filled_from}
 use Rattle.lit_solve.proofs.ReadByteLemmas.{room_first}
@@ -11,8 +7,7 @@ use Rattle.lit_solve.proofs.problem.Problem.can_fill.Goals as goal
 pub fills_on-requires-clause-room : goal.fills_on-requires-clause-room
 fills_on-requires-clause-room c =
     let events = events_on c.args.self.now in
-    let sound = subst (λ (p : Litmus × ℕ). AreEventsIn p.0.bytes (events_on p)) c.self.view_is c.self.invariant.sound in
-    let size : (event_at events c.args.read).size ≤ 4 = elim (sound.sized c.args.read c.requires.read) [
+    let size : (event_at events c.args.read).size ≤ 4 = elim (c.events-events.ensures.sound.sized c.args.read c.requires.read) [
       | inl one ↦ omega (arith, one)
       | inr more ↦ elim more [ inl two ↦ omega (arith, two) | inr four ↦ omega (arith, four) ]
     ] in

@@ -1,4 +1,4 @@
-use Rattle.std.proofs.Common.{below_more}
+use Rattle.lit_solve.proofs.Words.{below_more}
 use Rattle.lit_solve.specs.Fill.{CanFill}
 use Rattle.lit_solve.specs.Box.{box_with}
 use Rattle.lit_solve.proofs.problem.Problem.can_fill_each.Goals as goal

@@ -1,7 +1,4 @@
-use Rattle.std.proofs.Common.{◌≡◌, ◌⊎◌, ◌<◌, ◌↔◌, ℕ, refl, arith, length, subst, sym}
-use Rattle.lit_paths.specs.ByteReads.{byte_read_at, byte_reads}
-use Rattle.lit_rel.specs.declared.event_set.EventSet.{EventSet}
-use Rattle.lit_rel.specs.EventSet.{HasEvent}
+use Rattle.lit_solve.proofs.Words.{◌<◌, arith, byte_read_at, byte_reads, EventSet, HasEvent, length, refl, subst, sym, ℕ, ◌↔◌, ◌≡◌}
 use Rattle.lit_solve.specs.declared.frame.Frame.{Frame}
 use Rattle.lit_solve.specs.Box.{Box, HasSource, box_events, events_on}
 use Rattle.lit_solve.specs.Fill.{CanFill}
@@ -9,15 +6,12 @@ use Rattle.lit_solve.specs.Internal.Frames.{IsContained, box_of}
 use Rattle.lit_solve.specs.Internal.Leaves.{CanFillAt}
 use Rattle.lit_solve.proofs.DomainLemmas.{frame_at, narrowed_at, narrowed_contained}
 use Rattle.lit_solve.proofs.NarrowingLemmas.{source_known}
-use Rattle.lit_solve.proofs.RacingLemmas.{can_fill_alone, one_alone, one_within, read_number}
+use Rattle.lit_solve.proofs.RacingLemmas.{can_fill_alone, one_within, read_number}
 use Rattle.lit_solve.proofs.problem.Problem.can_fill_from.Goals as goal
 
 -- ---- a set that has nothing but a source of the domain
-module _ (box : Box) (place source : ℕ) (none one : EventSet) (empty : (v : ℕ) → ¬ HasEvent none v)
-    (with_it : (v : ℕ) → HasEvent one v ↔ (HasEvent none v ⊎ (v ≡ source))) (room : place < length box.domains) (there : HasSource box place source) where
-  is_one : (v : ℕ) → HasEvent one v ↔ (v ≡ source)
-  is_one = one_alone none one source empty with_it
-
+module _ (box : Box) (place source : ℕ) (one : EventSet) (is_one : (v : ℕ) → HasEvent one v ↔ (v ≡ source))
+    (room : place < length box.domains) (there : HasSource box place source) where
   alone_contained : (frame : Frame) → IsContained box frame → IsContained (narrowed_at box place one) (frame_at frame place one)
   alone_contained frame contained =
       narrowed_contained box place one room (one_within box place source one is_one room there) frame contained (source, (is_one source).1 refl)
@@ -26,8 +20,8 @@ module _ (box : Box) (place source : ℕ) (none one : EventSet) (empty : (v : �
       → CanFill (narrowed_at box place one) (byte_read_at (box_events box) place).0 ↔ CanFillAt box place source
   alone_fills inside = can_fill_alone box place source one is_one room inside there
 
-pub with-requires : goal.with-requires
-with-requires c =
+pub set_of-requires : goal.set_of-requires
+set_of-requires c =
     let known : c.args.source < length (events_on c.args.self.now) =
     source_known (box_of c.args.self.now c.args.frame.now) c.requires.contained.is_box c.args.place c.args.source c.requires.place c.requires.there in
     omega arith
@@ -35,13 +29,13 @@ with-requires c =
 pub can_fill-requires-clause-is_box : goal.can_fill-requires-clause-is_box
 can_fill-requires-clause-is_box c =
     let box = box_of c.args.self.now c.args.frame.now in
-    (alone_contained box c.args.place c.args.source c.new.result c.with.result c.new.ensures.empty c.with.ensures (omega arith) c.requires.there
+    (alone_contained box c.args.place c.args.source c.set_of.result c.set_of.ensures (omega arith) c.requires.there
     c.args.frame.now c.requires.contained).is_box
 
 pub can_fill-requires-clause-some : goal.can_fill-requires-clause-some
 can_fill-requires-clause-some c =
     let box = box_of c.args.self.now c.args.frame.now in
-    (alone_contained box c.args.place c.args.source c.new.result c.with.result c.new.ensures.empty c.with.ensures (omega arith) c.requires.there
+    (alone_contained box c.args.place c.args.source c.set_of.result c.set_of.ensures (omega arith) c.requires.there
     c.args.frame.now c.requires.contained).some
 
 pub returns : goal.returns
@@ -51,9 +45,9 @@ returns c =
     let is_read : c.byte_read-read.result.read ≡ (byte_read_at events c.args.place).0 =
     read_number events c.args.place c.byte_read-read.result c.byte_read-read.result.read refl c.byte_read-read.ensures.at in
     let room : c.args.place < length box.domains = omega arith in
-    let fills = alone_fills box c.args.place c.args.source c.new.result c.with.result c.new.ensures.empty c.with.ensures room c.requires.there
+    let fills = alone_fills box c.args.place c.args.source c.set_of.result c.set_of.ensures room c.requires.there
     c.requires.place in
-    let alone = narrowed_at box c.args.place c.with.result in (
+    let alone = narrowed_at box c.args.place c.set_of.result in (
       (λ h. fills.0 (subst (λ (r : ℕ). CanFill alone r) is_read (c.can_fill.ensures.0 h))),
       (λ can. c.can_fill.ensures.1 (subst (λ (r : ℕ). CanFill alone r) (sym is_read) (fills.1 can))),
     )

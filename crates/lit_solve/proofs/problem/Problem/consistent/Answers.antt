@@ -1,7 +1,5 @@
-use Rattle.std.proofs.Common.{◌<◌, ℕ, inl, inr, arith, length, length-set, refl, subst, ◌∙◌}
-use Rattle.lit_read.specs.Syntax.{Litmus}
-use Rattle.lit_paths.specs.ByteReads.{byte_read_at, byte_reads}
-use Rattle.lit_rel.specs.EventSet.{HasEvent}
+use Rattle.lit_solve.proofs.Words.{◌<◌, arith, byte_read_at, byte_reads, common_steps, HasEvent, inl, inr, length, length-set, Litmus}
+use Rattle.lit_solve.proofs.Words.{subst, ℕ, ◌∙◌}
 use Rattle.lit_rel.proofs.SetLemmas.{event_or_not}
 use Rattle.lit_solve.specs.Box.{HasSource, box_with, events_on}
 use Rattle.lit_solve.specs.Out.{IsOut}
@@ -11,11 +9,7 @@ use Rattle.lit_solve.proofs.NarrowingLemmas.{read_here}
 use Rattle.lit_solve.proofs.problem.Problem.consistent.Goals as goal
 
 pub loop-place-init : goal.loop-place-init
-loop-place-init c = record {
-  len = omega arith;
-  is_box = c.requires;
-  narrows = record { within = record { test = refl; combination = refl; domains = λ k w h. h }; kept = λ x is. is };
-}
+loop-place-init c = grind (arith, common_steps, narrows)
 
 pub loop-place-preserved : goal.loop-place-preserved
 loop-place-preserved c =

@@ -1,5 +1,4 @@
-use Rattle.std.proofs.Common.{◌≡◌, length}
-use Rattle.lit_paths.specs.declared.limits.TheConstants.{BYTE_READ_LIMIT}
+use Rattle.lit_solve.proofs.Words.{BYTE_READ_LIMIT, length, ◌≡◌}
 use Rattle.lit_solve.specs.Box.{IsBox, box_with}
 use Rattle.lit_solve.specs.Internal.Narrowing.{Narrows}
 use Rattle.lit_solve.proofs.problem.Problem.consistent.Given as goal

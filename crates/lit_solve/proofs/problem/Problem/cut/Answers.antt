@@ -1,4 +1,4 @@
-use Rattle.std.proofs.Common.{◌<◌, arith, length, ap, not}
+use Rattle.lit_solve.proofs.Words.{◌<◌, ap, arith, length, not}
 use Rattle.lit_solve.specs.Internal.Frames.{box_of}
 use Rattle.lit_solve.proofs.DomainLemmas.{narrowed_contained, none_at, size_less}
 use Rattle.lit_solve.proofs.FrameLemmas.{not_true}

@@ -1,4 +1,4 @@
-use Rattle.std.proofs.Common.{◌<◌, ℕ, arith, length, refl, subst, ap, not}
+use Rattle.lit_solve.proofs.Words.{◌<◌, ap, arith, common_steps, length, not, refl, subst, ℕ}
 use Rattle.lit_solve.specs.Box.{box_with, events_on}
 use Rattle.lit_solve.specs.Fill.{CanFill}
 use Rattle.lit_solve.proofs.DomainLemmas.{narrowed_at, narrowed_is_box, none_at, none_empty_at, size_less}
@@ -54,11 +54,7 @@ returns-clause-order c good order least =
     (subst (λ (r : ℕ). CanFill (narrowed_at box c.args.place left) r) read (c.can_fill.ensures.0 good)) order least
 
 pub returns-clause-cut : goal.returns-clause-cut
-returns-clause-cut c _ =
-    let box = box_with c.args.self.now c.args.domains.now in
-    let room : c.args.place < length box.domains = omega arith in
-    cut_on box c.args.place c.args.set c.intersection-left.result room c.intersection-left.ensures (narrowed_at box c.args.place c.intersection-left.result)
-    record { within = record { test = refl; combination = refl; domains = λ k w there. there }; kept = λ x is. is }
+returns-clause-cut c _ = grind (arith, common_steps, cut_on, narrowed_at, c.intersection-left.ensures)
 
 pub returns-clause-less : goal.returns-clause-less
 returns-clause-less c _ not_all =

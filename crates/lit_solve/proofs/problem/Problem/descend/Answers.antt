@@ -1,5 +1,4 @@
-use Rattle.std.proofs.Common.{◌<◌, arith, length}
-use Rattle.lit_paths.specs.ByteReads.{byte_reads}
+use Rattle.lit_solve.proofs.Words.{◌<◌, arith, byte_reads, length}
 use Rattle.lit_solve.specs.Box.{Box, events_on}
 use Rattle.lit_solve.specs.Internal.Frames.{box_of}
 use Rattle.lit_solve.proofs.DescendingLemmas.{alone_kept, alone_more, lowest_on}

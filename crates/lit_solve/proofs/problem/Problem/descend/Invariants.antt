@@ -1,4 +1,4 @@
-use Rattle.std.specs.Prelude.{IsTrue}
+use Rattle.lit_solve.proofs.Words.{IsTrue}
 use Rattle.lit_solve.specs.Completion.{HasSolution}
 use Rattle.lit_solve.specs.Internal.Descending.{AreAloneBelow, IsLowest}
 use Rattle.lit_solve.specs.Internal.Frames.{box_of}

@@ -1,6 +1,4 @@
-use Rattle.std.proofs.Common.{◌≡◌, ℕ, ◌<◌, Some}
-use Rattle.std.specs.Prelude.{slice_get}
-use Rattle.lit_paths.specs.ByteReads.{byte_reads}
+use Rattle.lit_solve.proofs.Words.{◌<◌, byte_reads, slice_get, Some, ℕ, ◌≡◌}
 use Rattle.lit_solve.specs.Box.{events_on}
 use Rattle.lit_solve.proofs.problem.Problem.first_place.Given as goal
 

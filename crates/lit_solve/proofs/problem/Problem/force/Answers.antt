@@ -1,6 +1,4 @@
-use Rattle.std.proofs.Common.{ℕ, List, refl, subst}
-use Rattle.lit_rel.specs.declared.event_set.EventSet.{EventSet}
-use Rattle.lit_rel.specs.Between.{Forbids}
+use Rattle.lit_solve.proofs.Words.{EventSet, Forbids, List, refl, subst, ℕ}
 use Rattle.lit_solve.specs.Given.{IsForcedIn}
 use Rattle.lit_solve.specs.Internal.Frames.{box_of}
 use Rattle.lit_solve.proofs.FrameLemmas.{forced_exact, forced_sound, forced_whole, not_true}

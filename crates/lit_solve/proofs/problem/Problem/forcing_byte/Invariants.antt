@@ -1,5 +1,4 @@
-use Rattle.std.proofs.Common.{◌-◌, length}
-use Rattle.lit_paths.specs.ByteReads.{byte_reads}
+use Rattle.lit_solve.proofs.Words.{◌-◌, byte_reads, length}
 use Rattle.lit_solve.specs.Box.{events_on}
 use Rattle.lit_solve.proofs.problem.Problem.forcing_byte.Given as goal
 

@@ -1,5 +1,4 @@
-use Rattle.std.proofs.Common.{ℕ, Some, ap, sym, ◌∙◌}
-use Rattle.std.specs.Prelude.{slice_index_or}
+use Rattle.lit_solve.proofs.Words.{ap, slice_index_or, Some, sym, ℕ, ◌∙◌}
 use Rattle.lit_solve.proofs.problem.Problem.forcing_observed.Goals as goal
 
 pub returns-in-Some-forcing_byte : goal.returns-in-Some-forcing_byte

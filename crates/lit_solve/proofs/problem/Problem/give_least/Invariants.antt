@@ -1,7 +1,4 @@
-use Rattle.std.proofs.Common.{◌≡◌, ℕ, Some}
-use Rattle.std.specs.Prelude.{slice_get}
-use Rattle.lit_paths.specs.Execution.{Execution}
-use Rattle.lit_rel.specs.EventSet.{HasEvent}
+use Rattle.lit_solve.proofs.Words.{Execution, HasEvent, slice_get, Some, ℕ, ◌≡◌}
 use Rattle.lit_solve.specs.declared.goal.Goal.TheVariants.{Any}
 use Rattle.lit_solve.specs.Box.{HasSource, box_with}
 use Rattle.lit_solve.specs.Completion.{IsSolution}

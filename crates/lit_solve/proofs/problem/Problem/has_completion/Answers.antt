@@ -1,18 +1,14 @@
-use Rattle.std.proofs.Common.{ℕ, None, length, subst, sym, ◌∙◌}
-use Rattle.std.proofs.lemmas.Bool.{false≢true}
-use Rattle.lit_read.specs.Syntax.{Litmus}
-use Rattle.lit_rel.specs.Broken.{HasFalseTestOn}
+use Rattle.lit_solve.proofs.Words.{false≢true, HasFalseTestOn, length, None, sym, ◌∙◌}
 use Rattle.lit_solve.specs.Given.{HappensBeforeIn, IsForbiddenIn}
 use Rattle.lit_solve.specs.Box.{events_on}
 use Rattle.lit_solve.specs.Internal.Frames.{box_of}
 use Rattle.lit_solve.proofs.LeafLemmas.{completion_found, fills_each, has_order, no_false_unwritten, order_is_some}
 use Rattle.lit_solve.proofs.problem.Problem.has_completion.Goals as goal
 
-pub returns-then-has_false_test : goal.returns-then-has_false_test
-returns-then-has_false_test c =
+pub returns-then-has_false_unwritten : goal.returns-then-has_false_unwritten
+returns-then-has_false_unwritten c =
     let box = box_of c.args.self.now c.args.frame.now in
-    let unwritten : HasFalseTestOn box.test box.combination None 0 =
-    subst (λ (p : Litmus × ℕ). HasFalseTestOn p.0 p.1 None 0) c.self.view_is (c.has_false_test.ensures.value.0 c.if-has_false_test.true) in (
+    let unwritten = c.has_false_unwritten.ensures.0 c.if-has_false_unwritten.true in (
       (λ never. absurd (false≢true never)),
       (λ some. absurd (no_false_unwritten box c.args.frame.now c.requires.settled c.requires.quiet (c.quiet_boxes_are_filled_read_by_read.ensures box)
           some unwritten)),
@@ -22,9 +18,8 @@ pub returns-then-can_fill_each : goal.returns-then-can_fill_each
 returns-then-can_fill_each c =
     let box = box_of c.args.self.now c.args.frame.now in
     let law = c.quiet_boxes_are_filled_read_by_read.ensures box in
-    let unwritten : ¬ HasFalseTestOn box.test box.combination None 0 = λ bad.
-    false≢true (sym c.if-has_false_test.false
-    ∙ c.has_false_test.ensures.value.1 (subst (λ (p : Litmus × ℕ). HasFalseTestOn p.0 p.1 None 0) (sym c.self.view_is) bad)) in
+    let unwritten = λ (bad : HasFalseTestOn box.test box.combination None 0).
+    false≢true (sym c.if-has_false_unwritten.false ∙ c.has_false_unwritten.ensures.1 bad) in
     let ordered = order_is_some c.least_order.result (λ order. order.items) (length (events_on c.args.self.now)) (HappensBeforeIn box)
     (IsForbiddenIn box) c.least_order.ensures.found c.least_order.ensures.none in (
       (λ some.

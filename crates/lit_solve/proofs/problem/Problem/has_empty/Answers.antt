@@ -1,4 +1,4 @@
-use Rattle.std.proofs.Common.{◌≡◌, ◌⊎◌, inl, inr, ℕ, ◌<◌, subst}
+use Rattle.lit_solve.proofs.Words.{◌<◌, inl, inr, subst, ℕ, ◌≡◌, ◌⊎◌}
 use Rattle.lit_solve.specs.Box.{HasSource, box_with}
 use Rattle.lit_solve.proofs.FrameLemmas.{below_or_last, not_true}
 use Rattle.lit_solve.proofs.problem.Problem.has_empty.Goals as goal

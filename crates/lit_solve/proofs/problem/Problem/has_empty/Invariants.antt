@@ -1,4 +1,4 @@
-use Rattle.std.proofs.Common.{ℕ, ◌<◌}
+use Rattle.lit_solve.proofs.Words.{◌<◌, ℕ}
 use Rattle.lit_solve.specs.Box.{HasSource, box_with}
 use Rattle.lit_solve.proofs.problem.Problem.has_empty.Given as goal
 

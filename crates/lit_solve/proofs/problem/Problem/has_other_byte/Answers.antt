@@ -1,4 +1,4 @@
-use Rattle.std.proofs.Common.{inl, inr, sym}
+use Rattle.lit_solve.proofs.Words.{inl, inr, sym}
 use Rattle.lit_rel.proofs.SetLemmas.{event_or_not}
 use Rattle.lit_solve.specs.Box.{box_with}
 use Rattle.lit_solve.proofs.DecidingLemmas.{undecided_by}

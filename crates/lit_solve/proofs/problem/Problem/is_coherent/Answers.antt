@@ -1,14 +1,9 @@
-use Rattle.std.proofs.Common.{◌≡◌, ◌↔◌, ℕ, Some, ap, sym, subst, ◌∙◌}
-use Rattle.std.specs.Prelude.{slice_get, Bool, true, false, IsTrue, not}
-use Rattle.std.proofs.lemmas.Bool.{false≢true}
-use Rattle.lit_read.specs.Syntax.{Litmus}
-use Rattle.lit_paths.specs.ByteReads.{byte_read_at, byte_reads, IsCandidate}
-use Rattle.lit_rel.specs.Coherent.{IsCoherentRead}
-use Rattle.lit_rel.specs.EventSet.{HasEvent}
-use Rattle.lit_rel.specs.Rows.{Holds}
+use Rattle.lit_solve.proofs.Words.{ap, arith, byte_read_at, byte_reads, common_steps, false≢true, HasEvent, Holds, IsCandidate}
+use Rattle.lit_solve.proofs.Words.{IsCoherentRead, IsTrue, Litmus, slice_get, Some, subst, sym, ℕ, ◌↔◌, ◌∙◌, ◌≡◌}
+use Rattle.std.specs.Prelude.{Bool, true, false, not}
 use Rattle.lit_solve.specs.Box.{events_on}
 use Rattle.lit_solve.specs.Internal.Frames.{IsProblem}
-use Rattle.lit_solve.proofs.NarrowingLemmas.{coherent_if_none, none_if_coherent, read_there}
+use Rattle.lit_solve.proofs.NarrowingLemmas.{coherent_if_none, none_if_coherent}
 use Rattle.lit_solve.proofs.problem.Problem.is_coherent.Goals as goal
 
 pub returns-then-not-holds : goal.returns-then-not-holds
@@ -36,7 +31,7 @@ returns-then-not-holds c =
       )),
     ) in
     let is_read : (read, byte) ≡ byte_read_at events c.args.place = ap (λ (r : ℕ). (r, byte)) c.from-read.ensures
-    ∙ read_there events c.args.place c.byte_read.result c.byte_read.ensures.at in
+    ∙ c.byte_read.ensures.is in
     let not_later : ¬ Holds order.rows read c.args.source = λ later. false≢true (sym c.if-not-holds.true ∙ c.holds.ensures.1 later) in
     subst (λ (q : ℕ × ℕ). IsTrue c.is_empty.result ↔ IsCoherentRead events (Holds order.rows) q.0 q.1 c.args.source) is_read (
       (λ empty. coherent_if_none events order.rows c.requires.contained.before_len read byte c.args.source c.intersection.result both c.requires.calm
@@ -50,11 +45,4 @@ never true _ h = false≢true h
 never false h _ = false≢true h
 
 pub returns-else-not-holds : goal.returns-else-not-holds
-returns-else-not-holds c =
-    let later : Holds c.args.frame.now.happens_before.rows c.from-read.result c.args.source = c.holds.ensures.0 c.if-not-holds.false in
-    let is_read : (c.from-read.result, c.byte_read.result.byte) ≡ byte_read_at (events_on c.args.self.now) c.args.place = ap
-    (λ (r : ℕ). (r, c.byte_read.result.byte)) c.from-read.ensures
-    ∙ read_there (events_on c.args.self.now) c.args.place c.byte_read.result c.byte_read.ensures.at in (
-      (λ t. absurd (never c.holds.result c.if-not-holds.false t)),
-      (λ coherent. absurd (coherent.not_later (subst (λ (q : ℕ × ℕ). Holds c.args.frame.now.happens_before.rows q.0 c.args.source) is_read later))),
-    )
+returns-else-not-holds c = grind (arith, common_steps, never, c.holds.ensures)

@@ -1,30 +1,19 @@
-use Rattle.std.proofs.Common.{◌≡◌, ℕ, List, ap, sym, subst, ◌∙◌}
-use Rattle.std.proofs.lemmas.Bool.{false≢true}
-use Rattle.lit_read.specs.Syntax.{Litmus}
-use Rattle.lit_paths.specs.declared.event.Event.{Event}
-use Rattle.lit_rel.specs.Forbidden.{IsForbiddenBetween}
-use Rattle.lit_rel.specs.Rows.{Holds}
+use Rattle.std.proofs.Common.{arith}
+use Rattle.lit_solve.proofs.Words.{Event, false≢true, Holds, IsForbiddenBetween, List, subst, sym}
 use Rattle.lit_rel.proofs.ReadingLemmas.{write_known}
 use Rattle.lit_solve.specs.Box.{events_on}
 use Rattle.lit_solve.proofs.NarrowingLemmas.{some_exactly}
 use Rattle.lit_solve.proofs.problem.Problem.is_forced_between.Goals as goal
 
 pub returns-then-is_empty : goal.returns-then-is_empty
-returns-then-is_empty c =
-    let forced = c.args.frame.now.forced in (
-      (λ t. absurd (false≢true t)),
-      (λ h. absurd (c.is_empty.ensures.0 c.if-is_empty.true h.0 ((c.intersection-between.ensures h.0).1 (
-        (c.successors.ensures h.0).1 h.2,
-        (c.successors-2.ensures h.0).1 ((forced.same.pairs h.0 c.args.read).1 h.3),
-      )))),
-    )
+returns-then-is_empty c = grind (arith, false≢true)
 
 pub returns : goal.returns
 returns c =
     let events = events_on c.args.self.now in
     let before = Holds c.args.frame.now.happens_before.rows in
     let forced = c.args.frame.now.forced in
-    let same : c.events-events.result.now ≡ events = c.events-events.ensures.value ∙ ap (λ (p : Litmus × ℕ). events_on p) c.self.view_is in
+    let same = c.events-events.ensures.value in
     let some = some_exactly c.intersection.result c.is_empty-2.result c.is_empty-2.ensures in (
       (λ t.
           let found = some.0 t in

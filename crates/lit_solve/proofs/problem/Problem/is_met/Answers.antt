@@ -1,6 +1,4 @@
-use Rattle.std.proofs.Common.{sym, subst}
-use Rattle.std.specs.Prelude.{IsTrue}
-use Rattle.lit_rel.specs.Rows.{Holds}
+use Rattle.lit_solve.proofs.Words.{Holds, IsTrue, subst, sym}
 use Rattle.lit_rel.proofs.SameRelations.{coherent_read_by}
 use Rattle.lit_solve.specs.declared.goal.Goal.{Goal}
 use Rattle.lit_solve.specs.Box.{box_events}
@@ -18,5 +16,5 @@ returns-then-has_completion c =
     (HappensBeforeIn box) exact.before r b w (c.requires.settled.coherent k r b w at there) in
     let races = c.quiet_boxes_race_as_reads_are_filled.ensures box exact.contained.is_box c.requires.quiet coherent
     (c.has_completion-in-Race.ensures.0 c.if-has_completion.true) in
-    subst (λ (g : Goal). (IsTrue c.can_race.result → HasSolution box g) × (HasSolution box g → IsTrue c.can_race.result)) (sym c.in-Race.is)
-    ((λ can. races.1 (c.can_race.ensures.0 can)), (λ has. c.can_race.ensures.1 (races.0 has)))
+    subst (λ (g : Goal). (IsTrue c.races.result → HasSolution box g) × (HasSolution box g → IsTrue c.races.result)) (sym c.in-Race.is)
+    ((λ can. races.1 (c.races.ensures.0 can)), (λ has. c.races.ensures.1 (races.0 has)))

@@ -1,12 +1,8 @@
-use Rattle.std.proofs.Common.{◌≡◌, ℕ, ap, sym, subst, ◌∙◌}
-use Rattle.std.proofs.lemmas.Bool.{false≢true}
-use Rattle.lit_paths.specs.ByteReads.{byte_read_at}
-use Rattle.lit_paths.specs.Event.{event_at}
-use Rattle.lit_rel.specs.TearFree.{CanReadWhole}
+use Rattle.lit_solve.proofs.Words.{ap, byte_read_at, CanReadWhole, event_at, false≢true, subst, sym, ℕ, ◌∙◌, ◌≡◌}
 use Rattle.lit_solve.specs.Out.{IsOut}
 use Rattle.lit_solve.specs.Box.{events_on}
 use Rattle.lit_solve.specs.Internal.Frames.{box_of}
-use Rattle.lit_solve.proofs.NarrowingLemmas.{between_out, incoherent_out, later_out, read_there, tear_out}
+use Rattle.lit_solve.proofs.NarrowingLemmas.{between_out, incoherent_out, later_out, tear_out}
 use Rattle.lit_solve.proofs.problem.Problem.is_out.Goals as goal
 use Rattle.lit_solve.proofs.problem.Problem.is_out.Goals.{then-not-is_coherent, else-not-is_coherent, then-is_forced_later, else-is_forced_later}
 
@@ -18,7 +14,7 @@ returns-then-is_forced_between-clause-out c found =
     let read = (byte_read_at events c.args.place).0 in
     let byte = (byte_read_at events c.args.place).1 in
     let same : c.from-read.result ≡ read = c.from-read.ensures
-    ∙ ap (λ (p : ℕ × ℕ). p.0) (read_there events c.args.place c.byte_read.result c.byte_read.ensures.at) in
+    ∙ ap (λ (p : ℕ × ℕ). p.0) c.byte_read.ensures.is in
     elim c.if-is_forced_later.branch [
       | then-is_forced_later w ↦
           elim c.if-not-is_coherent.branch [
@@ -42,7 +38,7 @@ returns-else-is_forced_between-clause-out c found =
     let read = (byte_read_at events c.args.place).0 in
     let byte = (byte_read_at events c.args.place).1 in
     let same : c.from-read.result ≡ read = c.from-read.ensures
-    ∙ ap (λ (p : ℕ × ℕ). p.0) (read_there events c.args.place c.byte_read.result c.byte_read.ensures.at) in
+    ∙ ap (λ (p : ℕ × ℕ). p.0) c.byte_read.ensures.is in
     let tears = c.would_tear.ensures.0 found in
     let can : CanReadWhole (event_at events read) (event_at events c.args.source) = subst
     (λ (r : ℕ). CanReadWhole (event_at events r) (event_at events c.args.source)) same tears.0 in

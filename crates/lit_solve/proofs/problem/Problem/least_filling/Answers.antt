@@ -1,5 +1,4 @@
-use Rattle.std.proofs.Common.{◌≡◌, ◌<◌, arith, length, subst}
-use Rattle.lit_paths.specs.ByteReads.{byte_reads}
+use Rattle.lit_solve.proofs.Words.{◌<◌, arith, byte_reads, length, subst, ◌≡◌}
 use Rattle.lit_solve.specs.declared.goal.Goal.TheVariants.{Any}
 use Rattle.lit_solve.specs.Box.{Box, box_with, events_on}
 use Rattle.lit_solve.specs.Internal.Descending.{AreAloneBelow}

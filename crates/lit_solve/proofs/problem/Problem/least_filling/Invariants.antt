@@ -1,4 +1,4 @@
-use Rattle.std.proofs.Common.{ℕ, List}
+use Rattle.lit_solve.proofs.Words.{List, ℕ}
 use Rattle.lit_solve.specs.declared.goal.Goal.TheVariants.{Any}
 use Rattle.lit_solve.specs.Box.{box_with}
 use Rattle.lit_solve.specs.Internal.Descending.{AreAloneBelow, IsLowest}

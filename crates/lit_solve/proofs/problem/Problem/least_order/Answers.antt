@@ -1,7 +1,5 @@
-use Rattle.std.proofs.Common.{length}
-use Rattle.lit_rel.specs.Between.{Forbids}
-use Rattle.lit_rel.specs.Rows.{Holds, rows_len}
-use Rattle.lit_order.proofs.LevelLemmas.{least_of_forced, none_of_forced}
+use Rattle.lit_solve.proofs.Words.{Forbids, Holds, length, rows_len}
+use Rattle.lit_order.proofs.GrownLemmas.{least_of_forced, none_of_forced}
 use Rattle.lit_solve.specs.Given.{HappensBeforeIn, IsForbiddenIn}
 use Rattle.lit_solve.specs.Box.{events_on}
 use Rattle.lit_solve.specs.Internal.Frames.{box_of}

@@ -1,8 +1,4 @@
-use Rattle.std.proofs.Common.{◌<◌, ℕ, inl, inr, arith, sym, subst, length}
-use Rattle.std.proofs.lemmas.Bool.{cases_eq}
-use Rattle.lit_paths.specs.ByteReads.{byte_read_at}
-use Rattle.lit_rel.specs.Coherent.{IsCoherentRead}
-use Rattle.lit_rel.specs.Rows.{Holds}
+use Rattle.lit_solve.proofs.Words.{◌<◌, arith, byte_read_at, cases_eq, Holds, inl, inr, IsCoherentRead, length, subst, sym, ℕ}
 use Rattle.lit_rel.proofs.SetLemmas.{split_less}
 use Rattle.lit_solve.specs.Box.{HasSource, events_on}
 use Rattle.lit_solve.specs.Out.{IsOut}

@@ -1,8 +1,4 @@
-use Rattle.std.proofs.Common.{ℕ}
-use Rattle.lit_paths.specs.ByteReads.{byte_read_at}
-use Rattle.lit_rel.specs.Coherent.{IsCoherentRead}
-use Rattle.lit_rel.specs.EventSet.{HasEvent}
-use Rattle.lit_rel.specs.Rows.{Holds}
+use Rattle.lit_solve.proofs.Words.{byte_read_at, HasEvent, Holds, IsCoherentRead, ℕ}
 use Rattle.lit_solve.specs.Box.{HasSource, events_on}
 use Rattle.lit_solve.specs.Out.{IsOut}
 use Rattle.lit_solve.specs.Internal.Frames.{box_of}

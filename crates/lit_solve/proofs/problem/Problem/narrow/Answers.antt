@@ -1,9 +1,5 @@
-use Rattle.std.proofs.Common.{◌≡◌, ◌≢◌, ◌<◌, ℕ, inl, inr, arith, refl, ap, sym, subst, length, ◌∙◌}
-use Rattle.std.proofs.lemmas.Bool.{cases_eq}
-use Rattle.std.proofs.lemmas.Option.{get_or_from_slice_get, slice_get_within}
-use Rattle.lit_paths.specs.ByteReads.{byte_read_at, byte_reads}
-use Rattle.lit_rel.specs.Coherent.{IsCoherentRead}
-use Rattle.lit_rel.specs.Rows.{Holds}
+use Rattle.lit_solve.proofs.Words.{◌<◌, ap, arith, byte_read_at, byte_reads, cases_eq, get_or_from_slice_get, Holds, inl, inr}
+use Rattle.lit_solve.proofs.Words.{IsCoherentRead, length, refl, slice_get_within, subst, sym, ℕ, ◌∙◌, ◌≡◌, ◌≢◌}
 use Rattle.lit_solve.specs.declared.frame.Frame.{Frame}
 use Rattle.lit_solve.specs.declared.narrowing.Narrowed.{Narrowed}
 use Rattle.lit_solve.specs.declared.narrowing.Narrowed.TheVariants.{Empty, Less, Same}

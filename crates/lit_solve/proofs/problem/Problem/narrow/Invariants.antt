@@ -1,7 +1,4 @@
-use Rattle.std.proofs.Common.{◌≡◌, ◌≢◌, ◌<◌, ℕ}
-use Rattle.lit_paths.specs.ByteReads.{byte_read_at}
-use Rattle.lit_rel.specs.Coherent.{IsCoherentRead}
-use Rattle.lit_rel.specs.Rows.{Holds}
+use Rattle.lit_solve.proofs.Words.{◌<◌, byte_read_at, Holds, IsCoherentRead, ℕ, ◌≡◌, ◌≢◌}
 use Rattle.lit_solve.specs.Box.{HasSource, events_on}
 use Rattle.lit_solve.specs.declared.narrowing.Narrowed.TheVariants.{Empty, Less, Same}
 use Rattle.lit_solve.specs.Internal.Frames.{IsContained, box_of}

@@ -1,8 +1,4 @@
-use Rattle.std.proofs.Common.{◌<◌, ℕ, arith, sym, subst, length, ◌∙◌, ap, not}
-use Rattle.std.proofs.lemmas.Bool.{false≢true}
-use Rattle.lit_read.specs.Syntax.{Litmus}
-use Rattle.lit_paths.specs.Plan.{AreEventsIn}
-use Rattle.lit_solve.specs.Box.{events_on}
+use Rattle.lit_solve.proofs.Words.{◌<◌, ap, arith, false≢true, length, not, sym, ◌∙◌}
 use Rattle.lit_solve.specs.Internal.Frames.{box_of}
 use Rattle.lit_solve.proofs.DomainLemmas.{narrowed_contained, narrows, none_if_empty, size_less}
 use Rattle.lit_solve.proofs.NarrowingLemmas.{some_exactly}
@@ -11,10 +7,9 @@ use Rattle.lit_solve.proofs.problem.Problem.narrow_at.Goals as goal
 pub returns-then-is_empty-clause-empty : goal.returns-then-is_empty-clause-empty
 returns-then-is_empty-clause-empty c _ =
     let box = box_of c.args.self.now c.args.frame.now in
-    let sound : AreEventsIn c.args.self.now.0.bytes (events_on c.args.self.now) = subst (λ (p : Litmus × ℕ). AreEventsIn p.0.bytes (events_on p))
-    c.self.view_is c.self.invariant.sound in
     let room : c.args.place < length box.domains = omega arith in
-    none_if_empty box c.args.place c.left-left.result room c.requires.contained.is_box sound (c.completions_have_no_source_that_is_out.ensures box)
+    none_if_empty box c.args.place c.left-left.result room c.requires.contained.is_box c.events-events.ensures.sound
+    (c.completions_have_no_source_that_is_out.ensures box)
     c.requires.place c.left-left.ensures.out
     (c.is_empty.ensures.0 c.if-is_empty.true)
 
@@ -24,8 +19,6 @@ returns-then-is_within-clause-coherent c _ w there = c.left-left.ensures.coheren
 pub returns-clause-contained : goal.returns-clause-contained
 returns-clause-contained c _ =
     let box = box_of c.args.self.now c.args.frame.now in
-    let sound : AreEventsIn c.args.self.now.0.bytes (events_on c.args.self.now) = subst (λ (p : Litmus × ℕ). AreEventsIn p.0.bytes (events_on p))
-    c.self.view_is c.self.invariant.sound in
     let room : c.args.place < length box.domains = omega arith in
     let some = (some_exactly c.left-left.result c.is_empty.result c.is_empty.ensures).0 (ap not c.if-is_empty.false) in
     narrowed_contained box c.args.place c.left-left.result room c.left-left.ensures.within c.args.frame.now c.requires.contained some
@@ -33,16 +26,13 @@ returns-clause-contained c _ =
 pub returns-clause-narrows : goal.returns-clause-narrows
 returns-clause-narrows c _ =
     let box = box_of c.args.self.now c.args.frame.now in
-    let sound : AreEventsIn c.args.self.now.0.bytes (events_on c.args.self.now) = subst (λ (p : Litmus × ℕ). AreEventsIn p.0.bytes (events_on p))
-    c.self.view_is c.self.invariant.sound in
     let room : c.args.place < length box.domains = omega arith in
-    narrows box c.args.place c.left-left.result room c.requires.contained.is_box sound (c.completions_have_no_source_that_is_out.ensures box)
+    narrows box c.args.place c.left-left.result room c.requires.contained.is_box c.events-events.ensures.sound
+    (c.completions_have_no_source_that_is_out.ensures box)
     c.requires.place c.left-left.ensures.out c.left-left.ensures.within
 
 pub returns-clause-less : goal.returns-clause-less
 returns-clause-less c _ =
     let box = box_of c.args.self.now c.args.frame.now in
-    let sound : AreEventsIn c.args.self.now.0.bytes (events_on c.args.self.now) = subst (λ (p : Litmus × ℕ). AreEventsIn p.0.bytes (events_on p))
-    c.self.view_is c.self.invariant.sound in
     let room : c.args.place < length box.domains = omega arith in
     size_less box c.args.place c.left-left.result room c.left-left.ensures.within (λ all. false≢true (sym c.if-is_within.false ∙ c.is_within.ensures.1 all))

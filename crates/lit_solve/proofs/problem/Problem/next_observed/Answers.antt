@@ -1,6 +1,4 @@
-use Rattle.std.proofs.Common.{ℕ, Option, None, Some, subst, sym}
-use Rattle.std.specs.Prelude.{IfSome}
-use Rattle.std.specs.Option.{unwrap_or}
+use Rattle.lit_solve.proofs.Words.{IfSome, None, Option, Some, subst, sym, unwrap_or, ℕ}
 use Rattle.lit_solve.specs.Internal.Frames.{box_of}
 use Rattle.lit_solve.specs.Internal.Observation.{IsObservation}
 use Rattle.lit_solve.proofs.problem.Problem.next_observed.Goals as goal

@@ -1,7 +1,5 @@
-use Rattle.std.proofs.Common.{◌≡◌, ℕ, List, ◌<◌, ap, arith, length, subst, sym, take, ◌∙◌, get_or}
-use Rattle.lit_read.specs.Syntax.{Litmus}
-use Rattle.lit_paths.specs.Execution.{execution_outcome}
-use Rattle.lit_paths.specs.Outcome.{names_of}
+use Rattle.lit_solve.proofs.Words.{◌<◌, ap, arith, common_steps, execution_outcome, get_or, length, List, Litmus, names_of, subst, sym}
+use Rattle.lit_solve.proofs.Words.{take, ℕ, ◌∙◌, ◌≡◌}
 use Rattle.lit_solve.specs.Box.{box_with}
 use Rattle.lit_solve.proofs.ObservationLemmas.{all_values, value_more}
 use Rattle.lit_solve.proofs.problem.Problem.observe.Goals as goal
@@ -28,7 +26,4 @@ loop-i-preserved c =
 
 pub returns-clause-observed : goal.returns-clause-observed
 returns-clause-observed c x is =
-    let box = box_with c.args.self.now c.args.domains.now in
-    let named : c.self.inside.names.now ≡ names_of box.test = c.self.invariant.named ∙ ap (λ (p : Litmus × ℕ). names_of p.0) c.self.view_is in
-    all_values box c.requires.is_box c.laws_below.ensures x is c.loop-i.values.items
-    (omega (arith, c.loop-i-test.false, c.loop-i.invariant.count, ap (λ (ns : List (ℕ × ℕ)). length ns) named)) (c.loop-i.invariant.first.first x is)
+    grind (arith, common_steps, all_values, c.requires.is_box, c.laws_below.ensures, c.loop-i.invariant.first.first)

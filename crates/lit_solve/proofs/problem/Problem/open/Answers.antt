@@ -1,14 +1,6 @@
-use Rattle.std.proofs.Common.{◌≡◌, ◌<◌, ◌≤◌, ℕ, Some, List, ap, arith, subst, sym, length, length-set, ◌∙◌}
-use Rattle.std.specs.Prelude.{slice_get}
-use Rattle.std.proofs.lemmas.Option.{slice_get_within}
-use Rattle.lit_read.specs.Syntax.{IsLitmus, Litmus}
-use Rattle.lit_paths.specs.declared.event.Event.{Event}
-use Rattle.lit_paths.specs.ByteReads.{byte_reads, IsCandidate}
-use Rattle.lit_paths.specs.Choice.{combinations_of}
-use Rattle.lit_paths.specs.declared.limits.TheConstants.{BYTE_READ_LIMIT}
-use Rattle.lit_paths.specs.Outcome.{names_of}
-use Rattle.lit_paths.specs.Plan.{AreEventsIn}
-use Rattle.lit_rel.specs.Peers.{ArePeers}
+use Rattle.lit_solve.proofs.Words.{◌<◌, ap, AreEventsIn, ArePeers, arith, BYTE_READ_LIMIT, byte_reads, combinations_of, Event, IsCandidate}
+use Rattle.lit_solve.proofs.Words.{IsLitmus, length, length-set, List, Litmus, names_of, slice_get, slice_get_within, Some, subst, sym, ℕ}
+use Rattle.lit_solve.proofs.Words.{◌∙◌, ◌≡◌, ◌≤◌}
 use Rattle.lit_solve.specs.Box.{events_on}
 use Rattle.lit_solve.specs.Out.{IsRefusedOn}
 use Rattle.lit_solve.proofs.CandidateLemmas.{sets_more}

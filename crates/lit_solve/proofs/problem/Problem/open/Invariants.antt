@@ -1,8 +1,5 @@
-use Rattle.std.proofs.Common.{◌≡◌, ◌↔◌, ◌<◌, ℕ, Some, length}
-use Rattle.std.specs.Prelude.{slice_get, slice_index_or}
-use Rattle.lit_paths.specs.declared.limits.TheConstants.{BYTE_READ_LIMIT}
-use Rattle.lit_paths.specs.ByteReads.{byte_reads, IsCandidate}
-use Rattle.lit_rel.specs.EventSet.{HasEvent, no_events}
+use Rattle.lit_solve.proofs.Words.{◌<◌, BYTE_READ_LIMIT, byte_reads, HasEvent, IsCandidate, length, no_events, slice_get, slice_index_or}
+use Rattle.lit_solve.proofs.Words.{Some, ℕ, ◌↔◌, ◌≡◌}
 use Rattle.lit_solve.specs.Box.{events_on}
 use Rattle.lit_solve.specs.Out.{IsRefusedOn}
 use Rattle.lit_solve.proofs.problem.Problem.open.Given as goal

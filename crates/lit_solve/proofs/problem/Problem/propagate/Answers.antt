@@ -1,14 +1,7 @@
-use Rattle.std.proofs.Common.{arith, inl, refl, subst, sym}
+use Rattle.lit_solve.proofs.Words.{inl, refl, subst, sym}
 use Rattle.lit_solve.specs.declared.frame.Frame.{Frame}
 use Rattle.lit_solve.specs.Internal.Frames.{AreCoherentAt, box_of}
 use Rattle.lit_solve.proofs.problem.Problem.propagate.Goals as goal
-
-pub propagating-init : goal.propagating-init
-propagating-init c = record {
-  contained = c.requires;
-  narrows = record { within = record { test = refl; combination = refl; domains = λ k w h. h }; kept = λ x is. is };
-  size = omega arith;
-}
 
 pub returns-in-Same-clause-coherent : goal.returns-in-Same-clause-coherent
 returns-in-Same-clause-coherent c done =

@@ -1,4 +1,4 @@
-use Rattle.std.proofs.Common.{◌≤◌}
+use Rattle.lit_solve.proofs.Words.{◌≤◌}
 use Rattle.lit_solve.specs.Internal.Frames.{IsContained, box_of}
 use Rattle.lit_solve.specs.Internal.Narrowing.{Narrows, size_of}
 use Rattle.lit_solve.proofs.problem.Problem.propagate.Given as goal

@@ -1,6 +1,4 @@
-use Rattle.std.proofs.Common.{◌≡◌, arith, length, ◌∙◌}
-use Rattle.lit_paths.specs.ByteReads.{byte_reads}
-use Rattle.lit_rel.specs.Between.{Forbids}
+use Rattle.lit_solve.proofs.Words.{arith, byte_reads, Forbids, length, ◌∙◌, ◌≡◌}
 use Rattle.lit_solve.specs.Box.{events_on}
 use Rattle.lit_solve.specs.Internal.Frames.{IsForbiddenAt, box_of}
 use Rattle.lit_solve.proofs.FrameLemmas.{forbidden_in, one_more}

@@ -1,5 +1,4 @@
-use Rattle.std.proofs.Common.{◌≡◌, ◌↔◌, ◌<◌, ◌≤◌, ℕ, length}
-use Rattle.lit_rel.specs.Between.{Forbids}
+use Rattle.lit_solve.proofs.Words.{◌<◌, Forbids, length, ℕ, ◌↔◌, ◌≡◌, ◌≤◌}
 use Rattle.lit_solve.specs.Box.{events_on}
 use Rattle.lit_solve.specs.Internal.Frames.{IsForbiddenAt, box_of}
 use Rattle.lit_solve.proofs.problem.Problem.put_between.Given as goal

@@ -1,14 +1,11 @@
-use Rattle.std.proofs.Common.{refl, inr}
-use Rattle.lit_rel.specs.Rows.{Holds}
+use Rattle.lit_solve.proofs.Words.{arith, common_steps}
 use Rattle.lit_solve.specs.Internal.Frames.{box_of}
 use Rattle.lit_solve.proofs.FrameLemmas.{contained_with, not_true, synchronized_apart, synchronized_at, synchronized_before}
 use Rattle.lit_solve.proofs.problem.Problem.put_synchronized.Goals as goal
 
 pub returns-then-not-can_synchronize-clause-there : goal.returns-then-not-can_synchronize-clause-there
 returns-then-not-can_synchronize-clause-there c =
-    synchronized_apart (box_of c.args.self.now c.args.frame.now) (Holds c.args.frame.now.happens_before.rows) c.args.place
-    c.byte_read-read.result.read c.byte_read-read.result.byte c.in-Some.source c.byte_read-read.ensures.at c.in-Some.ensures.0
-    (λ can. not_true c.can_synchronize.result c.if-not-can_synchronize.true (c.can_synchronize.ensures.1 can))
+    grind (arith, common_steps, not_true, synchronized_apart, c.byte_read-read.ensures.at, c.can_synchronize.ensures)
 
 pub returns-then-not-holds-clause-contained : goal.returns-then-not-holds-clause-contained
 returns-then-not-holds-clause-contained c =
@@ -25,12 +22,7 @@ returns-then-not-holds-clause-contained c =
 
 pub returns-then-not-holds-clause-there : goal.returns-then-not-holds-clause-there
 returns-then-not-holds-clause-there c =
-    synchronized_at (box_of c.args.self.now c.args.frame.now) (Holds c.close_with.new.self.rows) c.args.place c.byte_read-read.result.read
-    c.byte_read-read.result.byte c.in-Some.source c.byte_read-read.ensures.at c.in-Some.ensures.0
-    ((c.close_with.ensures.pairs c.in-Some.source c.byte_read-read.result.read).1 (inr (inr refl, inr refl)))
+    grind (arith, common_steps, synchronized_at, c.byte_read-read.ensures.at, c.close_with.ensures.pairs)
 
 pub returns-else-not-holds-clause-there : goal.returns-else-not-holds-clause-there
-returns-else-not-holds-clause-there c =
-    synchronized_at (box_of c.args.self.now c.args.frame.now) (Holds c.args.frame.now.happens_before.rows) c.args.place c.byte_read-read.result.read
-    c.byte_read-read.result.byte c.in-Some.source c.byte_read-read.ensures.at c.in-Some.ensures.0
-    (c.holds.ensures.0 c.if-not-holds.false)
+returns-else-not-holds-clause-there c = grind (arith, common_steps, synchronized_at, c.byte_read-read.ensures.at, c.holds.ensures)

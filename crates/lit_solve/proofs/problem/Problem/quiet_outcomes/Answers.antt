@@ -1,17 +1,14 @@
-use Rattle.std.proofs.Common.{ℕ, None, subst, sym, ◌∙◌}
-use Rattle.std.proofs.lemmas.Bool.{false≢true}
-use Rattle.lit_read.specs.Syntax.{Litmus}
-use Rattle.lit_rel.specs.Broken.{HasFalseTestOn}
+use Rattle.lit_solve.proofs.Words.{false≢true, sym, ◌∙◌}
 use Rattle.lit_solve.specs.Internal.Frames.{box_of}
 use Rattle.lit_solve.proofs.LeafLemmas.{coherent_sources, fills_each, has_order, no_cycle, no_false_unwritten}
 use Rattle.lit_solve.proofs.problem.Problem.quiet_outcomes.Goals as goal
 
-pub returns-then-has_false_test-clause-whole : goal.returns-then-has_false_test-clause-whole
-returns-then-has_false_test-clause-whole g c x is =
+pub returns-then-has_false_unwritten-clause-whole : goal.returns-then-has_false_unwritten-clause-whole
+returns-then-has_false_unwritten-clause-whole g c x is =
     let box = box_of c.args.self.now c.args.frame.now in
     absurd (no_false_unwritten box c.args.frame.now c.requires.settled c.requires.quiet (c.quiet_boxes_are_filled_read_by_read.ensures box)
     (x, record { completes = is; meets = tt })
-    (subst (λ (p : Litmus × ℕ). HasFalseTestOn p.0 p.1 None 0) c.self.view_is (c.has_false_test.ensures.value.0 c.if-has_false_test.true)))
+    (c.has_false_unwritten.ensures.0 c.if-has_false_unwritten.true))
 
 pub returns-then-not-can_fill_each-clause-whole : goal.returns-then-not-can_fill_each-clause-whole
 returns-then-not-can_fill_each-clause-whole g c x is =
@@ -39,9 +36,7 @@ independent_outcomes-requires-clause-independent g c =
       quiet = c.requires.quiet;
       coherent = coherent_sources box c.args.frame.now settled;
       calm = no_cycle box c.args.frame.now settled;
-      unwritten = λ bad.
-          false≢true (sym c.if-has_false_test.false
-          ∙ c.has_false_test.ensures.value.1 (subst (λ (p : Litmus × ℕ). HasFalseTestOn p.0 p.1 None 0) (sym c.self.view_is) bad));
+      unwritten = λ bad. false≢true (sym c.if-has_false_unwritten.false ∙ c.has_false_unwritten.ensures.1 bad);
       ordered = (c.in-Some.order.items, c.in-Some.ensures.found.is_order);
       filled = record { sources = filled.0; lie = filled.1; each = filled.2 };
     }

@@ -1,9 +1,5 @@
-use Rattle.std.proofs.Common.{◌≡◌, ℕ, ◌+◌, ◌<◌, Option, None, length, ap, sym, subst, ap₂, ◌∙◌, arith}
-use Rattle.std.specs.Prelude.{IsTrue, slice_index_or}
-use Rattle.lit_read.specs.Syntax.{Litmus}
-use Rattle.lit_paths.specs.Event.{does_read, event_at}
-use Rattle.lit_paths.specs.Plan.{first_event}
-use Rattle.lit_rel.specs.Broken.{number_on}
+use Rattle.lit_solve.proofs.Words.{◌+◌, ◌<◌, ap, ap₂, arith, does_read, event_at, first_event, IsTrue, length, Litmus, None, number_on}
+use Rattle.lit_solve.proofs.Words.{Option, slice_index_or, subst, sym, ℕ, ◌∙◌, ◌≡◌}
 use Rattle.lit_solve.specs.Box.{events_on}
 use Rattle.lit_solve.proofs.RegisterLemmas.{held_reads, none_beyond, none_without_agent}
 use Rattle.lit_solve.proofs.problem.Problem.read_held.Goals.{then-agent-agents-via-then-agent-agents, then-agent-agents-via-else-agent-agents+then-from-ge-REGISTERS}

@@ -1,12 +1,5 @@
-use Rattle.std.proofs.Common.{◌≡◌, ◌+◌, ◌^◌, ◌<◌, ◌≤◌, ℕ, inl, inr, Bool, List, Some, length, ap, sym, subst, ◌∙◌, arith}
-use Rattle.std.specs.Prelude.{slice_get}
-use Rattle.std.proofs.lemmas.Bool.{cases_lt, false≢true}
-use Rattle.lit_read.specs.Syntax.{Litmus}
-use Rattle.lit_paths.specs.declared.byte_reads.ByteRead.{ByteRead}
-use Rattle.lit_paths.specs.declared.event.Event.{Event}
-use Rattle.lit_paths.specs.ByteReads.{byte_reads, pair_of}
-use Rattle.lit_paths.specs.Event.{event_at}
-use Rattle.lit_paths.specs.Plan.{AreEventsIn}
+use Rattle.lit_solve.proofs.Words.{◌+◌, ◌<◌, ◌^◌, ap, arith, Bool, byte_reads, ByteRead, cases_lt, common_steps, Event, event_at}
+use Rattle.lit_solve.proofs.Words.{false≢true, inl, inr, List, pair_of, slice_get, Some, subst, sym, ℕ, ◌∙◌, ◌≡◌, ◌≤◌}
 use Rattle.lit_solve.specs.declared.deciding.Decided.{Decided}
 use Rattle.lit_solve.specs.declared.deciding.Decided.TheVariants.{Comes}
 use Rattle.lit_solve.specs.Internal.Deciding.{IsByteDecided, IsUndecidedAt}
@@ -15,14 +8,9 @@ use Rattle.lit_solve.proofs.DecidingLemmas.{IsDecidedBelow, byte_at, decided_all
 use Rattle.lit_solve.proofs.problem.Problem.read_is.Goals.{then-from-read+in-Comes-true, then-from-read+in-Hangs, else-from-read}
 use Rattle.lit_solve.proofs.problem.Problem.read_is.Goals as goal
 
--- a problem has the events of the combination that it keeps
-sound_on : {q p : Litmus × ℕ} → q ≡ p → AreEventsIn q.0.bytes (events_on q) → AreEventsIn p.0.bytes (events_on p)
-sound_on is sound = subst (λ (q : Litmus × ℕ). AreEventsIn q.0.bytes (events_on q)) is sound
-
--- and an event that was found among these
-event_on : {q p : Litmus × ℕ} {events : List Event} {e : Event} (read : ℕ) → e ≡ event_at events read → events ≡ events_on q → q ≡ p
-    → e ≡ event_at (events_on p) read
-event_on read found value is = found ∙ ap (λ (es : List Event). event_at es read) (value ∙ ap events_on is)
+-- an event that was found among these
+event_on : {events others : List Event} {e : Event} (read : ℕ) → e ≡ event_at events read → events ≡ others → e ≡ event_at others read
+event_on read found is = found ∙ ap (λ (es : List Event). event_at es read) is
 
 -- a byte read that is of a read
 byte_of : (events : List Event) (place read : ℕ) (at : ByteRead) → slice_get (byte_reads events) place ≡ Some (pair_of at) → at.read ≡ read
@@ -39,18 +27,18 @@ pub returns-then-not-fits : goal.returns-then-not-fits
 returns-then-not-fits c =
     let p = c.args.self.now in
     let size = (event_at (events_on p) c.args.read).size in
-    let event_is = event_on c.args.read c.event_at-event.ensures c.events.ensures.value c.self.view_is in
+    let event_is = event_on c.args.read c.event_at-event.ensures c.events.ensures.value in
     let large : 256 ^ size ≤ c.args.value = elim (cases_lt c.args.value (256 ^ size)) [
       | inl below ↦
           absurd (false≢true (sym c.if-not-fits.true ∙ c.fits.ensures.1 (subst (λ (e : Event). c.args.value < 256 ^ e.size) (sym event_is) below)))
       | inr above ↦ above
     ] in
-    too_large (box_with p c.args.domains.now) c.args.read c.args.value (sound_on c.self.view_is c.self.invariant.sound) c.requires.known c.requires.reads large
+    too_large (box_with p c.args.domains.now) c.args.read c.args.value c.events.ensures.sound c.requires.known c.requires.reads large
 
 pub overflow_sub-at : goal.overflow_sub-at
 overflow_sub-at c =
     let events = events_on c.args.self.now in
-    let event_is = event_on c.args.read c.event_at-event.ensures c.events.ensures.value c.self.view_is in
+    let event_is = event_on c.args.read c.event_at-event.ensures c.events.ensures.value in
     let at = c.byte_read-at.result in
     let here = byte_of events c.loop-place.place c.args.read at c.byte_read-at.ensures.at (sym c.from.ensures ∙ c.if-from-read.true) in
     let range = (c.laws_below.ensures.of_events events).in_range c.loop-place.place c.args.read at.byte here in
@@ -59,12 +47,12 @@ overflow_sub-at c =
 pub bounds-bytes-from : goal.bounds-bytes-from
 bounds-bytes-from c =
     let events = events_on c.args.self.now in
-    let event_is = event_on c.args.read c.event_at-event.ensures c.events.ensures.value c.self.view_is in
+    let event_is = event_on c.args.read c.event_at-event.ensures c.events.ensures.value in
     let at = c.byte_read-at.result in
     let here = byte_of events c.loop-place.place c.args.read at c.byte_read-at.ensures.at (sym c.from.ensures ∙ c.if-from-read.true) in
     let range = (c.laws_below.ensures.of_events events).in_range c.loop-place.place c.args.read at.byte here in
     let first = ap (λ (e : Event). e.first) event_is in
-    elim ((sound_on c.self.view_is c.self.invariant.sound).sized c.args.read c.requires.known) [
+    elim (c.events.ensures.sound.sized c.args.read c.requires.known) [
       | inl one ↦ omega (arith, one, range.1, first, c.from-then-from-read.ensures)
       | inr more ↦ elim more [
         | inl two ↦ omega (arith, two, range.1, first, c.from-then-from-read.ensures)
@@ -76,23 +64,23 @@ pub returns-in-Comes-false : goal.returns-in-Comes-false
 returns-in-Comes-false c =
     let p = c.args.self.now in
     let box = box_with p c.args.domains.now in
-    let event_is = event_on c.args.read c.event_at-event.ensures c.events.ensures.value c.self.view_is in
+    let event_is = event_on c.args.read c.event_at-event.ensures c.events.ensures.value in
     let at = c.byte_read-at.result in
     let here = byte_of (events_on p) c.loop-place.place c.args.read at c.byte_read-at.ensures.at (sym c.from.ensures ∙ c.if-from-read.true) in
     let byte = byte_at c.args.value c.to_le_bytes-bytes.result c.from-then-from-read.result at.byte (event_at (events_on p) c.args.read).first
     c.event_at-event.result.now.first c.to_le_bytes-bytes.ensures c.from-then-from-read.ensures (ap (λ (e : Event). e.first) event_is) in
     let comes = c.in-Comes-false.is ∙ ap (λ (b : Bool). Comes b) c.in-Comes-false.field-0-test in
-    other_byte box c.args.read c.args.value (sound_on c.self.view_is c.self.invariant.sound) c.requires.known c.requires.reads c.loop-place.place at.byte here
+    other_byte box c.args.read c.args.value c.events.ensures.sound c.requires.known c.requires.reads c.loop-place.place at.byte here
     (decided_on box c.loop-place.place byte comes c.byte_is.ensures)
 
 pub loop-place-preserved : goal.loop-place-preserved
 loop-place-preserved c =
     let p = c.args.self.now in
     let box = box_with p c.args.domains.now in
-    let event_is = event_on c.args.read c.event_at-event.ensures c.events.ensures.value c.self.view_is in
+    let event_is = event_on c.args.read c.event_at-event.ensures c.events.ensures.value in
     let at = c.byte_read-at.result in
     let place = c.loop-place.place in
-    let next = decided_next box c.args.read c.args.value (sound_on c.self.view_is c.self.invariant.sound) c.requires.known c.requires.reads place (pair_of at)
+    let next = decided_next box c.args.read c.args.value c.events.ensures.sound c.requires.known c.requires.reads place (pair_of at)
     c.loop-place.decided c.byte_read-at.ensures.at in
     elim c.if-from-read.branch [
       | then-from-read+in-Comes-true w ↦
@@ -110,11 +98,4 @@ loop-place-preserved c =
     ]
 
 pub returns : goal.returns
-returns c =
-    let p = c.args.self.now in
-    let box = box_with p c.args.domains.now in
-    let event_is = event_on c.args.read c.event_at-event.ensures c.events.ensures.value c.self.view_is in
-    let fits = subst (λ (e : Event). c.args.value < 256 ^ e.size) event_is (c.fits.ensures.0 c.if-not-fits.false) in
-    let end : c.loop-place.place ≡ length (byte_reads (events_on p)) = omega (arith, c.loop-place-test.false, c.reads-place-end.ensures.value) in
-    decided_all box c.args.read c.args.value (sound_on c.self.view_is c.self.invariant.sound) c.requires.known c.requires.reads fits c.loop-place.decided
-    (subst (λ (n : ℕ). IsDecidedBelow box c.args.read c.args.value n c.loop-place.decided) end c.loop-place.invariant)
+returns c = grind (arith, common_steps, decided_all, event_on)

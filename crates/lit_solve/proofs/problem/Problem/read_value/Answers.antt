@@ -1,8 +1,4 @@
-use Rattle.std.proofs.Common.{ℕ, ◌≤◌, arith, inl, inr, subst, refl}
-use Rattle.std.proofs.lemmas.Bool.{false≢true}
-use Rattle.lit_read.specs.Syntax.{Litmus}
-use Rattle.lit_paths.specs.Event.{event_at}
-use Rattle.lit_paths.specs.Plan.{AreEventsIn}
+use Rattle.lit_solve.proofs.Words.{arith, event_at, false≢true, inl, inr, refl, ◌≤◌}
 use Rattle.lit_solve.specs.Box.{box_with, events_on}
 use Rattle.lit_solve.proofs.NarrowingLemmas.{source_known}
 use Rattle.lit_solve.proofs.ObservationLemmas.{composed_first, composed_last, composed_next}
@@ -15,8 +11,7 @@ bytes-init c =
     let box = box_with c.args.self.now c.args.domains.now in
     let none = c.nothing-taken.result in
     let first = c.first_place-place in
-    let sound = subst (λ (p : Litmus × ℕ). AreEventsIn p.0.bytes (events_on p)) c.self.view_is c.self.invariant.sound in
-    let size : (event_at events c.args.read).size ≤ 4 = elim (sound.sized c.args.read c.requires.read) [
+    let size : (event_at events c.args.read).size ≤ 4 = elim (c.events-events.ensures.sound.sized c.args.read c.requires.read) [
       | inl one ↦ omega (arith, one)
       | inr more ↦ elim more [ inl two ↦ omega (arith, two) | inr four ↦ omega (arith, four) ]
     ] in

@@ -1,5 +1,4 @@
-use Rattle.std.proofs.Common.{◌-◌, length}
-use Rattle.lit_paths.specs.ByteReads.{byte_reads}
+use Rattle.lit_solve.proofs.Words.{◌-◌, byte_reads, length}
 use Rattle.lit_solve.specs.Box.{box_with, events_on}
 use Rattle.lit_solve.specs.Internal.Filling.{HasRoom}
 use Rattle.lit_solve.proofs.ObservationLemmas.{IsComposedOn}

@@ -1,13 +1,10 @@
-use Rattle.std.proofs.Common.{sym, ◌∙◌}
+use Rattle.lit_solve.proofs.Words.{arith, common_steps, sym, ◌∙◌}
 use Rattle.lit_solve.specs.Box.{box_with}
 use Rattle.lit_solve.proofs.RegisterLemmas.{decided_by_read, decided_unwritten}
 use Rattle.lit_solve.proofs.problem.Problem.register_is.Goals as goal
 
 pub returns-in-Some : goal.returns-in-Some
-returns-in-Some c =
-    decided_by_read c.laws_below.ensures (box_with c.args.self.now c.args.domains.now) c.requires c.args.agent c.args.reg c.args.value c.in-Some.read
-    c.read_is.result
-    (sym c.read_held.ensures.value ∙ c.in-Some.is) c.read_is.ensures
+returns-in-Some c = grind (arith, common_steps, decided_by_read, c.laws_below.ensures, c.requires)
 
 pub returns-in-None : goal.returns-in-None
 returns-in-None c =

@@ -1,20 +1,16 @@
-use Rattle.std.proofs.Common.{ℕ, None, List, inl, inr, subst, sym}
-use Rattle.lit_read.specs.Syntax.{Litmus}
-use Rattle.lit_rel.specs.Broken.{HasFalseTestOn}
-use Rattle.lit_rel.specs.declared.event_set.EventSet.{EventSet}
+use Rattle.lit_solve.proofs.Words.{arith, common_steps, EventSet, inl, inr, List, subst, sym}
 use Rattle.lit_solve.specs.Box.{box_with}
 use Rattle.lit_solve.specs.Completion.{IsCompletion}
 use Rattle.lit_solve.specs.Internal.Frames.{box_of}
-use Rattle.lit_solve.specs.Internal.Narrowing.{Narrows}
 use Rattle.lit_solve.proofs.DomainLemmas.{narrows_on}
 use Rattle.lit_solve.proofs.FrameLemmas.{not_true}
 use Rattle.lit_solve.proofs.problem.Problem.settle.Goals as goal
 use Rattle.lit_solve.proofs.problem.Problem.settle.Goals.{else-propagate-via-then-propagate+else-can_fill_each, else-propagate-via-else-propagate}
 
-pub returns-then-has_false_test-clause-none : goal.returns-then-has_false_test-clause-none
-returns-then-has_false_test-clause-none c x is =
-    let unwritten = subst (λ (p : Litmus × ℕ). HasFalseTestOn p.0 p.1 None 0) c.self.view_is (c.has_false_test.ensures.value.0 c.if-has_false_test.true) in
-    c.refuted_boxes_have_no_completion.ensures (box_with c.args.self.now c.args.domains.now) x c.requires (inr (inr (inr (inl unwritten)))) is
+pub returns-then-has_false_unwritten-clause-none : goal.returns-then-has_false_unwritten-clause-none
+returns-then-has_false_unwritten-clause-none c x is =
+    c.refuted_boxes_have_no_completion.ensures (box_with c.args.self.now c.args.domains.now) x c.requires (inr (inr (inr (inl
+    (c.has_false_unwritten.ensures.0 c.if-has_false_unwritten.true))))) is
 
 pub returns-then-has_empty-clause-none : goal.returns-then-has_empty-clause-none
 returns-then-has_empty-clause-none c x is =
@@ -36,12 +32,7 @@ returns-then-can_fill_each-clause-settled c = record {
 }
 
 pub returns-then-can_fill_each-clause-narrows : goal.returns-then-can_fill_each-clause-narrows
-returns-then-can_fill_each-clause-narrows c =
-    let first = box_with c.args.self.now c.args.domains.now in
-    let opened = box_of c.args.self.now c.unsettled-frame.result in
-    let Leads : List EventSet → Type 0 = λ domains. Narrows first (box_with c.args.self.now domains) in
-    let begun : Narrows first opened = subst Leads (sym c.unsettled-frame.ensures.domains) c.consistent-domains.ensures.narrows in
-    narrows_on first opened (box_of c.args.self.now c.propagate.new.frame) begun (c.propagate.ensures.narrows c.if-propagate.true)
+returns-then-can_fill_each-clause-narrows c = grind (arith, common_steps, narrows_on, c.propagate.ensures.narrows)
 
 -- a completion of the box would fill each read
 pub returns-else-propagate-clause-none : goal.returns-else-propagate-clause-none

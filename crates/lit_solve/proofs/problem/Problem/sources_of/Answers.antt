@@ -1,6 +1,4 @@
-use Rattle.std.proofs.Common.{◌≡◌, ℕ, ◌<◌, ◌≤◌, List, [], ◌∷◌, ◌++◌, ap, arith, length, length-append, subst, sym, ◌∙◌}
-use Rattle.lit_read.specs.Syntax.{Litmus}
-use Rattle.lit_paths.specs.declared.limits.TheConstants.{EVENT_LIMIT}
+use Rattle.lit_solve.proofs.Words.{◌++◌, ◌<◌, [], ap, arith, length, length-append, List, subst, sym, ℕ, ◌∙◌, ◌∷◌, ◌≡◌}
 use Rattle.lit_solve.specs.Box.{Box, HasSource, LiesIn, box_with, events_on}
 use Rattle.lit_solve.proofs.LeastLemmas.{lies_more}
 use Rattle.lit_solve.proofs.NarrowingLemmas.{source_known}
@@ -9,12 +7,10 @@ use Rattle.lit_solve.proofs.problem.Problem.sources_of.Goals.{in-Some, in_defaul
 
 pub overflow_cast-source : goal.overflow_cast-source
 overflow_cast-source c =
-    let few : length (events_on c.args.self.now) ≤ EVENT_LIMIT = subst (λ (p : Litmus × ℕ). length (events_on p) ≤ EVENT_LIMIT) c.self.view_is
-    c.self.invariant.sound.few in
     let known : c.in-Some.source < length (events_on c.args.self.now) =
     source_known (box_with c.args.self.now c.args.domains.now) c.requires.is_box c.loop-place.place c.in-Some.source
     (omega (arith, c.loop-place-test.true, c.reads-place-end.ensures.value)) c.in-Some.ensures.0 in
-    omega (arith, few, known)
+    omega arith
 
 pub loop-place-preserved : goal.loop-place-preserved
 loop-place-preserved c =

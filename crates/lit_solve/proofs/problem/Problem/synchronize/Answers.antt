@@ -1,6 +1,4 @@
-use Rattle.std.proofs.Common.{◌≡◌, ◌⊎◌, inl, inr, ℕ, ◌<◌, List, ◌∙◌, arith, ap, sym, subst}
-use Rattle.lit_rel.specs.declared.event_set.EventSet.{EventSet}
-use Rattle.lit_rel.specs.Rows.{Holds}
+use Rattle.lit_solve.proofs.Words.{◌<◌, ap, arith, EventSet, Holds, inl, inr, List, subst, sym, ℕ, ◌∙◌, ◌≡◌, ◌⊎◌}
 use Rattle.lit_solve.specs.Box.{Box}
 use Rattle.lit_solve.specs.Internal.Frames.{IsSynchronizedAt, box_of}
 use Rattle.lit_solve.proofs.FrameLemmas.{before_exact, below_or_last, synchronized_kept}

@@ -1,5 +1,4 @@
-use Rattle.std.proofs.Common.{◌≡◌, ◌<◌, ℕ}
-use Rattle.lit_rel.specs.Rows.{Holds}
+use Rattle.lit_solve.proofs.Words.{◌<◌, Holds, ℕ, ◌≡◌}
 use Rattle.lit_solve.specs.Internal.Frames.{IsContained, IsSynchronizedAt, box_of}
 use Rattle.lit_solve.proofs.problem.Problem.synchronize.Given as goal
 

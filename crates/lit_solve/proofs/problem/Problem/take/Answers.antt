@@ -1,19 +1,8 @@
-use Rattle.lit_paths.specs.ByteReads.{byte_read_at}
+use Rattle.lit_solve.proofs.Words.{byte_read_at}
 use Rattle.lit_rel.proofs.SourceLemmas.{read_known}
 use Rattle.lit_solve.specs.Box.{events_on}
 use Rattle.lit_solve.proofs.ReadByteLemmas.{read_there}
 use Rattle.lit_solve.proofs.problem.Problem.take.Goals as goal
-
-pub returns : goal.returns
-returns c =
-    let room = c.with_byte-next.ensures.room in
-    record {
-      free = c.in-Some.ensures.0;
-      whole = c.in-Some.ensures.1;
-      value = c.with_byte-next.ensures.value;
-      bytes = c.with_byte-next.ensures.bytes;
-      room = record { place = room.place; later = room.later; composed = room.composed; few = room.few };
-    }
 
 pub whole_with-requires-clause-read : goal.whole_with-requires-clause-read
 whole_with-requires-clause-read c =

@@ -1,14 +1,11 @@
-use Rattle.std.proofs.Common.{◌≡◌, ◌↔◌, ℕ, List, [], ap, length, subst, ◌∙◌}
-use Rattle.lit_paths.specs.declared.event.Event.{Event}
-use Rattle.lit_rel.specs.HappensBefore.{HappensBefore}
-use Rattle.lit_rel.specs.Rows.{Holds, rows_len}
-use Rattle.lit_solve.specs.Box.{box_with, events_on}
+use Rattle.lit_solve.proofs.Words.{[], Event, HappensBefore, Holds, length, List, rows_len, subst, ℕ, ◌↔◌, ◌≡◌}
+use Rattle.lit_solve.specs.Box.{box_with}
 use Rattle.lit_solve.proofs.OpeningLemmas.{unsourced_contained}
 use Rattle.lit_solve.proofs.problem.Problem.unsettled.Goals as goal
 
 pub returns-clause-contained : goal.returns-clause-contained
 returns-clause-contained c =
-    let same : c.events.result.now ≡ events_on c.args.self.now = c.events.ensures.value ∙ ap events_on c.self.view_is in
+    let same = c.events.ensures.value in
     let rows = c.unsourced_order-before.result.rows in
     unsourced_contained (box_with c.args.self.now c.args.domains.now) c.unsourced_order-before.result
     (subst (λ (es : List Event). rows_len rows ≡ length es) same c.unsourced_order-before.ensures.len)

@@ -1,13 +1,10 @@
-use Rattle.std.proofs.Common.{◌≡◌, ◌<◌, ℕ, inl, inr, ap, arith, sym, subst, ◌∙◌}
+use Rattle.lit_solve.proofs.Words.{◌<◌, ap, arith, byte_read_at, byte_reads, EventSet, HasEvent, inl, inr, ReadsWholeBy, subst, sym, ℕ, ◌∙◌}
+use Rattle.lit_solve.proofs.Words.{◌≡◌}
 use Rattle.std.specs.Prelude.{length}
-use Rattle.lit_paths.specs.ByteReads.{byte_read_at, byte_reads}
-use Rattle.lit_rel.specs.declared.event_set.EventSet.{EventSet}
-use Rattle.lit_rel.specs.EventSet.{HasEvent}
-use Rattle.lit_rel.specs.TearFree.{ReadsWholeBy}
 use Rattle.lit_solve.specs.Given.{GivenIn}
 use Rattle.lit_solve.specs.Box.{events_on}
 use Rattle.lit_solve.specs.Internal.Frames.{box_of}
-use Rattle.lit_solve.proofs.NarrowingLemmas.{read_here, read_there}
+use Rattle.lit_solve.proofs.NarrowingLemmas.{read_here}
 use Rattle.lit_solve.proofs.problem.Problem.whole_sources.Goals as goal
 use Rattle.lit_solve.proofs.problem.Problem.whole_sources.Goals.{then-byte_read-read, else-byte_read-read}
 
@@ -20,9 +17,9 @@ loop-other-preserved c u here =
     elim c.if-byte_read-read.branch [
       | then-byte_read-read w ↦
           let of_read : (byte_read_at events other).0 ≡ read =
-          sym (ap (λ (p : ℕ × ℕ). p.0) (read_there events other c.byte_read.result c.byte_read.ensures.at))
+          sym (ap (λ (p : ℕ × ℕ). p.0) c.byte_read.ensures.is)
           ∙ w.if-byte_read-read.true
-          ∙ ap (λ (p : ℕ × ℕ). p.0) (read_there events c.args.place c.byte_read-read.result c.byte_read-read.ensures.at) in
+          ∙ ap (λ (p : ℕ × ℕ). p.0) c.byte_read-read.ensures.is in
           let inside : other < length (byte_reads events) = omega arith in
           let there : HasEvent w.union-whole.result u = subst (λ (set : EventSet). HasEvent set u) w.whole-is here in
           elim ((w.union-whole.ensures u).0 there) [

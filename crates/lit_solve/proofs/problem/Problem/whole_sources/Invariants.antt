@@ -1,7 +1,4 @@
-use Rattle.std.proofs.Common.{ℕ}
-use Rattle.lit_paths.specs.ByteReads.{byte_read_at}
-use Rattle.lit_rel.specs.EventSet.{HasEvent}
-use Rattle.lit_rel.specs.TearFree.{ReadsWholeBy}
+use Rattle.lit_solve.proofs.Words.{byte_read_at, HasEvent, ReadsWholeBy, ℕ}
 use Rattle.lit_solve.specs.Given.{GivenIn}
 use Rattle.lit_solve.specs.Box.{events_on}
 use Rattle.lit_solve.specs.Internal.Frames.{box_of}

@@ -1,8 +1,5 @@
-use Rattle.std.proofs.Common.{arith, ap, ◌∙◌, ◌≡◌, refl, ℕ, ◌+◌, ◌*◌, ◌^◌, ◌<◌, ◌≤◌, List, Some, length}
-use Rattle.std.specs.Prelude.{slice_get}
-use Rattle.lit_paths.specs.declared.event.Event.{Event}
-use Rattle.lit_paths.specs.ByteReads.{byte_read_at, byte_reads}
-use Rattle.lit_paths.specs.Event.{event_at, payload_at}
+use Rattle.lit_solve.proofs.Words.{◌*◌, ◌+◌, ◌<◌, ◌^◌, ap, arith, byte_read_at, byte_reads, common_steps, Event, length, List, slice_get}
+use Rattle.lit_solve.proofs.Words.{Some, ℕ, ◌∙◌, ◌≡◌, ◌≤◌}
 use Rattle.lit_solve.specs.declared.filling.Taken.{Taken}
 use Rattle.lit_solve.specs.Box.{events_on}
 use Rattle.lit_solve.specs.Internal.Filling.{HasRoom}
@@ -41,13 +38,4 @@ returns-clause-value c =
     ∙ ap (λ (n : ℕ). c.args.taken.value + 256 ^ c.args.taken.bytes * n) (c.from.ensures ∙ c.stored.ensures)
 
 pub returns-clause-room : goal.returns-clause-room
-returns-clause-room c =
-    let events = events_on c.args.self.now in
-    let read = byte_read_at events c.args.place in
-    let stored = payload_at (event_at events c.args.source) read.1 in
-    let value : c.args.taken.value + c.pow-unit.result * c.from.result ≡ c.args.taken.value + 256 ^ c.args.taken.bytes * stored =
-    ap (λ (n : ℕ). c.args.taken.value + n * c.from.result) c.pow-unit.ensures
-    ∙ ap (λ (n : ℕ). c.args.taken.value + 256 ^ c.args.taken.bytes * n) (c.from.ensures ∙ c.stored.ensures) in
-    let small : stored < 256 = omega (arith, c.stored.ensures, c.stored.type_inv) in
-    let there = here events c.args._read c.args.place c.args.taken c.requires.place c.requires.read c.requires.room in
-    room_on events c.args._read c.args.place read.1 there c.args.taken c.requires.room _ stored small value refl
+returns-clause-room c = grind (arith, common_steps, here, room_on, c.requires.place, c.requires.read, c.requires.room)

@@ -1,11 +1,6 @@
-use Rattle.std.proofs.Common.{◌≡◌, ◌≤◌, inl, inr, ℕ, Some, arith, length, sym, subst, ◌∙◌}
-use Rattle.std.specs.Prelude.{slice_get}
-use Rattle.lit_read.specs.Syntax.{Litmus}
-use Rattle.lit_paths.specs.declared.limits.TheConstants.{EVENT_LIMIT}
-use Rattle.lit_paths.specs.Execution.{Execution}
-use Rattle.lit_rel.specs.EventSet.{HasEvent}
+use Rattle.lit_solve.proofs.Words.{arith, Execution, HasEvent, slice_get, Some, sym, ℕ, ◌∙◌, ◌≡◌}
 use Rattle.lit_rel.proofs.SetLemmas.{split_less}
-use Rattle.lit_solve.specs.Box.{Box, events_on}
+use Rattle.lit_solve.specs.Box.{Box}
 use Rattle.lit_solve.specs.Completion.{IsSolution}
 use Rattle.lit_solve.specs.Given.{HasAlone}
 use Rattle.lit_solve.specs.Internal.Frames.{box_of}
@@ -16,19 +11,17 @@ use Rattle.lit_solve.proofs.SearchingLemmas.{solution_in, takes_some}
 use Rattle.lit_solve.proofs.problem.Problem.with_least.Goals as goal
 use Rattle.lit_solve.proofs.problem.Problem.with_least.Goals.{else-cut-via-then-cut+else-is_promising, else-cut-via-else-cut}
 
-pub with-requires : goal.with-requires
-with-requires c =
-    let few : length (events_on c.args.self.now) ≤ EVENT_LIMIT = subst (λ (p : Litmus × ℕ). length (events_on p) ≤ EVENT_LIMIT) c.self.view_is
-    c.self.invariant.sound.few in
+pub set_of-requires : goal.set_of-requires
+set_of-requires c =
     let known = source_known (box_of c.args.self.now c.args.frame.now) c.requires.settled.exact.contained.is_box c.args.place c.in-Some.source
     c.requires.place (c.loop-source.invariant.within c.in-Some.source c.in-Some.ensures.there) in
-    omega (arith, few, known)
+    omega arith
 
 pub returns-then-is_promising-clause-alone : goal.returns-then-is_promising-clause-alone
 returns-then-is_promising-clause-alone c = (
   c.in-Some.source,
-  cut_alone (box_of c.args.self.now c.args.frame.now) (box_of c.args.self.now c.cut.new.frame) c.args.place c.in-Some.source c.with.result
-      (λ w h. elim ((c.with.ensures w).0 h) [ inl none ↦ absurd (c.new.ensures.empty w none) | inr same ↦ same ]) (c.cut.ensures.cut c.if-cut.true)
+  cut_alone (box_of c.args.self.now c.args.frame.now) (box_of c.args.self.now c.cut.new.frame) c.args.place c.in-Some.source c.set_of.result
+      (λ w. (c.set_of.ensures w).0) (c.cut.ensures.cut c.if-cut.true)
       c.requires.place (c.cut.ensures.settled c.if-cut.true).exact.contained.some,
 )
 
@@ -36,13 +29,13 @@ pub returns-then-is_promising-clause-lowest : goal.returns-then-is_promising-cla
 returns-then-is_promising-clause-lowest c =
     let old : Box = box_of c.args.self.now c.args.frame.now in
     let new : Box = box_of c.args.self.now c.cut.new.frame in
-    let one : (w : ℕ) → HasEvent c.with.result w
-    → w ≡ c.in-Some.source = λ w h. elim ((c.with.ensures w).0 h) [ inl none ↦ absurd (c.new.ensures.empty w none) | inr same ↦ same ] in
-    let alone : HasAlone new c.args.place c.in-Some.source = cut_alone old new c.args.place c.in-Some.source c.with.result one
+    let alone : HasAlone new c.args.place c.in-Some.source = cut_alone old new c.args.place c.in-Some.source c.set_of.result (λ w.
+    (c.set_of.ensures w).0)
     (c.cut.ensures.cut c.if-cut.true) c.requires.place (c.cut.ensures.settled c.if-cut.true).exact.contained.some in
-    lowest_at old new c.args.goal c.args.place c.requires.place c.loop-source.left c.in-Some.others c.with.result c.in-Some.source c.in-Some.ensures
+    lowest_at old new c.args.goal c.args.place c.requires.place c.loop-source.left c.in-Some.others c.set_of.result c.in-Some.source
+    c.in-Some.ensures
     c.loop-source.invariant.taken
-    (λ w. (one w, λ same. (c.with.ensures w).1 (inr same))) (c.cut.ensures.cut c.if-cut.true) alone
+    c.set_of.ensures (c.cut.ensures.cut c.if-cut.true) alone
 
 pub loop-source-smaller : goal.loop-source-smaller
 loop-source-smaller c = split_less c.loop-source.left c.in-Some.source c.in-Some.others c.in-Some.ensures
@@ -53,20 +46,17 @@ loop-source-preserved c = record {
   taken = λ x is w at. (c.in-Some.ensures.rest w).1 (c.loop-source.invariant.taken x is w at, λ same. in_vain x is w at same);
 }
   where
-    one : (w : ℕ) → HasEvent c.with.result w → w ≡ c.in-Some.source
-    one w h = elim ((c.with.ensures w).0 h) [ inl none ↦ absurd (c.new.ensures.empty w none) | inr same ↦ same ]
-
     in_vain : (x : Execution) → IsSolution (box_of c.args.self.now c.args.frame.now) c.args.goal x → (w : ℕ)
         → slice_get x.sources c.args.place ≡ Some w → w ≡ c.in-Some.source → ⊥
     in_vain x is w at same =
-        let takes : (v : ℕ) → slice_get x.sources c.args.place ≡ Some v → HasEvent c.with.result v = λ v at_too.
-        (c.with.ensures v).1 (inr ((let e : Some v ≡ Some w = sym at_too ∙ at in let f : v ≡ w = cc in f) ∙ same)) in
+        let takes : (v : ℕ) → slice_get x.sources c.args.place ≡ Some v → HasEvent c.set_of.result v = λ v at_too.
+        (c.set_of.ensures v).1 ((let e : Some v ≡ Some w = sym at_too ∙ at in let f : v ≡ w = cc in f) ∙ same) in
         elim c.else-cut.branch [
           | else-cut-via-then-cut+else-is_promising s ↦
               s.is_promising.ensures.none (not_true s.is_promising.result s.if-is_promising.false) (
                 x,
                 solution_in (box_of c.args.self.now c.args.frame.now) (box_of c.args.self.now c.cut.new.frame) c.args.goal c.args.place
-                    c.with.result (c.cut.ensures.cut s.if-cut.true) x is takes,
+                    c.set_of.result (c.cut.ensures.cut s.if-cut.true) x is takes,
               )
           | else-cut-via-else-cut s ↦ c.cut.ensures.none s.if-cut.false x is.completes takes
         ]

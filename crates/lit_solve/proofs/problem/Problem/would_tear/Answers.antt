@@ -1,11 +1,5 @@
-use Rattle.std.proofs.Common.{◌≡◌, ◌≢◌, ◌↔◌, ℕ, List, inl, inr, ap, sym, subst, ◌∙◌}
-use Rattle.std.specs.Prelude.{IsTrue}
-use Rattle.std.proofs.lemmas.Bool.{false≢true}
-use Rattle.lit_read.specs.Syntax.{Litmus}
-use Rattle.lit_paths.specs.declared.event.Event.{Event}
-use Rattle.lit_paths.specs.Event.{event_at}
-use Rattle.lit_rel.specs.EventSet.{HasEvent}
-use Rattle.lit_rel.specs.TearFree.{CanReadWhole}
+use Rattle.lit_solve.proofs.Words.{ap, CanReadWhole, Event, event_at, false≢true, HasEvent, inl, inr, IsTrue, List, subst, sym, ℕ, ◌↔◌, ◌∙◌}
+use Rattle.lit_solve.proofs.Words.{◌≡◌, ◌≢◌}
 use Rattle.lit_solve.specs.Box.{events_on}
 use Rattle.lit_solve.proofs.NarrowingLemmas.{none_or_some}
 use Rattle.lit_solve.proofs.problem.Problem.would_tear.Goals as goal
@@ -13,7 +7,7 @@ use Rattle.lit_solve.proofs.problem.Problem.would_tear.Goals as goal
 pub returns-then-not-is_empty : goal.returns-then-not-is_empty
 returns-then-not-is_empty c =
     let events = events_on c.args.self.now in
-    let same : c.events-events.result.now ≡ events = c.events-events.ensures.value ∙ ap (λ (p : Litmus × ℕ). events_on p) c.self.view_is in
+    let same = c.events-events.ensures.value in
     let reader : c.event_at.result.now ≡ event_at events c.args.read = c.event_at.ensures ∙ ap (λ (es : List Event). event_at es c.args.read) same in
     let writer : c.event_at-then-not-is_empty.result.now ≡ event_at events c.args.source = c.event_at-then-not-is_empty.ensures
     ∙ ap (λ (es : List Event). event_at es c.args.source) same in
