@@ -1,5 +1,5 @@
 //! The program jslit: the library's `program_watched` over the standard streams and the words of the command line. Where
-//! standard error is a terminal, a whole report that takes more than two seconds shows there how far it is.
+//! standard error is a terminal, a search for a whole report that takes more than two seconds shows there how far it is.
 #![tactic(auto)]
 
 mod terminal;

@@ -12,7 +12,7 @@ pub trait Gate: Sync {
     /// The worker with this number, from 0, enters the piece with this number.
     fn at(&self, pass: &mut Self::Pass, worker: usize, piece: u64);
 
-    /// A worker that searches for all outcomes still goes on: it calls this often, thousands of times a second.
+    /// A worker that searches for all outcomes still goes on: it calls this at each step down, mostly thousands of times a second.
     fn alive(&self) {}
 }
 

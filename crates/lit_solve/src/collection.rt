@@ -66,8 +66,7 @@ impl Problem<'_> {
         None
     }
 
-    /// What `observe` does, but of several byte reads that may be read as several bytes one that can force something, if there
-    /// is one: once none can, reads are independent.
+    /// What `observe` does, but of open byte reads one that can force something, if there is one: once none can, reads are independent.
     fn next_observed(&self, frame: &Frame, values: &mut Values) -> Option<usize>
         requires settled { IsSettled (box_of self.now frame.now) frame.now }
         requires first { AreFirstValues (box_of self.now frame.now) values.old.items }
@@ -123,12 +122,13 @@ impl Problem<'_> {
     }
 
     /// Records the outcomes of a quiet frame's completions that a table lacks, of which these are the first values.
-    fn quiet_outcomes<T: OutcomeTable>(
+    fn quiet_outcomes<T: OutcomeTable, H: Heartbeat>(
         &self,
         frame: &Frame,
         values: &Values,
         table: &mut T,
         doubt: &mut bool,
+        heartbeat: &H,
     ) -> Result<(), AllocError>
         requires settled { IsSettled (box_of self.now frame.now) frame.now }
         requires quiet { IsQuiet (box_of self.now frame.now) }
@@ -149,7 +149,7 @@ impl Problem<'_> {
             return Ok(());
         };
         *doubt = false;
-        self.independent_outcomes(&frame.domains, values, &order, table)
+        self.independent_outcomes(&frame.domains, values, &order, table, heartbeat)
     }
 
     /// Whether a frame may have a completion: where that is in doubt it is found out.
@@ -182,7 +182,7 @@ impl Problem<'_> {
             return self.record(frame, values.as_slice(), table, doubt);
         };
         let Some(_branch) = self.branch(frame) else {
-            return self.quiet_outcomes(frame, &values, table, doubt);
+            return self.quiet_outcomes(frame, &values, table, doubt, heartbeat);
         };
         let _events = self.events();
         let all = self.sources_left(frame, place);

@@ -17,6 +17,7 @@ ghost use Rattle.lit_solve.specs.Internal.Settled.{IsCut, TakesFrom};
 ghost use Rattle.lit_solve.specs.Outcomes.{AddsEntries, HasEachOutcome};
 
 use crate::domains::{Domains, only_one, set_of};
+use crate::heartbeat::Heartbeat;
 use crate::laws::{
     completions_fill_each_read, quiet_boxes_are_filled_read_by_read, quiet_boxes_have_one_order,
 };
@@ -122,12 +123,13 @@ impl Problem<'_> {
     }
 
     /// Records the outcomes that a table lacks, of which these are the first values. `order` is the least memory-order.
-    pub(crate) fn independent_outcomes<T: OutcomeTable>(
+    pub(crate) fn independent_outcomes<T: OutcomeTable, H: Heartbeat>(
         &self,
         domains: &Domains,
         values: &Values,
         order: &Order,
         table: &mut T,
+        heartbeat: &H,
     ) -> Result<(), AllocError>
         requires independent { IsIndependent (box_with self.now domains.now) }
         requires first { AreFirstValues (box_with self.now domains.now) values.now.items }
@@ -136,6 +138,7 @@ impl Problem<'_> {
         ensures whole { OnOk result (HasEachOutcome (box_with self.now domains.now) (T.entries table.new)) }
     {
         laws_below();
+        heartbeat.beat();
         let mut values = values.clone()?;
         let Some(place) = self.observe(domains, &mut values) else {
             return self.record_independent(domains, values.as_slice(), order, table);
@@ -148,7 +151,7 @@ impl Problem<'_> {
             let group = self.storing_alike(all, place, source);
             let mut part = *domains;
             if self.cut_independent(&mut part, place, group) {
-                self.independent_outcomes(&part, &values, order, table)?;
+                self.independent_outcomes(&part, &values, order, table, heartbeat)?;
             }
             left = left.difference(group);
         }

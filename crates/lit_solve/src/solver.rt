@@ -39,7 +39,7 @@ pub fn least(problem: &Problem<'_>, domains: &Domains, goal: Goal) -> Option<Lea
 
 /// Records the outcomes of a box's completions that a table lacks, each with the choice of the least sources with which some
 /// completion has it, and their least memory-order. Answers `AllocError` where the table refused to record one; then some
-/// outcomes may not be recorded. The heartbeat is called at each frame.
+/// outcomes may not be recorded. The heartbeat is called at each step down.
 pub fn outcomes<T: OutcomeTable, H: Heartbeat>(
     problem: &Problem<'_>,
     domains: &Domains,

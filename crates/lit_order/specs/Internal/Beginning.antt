@@ -19,7 +19,8 @@ pub record IsBeginning (n : ℕ) (before : ℕ → ℕ → Type 0) (forbidden : 
   pub whole : (w r v : ℕ) → forbidden w r v → StandsBefore order w v → (r ≡ v) ⊎ StandsBefore order r v
 
 -- a beginning, and its events
-pub record IsPlaced (n : ℕ) (before : ℕ → ℕ → Type 0) (forbidden : ℕ → ℕ → ℕ → Type 0) (placed : ℕ → Type 0) (order : List ℕ) : Type 0 where
+pub record IsPlaced (n : ℕ) (before : ℕ → ℕ → Type 0) (forbidden : ℕ → ℕ → ℕ → Type 0) (placed : ℕ → Type 0) (order : List ℕ)
+    : Type 0 where
   pub begins : IsBeginning n before forbidden order
   pub events : (e : ℕ) → placed e ↔ Stands order e
 

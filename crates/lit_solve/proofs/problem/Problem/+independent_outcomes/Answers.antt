@@ -30,13 +30,16 @@ independent_outcomes-requires g t c κs within =
           (c.cut_independent.ensures.less c.if-cut_independent.true
           (some_differ box place c.in-Some-split_first.source c.storing_alike-group.result c.in-Some.ensures.observed.0 c.in-Some.ensures.observed.1 there alike)),
       (
-        within,
+        within.0,
         (
-          c.cut_independent.ensures.independent c.if-cut_independent.true,
+          within.1,
           (
-            first_within box c.cut_independent.new.domains c.observe.new.values.items (c.cut_independent.ensures.cut c.if-cut_independent.true).within
-                c.observe.ensures.first,
-            c.cut_independent.ensures.order c.if-cut_independent.true c.args.order.now.items c.requires.order,
+            c.cut_independent.ensures.independent c.if-cut_independent.true,
+            (
+              first_within box c.cut_independent.new.domains c.observe.new.values.items (c.cut_independent.ensures.cut c.if-cut_independent.true).within
+                  c.observe.ensures.first,
+              c.cut_independent.ensures.order c.if-cut_independent.true c.args.order.now.items c.requires.order,
+            ),
           ),
         ),
       ),
