@@ -1,5 +1,5 @@
 -- The bytes that events read, event by event.
-use Rattle.std.proofs.Common.{◌≡◌, ℕ, zero, suc, ◌+◌, ◌<◌, ◌≤◌, List, [], ◌∷◌, ◌++◌, length, map, drop, get_or, Bool, true, false, if◌then◌else◌, arith, refl, sym, ap, ◌∙◌, length-append, append_assoc, slice_get, Some, Option, option_map, unwrap_or, zero-add, ◌-◌, ⊎_elim, subst}
+use Rattle.std.proofs.Common.{◌≡◌, ℕ, suc, ◌+◌, ◌<◌, ◌≤◌, List, [], ◌∷◌, ◌++◌, length, map, drop, get_or, Bool, true, false, if◌then◌else◌, arith, refl, sym, ap, ◌∙◌, length-append, append_assoc, slice_get, Some, Option, option_map, unwrap_or, zero-add, ◌-◌, ⊎_elim, subst}
 use Rattle.std.specs.List.{range_with_len}
 use Rattle.std.proofs.lemmas.Bool.{cases_lt}
 use Rattle.std.proofs.lemmas.Option.{slice_get-map, slice_get_within, slice_get-get_or}

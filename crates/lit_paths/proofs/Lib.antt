@@ -27,3 +27,5 @@ pub mod PlanFacts
 pub mod Entered
 pub mod NumberLaws
 pub mod MakingSteps
+pub mod MakerSteps
+pub mod MakerLaws

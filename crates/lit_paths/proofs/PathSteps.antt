@@ -1,5 +1,5 @@
 -- What a path asks and holds, by its steps, is what it has once it is walked.
-use Rattle.std.proofs.Common.{◌≡◌, ℕ, zero, suc, ◌+◌, ◌<◌, ◌==◌, Bool, true, false, if◌then◌else◌, Option, Some, None, List, [], ◌∷◌, ◌++◌, length, map, replicate, get_or, slice_get, arith, refl, sym, ap, ap₂, ◌∙◌, subst, ⊎_elim, append_assoc, append-nil, IsTrue}
+use Rattle.std.proofs.Common.{◌≡◌, ℕ, zero, suc, ◌+◌, ◌<◌, ◌==◌, Bool, true, false, if◌then◌else◌, Option, Some, None, List, [], ◌∷◌, ◌++◌, length, map, replicate, slice_get, arith, refl, sym, ap, ap₂, ◌∙◌, subst, ⊎_elim, append_assoc, append-nil, IsTrue}
 use Rattle.std.specs.Prelude.{slice_set, slice_index_or}
 use Rattle.std.proofs.lemmas.Bool.{cases_eq, eq-eqb, ne_eqb}
 use Rattle.std.proofs.lemmas.List.{same_lists, get_or_default, get_or-set_same, get_or-set_other, length_push}
@@ -199,7 +199,7 @@ path_model-last steps =
     ∙ sym (get_or-map-range_with_len (last_read steps) 0 REGISTERS r r d within (omega arith)))
 
 -- ---- the tests
-access_count-append : (a b : List Step) → access_count (a ++ b) ≡ access_count a + access_count b
+pub access_count-append : (a b : List Step) → access_count (a ++ b) ≡ access_count a + access_count b
 access_count-append [] b = omega arith
 access_count-append (x ∷ a) b = omega (arith, access_count-append a b)
 

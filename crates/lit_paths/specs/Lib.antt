@@ -1,6 +1,7 @@
 pub mod Event
 pub mod Path
 pub mod PathModel
+pub mod StatementNumbers
 pub mod Run
 pub mod ByteReads
 pub mod Choice

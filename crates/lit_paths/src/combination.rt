@@ -3,6 +3,9 @@
 pub(crate) mod joined;
 
 ghost use Rattle.std.specs.Prelude.{◌≡◌, ℕ, ◌+◌, ◌/◌, ◌%◌, ◌<◌, ◌≤◌, length, map, Some, slice_get};
+ghost use Rattle.std.specs.List.{AllByRecursion};
+ghost use Rattle.lit_read.specs.Syntax.{agent_of};
+ghost use Rattle.lit_read.specs.StatementOrder.{statement_count};
 ghost use Rattle.lit_paths.specs.declared.limits.TheConstants.{BYTE_READ_LIMIT as READS, CANDIDATE_LIMIT as CANDIDATES};
 ghost use Rattle.lit_paths.specs.declared.limits.TheConstants.{CHOICE_LIMIT, EVENT_LIMIT};
 ghost use Rattle.lit_paths.specs.ByteReads.{byte_reads, byte_read_at, pair_of};
@@ -11,6 +14,7 @@ ghost use Rattle.lit_paths.specs.Numbers.{ways_from};
 ghost use Rattle.lit_paths.specs.declared.byte_reads.ByteRead.{ByteRead as Read};
 ghost use Rattle.lit_paths.specs.Plan.{events_in, choices_before, first_event, path_in, walk_in, AreEventsIn};
 ghost use Rattle.lit_paths.specs.Plan.{HasSources, IsOfCombination, IsWalkIn, ListsCandidates};
+ghost use Rattle.lit_paths.specs.StatementNumbers.{AreMakers};
 ghost use Rattle.lit_paths.specs.Internal.CandidateLists.{candidate_lists, candidates_for, ways_after};
 ghost use Rattle.lit_paths.specs.Internal.Entered.{IsFormed};
 ghost use Rattle.lit_paths.specs.Internal.Walks.{IsInLimits};
@@ -20,6 +24,7 @@ use crate::combination::joined::{Joined, join};
 use crate::event::{Event, Sources};
 use crate::limits::{BYTE_READ_LIMIT, CANDIDATE_LIMIT};
 use crate::path::Path;
+use crate::path::makers::{Makers, find_makers};
 use crate::planning::agent_paths::AgentPaths;
 use arrayvec::ArrayVec;
 use lit_read::Test;
@@ -201,6 +206,24 @@ impl<'p> Combination<'p> {
         ensures { result ≡ first_event self.now.0 self.now.1 agent }
     {
         self.formed.joined.firsts.as_slice()[agent]
+    }
+
+    /// The number of the statement that makes each event on the path of an agent, by the event's place. Agents are
+    /// numbered from 0 in the order of the text.
+    pub fn statements(&self, agent: usize) -> Makers
+        requires { agent < length self.now.0.agents }
+        ensures makers { AreMakers 0 (agent_of self.now.0 agent).body (walk_in self.now.0 self.now.1 agent) result.items }
+        ensures one_each { length result.items ≡ length (path_in self.now.0 self.now.1 agent).events }
+        ensures known { AllByRecursion (λ n. n < statement_count (agent_of self.now.0 agent).body) result.items }
+    {
+        let mut makers = Makers::new();
+        find_makers(
+            &mut makers,
+            0,
+            self.paths.test().body(agent),
+            self.path(agent).tests(),
+        );
+        makers
     }
 
     /// Each byte that is read: reads by rising number, bytes rising within a read.

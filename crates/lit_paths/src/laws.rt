@@ -1,14 +1,17 @@
 //! Laws of the definitions that the contracts cite.
 
-ghost use Rattle.std.specs.Prelude.{◌≡◌, ℕ, ◌+◌, ◌<◌, ◌≤◌, List, length, map};
+ghost use Rattle.std.specs.Prelude.{◌≡◌, ℕ, ◌+◌, ◌<◌, ◌≤◌, List, length, map, Some, slice_get};
 ghost use Rattle.lit_read.specs.Syntax.{Litmus, IsLitmus, Statements, AreStatementsIn};
+ghost use Rattle.lit_read.specs.Forms.{StatementLine};
+ghost use Rattle.lit_read.specs.StatementOrder.{statements_begun};
 ghost use Rattle.lit_paths.specs.Choice.{IsChoice, ListsChoices, ListsCombinations, combinations_of};
 ghost use Rattle.lit_paths.specs.Execution.{Execution, execution_choice, IsCandidateExecution};
 ghost use Rattle.lit_paths.specs.Numbers.{NumbersChoices};
 ghost use Rattle.lit_paths.specs.Path.{Step, IsWalk, path_on};
-ghost use Rattle.lit_paths.specs.PathModel.{path_model};
+ghost use Rattle.lit_paths.specs.PathModel.{access_count, path_model};
 ghost use Rattle.lit_paths.specs.Plan.{choices_before, walk_in, IsOfCombination, IsWalkIn};
 ghost use Rattle.lit_paths.specs.Run.{Run, IsRun};
+ghost use Rattle.lit_paths.specs.StatementNumbers.{AreMakers, accesses_met};
 ghost use Rattle.lit_paths.specs.Told.{read_places, TellsRuns};
 
 /// The list of a test's choices has exactly its choices, each once, and rises strictly: so a choice's number, its place
@@ -65,4 +68,18 @@ pub fn values_have_one_choice()
     ensures { (t : Litmus) (x y : Execution) → IsCandidateExecution t x → IsCandidateExecution t y
         → map (λ run. run.values) x.runs ≡ map (λ run. run.values) y.runs → x.sources ≡ y.sources
         → execution_choice x ≡ execution_choice y }
+{}
+
+/// The events of a walk have one list of statements that make them: one for each, rising strictly, of which each begins
+/// with the line of the access that is met there.
+pub fn events_have_statements()
+    ensures some { (n : ℕ) (body : Statements) (steps : List Step) → IsWalk body steps → (makers : List ℕ) × AreMakers n body steps makers }
+    ensures one { (n : ℕ) (body : Statements) (steps : List Step) (makers others : List ℕ) → AreMakers n body steps makers
+        → AreMakers n body steps others → makers ≡ others }
+    ensures one_each { (n : ℕ) (body : Statements) (steps : List Step) (makers : List ℕ) → AreMakers n body steps makers
+        → length makers ≡ access_count steps }
+    ensures rising { (n : ℕ) (body : Statements) (steps : List Step) (makers : List ℕ) (i j m k : ℕ) → AreMakers n body steps makers → i < j
+        → slice_get makers i ≡ Some m → slice_get makers j ≡ Some k → m < k }
+    ensures met { (body : Statements) (steps : List Step) (makers : List ℕ) → AreMakers 0 body steps makers
+        → map (λ m. slice_get (statements_begun body) m) makers ≡ map (λ s. Some (StatementLine s)) (accesses_met steps) }
 {}

@@ -22,6 +22,7 @@ pub use limits::{
     ACCESS_LIMIT, BYTE_READ_LIMIT, CHOICE_LIMIT, COMBINATION_LIMIT, EVENT_LIMIT, NAME_LIMIT,
 };
 pub use names::{Names, meets, written_names};
+pub use path::makers::Makers;
 pub use path::{Path, Tested};
 pub use planning::Plan;
 pub use planning::making::plan;

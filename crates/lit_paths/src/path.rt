@@ -1,6 +1,7 @@
 //! A path of an agent, with what it asks of the values that are read on it.
 
 pub(crate) mod counting;
+pub(crate) mod makers;
 pub(crate) mod walking;
 
 ghost use Rattle.std.specs.Prelude.{◌≡◌, ◌<◌, length, Some, None, IfOk, slice_index_or};

@@ -36,3 +36,6 @@ pub mod CanonicalRun
 pub mod ShownForms
 pub mod ShownConditions
 pub mod LawLemmas
+pub mod CountLemmas
+pub mod ListedLines
+pub mod StatementForms

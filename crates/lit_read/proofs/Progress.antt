@@ -28,7 +28,7 @@ lines_some [] = omega arith
 lines_some (b ∷ []) = elim (eqb b 10) as (λ t. 1 ≤ length (cond t ([] ∷ []) ((b ∷ []) ∷ []))) [ true ↦ omega arith | false ↦ omega arith ]
 lines_some (b ∷ c ∷ bs) = elim (eqb b 10) as (λ t. 1 ≤ length (cond t ([] ∷ lines_of (c ∷ bs)) (onto_first b (lines_of (c ∷ bs))))) [ true ↦ omega arith | false ↦ onto_some b (lines_of (c ∷ bs)) ]
 
-lines_few : (text : List ℕ) → length (lines_of text) ≤ length text + 1
+pub lines_few : (text : List ℕ) → length (lines_of text) ≤ length text + 1
 unfolding lines_of
 lines_few [] = omega arith
 lines_few (b ∷ []) = elim (eqb b 10) as (λ t. length (cond t ([] ∷ []) ((b ∷ []) ∷ [])) ≤ length (b ∷ []) + 1) [ true ↦ omega arith | false ↦ omega arith ]

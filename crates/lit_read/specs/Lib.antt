@@ -8,9 +8,11 @@ pub mod Written
 pub mod Parentheses
 pub mod Forms
 pub mod Structure
+pub mod StatementOrder
 pub mod Faults
 pub mod FaultNames
 pub mod Spelling
+pub mod StatementLines
 pub mod Canonical
 pub mod CanonicalText
 pub mod Internal

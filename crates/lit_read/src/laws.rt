@@ -1,10 +1,10 @@
 //! What holds of texts and tests by the definitions alone, so that each answer of `read` comes exactly where it is due.
 
-ghost use Rattle.std.specs.Prelude.{◌≡◌, ◌≤◌, ◌⊎◌, ◌∷◌, ◌++◌, [], ℕ, Bool, List, length, true};
+ghost use Rattle.std.specs.Prelude.{◌≡◌, ◌<◌, ◌≤◌, ◌⊎◌, ◌∷◌, ◌++◌, [], ℕ, Bool, List, length, map, true};
 ghost use Rattle.std.specs.List.{list_all, AllByRecursion};
 ghost use Rattle.lit_read.specs.declared.fault.ReadKind.{ReadKind};
 ghost use Rattle.lit_read.specs.declared.limits.TheConstants.{TEXT_LIMIT};
-ghost use Rattle.lit_read.specs.Syntax.{Litmus, IsLitmus};
+ghost use Rattle.lit_read.specs.Syntax.{Litmus, IsLitmus, Statements, agent_of};
 ghost use Rattle.lit_read.specs.Lines.{lines_of, ended_lines, is_whole_line};
 ghost use Rattle.lit_read.specs.Tokens.{Token, CutsInto};
 ghost use Rattle.lit_read.specs.Written.{written_tokens, is_shallow};
@@ -12,6 +12,8 @@ ghost use Rattle.lit_read.specs.Forms.{Form, IsForm, HasForm, HaveForms, without
 ghost use Rattle.lit_read.specs.Structure.{is_body_line, LeaveOpen};
 ghost use Rattle.lit_read.specs.Faults.{HasFault, IsFirstFault, is_allowed, is_begun, none_misplaced, open_ifs};
 ghost use Rattle.lit_read.specs.Spelling.{Spells, AreFormsOf};
+ghost use Rattle.lit_read.specs.StatementOrder.{statement_count, statements_begun, agents_count, forms_begun};
+ghost use Rattle.lit_read.specs.StatementLines.{ListsStatementLines, BeginsOnLine, line_of};
 ghost use Rattle.lit_read.specs.Canonical.{canonical_forms, without_empty_elses};
 ghost use Rattle.lit_read.specs.Parentheses.{without_parentheses};
 ghost use Rattle.lit_read.specs.CanonicalText.{canonical};
@@ -108,4 +110,16 @@ pub fn has_canonical_text()
 /// The canonical text of a test spells the test, where it is no longer than a text may be.
 pub fn spells_its_test()
     ensures { (t : Litmus) → IsLitmus t → length (canonical t) ≤ TEXT_LIMIT → Spells (canonical t) t }
+{}
+
+/// The lines on which the statements of a text begin are those of its test's statements, in the order in which these are
+/// written: as many, with their first forms, and agent after agent.
+pub fn statements_have_lines()
+    ensures forms { (text : List ℕ) (t : Litmus) (lines : List ℕ) → Spells text t → ListsStatementLines text lines
+        → HaveForms (map (line_of text) lines) (forms_begun t) }
+    ensures count { (text : List ℕ) (t : Litmus) (lines : List ℕ) → Spells text t → ListsStatementLines text lines
+        → length lines ≡ agents_count t.agents }
+    ensures each { (text : List ℕ) (t : Litmus) (lines : List ℕ) (agent k : ℕ) → Spells text t → ListsStatementLines text lines
+        → agent < length t.agents → k < statement_count (agent_of t agent).body → (n : ℕ) × BeginsOnLine text t lines agent k n }
+    ensures begun { (body : Statements) → length (statements_begun body) ≡ statement_count body }
 {}

@@ -7,11 +7,13 @@
 //! stands in the folder `Internal` serves private contracts alone.
 #![tactic(auto)]
 
+mod counts;
 mod draft;
 mod fault;
 mod forms;
 pub mod laws;
 mod limits;
+mod line_numbers;
 mod lines;
 mod reading;
 mod showing;
@@ -19,9 +21,11 @@ mod syntax;
 mod test;
 mod tokens;
 
+pub use counts::{count_with_parts, statement_count};
 pub use draft::checking::writes;
 pub use fault::{ReadFault, ReadKind};
 pub use limits::{AGENT_LIMIT, BLOCK_LIMIT, REGISTERS, TEXT_LIMIT};
+pub use line_numbers::statement_lines;
 pub use reading::read;
 pub use showing::show;
 pub use syntax::{Cond, Stmt, View};

@@ -4,6 +4,8 @@
 #[cfg(test)]
 mod desk;
 #[cfg(test)]
+mod nested;
+#[cfg(test)]
 mod paths;
 #[cfg(test)]
 mod read;

@@ -7,6 +7,7 @@ use std::test::Fail;
 
 mod asked;
 mod choices;
+mod makers;
 mod numbers;
 mod refusals;
 

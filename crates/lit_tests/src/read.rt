@@ -8,6 +8,7 @@ use std::test::Fail;
 
 mod canonical;
 mod language;
+mod line_numbers;
 mod long_canonical;
 
 /// That a text is refused with this kind at this line.

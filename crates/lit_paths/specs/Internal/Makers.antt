@@ -1,0 +1,38 @@
+-- Going through statements again by what a path asks, one test for each decision in order.
+use Rattle.std.specs.Prelude.{ℕ, ◌+◌, Bool, true, false, not, if◌then◌else◌, List, [], ◌∷◌, ◌++◌}
+use Rattle.lit_read.specs.Syntax.{Statement, Statements, Load, Store, Exchange, CompareExchange, If, End, Then}
+use Rattle.lit_read.specs.StatementOrder.{count_with_parts, statement_count}
+use Rattle.lit_paths.specs.declared.path.Tested.{Tested}
+
+-- whether the next test is that the value equals, and the tests after it
+abbrev pub asks_equal : List Tested → Bool
+asks_equal [] = false
+asks_equal (test ∷ tests) = test.equal
+
+abbrev pub tests_behind : List Tested → List Tested
+tests_behind [] = []
+tests_behind (test ∷ tests) = tests
+
+-- whether the comparison of an `if` holds where its value is to equal the number, or to differ from it
+abbrev pub holds_where : (equal asked : Bool) → Bool
+holds_where true asked = asked
+holds_where false asked = not asked
+
+-- the numbers of the statements that make the events on the way, and the tests that are left
+abbrev mutual
+  pub statement_makers : ℕ → Statement → List Tested → List ℕ × List Tested
+  statement_makers n (Load reg window index atomic) tests = (n ∷ [], tests)
+  statement_makers n (Store window index value atomic) tests = (n ∷ [], tests)
+  statement_makers n (Exchange reg window index value) tests = (n ∷ [], tests)
+  statement_makers n (CompareExchange reg window index expected value) tests = (n ∷ [], tests_behind tests)
+  statement_makers n (If reg equal value body other) tests =
+      if holds_where equal (asks_equal tests)
+      then makers_of (n + 1) body (tests_behind tests)
+      else makers_of (n + 1 + statement_count body) other (tests_behind tests)
+
+  pub makers_of : ℕ → Statements → List Tested → List ℕ × List Tested
+  makers_of n End tests = ([], tests)
+  makers_of n (Then s ss) tests = (
+    (statement_makers n s tests).0 ++ (makers_of (n + count_with_parts s) ss (statement_makers n s tests).1).0,
+    (makers_of (n + count_with_parts s) ss (statement_makers n s tests).1).1,
+  )

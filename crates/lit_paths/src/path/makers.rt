@@ -1,0 +1,106 @@
+//! The statements that make the events of a path, by their numbers.
+
+ghost use Rattle.std.specs.Prelude.{◌≡◌, ◌+◌, ◌≤◌, ◌<◌, ◌++◌, ◌^◌, length};
+ghost use Rattle.lit_read.specs.Litmus.{statement_of, statements_of};
+ghost use Rattle.lit_read.specs.StatementOrder.{count_with_parts, statement_count};
+ghost use Rattle.lit_paths.specs.declared.limits.TheConstants.{ACCESS_LIMIT as ACCESSES};
+ghost use Rattle.lit_paths.specs.Internal.Makers.{asks_equal, tests_behind, holds_where, makers_of, statement_makers};
+ghost use Rattle.lit_paths.specs.Internal.Walks.{longest, statement_longest};
+
+use crate::limits::ACCESS_LIMIT;
+use crate::path::Tested;
+use arrayvec::ArrayVec;
+use lit_read::{Stmt, count_with_parts, statement_count};
+
+/// The number of the statement that makes each event of a path, by the event's place: from 0, in the order in which the
+/// agent's statements are written. An `if` has one number; those of its then-part follow, and then those of its
+/// else-part.
+pub type Makers = ArrayVec<usize, ACCESS_LIMIT>;
+
+/// Whether the next test is that the value equals the number; false where no test is left.
+fn asks_equal(tests: &[Tested]) -> bool
+    ensures { result ≡ asks_equal tests.now }
+{
+    match tests {
+        [test, ..] => test.equal,
+        [] => false,
+    }
+}
+
+/// The tests after the next one.
+fn tests_behind(tests: &[Tested]) -> &[Tested]
+    ensures { result.now ≡ tests_behind tests.now }
+{
+    match tests {
+        [_, rest @ ..] => rest,
+        [] => tests,
+    }
+}
+
+/// Whether the comparison of an `if` holds where its value is to equal the number, or to differ from it.
+fn holds_where(equal: bool, asked: bool) -> bool
+    ensures { result ≡ holds_where equal asked }
+{
+    if equal { asked } else { !asked }
+}
+
+/// Adds the makers of the events on the way through statements, the first of which has number `first`, and leads to the
+/// tests that are left.
+#[cycle(making)]
+pub(crate) fn find_makers<'t>(
+    makers: &mut Makers,
+    first: usize,
+    body: &[Stmt],
+    tests: &'t [Tested],
+) -> &'t [Tested]
+    requires room { length makers.old.items + longest (statements_of body.now) ≤ ACCESSES }
+    requires fits { first + statement_count (statements_of body.now) < 2 ^ 64 }
+    ensures makers { makers.new.items ≡ makers.old.items ++ (makers_of first (statements_of body.now) tests.now).0 }
+    ensures left { result.now ≡ (makers_of first (statements_of body.now) tests.now).1 }
+{
+    let mut number = first;
+    let mut left = tests;
+    for statement in body {
+        left = find_makers_at(makers, number, statement, left);
+        number += count_with_parts(statement);
+    }
+    left
+}
+
+/// Adds the makers of the events on the way through the statement with a number, and leads to the tests that are left.
+#[cycle(making)]
+fn find_makers_at<'t>(
+    makers: &mut Makers,
+    number: usize,
+    statement: &Stmt,
+    tests: &'t [Tested],
+) -> &'t [Tested]
+    requires room { length makers.old.items + statement_longest (statement_of statement.now) ≤ ACCESSES }
+    requires fits { number + count_with_parts (statement_of statement.now) < 2 ^ 64 }
+    ensures makers { makers.new.items ≡ makers.old.items ++ (statement_makers number (statement_of statement.now) tests.now).0 }
+    ensures left { result.now ≡ (statement_makers number (statement_of statement.now) tests.now).1 }
+{
+    match statement {
+        Stmt::Load { .. } | Stmt::Store { .. } | Stmt::Exchange { .. } => {
+            makers.push(number);
+            tests
+        }
+        Stmt::CompareExchange { .. } => {
+            makers.push(number);
+            tests_behind(tests)
+        }
+        Stmt::If {
+            equal,
+            body,
+            other,
+            ..
+        } => {
+            let left = tests_behind(tests);
+            if holds_where(*equal, asks_equal(tests)) {
+                find_makers(makers, number + 1, body, left)
+            } else {
+                find_makers(makers, number + 1 + statement_count(body), other, left)
+            }
+        }
+    }
+}

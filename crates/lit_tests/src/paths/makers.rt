@@ -1,0 +1,45 @@
+//! The statements that make the events of a path.
+
+use crate::nested::NESTED;
+use lit_paths::plan;
+use lit_read::read;
+use lit_texts::STORE_BUFFERING;
+use std::alloc::AllocGlobal;
+use std::process::Abort;
+use std::test::Fail;
+
+/// That these statements make the events of an agent in a combination, by the numbers of both.
+fn are_made(
+    rt: &(impl Abort + AllocGlobal),
+    text: &str,
+    combination: usize,
+    agent: usize,
+    statements: &[usize],
+) -> Result<(), Fail> {
+    let test = read(rt.alloc(), text.as_bytes())?;
+    let plan = plan(rt.alloc(), &test)?;
+    assert!(rt; combination < plan.combinations() && agent < plan.test().agents());
+    let found = plan.enter(combination).statements(agent);
+    assert!(rt; found.as_slice() == statements);
+    Ok(())
+}
+
+#[test]
+fn statements_without_branch(rt: HostRuntime) -> Result<(), Fail> {
+    are_made(&rt, STORE_BUFFERING, 0, 1, &[0, 1])
+}
+
+#[test]
+fn statements_of_then_parts(rt: HostRuntime) -> Result<(), Fail> {
+    are_made(&rt, NESTED, 0, 0, &[0, 2, 7])?;
+    are_made(&rt, NESTED, 1, 0, &[0, 2, 4, 7])?;
+    are_made(&rt, NESTED, 3, 0, &[0, 2, 7])?;
+    are_made(&rt, NESTED, 4, 0, &[0, 2, 4, 7])
+}
+
+#[test]
+fn statements_of_else_parts(rt: HostRuntime) -> Result<(), Fail> {
+    are_made(&rt, NESTED, 2, 0, &[0, 5, 6, 7])?;
+    are_made(&rt, NESTED, 5, 0, &[0, 5, 6, 7])?;
+    are_made(&rt, NESTED, 5, 1, &[0])
+}
