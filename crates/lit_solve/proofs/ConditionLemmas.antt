@@ -1,27 +1,27 @@
 -- What a condition comes to by its members, one after the other.
-use Rattle.lit_solve.proofs.Words.{◌<◌, Bool, Cond, Condition, condition_of, Execution, execution_outcome, false, get_or, Global, holds}
+use Rattle.lit_solve.proofs.Words.{◌<◌, Bool, Cond, Condition, condition_of, false, get_or, Global, holds}
 use Rattle.lit_solve.proofs.Words.{length, List, list_all, list_all_at, list_any, list_any_at, names_of, subst, true, Vec, zip, ℕ, ◌∙◌, ◌≡◌}
 use Rattle.lit_read.specs.declared.syntax.Cond as code
 use Rattle.lit_paths.proofs.Conditions.{member_holds, holds-All, holds-Any}
 use Rattle.lit_solve.specs.declared.deciding.Decided.{Decided}
 use Rattle.lit_solve.specs.declared.deciding.Decided.TheVariants.{Comes, Hangs}
 use Rattle.lit_solve.specs.Box.{Box}
-use Rattle.lit_solve.specs.Completion.{IsCompletion}
-use Rattle.lit_solve.specs.Internal.Deciding.{IsUndecidedAt}
+use Rattle.lit_solve.specs.Fill.{AreSourcesIn}
+use Rattle.lit_solve.specs.Prospect.{IsUndecidedAt, outcome_by}
 
--- the registers of an outcome with their values
-abbrev pub values_of : Box → Execution → List ((ℕ × ℕ) × ℕ)
-values_of box x = zip (names_of box.test) (execution_outcome box.test x)
+-- the registers of the outcome by these sources, with their values
+abbrev pub values_of : Box → List ℕ → List ((ℕ × ℕ) × ℕ)
+values_of box sources = zip (names_of box.test) (outcome_by box sources)
 
 -- of an Any, with these members left: none of those before is met, or it hangs
 abbrev pub IsAnyLeft : Box → Condition → List Cond → Decided → Type 0
-IsAnyLeft box condition left (Comes false) = (x : Execution) → IsCompletion box x → holds (values_of box x) condition ≡ list_any (member_holds (values_of box x)) left
+IsAnyLeft box condition left (Comes false) = (sources : List ℕ) → AreSourcesIn box sources → holds (values_of box sources) condition ≡ list_any (member_holds (values_of box sources)) left
 IsAnyLeft box condition left (Comes true) = ⊥
 IsAnyLeft box condition left (Hangs k) = IsUndecidedAt box k
 
 -- of an All: each of those before is met, or it hangs
 abbrev pub IsAllLeft : Box → Condition → List Cond → Decided → Type 0
-IsAllLeft box condition left (Comes true) = (x : Execution) → IsCompletion box x → holds (values_of box x) condition ≡ list_all (member_holds (values_of box x)) left
+IsAllLeft box condition left (Comes true) = (sources : List ℕ) → AreSourcesIn box sources → holds (values_of box sources) condition ≡ list_all (member_holds (values_of box sources)) left
 IsAllLeft box condition left (Comes false) = ⊥
 IsAllLeft box condition left (Hangs k) = IsUndecidedAt box k
 

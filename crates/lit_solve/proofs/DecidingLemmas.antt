@@ -12,7 +12,8 @@ use Rattle.lit_solve.specs.declared.deciding.Decided.{Decided}
 use Rattle.lit_solve.specs.declared.deciding.Decided.TheVariants.{Comes, Hangs}
 use Rattle.lit_solve.specs.Box.{Box, HasSource, box_events}
 use Rattle.lit_solve.specs.Fill.{AreSourcesIn}
-use Rattle.lit_solve.specs.Internal.Deciding.{IsByteDecided, IsReadDecided, IsUndecidedAt, stored_for}
+use Rattle.lit_solve.specs.Prospect.{IsUndecidedAt}
+use Rattle.lit_solve.specs.Internal.Deciding.{IsByteDecided, IsReadDecided, stored_for}
 
 -- two sources that store different bytes
 pub undecided_by : (box : Box) (k some other : ℕ) → k < length (byte_reads (box_events box)) → HasSource box k some → HasSource box k other

@@ -15,7 +15,8 @@ use Rattle.lit_solve.specs.Completion.{IsCompletion}
 use Rattle.lit_solve.specs.Fill.{AreSourcesIn}
 use Rattle.lit_solve.specs.Internal.Deciding.{stored_for}
 use Rattle.lit_solve.specs.Internal.Filling.{bytes_taken, reads_on}
-use Rattle.lit_solve.specs.Internal.Observation.{IsValueHeld, IsValueOf, part_with}
+use Rattle.lit_solve.specs.Prospect.{IsValueOf}
+use Rattle.lit_solve.specs.Internal.Observation.{IsValueHeld, part_with}
 use Rattle.lit_solve.proofs.CompletionLemmas.{completes, part_of}
 use Rattle.lit_solve.proofs.FillLemmas.{sources_lie}
 use Rattle.lit_solve.proofs.FillingLemmas.{no_more, same_number, taken_other}

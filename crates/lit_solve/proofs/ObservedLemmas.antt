@@ -10,7 +10,8 @@ use Rattle.lit_solve.specs.declared.stepping.Branch.{Branch}
 use Rattle.lit_solve.specs.Box.{Box, HasSource, IsBox, IsWithin, box_events, box_with}
 use Rattle.lit_solve.specs.Completion.{IsCompletion}
 use Rattle.lit_solve.specs.Outcomes.{AddsEntries, HasEachOutcome, IsLeastEntry}
-use Rattle.lit_solve.specs.Internal.Deciding.{IsUndecidedAt, stored_for}
+use Rattle.lit_solve.specs.Prospect.{IsUndecidedAt}
+use Rattle.lit_solve.specs.Internal.Deciding.{stored_for}
 use Rattle.lit_solve.specs.Internal.Narrowing.{Narrows}
 use Rattle.lit_solve.specs.Internal.Observation.{AreFirstValues, IsObservedAt}
 use Rattle.lit_solve.specs.Internal.Settled.{IsCut, TakesFrom}

@@ -1,4 +1,4 @@
--- What a register has in the outcome of a completion is the value of the read that it holds at the end of its agent's path.
+-- What a register has in an outcome is the value of the read that it holds at the end of its agent's path.
 use Rattle.lit_solve.proofs.Words.{◌&&◌, ◌+◌, ◌++◌, ◌<◌, ◌==◌, [], accesses_of, Agent, agent_of, ap, ap₂, arith, Bool, cases_eq, cases_lt}
 use Rattle.lit_solve.proofs.Words.{CompareExchange, cond, does_read, End, eq-eqb, Event, event_at, events_in, Exchange, Execution}
 use Rattle.lit_solve.proofs.Words.{execution_outcome, false, false≢true, filter, first_event, get_or-map-range_with_len, get_or_past, If}
@@ -17,7 +17,13 @@ use Rattle.lit_solve.specs.declared.deciding.Decided.{Decided}
 use Rattle.lit_solve.specs.declared.deciding.Decided.TheVariants.{Comes, Hangs}
 use Rattle.lit_solve.specs.Box.{Box, IsBox}
 use Rattle.lit_solve.specs.Completion.{IsCompletion}
-use Rattle.lit_solve.specs.Internal.Deciding.{IsDecided, IsReadDecided}
+use Rattle.lit_valid.specs.declared.class.Class.{Class}
+use Rattle.lit_valid.specs.Class.{is_of_class}
+use Rattle.lit_solve.specs.declared.goal.Goal.TheVariants.{OfClass}
+use Rattle.lit_solve.specs.declared.prospect.Prospect.{Prospect}
+use Rattle.lit_solve.specs.declared.prospect.Prospect.TheVariants.{Each, Nothing, Open}
+use Rattle.lit_solve.specs.Prospect.{IsOutcomeProspect, outcome_by}
+use Rattle.lit_solve.specs.Internal.Deciding.{IsDecided, IsProspect, IsReadDecided}
 use Rattle.lit_solve.proofs.CompletionLemmas.{completes, part_of}
 use Rattle.lit_solve.proofs.FillLemmas.{sources_lie}
 
@@ -175,41 +181,60 @@ held_reads t c agent reg k walk known at =
     let is : IsReadAt (path_on agent (walk_in t c agent)).events k = walk.holds_reads reg k last in
     (omega (arith, is.0, walk.within), subst (λ (e : Event). IsTrue (does_read e.kind)) (sym (walk.numbered k is.0)) is.1)
 
--- ---- in a completion
-pub register_value : (laws : Laws) (box : Box) (x : Execution) → IsBox box → IsCompletion box x → (agent reg : ℕ)
-    → value_in (zip (names_of box.test) (execution_outcome box.test x)) agent reg ≡ value_held (part_of box x.sources)
+-- ---- by sources, and in a completion
+-- what a register has in the outcome that these sources give
+pub register_held : (laws : Laws) (box : Box) → IsBox box → (sources : List ℕ) (agent reg : ℕ)
+    → value_in (zip (names_of box.test) (outcome_by box sources)) agent reg ≡ value_held (part_of box sources)
     (read_held box.test box.combination (agent, reg))
-register_value laws box x entered is agent reg =
-    ap (λ (outcome : List ℕ). value_in (zip names outcome) agent reg)
-    (its_outcome (part_of box x.sources) x (completes box x is) laws (record { litmus = entered.litmus; known = entered.known })
-    (names_from-within box.test.agents))
-    ∙ value_named held names agent reg
-    ∙ by (list_any (is_name agent reg) names) refl
+register_held laws box entered sources agent reg = value_named held names agent reg ∙ by (list_any (is_name agent reg) names) refl
   where
     names : List (ℕ × ℕ)
     names = names_of box.test
 
     held : ℕ × ℕ → ℕ
-    held name = value_held (part_of box x.sources) (read_held box.test box.combination name)
+    held name = value_held (part_of box sources) (read_held box.test box.combination name)
 
     by : (b : Bool) → list_any (is_name agent reg) names ≡ b → cond b (held (agent, reg)) 0 ≡ held (agent, reg)
     by true is_named = refl
     by false unnamed =
-        sym (ap (λ (last : Option ℕ). value_held (part_of box x.sources) (number_on (first_event box.test box.combination agent) last))
+        sym (ap (λ (last : Option ℕ). value_held (part_of box sources) (number_on (first_event box.test box.combination agent) last))
         (none_unnamed box.test box.combination agent reg (λ inside. laws.walked box.test box.combination agent entered.litmus entered.known inside) unnamed))
+
+-- a completion has the outcome that its sources give
+pub outcome_given : (laws : Laws) (box : Box) (x : Execution) → IsBox box → IsCompletion box x
+    → execution_outcome box.test x ≡ outcome_by box x.sources
+outcome_given laws box x entered is =
+    its_outcome (part_of box x.sources) x (completes box x is) laws (record { litmus = entered.litmus; known = entered.known })
+    (names_from-within box.test.agents)
+
+pub register_value : (laws : Laws) (box : Box) (x : Execution) → IsBox box → IsCompletion box x → (agent reg : ℕ)
+    → value_in (zip (names_of box.test) (execution_outcome box.test x)) agent reg ≡ value_held (part_of box x.sources)
+    (read_held box.test box.combination (agent, reg))
+register_value laws box x entered is agent reg =
+    ap (λ (outcome : List ℕ). value_in (zip (names_of box.test) outcome) agent reg) (outcome_given laws box x entered is)
+    ∙ register_held laws box entered x.sources agent reg
+
+-- what is foreseen of outcomes by sources is so of completions
+pub foreseen : (laws : Laws) (box : Box) → IsBox box → (class : Class) (prospect : Prospect) → IsOutcomeProspect box class prospect
+    → IsProspect box (OfClass class) prospect
+foreseen laws box entered class Nothing none = λ x is meets.
+    none x.sources (sources_lie box x is) (subst (λ (o : List ℕ). IsTrue (is_of_class box.test class o)) (outcome_given laws box x entered is) meets)
+foreseen laws box entered class Each each = λ x is.
+    subst (λ (o : List ℕ). IsTrue (is_of_class box.test class o)) (sym (outcome_given laws box x entered is)) (each x.sources (sources_lie box x is))
+foreseen laws box entered class (Open k) hangs = hangs
 
 -- ---- what is decided of a register
 module _ (laws : Laws) (box : Box) (entered : IsBox box) (agent reg number : ℕ) where
   pub decided_by_read : (r : ℕ) (decided : Decided) → read_held box.test box.combination (agent, reg) ≡ Some r → IsReadDecided box r number decided
       → IsDecided box (Is agent reg true number) decided
-  decided_by_read r (Comes value) held each = λ x is.
-      ap (λ (n : ℕ). n == number) (register_value laws box x entered is agent reg ∙ ap (value_held (part_of box x.sources)) held)
-      ∙ each x.sources (sources_lie box x is)
+  decided_by_read r (Comes value) held each = λ sources lie.
+      ap (λ (n : ℕ). n == number) (register_held laws box entered sources agent reg ∙ ap (value_held (part_of box sources)) held)
+      ∙ each sources lie
   decided_by_read r (Hangs k) held hangs = hangs
 
   pub decided_unwritten : read_held box.test box.combination (agent, reg) ≡ None → IsDecided box (Is agent reg true number) (Comes (number == 0))
-  decided_unwritten held x is =
-      ap (λ (n : ℕ). n == number) (register_value laws box x entered is agent reg ∙ ap (value_held (part_of box x.sources)) held)
+  decided_unwritten held sources lie =
+      ap (λ (n : ℕ). n == number) (register_held laws box entered sources agent reg ∙ ap (value_held (part_of box sources)) held)
       ∙ turned (cases_eq number 0)
     where
       turned : (number ≡ 0) ⊎ (number ≢ 0) → (0 == number) ≡ (number == 0)

@@ -5,6 +5,7 @@ pub mod Outcomes
 pub mod Given
 pub mod Out
 pub mod Fill
+pub mod Prospect
 pub mod DataRace
 pub mod Boxes
 pub mod Internal

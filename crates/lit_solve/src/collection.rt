@@ -8,7 +8,7 @@ ghost use Rattle.lit_solve.specs.Box.{box_with, events_on};
 ghost use Rattle.lit_solve.specs.declared.goal.Goal.TheVariants.{Any};
 ghost use Rattle.lit_solve.specs.Completion.{IsCompletion, IsLeastSolution};
 ghost use Rattle.lit_solve.specs.Fill.{IsQuiet};
-ghost use Rattle.lit_solve.specs.Internal.Deciding.{IsUndecidedAt};
+ghost use Rattle.lit_solve.specs.Prospect.{IsUndecidedAt};
 ghost use Rattle.lit_solve.specs.Internal.Frames.{box_of};
 ghost use Rattle.lit_solve.specs.Internal.Narrowing.{HasNoCompletion};
 ghost use Rattle.lit_solve.specs.Internal.Observation.{AreFirstValues, IsObservation, IsObservedAt};

@@ -7,9 +7,9 @@ ghost use Rattle.lit_paths.specs.ByteReads.{byte_reads};
 ghost use Rattle.lit_paths.specs.Event.{does_read, event_at as event_of};
 ghost use Rattle.lit_rel.specs.EventSet.{HasEvent};
 ghost use Rattle.lit_valid.specs.PartOutcome.{read_held as read_of};
-ghost use Rattle.lit_solve.specs.declared.goal.Goal.TheVariants.{OfClass};
 ghost use Rattle.lit_solve.specs.Box.{HasSource, IsBox, box_with, events_on};
-ghost use Rattle.lit_solve.specs.Internal.Deciding.{IsByteDecided, IsDecided, IsProspect, IsReadDecided, opposite_of, stored_for};
+ghost use Rattle.lit_solve.specs.Prospect.{IsOutcomeProspect};
+ghost use Rattle.lit_solve.specs.Internal.Deciding.{IsByteDecided, IsDecided, IsReadDecided, opposite_of, stored_for};
 
 use crate::domains::Domains;
 use crate::filling::storing;
@@ -24,7 +24,7 @@ use lit_valid::laws::laws_below;
 /// What a condition comes to.
 #[derive(Clone, Copy, Debug, PartialEq, Eq)]
 pub(crate) enum Decided {
-    /// This, with the outcome of each completion.
+    /// This, with the outcome by any sources in the domains.
     Comes(bool),
     /// It hangs on what the byte read at a place is read as.
     Hangs(usize),
@@ -124,7 +124,7 @@ impl Problem<'_> {
         Some(usize::from(self.combination.first_event(agent)) + usize::from(place))
     }
 
-    /// Whether a register has a value in the outcome of each completion.
+    /// Whether a register has a value in the outcome by any sources that lie in the box.
     fn register_is(&self, domains: &Domains, agent: u8, reg: u8, value: u32) -> Decided
         requires { IsBox (box_with self.now domains.now) }
         ensures { IsDecided (box_with self.now domains.now) (Is agent reg true value) result }
@@ -177,10 +177,11 @@ impl Problem<'_> {
         }
     }
 
-    /// What a box says of the outcomes of its completions, where one of a class is looked for.
-    pub(crate) fn prospect_of(&self, domains: &Domains, class: Class) -> Prospect
+    /// What the domains of a box say of outcomes in a class: of those that sources in them give, whether some execution with
+    /// these is valid or not.
+    pub fn prospect_of(&self, domains: &Domains, class: Class) -> Prospect
         requires { IsBox (box_with self.now domains.now) }
-        ensures { IsProspect (box_with self.now domains.now) (OfClass class) result }
+        ensures { IsOutcomeProspect (box_with self.now domains.now) class result }
     {
         match self.decide(domains, self.combination.test().check()) {
             Decided::Hangs(place) => Prospect::Open(place),

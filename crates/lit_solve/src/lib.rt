@@ -41,6 +41,8 @@ pub use goal::Goal;
 pub use heartbeat::{Heartbeat, NoHeartbeat};
 pub use leading::Least;
 pub use numbering::number_of;
+pub use observation::ReadValue;
 pub use problem::Problem;
+pub use prospect::Prospect;
 pub use solver::{exists, least, outcomes};
 pub use table::OutcomeTable;

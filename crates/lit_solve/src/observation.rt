@@ -3,8 +3,9 @@
 ghost use Rattle.std.specs.Prelude.{◌≡◌, ℕ, ◌<◌, MatchBool, length};
 ghost use Rattle.lit_paths.specs.ByteReads.{byte_reads};
 ghost use Rattle.lit_solve.specs.Box.{HasEmptyDomain, HasSource, IsBox, box_with, events_on};
-ghost use Rattle.lit_solve.specs.Internal.Deciding.{IsUndecidedAt, stored_for};
-ghost use Rattle.lit_solve.specs.Internal.Observation.{AreFirstValues, IsObservation, IsValueHeld, IsValueOf};
+ghost use Rattle.lit_solve.specs.Prospect.{IsUndecidedAt, IsValueOf};
+ghost use Rattle.lit_solve.specs.Internal.Deciding.{stored_for};
+ghost use Rattle.lit_solve.specs.Internal.Observation.{AreFirstValues, IsObservation, IsValueHeld};
 
 use crate::domains::Domains;
 use crate::filling::Taken;
@@ -17,8 +18,9 @@ use lit_valid::laws::laws_below;
 pub(crate) type Values = ArrayVec<u32, NAME_LIMIT>;
 
 /// What the sources in a box's domains say of a read.
-pub(crate) enum ReadValue {
-    /// It has this value in each completion.
+#[derive(Clone, Copy, Debug, PartialEq, Eq)]
+pub enum ReadValue {
+    /// It has this value by any of them.
     One(u32),
     /// The byte read at a place, which is of it, may be read as several bytes.
     Open(usize),
@@ -42,8 +44,8 @@ impl Problem<'_> {
         }
     }
 
-    /// What the sources in a box's domains say of the value of a read.
-    fn read_value(&self, domains: &Domains, read: u8) -> ReadValue
+    /// What the sources in a box's domains, none of which is empty, say of the value of a read, by event number.
+    pub fn read_value(&self, domains: &Domains, read: u8) -> ReadValue
         requires read { read < length (events_on self.now) }
         requires is_box { IsBox (box_with self.now domains.now) }
         requires some { ¬ HasEmptyDomain (box_with self.now domains.now) }

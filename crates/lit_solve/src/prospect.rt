@@ -1,11 +1,11 @@
-//! What a box says of the outcomes of its completions.
+//! What a box says of what is looked for.
 
-/// What the domains of a box say of a goal, as far as the outcome of a completion goes.
+/// What the domains of a box say of what is looked for, as far as outcomes go.
 #[derive(Clone, Copy, Debug, PartialEq, Eq)]
-pub(crate) enum Prospect {
-    /// No completion is what is looked for.
+pub enum Prospect {
+    /// None is what is looked for.
     Nothing,
-    /// Each completion is.
+    /// Each is.
     Each,
     /// It hangs on what the byte read at a place is read as: its sources store several bytes.
     Open(usize),

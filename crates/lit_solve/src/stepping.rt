@@ -16,6 +16,7 @@ use crate::laws::boxes_foresee_races;
 use crate::problem::Problem;
 use crate::prospect::Prospect;
 use lit_rel::EventSet;
+use lit_valid::laws::laws_below;
 
 /// A byte read whose domain is parted.
 #[derive(Clone, Copy, Debug, PartialEq, Eq)]
@@ -43,6 +44,7 @@ impl Problem<'_> {
         requires { IsSettled (box_of self.now frame.now) frame.now }
         ensures { IsProspect (box_of self.now frame.now) goal result }
     {
+        laws_below();
         boxes_foresee_races();
         match goal {
             Goal::Any => Prospect::Each,

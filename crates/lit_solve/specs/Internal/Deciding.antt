@@ -1,10 +1,10 @@
 -- What the domains of a box say of the outcomes of its completions.
-use Rattle.std.specs.Prelude.{◌≡◌, ◌≢◌, ℕ, ◌==◌, List, Some, not, slice_get, ⊤}
+use Rattle.std.specs.Prelude.{◌≡◌, ℕ, ◌==◌, List, not, ⊤}
 use Rattle.std.specs.List.{zip}
 use Rattle.lit_read.specs.Syntax.{Condition, Litmus}
-use Rattle.lit_paths.specs.ByteReads.{byte_read_at, byte_reads}
+use Rattle.lit_paths.specs.ByteReads.{byte_read_at}
 use Rattle.lit_paths.specs.Event.{event_at, payload_at}
-use Rattle.lit_paths.specs.Execution.{Execution, execution_outcome}
+use Rattle.lit_paths.specs.Execution.{Execution}
 use Rattle.lit_paths.specs.Outcome.{holds, names_of}
 use Rattle.lit_rel.specs.ReadsFrom.{value_of}
 use Rattle.lit_solve.specs.declared.goal.Goal.{Goal}
@@ -17,21 +17,11 @@ use Rattle.lit_solve.specs.Box.{Box, HasSource, box_events}
 use Rattle.lit_solve.specs.Completion.{IsCompletion}
 use Rattle.lit_solve.specs.Fill.{AreSourcesIn}
 use Rattle.lit_solve.specs.Goal.{Meets}
+use Rattle.lit_solve.specs.Prospect.{IsUndecidedAt, outcome_by}
 
 -- the byte that event w stores for the k-th byte read
 abbrev pub stored_for : Box → (k w : ℕ) → ℕ
 stored_for box k w = payload_at (event_at (box_events box) w) (byte_read_at (box_events box) k).1
-
--- two sources in the domain of the k-th byte read store different bytes there
-pub record IsUndecidedAt (box : Box) (k : ℕ) : Type 0 where
-  pub read : ℕ
-  pub byte : ℕ
-  pub is_read : slice_get (byte_reads (box_events box)) k ≡ Some (read, byte)
-  pub some : ℕ
-  pub other : ℕ
-  pub some_there : HasSource box k some
-  pub other_there : HasSource box k other
-  pub apart : payload_at (event_at (box_events box) some) byte ≢ payload_at (event_at (box_events box) other) byte
 
 -- each source in the domain of the k-th byte read stores this byte for it, or none does; or that hangs on which
 abbrev pub IsByteDecided : Box → (k byte : ℕ) → Decided → Type 0
@@ -44,11 +34,10 @@ IsReadDecided box r number (Comes value) =
     (sources : List ℕ) → AreSourcesIn box sources → (value_of (box_events box) sources r == number) ≡ value
 IsReadDecided box r number (Hangs k) = IsUndecidedAt box k
 
--- the condition comes to a value with the outcome of each completion, or it hangs on what a byte is read as
+-- the condition comes to a value with the outcome by any sources that lie in the box, or it hangs on what a byte is read as
 abbrev pub IsDecided : Box → Condition → Decided → Type 0
 IsDecided box condition (Comes value) =
-    (x : Execution) → IsCompletion box x
-    → holds (zip (names_of box.test) (execution_outcome box.test x)) condition ≡ value
+    (sources : List ℕ) → AreSourcesIn box sources → holds (zip (names_of box.test) (outcome_by box sources)) condition ≡ value
 IsDecided box condition (Hangs k) = IsUndecidedAt box k
 
 -- the execution is what is looked for, as far as its outcome goes: of data races that says nothing

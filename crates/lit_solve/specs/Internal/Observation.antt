@@ -3,7 +3,6 @@ use Rattle.std.specs.Prelude.{◌≡◌, ℕ, ◌<◌, ◌≤◌, List, Option, 
 use Rattle.lit_paths.specs.ByteReads.{byte_read_at, byte_reads}
 use Rattle.lit_paths.specs.Execution.{Execution, execution_outcome}
 use Rattle.lit_paths.specs.Outcome.{names_of}
-use Rattle.lit_rel.specs.ReadsFrom.{value_of}
 use Rattle.lit_rel.specs.Part.{PartModel}
 use Rattle.lit_valid.specs.PartOutcome.{read_held, value_held}
 use Rattle.lit_solve.specs.declared.observation.ReadValue.{ReadValue}
@@ -11,13 +10,7 @@ use Rattle.lit_solve.specs.declared.observation.ReadValue.TheVariants.{One, Open
 use Rattle.lit_solve.specs.Box.{Box, box_events}
 use Rattle.lit_solve.specs.Completion.{IsCompletion}
 use Rattle.lit_solve.specs.Fill.{AreSourcesIn}
-use Rattle.lit_solve.specs.Internal.Deciding.{IsUndecidedAt}
-
--- read r has this value by any sources that lie in the box; or a byte of it can be read as several bytes
-abbrev pub IsValueOf : Box → ℕ → ReadValue → Type 0
-IsValueOf box r (One value) = (sources : List ℕ) → AreSourcesIn box sources → value_of (box_events box) sources r ≡ value
-IsValueOf box r (Open k) =
-    (k < length (byte_reads (box_events box))) × IsUndecidedAt box k × ((byte_read_at (box_events box) k).0 ≡ r)
+use Rattle.lit_solve.specs.Prospect.{IsUndecidedAt}
 
 -- the box's combination with these sources
 abbrev pub part_with : Box → List ℕ → PartModel

@@ -11,7 +11,8 @@ use Rattle.lit_solve.specs.Completion.{IsCompletion}
 use Rattle.lit_solve.specs.Fill.{IsQuiet}
 use Rattle.lit_solve.specs.Given.{HasAlone}
 use Rattle.lit_solve.specs.Goal.{Meets}
-use Rattle.lit_solve.specs.Internal.Deciding.{IsUndecidedAt, MeetsByOutcome, stored_for}
+use Rattle.lit_solve.specs.Prospect.{IsUndecidedAt}
+use Rattle.lit_solve.specs.Internal.Deciding.{MeetsByOutcome, stored_for}
 
 -- the domain of a byte read can be parted: by what its sources store, or by the sources
 pub record IsBranch (box : Box) (branch : Branch) : Type 0 where

@@ -4,15 +4,15 @@ use Rattle.lit_solve.proofs.ConditionLemmas.{met_by_one, unmet_by_one, values_of
 use Rattle.lit_solve.proofs.problem.Problem.+decide.Goals as goal
 
 pub any-init : goal.any-init
-any-init t c x is = grind (arith, common_steps, holds-Any, member_holds, values_of)
+any-init t c sources lie = grind (arith, common_steps, holds-Any, member_holds, values_of)
 
 pub all-init : goal.all-init
-all-init t c x is = grind (arith, common_steps, holds-All, member_holds, values_of)
+all-init t c sources lie = grind (arith, common_steps, holds-All, member_holds, values_of)
 
 pub returns-in-Comes-true : goal.returns-in-Comes-true
-returns-in-Comes-true t c x is =
+returns-in-Comes-true t c sources lie =
     grind (arith, common_steps, met_by_one, values_of, c.deref-member-items.ensures.value, c.in-Comes-true.ensures)
 
 pub returns-in-Comes-false-decide : goal.returns-in-Comes-false-decide
-returns-in-Comes-false-decide t c x is =
+returns-in-Comes-false-decide t c sources lie =
     grind (arith, common_steps, unmet_by_one, values_of, c.deref-member-items-in-All.ensures.value, c.in-Comes-false-decide.ensures)

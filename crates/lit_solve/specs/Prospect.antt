@@ -1,0 +1,41 @@
+-- What the domains of a box say of the values and outcomes that sources in it give, valid or not (this project's own).
+use Rattle.std.specs.Prelude.{◌≡◌, ◌≢◌, ℕ, ◌<◌, IsTrue, List, Some, length, slice_get}
+use Rattle.lit_paths.specs.ByteReads.{byte_read_at, byte_reads}
+use Rattle.lit_paths.specs.Event.{event_at, payload_at}
+use Rattle.lit_rel.specs.ReadsFrom.{value_of}
+use Rattle.lit_valid.specs.declared.class.Class.{Class}
+use Rattle.lit_valid.specs.Class.{is_of_class}
+use Rattle.lit_valid.specs.PartOutcome.{part_outcome}
+use Rattle.lit_solve.specs.declared.observation.ReadValue.{ReadValue}
+use Rattle.lit_solve.specs.declared.observation.ReadValue.TheVariants.{One, Open as OpenAt}
+use Rattle.lit_solve.specs.declared.prospect.Prospect.{Prospect}
+use Rattle.lit_solve.specs.declared.prospect.Prospect.TheVariants.{Each, Nothing, Open}
+use Rattle.lit_solve.specs.Box.{Box, HasSource, box_events}
+use Rattle.lit_solve.specs.Fill.{AreSourcesIn}
+
+-- two sources in the domain of the k-th byte read store different bytes there
+pub record IsUndecidedAt (box : Box) (k : ℕ) : Type 0 where
+  pub read : ℕ
+  pub byte : ℕ
+  pub is_read : slice_get (byte_reads (box_events box)) k ≡ Some (read, byte)
+  pub some : ℕ
+  pub other : ℕ
+  pub some_there : HasSource box k some
+  pub other_there : HasSource box k other
+  pub apart : payload_at (event_at (box_events box) some) byte ≢ payload_at (event_at (box_events box) other) byte
+
+-- read r has this value by any sources that lie in the box; or a byte of it can be read as several bytes
+abbrev pub IsValueOf : Box → ℕ → ReadValue → Type 0
+IsValueOf box r (One value) = (sources : List ℕ) → AreSourcesIn box sources → value_of (box_events box) sources r ≡ value
+IsValueOf box r (OpenAt k) =
+    (k < length (byte_reads (box_events box))) × IsUndecidedAt box k × ((byte_read_at (box_events box) k).0 ≡ r)
+
+-- what the registers hold at the end by these sources
+abbrev pub outcome_by : Box → List ℕ → List ℕ
+outcome_by box sources = part_outcome (record { test = box.test; combination = box.combination; sources = sources })
+
+-- By no sources that lie in the box is the outcome in the class; by all of them it is; or that hangs on what a byte is read as.
+abbrev pub IsOutcomeProspect : Box → Class → Prospect → Type 0
+IsOutcomeProspect box class Nothing = (sources : List ℕ) → AreSourcesIn box sources → ¬ IsTrue (is_of_class box.test class (outcome_by box sources))
+IsOutcomeProspect box class Each = (sources : List ℕ) → AreSourcesIn box sources → IsTrue (is_of_class box.test class (outcome_by box sources))
+IsOutcomeProspect box class (Open k) = IsUndecidedAt box k
