@@ -4,4 +4,8 @@
 #[cfg(test)]
 mod deep;
 #[cfg(test)]
+mod listed;
+#[cfg(test)]
+mod outcomes;
+#[cfg(test)]
 mod solver;

@@ -1,0 +1,75 @@
+//! A table of outcomes that is a list, and a heartbeat that counts.
+
+ghost use Rattle.std.specs.Prelude.{map};
+ghost use Rattle.lit_solve_tests.specs.Listed.{entry_of};
+
+use lit_order::Order;
+use lit_solve::{Heartbeat, OutcomeTable};
+use std::alloc::{AllocError, Global};
+use std::sync::atomic::{AtomicU64, Ordering};
+
+/// An outcome with its example.
+#[derive(Drop)]
+pub(super) struct Row {
+    pub outcome: Vec<u32>,
+    pub choice: u64,
+    pub order: Order,
+}
+
+/// Outcomes with their examples, in the order in which they were recorded.
+#[derive(Drop)]
+pub(super) struct Listed {
+    alloc: Global,
+    rows: Vec<Row>,
+}
+
+impl Listed {
+    /// None yet.
+    pub(super) fn new(alloc: Global) -> Self {
+        Listed {
+            alloc,
+            rows: Vec::new(alloc),
+        }
+    }
+
+    /// All that were recorded.
+    pub(super) fn rows(&self) -> &[Row] {
+        self.rows.as_slice()
+    }
+}
+
+impl OutcomeTable for Listed {
+    ghost entries = { λ table. map entry_of table.rows.items };
+
+    fn has(&self, outcome: &[u32]) -> bool {
+        for row in &self.rows {
+            if row.outcome.as_slice() == outcome {
+                return true;
+            }
+        }
+        false
+    }
+
+    fn record(&mut self, outcome: &[u32], choice: u64, order: Order) -> Result<(), AllocError> {
+        let mut values = Vec::new(self.alloc);
+        values.extend_from_slice(outcome)?;
+        self.rows.push(Row {
+            outcome: values,
+            choice,
+            order,
+        })?;
+        Ok(())
+    }
+}
+
+/// How often a search came down one step more.
+#[derive(Drop)]
+pub(super) struct Beats {
+    pub count: AtomicU64,
+}
+
+impl Heartbeat for Beats {
+    fn beat(&self) {
+        self.count.fetch_add(1, Ordering::SeqCst);
+    }
+}

@@ -1,0 +1,88 @@
+//! `lit_solve::outcomes`: what a table has afterwards.
+
+use crate::listed::{Beats, Listed, Row};
+use lit_paths::{BYTE_READ_LIMIT, Plan, plan};
+use lit_read::read;
+use lit_rel::EventSet;
+use lit_solve::{Boxes, Domains, Problem, outcomes};
+use lit_texts::STORE_BUFFERING;
+use std::alloc::{AllocError, AllocGlobal};
+use std::process::Abort;
+use std::sync::atomic::{AtomicU64, Ordering};
+use std::test::Fail;
+
+const THREE_LOADS: &str = "test loads
+bytes 1
+agent A
+U8[0] = 1
+U8[0] = 2
+agent B
+r0 = U8[0]
+r1 = U8[0]
+r2 = U8[0]
+check B.r0 == 2
+";
+
+/// An outcome, the number of its choice, and its least memory-order.
+type Recorded<'a> = (&'a [u32], u64, &'a [u8]);
+
+/// Records all outcomes of the first combination, which has several choices. Gives how many steps down that took.
+fn record_all(rt: &impl Abort, plan: &Plan<'_>, table: &mut Listed) -> Result<u64, AllocError> {
+    let _test = plan.test();
+    let _combinations = plan.combinations();
+    let problem = Problem::open(plan, 0);
+    let combination = problem.combination();
+    assert!(rt; combination.first() < combination.end());
+    let boxes = Boxes::of_range(combination, combination.first(), combination.end());
+    let beats = Beats {
+        count: AtomicU64::new(0),
+    };
+    for i in 0..boxes.len() {
+        let mut domains: Domains = [EventSet::new(); BYTE_READ_LIMIT];
+        boxes.put(i, &mut domains);
+        outcomes(&problem, &domains, table, &beats)?;
+    }
+    Ok(beats.count.load(Ordering::SeqCst))
+}
+
+/// That one of the rows is this.
+fn assert_has(rt: &impl Abort, rows: &[Row], wanted: Recorded<'_>) {
+    let (outcome, choice, order) = wanted;
+    for row in rows {
+        if row.outcome.as_slice() == outcome {
+            assert_eq!(rt; row.choice, choice);
+            assert_eq!(rt; row.order.as_slice(), order);
+            return;
+        }
+    }
+    panic!(rt; "no outcome {outcome:?}");
+}
+
+/// Both loads read 0 in no valid execution. A table that has the outcomes gets none of them again.
+#[test]
+fn each_outcome_is_recorded_once_with_its_least_example(rt: HostRuntime) -> Result<(), Fail> {
+    let test = read(rt.alloc(), STORE_BUFFERING.as_bytes())?;
+    let plan = plan(rt.alloc(), &test)?;
+    let mut table = Listed::new(rt.alloc());
+    for _again in 0..2 {
+        record_all(&rt, &plan, &mut table)?;
+        let rows = table.rows();
+        assert_eq!(&rt; rows.len(), 3);
+        assert_has(&rt, rows, (&[0, 1], 1, &[0, 1, 2, 3, 4, 5]));
+        assert_has(&rt, rows, (&[1, 0], 2, &[0, 1, 4, 5, 2, 3]));
+        assert_has(&rt, rows, (&[1, 1], 3, &[0, 1, 2, 4, 3, 5]));
+    }
+    Ok(())
+}
+
+/// Plain loads don't depend on each other: each of three reads 0, 1 or 2. Each of the 27 outcomes is a step down of its own.
+#[test]
+fn independent_loads_have_heartbeats(rt: HostRuntime) -> Result<(), Fail> {
+    let test = read(rt.alloc(), THREE_LOADS.as_bytes())?;
+    let plan = plan(rt.alloc(), &test)?;
+    let mut table = Listed::new(rt.alloc());
+    let beats = record_all(&rt, &plan, &mut table)?;
+    assert_eq!(&rt; table.rows().len(), 27);
+    assert!(&rt; beats >= 27);
+    Ok(())
+}
