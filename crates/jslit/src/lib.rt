@@ -21,6 +21,7 @@ mod verdict;
 mod watch;
 
 pub use command::asked_line::Line;
+pub use command::version::VERSION;
 pub use command::words::line;
 pub use command::{check, check_schedule, check_watched, no_words, program, program_watched};
 pub use counted::Counted;
