@@ -14,6 +14,7 @@ COMMANDS = {
     "jslit-json": "reports of jslit as JSON, and back",
     "jslit-page": "litmus tests in a browser",
     "jslit-test262": "write a litmus test as a file of test262",
+    "jslit-why": "why no execution of a litmus test meets its condition",
 }
 # What a value is called that is a file's name.
 FILES = ("FILE", "PROGRAM", "FOLDER")

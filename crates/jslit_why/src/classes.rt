@@ -1,0 +1,115 @@
+//! Why no valid execution has an outcome of a class, or an example where one has.
+
+use crate::attempts::Tally;
+use crate::reasons::put_reason;
+use crate::scene::Scene;
+use crate::statements::Statements;
+use lit_paths::Plan;
+use lit_read::Test;
+use lit_search::{Class, first_in, search_range};
+use lit_why::attempts;
+use std::alloc::Global;
+use std::io;
+use std::io::Write;
+
+/// The verdict on a class that no valid execution has.
+fn verdict_without(class: Class) -> &'static str {
+    match class {
+        Class::Met => "never",
+        Class::Unmet => "always",
+    }
+}
+
+/// Puts an example of a class, or why there is none. At most so many attempts are looked at.
+pub(crate) fn explain_class(
+    alloc: Global,
+    page: &mut Vec<u8>,
+    plan: &Plan<'_>,
+    statements: &Statements,
+    class: Class,
+    most: usize,
+) -> io::Result<()> {
+    writeln!(page, "test {}", plan.test().name())?;
+    match first_in(plan, class, 0, plan.total()) {
+        Some(choice) => put_example(alloc, page, plan, statements, choice),
+        None => put_attempts(alloc, page, plan, statements, class, most),
+    }
+}
+
+/// Puts the line of an outcome, by its registers' names and values.
+fn put_outcome(page: &mut Vec<u8>, test: &Test, names: &[(u8, u8)], values: &[u32]) -> io::Result<()> {
+    page.write_all(b"outcome")?;
+    for (place, (agent, register)) in names.iter().enumerate() {
+        if usize::from(*agent) < test.agents() && place < values.len() {
+            let name = test.agent_name(usize::from(*agent));
+            write!(page, " {name}.r{register}={}", values[place])?;
+        }
+    }
+    page.write_all(b"\n")
+}
+
+/// Puts the outcome of a choice with its least memory-order. A choice without an outcome puts nothing.
+fn put_example(
+    alloc: Global,
+    page: &mut Vec<u8>,
+    plan: &Plan<'_>,
+    statements: &Statements,
+    choice: u64,
+) -> io::Result<()> {
+    let Ok(found) = search_range(alloc, &*plan, choice, choice + 1) else {
+        return Err(io::Error::from(io::ErrorKind::OutOfMemory));
+    };
+    if found.len() == 0 {
+        return Ok(());
+    }
+    put_outcome(page, plan.test(), plan.names(), found.outcome(0))?;
+    let scene = Scene::new(plan, statements, choice);
+    scene.put_sources(page)?;
+    scene.put_order(page, found.example(0).order.as_slice())
+}
+
+/// Puts how many attempts there are, and by which clauses their least choices are refused.
+fn put_attempts(
+    alloc: Global,
+    page: &mut Vec<u8>,
+    plan: &Plan<'_>,
+    statements: &Statements,
+    class: Class,
+    most: usize,
+) -> io::Result<()> {
+    let attempts = attempts(alloc, plan, class, most.saturating_add(1))?;
+    let verdict = verdict_without(class);
+    match attempts.len() {
+        0 => return writeln!(page, "{verdict}: no values that reads can take come to it"),
+        1 => writeln!(page, "{verdict}: 1 attempt")?,
+        count if count > most => writeln!(page, "{verdict}: more than {most} attempts, of which these are looked at")?,
+        count => writeln!(page, "{verdict}: {count} attempts")?,
+    }
+    let mut tally = Tally::new();
+    for attempt in attempts.iter().take(most) {
+        tally.count(plan, statements, attempt.choice);
+    }
+    put_tally(alloc, page, plan, statements, &tally)
+}
+
+/// Puts each clause that refuses an attempt, how many it refuses, and the first of them with the reason.
+fn put_tally(
+    alloc: Global,
+    page: &mut Vec<u8>,
+    plan: &Plan<'_>,
+    statements: &Statements,
+    tally: &Tally,
+) -> io::Result<()> {
+    for row in tally.rows() {
+        let Some(choice) = row.first else {
+            continue;
+        };
+        writeln!(page, "{} {} ({})", row.clause, row.count, row.section)?;
+        if choice < plan.total() {
+            let scene = Scene::new(&*plan, statements, choice);
+            scene.put_sources(page)?;
+            put_reason(alloc, page, &scene)?;
+        }
+    }
+    Ok(())
+}

@@ -1,0 +1,94 @@
+//! The words of the command line.
+
+use clap::{Arg, ArgAction, Command, Error, value_parser};
+use jslit::VERSION;
+use std::alloc::{AllocError, Global};
+use std::convert::AsStr;
+
+/// What the words ask for.
+#[derive(Clone, Copy, Debug, PartialEq, Eq)]
+pub(crate) struct Line<'a> {
+    /// Whether the class is that of the outcomes that do not meet the condition.
+    pub unmet: bool,
+    /// Whether a data race is asked for, in place of a class.
+    pub race: bool,
+    /// How many attempts are looked at, at the most.
+    pub most: usize,
+    /// The file that holds the text; standard input where there is none.
+    pub file: Option<&'a str>,
+}
+
+/// How many attempts are looked at where the words say nothing.
+const MOST: usize = 1_000;
+
+/// The largest number of attempts that may be asked for.
+const MOST_LIMIT: i64 = 1_000_000;
+
+/// What follows the list of flags in the help.
+const AFTER: &str = "\
+Exit status:
+  0  an explanation was printed
+  1  the text or its test is refused: the reason is printed on standard output
+  2  a fault of the command line
+  3  out of memory
+  4  the input or the output failed
+
+Example:
+  jslit-why litmus/sb.lit";
+
+/// A flag that takes no value.
+fn flag<'a>(alloc: Global, name: &'a str, help: &'a str) -> Arg<'a> {
+    Arg::new(alloc, name)
+        .long(name)
+        .action(ArgAction::SetTrue)
+        .help(help)
+}
+
+/// The flag for the number of attempts.
+fn most_flag<'a>(alloc: Global) -> Arg<'a> {
+    Arg::new(alloc, "most")
+        .long("most")
+        .value_name("N")
+        .action(ArgAction::Set)
+        .value_parser(value_parser!(usize).range(1..=MOST_LIMIT))
+        .help("How many attempts are looked at, 1 to 1000000 [default: 1000]")
+}
+
+/// The command `jslit-why`.
+fn command<'a>(alloc: Global) -> Result<Command<'a>, AllocError> {
+    let bare = Command::new(alloc, "jslit-why")
+        .version(VERSION)
+        .about("Says why no valid execution of a litmus test meets its condition, and where a data race is")
+        .after_help(AFTER)
+        .bin_name("jslit-why")?;
+    let with_unmet = bare.arg(flag(
+        alloc,
+        "unmet",
+        "Ask for an outcome that does not meet the condition",
+    ))?;
+    let with_race = with_unmet.arg(flag(
+        alloc,
+        "race",
+        "Ask for the first data race, in place of an outcome",
+    ))?;
+    let with_most = with_race.arg(most_flag(alloc))?;
+    let whole = with_most.arg(
+        Arg::new(alloc, "file")
+            .value_name("FILE")
+            .action(ArgAction::Set)
+            .help("The litmus text [default: standard input]"),
+    )?;
+    Ok(whole)
+}
+
+/// What the words ask for: the program's name, its flags and at most one file.
+pub(crate) fn line_of<'a, S: AsStr>(alloc: Global, words: &'a [S]) -> Result<Line<'a>, Error> {
+    let mut command = command(alloc)?;
+    let matches = command.try_get_matches_from_mut(words)?;
+    Ok(Line {
+        unmet: matches.get_str("unmet") == Some("true"),
+        race: matches.get_str("race") == Some("true"),
+        most: matches.get_one("most").unwrap_or(MOST),
+        file: matches.get_str("file"),
+    })
+}

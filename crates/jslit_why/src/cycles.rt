@@ -1,0 +1,119 @@
+//! A derivation as it is read: what is forced first, and then the cycle, step by step.
+
+use crate::reasons::{put_chain, put_conclusion};
+use crate::scene::Scene;
+use lit_why::{Line, Reason};
+use std::alloc::Global;
+use std::io;
+use std::io::Write;
+
+/// How many lines of a derivation are looked at for one step, at the most: more than it can have.
+const MOST: usize = 10_000;
+
+/// The places of the lines that are joined to the line at a place, in the order of their events: none of them is joined itself.
+fn steps_of(alloc: Global, lines: &[Line], place: usize) -> io::Result<Vec<usize>> {
+    let mut steps = Vec::new(alloc);
+    let mut waiting = Vec::new(alloc);
+    waiting.push(place)?;
+    for _ in 0..MOST {
+        let Some(place) = waiting.pop() else {
+            break;
+        };
+        match lines.get(place) {
+            Some(Line { reason: Reason::Joined { first, second }, .. }) => {
+                waiting.push(*second)?;
+                waiting.push(*first)?;
+            }
+            _ => steps.push(place)?,
+        }
+    }
+    Ok(steps)
+}
+
+/// Puts why one event comes before another.
+fn put_forced(page: &mut Vec<u8>, scene: &Scene<'_>, line: &Line, middle: u8, source: u8, read: u8) -> io::Result<()> {
+    page.write_all(b"  ")?;
+    scene.put_placed(page, line.before)?;
+    page.write_all(b" before ")?;
+    scene.put_placed(page, line.after)?;
+    page.write_all(b": ")?;
+    scene.put_event(page, middle)?;
+    page.write_all(b" may not stand between ")?;
+    scene.put_event(page, source)?;
+    page.write_all(b" and ")?;
+    scene.put_event(page, read)?;
+    page.write_all(b"\n")
+}
+
+/// Puts one line of a derivation that is not joined of others.
+fn put_step(page: &mut Vec<u8>, scene: &Scene<'_>, line: &Line) -> io::Result<()> {
+    match line.reason {
+        Reason::AfterRead { source, .. } => put_forced(page, scene, line, line.after, source, line.before),
+        Reason::BeforeSource { read, .. } => put_forced(page, scene, line, line.before, line.after, read),
+        Reason::HappensBefore | Reason::Joined { .. } => put_chain(page, scene, line.before, line.after),
+    }
+}
+
+/// The place of the line that a forced line rests on.
+fn earlier_of(line: &Line) -> Option<usize> {
+    match line.reason {
+        Reason::AfterRead { earlier, .. } | Reason::BeforeSource { earlier, .. } => Some(earlier),
+        Reason::HappensBefore | Reason::Joined { .. } => None,
+    }
+}
+
+/// Whether a line is of happens-before.
+fn is_given(lines: &[Line], place: usize) -> bool {
+    match lines.get(place) {
+        Some(line) => line.reason == Reason::HappensBefore,
+        None => true,
+    }
+}
+
+/// Puts the steps that lead to what a forced line rests on, unless it is of happens-before.
+fn put_premise(alloc: Global, page: &mut Vec<u8>, scene: &Scene<'_>, lines: &[Line], line: &Line) -> io::Result<()> {
+    let Some(earlier) = earlier_of(line) else {
+        return Ok(());
+    };
+    if is_given(lines, earlier) {
+        return Ok(());
+    }
+    let steps = steps_of(alloc, lines, earlier)?;
+    put_steps(page, scene, lines, &steps)
+}
+
+/// Where the step stands that begins with the least event, and that event.
+fn first_step(lines: &[Line], steps: &[usize]) -> (usize, u8) {
+    let mut first = (0, u8::MAX);
+    for (place, step) in steps.iter().enumerate() {
+        if let Some(line) = lines.get(*step) {
+            if line.before < first.1 {
+                first = (place, line.before);
+            }
+        }
+    }
+    first
+}
+
+/// Puts steps, one after the other.
+fn put_steps(page: &mut Vec<u8>, scene: &Scene<'_>, lines: &[Line], steps: &[usize]) -> io::Result<()> {
+    for place in steps {
+        if let Some(step) = lines.get(*place) {
+            put_step(page, scene, step)?;
+        }
+    }
+    Ok(())
+}
+
+/// Puts a derivation: the steps that lead to what its forced lines rest on, and then those of the cycle, from its least event on.
+pub(crate) fn put_cycle(alloc: Global, page: &mut Vec<u8>, scene: &Scene<'_>, lines: &[Line]) -> io::Result<()> {
+    for line in lines {
+        put_premise(alloc, page, scene, lines, line)?;
+    }
+    let steps = steps_of(alloc, lines, lines.len().saturating_sub(1))?;
+    let (place, event) = first_step(lines, &steps);
+    let (before, after) = steps.split_at(place.min(steps.len()));
+    put_steps(page, scene, lines, after)?;
+    put_steps(page, scene, lines, before)?;
+    put_conclusion(page, scene, event)
+}

@@ -1,0 +1,158 @@
+//! What is answered for a text, and the program's status.
+
+ghost use Rattle.std.specs.Prelude.{◌<◌, ◌^◌, ◌-◌};
+ghost use Rattle.jslit.specs.Counted.{failures_of};
+
+use crate::classes::explain_class;
+use crate::command::{Line, line_of};
+use crate::races::explain_race;
+use crate::statements::Statements;
+use clap::Error;
+use clap::error::ErrorKind;
+use jslit::{Counted, Options, RunFault, check};
+use lit_paths::plan;
+use lit_read::{TEXT_LIMIT, read};
+use lit_search::Class;
+use std::alloc::Global;
+use std::convert::AsStr;
+use std::io::{Read, Write};
+use std::rt::Files;
+use std::thread::Threads;
+use std::{fs, io};
+
+/// Does what the words ask for. Gives the status: 0 for an explanation, 1 for a text or test that is refused, 2 for a fault of
+/// the words, 3 where memory ran out, 4 for an input or output that failed.
+pub(crate) fn answer<T: Threads + Sync + Files, S: AsStr, R: Read + Drop, W: Write, E: Write>(
+    rt: &T,
+    alloc: Global,
+    words: &[S],
+    input: R,
+    output: &mut Counted<W>,
+    errors: &mut E,
+) -> u8
+    requires { failures_of output.old < 2 ^ 64 - 1 }
+{
+    let line = match line_of(alloc, words) {
+        Ok(line) => line,
+        Err(error) => return explain_words(output, errors, &error),
+    };
+    let Some(path) = line.file else {
+        return answer_text(rt, alloc, read_text(alloc, input), output, errors, &line);
+    };
+    match fs::open(rt, path) {
+        Ok(file) => answer_text(rt, alloc, read_text(alloc, file), output, errors, &line),
+        Err(_) => say(errors, RunFault::InputFailed),
+    }
+}
+
+/// The bytes of the input, up to one more than a text may have.
+fn read_text<R: Read + Drop>(alloc: Global, input: R) -> io::Result<Vec<u8>> {
+    let mut text = Vec::new(alloc);
+    input.take(TEXT_LIMIT as u64 + 1).read_to_end(&mut text)?;
+    Ok(text)
+}
+
+/// The fault of a read or of a growth.
+fn fault_of(error: &io::Error, other: RunFault) -> RunFault {
+    if error.kind() == io::ErrorKind::OutOfMemory {
+        RunFault::OutOfMemory
+    } else {
+        other
+    }
+}
+
+/// Prints what is asked for of a text, or why it can't be. Gives the status.
+fn answer_text<T: Threads + Sync, W: Write, E: Write>(
+    rt: &T,
+    alloc: Global,
+    text: io::Result<Vec<u8>>,
+    output: &mut Counted<W>,
+    errors: &mut E,
+    line: &Line<'_>,
+) -> u8
+    requires { failures_of output.old < 2 ^ 64 - 1 }
+{
+    let text = match text {
+        Ok(text) => text,
+        Err(error) => return say(errors, fault_of(&error, RunFault::InputFailed)),
+    };
+    let mut page = Vec::new(alloc);
+    match explain(alloc, &text, line, &mut page) {
+        Ok(()) => write_page(output, errors, &page),
+        Err(RunFault::Read(_) | RunFault::Plan(_)) => refuse(rt, alloc, &text, output, errors),
+        Err(fault) => say(errors, fault),
+    }
+}
+
+/// Puts what is asked for of a text on a page.
+fn explain(alloc: Global, text: &[u8], line: &Line<'_>, page: &mut Vec<u8>) -> Result<(), RunFault> {
+    let test = read(alloc, text)?;
+    let plan = plan(alloc, &test)?;
+    let statements = Statements::of(alloc, text)?;
+    let put = if line.race {
+        explain_race(page, &plan, &statements)
+    } else {
+        let class = if line.unmet { Class::Unmet } else { Class::Met };
+        explain_class(alloc, page, &plan, &statements, class, line.most)
+    };
+    // A page is written by growth alone, so what fails is want of memory.
+    match put {
+        Ok(()) => Ok(()),
+        Err(_) => Err(RunFault::OutOfMemory),
+    }
+}
+
+/// Prints the line of a text or test that is refused, as jslit does.
+fn refuse<T: Threads + Sync, W: Write, E: Write>(
+    rt: &T,
+    alloc: Global,
+    text: &[u8],
+    output: &mut Counted<W>,
+    errors: &mut E,
+) -> u8
+    requires { failures_of output.old < 2 ^ 64 - 1 }
+{
+    let options = Options {
+        workers: 1,
+        cut: 1,
+        quick: true,
+    };
+    let mut input = Counted::new(text);
+    check(rt, alloc, &mut input, output, errors, options)
+}
+
+/// Writes a page. Gives the status.
+fn write_page<W: Write, E: Write>(output: &mut Counted<W>, errors: &mut E, page: &[u8]) -> u8 {
+    let Ok(()) = output.write_all(page) else {
+        return say(errors, RunFault::OutputFailed);
+    };
+    match output.flush() {
+        Ok(()) => 0,
+        Err(_) => say(errors, RunFault::OutputFailed),
+    }
+}
+
+/// Prints the line of a fault, and gives the status.
+fn say<E: Write>(errors: &mut E, fault: RunFault) -> u8 {
+    let _ = writeln!(errors, "{fault}");
+    match fault {
+        RunFault::OutOfMemory => 3,
+        _ => 4,
+    }
+}
+
+/// Prints what `clap` answers to words that ask for no text: the help, or what is wrong with them. Gives the status.
+fn explain_words<W: Write, E: Write>(output: &mut Counted<W>, errors: &mut E, error: &Error) -> u8 {
+    match error.kind() {
+        ErrorKind::OutOfMemory => say(errors, RunFault::OutOfMemory),
+        ErrorKind::DisplayHelp | ErrorKind::DisplayVersion => {
+            let _ = write!(output, "{error}");
+            let _ = output.flush();
+            0
+        }
+        _ => {
+            let _ = write!(errors, "{error}");
+            2
+        }
+    }
+}

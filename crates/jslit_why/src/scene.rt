@@ -1,0 +1,97 @@
+//! A choice of a test with what is told of it: its events, by their names and the lines of their statements.
+
+ghost use Rattle.std.specs.Prelude.{◌<◌, length};
+ghost use Rattle.lit_paths.specs.Choice.{choices_of};
+
+use crate::statements::{EventLines, Statements};
+use lit_paths::{Plan, Sources};
+use lit_rel::Part;
+use lit_why::{Refusal, part_of, refusal};
+use std::io;
+use std::io::Write;
+
+/// A choice of a plan's test.
+#[derive(Drop)]
+pub(crate) struct Scene<'p> {
+    pub plan: &'p Plan<'p>,
+    /// Its combination with its sources.
+    pub part: Part<'p>,
+    /// Its sources, in the order of the byte reads.
+    pub sources: Sources,
+    /// What refuses it.
+    pub refusal: Option<Refusal>,
+    lines: EventLines,
+}
+
+impl<'p> Scene<'p> {
+    /// The choice with this number.
+    pub(crate) fn new(plan: &'p Plan<'p>, statements: &Statements, choice: u64) -> Self
+        requires { choice < length (choices_of plan.now) }
+    {
+        let part = part_of(plan, choice);
+        let sources = plan.sources(choice);
+        let refusal = refusal(&part, sources.as_slice());
+        let lines = statements.lines_of(part.combination());
+        Scene {
+            plan,
+            part,
+            sources,
+            refusal,
+            lines,
+        }
+    }
+
+    /// Puts the name of an event: of a byte of the block, or of an agent's access.
+    pub(crate) fn put_event(&self, page: &mut Vec<u8>, event: u8) -> io::Result<()> {
+        let Some(event) = self.part.combination().events().get(usize::from(event)) else {
+            return Ok(());
+        };
+        match event.owner {
+            Some(agent) if usize::from(agent) < self.plan.test().agents() => {
+                let name = self.plan.test().agent_name(usize::from(agent));
+                write!(page, "{}.{}", name, event.place)
+            }
+            _ => write!(page, "init[{}]", event.place),
+        }
+    }
+
+    /// Puts the name of an event, with the line of its statement.
+    pub(crate) fn put_placed(&self, page: &mut Vec<u8>, event: u8) -> io::Result<()> {
+        self.put_event(page, event)?;
+        match self.lines.get(usize::from(event)) {
+            Some(Some(line)) => write!(page, " (line {line})"),
+            _ => Ok(()),
+        }
+    }
+
+    /// Puts a line for each event that reads, with the source of each of its bytes.
+    pub(crate) fn put_sources(&self, page: &mut Vec<u8>) -> io::Result<()> {
+        let mut last = None;
+        for (byte, source) in self.part.combination().byte_reads().iter().zip(self.sources.iter()) {
+            if last != Some(byte.read) {
+                if last.is_some() {
+                    page.write_all(b"\n")?;
+                }
+                page.write_all(b"  from ")?;
+                self.put_event(page, byte.read)?;
+                last = Some(byte.read);
+            }
+            page.write_all(b" ")?;
+            self.put_event(page, *source)?;
+        }
+        if last.is_some() {
+            page.write_all(b"\n")?;
+        }
+        Ok(())
+    }
+
+    /// Puts the line of a memory-order.
+    pub(crate) fn put_order(&self, page: &mut Vec<u8>, order: &[u8]) -> io::Result<()> {
+        page.write_all(b"  order")?;
+        for event in order {
+            page.write_all(b" ")?;
+            self.put_event(page, *event)?;
+        }
+        page.write_all(b"\n")
+    }
+}

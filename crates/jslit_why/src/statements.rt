@@ -1,0 +1,40 @@
+//! The lines of a text on which its statements begin.
+
+use lit_paths::{Combination, EVENT_LIMIT};
+use lit_read::{statement_count, statement_lines};
+use std::alloc::{AllocError, Global};
+
+/// The line, from 1, of each event of a combination, by number; none of an event that makes the block.
+pub(crate) type EventLines = [Option<usize>; EVENT_LIMIT];
+
+/// The line, from 1, of each statement of a text, in the order in which they are written.
+#[derive(Drop)]
+pub(crate) struct Statements {
+    lines: Vec<usize>,
+}
+
+impl Statements {
+    /// Those of a text.
+    pub(crate) fn of(alloc: Global, text: &[u8]) -> Result<Self, AllocError> {
+        let lines = statement_lines(alloc, text)?;
+        Ok(Statements { lines })
+    }
+
+    /// The line of each event of a combination of the text's test.
+    pub(crate) fn lines_of(&self, combination: &Combination<'_>) -> EventLines {
+        let test = combination.test();
+        let mut lines = [None; EVENT_LIMIT];
+        let mut before: usize = 0;
+        for agent in 0..test.agents() {
+            let first = usize::from(combination.first_event(agent));
+            for (place, statement) in combination.statements(agent).iter().enumerate() {
+                let event = first.saturating_add(place);
+                if event < EVENT_LIMIT {
+                    lines[event] = self.lines.get(before.saturating_add(*statement)).copied();
+                }
+            }
+            before = before.saturating_add(statement_count(test.body(agent)));
+        }
+        lines
+    }
+}
