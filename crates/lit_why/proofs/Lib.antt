@@ -1,1 +1,5 @@
+pub mod CountLemmas
+pub mod LinkLemmas
 pub mod RaceLemmas
+pub mod ReachLemmas
+pub mod StepLemmas

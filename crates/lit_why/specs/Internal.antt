@@ -1,2 +1,3 @@
--- Notions of the contracts inside this crate: races from one event on, and chains of so many steps.
+-- Notions of the contracts inside this crate: chains of so many steps, and races from one event on.
 pub mod Racing
+pub mod Reaching
