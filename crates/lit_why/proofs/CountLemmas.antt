@@ -1,5 +1,5 @@
 -- How many events below n a set has not.
-use Rattle.std.proofs.Common.{◌≡◌, ℕ, ◌+◌, ◌<◌, ◌≤◌, suc, zero, Bool, true, false, cond, eqb, eq-eqb, eqb-true, arith, inl, inr}
+use Rattle.std.proofs.Common.{◌≡◌, ℕ, ◌<◌, ◌≤◌, suc, zero, Bool, true, false, cond, eqb, eq-eqb, eqb-true, arith, inl, inr}
 use Rattle.std.proofs.lemmas.Bool.{cases_eq, false_from_ne_true}
 use Rattle.std.specs.Int.{bit_at}
 use Rattle.lit_rel.specs.declared.event_set.EventSet.{EventSet}

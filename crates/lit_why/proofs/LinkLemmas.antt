@@ -1,5 +1,5 @@
 -- Links, one more at the end, and by relations that hold alike.
-use Rattle.std.proofs.Common.{◌≡◌, ◌↔◌, ◌⊎◌, ℕ, List, [], ◌∷◌, ◌++◌, subst, sym, inl, inr}
+use Rattle.std.proofs.Common.{◌≡◌, ◌↔◌, ℕ, List, [], ◌∷◌, ◌++◌}
 use Rattle.lit_paths.specs.declared.event.Event.{Event}
 use Rattle.lit_why.specs.declared.chains.links.Link.{Link}
 use Rattle.lit_why.specs.declared.chains.links.StepKind.{StepKind}

@@ -1,9 +1,9 @@
 -- Data races by relations that hold alike.
-use Rattle.std.proofs.Common.{◌≡◌, ◌≢◌, ◌↔◌, ℕ, ◌<◌, List, Option, Some, None, MatchOption, sym, arith, inl, inr}
+use Rattle.std.proofs.Common.{◌≢◌, ◌↔◌, ℕ, ◌<◌, List, Option, Some, None, MatchOption, sym, arith, inl, inr}
 use Rattle.std.proofs.lemmas.Bool.{cases_lt}
 use Rattle.lit_paths.specs.declared.event.Event.{Event}
 use Rattle.lit_paths.specs.Event.{event_at}
-use Rattle.lit_rel.specs.DataRace.{AreUnguarded, HasDataRaceOf, IsDataRace, IsRace}
+use Rattle.lit_rel.specs.DataRace.{AreUnguarded, HasDataRaceOf, IsDataRace}
 use Rattle.lit_rel.proofs.RaceLemmas.{WritesWith-sym, same_range_back}
 use Rattle.lit_why.specs.declared.racing.RacingPair.{RacingPair}
 use Rattle.lit_why.specs.RacingPair.{IsLeastRacing}

@@ -1,3 +1,4 @@
 pub mod Chains
+pub mod Derivation
 pub mod Internal
 pub mod RacingPair

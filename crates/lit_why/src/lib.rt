@@ -2,8 +2,12 @@
 #![tactic(auto)]
 
 mod chains;
+mod derivations;
+pub mod laws;
 mod racing;
 
 pub use chains::chain;
 pub use chains::links::{Chain, Link, StepKind};
+pub use derivations::derivation;
+pub use derivations::lines::{Line, Reason};
 pub use racing::{RacingPair, racing_pair};

@@ -1,8 +1,5 @@
-use Rattle.std.proofs.Common.{◌≡◌, ◌↔◌, ℕ, ◌<◌, arith}
-use Rattle.lit_rel.specs.Part.{part_events}
+use Rattle.std.proofs.Common.{arith}
 use Rattle.lit_rel.specs.Rows.{Holds, rows_len}
-use Rattle.lit_why.specs.Chains.{AreLinkedBy}
-use Rattle.lit_why.specs.Internal.Reaching.{IsStep}
 use Rattle.lit_why.proofs.StepLemmas.{both_known, is_shortest, not_before}
 use Rattle.lit_why.proofs.chains.chain.Goals as goal
 use Rattle.lit_why.proofs.chains.chain.Goals.{then-first-len-via-then-first-len, then-first-len-via-else-first-len+then-last-len}

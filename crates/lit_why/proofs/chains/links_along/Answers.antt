@@ -1,10 +1,8 @@
-use Rattle.std.proofs.Common.{◌≡◌, ℕ, ◌+◌, ◌-◌, ◌<◌, ◌∙◌, length, arith}
-use Rattle.lit_rel.specs.EventSet.{HasEvent, no_events}
-use Rattle.lit_rel.specs.Rows.{Holds, rows_len}
-use Rattle.std.specs.Prelude.{slice_index_or}
+use Rattle.std.proofs.Common.{◌≡◌, ℕ, ◌+◌, ◌-◌, ◌<◌, length, arith}
+use Rattle.lit_rel.specs.Rows.{Holds}
 use Rattle.lit_why.specs.Internal.Reaching.{IsReachedBy}
 use Rattle.lit_why.proofs.LinkLemmas.{AreLinkedBy-more}
-use Rattle.lit_why.proofs.ReachLemmas.{reached_at_once, reached_next}
+use Rattle.lit_why.proofs.ReachLemmas.{reached_next}
 use Rattle.lit_why.proofs.chains.links_along.Goals as goal
 
 next : (step : ℕ → ℕ → Type 0) (d left e : ℕ) → 0 < left → IsReachedBy step d left e → (m : ℕ) × step e m × IsReachedBy step d (left - 1) m

@@ -1,5 +1,5 @@
-use Rattle.std.proofs.Common.{◌≡◌, ℕ, ◌+◌, ◌<◌, ◌≤◌, length}
-use Rattle.lit_rel.specs.Rows.{Holds, rows_len}
+use Rattle.std.proofs.Common.{◌≡◌, ◌+◌, length}
+use Rattle.lit_rel.specs.Rows.{Holds}
 use Rattle.lit_why.specs.Chains.{AreLinkedBy}
 use Rattle.lit_why.specs.Internal.Reaching.{IsReachedBy}
 use Rattle.lit_why.proofs.chains.links_along.Given as goal

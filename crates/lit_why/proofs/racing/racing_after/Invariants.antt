@@ -1,4 +1,4 @@
-use Rattle.std.proofs.Common.{ℕ, ◌<◌, ◌≤◌, length}
+use Rattle.std.proofs.Common.{ℕ, ◌<◌}
 use Rattle.lit_rel.specs.DataRace.{IsDataRace}
 use Rattle.lit_rel.specs.Rows.{Holds}
 use Rattle.lit_why.proofs.racing.racing_after.Given as goal

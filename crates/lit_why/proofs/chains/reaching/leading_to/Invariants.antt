@@ -1,4 +1,4 @@
-use Rattle.std.proofs.Common.{◌≡◌, ◌↔◌, ℕ, ◌<◌}
+use Rattle.std.proofs.Common.{◌↔◌, ℕ, ◌<◌}
 use Rattle.lit_rel.specs.EventSet.{HasEvent}
 use Rattle.lit_rel.specs.Rows.{Holds}
 use Rattle.lit_why.proofs.chains.reaching.leading_to.Given as goal

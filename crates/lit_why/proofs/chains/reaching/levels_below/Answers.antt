@@ -1,11 +1,10 @@
-use Rattle.std.proofs.Common.{◌≡◌, ◌⊎◌, ◌↔◌, ℕ, ◌+◌, ◌<◌, ◌≤◌, [], length, refl, inl, inr, arith}
+use Rattle.std.proofs.Common.{◌≡◌, ◌↔◌, ℕ, ◌<◌, length, refl, inl, inr, arith}
 use Rattle.std.proofs.lemmas.Bool.{false≢true}
 use Rattle.lit_rel.proofs.SetLemmas.{event_or_not}
 use Rattle.lit_rel.specs.EventSet.{HasEvent}
 use Rattle.lit_rel.specs.Rows.{Holds, rows_len}
-use Rattle.lit_why.specs.Internal.Reaching.{IsReachedBy}
 use Rattle.lit_why.proofs.CountLemmas.{events_missing, missing-fewer, missing-most, missing-some}
-use Rattle.lit_why.proofs.ReachLemmas.{AreKept, kept_all, kept_first, kept_more, reached_known}
+use Rattle.lit_why.proofs.ReachLemmas.{kept_all, kept_first, kept_more, reached_known}
 use Rattle.lit_why.proofs.chains.reaching.levels_below.Goals as goal
 
 pub loop-reached-init : goal.loop-reached-init

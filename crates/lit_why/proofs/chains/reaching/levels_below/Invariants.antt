@@ -1,4 +1,4 @@
-use Rattle.std.proofs.Common.{ℕ, ◌+◌, ◌≤◌, length}
+use Rattle.std.proofs.Common.{◌+◌, ◌≤◌, length}
 use Rattle.lit_rel.specs.Rows.{Holds, rows_len}
 use Rattle.lit_why.proofs.CountLemmas.{events_missing}
 use Rattle.lit_why.proofs.ReachLemmas.{AreKept}

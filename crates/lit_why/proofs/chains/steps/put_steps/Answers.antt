@@ -1,4 +1,4 @@
-use Rattle.std.proofs.Common.{ℕ, ◌∙◌, refl}
+use Rattle.std.proofs.Common.{◌∙◌, refl}
 use Rattle.std.proofs.lemmas.Bool.{false≢true}
 use Rattle.lit_rel.specs.Rows.{Holds}
 use Rattle.lit_why.specs.Internal.Reaching.{IsStep}
