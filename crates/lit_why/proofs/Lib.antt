@@ -4,4 +4,5 @@ pub mod LinkLemmas
 pub mod PruningLemmas
 pub mod RaceLemmas
 pub mod ReachLemmas
+pub mod RefusalLemmas
 pub mod StepLemmas
