@@ -1,0 +1,8 @@
+pub mod CountLemmas
+pub mod DerivationLemmas
+pub mod LinkLemmas
+pub mod PruningLemmas
+pub mod RaceLemmas
+pub mod ReachLemmas
+pub mod RefusalLemmas
+pub mod StepLemmas

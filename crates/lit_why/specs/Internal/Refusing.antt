@@ -1,0 +1,50 @@
+-- What refuses a part, by relations that stand for happens-before and for reads-from.
+use Rattle.std.specs.Prelude.{◌≡◌, ◌⊎◌, ℕ, ◌<◌, Option, Some, None, List, slice_get}
+use Rattle.lit_paths.specs.Event.{event_at}
+use Rattle.lit_paths.specs.declared.byte_reads.ByteRead.{ByteRead}
+use Rattle.lit_paths.specs.declared.event.Event.{Event}
+use Rattle.lit_paths.specs.declared.path.Tested.{Tested}
+use Rattle.lit_rel.specs.Coherent.{Hides, IsCoherentRead}
+use Rattle.lit_rel.specs.Part.{PartModel}
+use Rattle.lit_rel.specs.TearFree.{CanReadWhole}
+use Rattle.lit_why.specs.RacingPair.{IsLesserPair}
+use Rattle.lit_why.specs.Refusal.{IsFalseAt, IsFalseIn}
+
+-- the first test of a list that is false
+pub record IsFirstFalse (part : PartModel) (first : ℕ) (tests : List Tested) (place : ℕ) : Type 0 where
+  pub test : Tested
+  pub at_place : slice_get tests place ≡ Some test
+  pub is_false : IsFalseIn part first test
+  pub least : (k : ℕ) (other : Tested) → k < place → slice_get tests k ≡ Some other → ¬ IsFalseIn part first other
+
+-- the least of the part
+pub record IsLeastFalse (part : PartModel) (agent place : ℕ) : Type 0 where
+  pub is_false : IsFalseAt part agent place
+  pub least : (a p : ℕ) → IsFalseAt part a p → ¬ IsLesserPair a p agent place
+
+-- why a byte is not coherent
+abbrev pub IsHiddenBy : List Event → (ℕ → ℕ → Type 0) → (r b w : ℕ) → Option ℕ → Type 0
+IsHiddenBy events before r b w None = before r w
+IsHiddenBy events before r b w (Some v) = ¬ before r w × Hides events before r b w v × ((u : ℕ) → u < v → ¬ Hides events before r b w u)
+
+-- the first byte read with its source that is not coherent
+pub record IsFirstIncoherent (events : List Event) (before : ℕ → ℕ → Type 0) (reads : List ByteRead) (sources : List ℕ) (place r b w : ℕ)
+    (hidden_by : Option ℕ) : Type 0 where
+  pub byte : ByteRead
+  pub at_read : slice_get reads place ≡ Some byte
+  pub read : byte.read ≡ r
+  pub of_byte : byte.byte ≡ b
+  pub at_source : slice_get sources place ≡ Some w
+  pub hidden : IsHiddenBy events before r b w hidden_by
+  pub least : (k : ℕ) (other : ByteRead) (u : ℕ) → k < place → slice_get reads k ≡ Some other → slice_get sources k ≡ Some u
+      → IsCoherentRead events before other.read other.byte u
+
+-- read r has w among its sources, and would be whole from it
+abbrev pub IsWholeBy : List Event → (ℕ → ℕ → Type 0) → ℕ → ℕ → Type 0
+IsWholeBy events reads r w = reads r w × CanReadWhole (event_at events r) (event_at events w)
+
+-- from two
+pub record AreTorn (events : List Event) (reads : ℕ → ℕ → Type 0) (r w v : ℕ) : Type 0 where
+  pub first : IsWholeBy events reads r w
+  pub second : IsWholeBy events reads r v
+  pub rising : w < v

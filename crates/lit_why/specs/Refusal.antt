@@ -1,0 +1,79 @@
+-- What refuses a complete part first, of the clauses of a valid execution (ECMA-262, 2024, 29.7; their order, and which of several
+-- witnesses is named, is this project's own).
+use Rattle.std.specs.Prelude.{◌≡◌, ◌⊎◌, ℕ, ◌<◌, Option, Some, None, false, List, length, slice_get}
+use Rattle.lit_paths.specs.ByteReads.{byte_reads}
+use Rattle.lit_paths.specs.Plan.{first_event, path_in}
+use Rattle.lit_paths.specs.Run.{compares}
+use Rattle.lit_paths.specs.declared.path.Tested.{Tested}
+use Rattle.lit_rel.specs.Broken.{number_on}
+use Rattle.lit_rel.specs.Coherent.{HasCoherentReads, Hides, IsCoherentRead}
+use Rattle.lit_rel.specs.HappensBefore.{HappensBefore}
+use Rattle.lit_rel.specs.Part.{PartModel, part_events}
+use Rattle.lit_rel.specs.ReadsFrom.{ReadsByteFrom}
+use Rattle.lit_rel.specs.TearFree.{HasTearFreeReads, ReadsWholeBy}
+use Rattle.lit_order.specs.MemoryOrder.{IsMemoryOrder}
+use Rattle.lit_valid.specs.PartOutcome.{value_held}
+use Rattle.lit_why.specs.RacingPair.{IsLesserPair}
+use Rattle.lit_why.specs.declared.refusals.causes.Refusal.{Refusal}
+use Rattle.lit_why.specs.declared.refusals.causes.Refusal.TheVariants.{BeforeItself, FalseTest, Incoherent, NoOrder, Torn}
+
+abbrev pub BeforeIn : PartModel → ℕ → ℕ → Type 0
+BeforeIn part = HappensBefore (part_events part) part.sources
+
+-- a test on a path whose first event has this number is false of the value that its read takes, of 0 where the register was not written
+abbrev pub IsFalseIn : PartModel → ℕ → Tested → Type 0
+IsFalseIn part first test = compares test.equal (value_held part (number_on first test.on)) test.value ≡ false
+
+-- the one at a place of an agent's path
+pub record IsFalseAt (part : PartModel) (agent place : ℕ) : Type 0 where
+  pub known : agent < length part.test.agents
+  pub test : Tested
+  pub at_place : slice_get (path_in part.test part.combination agent).tests place ≡ Some test
+  pub is_false : IsFalseIn part (first_event part.test part.combination agent) test
+
+abbrev pub HasNoFalse : PartModel → Type 0
+HasNoFalse part = (agent place : ℕ) → ¬ IsFalseAt part agent place
+
+abbrev pub HasNoCycle : PartModel → Type 0
+HasNoCycle part = (e : ℕ) → ¬ BeforeIn part e e
+
+-- the byte read with a place among all, which are by read and then by byte, is not coherent: byte b of read r, with source w
+pub record IsIncoherentAt (part : PartModel) (place r b w : ℕ) : Type 0 where
+  pub read : slice_get (byte_reads (part_events part)) place ≡ Some (r, b)
+  pub source : slice_get part.sources place ≡ Some w
+  pub incoherent : ¬ IsCoherentRead (part_events part) (BeforeIn part) r b w
+
+-- the read happens before the source; or not, and this is the least event that hides the source
+abbrev pub IsIncoherentBy : PartModel → (r b w : ℕ) → Option ℕ → Type 0
+IsIncoherentBy part r b w None = BeforeIn part r w
+IsIncoherentBy part r b w (Some v) =
+    ¬ BeforeIn part r w × Hides (part_events part) (BeforeIn part) r b w v
+    × ((u : ℕ) → u < v → ¬ Hides (part_events part) (BeforeIn part) r b w u)
+
+abbrev pub IsWholeFrom : PartModel → ℕ → ℕ → Type 0
+IsWholeFrom part = ReadsWholeBy (part_events part) (ReadsByteFrom (part_events part) part.sources)
+
+-- read r would be whole from two events, w the lesser
+pub record IsTornBy (part : PartModel) (r w v : ℕ) : Type 0 where
+  pub first : IsWholeFrom part r w
+  pub second : IsWholeFrom part r v
+  pub rising : w < v
+
+-- first by the read, then by one event, then by the other
+abbrev pub IsLesserTriple : ℕ → ℕ → ℕ → ℕ → ℕ → ℕ → Type 0
+IsLesserTriple q u x r w v = (q < r) ⊎ ((q ≡ r) × IsLesserPair u x w v)
+
+-- the clauses before this one refuse nothing, this is what this one refuses, and it refuses nothing less
+abbrev pub IsRefusal : PartModel → Refusal → Type 0
+IsRefusal part (FalseTest agent place) =
+    IsFalseAt part agent place × ((a p : ℕ) → IsFalseAt part a p → ¬ IsLesserPair a p agent place)
+IsRefusal part (BeforeItself event) = HasNoFalse part × BeforeIn part event event × ((e : ℕ) → e < event → ¬ BeforeIn part e e)
+IsRefusal part (Incoherent r b w hidden_by) =
+    HasNoFalse part × HasNoCycle part × IsIncoherentBy part r b w hidden_by
+    × ((place : ℕ) × IsIncoherentAt part place r b w × ((k q c u : ℕ) → k < place → ¬ IsIncoherentAt part k q c u))
+IsRefusal part (Torn r w v) =
+    HasNoFalse part × HasNoCycle part × HasCoherentReads (part_events part) part.sources × IsTornBy part r w v
+    × ((q u x : ℕ) → IsTornBy part q u x → ¬ IsLesserTriple q u x r w v)
+IsRefusal part NoOrder =
+    HasNoFalse part × HasNoCycle part × HasCoherentReads (part_events part) part.sources
+    × HasTearFreeReads (part_events part) part.sources × ((order : List ℕ) → ¬ IsMemoryOrder (part_events part) part.sources order)

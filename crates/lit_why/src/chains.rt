@@ -1,0 +1,88 @@
+//! How one event happens before another (ECMA-262, 2024, 29.6.6), step by step.
+
+pub(crate) mod links;
+mod reaching;
+mod steps;
+
+ghost use Rattle.std.specs.Prelude.{◌≡◌, ◌↔◌, ℕ, ◌+◌, ◌<◌, MatchOption, length};
+ghost use Rattle.lit_rel.specs.HappensBefore.{HappensBefore};
+ghost use Rattle.lit_rel.specs.Part.{part_events};
+ghost use Rattle.lit_rel.specs.Rows.{Holds, rows_len};
+ghost use Rattle.lit_why.specs.Chains.{AreLinkedBy, IsOfKindBy, IsShortestChain};
+ghost use Rattle.lit_why.specs.Internal.Reaching.{AreLevels, IsReachedBy, IsStep};
+
+use crate::chains::links::{Chain, Link};
+use crate::chains::reaching::{levels_below, next_of};
+use crate::chains::steps::{kind_of, steps_of};
+use arrayvec::ArrayVec;
+use lit_paths::{EVENT_LIMIT, Event};
+use lit_rel::{EventSet, Part, Rows};
+
+/// The steps from one event to another, by way of levels as `levels_below` gives them.
+fn links_along(
+    events: &[Event],
+    synchronizes: &Rows,
+    steps: &Rows,
+    levels: &[EventSet],
+    from: usize,
+    to: usize,
+) -> ArrayVec<Link, EVENT_LIMIT>
+    requires len { rows_len synchronizes.now ≡ length events.now }
+    requires same { rows_len steps.now ≡ length events.now }
+    requires steps { (e d : ℕ) → Holds steps.now e d ↔ IsStep events.now (Holds synchronizes.now) e d }
+    requires few { length levels.now < rows_len steps.now }
+    requires levels { AreLevels (Holds steps.now) to levels.now }
+    requires reached { IsReachedBy (Holds steps.now) to (length levels.now) from }
+    ensures linked { AreLinkedBy events.now (Holds synchronizes.now) from result.items to }
+    ensures count { length result.items ≡ length levels.now + 1 }
+{
+    let mut links = ArrayVec::new();
+    let mut event = from;
+    let mut left = levels.len();
+    while left > 0 {
+        left -= 1;
+        let next = next_of(steps, event, levels[left]);
+        links.push(link_between(events, synchronizes, event, next));
+        event = next;
+    }
+    links.push(link_between(events, synchronizes, event, to));
+    links
+}
+
+/// A step from one event to another.
+fn link_between(events: &[Event], synchronizes: &Rows, first: usize, second: usize) -> Link
+    requires len { rows_len synchronizes.now ≡ length events.now }
+    requires first { first < length events.now }
+    requires second { second < length events.now }
+    requires step { IsStep events.now (Holds synchronizes.now) first second }
+    ensures to { result.to ≡ second }
+    ensures kind { IsOfKindBy events.now (Holds synchronizes.now) result.kind first second }
+{
+    let _events = synchronizes.len();
+    Link {
+        to: second as u8,
+        kind: kind_of(events, synchronizes, first, second),
+    }
+}
+
+/// The least number of steps, each of agent-order, synchronizes-with, or from an event that makes a byte of the other's range, that lead
+/// from one event to another, both by number; from an event to itself they are a cycle. `None` exactly where the one does not happen
+/// before the other.
+pub fn chain(part: &Part<'_>, from: u8, to: u8) -> Option<Chain>
+    ensures { MatchOption result (¬ HappensBefore (part_events part.now) part.now.sources from to)
+        (λ chain. IsShortestChain part.now from to chain.links.items) }
+{
+    let events = part.combination().events();
+    let synchronizes = part.synchronizes();
+    let steps = steps_of(events, &synchronizes);
+    let (first, last) = (usize::from(from), usize::from(to));
+    if first >= steps.len() || last >= steps.len() {
+        return None;
+    }
+    match levels_below(&steps, first, last) {
+        Some(levels) => Some(Chain {
+            links: links_along(events, &synchronizes, &steps, levels.as_slice(), first, last),
+        }),
+        None => None,
+    }
+}

@@ -1,0 +1,58 @@
+//! Why there is no memory-order (ECMA-262, 2024, 29.7.4).
+
+mod following;
+pub(crate) mod lines;
+mod pruning;
+mod searching;
+
+ghost use Rattle.std.specs.Prelude.{◌≡◌, ℕ, ◌<◌, IfOk, MatchOption};
+ghost use Rattle.lit_order.specs.Forcing.{HasForcedCycle};
+ghost use Rattle.lit_rel.specs.Forbidden.{IsForbidden};
+ghost use Rattle.lit_rel.specs.HappensBefore.{HappensBefore};
+ghost use Rattle.lit_rel.specs.Part.{part_events};
+ghost use Rattle.lit_rel.specs.Rows.{Holds, rows_len};
+ghost use Rattle.lit_why.specs.Derivation.{IsDerivation};
+
+use crate::derivations::lines::{Line, Reason};
+use crate::derivations::pruning::pruned;
+use crate::derivations::searching::lines_to_cycle;
+use lit_rel::{Part, Rows};
+use std::alloc::{AllocError, Global};
+
+/// The least event that a relation has before itself.
+pub(crate) fn first_before_itself(before: &Rows) -> Option<usize>
+    ensures { MatchOption result ((e : ℕ) → ¬ Holds before.now e e)
+        (λ event. Holds before.now event event × ((e : ℕ) → e < event → ¬ Holds before.now e e)) }
+{
+    for event in 0..before.len() {
+        if before.holds(event, event) {
+            return Some(event);
+        }
+    }
+    None
+}
+
+/// Why there is no memory-order of the part's sources: precedences that every order would have to keep, each of which follows from
+/// happens-before, from earlier ones, or from one of these and what may not stand between a source and its read, until an event comes
+/// before itself. Each line but the last is cited by a later one. `None` exactly where no event is forced before itself; then there may
+/// be no memory-order all the same. Refused only where memory is.
+pub fn derivation(alloc: Global, part: &Part<'_>) -> Result<Option<Vec<Line>>, AllocError>
+    ensures { IfOk result (λ found. MatchOption found
+        (¬ HasForcedCycle (HappensBefore (part_events part.now) part.now.sources) (IsForbidden (part_events part.now) part.now.sources))
+        (λ lines. IsDerivation (part_events part.now) part.now.sources lines.items)) }
+{
+    let (before, between) = (part.happens_before(), part.between());
+    if let Some(event) = first_before_itself(&before) {
+        let mut lines = Vec::new(alloc);
+        lines.push(Line {
+            before: event as u8,
+            after: event as u8,
+            reason: Reason::HappensBefore,
+        })?;
+        return Ok(Some(lines));
+    }
+    match lines_to_cycle(alloc, &before, &between)? {
+        Some(lines) => Ok(Some(pruned(alloc, lines.as_slice())?)),
+        None => Ok(None),
+    }
+}

@@ -1,0 +1,81 @@
+//! What refuses a complete part (ECMA-262, 2024, 29.7).
+
+pub(crate) mod causes;
+mod incoherence;
+mod tearing;
+mod tests;
+
+ghost use Rattle.std.specs.Prelude.{◌≡◌, ◌↔◌, ℕ, ◌<◌, IsTrue, MatchOption, length};
+ghost use Rattle.lit_order.specs.MemoryOrder.{HasOrder};
+ghost use Rattle.lit_paths.specs.Choice.{combinations_of};
+ghost use Rattle.lit_rel.specs.Between.{Forbids};
+ghost use Rattle.lit_rel.specs.Part.{IsComplete};
+ghost use Rattle.lit_rel.specs.Rows.{Holds, rows_len};
+ghost use Rattle.lit_valid.specs.Completion.{HasCompletion};
+ghost use Rattle.lit_why.specs.Refusal.{IsRefusal};
+
+use crate::derivations::first_before_itself;
+use crate::refusals::causes::Refusal;
+use crate::refusals::incoherence::first_incoherent;
+use crate::refusals::tearing::first_torn;
+use crate::refusals::tests::false_test;
+use lit_order::{ForcedFinder, OrderFinder};
+use lit_rel::{Between, Part, Rows};
+use lit_valid::laws::whole_parts_are_decided_by_orders;
+
+/// Whether some order keeps a relation and avoids forbidden triples, both on the same events.
+fn has_order(before: &Rows, between: &Between) -> bool
+    requires { rows_len before.now ≡ between.now.len }
+    ensures { IsTrue result ↔ HasOrder (rows_len before.now) (Holds before.now) (Forbids between.now) }
+{
+    match ForcedFinder.least_order(before, between) {
+        Some(_) => true,
+        None => false,
+    }
+}
+
+/// What refuses a part with sources for all its byte reads, of a test's combination: the first clause of a valid execution that does, in the
+/// order of `Refusal`, and the least of what that clause refuses. Bytes are in the order of `Combination::byte_reads`. `None` exactly where
+/// a valid execution has the part's paths and sources. The sources are passed beside it.
+pub fn refusal(part: &Part<'_>, sources: &[u8]) -> Option<Refusal>
+    requires known { part.now.combination < length (combinations_of part.now.test) }
+    requires complete { IsComplete part.now }
+    requires sources { sources.now ≡ part.now.sources }
+    ensures { MatchOption result (HasCompletion part.now) (IsRefusal part.now) }
+{
+    if let Some((agent, place)) = false_test(part) {
+        return Some(Refusal::FalseTest { agent, place });
+    }
+    let before = part.happens_before();
+    if let Some(event) = first_before_itself(&before) {
+        return Some(Refusal::BeforeItself { event: event as u8 });
+    }
+    let combination = part.combination();
+    let events = combination.events();
+    // Its sources are events.
+    let _len = part.len();
+    if let Some(found) = first_incoherent(events, &before, combination.byte_reads(), sources) {
+        return Some(Refusal::Incoherent {
+            read: found.read,
+            byte: found.byte,
+            source: found.source,
+            hidden_by: found.hidden_by,
+        });
+    }
+    let reads = part.reads_from();
+    if let Some(found) = first_torn(events, &reads) {
+        return Some(Refusal::Torn {
+            read: found.read as u8,
+            source: found.source as u8,
+            other: found.other as u8,
+        });
+    }
+    whole_parts_are_decided_by_orders();
+    // The test is one that a text can say.
+    let _agents = combination.test().agents();
+    if has_order(&before, &part.between()) {
+        None
+    } else {
+        Some(Refusal::NoOrder)
+    }
+}

@@ -1,0 +1,40 @@
+//! What refuses a complete part.
+
+/// What no valid execution with a part's paths and sources allows.
+#[derive(Clone, Copy, Debug, PartialEq, Eq)]
+pub enum Refusal {
+    /// A test of a path is false of the value read.
+    FalseTest {
+        /// The agent, from 0.
+        agent: usize,
+        /// The test's place on its path, from 0.
+        place: usize,
+    },
+    /// An event happens before itself.
+    BeforeItself {
+        /// Its number.
+        event: u8,
+    },
+    /// A byte is not coherent.
+    Incoherent {
+        /// The number of its read.
+        read: u8,
+        /// The byte, from the block's start.
+        byte: u8,
+        /// The number of its source.
+        source: u8,
+        /// The number of the event that hides the source; `None` where the read happens before the source.
+        hidden_by: Option<u8>,
+    },
+    /// A read would be whole from two events.
+    Torn {
+        /// The number of the read.
+        read: u8,
+        /// The lesser number of the two.
+        source: u8,
+        /// The greater.
+        other: u8,
+    },
+    /// There is no memory-order.
+    NoOrder,
+}
