@@ -1,0 +1,2 @@
+pub mod DomainLemmas
+pub mod RaceLemmas

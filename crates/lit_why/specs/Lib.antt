@@ -1,0 +1,2 @@
+pub mod FirstRace
+pub mod Internal

@@ -1,0 +1,2 @@
+//! The tests of `lit_why`, through its public calls.
+#![tactic(auto)]
