@@ -1,2 +1,8 @@
+pub mod AddedLemmas
+pub mod AttemptLemmas
+pub mod NodeLemmas
+pub mod RepresentativeLemmas
+pub mod TrialLemmas
+pub mod CountLemmas
 pub mod DomainLemmas
 pub mod RaceLemmas

@@ -29,7 +29,7 @@ use Rattle.lit_why.specs.Internal.RacesOn.{HasNoRaceOn, IsFirstRaceOn}
 has_its_sources : (t : Litmus) (n : ℕ) (x : Execution) → slice_get (choices_of t) n ≡ Some (execution_choice x) → HasSources t n x.sources
 has_its_sources t n x chosen = record { choice = execution_choice x; listed = chosen; same = refl }
 
-one_sources : (t : Litmus) (n : ℕ) (a b : List ℕ) → HasSources t n a → HasSources t n b → a ≡ b
+pub one_sources : (t : Litmus) (n : ℕ) (a b : List ℕ) → HasSources t n a → HasSources t n b → a ≡ b
 one_sources t n a b first second =
     sym first.same ∙ ap (λ (ch : Choice). ch.sources) (same_Some first.choice second.choice (sym first.listed ∙ second.listed)) ∙ second.same
 

@@ -3,7 +3,14 @@
 //! The definitions stand in `specs/`.
 #![tactic(auto)]
 
+mod attempt;
+mod counting;
 mod domains;
+mod enumeration;
 mod race_example;
+mod representatives;
+mod trials;
 
+pub use attempt::Attempt;
+pub use enumeration::attempts;
 pub use race_example::{RaceExample, first_race};
