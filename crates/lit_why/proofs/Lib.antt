@@ -1,8 +1,16 @@
+pub mod AddedLemmas
+pub mod AlikeLemmas
+pub mod AttemptLemmas
 pub mod CountLemmas
 pub mod DerivationLemmas
+pub mod DomainLemmas
+pub mod FirstRaceLemmas
 pub mod LinkLemmas
+pub mod NodeLemmas
 pub mod PruningLemmas
 pub mod RaceLemmas
 pub mod ReachLemmas
 pub mod RefusalLemmas
+pub mod RepresentativeLemmas
 pub mod StepLemmas
+pub mod TrialLemmas

@@ -1,16 +1,31 @@
-//! Why an outcome is forbidden, and where a data race is.
+//! Why outcomes of a litmus test are forbidden, and where a data race is: each answer is one that its reader can check by the
+//! definitions of a valid execution, without trust in the search that found it.
+//!
+//! The definitions stand in `specs/`.
 #![tactic(auto)]
 
+mod attempt;
 mod chains;
+mod counting;
 mod derivations;
+mod domains;
+mod enumeration;
 pub mod laws;
+mod parts;
+mod race_example;
 mod racing;
 mod refusals;
+mod representatives;
+mod trials;
 
+pub use attempt::Attempt;
 pub use chains::chain;
 pub use chains::links::{Chain, Link, StepKind};
 pub use derivations::derivation;
 pub use derivations::lines::{Line, Reason};
+pub use enumeration::attempts;
+pub use parts::part_of;
+pub use race_example::{RaceExample, first_race};
 pub use racing::{RacingPair, racing_pair};
 pub use refusals::causes::Refusal;
 pub use refusals::refusal;

@@ -1,0 +1,31 @@
+-- Sources that stand for all that store the same.
+use Rattle.std.proofs.Common.{◌≡◌, ◌↔◌, ℕ, ◌<◌, Bool, true, false, not, refl}
+use Rattle.std.specs.Prelude.{IsTrue}
+use Rattle.std.proofs.lemmas.Bool.{false≢true}
+use Rattle.lit_read.specs.Syntax.{Litmus}
+use Rattle.lit_paths.specs.ByteReads.{IsCandidate}
+use Rattle.lit_paths.specs.Event.{event_at, payload_at}
+use Rattle.lit_rel.specs.declared.event_set.EventSet.{EventSet}
+use Rattle.lit_rel.specs.EventSet.{HasEvent}
+use Rattle.lit_solve.specs.Box.{events_on}
+use Rattle.lit_solve.specs.Out.{IsRefusedOn}
+use Rattle.lit_why.specs.Internal.Trials.{IsRepresentative}
+
+-- a candidate that no test refuses is one where no lesser candidate stores the same
+pub unless_before : (c : Litmus × ℕ) (among : EventSet) (read : ℕ × ℕ) (w : ℕ) (before : Bool)
+    → ((v : ℕ) → HasEvent among v ↔ IsCandidate (events_on c) read.0 read.1 v) → HasEvent among w → ¬ IsRefusedOn c read.0 read.1 w
+    → (IsTrue before ↔ ((v : ℕ) × HasEvent among v × (v < w) × (payload_at (event_at (events_on c) v) read.1 ≡ payload_at (event_at (events_on c) w) read.1)))
+    → IsTrue (not before) ↔ IsRepresentative c read w
+unless_before c among read w true exact there allowed stored = (
+  λ never. absurd (false≢true never),
+  λ is. absurd (let some = stored.0 refl in
+      is.least (record { other = some.0; candidate = (exact some.0).0 some.1; lesser = some.2; same = some.3 })),
+)
+unless_before c among read w false exact there allowed stored = (
+  λ _. record {
+    candidate = (exact w).0 there;
+    allowed = allowed;
+    least = λ before. false≢true (stored.1 (before.other, (exact before.other).1 before.candidate, before.lesser, before.same));
+  },
+  λ _. refl,
+)

@@ -1,0 +1,99 @@
+-- Attempts at an outcome: a combination of paths with the values that their tests allow its reads, where the outcome is in a
+-- class (this project's own). Whether some execution with these values is valid plays no part.
+use Rattle.std.specs.Prelude.{◌≡◌, ◌⊎◌, ℕ, ◌+◌, ◌<◌, ◌≤◌, ◌==◌, ◌&&◌, Bool, IsTrue, true, false, List, [], ◌∷◌, Some, filter, length, slice_get}
+use Rattle.lit_read.specs.Syntax.{Litmus}
+use Rattle.lit_paths.specs.declared.event.Event.{Event}
+use Rattle.lit_paths.specs.ByteReads.{byte_reads}
+use Rattle.lit_paths.specs.Choice.{combinations_of, sources_of}
+use Rattle.lit_paths.specs.Event.{event_at, payload_at}
+use Rattle.lit_paths.specs.Plan.{HasSources, choices_before, events_in}
+use Rattle.lit_rel.specs.Broken.{HasFalseTest}
+use Rattle.lit_rel.specs.Part.{PartModel}
+use Rattle.lit_valid.specs.declared.class.Class.{Class}
+use Rattle.lit_valid.specs.Class.{is_of_class}
+use Rattle.lit_valid.specs.PartOutcome.{part_outcome}
+use Rattle.lit_why.specs.declared.attempt.Attempt.{Attempt}
+
+-- choice n is on combination c, with these sources
+pub record IsOn (t : Litmus) (n c : ℕ) (sources : List ℕ) : Type 0 where
+  pub known : c < length (combinations_of t)
+  pub low : choices_before t c ≤ n
+  pub high : n < choices_before t (c + 1)
+  pub has : HasSources t n sources
+
+-- a combination with these sources
+abbrev pub part_with : Litmus → ℕ → List ℕ → PartModel
+part_with t c sources = record { test = t; combination = c; sources = sources }
+
+-- by these sources no test of a path is false of what is read, and the outcome is in the class
+pub record IsTry (t : Litmus) (class : Class) (c : ℕ) (sources : List ℕ) : Type 0 where
+  pub allowed : ¬ HasFalseTest (part_with t c sources)
+  pub of_class : IsTrue (is_of_class t class (part_outcome (part_with t c sources)))
+
+-- choice n tries the class
+pub record TriesClass (t : Litmus) (class : Class) (n : ℕ) : Type 0 where
+  pub combination : ℕ
+  pub sources : List ℕ
+  pub on : IsOn t n combination sources
+  pub is_try : IsTry t class combination sources
+
+-- whether two lists of sources store the same byte for each of these byte reads
+abbrev pub store_alike : List Event → List (ℕ × ℕ) → List ℕ → List ℕ → Bool
+store_alike events [] some other = true
+store_alike events (read ∷ reads) [] other = false
+store_alike events (read ∷ reads) (v ∷ some) [] = false
+store_alike events (read ∷ reads) (v ∷ some) (w ∷ other) =
+    (payload_at (event_at events w) read.1 == payload_at (event_at events v) read.1) && store_alike events reads some other
+
+-- whether two lists of sources give each read of a combination the same value
+abbrev pub give_alike : List Event → List ℕ → List ℕ → Bool
+give_alike events some other = store_alike events (byte_reads events) some other
+
+-- choices m and n are of one attempt: they are on one combination, and give each read the same value
+pub record AreOneAttempt (t : Litmus) (m n : ℕ) : Type 0 where
+  pub combination : ℕ
+  pub some : List ℕ
+  pub other : List ℕ
+  pub on_some : IsOn t m combination some
+  pub on_other : IsOn t n combination other
+  pub alike : IsTrue (give_alike (events_in t combination) some other)
+
+-- choice n is the first of an attempt at the class
+pub record IsLeastTry (t : Litmus) (class : Class) (n : ℕ) : Type 0 where
+  pub tries : TriesClass t class n
+  pub least : (m : ℕ) → m < n → ¬ AreOneAttempt t m n
+
+-- so many of the choices on the combination of choice n give each read the value that it does
+pub record HasSoMany (t : Litmus) (n count : ℕ) : Type 0 where
+  pub combination : ℕ
+  pub sources : List ℕ
+  pub on : IsOn t n combination sources
+  pub are : count ≡ length (filter (give_alike (events_in t combination) sources) (sources_of (events_in t combination)))
+
+-- an attempt at the class, by the number of its first choice and how many choices it has
+pub record IsAttempt (t : Litmus) (class : Class) (attempt : Attempt) : Type 0 where
+  pub least : IsLeastTry t class attempt.choice
+  pub many : HasSoMany t attempt.choice attempt.choices
+
+-- one of the attempts has this first choice
+pub record HasAttempt (attempts : List Attempt) (n : ℕ) : Type 0 where
+  pub place : ℕ
+  pub attempt : Attempt
+  pub is : slice_get attempts place ≡ Some attempt
+  pub same : attempt.choice ≡ n
+
+-- their first choices rise
+abbrev pub AreRising : List Attempt → Type 0
+AreRising attempts =
+    (i j : ℕ) (a b : Attempt) → i < j → slice_get attempts i ≡ Some a → slice_get attempts j ≡ Some b → a.choice < b.choice
+
+-- the first choice of each is before this one
+abbrev pub AreBefore : List Attempt → ℕ → Type 0
+AreBefore attempts n = (i : ℕ) (a : Attempt) → slice_get attempts i ≡ Some a → a.choice < n
+
+-- The first `most` attempts at the class: in order, each once, and none is left out but behind so many.
+pub record AreFirstAttempts (t : Litmus) (class : Class) (most : ℕ) (attempts : List Attempt) : Type 0 where
+  pub few : length attempts ≤ most
+  pub each : (i : ℕ) (a : Attempt) → slice_get attempts i ≡ Some a → IsAttempt t class a
+  pub rising : AreRising attempts
+  pub whole : (n : ℕ) → IsLeastTry t class n → HasAttempt attempts n ⊎ ((length attempts ≡ most) × AreBefore attempts n)

@@ -1,0 +1,14 @@
+-- How a list of attempts goes on.
+use Rattle.std.specs.Prelude.{◌≡◌, ◌⊎◌, ℕ, ◌≤◌, List, ◌++◌, Some, length, slice_get}
+use Rattle.lit_read.specs.Syntax.{Litmus}
+use Rattle.lit_why.specs.declared.attempt.Attempt.{Attempt}
+use Rattle.lit_why.specs.Attempts.{AreBefore, AreRising, HasAttempt, HasSoMany}
+
+-- a list goes on by the first choices of which this holds, as far as it may grow, each with how many there are of its attempt
+pub record Adds (t : Litmus) (most : ℕ) (holds : ℕ → Type 0) (old new : List Attempt) : Type 0 where
+  pub added : List Attempt
+  pub goes_on : new ≡ old ++ added
+  pub few : length new ≤ most
+  pub each : (i : ℕ) (a : Attempt) → slice_get added i ≡ Some a → holds a.choice × HasSoMany t a.choice a.choices
+  pub rising : AreRising added
+  pub whole : (n : ℕ) → holds n → HasAttempt added n ⊎ ((length new ≡ most) × AreBefore added n)

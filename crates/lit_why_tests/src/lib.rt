@@ -1,0 +1,7 @@
+//! The tests of `lit_why`, through its public calls.
+#![tactic(auto)]
+
+#[cfg(test)]
+mod attempts;
+#[cfg(test)]
+mod race;
