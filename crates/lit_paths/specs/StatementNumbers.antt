@@ -10,8 +10,10 @@ use Rattle.lit_paths.specs.Path.{Step, LoadMet, StoreMet, ExchangeMet, CompareEx
 abbrev mutual
   pub AreStatementMakers : (n : ℕ) → Statement → List Step → List ℕ → Type 0
   AreStatementMakers n (Load reg window index atomic) steps makers = (steps ≡ LoadMet reg window index atomic ∷ []) × (makers ≡ n ∷ [])
-  AreStatementMakers n (Store window index value atomic) steps makers = (steps ≡ StoreMet window index value atomic ∷ []) × (makers ≡ n ∷ [])
-  AreStatementMakers n (Exchange reg window index value) steps makers = (steps ≡ ExchangeMet reg window index value ∷ []) × (makers ≡ n ∷ [])
+  AreStatementMakers n (Store window index value atomic) steps makers =
+      (steps ≡ StoreMet window index value atomic ∷ []) × (makers ≡ n ∷ [])
+  AreStatementMakers n (Exchange reg window index value) steps makers =
+      (steps ≡ ExchangeMet reg window index value ∷ []) × (makers ≡ n ∷ [])
   AreStatementMakers n (CompareExchange reg window index expected value) steps makers =
       (succeeds : Bool) × (steps ≡ CompareExchangeMet reg window index expected value succeeds ∷ []) × (makers ≡ n ∷ [])
   AreStatementMakers n (If reg equal value body other) steps makers =
