@@ -16,6 +16,8 @@ COMMANDS = {
     "jslit-test262": "write a litmus test as a file of test262",
     "jslit-why": "why no execution of a litmus test meets its condition",
 }
+# What is proved: by --version it prints the toolchain too.
+PROVED = ("jslit", "jslit-why")
 # What a value is called that is a file's name.
 FILES = ("FILE", "PROGRAM", "FOLDER")
 OPTION = re.compile(r"^ +(?:-\w, )?(--[a-z-]+)(?: <?([A-Z]+)>?)?", re.M)

@@ -1,6 +1,7 @@
 //! Why no valid execution has an outcome of a class, or an example where one has.
 
 use crate::attempts::Tally;
+use crate::comparisons::put_impossible;
 use crate::reasons::put_reason;
 use crate::scene::Scene;
 use crate::statements::Statements;
@@ -37,7 +38,12 @@ pub(crate) fn explain_class(
 }
 
 /// Puts the line of an outcome, by its registers' names and values.
-fn put_outcome(page: &mut Vec<u8>, test: &Test, names: &[(u8, u8)], values: &[u32]) -> io::Result<()> {
+fn put_outcome(
+    page: &mut Vec<u8>,
+    test: &Test,
+    names: &[(u8, u8)],
+    values: &[u32],
+) -> io::Result<()> {
     page.write_all(b"outcome")?;
     for (place, (agent, register)) in names.iter().enumerate() {
         if usize::from(*agent) < test.agents() && place < values.len() {
@@ -80,9 +86,18 @@ fn put_attempts(
     let attempts = attempts(alloc, plan, class, most.saturating_add(1))?;
     let verdict = verdict_without(class);
     match attempts.len() {
-        0 => return writeln!(page, "{verdict}: no values that reads can take come to it"),
+        0 => {
+            writeln!(
+                page,
+                "{verdict}: no attempt, since no values that the reads can take come to it"
+            )?;
+            return put_impossible(page, plan, plan.test().check(), class == Class::Met);
+        }
         1 => writeln!(page, "{verdict}: 1 attempt")?,
-        count if count > most => writeln!(page, "{verdict}: more than {most} attempts, of which these are looked at")?,
+        count if count > most => writeln!(
+            page,
+            "{verdict}: more than {most} attempts; of the first {most}:"
+        )?,
         count => writeln!(page, "{verdict}: {count} attempts")?,
     }
     let mut tally = Tally::new();

@@ -58,7 +58,9 @@ fn most_flag<'a>(alloc: Global) -> Arg<'a> {
 fn command<'a>(alloc: Global) -> Result<Command<'a>, AllocError> {
     let bare = Command::new(alloc, "jslit-why")
         .version(VERSION)
-        .about("Says why no valid execution of a litmus test meets its condition, and where a data race is")
+        .about(
+            "Says why no valid execution of a litmus test meets its condition, and where a data race is",
+        )
         .after_help(AFTER)
         .bin_name("jslit-why")?;
     let with_unmet = bare.arg(flag(

@@ -20,7 +20,12 @@ fn steps_of(alloc: Global, lines: &[Line], place: usize) -> io::Result<Vec<usize
             break;
         };
         match lines.get(place) {
-            Some(Line { reason: Reason::Joined { first, second }, .. }) => {
+            Some(
+                Line {
+                    reason: Reason::Joined { first, second },
+                    ..
+                },
+            ) => {
                 waiting.push(*second)?;
                 waiting.push(*first)?;
             }
@@ -31,7 +36,14 @@ fn steps_of(alloc: Global, lines: &[Line], place: usize) -> io::Result<Vec<usize
 }
 
 /// Puts why one event comes before another.
-fn put_forced(page: &mut Vec<u8>, scene: &Scene<'_>, line: &Line, middle: u8, source: u8, read: u8) -> io::Result<()> {
+fn put_forced(
+    page: &mut Vec<u8>,
+    scene: &Scene<'_>,
+    line: &Line,
+    middle: u8,
+    source: u8,
+    read: u8,
+) -> io::Result<()> {
     page.write_all(b"  ")?;
     scene.put_placed(page, line.before)?;
     page.write_all(b" before ")?;
@@ -48,9 +60,28 @@ fn put_forced(page: &mut Vec<u8>, scene: &Scene<'_>, line: &Line, middle: u8, so
 /// Puts one line of a derivation that is not joined of others.
 fn put_step(page: &mut Vec<u8>, scene: &Scene<'_>, line: &Line) -> io::Result<()> {
     match line.reason {
-        Reason::AfterRead { source, .. } => put_forced(page, scene, line, line.after, source, line.before),
-        Reason::BeforeSource { read, .. } => put_forced(page, scene, line, line.before, line.after, read),
-        Reason::HappensBefore | Reason::Joined { .. } => put_chain(page, scene, line.before, line.after),
+        Reason::AfterRead { source, .. } => put_forced(
+            page,
+            scene,
+            line,
+            line.after,
+            source,
+            line.before,
+        ),
+        Reason::BeforeSource { read, .. } => put_forced(
+            page,
+            scene,
+            line,
+            line.before,
+            line.after,
+            read,
+        ),
+        Reason::HappensBefore | Reason::Joined { .. } => put_chain(
+            page,
+            scene,
+            line.before,
+            line.after,
+        ),
     }
 }
 
@@ -71,7 +102,13 @@ fn is_given(lines: &[Line], place: usize) -> bool {
 }
 
 /// Puts the steps that lead to what a forced line rests on, unless it is of happens-before.
-fn put_premise(alloc: Global, page: &mut Vec<u8>, scene: &Scene<'_>, lines: &[Line], line: &Line) -> io::Result<()> {
+fn put_premise(
+    alloc: Global,
+    page: &mut Vec<u8>,
+    scene: &Scene<'_>,
+    lines: &[Line],
+    line: &Line,
+) -> io::Result<()> {
     let Some(earlier) = earlier_of(line) else {
         return Ok(());
     };
@@ -96,7 +133,12 @@ fn first_step(lines: &[Line], steps: &[usize]) -> (usize, u8) {
 }
 
 /// Puts steps, one after the other.
-fn put_steps(page: &mut Vec<u8>, scene: &Scene<'_>, lines: &[Line], steps: &[usize]) -> io::Result<()> {
+fn put_steps(
+    page: &mut Vec<u8>,
+    scene: &Scene<'_>,
+    lines: &[Line],
+    steps: &[usize],
+) -> io::Result<()> {
     for place in steps {
         if let Some(step) = lines.get(*place) {
             put_step(page, scene, step)?;
@@ -106,7 +148,12 @@ fn put_steps(page: &mut Vec<u8>, scene: &Scene<'_>, lines: &[Line], steps: &[usi
 }
 
 /// Puts a derivation: the steps that lead to what its forced lines rest on, and then those of the cycle, from its least event on.
-pub(crate) fn put_cycle(alloc: Global, page: &mut Vec<u8>, scene: &Scene<'_>, lines: &[Line]) -> io::Result<()> {
+pub(crate) fn put_cycle(
+    alloc: Global,
+    page: &mut Vec<u8>,
+    scene: &Scene<'_>,
+    lines: &[Line],
+) -> io::Result<()> {
     for line in lines {
         put_premise(alloc, page, scene, lines, line)?;
     }

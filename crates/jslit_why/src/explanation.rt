@@ -85,7 +85,12 @@ fn answer_text<T: Threads + Sync, W: Write, E: Write>(
 }
 
 /// Puts what is asked for of a text on a page.
-fn explain(alloc: Global, text: &[u8], line: &Line<'_>, page: &mut Vec<u8>) -> Result<(), RunFault> {
+fn explain(
+    alloc: Global,
+    text: &[u8],
+    line: &Line<'_>,
+    page: &mut Vec<u8>,
+) -> Result<(), RunFault> {
     let test = read(alloc, text)?;
     let plan = plan(alloc, &test)?;
     let statements = Statements::of(alloc, text)?;

@@ -5,6 +5,7 @@
 mod attempts;
 mod classes;
 mod command;
+mod comparisons;
 mod cycles;
 mod explanation;
 mod races;

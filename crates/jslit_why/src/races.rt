@@ -9,7 +9,11 @@ use std::io;
 use std::io::Write;
 
 /// Puts the first data race of a test, or that there is none.
-pub(crate) fn explain_race(page: &mut Vec<u8>, plan: &Plan<'_>, statements: &Statements) -> io::Result<()> {
+pub(crate) fn explain_race(
+    page: &mut Vec<u8>,
+    plan: &Plan<'_>,
+    statements: &Statements,
+) -> io::Result<()> {
     writeln!(page, "test {}", plan.test().name())?;
     let Some(example) = first_race(plan) else {
         return writeln!(page, "data race no");

@@ -69,7 +69,13 @@ fn put_incoherent(
 }
 
 /// Puts that a read would be whole from two events.
-fn put_torn(page: &mut Vec<u8>, scene: &Scene<'_>, read: u8, source: u8, other: u8) -> io::Result<()> {
+fn put_torn(
+    page: &mut Vec<u8>,
+    scene: &Scene<'_>,
+    read: u8,
+    source: u8,
+    other: u8,
+) -> io::Result<()> {
     page.write_all(b"  ")?;
     scene.put_placed(page, read)?;
     page.write_all(b" reads bytes of ")?;
@@ -93,15 +99,28 @@ fn put_no_order(alloc: Global, page: &mut Vec<u8>, scene: &Scene<'_>) -> io::Res
 pub(crate) fn put_reason(alloc: Global, page: &mut Vec<u8>, scene: &Scene<'_>) -> io::Result<()> {
     match scene.refusal {
         None => Ok(()),
-        Some(Refusal::FalseTest { .. }) => page.write_all(b"  a test of a path is false of the value read\n"),
+        Some(Refusal::FalseTest { .. }) => page.write_all(
+            b"  a test of a path is false of the value read\n",
+        ),
         Some(Refusal::BeforeItself { event }) => {
             put_chain(page, scene, event, event)?;
             put_conclusion(page, scene, event)
         }
-        Some(Refusal::Incoherent { read, byte, source, hidden_by }) => {
-            put_incoherent(page, scene, read, byte, source, hidden_by)
-        }
-        Some(Refusal::Torn { read, source, other }) => put_torn(page, scene, read, source, other),
+        Some(
+            Refusal::Incoherent {
+                read,
+                byte,
+                source,
+                hidden_by,
+            },
+        ) => { put_incoherent(page, scene, read, byte, source, hidden_by) }
+        Some(
+            Refusal::Torn {
+                read,
+                source,
+                other,
+            },
+        ) => put_torn(page, scene, read, source, other),
         Some(Refusal::NoOrder) => put_no_order(alloc, page, scene),
     }
 }

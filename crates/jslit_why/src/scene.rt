@@ -67,7 +67,13 @@ impl<'p> Scene<'p> {
     /// Puts a line for each event that reads, with the source of each of its bytes.
     pub(crate) fn put_sources(&self, page: &mut Vec<u8>) -> io::Result<()> {
         let mut last = None;
-        for (byte, source) in self.part.combination().byte_reads().iter().zip(self.sources.iter()) {
+        for (byte, source) in self
+            .part
+            .combination()
+            .byte_reads()
+            .iter()
+            .zip(self.sources.iter())
+        {
             if last != Some(byte.read) {
                 if last.is_some() {
                     page.write_all(b"\n")?;

@@ -19,7 +19,12 @@ fn deed(event: &Event) -> &'static str {
 fn put_range(page: &mut Vec<u8>, event: &Event) -> io::Result<()> {
     match event.size {
         1 => write!(page, "byte {}", event.first),
-        size => write!(page, "bytes {} to {}", event.first, (u32::from(event.first) + u32::from(size)).saturating_sub(1)),
+        size => write!(
+            page,
+            "bytes {} to {}",
+            event.first,
+            (u32::from(event.first) + u32::from(size)).saturating_sub(1)
+        ),
     }
 }
 
@@ -43,15 +48,28 @@ fn is_seq_cst(scene: &Scene<'_>, event: u8) -> bool {
 }
 
 /// Puts the line that says why a race of two events is a data race.
-pub(crate) fn put_atomicity(page: &mut Vec<u8>, scene: &Scene<'_>, pair: RacingPair) -> io::Result<()> {
+pub(crate) fn put_atomicity(
+    page: &mut Vec<u8>,
+    scene: &Scene<'_>,
+    pair: RacingPair,
+) -> io::Result<()> {
     page.write_all(b"  ")?;
-    match (is_seq_cst(scene, pair.first), is_seq_cst(scene, pair.second)) {
-        (true, true) => return page.write_all(b"both are sequentially consistent, and their ranges overlap without being equal\n"),
+    match (
+        is_seq_cst(scene, pair.first),
+        is_seq_cst(scene, pair.second),
+    ) {
+        (true, true) => return page.write_all(
+            b"both are sequentially consistent, and their ranges overlap without being equal\n",
+        ),
         (false, false) => page.write_all(b"neither")?,
         (true, false) => scene.put_event(page, pair.second)?,
         (false, true) => scene.put_event(page, pair.first)?,
     }
-    let verb = if is_seq_cst(scene, pair.first) == is_seq_cst(scene, pair.second) { " is" } else { " is not" };
+    let verb = if is_seq_cst(scene, pair.first) == is_seq_cst(scene, pair.second) {
+        " is"
+    } else {
+        " is not"
+    };
     page.write_all(verb.as_bytes())?;
     page.write_all(b" sequentially consistent\n")
 }

@@ -1,11 +1,12 @@
-"""The program that a command runs, and the version of both."""
+"""The programs that commands run, and the version of all."""
 import pathlib
 import re
 import subprocess
 
 TOP = pathlib.Path(__file__).resolve().parent.parent.parent.parent
-JSLIT = TOP / "bin" / "jslit"
+JSLIT, WHY = TOP / "bin" / "jslit", TOP / "bin" / "jslit-why"
 INSTALLED, MADE = TOP / "libexec" / "jslit", TOP / "crates" / "jslit_cli" / "out" / "jslit_cli"
+WHY_INSTALLED, WHY_MADE = TOP / "libexec" / "jslit-why", TOP / "crates" / "jslit_why" / "out" / "jslit_why"
 SOURCE = TOP / "crates" / "jslit" / "src" / "command" / "version.rt"
 
 
@@ -20,3 +21,9 @@ def built(words):
     subprocess.run([program, "--help"], check=True, stdout=subprocess.DEVNULL)
     own = INSTALLED if INSTALLED.exists() else MADE
     return str(own if program == JSLIT else program)
+
+
+def built_why():
+    """The program of bin/jslit-why, once it is built."""
+    subprocess.run([WHY, "--help"], check=True, stdout=subprocess.DEVNULL)
+    return str(WHY_INSTALLED if WHY_INSTALLED.exists() else WHY_MADE)
