@@ -1,5 +1,5 @@
 -- What refuses a part, by relations that hold alike, and that a part that nothing refuses is not broken.
-use Rattle.std.proofs.Common.{◌≡◌, ◌≢◌, ◌⊎◌, ◌↔◌, ℕ, ◌+◌, ◌<◌, ◌≤◌, ◌==◌, false, Option, Some, None, List, [], ◌∷◌, length, map, get_or, suc, zero, refl, sym, ap, ◌∙◌, subst, eqb-true, arith, inl, inr}
+use Rattle.std.proofs.Common.{◌≡◌, ◌↔◌, ℕ, ◌+◌, ◌<◌, ◌≤◌, ◌==◌, false, Option, Some, None, List, [], ◌∷◌, length, map, get_or, suc, refl, sym, ap, subst, eqb-true, arith, inl, inr}
 use Rattle.std.proofs.lemmas.Bool.{cases_eq, cases_lt, false_from_ne_true}
 use Rattle.std.proofs.lemmas.Option.{get_or_from_slice_get, slice_get-get_or, slice_get_within}
 use Rattle.std.specs.List.{filter, slice_get, zip}
@@ -14,7 +14,7 @@ use Rattle.lit_paths.specs.declared.byte_reads.ByteRead.{ByteRead}
 use Rattle.lit_paths.specs.declared.event.Event.{Event}
 use Rattle.lit_paths.specs.declared.path.Tested.{Tested}
 use Rattle.lit_rel.proofs.ByteReadLemmas.{are_of_events}
-use Rattle.lit_rel.specs.Broken.{HasFalseTestOn, IsBroken, number_on}
+use Rattle.lit_rel.specs.Broken.{HasFalseTestOn, IsBroken}
 use Rattle.lit_rel.specs.Coherent.{HasCoherentReads, Hides, IsCoherentRead}
 use Rattle.lit_rel.specs.Forbidden.{IsForbidden}
 use Rattle.lit_rel.specs.Part.{PartModel, part_events}

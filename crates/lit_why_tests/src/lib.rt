@@ -5,3 +5,5 @@
 mod attempts;
 #[cfg(test)]
 mod race;
+#[cfg(test)]
+mod why;

@@ -1,5 +1,5 @@
 -- What refuses a part, by relations that stand for happens-before and for reads-from.
-use Rattle.std.specs.Prelude.{◌≡◌, ◌⊎◌, ℕ, ◌<◌, Option, Some, None, List, slice_get}
+use Rattle.std.specs.Prelude.{◌≡◌, ℕ, ◌<◌, Option, Some, None, List, slice_get}
 use Rattle.lit_paths.specs.Event.{event_at}
 use Rattle.lit_paths.specs.declared.byte_reads.ByteRead.{ByteRead}
 use Rattle.lit_paths.specs.declared.event.Event.{Event}

@@ -1,11 +1,10 @@
-use Rattle.std.proofs.Common.{◌≡◌, ◌↔◌, ℕ, ◌<◌, Some, List, length, map, refl, sym, ◌∙◌, arith}
+use Rattle.std.proofs.Common.{refl}
 use Rattle.std.proofs.lemmas.Bool.{false≢true}
-use Rattle.lit_paths.specs.ByteReads.{byte_reads, pair_of}
 use Rattle.lit_rel.specs.Between.{Forbids}
 use Rattle.lit_rel.specs.Part.{part_events}
 use Rattle.lit_rel.specs.ReadsFrom.{ReadsFrom}
 use Rattle.lit_rel.specs.Rows.{Holds, rows_len}
-use Rattle.lit_why.specs.Refusal.{BeforeIn, HasNoCycle}
+use Rattle.lit_why.specs.Refusal.{HasNoCycle}
 use Rattle.lit_why.proofs.RefusalLemmas.{all_coherent, all_tear_free, first_incoherent_same, not_broken, orders_same, read_known, source_known, torn_back, torn_same}
 use Rattle.lit_why.proofs.refusals.refusal.Goals as goal
 

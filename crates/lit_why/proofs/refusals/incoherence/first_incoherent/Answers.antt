@@ -1,4 +1,4 @@
-use Rattle.std.proofs.Common.{◌≡◌, ℕ, ◌<◌, arith}
+use Rattle.std.proofs.Common.{arith}
 use Rattle.std.proofs.lemmas.Option.{slice_get_within}
 use Rattle.lit_rel.specs.Rows.{Holds}
 use Rattle.lit_why.proofs.RefusalLemmas.{coherent_more}

@@ -1,4 +1,4 @@
-use Rattle.std.proofs.Common.{◌≡◌, ℕ, ◌<◌, length, below_more, arith}
+use Rattle.std.proofs.Common.{ℕ, ◌<◌, length, below_more, arith}
 use Rattle.lit_why.specs.Refusal.{IsFalseAt}
 use Rattle.lit_why.proofs.RefusalLemmas.{least_here, none_here}
 use Rattle.lit_why.proofs.refusals.tests.false_test.Goals as goal

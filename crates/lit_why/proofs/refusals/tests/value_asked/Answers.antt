@@ -1,4 +1,4 @@
-use Rattle.std.proofs.Common.{◌≡◌, ℕ, ◌≤◌, length, sym, arith}
+use Rattle.std.proofs.Common.{sym}
 use Rattle.lit_rel.specs.Part.{part_events}
 use Rattle.lit_why.proofs.RefusalLemmas.{value_past}
 use Rattle.lit_why.proofs.refusals.tests.value_asked.Goals as goal
