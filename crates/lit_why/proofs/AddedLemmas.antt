@@ -109,17 +109,23 @@ module _ (t : Litmus) (most : ℕ) (first second all : ℕ → Type 0) (old mid 
   whole : (n : ℕ) → first n ⊎ second n → HasAttempt (xs ++ ys) n ⊎ ((length new ≡ most) × AreBefore (xs ++ ys) n)
   whole n (inl h) = elim (before.whole n h) [
     | inl has ↦ inl (has_left xs ys n has)
-    | inr past ↦ inr ((full past.0).0, λ i a at. elim (parted xs ys i a at) [
-      | inl left ↦ past.1 i a left
-      | inr right ↦ absurd (omega (arith, (full past.0).1, slice_get_within ys (i - length xs) a right.1))
-    ])
+    | inr past ↦ inr (
+      (full past.0).0,
+      λ i a at. elim (parted xs ys i a at) [
+        | inl left ↦ past.1 i a left
+        | inr right ↦ absurd (omega (arith, (full past.0).1, slice_get_within ys (i - length xs) a right.1))
+      ],
+    )
   ]
   whole n (inr h) = elim (behind.whole n h) [
     | inl has ↦ inl (has_right xs ys n has)
-    | inr past ↦ inr (past.0, λ i a at. elim (parted xs ys i a at) [
-      | inl left ↦ rise a.choice n (before.each i a left).0 h
-      | inr right ↦ past.1 (i - length xs) a right.1
-    ])
+    | inr past ↦ inr (
+      past.0,
+      λ i a at. elim (parted xs ys i a at) [
+        | inl left ↦ rise a.choice n (before.each i a left).0 h
+        | inr right ↦ past.1 (i - length xs) a right.1
+      ],
+    )
   ]
 
   pub adds_more : Adds t most all old new

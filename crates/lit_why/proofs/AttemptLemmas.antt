@@ -1,6 +1,6 @@
 -- The first choices of attempts are those that try the class by representatives, on each combination in turn.
-use Rattle.std.proofs.Common.{◌≡◌, ◌≢◌, ◌↔◌, ◌⊎◌, inl, inr, ℕ, zero, suc, ◌+◌, ◌<◌, ◌≤◌, ◌==◌, ◌&&◌, Bool, true, false, List, [], ◌∷◌, ◌++◌, Some, arith, eq-eqb, get_or, length, length-set, map, refl, set, sym, ap, subst, ◌∙◌}
-use Rattle.std.specs.Prelude.{IsTrue, slice_get, slice_index}
+use Rattle.std.proofs.Common.{◌≡◌, ◌≢◌, ◌↔◌, ◌⊎◌, inl, inr, ℕ, zero, suc, ◌+◌, ◌<◌, ◌≤◌, ◌==◌, ◌&&◌, Bool, true, false, List, [], ◌∷◌, Some, arith, eq-eqb, get_or, length, length-set, map, refl, set, sym, ap, subst, ◌∙◌}
+use Rattle.std.specs.Prelude.{IsTrue, slice_get}
 use Rattle.std.proofs.lemmas.Bool.{cases_eq, cases_lt}
 use Rattle.std.proofs.lemmas.Bool.Decides.{nat_tests}
 use Rattle.std.proofs.lemmas.List.{get_or-set_other, get_or-set_same}
@@ -10,7 +10,7 @@ use Rattle.lit_paths.specs.declared.event.Event.{Event}
 use Rattle.lit_paths.specs.ByteReads.{IsCandidate, byte_reads}
 use Rattle.lit_paths.specs.Choice.{AreSources, Choice, choices_of, combinations_of}
 use Rattle.lit_paths.specs.Event.{event_at, payload_at}
-use Rattle.lit_paths.specs.Plan.{AreEventsIn, HasSources, choices_before, combination_at, events_in}
+use Rattle.lit_paths.specs.Plan.{AreEventsIn, choices_before, combination_at, events_in}
 use Rattle.lit_paths.proofs.PlanFacts.{before_mono}
 use Rattle.lit_paths.proofs.Totals.{before_all}
 use Rattle.lit_rel.specs.declared.event_set.EventSet.{EventSet}
@@ -19,7 +19,6 @@ use Rattle.lit_rel.specs.TestedBytes.{RefusedBytesMakeFalse}
 use Rattle.lit_valid.specs.declared.class.Class.{Class}
 use Rattle.lit_valid.specs.Laws.{Laws}
 use Rattle.lit_solve.specs.Box.{Box, LiesIn, box_with, events_on}
-use Rattle.lit_solve.specs.Internal.Cut.{IsGreaterAt}
 use Rattle.lit_solve.proofs.LexLemmas.{place_of_less}
 use Rattle.lit_solve.proofs.RangeLemmas.{sources_rise}
 use Rattle.lit_why.specs.declared.attempt.Attempt.{Attempt}

@@ -1,14 +1,14 @@
 -- Going down the byte reads of a box: what tries the class by sources in its domains, and what is left to try.
-use Rattle.std.proofs.Common.{◌≡◌, ◌≢◌, ◌↔◌, ◌⊎◌, inl, inr, ℕ, ◌+◌, ◌<◌, ◌≤◌, true, List, [], ◌∷◌, ◌++◌, Some, arith, get_or, length, refl, sym, ap, subst, ◌∙◌}
-use Rattle.std.specs.Prelude.{slice_get, slice_index, slice_set}
+use Rattle.std.proofs.Common.{◌≡◌, ◌↔◌, ◌⊎◌, inl, inr, ℕ, ◌+◌, ◌<◌, true, List, [], ◌∷◌, ◌++◌, Some, arith, get_or, length, refl, sym, ap, subst, ◌∙◌}
+use Rattle.std.specs.Prelude.{slice_get, slice_index}
 use Rattle.std.specs.Cmp.Lexicographic.{slice_cmp}
 use Rattle.std.specs.Ordering.{nat_cmp}
 use Rattle.std.specs.declared.cmp.Ordering.TheVariants.{Less}
-use Rattle.std.proofs.lemmas.Bool.{cases_eq, cases_lt, cases_order}
+use Rattle.std.proofs.lemmas.Bool.{cases_eq, cases_order}
 use Rattle.std.proofs.lemmas.Grind.{same_number_lists}
 use Rattle.std.proofs.lemmas.Option.{same_Some, slice_get_within, slice_get-get_or}
 use Rattle.lit_read.specs.Syntax.{Litmus}
-use Rattle.lit_paths.specs.ByteReads.{IsCandidate, byte_read_at, byte_reads}
+use Rattle.lit_paths.specs.ByteReads.{byte_reads}
 use Rattle.lit_paths.specs.Choice.{AreSources}
 use Rattle.lit_paths.specs.Event.{event_at, payload_at}
 use Rattle.lit_paths.specs.Plan.{HasSources, IsOfCombination, events_in}
@@ -17,9 +17,8 @@ use Rattle.lit_rel.specs.EventSet.{HasEvent, IsSplit}
 use Rattle.lit_rel.proofs.SetLemmas.{event_or_not}
 use Rattle.lit_valid.specs.declared.class.Class.{Class}
 use Rattle.lit_valid.specs.Laws.{Laws}
-use Rattle.lit_solve.specs.Box.{Box, HasSource, IsBox, LiesIn, box_events}
+use Rattle.lit_solve.specs.Box.{Box, HasSource, LiesIn, box_events}
 use Rattle.lit_solve.specs.Fill.{AreSourcesIn}
-use Rattle.lit_solve.specs.Given.{HasAlone}
 use Rattle.lit_solve.specs.Internal.Cut.{IsGreaterAt}
 use Rattle.lit_solve.proofs.DomainLemmas.{domain_here, narrowed_at, narrowed_is_box, narrowed_within, none_empty_at, source_here, source_other}
 use Rattle.lit_solve.proofs.LexLemmas.{never_both_less}
@@ -28,7 +27,7 @@ use Rattle.lit_why.specs.declared.attempt.Attempt.{Attempt}
 use Rattle.lit_why.specs.Attempts.{HasSoMany, IsOn}
 use Rattle.lit_why.specs.Internal.Added.{Adds}
 use Rattle.lit_why.specs.Internal.Trials.{IsNode, IsUndecided, MayTry, TriesIn}
-use Rattle.lit_why.proofs.AddedLemmas.{adds_more, adds_none, adds_one, adds_same}
+use Rattle.lit_why.proofs.AddedLemmas.{adds_more, adds_one}
 use Rattle.lit_why.proofs.RaceLemmas.{one_sources}
 
 -- ---- choices on a combination

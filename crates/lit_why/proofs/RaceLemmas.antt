@@ -1,5 +1,5 @@
 -- Data races of the choices on one combination, by the box of all their candidates.
-use Rattle.std.proofs.Common.{◌≡◌, ◌⊎◌, inl, inr, ℕ, ◌+◌, ◌<◌, ◌≤◌, List, Some, length, map, refl, sym, ap, subst, ◌∙◌, arith, get_or}
+use Rattle.std.proofs.Common.{◌≡◌, inl, inr, ℕ, ◌+◌, ◌<◌, ◌≤◌, List, Some, length, map, refl, sym, ap, subst, ◌∙◌, arith}
 use Rattle.std.specs.Prelude.{slice_get}
 use Rattle.std.proofs.lemmas.Bool.{cases_lt}
 use Rattle.std.proofs.lemmas.Option.{same_Some, slice_get_within, slice_get-get_or}
@@ -114,13 +114,13 @@ abbrev pub HasNoneBefore : Litmus → ℕ → Type 0
 HasNoneBefore t c = (n : ℕ) → n < choices_before t c → ¬ GivesRace t n
 
 pub none_more : (t : Litmus) (c : ℕ) → HasNoneBefore t c → HasNoRaceOn t c → HasNoneBefore t (c + 1)
-none_more t c before here n less = elim (cases_lt n (choices_before t c)) [ | inl earlier ↦ before n earlier | inr on ↦ here n on less ]
+none_more t c before here n less = elim (cases_lt n (choices_before t c)) [ inl earlier ↦ before n earlier | inr on ↦ here n on less ]
 
 pub first_after : (t : Litmus) (c n : ℕ) (sources order : List ℕ) → HasNoneBefore t c → IsFirstRaceOn t c n sources order
     → IsFirstRace t n sources order
 first_after t c n sources order before is = record {
   gives = is.gives;
-  least = λ m less. elim (cases_lt m (choices_before t c)) [ | inl earlier ↦ before m earlier | inr on ↦ is.least m on less ];
+  least = λ m less. elim (cases_lt m (choices_before t c)) [ inl earlier ↦ before m earlier | inr on ↦ is.least m on less ];
   chosen = is.chosen;
   ordered = is.ordered;
 }

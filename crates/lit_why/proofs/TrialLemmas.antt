@@ -1,5 +1,5 @@
 -- What the domains of a box say of the tests of paths.
-use Rattle.std.proofs.Common.{◌≡◌, inr, ℕ, ◌<◌, List, Some, ap, arith, length, map, subst, ◌∙◌}
+use Rattle.std.proofs.Common.{◌≡◌, inr, ℕ, List, Some, ap, arith, length, map, subst, ◌∙◌}
 use Rattle.std.proofs.lemmas.Option.{slice_get_within}
 use Rattle.lit_read.specs.Syntax.{Litmus}
 use Rattle.lit_paths.specs.declared.byte_reads.ByteRead.{ByteRead}

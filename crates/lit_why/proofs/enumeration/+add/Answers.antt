@@ -1,12 +1,10 @@
-use Rattle.std.proofs.Common.{◌≡◌, ◌≢◌, ◌↔◌, ◌+◌, ◌-◌, ◌<◌, ◌≤◌, ℕ, false, true, List, arith, inl, inr, length, refl, subst, sym, ◌∙◌}
+use Rattle.std.proofs.Common.{◌≡◌, ◌↔◌, ◌+◌, ◌-◌, ◌<◌, ◌≤◌, ℕ, arith, inl, inr, length, subst}
 use Rattle.std.specs.Prelude.{slice_index_or}
-use Rattle.lit_read.specs.Syntax.{Litmus}
 use Rattle.lit_paths.specs.ByteReads.{byte_reads}
 use Rattle.lit_paths.specs.declared.limits.TheConstants.{BYTE_READ_LIMIT}
-use Rattle.lit_rel.specs.declared.event_set.EventSet.{EventSet}
 use Rattle.lit_rel.specs.EventSet.{HasEvent, no_events}
 use Rattle.lit_rel.proofs.SetLemmas.{split_less}
-use Rattle.lit_solve.specs.Box.{Box, box_with, events_on}
+use Rattle.lit_solve.specs.Box.{box_with, events_on}
 use Rattle.lit_solve.proofs.NarrowingLemmas.{source_known}
 use Rattle.lit_why.specs.Internal.Trials.{MayTry, TriesIn}
 use Rattle.lit_why.proofs.AddedLemmas.{adds_none, adds_same}
@@ -66,7 +64,7 @@ add-requires t c =
     let few : length (byte_reads (events_on p)) ≤ BYTE_READ_LIMIT = sound.few_reads in
     let room : place < length box.domains = omega (arith, few, inside, c.told-domains) in
     let only : (w : ℕ) → HasEvent c.with.result w ↔ (w ≡ c.in-Some.source) = λ w. (
-      λ h. elim ((c.with.ensures w).0 h) [ | inl e ↦ absurd (c.new.ensures.empty w e) | inr is ↦ is ],
+      λ h. elim ((c.with.ensures w).0 h) [ inl e ↦ absurd (c.new.ensures.empty w e) | inr is ↦ is ],
       λ is. (c.with.ensures w).1 (inr is),
     ) in (
       subst (λ (n : ℕ). length (byte_reads (events_on p)) - (place + 1) < n) c.decreases (omega (arith, inside)),
@@ -91,7 +89,7 @@ loop-source-preserved t c =
     let few : length (byte_reads (events_on p)) ≤ BYTE_READ_LIMIT = sound.few_reads in
     let room : place < length box.domains = omega (arith, few, inside, c.told-domains) in
     let only : (w : ℕ) → HasEvent c.with.result w ↔ (w ≡ c.in-Some.source) = λ w. (
-      λ h. elim ((c.with.ensures w).0 h) [ | inl e ↦ absurd (c.new.ensures.empty w e) | inr is ↦ is ],
+      λ h. elim ((c.with.ensures w).0 h) [ inl e ↦ absurd (c.new.ensures.empty w e) | inr is ↦ is ],
       λ is. (c.with.ensures w).1 (inr is),
     ) in record {
       left = fewer_left c.laws_below.ensures box c.args.class place inside c.loop-source.left c.in-Some.others c.in-Some.source c.in-Some.ensures

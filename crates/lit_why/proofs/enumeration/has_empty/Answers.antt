@@ -1,4 +1,4 @@
-use Rattle.std.proofs.Common.{◌<◌, ℕ, arith, inl, inr, subst, sym, ◌∙◌}
+use Rattle.std.proofs.Common.{ℕ, arith, inl, inr, subst, sym, ◌∙◌}
 use Rattle.std.proofs.lemmas.Bool.{cases_eq, false≢true}
 use Rattle.lit_solve.specs.Box.{HasSource, box_with}
 use Rattle.lit_why.proofs.TrialLemmas.{reads_len}

@@ -1,4 +1,4 @@
-use Rattle.std.proofs.Common.{◌≡◌, ◌<◌, ◌≤◌, arith, length}
+use Rattle.std.proofs.Common.{◌≡◌, ◌<◌, arith, length}
 use Rattle.lit_paths.specs.ByteReads.{byte_reads}
 use Rattle.lit_solve.specs.Box.{box_with, events_on}
 use Rattle.lit_solve.proofs.NarrowingLemmas.{source_known}

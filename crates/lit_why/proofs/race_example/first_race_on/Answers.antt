@@ -1,12 +1,11 @@
-use Rattle.std.proofs.Common.{◌<◌, length, ℕ, List, subst, sym, ◌∙◌}
-use Rattle.lit_read.specs.Syntax.{IsLitmus, Litmus}
+use Rattle.std.proofs.Common.{◌<◌, length, ℕ, subst, sym}
+use Rattle.lit_read.specs.Syntax.{Litmus}
 use Rattle.lit_paths.specs.ByteReads.{IsCandidate}
 use Rattle.lit_paths.specs.Choice.{combinations_of}
-use Rattle.lit_solve.specs.Box.{IsBox, box_with, events_on}
+use Rattle.lit_solve.specs.Box.{box_with, events_on}
 use Rattle.lit_solve.proofs.CompletionLemmas.{sourced}
 use Rattle.lit_why.specs.Internal.Domains.{AreDomainsBy}
 use Rattle.lit_why.specs.Internal.RacesOn.{HasNoRaceOn, IsFirstRaceOn}
-use Rattle.lit_why.proofs.DomainLemmas.{box_by}
 use Rattle.lit_why.proofs.RaceLemmas.{first_race, no_race}
 use Rattle.lit_why.proofs.race_example.first_race_on.Goals as goal
 
