@@ -31,7 +31,8 @@ has_its_sources t n x chosen = record { choice = execution_choice x; listed = ch
 
 pub one_sources : (t : Litmus) (n : ℕ) (a b : List ℕ) → HasSources t n a → HasSources t n b → a ≡ b
 one_sources t n a b first second =
-    sym first.same ∙ ap (λ (ch : Choice). ch.sources) (same_Some first.choice second.choice (sym first.listed ∙ second.listed)) ∙ second.same
+    sym first.same ∙ ap (λ (ch : Choice). ch.sources) (same_Some first.choice second.choice (sym first.listed ∙ second.listed))
+    ∙ second.same
 
 -- an execution on a combination has the decisions of its paths
 its_decisions : (t : Litmus) (c : ℕ) (x : Execution) → map run_path x.runs ≡ combination_at t c
@@ -69,7 +70,8 @@ module _ (laws : Laws) (p : Litmus × ℕ) (known : p.1 < length (combinations_o
       }
 
   -- a completion with the sources of a choice on the combination is of that choice
-  chosen_by : (n : ℕ) (x : Execution) → IsCompletion box x → choices_before t c ≤ n → n < choices_before t (c + 1) → HasSources t n x.sources
+  chosen_by : (n : ℕ) (x : Execution) → IsCompletion box x → choices_before t c ≤ n → n < choices_before t (c + 1)
+      → HasSources t n x.sources
       → slice_get (choices_of t) n ≡ Some (execution_choice x)
   chosen_by n x is low high has =
       let of = placed n low high in
