@@ -1,5 +1,6 @@
 -- How a list of attempts goes on: by none, by one, and by what is added in turn.
-use Rattle.std.proofs.Common.{◌≡◌, ◌↔◌, ◌⊎◌, inl, inr, ℕ, zero, suc, ◌+◌, ◌-◌, ◌<◌, ◌≤◌, List, [], ◌∷◌, ◌++◌, Some, length, length-append, refl, sym, ap, subst, ◌∙◌, arith}
+use Rattle.std.proofs.Common.{◌≡◌, ◌↔◌, ◌⊎◌, inl, inr, ℕ, zero, suc, ◌+◌, ◌-◌, ◌<◌, ◌≤◌, List, [], ◌∷◌, ◌++◌, Some, length, length-append}
+use Rattle.std.proofs.Common.{refl, sym, ap, subst, ◌∙◌, arith}
 use Rattle.std.specs.Prelude.{slice_get}
 use Rattle.std.proofs.lemmas.Bool.{cases_lt}
 use Rattle.std.proofs.lemmas.List.{append-nil, append_assoc}
@@ -14,7 +15,8 @@ none_in : (i : ℕ) (a : Attempt) → slice_get [] i ≡ Some a → ⊥
 none_in i a at = let e = at in cc
 
 -- nothing is added where there is nothing, or the list is as long as it may be
-pub adds_none : (t : Litmus) (most : ℕ) (holds : ℕ → Type 0) (old : List Attempt) → length old ≤ most → ((n : ℕ) → holds n → length old ≡ most)
+pub adds_none : (t : Litmus) (most : ℕ) (holds : ℕ → Type 0) (old : List Attempt) → length old ≤ most
+    → ((n : ℕ) → holds n → length old ≡ most)
     → Adds t most holds old old
 adds_none t most holds old few none = record {
   added = [];
@@ -41,7 +43,8 @@ adds_one t most holds old a room is many only = record {
 }
 
 -- the same of what holds of the same numbers
-pub adds_same : (t : Litmus) (most : ℕ) (holds other : ℕ → Type 0) (old new : List Attempt) → ((n : ℕ) → holds n ↔ other n) → Adds t most holds old new
+pub adds_same : (t : Litmus) (most : ℕ) (holds other : ℕ → Type 0) (old new : List Attempt) → ((n : ℕ) → holds n ↔ other n)
+    → Adds t most holds old new
     → Adds t most other old new
 adds_same t most holds other old new same adds = record {
   added = adds.added;
@@ -78,7 +81,8 @@ has_right xs ys n h = record {
 }
 
 module _ (t : Litmus) (most : ℕ) (first second all : ℕ → Type 0) (old mid new : List Attempt) (before : Adds t most first old mid)
-    (behind : Adds t most second mid new) (rise : (m n : ℕ) → first m → second n → m < n) (both : (n : ℕ) → all n ↔ (first n ⊎ second n)) where
+    (behind : Adds t most second mid new) (rise : (m n : ℕ) → first m → second n → m < n)
+    (both : (n : ℕ) → all n ↔ (first n ⊎ second n)) where
   abbrev xs : List Attempt
   xs = before.added
 
@@ -109,17 +113,23 @@ module _ (t : Litmus) (most : ℕ) (first second all : ℕ → Type 0) (old mid 
   whole : (n : ℕ) → first n ⊎ second n → HasAttempt (xs ++ ys) n ⊎ ((length new ≡ most) × AreBefore (xs ++ ys) n)
   whole n (inl h) = elim (before.whole n h) [
     | inl has ↦ inl (has_left xs ys n has)
-    | inr past ↦ inr ((full past.0).0, λ i a at. elim (parted xs ys i a at) [
-      | inl left ↦ past.1 i a left
-      | inr right ↦ absurd (omega (arith, (full past.0).1, slice_get_within ys (i - length xs) a right.1))
-    ])
+    | inr past ↦ inr (
+      (full past.0).0,
+      λ i a at. elim (parted xs ys i a at) [
+        | inl left ↦ past.1 i a left
+        | inr right ↦ absurd (omega (arith, (full past.0).1, slice_get_within ys (i - length xs) a right.1))
+      ],
+    )
   ]
   whole n (inr h) = elim (behind.whole n h) [
     | inl has ↦ inl (has_right xs ys n has)
-    | inr past ↦ inr (past.0, λ i a at. elim (parted xs ys i a at) [
-      | inl left ↦ rise a.choice n (before.each i a left).0 h
-      | inr right ↦ past.1 (i - length xs) a right.1
-    ])
+    | inr past ↦ inr (
+      past.0,
+      λ i a at. elim (parted xs ys i a at) [
+        | inl left ↦ rise a.choice n (before.each i a left).0 h
+        | inr right ↦ past.1 (i - length xs) a right.1
+      ],
+    )
   ]
 
   pub adds_more : Adds t most all old new

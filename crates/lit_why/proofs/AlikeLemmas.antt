@@ -1,5 +1,6 @@
 -- How many lists of sources store the same, byte read by byte read.
-use Rattle.std.proofs.Common.{◌≡◌, ℕ, zero, suc, ◌+◌, ◌*◌, ◌<◌, ◌≤◌, ◌==◌, ◌&&◌, Bool, true, false, cond, List, [], ◌∷◌, ◌++◌, Some, arith, refl, sym, ap, ap₂, subst, ◌∙◌}
+use Rattle.std.proofs.Common.{◌≡◌, ℕ, zero, suc, ◌+◌, ◌*◌, ◌<◌, ◌≤◌, ◌==◌, ◌&&◌, Bool, true, false, cond, List, [], ◌∷◌, ◌++◌, Some}
+use Rattle.std.proofs.Common.{arith, refl, sym, ap, ap₂, ◌∙◌}
 use Rattle.std.proofs.Common.{drop, filter, get_or, length, length-append, map}
 use Rattle.std.specs.List.{flat_map}
 use Rattle.std.specs.Prelude.{slice_get}
@@ -75,8 +76,10 @@ ways_are events [] sources long = refl
 ways_are events (read ∷ reads) [] long = absurd (omega (arith, long))
 ways_are events (read ∷ reads) (w ∷ sources) long =
     multiplied (λ v. payload_at (event_at events v) read.1 == payload_at (event_at events w) read.1) (store_alike events reads sources)
-    (store_alike events (read ∷ reads) (w ∷ sources)) (candidates_of events read) (product (map (candidates_of events) reads)) (λ x ys. refl)
-    ∙ ap (λ (n : ℕ). length (filter (λ v. payload_at (event_at events v) read.1 == payload_at (event_at events w) read.1) (candidates_of events read)) * n)
+    (store_alike events (read ∷ reads) (w ∷ sources)) (candidates_of events read) (product (map (candidates_of events) reads))
+    (λ x ys. refl)
+    ∙ ap (λ (n : ℕ). length (filter (λ v. payload_at (event_at events v) read.1 == payload_at (event_at events w) read.1)
+    (candidates_of events read)) * n)
     (ways_are events reads sources (omega (arith, long)))
 
 -- ---- from the last byte read on
@@ -122,7 +125,8 @@ ways_later events (read ∷ reads) [] (suc k) long each = absurd (omega (arith, 
 ways_later events (read ∷ reads) (w ∷ sources) (suc k) long each =
     let f : ℕ → Bool = λ v. payload_at (event_at events v) read.1 == payload_at (event_at events w) read.1 in
     let found = candidates_of-found events read.0 read.1 w (each 0 w read refl refl) in
-    let some : 1 ≤ length (filter f (candidates_of events read)) = counts_itself f w (candidates_of events read) found.0 found.1 (eq-eqb _ _ refl) in
+    let some : 1 ≤ length (filter f (candidates_of events read)) = counts_itself f w (candidates_of events read) found.0 found.1
+    (eq-eqb _ _ refl) in
     let later = ways_later events reads sources k (omega (arith, long)) (λ i v other at is. each (suc i) v other at is) in
     let more : 1 * ways_alike events reads sources ≤ length (filter f (candidates_of events read)) * ways_alike events reads sources =
     mul-le-mul_right (ways_alike events reads sources) some in
@@ -145,9 +149,11 @@ module _ (events : List Event) (sources : List ℕ) (are : AreSources events sou
       ap₂ (ways_alike events) (drop_all k reads (omega (arith, past, are.one_each))) (drop_all k sources past)
 
   pub ways_step : (k : ℕ) → k < length sources
-      → ways_on k ≡ length (filter (λ v. payload_at (event_at events v) (byte_read_at events k).1 == payload_at (event_at events (get_or sources k 0)) (byte_read_at events k).1)
+      → ways_on k ≡ length (filter (λ v. payload_at (event_at events v) (byte_read_at events k).1 == payload_at
+      (event_at events (get_or sources k 0)) (byte_read_at events k).1)
       (candidates_of events (byte_read_at events k))) * ways_on (k + 1)
-  ways_step k inside = ap₂ (ways_alike events) (drop_more reads k (0, 0) (omega (arith, inside, are.one_each))) (drop_more sources k 0 inside)
+  ways_step k inside = ap₂ (ways_alike events) (drop_more reads k (0, 0) (omega (arith, inside, are.one_each)))
+      (drop_more sources k 0 inside)
 
   pub ways_small : (k : ℕ) → ways_on k ≤ ways_from events 0
   ways_small k = le_trans (ways_later events reads sources k are.one_each each) (ways_within events reads sources)

@@ -1,6 +1,7 @@
 -- The first choices of attempts are those that try the class by representatives, on each combination in turn.
-use Rattle.std.proofs.Common.{◌≡◌, ◌≢◌, ◌↔◌, ◌⊎◌, inl, inr, ℕ, zero, suc, ◌+◌, ◌<◌, ◌≤◌, ◌==◌, ◌&&◌, Bool, true, false, List, [], ◌∷◌, ◌++◌, Some, arith, eq-eqb, get_or, length, length-set, map, refl, set, sym, ap, subst, ◌∙◌}
-use Rattle.std.specs.Prelude.{IsTrue, slice_get, slice_index}
+use Rattle.std.proofs.Common.{◌≡◌, ◌≢◌, ◌↔◌, ◌⊎◌, inl, inr, ℕ, zero, suc, ◌+◌, ◌<◌, ◌≤◌, ◌==◌, ◌&&◌, Bool, true, false, List, [], ◌∷◌}
+use Rattle.std.proofs.Common.{Some, arith, eq-eqb, get_or, length, length-set, map, refl, set, sym, ap, subst, ◌∙◌}
+use Rattle.std.specs.Prelude.{IsTrue, slice_get}
 use Rattle.std.proofs.lemmas.Bool.{cases_eq, cases_lt}
 use Rattle.std.proofs.lemmas.Bool.Decides.{nat_tests}
 use Rattle.std.proofs.lemmas.List.{get_or-set_other, get_or-set_same}
@@ -10,7 +11,7 @@ use Rattle.lit_paths.specs.declared.event.Event.{Event}
 use Rattle.lit_paths.specs.ByteReads.{IsCandidate, byte_reads}
 use Rattle.lit_paths.specs.Choice.{AreSources, Choice, choices_of, combinations_of}
 use Rattle.lit_paths.specs.Event.{event_at, payload_at}
-use Rattle.lit_paths.specs.Plan.{AreEventsIn, HasSources, choices_before, combination_at, events_in}
+use Rattle.lit_paths.specs.Plan.{AreEventsIn, choices_before, combination_at, events_in}
 use Rattle.lit_paths.proofs.PlanFacts.{before_mono}
 use Rattle.lit_paths.proofs.Totals.{before_all}
 use Rattle.lit_rel.specs.declared.event_set.EventSet.{EventSet}
@@ -19,11 +20,11 @@ use Rattle.lit_rel.specs.TestedBytes.{RefusedBytesMakeFalse}
 use Rattle.lit_valid.specs.declared.class.Class.{Class}
 use Rattle.lit_valid.specs.Laws.{Laws}
 use Rattle.lit_solve.specs.Box.{Box, LiesIn, box_with, events_on}
-use Rattle.lit_solve.specs.Internal.Cut.{IsGreaterAt}
 use Rattle.lit_solve.proofs.LexLemmas.{place_of_less}
 use Rattle.lit_solve.proofs.RangeLemmas.{sources_rise}
 use Rattle.lit_why.specs.declared.attempt.Attempt.{Attempt}
-use Rattle.lit_why.specs.Attempts.{AreBefore, AreFirstAttempts, AreOneAttempt, AreRising, HasAttempt, IsLeastTry, IsOn, IsTry, give_alike, part_with, store_alike}
+use Rattle.lit_why.specs.Attempts.{AreBefore, AreFirstAttempts, AreOneAttempt, AreRising, HasAttempt, IsLeastTry, IsOn, IsTry, give_alike}
+use Rattle.lit_why.specs.Attempts.{part_with, store_alike}
 use Rattle.lit_why.specs.Internal.Added.{Adds}
 use Rattle.lit_why.specs.Internal.Domains.{AreDomainsBy}
 use Rattle.lit_why.specs.Internal.Trials.{IsLeastTryOn, IsRepresentative, IsStoredBefore, TriesIn}
@@ -56,7 +57,8 @@ alike_at events (r ∷ reads) (x ∷ some) (y ∷ other) is zero v w read at at_
     (subst (λ (n : ℕ). payload_at (event_at events y) r.1 ≡ payload_at (event_at events n) r.1) same_v stored))
 alike_at events (r ∷ reads) (x ∷ some) (y ∷ other) is (suc k) v w read at at_some at_other =
     alike_at events reads some other
-    (both (payload_at (event_at events y) r.1 == payload_at (event_at events x) r.1) (store_alike events reads some other) is).1 k v w read at at_some
+    (both (payload_at (event_at events y) r.1 == payload_at (event_at events x) r.1) (store_alike events reads some other) is).1 k v w
+    read at at_some
     at_other
 
 alike_from : (events : List Event) (reads : List (ℕ × ℕ)) (some other : List ℕ) → length some ≡ length reads → length other ≡ length reads
@@ -67,13 +69,16 @@ alike_from events (r ∷ reads) [] other long long_other each = absurd (omega (a
 alike_from events (r ∷ reads) (x ∷ some) [] long long_other each = absurd (omega (arith, long_other))
 alike_from events (r ∷ reads) (x ∷ some) (y ∷ other) long long_other each =
     let later : store_alike events reads some other ≡ true =
-    alike_from events reads some other (omega (arith, long)) (omega (arith, long_other)) (λ k v w read at at_some at_other. each (suc k) v w read at at_some at_other) in
-    let here : (payload_at (event_at events y) r.1 == payload_at (event_at events x) r.1) ≡ true = eq-eqb _ _ (each 0 x y r refl refl refl) in
+    alike_from events reads some other (omega (arith, long)) (omega (arith, long_other))
+    (λ k v w read at at_some at_other. each (suc k) v w read at at_some at_other) in
+    let here : (payload_at (event_at events y) r.1 == payload_at (event_at events x) r.1)
+    ≡ true = eq-eqb _ _ (each 0 x y r refl refl refl) in
     ap (λ (b : Bool). b && store_alike events reads some other) here ∙ later
 
 -- ---- choices on a combination
 -- a choice is on one combination
-one_combination : (t : Litmus) (n c d : ℕ) → choices_before t c ≤ n → n < choices_before t (c + 1) → choices_before t d ≤ n → n < choices_before t (d + 1)
+one_combination : (t : Litmus) (n c d : ℕ) → choices_before t c ≤ n → n < choices_before t (c + 1) → choices_before t d ≤ n
+    → n < choices_before t (d + 1)
     → d ≡ c
 one_combination t n c d low high low_too high_too = elim (cases_lt c d) [
   | inl less ↦ absurd (omega (arith, high, low_too, before_mono t (c + 1) d (omega (arith, less))))
@@ -105,7 +110,8 @@ choice_with laws t c sources known are =
       },
     )
 
-module _ (laws : Laws) (refused : RefusedBytesMakeFalse) (p : Litmus × ℕ) (class : Class) (known : p.1 < length (combinations_of p.0)) (sound : AreEventsIn p.0.bytes (events_on p)) (domains : List EventSet)
+module _ (laws : Laws) (refused : RefusedBytesMakeFalse) (p : Litmus × ℕ) (class : Class) (known : p.1 < length (combinations_of p.0))
+    (sound : AreEventsIn p.0.bytes (events_on p)) (domains : List EventSet)
     (are_by : AreDomainsBy p (IsRepresentative p) domains) where
   abbrev t : Litmus
   t = p.0
@@ -142,28 +148,33 @@ module _ (laws : Laws) (refused : RefusedBytesMakeFalse) (p : Litmus × ℕ) (cl
           let others : one.other ≡ b = one_sources t n one.other b on_n.has is.on.has in
           let are_a = on_sourced laws t m c a on_m in
           let are_b = on_sourced laws t n c b is.on in
-          let rises = sources_rise t c m n a b (laws.chosen t) (placed laws t m c a on_m) (placed laws t n c b is.on) on_m.has is.on.has less in
+          let rises = sources_rise t c m n a b (laws.chosen t) (placed laws t m c a on_m)
+          (placed laws t n c b is.on) on_m.has is.on.has less in
           let place = place_of_less a b (are_a.one_each ∙ sym are_b.one_each) rises in
           let k = place.0 in
           let read = get_or (byte_reads events) k (0, 0) in
           let at_read : slice_get (byte_reads events) k ≡ Some (read.0, read.1) =
           slice_get-get_or (byte_reads events) k (0, 0) (omega (arith, place.1, are_a.one_each)) in
           let at_a : slice_get a k ≡ Some (get_or a k 0) = slice_get-get_or a k 0 place.1 in
-          let at_b : slice_get b k ≡ Some (get_or b k 0) = slice_get-get_or b k 0 (omega (arith, place.1, are_a.one_each, are_b.one_each)) in
+          let at_b : slice_get b k ≡ Some (get_or b k 0) = slice_get-get_or b k 0
+          (omega (arith, place.1, are_a.one_each, are_b.one_each)) in
           ((are_by k read.0 read.1 (get_or b k 0) at_read).0 (is.lies k (get_or b k 0) at_b)).least (record {
             other = get_or a k 0;
             candidate = are_a.each k read.0 read.1 (get_or a k 0) at_read at_a;
             lesser = place.2.greater place.1;
-            same = sym (alike_at events (byte_reads events) a b (subst (λ (ws : List ℕ). IsTrue (give_alike events a ws)) others alike) k (get_or a k 0) (get_or b k 0) read
+            same = sym (alike_at events (byte_reads events) a b
+                (subst (λ (ws : List ℕ). IsTrue (give_alike events a ws)) others alike) k (get_or a k 0) (get_or b k 0) read
                 at_read at_a at_b);
           })
 
   -- the sources of the first choice of an attempt are representatives
-  module _ (n : ℕ) (is : IsLeastTry t class n) (sources : List ℕ) (on : IsOn t n c sources) (allowed : ¬ HasFalseTest (part_with t c sources)) where
+  module _ (n : ℕ) (is : IsLeastTry t class n) (sources : List ℕ) (on : IsOn t n c sources)
+      (allowed : ¬ HasFalseTest (part_with t c sources)) where
     are : AreSources events sources
     are = on_sourced laws t n c sources on
 
-    not_before : (k r b w : ℕ) → slice_get (byte_reads events) k ≡ Some (r, b) → slice_get sources k ≡ Some w → ¬ IsStoredBefore p (r, b) w
+    not_before : (k r b w : ℕ) → slice_get (byte_reads events) k ≡ Some (r, b) → slice_get sources k ≡ Some w
+        → ¬ IsStoredBefore p (r, b) w
     not_before k r b w at_read at before =
         let v = before.other in
         let inside : k < length sources = slice_get_within sources k w at in
@@ -176,9 +187,11 @@ module _ (laws : Laws) (refused : RefusedBytesMakeFalse) (p : Litmus × ℕ) (cl
           one_each = long ∙ are.one_each;
           each = λ i q e u at_i source. elim (cases_eq i k) [
             | inl same ↦
-                let pair : (r, b) ≡ (q, e) = same_Some (r, b) (q, e) (sym at_read ∙ ap (slice_get (byte_reads events)) (sym same) ∙ at_i) in
+                let pair : (r, b) ≡ (q, e) = same_Some (r, b) (q, e)
+                (sym at_read ∙ ap (slice_get (byte_reads events)) (sym same) ∙ at_i) in
                 let value : v ≡ u = sym here ∙ ap (λ (j : ℕ). get_or others j 0) (sym same) ∙ get_or_from_slice_get others i u 0 source in
-                subst (λ (x : ℕ). IsCandidate events q e x) value (subst (λ (x : ℕ × ℕ). IsCandidate events x.0 x.1 v) pair before.candidate)
+                subst (λ (x : ℕ). IsCandidate events q e x) value
+                (subst (λ (x : ℕ × ℕ). IsCandidate events x.0 x.1 v) pair before.candidate)
             | inr other ↦
                 let there : i < length sources = omega (arith, slice_get_within others i u source, long) in
                 let value : get_or sources i 0 ≡ u = sym (apart i other) ∙ get_or_from_slice_get others i u 0 source in
@@ -196,18 +209,20 @@ module _ (laws : Laws) (refused : RefusedBytesMakeFalse) (p : Litmus × ℕ) (cl
           other = sources;
           on_some = lesser.1;
           on_other = on;
-          alike = alike_from events (byte_reads events) others sources are_others.one_each are.one_each (λ i x y read at_i at_x at_y. elim (cases_eq i k) [
-            | inl same ↦
-                let pair : (r, b) ≡ read = same_Some (r, b) read (sym at_read ∙ ap (slice_get (byte_reads events)) (sym same) ∙ at_i) in
-                let value : v ≡ x = sym here ∙ ap (λ (j : ℕ). get_or others j 0) (sym same) ∙ get_or_from_slice_get others i x 0 at_x in
-                let value_too : w ≡ y = same_Some w y (sym at ∙ ap (slice_get sources) (sym same) ∙ at_y) in
-                subst (λ (q : ℕ × ℕ). payload_at (event_at events y) q.1 ≡ payload_at (event_at events x) q.1) pair
-                (subst (λ (u : ℕ). payload_at (event_at events u) b ≡ payload_at (event_at events x) b) value_too
-                (subst (λ (u : ℕ). payload_at (event_at events w) b ≡ payload_at (event_at events u) b) value (sym before.same)))
-            | inr other ↦
-                let value : x ≡ y = sym (get_or_from_slice_get others i x 0 at_x) ∙ apart i other ∙ get_or_from_slice_get sources i y 0 at_y in
-                ap (λ (u : ℕ). payload_at (event_at events u) read.1) (sym value)
-          ]);
+          alike = alike_from events (byte_reads events) others sources are_others.one_each are.one_each
+              (λ i x y read at_i at_x at_y. elim (cases_eq i k) [
+                | inl same ↦
+                    let pair : (r, b) ≡ read = same_Some (r, b) read (sym at_read ∙ ap (slice_get (byte_reads events)) (sym same) ∙ at_i) in
+                    let value : v ≡ x = sym here ∙ ap (λ (j : ℕ). get_or others j 0) (sym same) ∙ get_or_from_slice_get others i x 0 at_x in
+                    let value_too : w ≡ y = same_Some w y (sym at ∙ ap (slice_get sources) (sym same) ∙ at_y) in
+                    subst (λ (q : ℕ × ℕ). payload_at (event_at events y) q.1 ≡ payload_at (event_at events x) q.1) pair
+                    (subst (λ (u : ℕ). payload_at (event_at events u) b ≡ payload_at (event_at events x) b) value_too
+                    (subst (λ (u : ℕ). payload_at (event_at events w) b ≡ payload_at (event_at events u) b) value (sym before.same)))
+                | inr other ↦
+                    let value : x ≡ y = sym (get_or_from_slice_get others i x 0 at_x) ∙ apart i other
+                    ∙ get_or_from_slice_get sources i y 0 at_y in
+                    ap (λ (u : ℕ). payload_at (event_at events u) read.1) (sym value)
+              ]);
         })
 
     pub by_representatives : LiesIn box sources
@@ -236,7 +251,13 @@ module _ (laws : Laws) (refused : RefusedBytesMakeFalse) (p : Litmus × ℕ) (cl
         let same : tries.combination ≡ c = one_combination t n c tries.combination first.low first.high tries.on.low tries.on.high in
         let on : IsOn t n c tries.sources = subst (λ (d : ℕ). IsOn t n d tries.sources) same tries.on in
         let is_try : IsTry t class c tries.sources = subst (λ (d : ℕ). IsTry t class d tries.sources) same tries.is_try in
-        record { sources = tries.sources; on = on; lies = by_representatives n first.is tries.sources on is_try.allowed; is_try = is_try },
+        record {
+          sources = tries.sources;
+          on = on;
+          lies = by_representatives n first.is tries.sources on is_try.allowed;
+          is_try =
+              is_try;
+        },
   )
 
 -- ---- combination after combination
@@ -264,11 +285,13 @@ pub first_attempts : (t : Litmus) (class : Class) (c most : ℕ) (attempts : Lis
     → Adds t most (IsLeastTryBefore t class c) [] attempts → AreFirstAttempts t class most attempts
 first_attempts t class c most attempts past adds = record {
   few = adds.few;
-  each = λ i a at. let h = adds.each i a (subst (λ (xs : List Attempt). slice_get xs i ≡ Some a) adds.goes_on at) in record { least = h.0.is; many = h.1 };
+  each = λ i a at. let h = adds.each i a (subst (λ (xs : List Attempt). slice_get xs i ≡ Some a) adds.goes_on at) in
+      record { least = h.0.is; many = h.1 };
   rising = subst AreRising (sym adds.goes_on) adds.rising;
   whole = λ n is.
       let listed = is.tries.on.has in
-      let before : n < choices_before t c = omega (arith, slice_get_within (choices_of t) n listed.choice listed.listed, before_all t c past) in
+      let before : n < choices_before t c = omega
+      (arith, slice_get_within (choices_of t) n listed.choice listed.listed, before_all t c past) in
       subst (λ (xs : List Attempt). HasAttempt xs n ⊎ ((length attempts ≡ most) × AreBefore xs n)) (sym adds.goes_on)
       (adds.whole n (record { is = is; before = before }));
 }

@@ -1,5 +1,5 @@
 -- Domains by what their sources are.
-use Rattle.std.proofs.Common.{◌≡◌, ◌↔◌, ℕ, ◌+◌, ◌<◌, ◌≤◌, List, Some, arith, length}
+use Rattle.std.proofs.Common.{◌≡◌, ◌↔◌, ℕ, ◌<◌, List, Some, length}
 use Rattle.std.specs.Prelude.{slice_get, slice_index_or}
 use Rattle.lit_read.specs.Syntax.{IsLitmus, Litmus}
 use Rattle.lit_paths.specs.ByteReads.{byte_reads, IsCandidate}

@@ -1,5 +1,5 @@
 -- Data races of the choices on one combination, by the box of all their candidates.
-use Rattle.std.proofs.Common.{◌≡◌, ◌⊎◌, inl, inr, ℕ, ◌+◌, ◌<◌, ◌≤◌, List, Some, length, map, refl, sym, ap, subst, ◌∙◌, arith, get_or}
+use Rattle.std.proofs.Common.{◌≡◌, inl, inr, ℕ, ◌+◌, ◌<◌, ◌≤◌, List, Some, length, map, refl, sym, ap, subst, ◌∙◌, arith}
 use Rattle.std.specs.Prelude.{slice_get}
 use Rattle.std.proofs.lemmas.Bool.{cases_lt}
 use Rattle.std.proofs.lemmas.Option.{same_Some, slice_get_within, slice_get-get_or}
@@ -31,7 +31,8 @@ has_its_sources t n x chosen = record { choice = execution_choice x; listed = ch
 
 pub one_sources : (t : Litmus) (n : ℕ) (a b : List ℕ) → HasSources t n a → HasSources t n b → a ≡ b
 one_sources t n a b first second =
-    sym first.same ∙ ap (λ (ch : Choice). ch.sources) (same_Some first.choice second.choice (sym first.listed ∙ second.listed)) ∙ second.same
+    sym first.same ∙ ap (λ (ch : Choice). ch.sources) (same_Some first.choice second.choice (sym first.listed ∙ second.listed))
+    ∙ second.same
 
 -- an execution on a combination has the decisions of its paths
 its_decisions : (t : Litmus) (c : ℕ) (x : Execution) → map run_path x.runs ≡ combination_at t c
@@ -69,7 +70,8 @@ module _ (laws : Laws) (p : Litmus × ℕ) (known : p.1 < length (combinations_o
       }
 
   -- a completion with the sources of a choice on the combination is of that choice
-  chosen_by : (n : ℕ) (x : Execution) → IsCompletion box x → choices_before t c ≤ n → n < choices_before t (c + 1) → HasSources t n x.sources
+  chosen_by : (n : ℕ) (x : Execution) → IsCompletion box x → choices_before t c ≤ n → n < choices_before t (c + 1)
+      → HasSources t n x.sources
       → slice_get (choices_of t) n ≡ Some (execution_choice x)
   chosen_by n x is low high has =
       let of = placed n low high in
@@ -114,13 +116,13 @@ abbrev pub HasNoneBefore : Litmus → ℕ → Type 0
 HasNoneBefore t c = (n : ℕ) → n < choices_before t c → ¬ GivesRace t n
 
 pub none_more : (t : Litmus) (c : ℕ) → HasNoneBefore t c → HasNoRaceOn t c → HasNoneBefore t (c + 1)
-none_more t c before here n less = elim (cases_lt n (choices_before t c)) [ | inl earlier ↦ before n earlier | inr on ↦ here n on less ]
+none_more t c before here n less = elim (cases_lt n (choices_before t c)) [ inl earlier ↦ before n earlier | inr on ↦ here n on less ]
 
 pub first_after : (t : Litmus) (c n : ℕ) (sources order : List ℕ) → HasNoneBefore t c → IsFirstRaceOn t c n sources order
     → IsFirstRace t n sources order
 first_after t c n sources order before is = record {
   gives = is.gives;
-  least = λ m less. elim (cases_lt m (choices_before t c)) [ | inl earlier ↦ before m earlier | inr on ↦ is.least m on less ];
+  least = λ m less. elim (cases_lt m (choices_before t c)) [ inl earlier ↦ before m earlier | inr on ↦ is.least m on less ];
   chosen = is.chosen;
   ordered = is.ordered;
 }

@@ -1,14 +1,15 @@
 -- Going down the byte reads of a box: what tries the class by sources in its domains, and what is left to try.
-use Rattle.std.proofs.Common.{◌≡◌, ◌≢◌, ◌↔◌, ◌⊎◌, inl, inr, ℕ, ◌+◌, ◌<◌, ◌≤◌, true, List, [], ◌∷◌, ◌++◌, Some, arith, get_or, length, refl, sym, ap, subst, ◌∙◌}
-use Rattle.std.specs.Prelude.{slice_get, slice_index, slice_set}
+use Rattle.std.proofs.Common.{◌≡◌, ◌↔◌, ◌⊎◌, inl, inr, ℕ, ◌+◌, ◌<◌, true, List, [], ◌∷◌, ◌++◌, Some, arith, get_or, length, refl, sym, ap}
+use Rattle.std.proofs.Common.{subst, ◌∙◌}
+use Rattle.std.specs.Prelude.{slice_get, slice_index}
 use Rattle.std.specs.Cmp.Lexicographic.{slice_cmp}
 use Rattle.std.specs.Ordering.{nat_cmp}
 use Rattle.std.specs.declared.cmp.Ordering.TheVariants.{Less}
-use Rattle.std.proofs.lemmas.Bool.{cases_eq, cases_lt, cases_order}
+use Rattle.std.proofs.lemmas.Bool.{cases_eq, cases_order}
 use Rattle.std.proofs.lemmas.Grind.{same_number_lists}
 use Rattle.std.proofs.lemmas.Option.{same_Some, slice_get_within, slice_get-get_or}
 use Rattle.lit_read.specs.Syntax.{Litmus}
-use Rattle.lit_paths.specs.ByteReads.{IsCandidate, byte_read_at, byte_reads}
+use Rattle.lit_paths.specs.ByteReads.{byte_reads}
 use Rattle.lit_paths.specs.Choice.{AreSources}
 use Rattle.lit_paths.specs.Event.{event_at, payload_at}
 use Rattle.lit_paths.specs.Plan.{HasSources, IsOfCombination, events_in}
@@ -17,18 +18,18 @@ use Rattle.lit_rel.specs.EventSet.{HasEvent, IsSplit}
 use Rattle.lit_rel.proofs.SetLemmas.{event_or_not}
 use Rattle.lit_valid.specs.declared.class.Class.{Class}
 use Rattle.lit_valid.specs.Laws.{Laws}
-use Rattle.lit_solve.specs.Box.{Box, HasSource, IsBox, LiesIn, box_events}
+use Rattle.lit_solve.specs.Box.{Box, HasSource, LiesIn, box_events}
 use Rattle.lit_solve.specs.Fill.{AreSourcesIn}
-use Rattle.lit_solve.specs.Given.{HasAlone}
 use Rattle.lit_solve.specs.Internal.Cut.{IsGreaterAt}
-use Rattle.lit_solve.proofs.DomainLemmas.{domain_here, narrowed_at, narrowed_is_box, narrowed_within, none_empty_at, source_here, source_other}
+use Rattle.lit_solve.proofs.DomainLemmas.{domain_here, narrowed_at, narrowed_is_box, narrowed_within, none_empty_at, source_here}
+use Rattle.lit_solve.proofs.DomainLemmas.{source_other}
 use Rattle.lit_solve.proofs.LexLemmas.{never_both_less}
 use Rattle.lit_solve.proofs.RangeLemmas.{not_behind, sourced, sources_rise}
 use Rattle.lit_why.specs.declared.attempt.Attempt.{Attempt}
 use Rattle.lit_why.specs.Attempts.{HasSoMany, IsOn}
 use Rattle.lit_why.specs.Internal.Added.{Adds}
 use Rattle.lit_why.specs.Internal.Trials.{IsNode, IsUndecided, MayTry, TriesIn}
-use Rattle.lit_why.proofs.AddedLemmas.{adds_more, adds_none, adds_one, adds_same}
+use Rattle.lit_why.proofs.AddedLemmas.{adds_more, adds_one}
 use Rattle.lit_why.proofs.FirstRaceLemmas.{one_sources}
 
 -- ---- choices on a combination
@@ -39,10 +40,12 @@ pub on_sourced : Laws → (t : Litmus) (n c : ℕ) (sources : List ℕ) → IsOn
 on_sourced laws t n c sources on = sourced t c n sources (placed laws t n c sources on) on.has
 
 -- the one whose sources are greater at a place, and the same before it, is greater
-pub rises_at : Laws → (t : Litmus) (m n c : ℕ) (a b : List ℕ) → IsOn t m c a → IsOn t n c b → (place : ℕ) → place < length a → IsGreaterAt a place b
+pub rises_at : Laws → (t : Litmus) (m n c : ℕ) (a b : List ℕ) → IsOn t m c a → IsOn t n c b → (place : ℕ) → place < length a
+    → IsGreaterAt a place b
     → m < n
 rises_at laws t m n c a b on_a on_b place inside greater =
-    let le = not_behind t c m n a b (laws.chosen t) (placed laws t m c a on_a) (placed laws t n c b on_b) on_a.has on_b.has place greater in
+    let le = not_behind t c m n a b (laws.chosen t) (placed laws t m c a on_a)
+    (placed laws t n c b on_b) on_a.has on_b.has place greater in
     elim (cases_eq m n) [
       | inl same ↦
           let one : a ≡ b = one_sources t n a b (subst (λ (k : ℕ). HasSources t k a) same on_a.has) on_b.has in
@@ -106,7 +109,8 @@ module _ (laws : Laws) (box : Box) (class : Class) where
     leaf_adds most old sources a room lie can on many =
         adds_one box.test most (TriesIn box class) old a room is many (λ n other.
         one_choice laws box.test a.choice n box.combination sources other.sources on other.on
-        (sources_same sources other.sources lie.sourced (on_sourced laws box.test n box.combination other.sources other.on) lie.within other.lies))
+        (sources_same sources other.sources lie.sourced
+        (on_sourced laws box.test n box.combination other.sources other.on) lie.within other.lies))
       where
         is : TriesIn box class a.choice
         is = record { sources = sources; on = on; lies = lie.within; is_try = can sources lie decided }
@@ -119,7 +123,8 @@ module _ (laws : Laws) (box : Box) (class : Class) where
       greater = λ w v there gone at. absurd (gone ((same w).1 there));
     }
 
-    pub fewer_left : (left others : EventSet) (source : ℕ) → IsSplit left source others → AreLeft box place left → AreLeft box place others
+    pub fewer_left : (left others : EventSet) (source : ℕ) → IsSplit left source others → AreLeft box place left
+        → AreLeft box place others
     fewer_left left others source split are = record {
       within = λ w there. are.within w ((split.rest w).0 there).0;
       greater = λ w v there gone at. elim (event_or_not left w) [
@@ -166,7 +171,8 @@ module _ (laws : Laws) (box : Box) (class : Class) where
           | inl same ↦ (
             source,
             record {
-              there = subst (λ (j : ℕ). HasSource next j source) (sym same) (source_here box place one room source ((only source).1 refl));
+              there = subst (λ (j : ℕ). HasSource next j source) (sym same)
+                  (source_here box place one room source ((only source).1 refl));
               alone = λ v there. its_own v (subst (λ (j : ℕ). HasSource next j v) same there);
             },
           )
@@ -211,8 +217,10 @@ module _ (laws : Laws) (box : Box) (class : Class) where
             on = tries.is.on;
             lies = λ k w at_w. elim (cases_eq k place) [
               | inl same ↦
-                  let at_place : slice_get tries.is.sources place ≡ Some w = subst (λ (j : ℕ). slice_get tries.is.sources j ≡ Some w) same at_w in
-                  let yet_w : HasEvent left w = subst (HasEvent left) (same_Some (get_or tries.is.sources place 0) w (sym at ∙ at_place)) yet in
+                  let at_place : slice_get tries.is.sources place
+                  ≡ Some w = subst (λ (j : ℕ). slice_get tries.is.sources j ≡ Some w) same at_w in
+                  let yet_w : HasEvent left w = subst (HasEvent left)
+                  (same_Some (get_or tries.is.sources place 0) w (sym at ∙ at_place)) yet in
                   let is : w ≡ source = elim (cases_eq w source) [
                     | inl is ↦ is
                     | inr other ↦ absurd (tries.past w at_place ((split.rest w).1 (yet_w, other)))
@@ -243,7 +251,9 @@ module _ (laws : Laws) (box : Box) (class : Class) where
             greater = λ _. omega (arith, less, next_at n is _ at_b);
           })
 
-      pub adds_past : (most : ℕ) (old mid new : List Attempt) → IsNode box place → Adds box.test most (TriesPast box class place left) old mid
+      pub adds_past : (most : ℕ) (old mid new : List Attempt) → IsNode box place
+          → Adds box.test most (TriesPast box class place left) old mid
           → Adds box.test most (TriesIn next class) mid new → Adds box.test most (TriesPast box class place others) old new
       adds_past most old mid new node before behind =
-          adds_more box.test most (TriesPast box class place left) (TriesIn next class) (TriesPast box class place others) old mid new before behind (past_less node) past_more
+          adds_more box.test most (TriesPast box class place left) (TriesIn next class)
+          (TriesPast box class place others) old mid new before behind (past_less node) past_more

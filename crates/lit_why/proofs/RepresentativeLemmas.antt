@@ -14,7 +14,8 @@ use Rattle.lit_why.specs.Internal.Trials.{IsRepresentative}
 -- a candidate that no test refuses is one where no lesser candidate stores the same
 pub unless_before : (c : Litmus × ℕ) (among : EventSet) (read : ℕ × ℕ) (w : ℕ) (before : Bool)
     → ((v : ℕ) → HasEvent among v ↔ IsCandidate (events_on c) read.0 read.1 v) → HasEvent among w → ¬ IsRefusedOn c read.0 read.1 w
-    → (IsTrue before ↔ ((v : ℕ) × HasEvent among v × (v < w) × (payload_at (event_at (events_on c) v) read.1 ≡ payload_at (event_at (events_on c) w) read.1)))
+    → (IsTrue before ↔ ((v : ℕ) × HasEvent among v × (v < w)
+    × (payload_at (event_at (events_on c) v) read.1 ≡ payload_at (event_at (events_on c) w) read.1)))
     → IsTrue (not before) ↔ IsRepresentative c read w
 unless_before c among read w true exact there allowed stored = (
   λ never. absurd (false≢true never),

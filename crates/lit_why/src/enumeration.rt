@@ -64,7 +64,8 @@ fn add_one(
     requires node { IsNode (box_with problem.now domains.now) (length (byte_reads (events_on problem.now))) }
     requires room { length attempts.old.items < most }
     requires can_try { MayTry (box_with problem.now domains.now) class true }
-    ensures { OnOk result (Adds problem.now.0 most (TriesIn (box_with problem.now domains.now) class) attempts.old.items attempts.new.items) }
+    ensures { OnOk result (Adds problem.now.0 most (TriesIn (box_with problem.now domains.now) class)
+        attempts.old.items attempts.new.items) }
 {
     laws_below();
     let sources = least_sources(problem, domains);
@@ -83,7 +84,8 @@ fn add(
 ) -> Result<(), AllocError>
     requires node { IsNode (box_with problem.now domains.now) place }
     requires few { length attempts.old.items ≤ most }
-    ensures { OnOk result (Adds problem.now.0 most (TriesIn (box_with problem.now domains.now) class) attempts.old.items attempts.new.items) }
+    ensures { OnOk result (Adds problem.now.0 most (TriesIn (box_with problem.now domains.now) class)
+        attempts.old.items attempts.new.items) }
 {
     laws_below();
     // That there are few byte reads is known of the events.
@@ -128,7 +130,8 @@ fn add_on(
     requires litmus { IsLitmus problem.now.0 }
     requires known { problem.now.1 < length (combinations_of problem.now.0) }
     requires few { length attempts.old.items ≤ most }
-    ensures { OnOk result (Adds problem.now.0 most (IsLeastTryOn problem.now.0 class problem.now.1) attempts.old.items attempts.new.items) }
+    ensures { OnOk result (Adds problem.now.0 most (IsLeastTryOn problem.now.0 class problem.now.1)
+        attempts.old.items attempts.new.items) }
 {
     laws_below();
     refused_bytes_make_tests_false();

@@ -1,10 +1,8 @@
-use Rattle.std.proofs.Common.{◌≡◌, ◌==◌, ◌+◌, ◌-◌, ◌*◌, ◌<◌, ◌≤◌, ℕ, List, Some, ap, arith, filter, get_or, length, refl, subst, sym, ◌∙◌}
-use Rattle.std.specs.Prelude.{slice_get}
+use Rattle.std.proofs.Common.{◌≡◌, ◌==◌, ◌+◌, ◌-◌, ◌*◌, ◌<◌, ◌≤◌, ℕ, List, ap, arith, filter, get_or, length, sym, ◌∙◌}
 use Rattle.std.proofs.lemmas.Option.{slice_get-get_or}
-use Rattle.lit_read.specs.Syntax.{Litmus}
 use Rattle.lit_paths.specs.declared.byte_reads.ByteRead.{ByteRead}
 use Rattle.lit_paths.specs.declared.event.Event.{Event}
-use Rattle.lit_paths.specs.ByteReads.{byte_read_at, byte_reads, pair_of}
+use Rattle.lit_paths.specs.ByteReads.{byte_read_at, pair_of}
 use Rattle.lit_paths.specs.Choice.{candidates_of, combinations_of}
 use Rattle.lit_paths.specs.Event.{event_at, payload_at}
 use Rattle.lit_paths.specs.Numbers.{ways_from}
@@ -47,22 +45,30 @@ step c =
     let inside : place < length sources = omega arith in
     let reads = c.byte_reads.result.now in
     let listed = read_listed events reads place no_read c.byte_reads.ensures (omega (arith, inside, c.requires.one_each)) in
-    let same : pair_of (get_or reads place no_read) ≡ byte_read_at events place = read_there events place (get_or reads place no_read) listed in
+    let same : pair_of (get_or reads place no_read)
+    ≡ byte_read_at events place = read_there events place (get_or reads place no_read) listed in
     let next : c.loop-place.place ≡ place + 1 = omega arith in
     let stored : c.payload_at-stored.result ≡ payload_at (event_at events (get_or sources place 0)) (byte_read_at events place).1 =
     c.payload_at-stored.ensures ∙ ap (λ (e : Event). payload_at e (get_or reads place no_read).byte) (c.event_at.ensures
     ∙ ap (λ (es : List Event). event_at es c.from.result) c.events-events.ensures.value ∙ ap (event_at events) c.from.ensures)
     ∙ ap (λ (q : ℕ × ℕ). payload_at (event_at events (get_or sources place 0)) q.1) same in
     let count : c.count_storing-count.result
-    ≡ length (filter (λ v. payload_at (event_at events v) (byte_read_at events place).1 == payload_at (event_at events (get_or sources place 0)) (byte_read_at events place).1)
+    ≡ length (filter (λ v. payload_at (event_at events v) (byte_read_at events place).1 == payload_at
+    (event_at events (get_or sources place 0)) (byte_read_at events place).1)
     (candidates_of events (byte_read_at events place))) =
     c.count_storing-count.ensures
-    ∙ ap (λ (es : List Event). length (filter (λ v. payload_at (event_at es v) (get_or reads place no_read).byte == c.payload_at-stored.result) c.candidates.result.now)) c.events-events.ensures.value
-    ∙ ap (λ (q : ℕ × ℕ). length (filter (λ v. payload_at (event_at events v) q.1 == c.payload_at-stored.result) c.candidates.result.now)) same
-    ∙ ap (λ (b : ℕ). length (filter (λ v. payload_at (event_at events v) (byte_read_at events place).1 == b) c.candidates.result.now)) stored
-    ∙ ap (λ (ws : List ℕ). length (filter (λ v. payload_at (event_at events v) (byte_read_at events place).1 == payload_at (event_at events (get_or sources place 0)) (byte_read_at events place).1) ws)) c.candidates.ensures.value in
+    ∙ ap (λ (es : List Event). length (filter
+    (λ v. payload_at (event_at es v) (get_or reads place no_read).byte == c.payload_at-stored.result) c.candidates.result.now))
+    c.events-events.ensures.value
+    ∙ ap (λ (q : ℕ × ℕ). length (filter (λ v. payload_at (event_at events v) q.1 == c.payload_at-stored.result)
+    c.candidates.result.now)) same
+    ∙ ap (λ (b : ℕ). length (filter (λ v. payload_at (event_at events v) (byte_read_at events place).1 == b) c.candidates.result.now))
+    stored
+    ∙ ap (λ (ws : List ℕ). length (filter (λ v. payload_at (event_at events v) (byte_read_at events place).1 == payload_at
+    (event_at events (get_or sources place 0)) (byte_read_at events place).1) ws)) c.candidates.ensures.value in
     ap (λ (n : ℕ). n * c.loop-place.count) count
-    ∙ ap (λ (n : ℕ). length (filter (λ v. payload_at (event_at events v) (byte_read_at events place).1 == payload_at (event_at events (get_or sources place 0)) (byte_read_at events place).1)
+    ∙ ap (λ (n : ℕ). length (filter (λ v. payload_at (event_at events v) (byte_read_at events place).1 == payload_at
+    (event_at events (get_or sources place 0)) (byte_read_at events place).1)
     (candidates_of events (byte_read_at events place))) * n)
     (c.loop-place.invariant ∙ ap (ways_on events sources c.requires) next)
     ∙ sym (ways_step events sources c.requires place inside)
@@ -70,7 +76,8 @@ step c =
 pub overflow_mul-count : goal.overflow_mul-count
 overflow_mul-count c =
     let p = c.args.combination.now in
-    let known : p.1 < length (combinations_of p.0) = known_by_first p.0 p.1 c.first-first.result c.first-first.ensures.value c.first-first.ensures.known in
+    let known : p.1 < length (combinations_of p.0) = known_by_first p.0 p.1 c.first-first.result c.first-first.ensures.value
+    c.first-first.ensures.known in
     let numbers = c.choices_have_numbers.ensures p.0 p.1 known in
     let small : ways_on (events_on p) c.args.sources.now c.requires (c.loop-place.place - 1) ≤ ways_from (events_on p) 0 =
     ways_small (events_on p) c.args.sources.now c.requires (c.loop-place.place - 1) in

@@ -1,4 +1,4 @@
-use Rattle.std.proofs.Common.{◌≡◌, ◌≤◌, drop, length}
+use Rattle.std.proofs.Common.{◌≡◌, drop}
 use Rattle.lit_paths.specs.ByteReads.{byte_reads}
 use Rattle.lit_solve.specs.Box.{events_on}
 use Rattle.lit_why.proofs.AlikeLemmas.{ways_alike}

@@ -1,12 +1,10 @@
-use Rattle.std.proofs.Common.{◌≡◌, ◌≢◌, ◌↔◌, ◌+◌, ◌-◌, ◌<◌, ◌≤◌, ℕ, false, true, List, arith, inl, inr, length, refl, subst, sym, ◌∙◌}
+use Rattle.std.proofs.Common.{◌≡◌, ◌↔◌, ◌+◌, ◌-◌, ◌<◌, ◌≤◌, ℕ, arith, inl, inr, length, subst}
 use Rattle.std.specs.Prelude.{slice_index_or}
-use Rattle.lit_read.specs.Syntax.{Litmus}
 use Rattle.lit_paths.specs.ByteReads.{byte_reads}
 use Rattle.lit_paths.specs.declared.limits.TheConstants.{BYTE_READ_LIMIT}
-use Rattle.lit_rel.specs.declared.event_set.EventSet.{EventSet}
 use Rattle.lit_rel.specs.EventSet.{HasEvent, no_events}
 use Rattle.lit_rel.proofs.SetLemmas.{split_less}
-use Rattle.lit_solve.specs.Box.{Box, box_with, events_on}
+use Rattle.lit_solve.specs.Box.{box_with, events_on}
 use Rattle.lit_solve.proofs.NarrowingLemmas.{source_known}
 use Rattle.lit_why.specs.Internal.Trials.{MayTry, TriesIn}
 use Rattle.lit_why.proofs.AddedLemmas.{adds_none, adds_same}
@@ -35,7 +33,8 @@ loop-source-init t c =
     let p = c.args.problem.now in
     let box = box_with p c.args.domains.now in
     let long = reads_len p c.combination-2.result.now c.byte_reads.result.now c.byte_reads.ensures c.combination-2.ensures in
-    let inside : c.args.place < length (byte_reads (events_on p)) = omega (arith, c.requires.node.within, long, c.if-place-byte_reads.false) in
+    let inside : c.args.place < length (byte_reads (events_on p)) = omega
+    (arith, c.requires.node.within, long, c.if-place-byte_reads.false) in
     let left = slice_index_or c.args.domains.now c.args.place no_events in
     let same : (w : ℕ) → HasEvent left w ↔ HasEvent left w = λ w. (λ h. h, λ h. h) in
     record {
@@ -49,8 +48,10 @@ with-requires t c =
     let p = c.args.problem.now in
     let box = box_with p c.args.domains.now in
     let long = reads_len p c.combination-2.result.now c.byte_reads.result.now c.byte_reads.ensures c.combination-2.ensures in
-    let inside : c.args.place < length (byte_reads (events_on p)) = omega (arith, c.requires.node.within, long, c.if-place-byte_reads.false) in
-    let sound = events_are p c.combination.result.now c.events-events.result.now c.events-events.ensures.value c.events-events.ensures.sound c.combination.ensures in
+    let inside : c.args.place < length (byte_reads (events_on p)) = omega
+    (arith, c.requires.node.within, long, c.if-place-byte_reads.false) in
+    let sound = events_are p c.combination.result.now c.events-events.result.now c.events-events.ensures.value
+    c.events-events.ensures.sound c.combination.ensures in
     let known = source_known box c.requires.node.is_box c.args.place c.in-Some.source inside
     (c.loop-source.invariant.left.within c.in-Some.source c.in-Some.ensures.there) in
     omega (arith, known, sound.few)
@@ -62,16 +63,18 @@ add-requires t c =
     let place = c.args.place in
     let long = reads_len p c.combination-2.result.now c.byte_reads.result.now c.byte_reads.ensures c.combination-2.ensures in
     let inside : place < length (byte_reads (events_on p)) = omega (arith, c.requires.node.within, long, c.if-place-byte_reads.false) in
-    let sound = events_are p c.combination.result.now c.events-events.result.now c.events-events.ensures.value c.events-events.ensures.sound c.combination.ensures in
+    let sound = events_are p c.combination.result.now c.events-events.result.now c.events-events.ensures.value
+    c.events-events.ensures.sound c.combination.ensures in
     let few : length (byte_reads (events_on p)) ≤ BYTE_READ_LIMIT = sound.few_reads in
     let room : place < length box.domains = omega (arith, few, inside, c.told-domains) in
     let only : (w : ℕ) → HasEvent c.with.result w ↔ (w ≡ c.in-Some.source) = λ w. (
-      λ h. elim ((c.with.ensures w).0 h) [ | inl e ↦ absurd (c.new.ensures.empty w e) | inr is ↦ is ],
+      λ h. elim ((c.with.ensures w).0 h) [ inl e ↦ absurd (c.new.ensures.empty w e) | inr is ↦ is ],
       λ is. (c.with.ensures w).1 (inr is),
     ) in (
       subst (λ (n : ℕ). length (byte_reads (events_on p)) - (place + 1) < n) c.decreases (omega (arith, inside)),
       (
-        next_node c.laws_below.ensures box c.args.class place inside room c.loop-source.left c.in-Some.others c.with.result c.in-Some.source
+        next_node c.laws_below.ensures box c.args.class place inside room c.loop-source.left c.in-Some.others c.with.result
+            c.in-Some.source
             c.in-Some.ensures c.loop-source.invariant.left only c.requires.node,
         c.loop-source.invariant.adds.few,
       ),
@@ -87,16 +90,19 @@ loop-source-preserved t c =
     let place = c.args.place in
     let long = reads_len p c.combination-2.result.now c.byte_reads.result.now c.byte_reads.ensures c.combination-2.ensures in
     let inside : place < length (byte_reads (events_on p)) = omega (arith, c.requires.node.within, long, c.if-place-byte_reads.false) in
-    let sound = events_are p c.combination.result.now c.events-events.result.now c.events-events.ensures.value c.events-events.ensures.sound c.combination.ensures in
+    let sound = events_are p c.combination.result.now c.events-events.result.now c.events-events.ensures.value
+    c.events-events.ensures.sound c.combination.ensures in
     let few : length (byte_reads (events_on p)) ≤ BYTE_READ_LIMIT = sound.few_reads in
     let room : place < length box.domains = omega (arith, few, inside, c.told-domains) in
     let only : (w : ℕ) → HasEvent c.with.result w ↔ (w ≡ c.in-Some.source) = λ w. (
-      λ h. elim ((c.with.ensures w).0 h) [ | inl e ↦ absurd (c.new.ensures.empty w e) | inr is ↦ is ],
+      λ h. elim ((c.with.ensures w).0 h) [ inl e ↦ absurd (c.new.ensures.empty w e) | inr is ↦ is ],
       λ is. (c.with.ensures w).1 (inr is),
     ) in record {
-      left = fewer_left c.laws_below.ensures box c.args.class place inside c.loop-source.left c.in-Some.others c.in-Some.source c.in-Some.ensures
+      left = fewer_left c.laws_below.ensures box c.args.class place inside c.loop-source.left c.in-Some.others c.in-Some.source
+          c.in-Some.ensures
           c.loop-source.invariant.left;
-      adds = adds_past c.laws_below.ensures box c.args.class place inside room c.loop-source.left c.in-Some.others c.with.result c.in-Some.source
+      adds = adds_past c.laws_below.ensures box c.args.class place inside room c.loop-source.left c.in-Some.others c.with.result
+          c.in-Some.source
           c.in-Some.ensures c.loop-source.invariant.left only c.args.most c.args.attempts.now.items c.loop-source.attempts.items
           c.add.new.attempts.items c.requires.node c.loop-source.invariant.adds c.in_ok-add.ensures;
     }
@@ -106,7 +112,10 @@ returns t c =
     let p = c.args.problem.now in
     let box = box_with p c.args.domains.now in
     let long = reads_len p c.combination-2.result.now c.byte_reads.result.now c.byte_reads.ensures c.combination-2.ensures in
-    let inside : c.args.place < length (byte_reads (events_on p)) = omega (arith, c.requires.node.within, long, c.if-place-byte_reads.false) in
-    adds_same p.0 c.args.most (TriesPast box c.args.class c.args.place c.loop-source.left) (TriesIn box c.args.class) c.args.attempts.now.items
-    c.loop-source.attempts.items (all_past c.laws_below.ensures box c.args.class c.args.place inside c.loop-source.left c.in_default.ensures)
+    let inside : c.args.place < length (byte_reads (events_on p)) = omega
+    (arith, c.requires.node.within, long, c.if-place-byte_reads.false) in
+    adds_same p.0 c.args.most (TriesPast box c.args.class c.args.place c.loop-source.left)
+    (TriesIn box c.args.class) c.args.attempts.now.items
+    c.loop-source.attempts.items (all_past c.laws_below.ensures box c.args.class c.args.place inside c.loop-source.left
+    c.in_default.ensures)
     c.loop-source.invariant.adds

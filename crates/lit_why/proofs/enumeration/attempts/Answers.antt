@@ -1,4 +1,4 @@
-use Rattle.std.proofs.Common.{◌≤◌, ℕ, List, [], arith, length, subst}
+use Rattle.std.proofs.Common.{◌≤◌, ℕ, [], arith, length, subst}
 use Rattle.lit_read.specs.Syntax.{Litmus}
 use Rattle.lit_paths.specs.Choice.{combinations_of}
 use Rattle.lit_why.specs.Internal.Added.{Adds}
@@ -11,10 +11,12 @@ loop-combination-preserved c =
     let mid = c.loop-combination.found.items in
     let new = c.add_on.new.attempts.items in
     adds_on c.args.plan.now c.args.class c.loop-combination.combination c.args.most [] mid new c.loop-combination.invariant
-    (subst (λ (q : Litmus × ℕ). Adds q.0 c.args.most (IsLeastTryOn q.0 c.args.class q.1) mid new) c.open-problem.ensures c.in_ok-add_on.ensures)
+    (subst (λ (q : Litmus × ℕ). Adds q.0 c.args.most (IsLeastTryOn q.0 c.args.class q.1) mid new) c.open-problem.ensures
+    c.in_ok-add_on.ensures)
 
 pub returns : goal.returns
 returns c =
     let past : length (combinations_of c.args.plan.now) ≤ c.loop-combination.combination =
     omega (arith, c.combinations-combination-end.ensures.value, c.loop-combination-test.false) in
-    first_attempts c.args.plan.now c.args.class c.loop-combination.combination c.args.most c.loop-combination.found.items past c.loop-combination.invariant
+    first_attempts c.args.plan.now c.args.class c.loop-combination.combination c.args.most c.loop-combination.found.items past
+    c.loop-combination.invariant

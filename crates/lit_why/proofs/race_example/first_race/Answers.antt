@@ -1,4 +1,4 @@
-use Rattle.std.proofs.Common.{◌≤◌, ℕ, length, arith}
+use Rattle.std.proofs.Common.{◌≤◌, length, arith}
 use Rattle.lit_paths.specs.Choice.{combinations_of}
 use Rattle.lit_why.proofs.FirstRaceLemmas.{first_after, none_at_all, none_more}
 use Rattle.lit_why.proofs.race_example.first_race.Goals as goal

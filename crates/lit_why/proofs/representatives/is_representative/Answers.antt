@@ -1,4 +1,4 @@
-use Rattle.std.proofs.Common.{ℕ, ◌<◌, ◌↔◌, ◌≡◌, ap, arith, get_or, length, List, subst, sym, ◌∙◌, not}
+use Rattle.std.proofs.Common.{ℕ, ◌<◌, ◌↔◌, ◌≡◌, get_or, List, subst, sym, ◌∙◌, not}
 use Rattle.std.specs.Prelude.{IsTrue}
 use Rattle.std.proofs.lemmas.Bool.{false≢true}
 use Rattle.lit_paths.specs.declared.byte_reads.ByteRead.{ByteRead}
@@ -19,7 +19,8 @@ no_read = record { read = 0; byte = 0 }
 pub is_source_refused-requires-clause-read : goal.is_source_refused-requires-clause-read
 is_source_refused-requires-clause-read c =
     let events = events_on c.args.combination.now in
-    read_known events (c.byte_reads_are_of_events.ensures events) c.byte_reads.result.now c.args.place no_read c.byte_reads.ensures c.requires.place
+    read_known events (c.byte_reads_are_of_events.ensures events) c.byte_reads.result.now c.args.place no_read c.byte_reads.ensures
+    c.requires.place
 
 pub returns-then-is_source_refused : goal.returns-then-is_source_refused
 returns-then-is_source_refused c =
@@ -45,4 +46,5 @@ returns c =
     (subst (λ (q : ℕ × ℕ). (w : ℕ) → HasEvent c.args.candidates w ↔ IsCandidate events q.0 q.1 w) (sym same) c.requires.exact)
     c.requires.there (λ is. false≢true (sym c.if-is_source_refused.false ∙ c.is_source_refused.ensures.1 is))
     (subst (λ (es : List Event). IsTrue c.is_stored_before.result ↔ ((v : ℕ) × HasEvent c.args.candidates v × (v < c.args.source)
-    × (payload_at (event_at es v) at.byte ≡ payload_at (event_at es c.args.source) at.byte))) c.events-events.ensures.value c.is_stored_before.ensures))
+    × (payload_at (event_at es v) at.byte ≡ payload_at (event_at es c.args.source) at.byte))) c.events-events.ensures.value
+    c.is_stored_before.ensures))

@@ -1,7 +1,6 @@
 use Rattle.std.proofs.Common.{arith}
 use Rattle.std.proofs.lemmas.Grind.{common_steps}
 use Rattle.lit_rel.proofs.SetLemmas.{event_or_not, split_less}
-use Rattle.lit_solve.proofs.ReadByteLemmas.{vain_more}
 use Rattle.lit_why.proofs.representatives.is_stored_before.Goals as goal
 
 pub returns-then-event-source : goal.returns-then-event-source

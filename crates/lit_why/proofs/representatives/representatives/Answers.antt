@@ -1,4 +1,4 @@
-use Rattle.std.proofs.Common.{◌<◌, ◌≤◌, ◌≡◌, ℕ, List, length, length-set, subst, ◌∙◌, arith}
+use Rattle.std.proofs.Common.{◌<◌, ◌≤◌, List, length, length-set, subst, ◌∙◌, arith}
 use Rattle.lit_paths.specs.ByteReads.{byte_reads}
 use Rattle.lit_paths.specs.declared.event.Event.{Event}
 use Rattle.lit_paths.specs.declared.limits.TheConstants.{BYTE_READ_LIMIT}
@@ -19,7 +19,8 @@ loop-place-preserved c =
     let inside : place < BYTE_READ_LIMIT = omega (arith, few, all, c.loop-place-test.true) in
     let was = c.loop-place.invariant in record {
       len = length-set c.loop-place.domains place c.representatives_at.result ∙ was.len;
-      each = sets_more (byte_reads events) (IsRepresentative c.args.combination.now) c.loop-place.domains place c.representatives_at.result
+      each = sets_more (byte_reads events) (IsRepresentative c.args.combination.now) c.loop-place.domains place
+          c.representatives_at.result
           (omega (arith, inside, was.len)) was.each c.representatives_at.ensures;
     }
 

@@ -9,7 +9,8 @@ abbrev pub invariant-loop-source : goal.invariant-loop-source
 invariant-loop-source l = record {
   left : (v : ℕ) → HasEvent l.left v → HasEvent l.candidates v;
   first : (v : ℕ) → HasEvent l.first v
-      ↔ (HasEvent l.candidates v × IsRepresentative l.combination (byte_read_at (events_on l.combination) l.fn.place) v × ¬ HasEvent l.left v);
+      ↔ (HasEvent l.candidates v × IsRepresentative l.combination (byte_read_at (events_on l.combination) l.fn.place) v
+      × ¬ HasEvent l.left v);
 }
 
 abbrev pub decreases-loop-source : goal.decreases-loop-source

@@ -1,4 +1,4 @@
-use Rattle.std.proofs.Common.{◌≡◌, ◌<◌, ℕ, None, Some, ap, arith, inl, inr, length, List, subst, sym, ◌∙◌}
+use Rattle.std.proofs.Common.{◌≡◌, ◌<◌, ℕ, None, ap, arith, inl, inr, length, List, subst, sym, ◌∙◌}
 use Rattle.std.proofs.lemmas.Bool.{cases_eq, false≢true}
 use Rattle.lit_read.specs.Syntax.{Litmus}
 use Rattle.lit_paths.specs.declared.event.Event.{Event}
@@ -13,7 +13,8 @@ use Rattle.lit_why.proofs.trials.are_refused.Goals as goal
 pub returns-then-is_read_refused : goal.returns-then-is_read_refused
 returns-then-is_read_refused c sources lie =
     let box = box_with c.args.problem.now c.args.domains.now in
-    refused_by_read box c.loop-read.read sources lie (subst (IsReadRefused box c.loop-read.read) c.if-is_read_refused.true c.is_read_refused.ensures sources lie)
+    refused_by_read box c.loop-read.read sources lie
+    (subst (IsReadRefused box c.loop-read.read) c.if-is_read_refused.true c.is_read_refused.ensures sources lie)
 
 pub loop-read-preserved : goal.loop-read-preserved
 loop-read-preserved c r below sources lie is =
@@ -33,10 +34,12 @@ returns c sources lie h =
       | inl f ↦ absurd (false≢true (sym c.if-has_false_test.false
           ∙ c.has_false_test.ensures.value.1 (subst (λ (q : Litmus × ℕ). HasFalseTestOn q.0 q.1 None 0) (sym c.combination.ensures) f)))
       | inr some ↦
-          let walks = subst (λ (q : Litmus × ℕ). (agent : ℕ) → agent < length q.0.agents → IsWalkIn q.0 q.1 agent (walk_in q.0 q.1 agent)) c.combination.ensures
+          let walks = subst (λ (q : Litmus × ℕ). (agent : ℕ) → agent < length q.0.agents
+          → IsWalkIn q.0 q.1 agent (walk_in q.0 q.1 agent)) c.combination.ensures
           (c.has_false_test.ensures.walks (λ is. false≢true (sym c.if-has_false_test.false ∙ is))) in
           let known = asked_known p.0 p.1 some.0 _ walks some.2 in
           let end : length c.events-read-end.result.now ≡ length (events_on p) =
-          ap (λ (es : List Event). length es) c.events-read-end.ensures.value ∙ ap (λ (q : Litmus × ℕ). length (events_on q)) c.combination-2.ensures in
+          ap (λ (es : List Event). length es) c.events-read-end.ensures.value
+          ∙ ap (λ (q : Litmus × ℕ). length (events_on q)) c.combination-2.ensures in
           c.loop-read.invariant some.0 (omega (arith, known, end, c.loop-read-test.false)) sources lie some.2
     ]
