@@ -1,5 +1,5 @@
 -- What refuses a part, by relations that hold alike, and that a part that nothing refuses is not broken.
-use Rattle.std.proofs.Common.{◌≡◌, ◌↔◌, ℕ, ◌+◌, ◌<◌, ◌≤◌, ◌==◌, false, Option, Some, None, List, [], ◌∷◌, length, map, get_or, suc, refl, sym, ap, subst, eqb-true, arith, inl, inr}
+use Rattle.std.proofs.Common.{◌≡◌, ◌⊎◌, ◌↔◌, ℕ, ◌+◌, ◌<◌, ◌≤◌, ◌==◌, false, Option, Some, None, List, [], ◌∷◌, length, map, get_or, suc, refl, sym, ap, subst, eqb-true, arith, inl, inr}
 use Rattle.std.proofs.lemmas.Bool.{cases_eq, cases_lt, false_from_ne_true}
 use Rattle.std.proofs.lemmas.Option.{get_or_from_slice_get, slice_get-get_or, slice_get_within}
 use Rattle.std.specs.List.{filter, slice_get, zip}
@@ -14,15 +14,18 @@ use Rattle.lit_paths.specs.declared.byte_reads.ByteRead.{ByteRead}
 use Rattle.lit_paths.specs.declared.event.Event.{Event}
 use Rattle.lit_paths.specs.declared.path.Tested.{Tested}
 use Rattle.lit_rel.proofs.ByteReadLemmas.{are_of_events}
-use Rattle.lit_rel.specs.Broken.{HasFalseTestOn, IsBroken}
+use Rattle.lit_rel.specs.Broken.{HasFalseTest, HasFalseTestOn, IsBroken, number_on}
 use Rattle.lit_rel.specs.Coherent.{HasCoherentReads, Hides, IsCoherentRead}
 use Rattle.lit_rel.specs.Forbidden.{IsForbidden}
+use Rattle.lit_rel.specs.Growth.{IsGivenWhole}
 use Rattle.lit_rel.specs.Part.{PartModel, part_events}
 use Rattle.lit_rel.specs.ReadsFrom.{ReadsFrom, composed, value_of}
 use Rattle.lit_rel.specs.TearFree.{HasTearFreeReads}
 use Rattle.lit_valid.specs.PartOutcome.{value_held}
 use Rattle.lit_why.specs.Internal.Refusing.{AreTorn, IsFirstFalse, IsFirstIncoherent, IsHiddenBy, IsLeastFalse}
-use Rattle.lit_why.specs.Refusal.{BeforeIn, HasNoCycle, HasNoFalse, IsFalseAt, IsFalseIn, IsIncoherentAt, IsIncoherentBy, IsTornBy}
+use Rattle.lit_why.specs.declared.refusals.causes.Refusal.{Refusal}
+use Rattle.lit_why.specs.declared.refusals.causes.Refusal.TheVariants.{BeforeItself, FalseTest, Incoherent, NoOrder, Torn}
+use Rattle.lit_why.specs.Refusal.{IsRefusal, BeforeIn, HasNoCycle, HasNoFalse, IsFalseAt, IsFalseIn, IsIncoherentAt, IsIncoherentBy, IsTornBy}
 
 -- ---- a number that is no event's has no value
 filter_none : (reads : List (ℕ × ℕ)) (sources : List ℕ) (r : ℕ) → ((k : ℕ) (q : ℕ × ℕ) → slice_get reads k ≡ Some q → q.0 ≡ r → ⊥)
@@ -177,3 +180,31 @@ orders_same part n before forbidden len same alike =
       (λ h. (h.0, IsOrderOf-same n (length events) before (BeforeIn part) forbidden (IsForbidden events part.sources) len (λ a d. (same a d).1) (λ w r v. (alike w r v).1) h.0 h.1)),
       (λ h. (h.0, IsOrderOf-same (length events) n (BeforeIn part) before (IsForbidden events part.sources) forbidden (sym len) (λ a d. (same a d).0) (λ w r v. (alike w r v).0) h.0 h.1)),
     )
+
+-- ---- what is refused is broken, or has no order
+module _ (part : PartModel) (are : AreSources (part_events part) part.sources) where
+  all_given : (r : ℕ) → IsGivenWhole (part_events part) part.sources r
+  all_given r i b at =
+      let within = slice_get_within (byte_reads (part_events part)) i (r, b) at in
+      let each = are.one_each in
+      omega arith
+
+  false_breaks : (agent place : ℕ) → IsFalseAt part agent place → HasFalseTest part
+  false_breaks agent place h = go (number_on (first_event part.test part.combination agent) h.test.on) refl
+    where
+      go : (asked : Option ℕ) → number_on (first_event part.test part.combination agent) h.test.on ≡ asked → HasFalseTest part
+      go None asks = inl record { agent = agent; known = h.known; place = place; test = h.test; at_place = h.at_place; asks = asks; is_false = rw asks at h.is_false }
+      go (Some r) asks =
+          inr (r, all_given r, record { agent = agent; known = h.known; place = place; test = h.test; at_place = h.at_place; asks = asks; is_false = rw asks at h.is_false })
+
+  pub refused : (refusal : Refusal) → IsRefusal part refusal → IsBroken part ⊎ (¬ IsBroken part × ((order : List ℕ) → ¬ IsMemoryOrder (part_events part) part.sources order))
+  refused (FalseTest agent place) h = inl (inr (false_breaks agent place h.0))
+  refused (BeforeItself event) h = inl (inl (inl (event, h.1)))
+  refused (Incoherent r b w hidden_by) h =
+      let at = h.3.1 in
+      inl (inl (inr (inl record { read = r; byte = b; source = w; is_given = (h.3.0, at.read, at.source); incoherent = at.incoherent })))
+  refused (Torn r w v) h =
+      let torn = h.3 in
+      let less : w < v = torn.rising in
+      inl (inl (inr (inr record { read = r; source = w; other = v; first = torn.first; second = torn.second; two_sources = λ same. absurd (omega arith) })))
+  refused NoOrder h = inr (not_broken part h.0 h.1 h.2 h.3, h.4)

@@ -2,14 +2,30 @@
 
 ghost use Rattle.std.specs.Prelude.{ℕ, List};
 ghost use Rattle.lit_order.specs.Forcing.{HasForcedCycle};
+ghost use Rattle.lit_paths.specs.Choice.{AreSources};
 ghost use Rattle.lit_paths.specs.declared.event.Event.{Event as ExecutionEvent};
 ghost use Rattle.lit_rel.specs.Forbidden.{IsForbidden};
 ghost use Rattle.lit_rel.specs.HappensBefore.{HappensBefore};
+ghost use Rattle.lit_rel.specs.Part.{PartModel, part_events};
+ghost use Rattle.lit_valid.specs.Completion.{HasCompletion, IsEntered};
+ghost use Rattle.lit_why.specs.declared.refusals.causes.Refusal.{Refusal as PartRefusal};
+ghost use Rattle.lit_why.specs.Refusal.{IsRefusal};
 ghost use Rattle.lit_why.specs.declared.derivations.lines.Line.{Line as DerivationLine};
 ghost use Rattle.lit_why.specs.Derivation.{IsDerivation};
+
+use lit_valid::laws::{broken_parts_have_no_completion, whole_parts_are_decided_by_orders};
 
 /// Where there is a derivation, an event is forced before itself. So `derivation` gives one exactly there.
 pub fn derivations_end_in_forced_cycles()
     ensures { (events : List ExecutionEvent) (sources : List ℕ) (lines : List DerivationLine) → IsDerivation events sources lines
         → HasForcedCycle (HappensBefore events sources) (IsForbidden events sources) }
 {}
+
+/// A complete part that something refuses is that of no valid execution. So `refusal` names something exactly there.
+pub fn refused_parts_have_no_completion()
+    ensures { (part : PartModel) (refusal : PartRefusal) → IsEntered part → AreSources (part_events part) part.sources
+        → IsRefusal part refusal → ¬ HasCompletion part }
+{
+    broken_parts_have_no_completion();
+    whole_parts_are_decided_by_orders();
+}
