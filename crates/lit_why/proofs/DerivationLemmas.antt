@@ -9,8 +9,7 @@ use Rattle.lit_paths.proofs.Products.{slice_get_left, slice_get_right}
 use Rattle.lit_why.specs.declared.derivations.lines.Line.{Line}
 use Rattle.lit_why.specs.declared.derivations.lines.Reason.{Reason}
 use Rattle.lit_why.specs.declared.derivations.lines.Reason.TheVariants as reasons
-use Rattle.lit_why.specs.Derivation.{Cites, EachFollows, EndsInCycle, Follows, IsDerivationBy, IsLineOf}
-use Rattle.lit_why.specs.Internal.Pruning.{CiteEarlier}
+use Rattle.lit_why.specs.Derivation.{EachFollows, EndsInCycle, Follows, IsDerivationBy, IsLineOf}
 use Rattle.lit_why.specs.Internal.Deriving.{AreGiven, HasForced, HasJoined, HasLine, HasLines, IsGiven}
 
 -- what is at a place after one is put at the end
@@ -127,19 +126,6 @@ module _ (before other : ℕ → ℕ → Type 0) (forbidden more : ℕ → ℕ �
   pub no_cycle_same : ¬ HasForcedCycle before forbidden → ¬ HasForcedCycle other more
   no_cycle_same none cycle = none (cycle.0, IsForced-back cycle.0 cycle.0 cycle.1)
 
--- ---- one line that is a cycle
-pub IsDerivationBy-single : (before : ℕ → ℕ → Type 0) (forbidden : ℕ → ℕ → ℕ → Type 0) (e : ℕ) (line : Line) → line ≡ record { before = e; after = e; reason = reasons.HappensBefore }
-    → before e e → (lines : List Line) → lines ≡ line ∷ [] → IsDerivationBy before forbidden lines
-IsDerivationBy-single before forbidden e line is loop lines all =
-    rw (all, is) record {
-      follows = λ k other at. elim (at_pushed [] (record { before = e; after = e; reason = reasons.HappensBefore }) k other at) [
-        | inl none ↦ absurd (omega (arith, none.0))
-        | inr last ↦ rw (← last.1) loop
-      ];
-      ends = record { end = 0; last = omega arith; event = e; is_cycle = record { line = _; at_place = refl; first = refl; second = refl } };
-      cited = λ k inside. absurd (omega arith);
-    }
-
 -- ---- what each line says is forced
 module _ (before : ℕ → ℕ → Type 0) (forbidden : ℕ → ℕ → ℕ → Type 0) (apart : (w r v : ℕ) → forbidden w r v → (v ≢ w) × (v ≢ r)) (lines : List Line) (each : EachFollows before forbidden lines) where
   follows_forced : (most : ℕ) → ((k e d : ℕ) → k < most → IsLineOf lines k e d → IsForced before forbidden e d) → (k e d : ℕ) → k < most + 1 → (reason : Reason)
@@ -159,15 +145,3 @@ module _ (before : ℕ → ℕ → Type 0) (forbidden : ℕ → ℕ → ℕ → 
 
   pub ends_forced : EndsInCycle lines → HasForcedCycle before forbidden
   ends_forced ends = (ends.event, line_forced (ends.end + 1) ends.end ends.event ends.event (omega arith) ends.is_cycle)
-
--- ---- lines cite earlier ones
-cite_less : (before : ℕ → ℕ → Type 0) (forbidden : ℕ → ℕ → ℕ → Type 0) (lines : List Line) (place e d : ℕ) (reason : Reason) → Follows before forbidden lines place e d reason
-    → (k : ℕ) → Cites reason k → k < place
-cite_less before forbidden lines place e d reasons.HappensBefore h k cites = absurd cites
-cite_less before forbidden lines place e d (reasons.Joined first second) h k (inl cites) = rw (← cites) h.1
-cite_less before forbidden lines place e d (reasons.Joined first second) h k (inr cites) = rw (← cites) h.2
-cite_less before forbidden lines place e d (reasons.BeforeSource r earlier) h k cites = rw (← cites) h.1
-cite_less before forbidden lines place e d (reasons.AfterRead w earlier) h k cites = rw (← cites) h.1
-
-pub CiteEarlier-each : (before : ℕ → ℕ → Type 0) (forbidden : ℕ → ℕ → ℕ → Type 0) (lines : List Line) → EachFollows before forbidden lines → CiteEarlier lines
-CiteEarlier-each before forbidden lines each later line at k cites = cite_less before forbidden lines later line.before line.after line.reason (each later line at) k cites
