@@ -9,8 +9,7 @@ use Rattle.lit_paths.proofs.Products.{slice_get_left, slice_get_right}
 use Rattle.lit_why.specs.declared.derivations.lines.Line.{Line}
 use Rattle.lit_why.specs.declared.derivations.lines.Reason.{Reason}
 use Rattle.lit_why.specs.declared.derivations.lines.Reason.TheVariants as reasons
-use Rattle.lit_why.specs.Derivation.{Cites, EachFollows, EndsInCycle, Follows, IsDerivationBy, IsLineOf}
-use Rattle.lit_why.specs.Internal.Pruning.{CiteEarlier}
+use Rattle.lit_why.specs.Derivation.{EachFollows, EndsInCycle, Follows, IsDerivationBy, IsLineOf}
 use Rattle.lit_why.specs.Internal.Deriving.{AreGiven, HasForced, HasJoined, HasLine, HasLines, IsGiven}
 
 -- what is at a place after one is put at the end

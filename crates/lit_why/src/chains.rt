@@ -81,7 +81,14 @@ pub fn chain(part: &Part<'_>, from: u8, to: u8) -> Option<Chain>
     }
     match levels_below(&steps, first, last) {
         Some(levels) => Some(Chain {
-            links: links_along(events, &synchronizes, &steps, levels.as_slice(), first, last),
+            links: links_along(
+                events,
+                &synchronizes,
+                &steps,
+                levels.as_slice(),
+                first,
+                last,
+            ),
         }),
         None => None,
     }

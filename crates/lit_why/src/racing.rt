@@ -32,13 +32,7 @@ fn write_one_byte(events: &[Event], first: usize, second: usize) -> bool
 }
 
 /// Whether two events, by number, are in a data race by relations that stand for happens-before and for reads-from.
-fn are_racing(
-    events: &[Event],
-    before: &Rows,
-    reads: &Rows,
-    first: usize,
-    second: usize,
-) -> bool
+fn are_racing(events: &[Event], before: &Rows, reads: &Rows, first: usize, second: usize) -> bool
     requires len { rows_len reads.now ≡ length events.now }
     requires first { first < length events.now }
     requires second { second < length events.now }

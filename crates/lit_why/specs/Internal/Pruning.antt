@@ -25,8 +25,8 @@ CiteEarlier lines = (later : ℕ) (line : Line) → slice_get lines later ≡ So
 -- what the marked lines from a place on cite is marked
 abbrev pub AreCitedMarked : List Line → List Bool → ℕ → Type 0
 AreCitedMarked lines marks from =
-    (later : ℕ) (line : Line) → (later < from → ⊥) → IsMarked marks later → slice_get lines later ≡ Some line → (k : ℕ) → Cites line.reason k
-    → IsMarked marks k
+    (later : ℕ) (line : Line) → (later < from → ⊥) → IsMarked marks later → slice_get lines later ≡ Some line → (k : ℕ)
+    → Cites line.reason k → IsMarked marks k
 
 -- the last line, and what it cites, directly or by others
 pub record AreMarks (lines : List Line) (marks : List Bool) : Type 0 where

@@ -63,7 +63,8 @@ fn joined_from(lines: &[Line], old: &Rows, known: &Rows, first: usize) -> Option
 fn joined(lines: &[Line], old: &Rows, known: &Rows) -> Option<Line>
     requires same { rows_len known.now ≡ rows_len old.now }
     requires lines { HasLines lines.now (Holds old.now) }
-    ensures { MatchOption result (HasJoined (Holds old.now) (Holds known.now)) (IsNewLine (rows_len old.now) NoTriple (Holds known.now) lines.now) }
+    ensures { MatchOption result (HasJoined (Holds old.now) (Holds known.now))
+        (IsNewLine (rows_len old.now) NoTriple (Holds known.now) lines.now) }
 {
     for first in 0..old.len() {
         if let Some(line) = joined_from(lines, old, known, first) {

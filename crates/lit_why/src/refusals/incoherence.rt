@@ -81,7 +81,7 @@ pub(crate) fn first_incoherent(
     requires reads { (k : ℕ) (at : ReadByte) → slice_get reads.now k ≡ Some at → at.read < length events.now }
     requires sources { (k w : ℕ) → slice_get sources.now k ≡ Some w → w < length events.now }
     ensures { MatchOption result ((k : ℕ) (at : ReadByte) (w : ℕ) → slice_get reads.now k ≡ Some at → slice_get sources.now k ≡ Some w
-            → IsCoherentRead events.now (Holds before.now) at.read at.byte w)
+        → IsCoherentRead events.now (Holds before.now) at.read at.byte w)
         (λ found. IsFirstIncoherent events.now (Holds before.now) reads.now sources.now found.place found.read found.byte found.source
         found.hidden_by) }
 {

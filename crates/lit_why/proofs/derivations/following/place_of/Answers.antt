@@ -9,12 +9,12 @@ pub loop-place-preserved : goal.loop-place-preserved
 loop-place-preserved c =
     below_more (λ k. IsLineOf c.args.lines.now k c.args.before c.args.after → ⊥) c.loop-place.place c.loop-place.invariant
     (λ h.
-        let is = get_or_from_slice_get c.args.lines.now c.loop-place.place h.line _ h.at_place in
-        elim c.else-from-before.branch [
-          | else-from-before-via-then-from-before+else-from-after w ↦
-              w.if-from-after.false (w.from-then-from-before.ensures ∙ ap (λ (line : Line). line.after) is ∙ h.second)
-          | else-from-before-via-else-from-before w ↦ w.if-from-before.false (c.from.ensures ∙ ap (λ (line : Line). line.before) is ∙ h.first)
-        ])
+    let is = get_or_from_slice_get c.args.lines.now c.loop-place.place h.line _ h.at_place in
+    elim c.else-from-before.branch [
+      | else-from-before-via-then-from-before+else-from-after w ↦
+          w.if-from-after.false (w.from-then-from-before.ensures ∙ ap (λ (line : Line). line.after) is ∙ h.second)
+      | else-from-before-via-else-from-before w ↦ w.if-from-before.false (c.from.ensures ∙ ap (λ (line : Line). line.before) is ∙ h.first)
+    ])
 
 pub returns : goal.returns
 returns c =

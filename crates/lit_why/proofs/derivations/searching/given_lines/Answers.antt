@@ -4,7 +4,7 @@ use Rattle.lit_why.specs.Internal.Deriving.{HasLine}
 use Rattle.lit_why.proofs.derivations.searching.given_lines.Goals as goal
 
 pub loop-first-preserved : goal.loop-first-preserved
-loop-first-preserved c = 
+loop-first-preserved c =
     let kept = c.loop-first.invariant in
     let pushed = c.in_ok-push_given.ensures in
     record {
