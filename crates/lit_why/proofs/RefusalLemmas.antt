@@ -1,10 +1,12 @@
 -- What refuses a part, by relations that hold alike, and that a part that nothing refuses is not broken.
-use Rattle.std.proofs.Common.{◌≡◌, ◌⊎◌, ◌↔◌, ℕ, ◌+◌, ◌<◌, ◌≤◌, ◌==◌, false, Option, Some, None, List, [], ◌∷◌, length, map, get_or, suc, refl, sym, ap, subst, eqb-true, arith, inl, inr}
-use Rattle.std.proofs.lemmas.Bool.{cases_eq, cases_lt, false_from_ne_true}
-use Rattle.std.proofs.lemmas.Option.{get_or_from_slice_get, slice_get-get_or, slice_get_within}
+use Rattle.lit_why.specs.RacingPair.{IsLesserPair}
+use Rattle.lit_rel.proofs.SourceLemmas.{read_from, read_here}
+use Rattle.std.proofs.Common.{◌≡◌, ◌⊎◌, ◌↔◌, ℕ, ◌+◌, ◌<◌, ◌≤◌, ◌==◌, false, Option, Some, None, List, [], ◌∷◌, length, map, get_or, suc, refl, sym, ap, subst, eqb-true, arith, inl, inr, ◌∙◌}
+use Rattle.std.proofs.lemmas.Bool.{cases_eq, cases_lt, cases_order, false_from_ne_true}
+use Rattle.std.proofs.lemmas.Option.{get_or_from_slice_get, none-some, same_Some, slice_get-get_or, slice_get_within}
 use Rattle.std.specs.List.{filter, slice_get, zip}
-use Rattle.lit_paths.proofs.Rising.{slice_get-map-found, slice_get-map-known}
-use Rattle.lit_paths.specs.ByteReads.{byte_reads, pair_of}
+use Rattle.lit_paths.proofs.Rising.{RisesBy, append-rises, slice_get-map-found, slice_get-map-known}
+use Rattle.lit_paths.specs.ByteReads.{byte_reads, byte_reads_from, bytes_read_by, pair_of}
 use Rattle.lit_order.proofs.SameOrders.{IsOrderOf-same}
 use Rattle.lit_order.specs.MemoryOrder.{HasOrder, IsMemoryOrder}
 use Rattle.lit_paths.specs.Choice.{AreSources}
@@ -72,6 +74,28 @@ coherent_more events before reads sources place d e so_far here k other u less a
       | inr apart ↦ so_far k other u (omega arith) at_read at_source
     ]
 
+-- ---- byte reads rise
+abbrev IsLess : ℕ × ℕ → ℕ × ℕ → Type 0
+IsLess p q = (p.0 < q.0) ⊎ ((p.0 ≡ q.0) × (p.1 < q.1))
+
+rises_from : (n : ℕ) (es : List Event) → RisesBy IsLess (byte_reads_from n es)
+rises_from n [] = λ i j p q less here there. absurd (none-some p here)
+rises_from n (e ∷ es) =
+    append-rises IsLess (bytes_read_by n e) (byte_reads_from (n + 1) es)
+    (λ i j p q less here there. let one = read_here n e i p here in let other = read_here n e j q there in inr (omega arith, omega arith))
+    (rises_from (n + 1) es)
+    (λ i j p q here there. let one = read_here n e i p here in let other = read_from (n + 1) es j q there in inl (omega arith))
+
+not_lesser : (q c r b : ℕ) → IsLess (r, b) (q, c) → ¬ IsLesserPair q c r b
+not_lesser q c r b (inl more) (inl less) = omega arith
+not_lesser q c r b (inl more) (inr less) = let same : q ≡ r = less.0 in omega arith
+not_lesser q c r b (inr more) (inl less) = let same : r ≡ q = more.0 in omega arith
+not_lesser q c r b (inr more) (inr less) = let one : c < b = less.1 in let other : b < c = more.1 in omega arith
+
+not_lesser_same : (q c r b : ℕ) → r ≡ q → b ≡ c → ¬ IsLesserPair q c r b
+not_lesser_same q c r b same also (inl less) = omega arith
+not_lesser_same q c r b same also (inr less) = let one : c < b = less.1 in omega arith
+
 -- ---- by relations that hold alike
 module _ (part : PartModel) (before reads : ℕ → ℕ → Type 0) (same : (e d : ℕ) → before e d ↔ BeforeIn part e d)
     (alike : (r w : ℕ) → reads r w ↔ ReadsFrom (part_events part) part.sources r w) where
@@ -104,23 +128,22 @@ module _ (part : PartModel) (before reads : ℕ → ℕ → Type 0) (same : (e d
         subst P x.2 (coherent_same x.0.read x.0.byte w (each given.0 x.0 w x.1 (rw is_sources given.2)))
 
     pub first_incoherent_same : (place r b w : ℕ) (hidden_by : Option ℕ) → IsFirstIncoherent (part_events part) before list sources place r b w hidden_by
-        → IsIncoherentBy part r b w hidden_by × ((k : ℕ) × IsIncoherentAt part k r b w × ((j q c u : ℕ) → j < k → ¬ IsIncoherentAt part j q c u))
+        → IsIncoherentAt part r b w × IsIncoherentBy part r b w hidden_by × ((q c u : ℕ) → IsIncoherentAt part q c u → ¬ IsLesserPair q c r b)
     first_incoherent_same place r b w hidden_by h =
         let why = hidden_same r b w hidden_by h.hidden in
-        let at = slice_get-map-found pair_of list place h.byte h.at_read in (
+        let at = rw (is_list, h.read, h.of_byte) at (slice_get-map-found pair_of list place h.byte h.at_read) in (
+          record { given = (place, at, rw is_sources at h.at_source); incoherent = hidden_incoherent r b w hidden_by why },
           why,
-          (
-            place,
-            record {
-              read = rw (is_list, h.read, h.of_byte) at at;
-              source = rw is_sources at h.at_source;
-              incoherent = hidden_incoherent r b w hidden_by why;
-            },
-            λ j q c u less inc.
-                let x = at_byte j q c inc.read in
+          (λ q c u inc. elim (cases_order inc.given.0 place) [
+            | inl same ↦
+                let one : (r, b) ≡ (q, c) = same_Some (r, b) (q, c) (sym at ∙ rw same at inc.given.1) in
+                not_lesser_same q c r b (ap (λ (p : ℕ × ℕ). p.0) one) (ap (λ (p : ℕ × ℕ). p.1) one)
+            | inr (inl less) ↦
+                let x = at_byte inc.given.0 q c inc.given.1 in
                 let P : ℕ × ℕ → Type 0 = λ p. IsCoherentRead (part_events part) (BeforeIn part) p.0 p.1 u in
-                inc.incoherent (subst P x.2 (coherent_same x.0.read x.0.byte u (h.least j x.0 u less x.1 (rw is_sources inc.source)))),
-          ),
+                absurd (inc.incoherent (subst P x.2 (coherent_same x.0.read x.0.byte u (h.least inc.given.0 x.0 u less x.1 (rw is_sources inc.given.2)))))
+            | inr (inr more) ↦ not_lesser q c r b (rises_from 0 (part_events part) place inc.given.0 (r, b) (q, c) more at inc.given.1)
+          ]),
         )
 
   pub torn_same : (r w v : ℕ) → AreTorn (part_events part) reads r w v → IsTornBy part r w v
@@ -201,8 +224,7 @@ module _ (part : PartModel) (are : AreSources (part_events part) part.sources) w
   refused (FalseTest agent place) h = inl (inr (false_breaks agent place h.0))
   refused (BeforeItself event) h = inl (inl (inl (event, h.1)))
   refused (Incoherent r b w hidden_by) h =
-      let at = h.3.1 in
-      inl (inl (inr (inl record { read = r; byte = b; source = w; is_given = (h.3.0, at.read, at.source); incoherent = at.incoherent })))
+      let at = h.2 in inl (inl (inr (inl record { read = r; byte = b; source = w; is_given = at.given; incoherent = at.incoherent })))
   refused (Torn r w v) h =
       let torn = h.3 in
       let less : w < v = torn.rising in

@@ -1,7 +1,6 @@
 -- What refuses a complete part first, of the clauses of a valid execution (ECMA-262, 2024, 29.7; their order, and which of several
 -- witnesses is named, is this project's own).
 use Rattle.std.specs.Prelude.{◌≡◌, ◌⊎◌, ℕ, ◌<◌, Option, Some, None, false, List, length, slice_get}
-use Rattle.lit_paths.specs.ByteReads.{byte_reads}
 use Rattle.lit_paths.specs.Plan.{first_event, path_in}
 use Rattle.lit_paths.specs.Run.{compares}
 use Rattle.lit_paths.specs.declared.path.Tested.{Tested}
@@ -37,10 +36,9 @@ HasNoFalse part = (agent place : ℕ) → ¬ IsFalseAt part agent place
 abbrev pub HasNoCycle : PartModel → Type 0
 HasNoCycle part = (e : ℕ) → ¬ BeforeIn part e e
 
--- the byte read with a place among all, which are by read and then by byte, is not coherent: byte b of read r, with source w
-pub record IsIncoherentAt (part : PartModel) (place r b w : ℕ) : Type 0 where
-  pub read : slice_get (byte_reads (part_events part)) place ≡ Some (r, b)
-  pub source : slice_get part.sources place ≡ Some w
+-- byte b of read r, with source w, is not coherent
+pub record IsIncoherentAt (part : PartModel) (r b w : ℕ) : Type 0 where
+  pub given : ReadsByteFrom (part_events part) part.sources r b w
   pub incoherent : ¬ IsCoherentRead (part_events part) (BeforeIn part) r b w
 
 -- the read happens before the source; or not, and this is the least event that hides the source
@@ -69,8 +67,8 @@ IsRefusal part (FalseTest agent place) =
     IsFalseAt part agent place × ((a p : ℕ) → IsFalseAt part a p → ¬ IsLesserPair a p agent place)
 IsRefusal part (BeforeItself event) = HasNoFalse part × BeforeIn part event event × ((e : ℕ) → e < event → ¬ BeforeIn part e e)
 IsRefusal part (Incoherent r b w hidden_by) =
-    HasNoFalse part × HasNoCycle part × IsIncoherentBy part r b w hidden_by
-    × ((place : ℕ) × IsIncoherentAt part place r b w × ((k q c u : ℕ) → k < place → ¬ IsIncoherentAt part k q c u))
+    HasNoFalse part × HasNoCycle part × IsIncoherentAt part r b w × IsIncoherentBy part r b w hidden_by
+    × ((q c u : ℕ) → IsIncoherentAt part q c u → ¬ IsLesserPair q c r b)
 IsRefusal part (Torn r w v) =
     HasNoFalse part × HasNoCycle part × HasCoherentReads (part_events part) part.sources × IsTornBy part r w v
     × ((q u x : ℕ) → IsTornBy part q u x → ¬ IsLesserTriple q u x r w v)

@@ -58,6 +58,7 @@ fn link_between(events: &[Event], synchronizes: &Rows, first: usize, second: usi
     ensures to { result.to ≡ second }
     ensures kind { IsOfKindBy events.now (Holds synchronizes.now) result.kind first second }
 {
+    // A number of an event is a byte.
     let _events = synchronizes.len();
     Link {
         to: second as u8,

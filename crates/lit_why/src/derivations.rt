@@ -5,12 +5,12 @@ pub(crate) mod lines;
 mod pruning;
 mod searching;
 
-ghost use Rattle.std.specs.Prelude.{◌≡◌, ℕ, ◌<◌, IfOk, MatchOption};
+ghost use Rattle.std.specs.Prelude.{ℕ, ◌<◌, IfOk, MatchOption};
 ghost use Rattle.lit_order.specs.Forcing.{HasForcedCycle};
 ghost use Rattle.lit_rel.specs.Forbidden.{IsForbidden};
 ghost use Rattle.lit_rel.specs.HappensBefore.{HappensBefore};
 ghost use Rattle.lit_rel.specs.Part.{part_events};
-ghost use Rattle.lit_rel.specs.Rows.{Holds, rows_len};
+ghost use Rattle.lit_rel.specs.Rows.{Holds};
 ghost use Rattle.lit_why.specs.Derivation.{IsDerivation};
 
 use crate::derivations::lines::{Line, Reason};

@@ -1,7 +1,6 @@
 //! The least pair of events that are in a data race (ECMA-262, 2024, 29.9).
 
-ghost use Rattle.std.specs.Prelude.{◌≡◌, ◌⊎◌, ◌↔◌, ℕ, ◌<◌, IsTrue, MatchOption, length};
-ghost use Rattle.lit_paths.specs.Event.{event_at as event_of};
+ghost use Rattle.std.specs.Prelude.{◌≡◌, ◌↔◌, ℕ, ◌<◌, IsTrue, MatchOption, length};
 ghost use Rattle.lit_rel.specs.DataRace.{HasDataRace, IsDataRace};
 ghost use Rattle.lit_rel.specs.Part.{part_events};
 ghost use Rattle.lit_rel.specs.Racing.{WritesWith};

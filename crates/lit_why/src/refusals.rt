@@ -5,7 +5,7 @@ mod incoherence;
 mod tearing;
 mod tests;
 
-ghost use Rattle.std.specs.Prelude.{◌≡◌, ◌↔◌, ℕ, ◌<◌, IsTrue, MatchOption, length};
+ghost use Rattle.std.specs.Prelude.{◌≡◌, ◌↔◌, ◌<◌, IsTrue, MatchOption, length};
 ghost use Rattle.lit_order.specs.MemoryOrder.{HasOrder};
 ghost use Rattle.lit_paths.specs.Choice.{combinations_of};
 ghost use Rattle.lit_rel.specs.Between.{Forbids};
@@ -35,8 +35,8 @@ fn has_order(before: &Rows, between: &Between) -> bool
 }
 
 /// What refuses a part with sources for all its byte reads, of a combination of a test: the first clause of a valid execution that does, in
-/// the order of `Refusal`, and the least of what that clause refuses. Bytes are in the order of `Combination::byte_reads`. `None` exactly
-/// where a valid execution has the part's paths and sources. The part's sources are passed beside it.
+/// the order of `Refusal`, and the least of what that clause refuses. `None` exactly where a valid execution has the part's paths and
+/// sources. The sources are passed beside the part, which does not lend them.
 pub fn refusal(part: &Part<'_>, sources: &[u8]) -> Option<Refusal>
     requires known { part.now.combination < length (combinations_of part.now.test) }
     requires complete { IsComplete part.now }

@@ -1,6 +1,6 @@
 //! The lines of a derivation that its last line rests on.
 
-ghost use Rattle.std.specs.Prelude.{◌≡◌, ◌⊎◌, ◌↔◌, ℕ, ◌<◌, ◌≤◌, IfOk, List, length, slice_index};
+ghost use Rattle.std.specs.Prelude.{◌≡◌, ◌⊎◌, ◌↔◌, ℕ, ◌<◌, IfOk, List, length, slice_index};
 ghost use Rattle.lit_why.specs.Derivation.{Cites, EndsInCycle};
 ghost use Rattle.lit_why.specs.Internal.Pruning.{AreMarks, AreMoved, CiteEarlier, IsMarked, IsPruned, moved_reason};
 
