@@ -1,8 +1,9 @@
 pub mod AddedLemmas
+pub mod AlikeLemmas
 pub mod AttemptLemmas
-pub mod NodeLemmas
-pub mod RepresentativeLemmas
-pub mod TrialLemmas
 pub mod CountLemmas
 pub mod DomainLemmas
+pub mod NodeLemmas
 pub mod RaceLemmas
+pub mod RepresentativeLemmas
+pub mod TrialLemmas

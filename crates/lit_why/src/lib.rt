@@ -7,6 +7,7 @@ mod attempt;
 mod counting;
 mod domains;
 mod enumeration;
+pub mod laws;
 mod race_example;
 mod representatives;
 mod trials;
