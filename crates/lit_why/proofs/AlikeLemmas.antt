@@ -1,5 +1,6 @@
 -- Choices of one attempt try a class together: tests and outcomes are of what is read.
-use Rattle.std.proofs.Common.{◌≡◌, inl, inr, ℕ, ◌==◌, Bool, true, false, cond, List, [], ◌∷◌, Option, None, Some, arith, ap, ap₂, filter, length, map}
+use Rattle.std.proofs.Common.{◌≡◌, inl, inr, ℕ, ◌==◌, Bool, true, false, cond, List, [], ◌∷◌, Option, None, Some, arith, ap, ap₂, filter}
+use Rattle.std.proofs.Common.{length, map}
 use Rattle.std.proofs.Common.{refl, subst, sym, zip}
 use Rattle.std.specs.Prelude.{IsTrue}
 use Rattle.std.proofs.lemmas.Bool.Decides.{nat_tests}
@@ -28,7 +29,8 @@ map_same f g (x ∷ xs) each = ap₂ (λ (y : ℕ) (ys : List ℕ). y ∷ ys) (e
 abbrev taken_of : List Event → ℕ → List (ℕ × ℕ) → List ℕ → List ℕ
 taken_of events r reads sources = map (λ p. payload_at (event_at events p.1) p.0.1) (filter (λ p. p.0.0 == r) (zip reads sources))
 
-taken_same : (events : List Event) (r : ℕ) (reads : List (ℕ × ℕ)) (some other : List ℕ) → length some ≡ length reads → length other ≡ length reads
+taken_same : (events : List Event) (r : ℕ) (reads : List (ℕ × ℕ)) (some other : List ℕ) → length some ≡ length reads → length other
+    ≡ length reads
     → IsTrue (store_alike events reads some other) → taken_of events r reads some ≡ taken_of events r reads other
 taken_same events r [] some other long long_other is = refl
 taken_same events r (read ∷ reads) [] other long long_other is = absurd (omega (arith, long))
@@ -36,7 +38,8 @@ taken_same events r (read ∷ reads) (v ∷ some) [] long long_other is = absurd
 taken_same events r (read ∷ reads) (v ∷ some) (w ∷ other) long long_other is =
     by (read.0 == r) (taken_same events r reads some other (omega (arith, long)) (omega (arith, long_other)) parts.1)
   where
-    parts : IsTrue (payload_at (event_at events w) read.1 == payload_at (event_at events v) read.1) × IsTrue (store_alike events reads some other)
+    parts : IsTrue (payload_at (event_at events w) read.1 == payload_at (event_at events v) read.1)
+        × IsTrue (store_alike events reads some other)
     parts = both (payload_at (event_at events w) read.1 == payload_at (event_at events v) read.1) (store_alike events reads some other) is
 
     stored : payload_at (event_at events v) read.1 ≡ payload_at (event_at events w) read.1
@@ -63,7 +66,8 @@ module _ (t : Litmus) (class : Class) (c : ℕ) (some other : List ℕ) (long : 
 
   outcome_same : part_outcome (part_with t c some) ≡ part_outcome (part_with t c other)
   outcome_same =
-      map_same (λ name. value_held (part_with t c some) (read_held t c name)) (λ name. value_held (part_with t c other) (read_held t c name)) (names_of t)
+      map_same (λ name. value_held (part_with t c some) (read_held t c name))
+      (λ name. value_held (part_with t c other) (read_held t c name)) (names_of t)
       (λ name. held_same (read_held t c name))
 
   false_same : HasFalseTest (part_with t c other) → HasFalseTest (part_with t c some)
