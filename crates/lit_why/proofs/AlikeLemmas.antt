@@ -1,162 +1,102 @@
--- How many lists of sources store the same, byte read by byte read.
-use Rattle.std.proofs.Common.{◌≡◌, ℕ, zero, suc, ◌+◌, ◌*◌, ◌<◌, ◌≤◌, ◌==◌, ◌&&◌, Bool, true, false, cond, List, [], ◌∷◌, ◌++◌, Some}
-use Rattle.std.proofs.Common.{arith, refl, sym, ap, ap₂, ◌∙◌}
-use Rattle.std.proofs.Common.{drop, filter, get_or, length, length-append, map}
-use Rattle.std.specs.List.{flat_map}
-use Rattle.std.specs.Prelude.{slice_get}
-use Rattle.std.proofs.Math.Nat.{le_trans, mul-le-mul_left, mul-le-mul_right}
+-- Choices of one attempt try a class together: tests and outcomes are of what is read.
+use Rattle.std.proofs.Common.{◌≡◌, inl, inr, ℕ, ◌==◌, Bool, true, false, cond, List, [], ◌∷◌, Option, None, Some, arith, ap, ap₂, filter}
+use Rattle.std.proofs.Common.{length, map}
+use Rattle.std.proofs.Common.{refl, subst, sym, zip}
+use Rattle.std.specs.Prelude.{IsTrue}
+use Rattle.std.proofs.lemmas.Bool.Decides.{nat_tests}
+use Rattle.lit_read.specs.Syntax.{Litmus}
 use Rattle.lit_paths.specs.declared.event.Event.{Event}
-use Rattle.lit_paths.specs.ByteReads.{IsCandidate, byte_read_at, byte_reads}
-use Rattle.lit_paths.specs.Choice.{AreSources, candidates_of, product, sources_of}
-use Rattle.lit_paths.specs.Numbers.{length_product, ways_from}
-use Rattle.lit_paths.proofs.Candidates.{candidates_of-found}
-use Rattle.std.proofs.Common.{eq-eqb}
-use Rattle.std.proofs.lemmas.List.{drop_all, drop_more}
+use Rattle.lit_paths.specs.ByteReads.{byte_reads}
 use Rattle.lit_paths.specs.Event.{event_at, payload_at}
-use Rattle.lit_why.specs.Attempts.{give_alike, store_alike}
+use Rattle.lit_paths.specs.Outcome.{names_of}
+use Rattle.lit_paths.specs.Plan.{events_in}
+use Rattle.lit_rel.specs.Broken.{HasFalseTest, HasFalseTestOn}
+use Rattle.lit_rel.specs.ReadsFrom.{composed, value_of}
+use Rattle.lit_valid.specs.declared.class.Class.{Class}
+use Rattle.lit_valid.specs.Class.{is_of_class}
+use Rattle.lit_valid.specs.Laws.{Laws}
+use Rattle.lit_valid.specs.PartOutcome.{part_outcome, read_held, value_held}
+use Rattle.lit_why.specs.Attempts.{AreOneAttempt, IsTry, TriesClass, give_alike, part_with, store_alike}
+use Rattle.lit_why.proofs.AttemptLemmas.{both, one_combination}
+use Rattle.lit_why.proofs.NodeLemmas.{on_sourced}
+use Rattle.lit_why.proofs.FirstRaceLemmas.{one_sources}
 
--- how many candidates of each byte read store what the source there does, all multiplied
-abbrev pub ways_alike : List Event → List (ℕ × ℕ) → List ℕ → ℕ
-ways_alike events [] sources = 1
-ways_alike events (read ∷ reads) [] = 0
-ways_alike events (read ∷ reads) (w ∷ sources) =
-    length (filter (λ v. payload_at (event_at events v) read.1 == payload_at (event_at events w) read.1) (candidates_of events read))
-    * ways_alike events reads sources
+map_same : {A : Type 0} (f g : A → ℕ) (xs : List A) → ((x : A) → f x ≡ g x) → map f xs ≡ map g xs
+map_same f g [] each = refl
+map_same f g (x ∷ xs) each = ap₂ (λ (y : ℕ) (ys : List ℕ). y ∷ ys) (each x) (map_same f g xs each)
 
-filter-append : {X : Type 0} (p : X → Bool) (xs ys : List X) → filter p (xs ++ ys) ≡ filter p xs ++ filter p ys
-filter-append {X = X} p [] ys = refl
-filter-append {X = X} p (x ∷ xs) ys = by (p x) (filter-append p xs ys)
+-- what a read takes of these bytes
+abbrev taken_of : List Event → ℕ → List (ℕ × ℕ) → List ℕ → List ℕ
+taken_of events r reads sources = map (λ p. payload_at (event_at events p.1) p.0.1) (filter (λ p. p.0.0 == r) (zip reads sources))
+
+taken_same : (events : List Event) (r : ℕ) (reads : List (ℕ × ℕ)) (some other : List ℕ) → length some ≡ length reads → length other
+    ≡ length reads
+    → IsTrue (store_alike events reads some other) → taken_of events r reads some ≡ taken_of events r reads other
+taken_same events r [] some other long long_other is = refl
+taken_same events r (read ∷ reads) [] other long long_other is = absurd (omega (arith, long))
+taken_same events r (read ∷ reads) (v ∷ some) [] long long_other is = absurd (omega (arith, long_other))
+taken_same events r (read ∷ reads) (v ∷ some) (w ∷ other) long long_other is =
+    by (read.0 == r) (taken_same events r reads some other (omega (arith, long)) (omega (arith, long_other)) parts.1)
   where
-    by : (b : Bool) → filter p (xs ++ ys) ≡ filter p xs ++ filter p ys
-        → cond b (x ∷ filter p (xs ++ ys)) (filter p (xs ++ ys)) ≡ cond b (x ∷ filter p xs) (filter p xs) ++ filter p ys
-    by true rest = ap (λ (zs : List X). x ∷ zs) rest
-    by false rest = rest
+    parts : IsTrue (payload_at (event_at events w) read.1 == payload_at (event_at events v) read.1)
+        × IsTrue (store_alike events reads some other)
+    parts = both (payload_at (event_at events w) read.1 == payload_at (event_at events v) read.1) (store_alike events reads some other) is
 
--- those of the lists with one more first member that pass
-headed : {X : Type 0} (x : X) (b : Bool) (p : List X → Bool) (lists : List (List X)) (q : List X → Bool)
-    → ((ys : List X) → q (x ∷ ys) ≡ (b && p ys)) → length (filter q (map (λ ys. x ∷ ys) lists)) ≡ cond b (length (filter p lists)) 0
-headed {X = X} x b p [] q same = by b
-  where
-    by : (b : Bool) → zero ≡ cond b zero zero
-    by true = refl
-    by false = refl
-headed {X = X} x b p (ys ∷ lists) q same = by b (p ys) (q (x ∷ ys)) (same ys) (headed x b p lists q same)
-  where
-    rest : List (List X)
-    rest = filter q (map (λ zs. x ∷ zs) lists)
+    stored : payload_at (event_at events v) read.1 ≡ payload_at (event_at events w) read.1
+    stored =
+        let here : (payload_at (event_at events w) read.1 == payload_at (event_at events v) read.1) ≡ true = parts.0 in
+        grind (arith, nat_tests)
 
-    by : (b c d : Bool) → d ≡ (b && c) → length rest ≡ cond b (length (filter p lists)) 0
-        → length (cond d ((x ∷ ys) ∷ rest) rest) ≡ cond b (length (cond c (ys ∷ filter p lists) (filter p lists))) 0
-    by true true true is later = ap suc later
-    by true true false is later = absurd (let e = is in cc)
-    by true false true is later = absurd (let e = is in cc)
-    by true false false is later = later
-    by false c true is later = absurd (let e = is in cc)
-    by false c false is later = later
-
--- of a product, those whose first member passes and whose others do
-pub multiplied : (f : ℕ → Bool) (p q : List ℕ → Bool) (firsts : List ℕ) (rest : List (List ℕ))
-    → ((x : ℕ) (ys : List ℕ) → q (x ∷ ys) ≡ (f x && p ys))
-    → length (filter q (flat_map (λ x. map (λ ys. x ∷ ys) rest) firsts)) ≡ length (filter f firsts) * length (filter p rest)
-multiplied f p q [] rest same = omega arith
-multiplied f p q (x ∷ firsts) rest same =
-    ap length (filter-append q (map (λ ys. x ∷ ys) rest) (flat_map (λ x. map (λ ys. x ∷ ys) rest) firsts))
-    ∙ length-append (filter q (map (λ ys. x ∷ ys) rest)) (filter q (flat_map (λ x. map (λ ys. x ∷ ys) rest) firsts))
-    ∙ ap₂ (λ (a b : ℕ). a + b) (headed x (f x) p rest q (same x)) (multiplied f p q firsts rest same)
-    ∙ by (f x)
-  where
-    by : (b : Bool) → cond b (length (filter p rest)) 0 + length (filter f firsts) * length (filter p rest)
-        ≡ length (cond b (x ∷ filter f firsts) (filter f firsts)) * length (filter p rest)
-    by true = omega arith
-    by false = omega arith
-
-pub ways_are : (events : List Event) (reads : List (ℕ × ℕ)) (sources : List ℕ) → length sources ≡ length reads
-    → length (filter (store_alike events reads sources) (product (map (candidates_of events) reads))) ≡ ways_alike events reads sources
-ways_are events [] sources long = refl
-ways_are events (read ∷ reads) [] long = absurd (omega (arith, long))
-ways_are events (read ∷ reads) (w ∷ sources) long =
-    multiplied (λ v. payload_at (event_at events v) read.1 == payload_at (event_at events w) read.1) (store_alike events reads sources)
-    (store_alike events (read ∷ reads) (w ∷ sources)) (candidates_of events read) (product (map (candidates_of events) reads))
-    (λ x ys. refl)
-    ∙ ap (λ (n : ℕ). length (filter (λ v. payload_at (event_at events v) read.1 == payload_at (event_at events w) read.1)
-    (candidates_of events read)) * n)
-    (ways_are events reads sources (omega (arith, long)))
-
--- ---- from the last byte read on
--- a source stores what it does itself
-counts_itself : (f : ℕ → Bool) (w : ℕ) (xs : List ℕ) (k : ℕ) → slice_get xs k ≡ Some w → f w ≡ true → 1 ≤ length (filter f xs)
-counts_itself f w [] k at is = absurd (let e = at in cc)
-counts_itself f w (x ∷ xs) zero at is =
-    let same : x ≡ w = (let e : Some x ≡ Some w = at in cc) in
-    let passes : f x ≡ true = ap f same ∙ is in
-    rw passes (let e : 1 ≤ length (x ∷ filter f xs) = omega arith in e)
-counts_itself f w (x ∷ xs) (suc k) at is = by (f x) (counts_itself f w xs k at is)
-  where
-    by : (b : Bool) → 1 ≤ length (filter f xs) → 1 ≤ length (cond b (x ∷ filter f xs) (filter f xs))
-    by true later = omega arith
+    by : (b : Bool) → taken_of events r reads some ≡ taken_of events r reads other
+        → map (λ p. payload_at (event_at events p.1) p.0.1)
+        (cond b ((read, v) ∷ filter (λ p. p.0.0 == r) (zip reads some)) (filter (λ p. p.0.0 == r) (zip reads some)))
+        ≡ map (λ p. payload_at (event_at events p.1) p.0.1)
+        (cond b ((read, w) ∷ filter (λ p. p.0.0 == r) (zip reads other)) (filter (λ p. p.0.0 == r) (zip reads other)))
+    by true later = ap₂ (λ (x : ℕ) (xs : List ℕ). x ∷ xs) stored later
     by false later = later
 
-count_within : (f : ℕ → Bool) (xs : List ℕ) → length (filter f xs) ≤ length xs
-count_within f [] = omega arith
-count_within f (x ∷ xs) = by (f x) (count_within f xs)
-  where
-    by : (b : Bool) → length (filter f xs) ≤ length xs → length (cond b (x ∷ filter f xs) (filter f xs)) ≤ suc (length xs)
-    by true later = omega (arith, later)
-    by false later = omega (arith, later)
+module _ (t : Litmus) (class : Class) (c : ℕ) (some other : List ℕ) (long : length some ≡ length (byte_reads (events_in t c)))
+    (long_other : length other ≡ length (byte_reads (events_in t c))) (alike : IsTrue (give_alike (events_in t c) some other)) where
+  value_same : (r : ℕ) → value_of (events_in t c) some r ≡ value_of (events_in t c) other r
+  value_same r = ap composed (taken_same (events_in t c) r (byte_reads (events_in t c)) some other long long_other alike)
 
--- no more than there are in all
-pub ways_within : (events : List Event) (reads : List (ℕ × ℕ)) (sources : List ℕ) → ways_alike events reads sources
-    ≤ length_product (map (candidates_of events) reads)
-ways_within events [] sources = omega arith
-ways_within events (read ∷ reads) [] = omega arith
-ways_within events (read ∷ reads) (w ∷ sources) =
-    let f : ℕ → Bool = λ v. payload_at (event_at events v) read.1 == payload_at (event_at events w) read.1 in
-    le_trans (mul-le-mul_right (ways_alike events reads sources) (count_within f (candidates_of events read)))
-    (mul-le-mul_left (length (candidates_of events read)) (ways_within events reads sources))
+  held_same : (held : Option ℕ) → value_held (part_with t c some) held ≡ value_held (part_with t c other) held
+  held_same None = refl
+  held_same (Some r) = value_same r
 
--- no fewer than from a place on
-pub ways_later : (events : List Event) (reads : List (ℕ × ℕ)) (sources : List ℕ) (k : ℕ) → length sources ≡ length reads
-    → ((i w : ℕ) (read : ℕ × ℕ) → slice_get reads i ≡ Some read → slice_get sources i ≡ Some w → IsCandidate events read.0 read.1 w)
-    → ways_alike events (drop k reads) (drop k sources) ≤ ways_alike events reads sources
-ways_later events reads sources zero long each = omega arith
-ways_later events [] [] (suc k) long each = omega arith
-ways_later events [] (w ∷ sources) (suc k) long each = absurd (omega (arith, long))
-ways_later events (read ∷ reads) [] (suc k) long each = absurd (omega (arith, long))
-ways_later events (read ∷ reads) (w ∷ sources) (suc k) long each =
-    let f : ℕ → Bool = λ v. payload_at (event_at events v) read.1 == payload_at (event_at events w) read.1 in
-    let found = candidates_of-found events read.0 read.1 w (each 0 w read refl refl) in
-    let some : 1 ≤ length (filter f (candidates_of events read)) = counts_itself f w (candidates_of events read) found.0 found.1
-    (eq-eqb _ _ refl) in
-    let later = ways_later events reads sources k (omega (arith, long)) (λ i v other at is. each (suc i) v other at is) in
-    let more : 1 * ways_alike events reads sources ≤ length (filter f (candidates_of events read)) * ways_alike events reads sources =
-    mul-le-mul_right (ways_alike events reads sources) some in
-    omega (arith, later, more)
+  outcome_same : part_outcome (part_with t c some) ≡ part_outcome (part_with t c other)
+  outcome_same =
+      map_same (λ name. value_held (part_with t c some) (read_held t c name))
+      (λ name. value_held (part_with t c other) (read_held t c name)) (names_of t)
+      (λ name. held_same (read_held t c name))
 
--- ---- the byte reads of a combination, from the last one to the first
-module _ (events : List Event) (sources : List ℕ) (are : AreSources events sources) where
-  abbrev reads : List (ℕ × ℕ)
-  reads = byte_reads events
+  false_same : HasFalseTest (part_with t c other) → HasFalseTest (part_with t c some)
+  false_same (inl unwritten) = inl unwritten
+  false_same (inr (r, whole, is)) =
+      inr (
+        r,
+        (λ i b at. omega (arith, whole i b at, long, long_other)),
+        subst (λ (v : ℕ). HasFalseTestOn t c (Some r) v) (sym (value_same r)) is,
+      )
 
-  each : (i w : ℕ) (read : ℕ × ℕ) → slice_get reads i ≡ Some read → slice_get sources i ≡ Some w → IsCandidate events read.0 read.1 w
-  each i w read at is = are.each i read.0 read.1 w at is
+  try_same : IsTry t class c some → IsTry t class c other
+  try_same is = record {
+    allowed = λ f. is.allowed (false_same f);
+    of_class = subst (λ (o : List ℕ). IsTrue (is_of_class t class o)) outcome_same is.of_class;
+  }
 
-  -- how many from a place on
-  abbrev pub ways_on : ℕ → ℕ
-  ways_on k = ways_alike events (drop k reads) (drop k sources)
-
-  pub ways_end : (k : ℕ) → length sources ≤ k → ways_on k ≡ 1
-  ways_end k past =
-      ap₂ (ways_alike events) (drop_all k reads (omega (arith, past, are.one_each))) (drop_all k sources past)
-
-  pub ways_step : (k : ℕ) → k < length sources
-      → ways_on k ≡ length (filter (λ v. payload_at (event_at events v) (byte_read_at events k).1 == payload_at
-      (event_at events (get_or sources k 0)) (byte_read_at events k).1)
-      (candidates_of events (byte_read_at events k))) * ways_on (k + 1)
-  ways_step k inside = ap₂ (ways_alike events) (drop_more reads k (0, 0) (omega (arith, inside, are.one_each)))
-      (drop_more sources k 0 inside)
-
-  pub ways_small : (k : ℕ) → ways_on k ≤ ways_from events 0
-  ways_small k = le_trans (ways_later events reads sources k are.one_each each) (ways_within events reads sources)
-
-  pub ways_all : ways_on 0 ≡ length (filter (give_alike events sources) (sources_of events))
-  ways_all = sym (ways_are events reads sources are.one_each)
+-- with one choice of an attempt all try the class
+pub try_together : Laws → (t : Litmus) (class : Class) (m n : ℕ) → AreOneAttempt t m n → TriesClass t class m → TriesClass t class n
+try_together laws t class m n one tries =
+    let c = one.combination in
+    let same = one_combination t m c tries.combination one.on_some.low one.on_some.high tries.on.low tries.on.high in
+    let on_c : IsTry t class c tries.sources = subst (λ (d : ℕ). IsTry t class d tries.sources) same tries.is_try in
+    let is_try : IsTry t class c one.some =
+    subst (λ (ws : List ℕ). IsTry t class c ws) (one_sources t m tries.sources one.some tries.on.has one.on_some.has) on_c in
+    record {
+      combination = c;
+      sources = one.other;
+      on = one.on_other;
+      is_try = try_same t class c one.some one.other (on_sourced laws t m c one.some one.on_some).one_each
+          (on_sourced laws t n c one.other one.on_other).one_each one.alike is_try;
+    }

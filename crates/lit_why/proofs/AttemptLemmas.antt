@@ -33,7 +33,7 @@ use Rattle.lit_why.proofs.NodeLemmas.{on_sourced, placed, rises_at}
 use Rattle.lit_why.proofs.FirstRaceLemmas.{one_sources}
 
 -- ---- storing the same
-both : (a b : Bool) → IsTrue (a && b) → IsTrue a × IsTrue b
+pub both : (a b : Bool) → IsTrue (a && b) → IsTrue a × IsTrue b
 both true true is = (refl, refl)
 both true false is = absurd (let e = is in cc)
 both false b is = absurd (let e = is in cc)
@@ -77,7 +77,7 @@ alike_from events (r ∷ reads) (x ∷ some) (y ∷ other) long long_other each 
 
 -- ---- choices on a combination
 -- a choice is on one combination
-one_combination : (t : Litmus) (n c d : ℕ) → choices_before t c ≤ n → n < choices_before t (c + 1) → choices_before t d ≤ n
+pub one_combination : (t : Litmus) (n c d : ℕ) → choices_before t c ≤ n → n < choices_before t (c + 1) → choices_before t d ≤ n
     → n < choices_before t (d + 1)
     → d ≡ c
 one_combination t n c d low high low_too high_too = elim (cases_lt c d) [

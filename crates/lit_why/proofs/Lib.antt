@@ -14,3 +14,4 @@ pub mod RefusalLemmas
 pub mod RepresentativeLemmas
 pub mod StepLemmas
 pub mod TrialLemmas
+pub mod WaysLemmas

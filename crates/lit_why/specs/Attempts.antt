@@ -46,7 +46,7 @@ store_alike events (read ∷ reads) (v ∷ some) [] = false
 store_alike events (read ∷ reads) (v ∷ some) (w ∷ other) =
     (payload_at (event_at events w) read.1 == payload_at (event_at events v) read.1) && store_alike events reads some other
 
--- whether two lists of sources give each read of a combination the same value
+-- whether two lists of sources store the same byte for each byte read of a combination, so that each read has the same value
 abbrev pub give_alike : List Event → List ℕ → List ℕ → Bool
 give_alike events some other = store_alike events (byte_reads events) some other
 

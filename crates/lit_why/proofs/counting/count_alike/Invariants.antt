@@ -1,7 +1,7 @@
 use Rattle.std.proofs.Common.{◌≡◌, drop}
 use Rattle.lit_paths.specs.ByteReads.{byte_reads}
 use Rattle.lit_solve.specs.Box.{events_on}
-use Rattle.lit_why.proofs.AlikeLemmas.{ways_alike}
+use Rattle.lit_why.proofs.WaysLemmas.{ways_alike}
 use Rattle.lit_why.proofs.counting.count_alike.Given as goal
 
 abbrev pub invariant-loop-place : goal.invariant-loop-place
