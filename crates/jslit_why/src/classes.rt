@@ -1,5 +1,8 @@
 //! Why no valid execution has an outcome of a class, or an example where one has.
 
+ghost use Rattle.std.specs.Prelude.{◌<◌, length};
+ghost use Rattle.lit_paths.specs.Choice.{choices_of};
+
 use crate::attempts::Tally;
 use crate::comparisons::put_impossible;
 use crate::reasons::put_reason;
@@ -61,7 +64,11 @@ fn put_example(
     plan: &Plan<'_>,
     statements: &Statements,
     choice: u64,
-) -> io::Result<()> {
+) -> io::Result<()>
+    requires { choice < length (choices_of plan.now) }
+{
+    // That numbers of choices are small is known of how many there are.
+    let _total = plan.total();
     let Ok(found) = search_range(alloc, &*plan, choice, choice + 1) else {
         return Err(io::Error::from(io::ErrorKind::OutOfMemory));
     };
