@@ -1,68 +1,41 @@
 //! How many attempts each clause of a valid execution refuses.
 
-ghost use Rattle.std.specs.Prelude.{◌<◌};
+ghost use Rattle.std.specs.Prelude.{◌≡◌, length};
+ghost use Rattle.jslit_why.specs.declared.clauses.TheConstants.{CLAUSE_COUNT as CLAUSES};
 
+use crate::clauses::{CLAUSE_COUNT, place_of};
 use crate::scene::Scene;
 use crate::statements::Statements;
 use lit_paths::Plan;
-use lit_why::Refusal;
+use lit_why::Attempt;
 
-/// A clause, how many attempts it refuses, and the first of them, by its least choice.
-#[derive(Clone, Copy)]
+/// How many attempts a clause refuses, and the first of them, by its least choice.
+#[derive(Clone, Copy, Debug, PartialEq, Eq)]
 pub(crate) struct Row {
-    pub clause: &'static str,
-    pub section: &'static str,
     pub count: u64,
     pub first: Option<u64>,
-}
-
-impl Row {
-    /// No attempt.
-    fn new(clause: &'static str, section: &'static str) -> Self {
-        Row {
-            clause,
-            section,
-            count: 0,
-            first: None,
-        }
-    }
 }
 
 /// A row for each clause, in the order in which they are asked.
 #[derive(Drop)]
 pub(crate) struct Tally {
-    rows: [Row; 5],
-}
-
-/// The place of a clause among the rows.
-fn place_of(refusal: Refusal) -> usize
-    ensures { result < 5 }
-{
-    match refusal {
-        Refusal::FalseTest { .. } => 0,
-        Refusal::BeforeItself { .. } => 1,
-        Refusal::Incoherent { .. } => 2,
-        Refusal::Torn { .. } => 3,
-        Refusal::NoOrder => 4,
-    }
+    rows: [Row; CLAUSE_COUNT],
 }
 
 impl Tally {
     /// No attempts.
-    pub(crate) fn new() -> Self {
+    fn new() -> Self {
+        let none = Row {
+            count: 0,
+            first: None,
+        };
         Tally {
-            rows: [
-                Row::new("paths", "25.4, values that the path's tests refuse"),
-                Row::new("happens-before", "29.7.5 valid executions"),
-                Row::new("coherent-reads", "29.7.2 coherent reads"),
-                Row::new("tear-free-reads", "29.7.3 tear free reads"),
-                Row::new("memory-order", "29.7.4 sequentially consistent atomics"),
-            ],
+            rows: [none; CLAUSE_COUNT],
         }
     }
 
     /// Counts an attempt, by its least choice.
-    pub(crate) fn count(&mut self, plan: &Plan<'_>, statements: &Statements, choice: u64) {
+    fn count(&mut self, plan: &Plan<'_>, statements: &Statements, choice: u64) {
         if choice >= plan.total() {
             return;
         }
@@ -77,8 +50,24 @@ impl Tally {
         }
     }
 
+    /// Counts the first attempts, so many.
+    pub(crate) fn count_all(
+        plan: &Plan<'_>,
+        statements: &Statements,
+        attempts: &[Attempt],
+        most: usize,
+    ) -> Self {
+        let mut tally = Tally::new();
+        for attempt in attempts.iter().take(most) {
+            tally.count(plan, statements, attempt.choice);
+        }
+        tally
+    }
+
     /// The rows.
-    pub(crate) fn rows(&self) -> &[Row] {
+    pub(crate) fn rows(&self) -> &[Row]
+        ensures { length result.now ≡ CLAUSES }
+    {
         &self.rows
     }
 }

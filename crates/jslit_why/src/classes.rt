@@ -4,6 +4,7 @@ ghost use Rattle.std.specs.Prelude.{◌<◌, length};
 ghost use Rattle.lit_paths.specs.Choice.{choices_of};
 
 use crate::attempts::Tally;
+use crate::clauses::clause_at;
 use crate::comparisons::put_impossible;
 use crate::reasons::put_reason;
 use crate::scene::Scene;
@@ -17,7 +18,7 @@ use std::io;
 use std::io::Write;
 
 /// The verdict on a class that no valid execution has.
-fn verdict_without(class: Class) -> &'static str {
+pub(crate) fn verdict_without(class: Class) -> &'static str {
     match class {
         Class::Met => "never",
         Class::Unmet => "always",
@@ -107,10 +108,7 @@ fn put_attempts(
         )?,
         count => writeln!(page, "{verdict}: {count} attempts")?,
     }
-    let mut tally = Tally::new();
-    for attempt in attempts.iter().take(most) {
-        tally.count(plan, statements, attempt.choice);
-    }
+    let tally = Tally::count_all(plan, statements, &attempts, most);
     put_tally(alloc, page, plan, statements, &tally)
 }
 
@@ -122,11 +120,12 @@ fn put_tally(
     statements: &Statements,
     tally: &Tally,
 ) -> io::Result<()> {
-    for row in tally.rows() {
+    for (place, row) in tally.rows().iter().enumerate() {
         let Some(choice) = row.first else {
             continue;
         };
-        writeln!(page, "{} {} ({})", row.clause, row.count, row.section)?;
+        let clause = clause_at(place);
+        writeln!(page, "{} {} ({})", clause.name, row.count, clause.section)?;
         if choice < plan.total() {
             let scene = Scene::new(&*plan, statements, choice);
             scene.put_sources(page)?;

@@ -1,7 +1,9 @@
 //! The words of the command line.
 
-use clap::{Arg, ArgAction, Command, Error, value_parser};
+use clap::error::ErrorKind;
+use clap::{Arg, ArgAction, ArgMatches, Command, Error, value_parser};
 use jslit::VERSION;
+use lit_paths::CHOICE_LIMIT;
 use std::alloc::{AllocError, Global};
 use std::convert::AsStr;
 
@@ -12,8 +14,12 @@ pub(crate) struct Line<'a> {
     pub unmet: bool,
     /// Whether a data race is asked for, in place of a class.
     pub race: bool,
+    /// The choice that is asked for, in place of a class.
+    pub choice: Option<u64>,
     /// How many attempts are looked at, at the most.
     pub most: usize,
+    /// Whether the answer is JSON.
+    pub json: bool,
     /// The file that holds the text; standard input where there is none.
     pub file: Option<&'a str>,
 }
@@ -54,6 +60,29 @@ fn most_flag<'a>(alloc: Global) -> Arg<'a> {
         .help("How many attempts are looked at, 1 to 1000000 [default: 1000]")
 }
 
+/// The flag for a choice.
+fn choice_flag<'a>(alloc: Global) -> Arg<'a> {
+    Arg::new(alloc, "choice")
+        .long("choice")
+        .value_name("N")
+        .action(ArgAction::Set)
+        .value_parser(value_parser!(u64).range(0..=CHOICE_LIMIT as i64))
+        .help("Ask for the choice with this number, from 0, valid or not")
+}
+
+/// What is said where several things are asked for.
+fn exclusion(matches: &ArgMatches<'_>) -> Option<&'static str> {
+    let unmet = matches.get_str("unmet") == Some("true");
+    let race = matches.get_str("race") == Some("true");
+    let choice = matches.get_str("choice").is_some();
+    match (unmet, race, choice) {
+        (true, true, _) => Some("the argument '--unmet' cannot be used with '--race'"),
+        (true, _, true) => Some("the argument '--unmet' cannot be used with '--choice <N>'"),
+        (_, true, true) => Some("the argument '--race' cannot be used with '--choice <N>'"),
+        _ => None,
+    }
+}
+
 /// The command `jslit-why`.
 fn command<'a>(alloc: Global) -> Result<Command<'a>, AllocError> {
     let bare = Command::new(alloc, "jslit-why")
@@ -74,7 +103,9 @@ fn command<'a>(alloc: Global) -> Result<Command<'a>, AllocError> {
         "Ask for the first data race, in place of an outcome",
     ))?;
     let with_most = with_race.arg(most_flag(alloc))?;
-    let whole = with_most.arg(
+    let with_choice = with_most.arg(choice_flag(alloc))?;
+    let with_json = with_choice.arg(flag(alloc, "json", "Answer with a line of JSON"))?;
+    let whole = with_json.arg(
         Arg::new(alloc, "file")
             .value_name("FILE")
             .action(ArgAction::Set)
@@ -87,10 +118,15 @@ fn command<'a>(alloc: Global) -> Result<Command<'a>, AllocError> {
 pub(crate) fn line_of<'a, S: AsStr>(alloc: Global, words: &'a [S]) -> Result<Line<'a>, Error> {
     let mut command = command(alloc)?;
     let matches = command.try_get_matches_from_mut(words)?;
+    if let Some(text) = exclusion(&matches) {
+        return Err(command.error(ErrorKind::ArgumentConflict, text)?);
+    }
     Ok(Line {
         unmet: matches.get_str("unmet") == Some("true"),
         race: matches.get_str("race") == Some("true"),
+        choice: matches.get_one("choice"),
         most: matches.get_one("most").unwrap_or(MOST),
+        json: matches.get_str("json") == Some("true"),
         file: matches.get_str("file"),
     })
 }

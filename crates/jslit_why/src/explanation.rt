@@ -3,14 +3,16 @@
 ghost use Rattle.std.specs.Prelude.{◌<◌, ◌^◌, ◌-◌};
 ghost use Rattle.jslit.specs.Counted.{failures_of};
 
+use crate::choices::explain_choice;
 use crate::classes::explain_class;
 use crate::command::{Line, line_of};
+use crate::json::{put_class, put_named_choice, put_race};
 use crate::races::explain_race;
 use crate::statements::Statements;
 use clap::Error;
 use clap::error::ErrorKind;
 use jslit::{Counted, Options, RunFault, check};
-use lit_paths::plan;
+use lit_paths::{Plan, plan};
 use lit_read::{TEXT_LIMIT, read};
 use lit_search::Class;
 use std::alloc::Global;
@@ -78,31 +80,82 @@ fn answer_text<T: Threads + Sync, W: Write, E: Write>(
     };
     let mut page = Vec::new(alloc);
     match explain(alloc, &text, line, &mut page) {
-        Ok(()) => write_page(output, errors, &page),
+        Ok(status) => match write_page(output, errors, &page) {
+            0 => status,
+            failed => failed,
+        },
         Err(RunFault::Read(_) | RunFault::Plan(_)) => refuse(rt, alloc, &text, output, errors),
         Err(fault) => say(errors, fault),
     }
 }
 
-/// Puts what is asked for of a text on a page.
+/// The class that is asked for.
+fn class_of(line: &Line<'_>) -> Class {
+    if line.unmet { Class::Unmet } else { Class::Met }
+}
+
+/// Puts which choices there are, where another one is asked for.
+fn put_range(page: &mut Vec<u8>, plan: &Plan<'_>) -> io::Result<()> {
+    writeln!(page, "no such choice: they are 0 to {}", plan.total() - 1)
+}
+
+/// Puts what is asked for of a test, as text.
+fn put_text(
+    alloc: Global,
+    page: &mut Vec<u8>,
+    plan: &Plan<'_>,
+    statements: &Statements,
+    line: &Line<'_>,
+) -> io::Result<()> {
+    match line.choice {
+        Some(choice) if choice < plan.total() => {
+            explain_choice(alloc, page, plan, statements, choice)
+        }
+        Some(_) => put_range(page, plan),
+        None if line.race => explain_race(page, plan, statements),
+        None => explain_class(alloc, page, plan, statements, class_of(line), line.most),
+    }
+}
+
+/// Puts what is asked for of a test, as JSON.
+fn put_json(
+    alloc: Global,
+    page: &mut Vec<u8>,
+    plan: &Plan<'_>,
+    statements: &Statements,
+    line: &Line<'_>,
+) -> io::Result<()> {
+    match line.choice {
+        Some(choice) if choice < plan.total() => {
+            put_named_choice(alloc, page, plan, statements, choice)
+        }
+        Some(_) => put_range(page, plan),
+        None if line.race => put_race(alloc, page, plan, statements),
+        None => put_class(alloc, page, plan, statements, class_of(line), line.most),
+    }
+}
+
+/// Puts what is asked for of a text on a page. Gives the status, which is 1 where there is no such choice.
 fn explain(
     alloc: Global,
     text: &[u8],
     line: &Line<'_>,
     page: &mut Vec<u8>,
-) -> Result<(), RunFault> {
+) -> Result<u8, RunFault> {
     let test = read(alloc, text)?;
     let plan = plan(alloc, &test)?;
     let statements = Statements::of(alloc, text)?;
-    let put = if line.race {
-        explain_race(page, &plan, &statements)
+    let is_there = line.choice.is_none_or(|choice| choice < plan.total());
+    let put = if !is_there {
+        put_range(page, &plan)
+    } else if line.json {
+        put_json(alloc, page, &plan, &statements, line)
     } else {
-        let class = if line.unmet { Class::Unmet } else { Class::Met };
-        explain_class(alloc, page, &plan, &statements, class, line.most)
+        put_text(alloc, page, &plan, &statements, line)
     };
     // A page is written by growth alone, so what fails is want of memory.
     match put {
-        Ok(()) => Ok(()),
+        Ok(()) => Ok(u8::from(!is_there)),
         Err(_) => Err(RunFault::OutOfMemory),
     }
 }

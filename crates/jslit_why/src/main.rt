@@ -3,11 +3,15 @@
 #![tactic(auto)]
 
 mod attempts;
+mod choices;
 mod classes;
+mod clauses;
 mod command;
 mod comparisons;
 mod cycles;
+mod execution;
 mod explanation;
+mod json;
 mod races;
 mod reasons;
 mod scene;

@@ -55,12 +55,17 @@ impl<'p> Scene<'p> {
         }
     }
 
+    /// The line of an event's statement; none of an event that makes the block.
+    pub(crate) fn line_of(&self, event: u8) -> Option<usize> {
+        self.lines.get(usize::from(event)).copied().flatten()
+    }
+
     /// Puts the name of an event, with the line of its statement.
     pub(crate) fn put_placed(&self, page: &mut Vec<u8>, event: u8) -> io::Result<()> {
         self.put_event(page, event)?;
-        match self.lines.get(usize::from(event)) {
-            Some(Some(line)) => write!(page, " (line {line})"),
-            _ => Ok(()),
+        match self.line_of(event) {
+            Some(line) => write!(page, " (line {line})"),
+            None => Ok(()),
         }
     }
 

@@ -26,6 +26,6 @@ pub use derivations::lines::{Line, Reason};
 pub use enumeration::attempts;
 pub use parts::part_of;
 pub use race_example::{RaceExample, first_race};
-pub use racing::{RacingPair, racing_pair};
+pub use racing::{RacingPair, is_data_race, racing_pair};
 pub use refusals::causes::Refusal;
 pub use refusals::refusal;

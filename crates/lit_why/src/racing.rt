@@ -6,7 +6,7 @@ ghost use Rattle.lit_rel.specs.Part.{part_events};
 ghost use Rattle.lit_rel.specs.Racing.{WritesWith};
 ghost use Rattle.lit_rel.specs.Rows.{Holds, rows_len};
 ghost use Rattle.lit_why.specs.Internal.Racing.{IsLeastAfter};
-ghost use Rattle.lit_why.specs.RacingPair.{IsLeastRacing, IsLeastRacingPair};
+ghost use Rattle.lit_why.specs.RacingPair.{IsLeastRacing, IsLeastRacingPair, RacesIn};
 
 use lit_paths::{Event, event_at};
 use lit_rel::{Part, Rows, are_apart};
@@ -83,4 +83,17 @@ pub fn racing_pair(part: &Part<'_>) -> Option<RacingPair>
 {
     let (before, reads) = (part.happens_before(), part.reads_from());
     least_racing(part.combination().events(), &before, &reads)
+}
+
+/// Whether two events of a part, by number, are in a data race by its happens-before and reads-from.
+pub fn is_data_race(part: &Part<'_>, first: u8, second: u8) -> bool
+    ensures { IsTrue result ↔ RacesIn part.now first second }
+{
+    let events = part.combination().events();
+    let (e, d) = (usize::from(first), usize::from(second));
+    if e >= events.len() || d >= events.len() {
+        return false;
+    }
+    let (before, reads) = (part.happens_before(), part.reads_from());
+    are_racing(events, &before, &reads, e, d)
 }

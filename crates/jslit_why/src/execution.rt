@@ -1,0 +1,342 @@
+//! An execution as JSON: its events with their lines, sources and values, its relations, what refuses it, and its data races.
+
+use crate::clauses::clause_of;
+use crate::scene::Scene;
+use lit_paths::{Event, Kind, Order3};
+use lit_rel::Rows;
+use lit_why::{Line, Reason, Refusal, StepKind, chain, derivation, is_data_race};
+use std::alloc::Global;
+use std::io;
+use std::io::Write;
+
+/// Puts what stands before a member of a list: nothing before the first.
+fn put_comma(page: &mut Vec<u8>, first: &mut bool) -> io::Result<()> {
+    if *first {
+        *first = false;
+        return Ok(());
+    }
+    page.write_all(b",")
+}
+
+/// Puts the name of an event as a string.
+fn put_name(page: &mut Vec<u8>, scene: &Scene<'_>, event: u8) -> io::Result<()> {
+    page.write_all(b"\"")?;
+    scene.put_event(page, event)?;
+    page.write_all(b"\"")
+}
+
+/// Puts a list of the names of two events.
+fn put_pair(page: &mut Vec<u8>, scene: &Scene<'_>, first: u8, second: u8) -> io::Result<()> {
+    page.write_all(b"[")?;
+    put_name(page, scene, first)?;
+    page.write_all(b",")?;
+    put_name(page, scene, second)?;
+    page.write_all(b"]")
+}
+
+/// Puts the pairs of a relation.
+fn put_rows(page: &mut Vec<u8>, scene: &Scene<'_>, rows: &Rows) -> io::Result<()> {
+    let mut first = true;
+    page.write_all(b"[")?;
+    for a in 0..rows.len() {
+        for d in 0..rows.len() {
+            if rows.holds(a, d) {
+                put_comma(page, &mut first)?;
+                put_pair(page, scene, a as u8, d as u8)?;
+            }
+        }
+    }
+    page.write_all(b"]")
+}
+
+/// The kind of an event.
+fn kind_of(event: &Event) -> &'static str {
+    match event.kind {
+        Kind::Read => "read",
+        Kind::Write => "write",
+        Kind::Modify => "read-modify-write",
+    }
+}
+
+/// The order of an event, as the standard names it.
+fn order_of(event: &Event) -> &'static str {
+    match event.order {
+        Order3::SeqCst => "seq-cst",
+        Order3::Unordered => "unordered",
+        Order3::Init => "init",
+    }
+}
+
+/// A kind of step of happens-before.
+fn step_of(kind: StepKind) -> &'static str {
+    match kind {
+        StepKind::AgentOrder => "agent-order",
+        StepKind::SynchronizesWith => "synchronizes-with",
+        StepKind::MadeBefore => "made-before",
+    }
+}
+
+/// Puts a number, or null where there is none.
+fn put_number(page: &mut Vec<u8>, number: Option<usize>) -> io::Result<()> {
+    match number {
+        Some(number) => write!(page, "{number}"),
+        None => page.write_all(b"null"),
+    }
+}
+
+/// Puts an event, by its number.
+fn put_event(page: &mut Vec<u8>, scene: &Scene<'_>, number: u8, event: &Event) -> io::Result<()> {
+    page.write_all(b"{\"name\":")?;
+    put_name(page, scene, number)?;
+    page.write_all(b",\"line\":")?;
+    put_number(page, scene.line_of(number))?;
+    let (kind, order) = (kind_of(event), order_of(event));
+    write!(
+        page,
+        ",\"kind\":\"{kind}\",\"order\":\"{order}\",\"no_tear\":{}",
+        event.no_tear
+    )?;
+    write!(page, ",\"first\":{},\"size\":{}", event.first, event.size)?;
+    if event.kind.does_read() {
+        write!(page, ",\"reads\":{}", scene.part.value(number))?;
+    }
+    if event.kind.does_write() {
+        write!(page, ",\"writes\":{}", u32::from_le_bytes(event.payload))?;
+    }
+    page.write_all(b"}")
+}
+
+/// Puts all events.
+fn put_events(page: &mut Vec<u8>, scene: &Scene<'_>) -> io::Result<()> {
+    let mut first = true;
+    page.write_all(b"\"events\":[")?;
+    for (number, event) in scene.part.combination().events().iter().enumerate() {
+        put_comma(page, &mut first)?;
+        put_event(page, scene, number as u8, event)?;
+    }
+    page.write_all(b"]")
+}
+
+/// Puts the source of each byte that is read.
+fn put_sources(page: &mut Vec<u8>, scene: &Scene<'_>) -> io::Result<()> {
+    let mut first = true;
+    page.write_all(b",\"from\":[")?;
+    for (byte, source) in scene
+        .part
+        .combination()
+        .byte_reads()
+        .iter()
+        .zip(scene.sources.iter())
+    {
+        put_comma(page, &mut first)?;
+        page.write_all(b"{\"read\":")?;
+        put_name(page, scene, byte.read)?;
+        write!(page, ",\"byte\":{},\"source\":", byte.byte)?;
+        put_name(page, scene, *source)?;
+        page.write_all(b"}")?;
+    }
+    page.write_all(b"]")
+}
+
+/// Puts what may not stand between each source and its read.
+fn put_forbidden(page: &mut Vec<u8>, scene: &Scene<'_>) -> io::Result<()> {
+    let between = scene.part.between();
+    let mut first = true;
+    page.write_all(b",\"forbidden\":[")?;
+    for pair in between.pairs() {
+        for other in 0..between.len() {
+            if pair.others.contains(other) {
+                put_comma(page, &mut first)?;
+                page.write_all(b"{\"source\":")?;
+                put_name(page, scene, pair.source)?;
+                page.write_all(b",\"read\":")?;
+                put_name(page, scene, pair.read)?;
+                page.write_all(b",\"other\":")?;
+                put_name(page, scene, other as u8)?;
+                page.write_all(b"}")?;
+            }
+        }
+    }
+    page.write_all(b"]")
+}
+
+/// Puts the pairs of events that are in a data race, the lesser number first.
+fn put_races(page: &mut Vec<u8>, scene: &Scene<'_>) -> io::Result<()> {
+    let count = scene.part.combination().events().len();
+    let mut first = true;
+    page.write_all(b",\"races\":[")?;
+    for a in 0..count {
+        for d in a..count {
+            if is_data_race(&scene.part, a as u8, d as u8) {
+                put_comma(page, &mut first)?;
+                put_pair(page, scene, a as u8, d as u8)?;
+            }
+        }
+    }
+    page.write_all(b"]")
+}
+
+/// Puts a shortest chain of happens-before from one event to another; an empty list where there is none.
+fn put_chain(page: &mut Vec<u8>, scene: &Scene<'_>, from: u8, to: u8) -> io::Result<()> {
+    let mut first = true;
+    page.write_all(b"[")?;
+    if let Some(chain) = chain(&scene.part, from, to) {
+        let mut from = from;
+        for link in chain.links.as_slice() {
+            put_comma(page, &mut first)?;
+            page.write_all(b"{\"before\":")?;
+            put_name(page, scene, from)?;
+            page.write_all(b",\"after\":")?;
+            put_name(page, scene, link.to)?;
+            write!(page, ",\"step\":\"{}\"}}", step_of(link.kind))?;
+            from = link.to;
+        }
+    }
+    page.write_all(b"]")
+}
+
+/// Puts the members of an object that say why a byte is not coherent.
+fn put_incoherent(
+    page: &mut Vec<u8>,
+    scene: &Scene<'_>,
+    read: u8,
+    source: u8,
+    hidden_by: Option<u8>,
+) -> io::Result<()> {
+    page.write_all(b",\"source\":")?;
+    put_name(page, scene, source)?;
+    let Some(other) = hidden_by else {
+        page.write_all(b",\"hidden_by\":null,\"chains\":[")?;
+        put_chain(page, scene, read, source)?;
+        return page.write_all(b"]");
+    };
+    page.write_all(b",\"hidden_by\":")?;
+    put_name(page, scene, other)?;
+    page.write_all(b",\"chains\":[")?;
+    put_chain(page, scene, source, other)?;
+    page.write_all(b",")?;
+    put_chain(page, scene, other, read)?;
+    page.write_all(b"]")
+}
+
+/// Puts a line of a derivation.
+fn put_line(page: &mut Vec<u8>, scene: &Scene<'_>, line: &Line) -> io::Result<()> {
+    page.write_all(b"{\"before\":")?;
+    put_name(page, scene, line.before)?;
+    page.write_all(b",\"after\":")?;
+    put_name(page, scene, line.after)?;
+    match line.reason {
+        Reason::HappensBefore => {
+            page.write_all(b",\"reason\":\"happens-before\",\"chain\":")?;
+            put_chain(page, scene, line.before, line.after)?;
+        }
+        Reason::Joined { first, second } => write!(
+            page,
+            ",\"reason\":\"joined\",\"lines\":[{first},{second}]"
+        )?,
+        Reason::BeforeSource { read, earlier } => {
+            page.write_all(b",\"reason\":\"before-source\",\"read\":")?;
+            put_name(page, scene, read)?;
+            write!(page, ",\"lines\":[{earlier}]")?;
+        }
+        Reason::AfterRead { source, earlier } => {
+            page.write_all(b",\"reason\":\"after-read\",\"source\":")?;
+            put_name(page, scene, source)?;
+            write!(page, ",\"lines\":[{earlier}]")?;
+        }
+    }
+    page.write_all(b"}")
+}
+
+/// Puts a derivation, or null where there is none.
+fn put_derivation(alloc: Global, page: &mut Vec<u8>, scene: &Scene<'_>) -> io::Result<()> {
+    page.write_all(b",\"derivation\":")?;
+    let Some(lines) = derivation(alloc, &scene.part)? else {
+        return page.write_all(b"null");
+    };
+    let mut first = true;
+    page.write_all(b"[")?;
+    for line in lines.iter() {
+        put_comma(page, &mut first)?;
+        put_line(page, scene, line)?;
+    }
+    page.write_all(b"]")
+}
+
+/// Puts what refuses a choice, or null.
+fn put_refusal(alloc: Global, page: &mut Vec<u8>, scene: &Scene<'_>) -> io::Result<()> {
+    page.write_all(b",\"refusal\":")?;
+    let Some(refusal) = scene.refusal else {
+        return page.write_all(b"null");
+    };
+    write!(page, "{{\"clause\":\"{}\"", clause_of(refusal).name)?;
+    match refusal {
+        Refusal::FalseTest { agent, place } => write!(page, ",\"agent\":{agent},\"test\":{place}")?,
+        Refusal::BeforeItself { event } => {
+            page.write_all(b",\"event\":")?;
+            put_name(page, scene, event)?;
+            page.write_all(b",\"chains\":[")?;
+            put_chain(page, scene, event, event)?;
+            page.write_all(b"]")?;
+        }
+        Refusal::Incoherent {
+            read,
+            byte,
+            source,
+            hidden_by,
+        } => {
+            page.write_all(b",\"read\":")?;
+            put_name(page, scene, read)?;
+            write!(page, ",\"byte\":{byte}")?;
+            put_incoherent(page, scene, read, source, hidden_by)?;
+        }
+        Refusal::Torn {
+            read,
+            source,
+            other,
+        } => {
+            page.write_all(b",\"read\":")?;
+            put_name(page, scene, read)?;
+            page.write_all(b",\"sources\":")?;
+            put_pair(page, scene, source, other)?;
+        }
+        Refusal::NoOrder => put_derivation(alloc, page, scene)?,
+    }
+    page.write_all(b"}")
+}
+
+/// Puts a memory-order, or null where there is none.
+fn put_order(page: &mut Vec<u8>, scene: &Scene<'_>, order: Option<&[u8]>) -> io::Result<()> {
+    page.write_all(b",\"order\":")?;
+    let Some(order) = order else {
+        return page.write_all(b"null");
+    };
+    let mut first = true;
+    page.write_all(b"[")?;
+    for event in order {
+        put_comma(page, &mut first)?;
+        put_name(page, scene, *event)?;
+    }
+    page.write_all(b"]")
+}
+
+/// Puts a choice as an object, with a memory-order where it has one.
+pub(crate) fn put_execution(
+    alloc: Global,
+    page: &mut Vec<u8>,
+    scene: &Scene<'_>,
+    order: Option<&[u8]>,
+) -> io::Result<()> {
+    page.write_all(b"{")?;
+    put_events(page, scene)?;
+    put_sources(page, scene)?;
+    page.write_all(b",\"synchronizes_with\":")?;
+    put_rows(page, scene, &scene.part.synchronizes())?;
+    page.write_all(b",\"happens_before\":")?;
+    put_rows(page, scene, &scene.part.happens_before())?;
+    put_forbidden(page, scene)?;
+    put_order(page, scene, order)?;
+    put_refusal(alloc, page, scene)?;
+    put_races(page, scene)?;
+    page.write_all(b"}")
+}

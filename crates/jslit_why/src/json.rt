@@ -1,0 +1,164 @@
+//! What is answered, as one line of JSON.
+
+ghost use Rattle.std.specs.Prelude.{◌<◌, length};
+ghost use Rattle.lit_paths.specs.Choice.{choices_of};
+
+use crate::attempts::Tally;
+use crate::classes::verdict_without;
+use crate::clauses::clause_at;
+use crate::execution::put_execution;
+use crate::scene::Scene;
+use crate::statements::Statements;
+use jslit::VERSION;
+use lit_paths::Plan;
+use lit_search::{Class, Found, first_in, search_range};
+use lit_why::{attempts, first_race};
+use std::alloc::Global;
+use std::io;
+use std::io::Write;
+
+/// Puts the members that each answer begins with: the version and the test's name.
+fn put_head(page: &mut Vec<u8>, plan: &Plan<'_>) -> io::Result<()> {
+    let version = VERSION.lines().next().unwrap_or("");
+    write!(
+        page,
+        "{{\"jslit\":\"{version}\",\"test\":\"{}\"",
+        plan.test().name()
+    )
+}
+
+/// What the valid executions of a choice give.
+fn found_of(alloc: Global, plan: &Plan<'_>, choice: u64) -> io::Result<Found>
+    requires { choice < length (choices_of plan.now) }
+{
+    // That numbers of choices are small is known of how many there are.
+    let _total = plan.total();
+    match search_range(alloc, &*plan, choice, choice + 1) {
+        Ok(found) => Ok(found),
+        Err(_) => Err(io::Error::from(io::ErrorKind::OutOfMemory)),
+    }
+}
+
+/// Puts a choice as the member `execution`, with its least memory-order where it has one.
+fn put_choice(
+    alloc: Global,
+    page: &mut Vec<u8>,
+    plan: &Plan<'_>,
+    statements: &Statements,
+    choice: u64,
+) -> io::Result<()>
+    requires { choice < length (choices_of plan.now) }
+{
+    let found = found_of(alloc, plan, choice)?;
+    let scene = Scene::new(&*plan, statements, choice);
+    write!(page, ",\"choice\":{choice},\"execution\":")?;
+    if found.len() == 0 {
+        put_execution(alloc, page, &scene, None)
+    } else {
+        put_execution(alloc, page, &scene, Some(found.example(0).order.as_slice()))
+    }
+}
+
+/// Puts the clauses that refuse attempts, each with the first that it refuses.
+fn put_clauses(
+    alloc: Global,
+    page: &mut Vec<u8>,
+    plan: &Plan<'_>,
+    statements: &Statements,
+    tally: &Tally,
+) -> io::Result<()> {
+    page.write_all(b",\"clauses\":[")?;
+    let mut first = true;
+    for (place, row) in tally.rows().iter().enumerate() {
+        let Some(choice) = row.first else {
+            continue;
+        };
+        if choice < plan.total() {
+            if !first {
+                page.write_all(b",")?;
+            }
+            first = false;
+            let clause = clause_at(place);
+            write!(
+                page,
+                "{{\"clause\":\"{}\",\"section\":\"{}\",\"attempts\":{}",
+                clause.name, clause.section, row.count
+            )?;
+            put_choice(alloc, page, plan, statements, choice)?;
+            page.write_all(b"}")?;
+        }
+    }
+    page.write_all(b"]")
+}
+
+/// Puts how many attempts at a class there are, and what refuses them.
+fn put_attempts(
+    alloc: Global,
+    page: &mut Vec<u8>,
+    plan: &Plan<'_>,
+    statements: &Statements,
+    class: Class,
+    most: usize,
+) -> io::Result<()> {
+    let attempts = attempts(alloc, plan, class, most.saturating_add(1))?;
+    let tally = Tally::count_all(plan, statements, &attempts, most);
+    let (verdict, count, whole) = (
+        verdict_without(class),
+        attempts.len().min(most),
+        attempts.len() <= most,
+    );
+    write!(
+        page,
+        ",\"verdict\":\"{verdict}\",\"attempts\":{count},\"whole\":{whole}"
+    )?;
+    put_clauses(alloc, page, plan, statements, &tally)
+}
+
+/// Puts an example of a class, or why there is none.
+pub(crate) fn put_class(
+    alloc: Global,
+    page: &mut Vec<u8>,
+    plan: &Plan<'_>,
+    statements: &Statements,
+    class: Class,
+    most: usize,
+) -> io::Result<()> {
+    put_head(page, plan)?;
+    write!(page, ",\"condition\":{}", class == Class::Met)?;
+    match first_in(plan, class, 0, plan.total()) {
+        Some(choice) => put_choice(alloc, page, plan, statements, choice)?,
+        None => put_attempts(alloc, page, plan, statements, class, most)?,
+    }
+    page.write_all(b"}\n")
+}
+
+/// Puts the first data race, or that there is none.
+pub(crate) fn put_race(
+    alloc: Global,
+    page: &mut Vec<u8>,
+    plan: &Plan<'_>,
+    statements: &Statements,
+) -> io::Result<()> {
+    put_head(page, plan)?;
+    let Some(example) = first_race(plan) else {
+        return page.write_all(b",\"data_race\":false}\n");
+    };
+    page.write_all(b",\"data_race\":true")?;
+    put_choice(alloc, page, plan, statements, example.choice)?;
+    page.write_all(b"}\n")
+}
+
+/// Puts a choice, by its number.
+pub(crate) fn put_named_choice(
+    alloc: Global,
+    page: &mut Vec<u8>,
+    plan: &Plan<'_>,
+    statements: &Statements,
+    choice: u64,
+) -> io::Result<()>
+    requires { choice < length (choices_of plan.now) }
+{
+    put_head(page, plan)?;
+    put_choice(alloc, page, plan, statements, choice)?;
+    page.write_all(b"}\n")
+}
