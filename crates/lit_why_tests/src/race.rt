@@ -3,7 +3,7 @@
 use lit_paths::plan;
 use lit_read::read;
 use lit_texts::{MESSAGE_PASSING_PLAIN, PUBLICATION, STORE_BUFFERING};
-use lit_why::first_race;
+use lit_why::{first_race, is_data_race, part_of};
 use std::alloc::AllocGlobal;
 use std::process::Abort;
 use std::test::Fail;
@@ -46,4 +46,20 @@ fn a_plain_load_races_with_the_store_that_it_reads(rt: HostRuntime) -> Result<()
 fn synchronized_accesses_have_no_race(rt: HostRuntime) -> Result<(), Fail> {
     assert_race(&rt, STORE_BUFFERING, None)?;
     assert_race(&rt, PUBLICATION, None)
+}
+
+/// In the same choice that load and that store are in a data race, whichever is named first, and no other two events.
+#[test]
+fn only_the_racing_pair_races(rt: HostRuntime) -> Result<(), Fail> {
+    let test = read(rt.alloc(), MESSAGE_PASSING_PLAIN.as_bytes())?;
+    let plan = plan(rt.alloc(), &test)?;
+    assert!(&rt; 1 < plan.total());
+    let part = part_of(&plan, 1);
+    for first in 0..6 {
+        for second in 0..6 {
+            let wanted = first == 2 && second == 5 || first == 5 && second == 2;
+            assert_eq!(&rt; is_data_race(&part, first, second), wanted);
+        }
+    }
+    Ok(())
 }
