@@ -1,8 +1,5 @@
 //! A table of outcomes that is a list, and a heartbeat that counts.
 
-ghost use Rattle.std.specs.Prelude.{map};
-ghost use Rattle.lit_solve_tests.specs.Listed.{entry_of};
-
 use lit_order::Order;
 use lit_solve::{Heartbeat, OutcomeTable};
 use std::alloc::{AllocError, Global};
@@ -39,7 +36,10 @@ impl Listed {
 }
 
 impl OutcomeTable for Listed {
-    ghost entries = { λ table. map entry_of table.rows.items };
+    ghost use Rattle.std.specs.Prelude.{map};
+
+    ghost entries = { λ table. map (λ row. record { outcome = row.outcome.items; choice = row.choice; order = row.order.items })
+        table.rows.items };
 
     fn has(&self, outcome: &[u32]) -> bool {
         for row in &self.rows {

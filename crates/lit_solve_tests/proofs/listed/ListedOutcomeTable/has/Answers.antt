@@ -1,13 +1,17 @@
-use Rattle.std.proofs.Common.{◌≡◌, ℕ, ◌+◌, ◌<◌, ◌≤◌, Bool, true, false, nat_eq, List, Some, length, refl, sym, ap, ◌∙◌, subst, inl, inr, arith, slice_index_or}
+use Rattle.std.proofs.Common.{◌≡◌, ℕ, ◌<◌, true, false, nat_eq, List, Some, length, refl, sym, ap, ◌∙◌, subst, inl, inr, arith, slice_index_or}
 use Rattle.std.proofs.lemmas.Bool.{cases_lt, false≢true}
 use Rattle.std.proofs.lemmas.Cmp.{nat_list_eq_equiv}
 use Rattle.std.proofs.lemmas.Option.{same_Some, slice_get-get_or, slice_get_within}
 use Rattle.std.specs.Cmp.Lexicographic.{pointwise, same_text}
 use Rattle.std.specs.List.{slice_get}
 use Rattle.lit_paths.proofs.Rising.{slice_get-map-found, slice_get-map-known}
+use Rattle.lit_valid.specs.Entry.{Entry}
 use Rattle.lit_solve_tests.specs.declared.listed.Row.{Row}
-use Rattle.lit_solve_tests.specs.Listed.{entry_of}
 use Rattle.lit_solve_tests.proofs.listed.ListedOutcomeTable.has.Goals as goal
+
+-- the entry of a row
+abbrev entry_of : Row → Entry
+entry_of row = record { outcome = row.outcome.items; choice = row.choice; order = row.order.items }
 
 -- the row that is looked at stands at its place
 here : (rows : List Row) (i : ℕ) (row : Row) → i < length rows → row ≡ slice_index_or rows i row → slice_get rows i ≡ Some row
