@@ -1,7 +1,7 @@
 -- Attempts at an outcome: a combination of paths with the values that their tests allow its reads, where the outcome is in a
 -- class (this project's own). Whether some execution with these values is valid plays no part.
-use Rattle.std.specs.Prelude.{◌≡◌, ◌⊎◌, ℕ, ◌+◌, ◌<◌, ◌≤◌, ◌==◌, ◌&&◌, Bool, IsTrue, true, false, List, [], ◌∷◌, Some, filter, length}
-use Rattle.std.specs.Prelude.{slice_get}
+use Rattle.std.specs.Prelude.{◌≡◌, ◌⊎◌, ℕ, ◌+◌, ◌<◌, ◌≤◌, ◌==◌, ◌&&◌, Bool, IsTrue, true, false}
+use Rattle.std.specs.Prelude.{List, [], ◌∷◌, Some, filter, length, slice_get}
 use Rattle.lit_read.specs.Syntax.{Litmus}
 use Rattle.lit_paths.specs.declared.event.Event.{Event}
 use Rattle.lit_paths.specs.ByteReads.{byte_reads}
