@@ -5,7 +5,7 @@ use lit_texts::{
     AMONG_IDLE_EVENTS, BOTH_EXCHANGE_FOR_ONE, EQUAL_STORES, EXCHANGES, FAILED_EXCHANGE,
     INDEPENDENT_READS, LOAD_BUFFERING, MESSAGE_PASSING, MESSAGE_PASSING_PLAIN, OWN_STORE,
     READ_READ_COHERENCE_PLAIN, STORE_BUFFERING, STORE_BUFFERING_MIXED, STORE_BUFFERING_PLAIN,
-    SWAPS, TYPED_READ, UNTOUCHED_BYTE, VIEWED_READ,
+    SWAPS, TWELVE_BRANCHES, TYPED_READ, UNTOUCHED_BYTE, VIEWED_READ,
 };
 use std::alloc::{AllocError, Global};
 use std::process::Abort;
@@ -46,36 +46,7 @@ r0 = U32[0]
 r0 = U32[0]
 check B.r0 == 0
 ",
-    "test paths
-bytes 1
-agent A
-r0 = U8[0]
-if r0 == 0 {
-}
-if r0 == 0 {
-}
-if r0 == 0 {
-}
-if r0 == 0 {
-}
-if r0 == 0 {
-}
-if r0 == 0 {
-}
-if r0 == 0 {
-}
-if r0 == 0 {
-}
-if r0 == 0 {
-}
-if r0 == 0 {
-}
-if r0 == 0 {
-}
-if r0 == 0 {
-}
-check A.r0 == 0
-",
+    TWELVE_BRANCHES,
 ];
 
 /// A text of each form, with blanks, comments and empty parts that can be left out.
