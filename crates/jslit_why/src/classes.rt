@@ -5,7 +5,7 @@ ghost use Rattle.lit_paths.specs.Choice.{choices_of};
 
 use crate::attempts::Tally;
 use crate::clauses::clause_at;
-use crate::comparisons::put_impossible;
+use crate::cores::put_core;
 use crate::reasons::put_reason;
 use crate::scene::Scene;
 use crate::statements::Statements;
@@ -99,7 +99,9 @@ fn put_attempts(
                 page,
                 "{verdict}: no attempt, since no values that the reads can take come to it"
             )?;
-            return put_impossible(page, plan, plan.test().check(), class == Class::Met);
+            page.write_all(b"  no path can make ")?;
+            put_core(alloc, page, plan, class == Class::Met)?;
+            return page.write_all(b" true\n");
         }
         1 => writeln!(page, "{verdict}: 1 attempt")?,
         count if count > most => writeln!(

@@ -1,5 +1,6 @@
 //! The words of the command line.
 
+use crate::selection::are_words;
 use clap::error::ErrorKind;
 use clap::{Arg, ArgAction, ArgMatches, Command, Error, value_parser};
 use jslit::VERSION;
@@ -16,6 +17,8 @@ pub(crate) struct Line<'a> {
     pub race: bool,
     /// The choice that is asked for, in place of a class.
     pub choice: Option<u64>,
+    /// The sources, and final values of registers, of the choice that is asked for, in place of a class.
+    pub from: Option<&'a str>,
     /// How many attempts are looked at, at the most.
     pub most: usize,
     /// Whether the answer is JSON.
@@ -70,15 +73,30 @@ fn choice_flag<'a>(alloc: Global) -> Arg<'a> {
         .help("Ask for the choice with this number, from 0, valid or not")
 }
 
+/// The flag for sources.
+fn from_flag<'a>(alloc: Global) -> Arg<'a> {
+    Arg::new(alloc, "from")
+        .long("from")
+        .value_name("WORDS")
+        .action(ArgAction::Set)
+        .help("Ask for the choice with these sources, as in 'A.1=init[0] B.0=A.0,A.0 A.r0=0'")
+}
+
 /// What is said where several things are asked for.
 fn exclusion(matches: &ArgMatches<'_>) -> Option<&'static str> {
     let unmet = matches.get_str("unmet") == Some("true");
     let race = matches.get_str("race") == Some("true");
     let choice = matches.get_str("choice").is_some();
-    match (unmet, race, choice) {
-        (true, true, _) => Some("the argument '--unmet' cannot be used with '--race'"),
-        (true, _, true) => Some("the argument '--unmet' cannot be used with '--choice <N>'"),
-        (_, true, true) => Some("the argument '--race' cannot be used with '--choice <N>'"),
+    let from = matches.get_str("from").is_some();
+    match (unmet, race, choice, from) {
+        (true, true, _, _) => Some("the argument '--unmet' cannot be used with '--race'"),
+        (true, _, true, _) => Some("the argument '--unmet' cannot be used with '--choice <N>'"),
+        (true, _, _, true) => Some("the argument '--unmet' cannot be used with '--from <WORDS>'"),
+        (_, true, true, _) => Some("the argument '--race' cannot be used with '--choice <N>'"),
+        (_, true, _, true) => Some("the argument '--race' cannot be used with '--from <WORDS>'"),
+        (_, _, true, true) => Some(
+            "the argument '--choice <N>' cannot be used with '--from <WORDS>'",
+        ),
         _ => None,
     }
 }
@@ -104,7 +122,8 @@ fn command<'a>(alloc: Global) -> Result<Command<'a>, AllocError> {
     ))?;
     let with_most = with_race.arg(most_flag(alloc))?;
     let with_choice = with_most.arg(choice_flag(alloc))?;
-    let with_json = with_choice.arg(flag(alloc, "json", "Answer with a line of JSON"))?;
+    let with_from = with_choice.arg(from_flag(alloc))?;
+    let with_json = with_from.arg(flag(alloc, "json", "Answer with a line of JSON"))?;
     let whole = with_json.arg(
         Arg::new(alloc, "file")
             .value_name("FILE")
@@ -121,10 +140,17 @@ pub(crate) fn line_of<'a, S: AsStr>(alloc: Global, words: &'a [S]) -> Result<Lin
     if let Some(text) = exclusion(&matches) {
         return Err(command.error(ErrorKind::ArgumentConflict, text)?);
     }
+    let from = matches.get_str("from");
+    if !from.is_none_or(are_words) {
+        let text =
+            "the argument '--from <WORDS>' has words of the form EVENT=SOURCE[,SOURCE..] or AGENT.rN=VALUE";
+        return Err(command.error(ErrorKind::ValueValidation, text)?);
+    }
     Ok(Line {
         unmet: matches.get_str("unmet") == Some("true"),
         race: matches.get_str("race") == Some("true"),
         choice: matches.get_one("choice"),
+        from,
         most: matches.get_one("most").unwrap_or(MOST),
         json: matches.get_str("json") == Some("true"),
         file: matches.get_str("file"),

@@ -6,8 +6,9 @@ ghost use Rattle.jslit.specs.Counted.{failures_of};
 use crate::choices::explain_choice;
 use crate::classes::explain_class;
 use crate::command::{Line, line_of};
-use crate::json::{put_class, put_named_choice, put_race};
+use crate::json::{put_class, put_named_choice, put_no_choice, put_race};
 use crate::races::explain_race;
+use crate::selection::select;
 use crate::statements::Statements;
 use clap::Error;
 use clap::error::ErrorKind;
@@ -89,53 +90,107 @@ fn answer_text<T: Threads + Sync, W: Write, E: Write>(
     }
 }
 
-/// The class that is asked for.
-fn class_of(line: &Line<'_>) -> Class {
-    if line.unmet { Class::Unmet } else { Class::Met }
+/// What is asked of a test.
+#[derive(Clone, Copy, Debug)]
+enum Question {
+    /// An outcome in a class.
+    InClass(Class),
+    /// The first data race.
+    Race,
+    /// A choice, by its number.
+    OfChoice(u64),
+    /// A choice with a number that none has.
+    OfNoNumber,
+    /// A choice with sources that none has.
+    OfNoSources,
 }
 
-/// Puts which choices there are, where another one is asked for.
-fn put_range(page: &mut Vec<u8>, plan: &Plan<'_>) -> io::Result<()> {
-    writeln!(page, "no such choice: they are 0 to {}", plan.total() - 1)
+/// What the words ask of a test.
+fn question_of(
+    alloc: Global,
+    plan: &Plan<'_>,
+    statements: &Statements,
+    line: &Line<'_>,
+) -> io::Result<Question> {
+    if let Some(words) = line.from {
+        return Ok(match select(alloc, plan, statements, words)? {
+            Some(choice) => Question::OfChoice(choice),
+            None => Question::OfNoSources,
+        });
+    }
+    Ok(match line.choice {
+        Some(choice) if choice < plan.total() => Question::OfChoice(choice),
+        Some(_) => Question::OfNoNumber,
+        None if line.race => Question::Race,
+        None if line.unmet => Question::InClass(Class::Unmet),
+        None => Question::InClass(Class::Met),
+    })
 }
 
-/// Puts what is asked for of a test, as text.
+/// Puts the answer to a question as text.
 fn put_text(
     alloc: Global,
     page: &mut Vec<u8>,
     plan: &Plan<'_>,
     statements: &Statements,
-    line: &Line<'_>,
+    question: Question,
+    most: usize,
 ) -> io::Result<()> {
-    match line.choice {
-        Some(choice) if choice < plan.total() => {
+    match question {
+        Question::InClass(class) => explain_class(alloc, page, plan, statements, class, most),
+        Question::Race => explain_race(page, plan, statements),
+        Question::OfChoice(choice) if choice < plan.total() => {
             explain_choice(alloc, page, plan, statements, choice)
         }
-        Some(_) => put_range(page, plan),
-        None if line.race => explain_race(page, plan, statements),
-        None => explain_class(alloc, page, plan, statements, class_of(line), line.most),
+        Question::OfChoice(_) | Question::OfNoNumber => {
+            writeln!(page, "no such choice: they are 0 to {}", plan.total() - 1)
+        }
+        Question::OfNoSources => page.write_all(b"no choice has these sources\n"),
     }
 }
 
-/// Puts what is asked for of a test, as JSON.
+/// Puts the answer to a question as JSON.
 fn put_json(
     alloc: Global,
     page: &mut Vec<u8>,
     plan: &Plan<'_>,
     statements: &Statements,
-    line: &Line<'_>,
+    question: Question,
+    most: usize,
 ) -> io::Result<()> {
-    match line.choice {
-        Some(choice) if choice < plan.total() => {
+    match question {
+        Question::InClass(class) => put_class(alloc, page, plan, statements, class, most),
+        Question::Race => put_race(alloc, page, plan, statements),
+        Question::OfChoice(choice) if choice < plan.total() => {
             put_named_choice(alloc, page, plan, statements, choice)
         }
-        Some(_) => put_range(page, plan),
-        None if line.race => put_race(alloc, page, plan, statements),
-        None => put_class(alloc, page, plan, statements, class_of(line), line.most),
+        Question::OfChoice(_) | Question::OfNoNumber | Question::OfNoSources => {
+            put_no_choice(page, plan)
+        }
     }
 }
 
-/// Puts what is asked for of a text on a page. Gives the status, which is 1 where there is no such choice.
+/// Puts what is asked for of a test. Gives the status, which is 1 where there is no such choice.
+fn put_answer(
+    alloc: Global,
+    page: &mut Vec<u8>,
+    plan: &Plan<'_>,
+    statements: &Statements,
+    line: &Line<'_>,
+) -> io::Result<u8> {
+    let question = question_of(alloc, plan, statements, line)?;
+    if line.json {
+        put_json(alloc, page, plan, statements, question, line.most)?;
+    } else {
+        put_text(alloc, page, plan, statements, question, line.most)?;
+    }
+    Ok(match question {
+        Question::OfNoNumber | Question::OfNoSources => 1,
+        _ => 0,
+    })
+}
+
+/// Puts what is asked for of a text on a page. Gives the status.
 fn explain(
     alloc: Global,
     text: &[u8],
@@ -145,17 +200,9 @@ fn explain(
     let test = read(alloc, text)?;
     let plan = plan(alloc, &test)?;
     let statements = Statements::of(alloc, text)?;
-    let is_there = line.choice.is_none_or(|choice| choice < plan.total());
-    let put = if !is_there {
-        put_range(page, &plan)
-    } else if line.json {
-        put_json(alloc, page, &plan, &statements, line)
-    } else {
-        put_text(alloc, page, &plan, &statements, line)
-    };
     // A page is written by growth alone, so what fails is want of memory.
-    match put {
-        Ok(()) => Ok(u8::from(!is_there)),
+    match put_answer(alloc, page, &plan, &statements, line) {
+        Ok(status) => Ok(status),
         Err(_) => Err(RunFault::OutOfMemory),
     }
 }

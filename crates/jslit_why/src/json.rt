@@ -6,6 +6,7 @@ ghost use Rattle.lit_paths.specs.Choice.{choices_of};
 use crate::attempts::Tally;
 use crate::classes::verdict_without;
 use crate::clauses::clause_at;
+use crate::cores::put_core;
 use crate::execution::put_execution;
 use crate::scene::Scene;
 use crate::statements::Statements;
@@ -111,6 +112,11 @@ fn put_attempts(
         page,
         ",\"verdict\":\"{verdict}\",\"attempts\":{count},\"whole\":{whole}"
     )?;
+    if attempts.is_empty() {
+        page.write_all(b",\"no_path_can_make\":\"")?;
+        put_core(alloc, page, plan, class == Class::Met)?;
+        page.write_all(b"\"")?;
+    }
     put_clauses(alloc, page, plan, statements, &tally)
 }
 
@@ -161,4 +167,10 @@ pub(crate) fn put_named_choice(
     put_head(page, plan)?;
     put_choice(alloc, page, plan, statements, choice)?;
     page.write_all(b"}\n")
+}
+
+/// Puts that no choice is the one that is asked for.
+pub(crate) fn put_no_choice(page: &mut Vec<u8>, plan: &Plan<'_>) -> io::Result<()> {
+    put_head(page, plan)?;
+    page.write_all(b",\"choice\":null}\n")
 }

@@ -7,14 +7,16 @@ mod choices;
 mod classes;
 mod clauses;
 mod command;
-mod comparisons;
+mod cores;
 mod cycles;
 mod execution;
 mod explanation;
+mod guards;
 mod json;
 mod races;
 mod reasons;
 mod scene;
+mod selection;
 mod statements;
 mod wording;
 

@@ -95,12 +95,47 @@ fn put_no_order(alloc: Global, page: &mut Vec<u8>, scene: &Scene<'_>) -> io::Res
     }
 }
 
+/// Puts that the path of an agent takes a read to have another value than it has.
+fn put_false_test(
+    alloc: Global,
+    page: &mut Vec<u8>,
+    scene: &Scene<'_>,
+    agent: usize,
+    place: usize,
+) -> io::Result<()> {
+    let combination = scene.part.combination();
+    if agent >= combination.test().agents() {
+        return Ok(());
+    }
+    let Some(test) = combination.path(agent).tests().get(place) else {
+        return Ok(());
+    };
+    page.write_all(b"  the path")?;
+    if let Some(line) = scene.line_of_test(alloc, agent, place)? {
+        write!(page, " from line {line}")?;
+    }
+    let other = if test.equal {
+        ""
+    } else {
+        "another value than "
+    };
+    write!(page, " is for {other}{}, and ", test.value)?;
+    match test.on {
+        None => page.write_all(b"the register has its first value, 0\n"),
+        Some(read) => {
+            let event = combination.first_event(agent).saturating_add(read);
+            scene.put_placed(page, event)?;
+            writeln!(page, " reads {}", scene.part.value(event))
+        }
+    }
+}
+
 /// Puts the first clause that refuses a choice, with its witness.
 pub(crate) fn put_reason(alloc: Global, page: &mut Vec<u8>, scene: &Scene<'_>) -> io::Result<()> {
     match scene.refusal {
         None => Ok(()),
-        Some(Refusal::FalseTest { .. }) => page.write_all(
-            b"  a test of a path is false of the value read\n",
+        Some(Refusal::FalseTest { agent, place }) => put_false_test(
+            alloc, page, scene, agent, place,
         ),
         Some(Refusal::BeforeItself { event }) => {
             put_chain(page, scene, event, event)?;

@@ -3,12 +3,30 @@
 ghost use Rattle.std.specs.Prelude.{◌<◌, length};
 ghost use Rattle.lit_paths.specs.Choice.{choices_of};
 
+use crate::guards::guards_of;
 use crate::statements::{EventLines, Statements};
-use lit_paths::{Plan, Sources};
+use lit_paths::{Event, Plan, Sources};
+use lit_read::Test;
 use lit_rel::Part;
 use lit_why::{Refusal, part_of, refusal};
+use std::alloc::{AllocError, Global};
 use std::io;
 use std::io::Write;
+
+/// Puts the name of an event: of a byte of the block, or of an agent's access.
+pub(crate) fn put_event_name(page: &mut Vec<u8>, test: &Test, event: &Event) -> io::Result<()> {
+    match event.owner {
+        Some(agent) if usize::from(agent) < test.agents() => {
+            write!(
+                page,
+                "{}.{}",
+                test.agent_name(usize::from(agent)),
+                event.place
+            )
+        }
+        _ => write!(page, "init[{}]", event.place),
+    }
+}
 
 /// A choice of a plan's test.
 #[derive(Drop)]
@@ -20,12 +38,13 @@ pub(crate) struct Scene<'p> {
     pub sources: Sources,
     /// What refuses it.
     pub refusal: Option<Refusal>,
+    statements: &'p Statements,
     lines: EventLines,
 }
 
 impl<'p> Scene<'p> {
     /// The choice with this number.
-    pub(crate) fn new(plan: &'p Plan<'p>, statements: &Statements, choice: u64) -> Self
+    pub(crate) fn new(plan: &'p Plan<'p>, statements: &'p Statements, choice: u64) -> Self
         requires { choice < length (choices_of plan.now) }
     {
         let part = part_of(plan, choice);
@@ -37,27 +56,37 @@ impl<'p> Scene<'p> {
             part,
             sources,
             refusal,
+            statements,
             lines,
         }
     }
 
-    /// Puts the name of an event: of a byte of the block, or of an agent's access.
+    /// Puts the name of an event, by its number.
     pub(crate) fn put_event(&self, page: &mut Vec<u8>, event: u8) -> io::Result<()> {
-        let Some(event) = self.part.combination().events().get(usize::from(event)) else {
-            return Ok(());
-        };
-        match event.owner {
-            Some(agent) if usize::from(agent) < self.plan.test().agents() => {
-                let name = self.plan.test().agent_name(usize::from(agent));
-                write!(page, "{}.{}", name, event.place)
-            }
-            _ => write!(page, "init[{}]", event.place),
+        match self.part.combination().events().get(usize::from(event)) {
+            Some(event) => put_event_name(page, self.plan.test(), event),
+            None => Ok(()),
         }
     }
 
     /// The line of an event's statement; none of an event that makes the block.
     pub(crate) fn line_of(&self, event: u8) -> Option<usize> {
         self.lines.get(usize::from(event)).copied().flatten()
+    }
+
+    /// The line of the statement that a test of an agent's path comes from.
+    pub(crate) fn line_of_test(
+        &self,
+        alloc: Global,
+        agent: usize,
+        place: usize,
+    ) -> Result<Option<usize>, AllocError> {
+        let combination = self.part.combination();
+        let guards = guards_of(alloc, combination, agent)?;
+        Ok(match guards.get(place) {
+            Some(guard) => self.statements.line_of(combination.test(), agent, *guard),
+            None => None,
+        })
     }
 
     /// Puts the name of an event, with the line of its statement.
