@@ -1,6 +1,7 @@
 //! From the bytes of a litmus text to the bytes of its report.
 
 pub(crate) mod answering;
+mod cutting;
 
 ghost use Rattle.std.specs.Prelude.{◌≡◌, ◌≤◌, ◌<◌, ◌^◌, ◌-◌, length};
 ghost use Rattle.lit_share.specs.declared.limits.TheConstants.{CUT_LIMIT, WORKER_LIMIT};
@@ -24,7 +25,7 @@ pub struct Options {
     /// How many workers search: 1 to `WORKER_LIMIT` of `lit_share`, 16.
     pub workers: usize,
     /// How many choices a piece of the work has at the least: 1 to `CUT_LIMIT` of `lit_share`, 2^48. A worker alone has one
-    /// piece, two to four have at most 16, and more at most 64.
+    /// piece; several have at most 16 or 64, or 256 where each piece has its own sources of bytes that registers hold at the end.
     pub cut: u64,
     /// Whether the report is the quick one: of each class of outcomes the first choice alone.
     pub quick: bool,

@@ -1,9 +1,8 @@
 //! What is answered for a text: the report on the test that it spells, or a fault.
 
-ghost use Rattle.std.specs.Prelude.{◌≡◌, ◌≢◌, ◌<◌, ◌≤◌, true, false, length, IfOk, IfErr, OnOk, IsErrOf};
+ghost use Rattle.std.specs.Prelude.{◌≡◌, ◌≢◌, ◌≤◌, true, false, length, IfOk, IfErr, OnOk, IsErrOf};
 ghost use Rattle.lit_paths.specs.Choice.{choices_of};
 ghost use Rattle.lit_paths.specs.declared.limits.TheConstants.{CHOICE_LIMIT};
-ghost use Rattle.lit_share.specs.declared.limits.TheConstants.{CUT_LIMIT};
 ghost use Rattle.lit_share.specs.Quick.{IsQuickAnswer};
 ghost use Rattle.jslit.specs.Answer.{IsFaultOn, HasReported, HasBegun};
 ghost use Rattle.jslit.specs.Counted.{device_of, failures_of, one_more};
@@ -11,6 +10,7 @@ ghost use Rattle.jslit.specs.Internal.Answering.{HasWritten, HasWrittenSome, IsF
 
 use crate::counted::Counted;
 use crate::engine::Options;
+use crate::engine::cutting::{cut_for_outcomes, cut_of};
 use crate::fault::RunFault;
 use crate::laws::reports_are_complete;
 use crate::page::reporting::{write_quick_report, write_report};
@@ -24,28 +24,6 @@ use lit_share::{quick, search};
 use std::alloc::{AllocError, Global};
 use std::io::Write;
 use std::thread::Threads;
-
-/// How many pieces two to four workers draw at the most: in each an outcome is looked for anew.
-const PIECES_OF_FEW: u64 = 16;
-
-/// How many pieces more workers draw at the most.
-const PIECES_OF_MANY: u64 = 64;
-
-/// How many choices a piece has: those asked for, or more where that would make too many pieces. A worker alone has one piece.
-fn cut_of(total: u64, options: Options) -> u64
-    requires few { total ≤ CHOICE_LIMIT }
-    ensures some { 0 < result }
-    ensures small { result ≤ CUT_LIMIT }
-{
-    let pieces = if options.workers == 1 {
-        1
-    } else if options.workers <= 4 {
-        PIECES_OF_FEW
-    } else {
-        PIECES_OF_MANY
-    };
-    options.cut.max(total.div_ceil(pieces))
-}
 
 /// A pass for each worker, of those that carry nothing.
 pub(crate) fn passes(alloc: Global, workers: usize) -> Result<Vec<()>, AllocError>
@@ -75,7 +53,7 @@ fn report<T: Threads + Sync, W: Write, G: Watch>(
     ensures unwritten { IsErrOf result RunFault.OutOfMemory → output.new ≡ output.old }
     ensures fault { IfErr result IsOfWriting }
 {
-    let cut = cut_of(plan.total(), options);
+    let cut = cut_for_outcomes(plan, options);
     watch.begin(plan.total().div_ceil(cut));
     let searched = search(rt, alloc, plan, cut, watch, passes);
     watch.end();
