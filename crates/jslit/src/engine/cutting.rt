@@ -1,0 +1,89 @@
+//! How the choices are cut into the pieces that workers draw: in each piece an outcome is looked for anew.
+
+ghost use Rattle.std.specs.Prelude.{◌≡◌, ◌<◌, ◌≤◌};
+ghost use Rattle.lit_paths.specs.declared.limits.TheConstants.{CHOICE_LIMIT};
+ghost use Rattle.lit_share.specs.declared.limits.TheConstants.{CUT_LIMIT};
+
+use crate::engine::Options;
+use lit_paths::{Combination, Plan};
+use lit_read::REGISTERS;
+
+/// How many pieces two to four workers draw at the most.
+const PIECES_OF_FEW: u64 = 16;
+
+/// How many pieces more workers draw at the most.
+const PIECES_OF_MANY: u64 = 64;
+
+/// How many pieces workers draw at the most where each piece has its own sources of observed bytes.
+const PIECES_BY_SOURCES: u64 = 256;
+
+/// How many pieces so many workers draw at the most. A worker alone has one.
+fn pieces_of(workers: usize) -> u64
+    ensures { 0 < result }
+{
+    if workers == 1 {
+        1
+    } else if workers <= 4 {
+        PIECES_OF_FEW
+    } else {
+        PIECES_OF_MANY
+    }
+}
+
+/// How many choices a piece has: those asked for, or more where that would make too many pieces.
+pub(crate) fn cut_of(total: u64, options: Options) -> u64
+    requires few { total ≤ CHOICE_LIMIT }
+    ensures some { 0 < result }
+    ensures small { result ≤ CUT_LIMIT }
+{
+    options.cut.max(total.div_ceil(pieces_of(options.workers)))
+}
+
+/// Whether some register has what an event reads at the end of its agent's path.
+fn is_observed(combination: &Combination<'_>, read: u8) -> bool {
+    for agent in 0..combination.test().agents() {
+        for register in 0..REGISTERS as u8 {
+            if let Some(place) = combination.path(agent).last(register) {
+                if combination.first_event(agent).saturating_add(place) == read {
+                    return true;
+                }
+            }
+        }
+    }
+    false
+}
+
+/// How many choices of the first combination have the same sources of its leading observed bytes: of as many bytes as make few
+/// pieces. Other sources mostly are other values, so hardly an outcome is in two such pieces; and as bytes of one read mostly come
+/// from one event, pieces that are cut elsewhere leave most workers nothing to do.
+fn cut_by_sources(plan: &Plan<'_>) -> u64
+    ensures some { 0 < result }
+    ensures small { result ≤ CHOICE_LIMIT }
+{
+    // That there is a combination is known of how many there are.
+    let _combinations = plan.combinations();
+    let combination = plan.enter(0);
+    let mut cut = plan.total();
+    for (place, at) in combination.byte_reads().iter().enumerate() {
+        let next = combination.ways_after(place);
+        if plan.total().div_ceil(next) > PIECES_BY_SOURCES || !is_observed(&combination, at.read) {
+            break;
+        }
+        cut = next;
+    }
+    // Each of these is from 1 to the total; saying so here spares the loop an invariant.
+    cut.min(plan.total()).max(1)
+}
+
+/// How many choices a piece of a search for outcomes has: for several workers as many as have the same sources of leading observed
+/// bytes, where that makes more pieces.
+pub(crate) fn cut_for_outcomes(plan: &Plan<'_>, options: Options) -> u64
+    ensures some { 0 < result }
+    ensures small { result ≤ CUT_LIMIT }
+{
+    let even = plan.total().div_ceil(pieces_of(options.workers));
+    if options.workers == 1 {
+        return options.cut.max(even);
+    }
+    options.cut.max(cut_by_sources(plan).min(even))
+}
