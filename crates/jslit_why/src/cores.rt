@@ -16,6 +16,7 @@ struct Member<'c> {
 }
 
 /// Adds the members of the conjunction that a condition is, or its negation.
+#[cycle(members)]
 fn push_members<'c>(
     members: &mut Vec<Member<'c>>,
     condition: &'c Cond,
@@ -33,6 +34,7 @@ fn push_members<'c>(
 }
 
 /// Adds the members of each of some conditions.
+#[cycle(members)]
 fn push_each<'c>(
     members: &mut Vec<Member<'c>>,
     conditions: &'c [Cond],
@@ -45,6 +47,7 @@ fn push_each<'c>(
 }
 
 /// Puts conditions, or their negations, with a sign between them, in parentheses.
+#[cycle(conditions)]
 fn put_joined(
     page: &mut Vec<u8>,
     test: &Test,
@@ -63,6 +66,7 @@ fn put_joined(
 }
 
 /// Puts a condition, or its negation, without a `!`.
+#[cycle(conditions)]
 fn put_condition(page: &mut Vec<u8>, test: &Test, condition: &Cond, holds: bool) -> io::Result<()> {
     match condition {
         Cond::Not(inner) => put_condition(page, test, inner, !holds),
