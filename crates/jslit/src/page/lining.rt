@@ -6,7 +6,6 @@ ghost use Rattle.lit_paths.specs.Plan.{HasSources, IsOfCombination, choices_befo
 ghost use Rattle.jslit.specs.ReportText.{from_lines};
 ghost use Rattle.jslit.specs.Internal.Keeping.{Holds};
 ghost use Rattle.jslit.specs.Internal.Lining.{HoldsLines, IsBegun};
-ghost use Rattle.jslit.specs.Internal.Names.{AreNames};
 ghost use Rattle.jslit.specs.Internal.ReadLine.{OnlyFirstReads, first_source_head, lines_up_to, line_end};
 ghost use Rattle.jslit.specs.Internal.Sourcing.{IsIn};
 ghost use Rattle.jslit.specs.Internal.Writing.{HasPutOn};
@@ -14,8 +13,7 @@ ghost use Rattle.jslit.specs.Internal.Writing.{HasPutOn};
 use crate::counted::Counted;
 use crate::page::Page;
 use crate::page::keeping::Kept;
-use crate::page::names::{Names, put_names};
-use crate::page::reporting::{put_source_head, put_sources};
+use crate::page::reporting::{put_events, put_source_head, put_sources};
 use crate::page::sourcing::{Row, take_sources};
 use lit_paths::laws::choices_have_numbers;
 use lit_paths::{Combination, Event, Sources};
@@ -88,36 +86,26 @@ fn put_front<W: Write>(
     events: &[Event],
     part: usize,
     sources: &[u8],
-    names: &Names,
 )
     requires owned { All (λ e. IfSome e.owner (λ agent. agent < length test.now.agents)) events.now }
     requires known { All (λ n. n < length events.now) sources.now }
     requires part { part ≤ length events.now }
     requires one_each { length sources.now ≡ length (byte_reads (take part events.now)) }
-    requires names { AreNames test.now names.now.names }
     ensures { HasPutOn W.contents output.old output.new page.old page.new
         (lines_up_to test.now events.now part sources.now) }
 {
     let (first, last) = events.split_at(part);
-    put_sources(page, output, test, events, first, sources, names);
+    put_sources(page, output, test, events, first, sources);
     put_first_head(page, output, test, last);
 }
 
 /// Makes the lines of the reads among the first events, so many, and that of the event behind up to its sources, unless
 /// they are too long.
-fn make_lines(
-    text: &mut Kept,
-    test: &Test,
-    events: &[Event],
-    part: usize,
-    sources: &[u8],
-    names: &Names,
-)
+fn make_lines(text: &mut Kept, test: &Test, events: &[Event], part: usize, sources: &[u8])
     requires owned { All (λ e. IfSome e.owner (λ agent. agent < length test.now.agents)) events.now }
     requires known { All (λ n. n < length events.now) sources.now }
     requires part { part ≤ length events.now }
     requires one_each { length sources.now ≡ length (byte_reads (take part events.now)) }
-    requires names { AreNames test.now names.now.names }
     ensures { Holds text.new (lines_up_to test.now events.now part sources.now) }
 {
     text.begin();
@@ -128,20 +116,18 @@ fn make_lines(
         events,
         part,
         sources,
-        names,
     );
 }
 
 /// Keeps the lines of all reads of a choice, the last up to its sources, unless they are too long. They are made anew
 /// unless those that are kept are the choice's.
-fn keep_lines(kept: &mut KeptLines, combination: &Combination<'_>, choice: u64, names: &Names)
+fn keep_lines(kept: &mut KeptLines, combination: &Combination<'_>, choice: u64)
     requires owned { All (λ e. IfSome e.owner (λ agent. agent < length combination.now.0.agents))
         (events_in combination.now.0 combination.now.1) }
     requires of { IsOfCombination combination.now.0 choice combination.now.1 }
     requires low { choices_before combination.now.0 combination.now.1 ≤ choice }
     requires high { choice < choices_before combination.now.0 (combination.now.1 + 1) }
     requires kept { HoldsLines combination.now.0 combination.now.1 kept.old }
-    requires names { AreNames combination.now.0 names.now.names }
     ensures kept { HoldsLines combination.now.0 combination.now.1 kept.new }
     ensures begun { IsBegun combination.now.0 combination.now.1 kept.new }
     ensures inside { IsIn choice kept.new.row }
@@ -165,7 +151,6 @@ fn keep_lines(kept: &mut KeptLines, combination: &Combination<'_>, choice: u64, 
         events,
         part,
         kept.sources.as_slice(),
-        names,
     );
 }
 
@@ -176,13 +161,11 @@ fn put_kept_lines<W: Write>(
     test: &Test,
     events: &[Event],
     kept: &KeptLines,
-    names: &Names,
 )
     requires owned { All (λ e. IfSome e.owner (λ agent. agent < length test.now.agents)) events.now }
     requires known { All (λ n. n < length events.now) kept.now.sources.items }
     requires part { kept.now.part ≤ length events.now }
     requires one_each { length kept.now.sources.items ≡ length (byte_reads (take kept.now.part events.now)) }
-    requires names { AreNames test.now names.now.names }
     requires kept { Holds kept.now.text (lines_up_to test.now events.now kept.now.part kept.now.sources.items) }
     ensures { HasPutOn W.contents output.old output.new page.old page.new
         (lines_up_to test.now events.now kept.now.part kept.now.sources.items) }
@@ -198,7 +181,6 @@ fn put_kept_lines<W: Write>(
         events,
         kept.part,
         kept.sources.as_slice(),
-        names,
     );
 }
 
@@ -210,16 +192,14 @@ fn put_line_end<W: Write>(
     events: &[Event],
     last: &[Event],
     sources: &[u8],
-    names: &Names,
 )
     requires owned { All (λ e. IfSome e.owner (λ agent. agent < length test.now.agents)) events.now }
     requires known { All (λ n. n < length events.now) sources.now }
-    requires names { AreNames test.now names.now.names }
     ensures { HasPutOn W.contents output.old output.new page.old page.new
         (line_end test.now events.now last.now sources.now) }
 {
     if let [_read, ..] = last {
-        put_names(page, output, test, events, sources, names);
+        put_events(page, output, test, events, sources);
         page.put_byte(output, b'\n');
     }
 }
@@ -232,7 +212,6 @@ pub(crate) fn put_lines<W: Write>(
     combination: &Combination<'_>,
     choice: u64,
     kept: &mut KeptLines,
-    names: &Names,
 )
     requires owned { All (λ e. IfSome e.owner (λ agent. agent < length combination.now.0.agents))
         (events_in combination.now.0 combination.now.1) }
@@ -240,13 +219,12 @@ pub(crate) fn put_lines<W: Write>(
     requires low { choices_before combination.now.0 combination.now.1 ≤ choice }
     requires high { choice < choices_before combination.now.0 (combination.now.1 + 1) }
     requires kept { HoldsLines combination.now.0 combination.now.1 kept.old }
-    requires names { AreNames combination.now.0 names.now.names }
     ensures kept { HoldsLines combination.now.0 combination.now.1 kept.new }
     ensures text { (sources : List ℕ) → HasSources combination.now.0 choice sources
         → HasPutOn W.contents output.old output.new page.old page.new
         (from_lines combination.now.0 (events_in combination.now.0 combination.now.1) sources) }
 {
-    keep_lines(kept, combination, choice, names);
+    keep_lines(kept, combination, choice);
     let (test, events) = (combination.test(), combination.events());
     let left = combination.byte_reads().len() - kept.sources.len();
     let mut last = Sources::new();
@@ -258,7 +236,7 @@ pub(crate) fn put_lines<W: Write>(
         kept.row,
         choice,
     );
-    put_kept_lines(page, output, test, events, &*kept, names);
+    put_kept_lines(page, output, test, events, &*kept);
     put_line_end(
         page,
         output,
@@ -266,6 +244,5 @@ pub(crate) fn put_lines<W: Write>(
         events,
         &events[kept.part..],
         last.as_slice(),
-        names,
     );
 }

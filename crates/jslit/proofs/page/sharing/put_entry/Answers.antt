@@ -16,11 +16,6 @@ use Rattle.jslit.proofs.page.sharing.put_entry.Goals as goal
 pub put_outcome-requires-clause-one_each : goal.put_outcome-requires-clause-one_each
 put_outcome-requires-clause-one_each g c = rw c.names.ensures.value (length-outcome c.args.plan.now c.args.choice c.args.outcome.now c.requires.gives)
 
-pub name_events-requires-clause-owned : goal.name_events-requires-clause-owned
-name_events-requires-clause-owned g c =
-    let entered = c.enter_for.new.entered in
-    events_owned entered.0 entered.1 (c.combinations_are_listed.ensures entered.0) (known_on entered.0 entered.1 c.args.choice c.enter_for.ensures.low c.enter_for.ensures.high)
-
 pub put_lines-requires-clause-owned : goal.put_lines-requires-clause-owned
 put_lines-requires-clause-owned g c =
     let entered = c.enter_for.new.entered in
