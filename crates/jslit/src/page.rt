@@ -6,7 +6,6 @@ pub(crate) mod lining;
 pub(crate) mod refusing;
 pub(crate) mod reporting;
 pub(crate) mod sharing;
-pub(crate) mod sourcing;
 pub(crate) mod text;
 
 ghost use Rattle.std.specs.Prelude.{◌≡◌, [], ◌∷◌, false, IfErr, OnOk, OnErr};

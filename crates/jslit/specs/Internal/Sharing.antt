@@ -47,5 +47,5 @@ HoldsOrder t events kept = Holds kept.text (order_line t events kept.order.now)
 -- all that is kept is of this test, and of a combination of its paths
 pub record IsShared (t : Litmus) (c : ℕ) (shared : Shared) : Type 0 where
   pub outcome : HoldsOutcome t (names_of t) shared.outcome
-  pub lines : HoldsLines t c shared.lines
+  pub lines : HoldsLines t (events_in t c) shared.lines
   pub order : HoldsOrder t (events_in t c) shared.order

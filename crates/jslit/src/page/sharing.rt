@@ -15,7 +15,7 @@ use crate::page::Page;
 use crate::page::keeping::Kept;
 use crate::page::lining::{KeptLines, put_lines};
 use crate::page::reporting::{put_events, put_register_head, put_registers};
-use lit_paths::laws::{choices_are_on_combinations, combinations_are_listed};
+use lit_paths::laws::combinations_are_listed;
 use lit_paths::{Combination, Event, Plan};
 use lit_read::Test;
 use std::io::Write;
@@ -283,9 +283,10 @@ pub(crate) fn put_entry<'p, 'f, W: Write>(
         (entry_text plan.now (record { outcome = outcome.now; choice = choice; order = order.now })) }
 {
     combinations_are_listed();
-    choices_are_on_combinations();
     let test = plan.test();
     enter_for(plan, combination, choice, shared);
+    let events = combination.events();
+    let sources = combination.sources(choice);
     put_outcome(
         page,
         output,
@@ -294,13 +295,13 @@ pub(crate) fn put_entry<'p, 'f, W: Write>(
         outcome,
         &mut shared.outcome,
     );
-    put_lines(page, output, &*combination, choice, &mut shared.lines);
-    put_kept_order(
+    put_lines(
         page,
         output,
         test,
-        combination.events(),
-        order,
-        &mut shared.order,
+        events,
+        sources.as_slice(),
+        &mut shared.lines,
     );
+    put_kept_order(page, output, test, events, order, &mut shared.order);
 }
