@@ -13,9 +13,9 @@ use Rattle.lit_paths.specs.declared.event.Event.{Event}
 use Rattle.lit_paths.specs.Event.{init_event, init_events}
 use Rattle.lit_paths.specs.Path.{Path, Step, LoadMet, StoreMet, ExchangeMet, CompareExchangeMet, IfMet, compare_exchange_event, events_on}
 use Rattle.lit_paths.specs.Run.{Run, run_path}
-use Rattle.lit_paths.specs.Choice.{ListsCombinations, choices_of, combinations_of, events_of}
+use Rattle.lit_paths.specs.Choice.{Choice, ListsCombinations, choices_of, combinations_of, events_of}
 use Rattle.lit_paths.specs.Execution.{Execution, execution_events, execution_choice, IsCandidateExecution}
-use Rattle.lit_paths.specs.Plan.{IsOfCombination, combination_at, events_in}
+use Rattle.lit_paths.specs.Plan.{HasSources, IsOfCombination, combination_at, events_in}
 use Rattle.jslit.specs.ChoiceEvents.{paths_with, choice_at, choice_events}
 use Rattle.lit_paths.proofs.Rising.{slice_cmp-same, nat_cmp-same}
 use Rattle.lit_read.proofs.ListLemmas.{all_both}
@@ -114,3 +114,8 @@ module _ (plan test : Litmus) (n c : ℕ) (entered : Litmus × ℕ) (events : Li
   entered_choice lists =
       entered_events ∙ sym (choice_events-are plan n c lists of) ∙ ap (choice_events plan) (sym (choice_at-is plan n of.choice of.listed))
       ∙ ap (λ (t : Litmus). choice_events t (choice_at t n)) same
+
+  pub entered_sources : (items sources : List ℕ) → HasSources entered.0 n items → sources ≡ items → sources ≡ (choice_at test n).sources
+  entered_sources items sources has as_items =
+      let here : HasSources plan n items = subst (λ (e : Litmus × ℕ). HasSources e.0 n items) is has in
+      as_items ∙ sym here.same ∙ ap (λ (ch : Choice). ch.sources) (sym (choice_at-is plan n here.choice here.listed)) ∙ ap (λ (t : Litmus). (choice_at t n).sources) same

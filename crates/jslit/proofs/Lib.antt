@@ -6,8 +6,6 @@ pub mod Registers
 pub mod ChosenEvents
 pub mod EntryFacts
 pub mod Lines
-pub mod Names
-pub mod BegunSources
 pub mod Judging
 pub mod Refusals
 pub mod Completeness

@@ -1,12 +1,12 @@
 -- The texts of single lines, as they are put together.
 use Rattle.std.proofs.Common.{◌≡◌, ℕ, Bool, ◌+◌, ◌<◌, ◌≤◌, Option, Some, None, List, [], ◌∷◌, ◌++◌, length, take, drop, get_or, codes, refl, sym, ap, ◌∙◌, append_assoc, length-take, arith}
 use Rattle.std.specs.List.{flat_map}
-use Rattle.std.proofs.lemmas.List.{drop_more, drop_all}
+use Rattle.std.proofs.lemmas.List.{drop_more, drop_all, get_or_default}
 use Rattle.std.specs.Fmt.{decimal}
 use Rattle.std.proofs.lemmas.Fmt.{decimal_digit}
 use Rattle.lit_read.specs.Syntax.{Litmus, agent_of}
 use Rattle.lit_paths.specs.declared.event.Event.{Event}
-use Rattle.lit_paths.specs.Event.{event_at}
+use Rattle.lit_paths.specs.Event.{no_event}
 use Rattle.lit_paths.specs.Outcome.{meets, names_of}
 use Rattle.lit_search.specs.Report.{Entry, Report, entry_at}
 use Rattle.jslit.specs.ChoiceEvents.{choice_at, choice_events}
@@ -50,9 +50,11 @@ register_head_is t agent register name bytes is same =
     joined n r = simp append_assoc
 
 -- the names of events, one after the other
-pub names_more : (t : Litmus) (events : List Event) (numbers : List ℕ) (i d : ℕ) → i < length numbers
-    → names_text t events (drop i numbers) ≡ (codes " " ++ event_name t (event_at events (get_or numbers i d))) ++ names_text t events (drop (i + 1) numbers)
-names_more t events numbers i d lt = ap (names_text t events) (drop_more numbers i d lt)
+pub names_more : (t : Litmus) (events : List Event) (numbers : List ℕ) (i d : ℕ) (none : Event) → i < length numbers → get_or numbers i d < length events
+    → names_text t events (drop i numbers) ≡ (codes " " ++ event_name t (get_or events (get_or numbers i d) none)) ++ names_text t events (drop (i + 1) numbers)
+names_more t events numbers i d none lt known =
+    ap (names_text t events) (drop_more numbers i d lt)
+    ∙ ap (λ (e : Event). (codes " " ++ event_name t e) ++ names_text t events (drop (i + 1) numbers)) (get_or_default events (get_or numbers i d) no_event none known)
 
 pub names_end : (t : Litmus) (events : List Event) (numbers : List ℕ) (i : ℕ) → length numbers ≤ i → names_text t events (drop i numbers) ≡ []
 names_end t events numbers i le = ap (names_text t events) (drop_all i numbers le)

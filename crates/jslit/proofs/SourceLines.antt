@@ -2,13 +2,12 @@
 use Rattle.std.proofs.Common.{◌≡◌, ◌≢◌, ℕ, zero, suc, ◌+◌, ◌<◌, ◌≤◌, Bool, true, false, cond, eqb, List, [], ◌∷◌, ◌++◌, length, map, filter, take, drop, get_or, codes, refl, sym, ap, subst, ◌∙◌, arith, append_assoc, ne_eqb, eq-eqb}
 use Rattle.std.specs.Prelude.{All}
 use Rattle.std.specs.List.{AllByRecursion, flat_map, zip, range_with_len}
-use Rattle.std.proofs.lemmas.List.{append-nil, length-append, length-map, length-take, length-drop, at_drop_more, drop_more, take_all, take-append-drop, take-append-le, drop-append-le}
+use Rattle.std.proofs.lemmas.List.{append-nil, length-append, length-take, length-drop, at_drop_more, drop_more, take_all, take-append-drop, take-append-le, drop-append-le}
 use Rattle.std.proofs.lemmas.List.Elements.{filter-append, All-drop}
 use Rattle.lit_read.specs.Syntax.{Litmus}
 use Rattle.lit_paths.specs.declared.event.Event.{Event}
 use Rattle.lit_paths.specs.Event.{does_read, event_at}
-use Rattle.lit_paths.specs.ByteReads.{bytes_read_by, byte_reads_from, byte_reads, pair_of}
-use Rattle.lit_paths.specs.declared.byte_reads.ByteRead.{ByteRead}
+use Rattle.lit_paths.specs.ByteReads.{bytes_read_by, byte_reads_from, byte_reads}
 use Rattle.lit_valid.specs.ValidExecution.{read_numbers_from}
 use Rattle.jslit.specs.ReportText.{line, event_name, names_text, source_line, from_lines}
 use Rattle.jslit.specs.Internal.ReadLine.{NoneReads, OnlyFirstReads, read_line, rest_after, lines_from, source_head, first_source_head, line_end, lines_up_to}
@@ -209,9 +208,6 @@ length_behind events k = length_from k 0 (drop k events)
 -- as many bytes, where those of the others are counted
 pub parts_long : (events : List Event) (k n size : ℕ) → n ≡ length (byte_reads events) → size ≡ length (byte_reads_from k (drop k events)) → n ≡ length (byte_reads (take k events)) + size
 parts_long events k n size all behind = omega (arith, all, behind, length_parts events k, length_behind events k)
-
-pub reads_long : (reads : List ByteRead) (events : List Event) → map pair_of reads ≡ byte_reads events → length reads ≡ length (byte_reads events)
-reads_long reads events is = sym (length-map reads pair_of) ∙ ap length is
 
 -- the last event that reads, and those behind it
 none_bytes : (n : ℕ) (es : List Event) → NoneReads es → length (byte_reads_from n es) ≡ 0

@@ -6,9 +6,6 @@ pub mod Answering
 pub mod ReadLine
 pub mod Judging
 pub mod Keeping
-pub mod ShortText
-pub mod Names
-pub mod Sourcing
 pub mod Lining
 pub mod Sharing
 pub mod Writing

@@ -3,14 +3,12 @@
 pub(crate) mod digits;
 pub(crate) mod keeping;
 pub(crate) mod lining;
-pub(crate) mod names;
 pub(crate) mod refusing;
 pub(crate) mod reporting;
 pub(crate) mod sharing;
-pub(crate) mod sourcing;
 pub(crate) mod text;
 
-ghost use Rattle.std.specs.Prelude.{◌≡◌, ◌≤◌, [], ◌∷◌, false, IfErr, OnOk, OnErr, length, take};
+ghost use Rattle.std.specs.Prelude.{◌≡◌, [], ◌∷◌, false, IfErr, OnOk, OnErr};
 ghost use Rattle.std.specs.Fmt.{decimal};
 ghost use Rattle.std.specs.Io.KnownBytes.{Appends};
 ghost use Rattle.jslit.specs.Counted.{device_of, failures_of, one_more};
@@ -20,7 +18,7 @@ ghost use Rattle.jslit.specs.Internal.Writing.{HasPut, HasPutOn, IsFinished, IsS
 use crate::counted::Counted;
 use crate::fault::RunFault;
 use crate::page::digits::{DIGIT_LIMIT, write_digits};
-use crate::page::text::{ShortText, Text};
+use crate::page::text::Text;
 use std::io::Write;
 
 /// How many bytes wait at the most before they are written.
@@ -55,19 +53,6 @@ impl Page {
             return;
         }
         self.put_anew(output, bytes);
-    }
-
-    /// Puts a short text behind what waits. Where there is no room for it, what waits is written first.
-    #[inline]
-    pub(crate) fn put_short<W: Write>(&mut self, output: &mut Counted<W>, text: &ShortText)
-        requires { text.now.length ≤ length text.now.bytes }
-        ensures { HasPutOn W.contents output.old output.new self.old self.new
-            (take text.now.length text.now.bytes) }
-    {
-        if self.waiting.try_put_short(text) {
-            return;
-        }
-        self.put_anew(output, text.as_slice());
     }
 
     /// Puts one byte behind what waits.

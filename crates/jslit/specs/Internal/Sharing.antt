@@ -11,7 +11,6 @@ use Rattle.jslit.specs.declared.page.sharing.KeptOrder.{KeptOrder}
 use Rattle.jslit.specs.ReportText.{line, names_text, registers_text}
 use Rattle.jslit.specs.Internal.Keeping.{Holds}
 use Rattle.jslit.specs.Internal.Lining.{HoldsLines}
-use Rattle.jslit.specs.Internal.Names.{AreNames}
 
 -- a register of an outcome up to its value
 abbrev pub register_head : Litmus → ℕ × ℕ → List ℕ
@@ -47,7 +46,6 @@ HoldsOrder t events kept = Holds kept.text (order_line t events kept.order.now)
 
 -- all that is kept is of this test, and of a combination of its paths
 pub record IsShared (t : Litmus) (c : ℕ) (shared : Shared) : Type 0 where
-  pub names : AreNames t shared.names.names
   pub outcome : HoldsOutcome t (names_of t) shared.outcome
-  pub lines : HoldsLines t c shared.lines
+  pub lines : HoldsLines t (events_in t c) shared.lines
   pub order : HoldsOrder t (events_in t c) shared.order

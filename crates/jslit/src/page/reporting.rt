@@ -10,18 +10,16 @@ ghost use Rattle.lit_paths.specs.ByteReads.{byte_reads};
 ghost use Rattle.lit_search.specs.Report.{IsReport, entry_at, in_range};
 ghost use Rattle.jslit.specs.Counted.{device_of, failures_of, one_more};
 ghost use Rattle.jslit.specs.Devices.{AppendsBeginning};
-ghost use Rattle.jslit.specs.ReportText.{line, verdict_text, event_name, source_line, register_text, registers_text};
+ghost use Rattle.jslit.specs.ReportText.{line, verdict_text, event_name, names_text, source_line, register_text, registers_text};
 ghost use Rattle.jslit.specs.ReportText.{entry_text, class_text, report_text, quick_text, yes_or_no};
 ghost use Rattle.jslit.specs.Internal.FirstEntry.{IsOnlyEntry, entry_of_option};
 ghost use Rattle.jslit.specs.Internal.Sharing.{register_head};
-ghost use Rattle.jslit.specs.Internal.Names.{AreNames};
 ghost use Rattle.jslit.specs.Internal.ReadLine.{source_head, read_line, rest_after, lines_from};
 ghost use Rattle.jslit.specs.Internal.Writing.{HasPutOn};
 
 use crate::counted::Counted;
 use crate::fault::RunFault;
 use crate::page::Page;
-use crate::page::names::{Names, put_names};
 use crate::page::sharing::{Shared, put_entry};
 use crate::verdict::Verdict;
 use lit_paths::{Event, Kind, Plan};
@@ -69,6 +67,24 @@ pub(crate) fn put_event<W: Write>(
     );
 }
 
+/// Puts a blank and the name of each of these events, by their numbers.
+pub(crate) fn put_events<W: Write>(
+    page: &mut Page,
+    output: &mut Counted<W>,
+    test: &Test,
+    events: &[Event],
+    numbers: &[u8],
+)
+    requires owned { All (λ e. IfSome e.owner (λ agent. agent < length test.now.agents)) events.now }
+    requires known { All (λ n. n < length events.now) numbers.now }
+    ensures { HasPutOn W.contents output.old output.new page.old page.new
+        (names_text test.now events.now numbers.now) }
+{
+    for number in numbers {
+        put_event(page, output, test, &events[*number as usize]);
+    }
+}
+
 /// Puts the line of a read up to its sources.
 pub(crate) fn put_source_head<W: Write>(
     page: &mut Page,
@@ -92,17 +108,15 @@ fn put_source_line<W: Write>(
     events: &[Event],
     read: &Event,
     sources: &[u8],
-    names: &Names,
 )
     requires owner { IfSome read.now.owner (λ agent. agent < length test.now.agents) }
     requires owned { All (λ e. IfSome e.owner (λ agent. agent < length test.now.agents)) events.now }
     requires known { All (λ n. n < length events.now) sources.now }
-    requires names { AreNames test.now names.now.names }
     ensures { HasPutOn W.contents output.old output.new page.old page.new
         (source_line test.now events.now read.now sources.now) }
 {
     put_source_head(page, output, test, read);
-    put_names(page, output, test, events, sources, names);
+    put_events(page, output, test, events, sources);
     page.put_byte(output, b'\n');
 }
 
@@ -114,12 +128,10 @@ fn put_read<'s, W: Write>(
     events: &[Event],
     event: &Event,
     sources: &'s [u8],
-    names: &Names,
 ) -> &'s [u8]
     requires owner { IfSome event.now.owner (λ agent. agent < length test.now.agents) }
     requires owned { All (λ e. IfSome e.owner (λ agent. agent < length test.now.agents)) events.now }
     requires known { All (λ n. n < length events.now) sources.now }
-    requires names { AreNames test.now names.now.names }
     requires room { does_read event.now.kind ≡ true → event.now.size ≤ length sources.now }
     ensures text { HasPutOn W.contents output.old output.new page.old page.new
         (read_line test.now events.now event.now sources.now) }
@@ -129,7 +141,7 @@ fn put_read<'s, W: Write>(
         Kind::Write => sources,
         Kind::Read | Kind::Modify => {
             let (own, rest) = sources.split_at(event.size as usize);
-            put_source_line(page, output, test, events, event, own, names);
+            put_source_line(page, output, test, events, event, own);
             rest
         }
     }
@@ -143,19 +155,17 @@ pub(crate) fn put_sources<W: Write>(
     events: &[Event],
     part: &[Event],
     sources: &[u8],
-    names: &Names,
 )
     requires owned { All (λ e. IfSome e.owner (λ agent. agent < length test.now.agents)) events.now }
     requires part { All (λ e. IfSome e.owner (λ agent. agent < length test.now.agents)) part.now }
     requires known { All (λ n. n < length events.now) sources.now }
-    requires names { AreNames test.now names.now.names }
     requires one_each { length sources.now ≡ length (byte_reads part.now) }
     ensures { HasPutOn W.contents output.old output.new page.old page.new
         (lines_from test.now events.now part.now sources.now) }
 {
     let mut rest = sources;
     for event in part {
-        rest = put_read(page, output, test, events, event, rest, names);
+        rest = put_read(page, output, test, events, event, rest);
     }
 }
 

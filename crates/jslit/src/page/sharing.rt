@@ -6,7 +6,6 @@ ghost use Rattle.lit_paths.specs.Outcome.{names_of};
 ghost use Rattle.lit_paths.specs.Plan.{choices_before, events_in};
 ghost use Rattle.lit_valid.specs.Gives.{Gives, HasLeastOrder};
 ghost use Rattle.jslit.specs.ReportText.{line, registers_text, entry_text};
-ghost use Rattle.jslit.specs.Internal.Names.{AreNames};
 ghost use Rattle.jslit.specs.Internal.Sharing.{HoldsOutcome, HoldsOrder, IsShared, first_head, first_value};
 ghost use Rattle.jslit.specs.Internal.Sharing.{outcome_head, outcome_text, order_line};
 ghost use Rattle.jslit.specs.Internal.Writing.{HasPutOn};
@@ -15,9 +14,8 @@ use crate::counted::Counted;
 use crate::page::Page;
 use crate::page::keeping::Kept;
 use crate::page::lining::{KeptLines, put_lines};
-use crate::page::names::{Names, keep_names, put_names};
-use crate::page::reporting::{put_register_head, put_registers};
-use lit_paths::laws::{choices_are_on_combinations, combinations_are_listed};
+use crate::page::reporting::{put_events, put_register_head, put_registers};
+use lit_paths::laws::combinations_are_listed;
 use lit_paths::{Combination, Event, Plan};
 use lit_read::Test;
 use std::io::Write;
@@ -36,11 +34,9 @@ pub(crate) struct KeptOrder<'f> {
     text: Kept,
 }
 
-/// The text that an entry can share with the one before, and whether the names of the combination's events were kept.
+/// The text that an entry can share with the one before.
 #[derive(Drop)]
 pub(crate) struct Shared<'f> {
-    named: bool,
-    names: Names,
     outcome: KeptOutcome<'f>,
     lines: KeptLines,
     order: KeptOrder<'f>,
@@ -54,13 +50,10 @@ impl<'f> Shared<'f> {
     pub(crate) fn new() -> Self
         ensures { (t : Litmus) (c : ℕ) → IsShared t c result }
     {
-        let names = Names::new();
         let outcome = Kept::new();
         let lines = KeptLines::new();
         let order = Kept::new();
         Shared {
-            named: false,
-            names,
             outcome: KeptOutcome {
                 values: &[],
                 text: outcome,
@@ -188,30 +181,21 @@ fn put_order<W: Write>(
     test: &Test,
     events: &[Event],
     order: &[u8],
-    names: &Names,
 )
     requires owned { All (λ e. IfSome e.owner (λ agent. agent < length test.now.agents)) events.now }
     requires known { All (λ n. n < length events.now) order.now }
-    requires names { AreNames test.now names.now.names }
     ensures { HasPutOn W.contents output.old output.new page.old page.new
         (order_line test.now events.now order.now) }
 {
     page.put(output, b"  order");
-    put_names(page, output, test, events, order, names);
+    put_events(page, output, test, events, order);
     page.put_byte(output, b'\n');
 }
 
 /// Keeps the line of an order, unless it is too long. It is made anew unless it is kept.
-fn keep_order<'f>(
-    kept: &mut KeptOrder<'f>,
-    test: &Test,
-    events: &[Event],
-    order: &'f [u8],
-    names: &Names,
-)
+fn keep_order<'f>(kept: &mut KeptOrder<'f>, test: &Test, events: &[Event], order: &'f [u8])
     requires owned { All (λ e. IfSome e.owner (λ agent. agent < length test.now.agents)) events.now }
     requires known { All (λ n. n < length events.now) order.now }
-    requires names { AreNames test.now names.now.names }
     requires kept { HoldsOrder test.now events.now kept.old }
     ensures kept { HoldsOrder test.now events.now kept.new }
     ensures order { kept.new.order.now ≡ order.now }
@@ -227,7 +211,6 @@ fn keep_order<'f>(
         test,
         events,
         order,
-        names,
     );
 }
 
@@ -239,22 +222,20 @@ fn put_kept_order<'f, W: Write>(
     events: &[Event],
     order: &'f [u8],
     kept: &mut KeptOrder<'f>,
-    names: &Names,
 )
     requires owned { All (λ e. IfSome e.owner (λ agent. agent < length test.now.agents)) events.now }
     requires known { All (λ n. n < length events.now) order.now }
-    requires names { AreNames test.now names.now.names }
     requires kept { HoldsOrder test.now events.now kept.old }
     ensures kept { HoldsOrder test.now events.now kept.new }
     ensures text { HasPutOn W.contents output.old output.new page.old page.new
         (order_line test.now events.now order.now) }
 {
-    keep_order(kept, test, events, order, names);
+    keep_order(kept, test, events, order);
     if kept.text.is_kept() {
         page.put(output, kept.text.text());
         return;
     }
-    put_order(page, output, test, events, order, names);
+    put_order(page, output, test, events, order);
 }
 
 /// Enters the combination of a choice, unless it is entered. What is kept of other events is let go.
@@ -278,27 +259,6 @@ fn enter_for<'p>(
     plan.reenter(entered, plan.combination(choice));
     shared.lines.forget();
     shared.order.text.forget();
-    shared.named = false;
-}
-
-/// Keeps the names of a combination's events, unless that was done. The order that is kept is let go.
-fn name_events(plan: &Plan<'_>, combination: &Combination<'_>, shared: &mut Shared<'_>)
-    requires plan { combination.now.0 ≡ plan.now }
-    requires owned { All (λ e. IfSome e.owner (λ agent. agent < length combination.now.0.agents))
-        (events_in combination.now.0 combination.now.1) }
-    requires shared { IsShared plan.now combination.now.1 shared.old }
-    ensures { IsShared plan.now combination.now.1 shared.new }
-{
-    if shared.named {
-        return;
-    }
-    keep_names(
-        &mut shared.names,
-        &mut shared.order.text,
-        plan.test(),
-        combination.events(),
-    );
-    shared.named = true;
 }
 
 /// Puts an outcome and its example, by the example's choice and order. The choice's combination is entered unless it is.
@@ -323,10 +283,10 @@ pub(crate) fn put_entry<'p, 'f, W: Write>(
         (entry_text plan.now (record { outcome = outcome.now; choice = choice; order = order.now })) }
 {
     combinations_are_listed();
-    choices_are_on_combinations();
     let test = plan.test();
     enter_for(plan, combination, choice, shared);
-    name_events(plan, &*combination, shared);
+    let events = combination.events();
+    let sources = combination.sources(choice);
     put_outcome(
         page,
         output,
@@ -338,18 +298,10 @@ pub(crate) fn put_entry<'p, 'f, W: Write>(
     put_lines(
         page,
         output,
-        &*combination,
-        choice,
-        &mut shared.lines,
-        &shared.names,
-    );
-    put_kept_order(
-        page,
-        output,
         test,
-        combination.events(),
-        order,
-        &mut shared.order,
-        &shared.names,
+        events,
+        sources.as_slice(),
+        &mut shared.lines,
     );
+    put_kept_order(page, output, test, events, order, &mut shared.order);
 }

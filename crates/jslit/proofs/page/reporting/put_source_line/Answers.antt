@@ -4,4 +4,4 @@ use Rattle.jslit.proofs.page.reporting.put_source_line.Goals as goal
 
 pub returns : goal.returns
 returns g c =
-    HasPut-is _ _ _ _ (HasPut-then _ _ _ _ _ (HasPut-then _ _ _ _ _ c.put_source_head.ensures c.put_names.ensures) c.put_byte.ensures) (simp append_assoc)
+    HasPut-is _ _ _ _ (HasPut-then _ _ _ _ _ (HasPut-then _ _ _ _ _ c.put_source_head.ensures c.put_events.ensures) c.put_byte.ensures) (simp append_assoc)

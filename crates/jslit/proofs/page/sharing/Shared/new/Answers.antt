@@ -2,8 +2,7 @@ use Rattle.jslit.proofs.page.sharing.Shared.new.Goals as goal
 
 pub returns : goal.returns
 returns c = λ t n. record {
-  names = c.new-names.ensures t;
   outcome = λ going. absurd (let gone = c.new-outcome.ensures in cc);
-  lines = record { begun = λ going. absurd (let gone = c.new-lines.ensures in cc); text = λ going. absurd (let gone = c.new-lines.ensures in cc) };
+  lines = λ going. absurd (let gone = c.new-lines.ensures in cc);
   order = λ going. absurd (let gone = c.new-order.ensures in cc);
 }
