@@ -24,7 +24,7 @@ fn count(set: EventSet) -> u32 {
     count
 }
 
-/// Of two byte reads, where there is another one, one with the fewest sources.
+/// Of two byte reads, where there is another one, one with the fewest sources (decision 26).
 fn with_fewest(frame: &Frame, other: Option<usize>, place: usize) -> usize
     requires other { IfSome other (λ k. k < BYTE_READ_LIMIT) }
     requires place { place < BYTE_READ_LIMIT }

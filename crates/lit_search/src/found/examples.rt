@@ -12,7 +12,8 @@ use std::alloc::{AllocError, Global};
 use std::boxed::BoxedSlice;
 use std::marker::Model;
 
-/// Outcomes, each once and with its example, in the order in which they were recorded. A clause sees it as a list of entries.
+/// Outcomes, each once and with its example, in the order in which they were recorded (decision 42). A clause sees it as a list
+/// of entries.
 #[derive(Drop)]
 pub(crate) struct Examples {
     alloc: Global,
