@@ -83,7 +83,7 @@ class Drawing:
                 self.picture.box(name, k * wide, -125 - 120 * row, self.codes[name] + "\n" + self.shown(name), 11, "event")
         if self.words:
             lowest = -65 - 120 * max(map(len, self.columns.values()))
-            self.picture.box("the words", middle, lowest - 7 * len(self.words), "\n".join(self.words), 11, "words")
+            self.picture.box("the words", middle, lowest - 7 * len(self.words), "\n".join(self.words), 11, "reason")
 
     def join_agents(self):
         for names in self.columns.values():
@@ -116,6 +116,11 @@ class Drawing:
                 self.picture.labelled(one, other, "data race", "race", arrow=False)
         for (before, after, _), (text, kind) in self.steps.items():
             self.picture.labelled(before, after, text, kind)
+
+    def lines(self):
+        """What the picture shows, in words."""
+        sources = [f"from {read} {' '.join(given)}" for read, given in self.sources.items()]
+        return [*self.title.split("\n"), *sources, *(["order " + " ".join(self.order)] if self.order else []), *self.words]
 
     def laid_out(self):
         self.place()

@@ -7,6 +7,10 @@ from litmus.ends import shown
 from litmus.text import Fault
 
 
+class OutOfMemory(Fault):
+    """The program has said so."""
+
+
 class Event(collections.namedtuple("Event", "name line kind order first size reads writes")):
     """An event: `line` is its statement's, None of an event that makes the block; `reads` and `writes` are values, or None."""
 
@@ -41,6 +45,8 @@ def ask(program, words, name, data, seconds=None):
         return json.loads(said)
     if told.returncode == 1:
         raise Fault(f"{shown(name)}: {said}; jslit-explain says more")
+    if told.returncode == 3:
+        raise OutOfMemory("out of memory")
     raise Fault(told.stderr.decode("latin-1").strip() or f"{shown(program)}: status {told.returncode}")
 
 

@@ -11,7 +11,7 @@ PLACES = (.5, .4, .6, .3, .7, .2, .8)
 # How Graphviz shows each kind of box, and of edge: its color and its line.
 BOXES = {"title": "shape=plaintext, fixedsize=false", "agent": "shape=plaintext",
          "init": 'shape=box, style="rounded,filled", fillcolor=white', "event": "shape=box, style=filled, fillcolor=white",
-         "words": "shape=plaintext"}
+         "reason": "shape=plaintext"}
 EDGES = {"agent-order": ("gray50", "style=solid"), "reads": ("firebrick", "style=solid"),
          "refused": ("firebrick", "style=solid, penwidth=3"), "synchronizes": ("mediumblue", "style=dashed"),
          "step": ("darkgreen", "style=solid, penwidth=3"), "earlier": ("darkgreen", "style=solid"),
@@ -59,8 +59,8 @@ class Picture:
         look = BOXES.get(kind) or f'shape=box, style=filled, fillcolor=white, color=white, fontcolor="{EDGES[kind][0]}"'
         half = (max(map(len, lines)) * size * 0.3 + 6, len(lines) * size * 0.62 + 3)
         self.boxes[name] = (x, y, *half)
-        end = "\\l" if kind == "words" else "\\n"
-        label = end.join(line.replace("\\", "\\\\").replace('"', '\\"') for line in [*lines, *([""] if kind == "words" else [])])
+        label = text.replace("\\", "\\\\").replace('"', '\\"')
+        label = label.replace("\n", "\\l") + "\\l" if kind == "reason" else label.replace("\n", "\\n")
         self.lines.append(f'"{name}" [pos="{x:.0f},{y:.0f}!", width={half[0] / 36 + .02:.2f}, height={half[1] / 36:.2f}, '
                           f'fontsize={size}, label="{label}", {look}];')
 
