@@ -110,4 +110,4 @@ def race_of(execution):
     weak = [event.name for event in pair if event.order != "seq-cst"]
     which = ("both are sequentially consistent, and their ranges overlap without being equal", "".join(weak) + " is not sequentially consistent",
              "neither is sequentially consistent")[len(weak)]
-    return [f"data race of {pair[0].name} and {pair[1].name}", *map(accessed, pair), "neither happens before the other", which]
+    return [f"data race {pair[0].name} and {pair[1].name}", *map(accessed, pair), "neither happens before the other", which]
