@@ -11,17 +11,18 @@ class Way:
         self.events = {f"{agent}.{place}": event for place, event in enumerate(event for event, _ in walk if event is not None)}
         self.sizes = {name: event.size for name, event in self.events.items() if event.register is not None}
 
-    def zeros(self, sources):
-        """The reads that have no source here, with the events that make their bytes."""
-        return " ".join(f"{name}={','.join(f'init[{byte}]' for byte in self.events[name].range())}"
-                        for name in self.sizes if name not in sources)
+    def lacking(self, sources):
+        """What is said of the reads that have no source here, with sources that they may have: the events that make their bytes."""
+        names = [name for name in self.sizes if name not in sources]
+        zeros = " ".join(f"{name}={','.join(f'init[{byte}]' for byte in self.events[name].range())}" for name in names)
+        return f"{', '.join(names)} {'has' if len(names) == 1 else 'have'} no source, as in {zeros}"
 
 
 def wrong_reads(ways, mine):
     """What is wrong where an agent has no path with these reads alone, each with a source for each of its bytes."""
     way = max(ways, key=lambda way: (len(way.sizes.keys() & mine.keys()) - len(mine.keys() - way.sizes.keys()), -len(way.sizes)))
     if way.sizes.keys() - mine.keys():
-        return f"each read needs a source for each of its bytes, and here some have none: {way.zeros(mine)} is one way to go on"
+        return f"{way.lacking(mine)}: each read needs one for each of its bytes"
     wrong = [name for name in mine if name not in way.sizes]
     if wrong:
         return f"{wrong[0]} reads nothing on any path with the other reads given"
@@ -34,8 +35,10 @@ def wrong_source(ways, mine, written):
     for name, given in mine.items():
         for place, source in enumerate(given):
             read = {way.events[name].first + place for way in ways}
-            if source == name or not any((source, byte) in written for byte in read):
-                return f"{name} reads byte {min(read)}, which {source} does not write before it on any path with these reads"
+            if source == name:
+                return f"{name} is no source of its own"
+            if not any((source, byte) in written for byte in read):
+                return f"{name} reads byte {min(read)}, which {source} does not write on any path with these reads"
     return None
 
 
@@ -63,6 +66,6 @@ def wrong_values(every, given):
     for agent, ways in every.items():
         longer = [way for way in ways if given[agent].keys() < way.sizes.keys()]
         if longer:
-            zeros = min(longer, key=lambda way: len(way.sizes)).zeros(given[agent])
-            return f"the values read don't allow the path of {agent} that has these reads alone; on another one it also has {zeros}, say"
+            lacking = min(longer, key=lambda way: len(way.sizes)).lacking(given[agent])
+            return f"the values read don't allow the path of {agent} that has these reads alone; on another one {lacking}"
     return "the values read don't allow the paths that have these reads"
