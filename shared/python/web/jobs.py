@@ -26,7 +26,8 @@ class Gone(Exception):
 
 class Jobs:
     def __init__(self, program, why):
-        self.program, self.why, self.turns, self.lock, self.running = program, threading.BoundedSemaphore(RUNS), threading.Lock(), set()
+        self.program, self.why, self.running = program, why, set()
+        self.turns, self.lock = threading.BoundedSemaphore(RUNS), threading.Lock()
         self.ended = False
 
     def answer(self, kind, given, data, client):
