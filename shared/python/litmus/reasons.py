@@ -107,7 +107,7 @@ def accessed(event):
 def race_of(execution):
     """The least racing pair, and why it is a data race."""
     pair = [execution.events[name] for name in execution.races[0]]
-    weak = [event.name for event in pair if event.order != "seq-cst"]
-    which = ("both are sequentially consistent, and their ranges overlap without being equal", "".join(weak) + " is not sequentially consistent",
-             "neither is sequentially consistent")[len(weak)]
+    other = [event.name for event in pair if event.order != "seq-cst"]
+    which = ("both are sequentially consistent, and their ranges overlap without being equal",
+             f"{''.join(other)} is not sequentially consistent", "neither is sequentially consistent")[len(other)]
     return [f"data race {pair[0].name} and {pair[1].name}", *map(accessed, pair), "neither happens before the other", which]
