@@ -9,7 +9,8 @@ def reasons(server):
                               "from A.1 init[1]", "from B.1 init[0]", "1. A.0 before A.1: agent-order"])
     same(sorted(edge["kind"] for edge in drawn["edges"] if edge["arrow"]), ["reads"] * 2 + ["step"] * 4)
     same(server.post("why", litmus("own"), outcomes="unmet")[1]["lines"][0], "own: always, 1 attempt")
-    same(server.post("why", litmus("mask"), outcomes="unmet")[1]["kind"], "failed")
+    same(server.post("why", litmus("mask"), outcomes="unmet")[1],
+         {"kind": "failed", "said": "always: there is no attempt, since no path can make B.r0 != 0 true"})
     same(server.post("why", "test t\n", outcomes="met")[1]["refused"], "refused 12 missing_part line 1")
     drawn = server.post("race", litmus("mpplain"))[1]
     same(drawn["lines"], ["mpplain: the first data race", "data race of A.0 and B.1", "from B.0 init[1]", "from B.1 A.0",

@@ -87,7 +87,7 @@ WRONG = [
     (["--race", "/dev/zero"], 1, "/dev/zero: refused 1 too_long line 1"),
     (["a\x1b[31m\n\udcff.lit"], 1, "a\\x1b[31m\\x0a\\xff.lit: No such file"),
     (["litmus/sb.lit", "A\x1b=B\n"], 1, "A\\x1b=B\\x0a is no EVENT=SOURCE"),
-    (["--why", "--unmet", "litmus/mask.lit"], 1, "always: there is no attempt, since no values that the reads can take come to it"),
+    (["--why", "--unmet", "litmus/mask.lit"], 1, "always: there is no attempt, since no path can make B.r0 != 0 true"),
     (["--race", "litmus/sb.lit"], 1, "no execution has a data race"),
     (["--why", "--race", "litmus/sb.lit"], 2, "not allowed with argument"),
     (["--unmet", "litmus/sb.lit"], 2, "--unmet goes with --why"),

@@ -36,7 +36,7 @@ def attempt(why, unmet, name, data):
         return Drawing(f"{answer['test']}: a valid execution that {'fails' if unmet else 'meets'} the condition", data,
                        Execution(answer["execution"]))
     if not answer["clauses"]:
-        raise Fault(f"{answer['verdict']}: there is no attempt, since no values that the reads can take come to it")
+        raise Fault(f"{answer['verdict']}: there is no attempt, since no path can make {answer['no_path_can_make']} true")
     first, count = answer["clauses"][0], answer["attempts"]
     many = f"{'' if answer['whole'] else 'more than '}{count} attempt{'' if count == 1 else 's'}"
     refused = f"refused by {first['clause']} ({first['section']})"
