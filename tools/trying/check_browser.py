@@ -4,9 +4,10 @@ import json
 import urllib.parse
 
 from trying.browser import Browser
+from trying.check_reasons import asked_why, raced
 from trying.check_saved import documents, saved
-from trying.check_server import children, same, wait_for
-from trying.serving import feigned, litmus, named, served
+from trying.check_server import children, wait_for
+from trying.serving import feigned, litmus, named, same, served
 
 TOLD = "document.querySelector('#verdict.is-told')"
 DRAWN = "document.querySelector('#picture svg') && document.querySelector('#picture').getAttribute('aria-busy') === 'false'"
@@ -35,10 +36,24 @@ class Page(Browser):
 
     def run(self):
         self.click("#run")
-        self.until(TOLD)
+        self.told()
 
     def drawn(self):
         self.until(DRAWN)
+
+    def focused(self):
+        return self.value("document.activeElement.id || document.activeElement.dataset.agent || document.activeElement.innerText")
+
+    def tab_to(self, name):
+        """Presses Tab until the element of this name has the focus."""
+        for _ in range(40):
+            self.key("Tab")
+            if self.focused() == name:
+                return
+        raise AssertionError(f"{name} is never reached")
+
+    def told(self):
+        self.until(TOLD)
 
     def text(self):
         return self.value("document.querySelector('#text').value")
@@ -108,7 +123,7 @@ def tearing(page):
     page.until(DRAWN)
     labels = page.value("[...document.querySelectorAll('#picture g.reads text')].map((text) => text.textContent)")
     same(sorted(labels), ["byte 0", "byte 1"])
-    same(page.value("document.querySelector('#race-key').hidden"), False)
+    same(page.value("document.querySelector('.key .race').hidden"), False)
     page.picture("tear")
 
 
@@ -201,10 +216,6 @@ def linked(page):
     page.until("document.querySelector('#verdict').innerText.includes('no text that can be read')")
 
 
-def focused(page):
-    return page.value("document.activeElement.id || document.activeElement.dataset.agent || document.activeElement.innerText")
-
-
 def by_keyboard(page):
     page.take(litmus("tear"))
     page.key("Enter", control=True)
@@ -212,26 +223,26 @@ def by_keyboard(page):
     seen = []
     while "sort-1" not in seen:
         page.key("Tab")
-        seen.append(focused(page))
+        seen.append(page.focused())
         assert len(seen) < 40, seen
     for name in ("run", "quick", "A", "C", "met", "sort-0"):
         assert name in seen, (name, seen)
     page.key("Tab")
-    same(focused(page), "filter-1")
+    same(page.focused(), "filter-1")
     page.key("Tab")
-    same(focused(page), "1")
+    same(page.focused(), "1")
     for key, number in (("ArrowDown", "2"), ("End", "7"), ("ArrowDown", "7"), ("ArrowUp", "6"), ("Home", "1"), ("ArrowDown", "2")):
         page.key(key)
-        same((key, focused(page)), (key, number))
+        same((key, page.focused()), (key, number))
     outline = page.value("getComputedStyle(document.activeElement).outlineStyle + getComputedStyle(document.activeElement).outlineWidth")
     same(outline, "solid3px")
     page.key("Enter")
     page.until(DRAWN)
     same(page.said("#example-title"), "Outcome 2: C.r0=1")
-    same(focused(page), "2")
+    same(page.focused(), "2")
     for name in ("save-all", "save-outcomes", "fit", "save-svg", "save-png", "picture", "lines"):
         page.key("Tab")
-        same(focused(page), name)
+        same(page.focused(), name)
 
 
 def narrow_and_dark(page):
@@ -300,19 +311,6 @@ def noted(page):
     same(page.value("document.querySelector('#notes').hidden"), True)
 
 
-def raced(page):
-    """The verdict's box says whether there is a data race, and which accesses are in one."""
-    page.take(litmus("mpplain"))
-    page.run()
-    same(page.said("#race"), "data race yes")
-    same(page.said("#racing"), "as in the example of outcome 2: U8[0] = 1 (A.0, line 7) and r1 = U8[0] (B.1, line 11)")
-    page.take(litmus("sb"))
-    page.run()
-    same(page.said("#racing"), "no execution has one")
-    page.click("#quick")
-    page.until("document.querySelector('#verdict').innerText.includes('doesn\u2019t say whether there is a data race')")
-
-
 def folded(page):
     """A test of the library has its comment folded to the first sentence, and the whole of it beside the editor."""
     page.choose("#library", "mp-words")
@@ -369,5 +367,5 @@ def without_server(page):
 
 
 PROVED = (store_buffering, tearing, sorted_and_filtered, refused, quick, turns, linked, by_keyboard, narrow_and_dark, named_for_all, faults,
-          noted, raced, folded, saved, documents)
+          noted, raced, asked_why, folded, saved, documents)
 FEIGNED = (long_run, large, without_server)

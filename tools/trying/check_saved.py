@@ -7,8 +7,8 @@ import tempfile
 import xml.dom.minidom
 
 from litmus.program import TOP
-from trying.check_server import same, wait_for
-from trying.serving import litmus
+from trying.check_server import wait_for
+from trying.serving import litmus, same
 
 
 def saved(page):

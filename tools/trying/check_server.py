@@ -13,17 +13,14 @@ import time
 from litmus.limits import TEXT
 from litmus.program import TOP
 from web.limits import PART, REQUEST, RUNS, SECONDS
-from trying.serving import feigned, litmus, named, served
+from trying.check_reasons import reasons
+from trying.serving import feigned, litmus, named, same, served
 
 FILES = ["/", "/base.css", "/page.css", "/document.css", "/page.js", "/ask.js", "/library", "/icon.svg",
          "/doc/README.md", "/doc/docs/FORMAT.md", "/doc/docs/sb.svg"]
 ABSENT = ["/index.html", "/../page", "/../../../../etc/passwd", "/%2e%2e/answer.py", "/page.js/../../answer.py", "//etc/passwd", "/page.js?x",
           "http://elsewhere/page.js", "/report/", "/picture/../report", "/README.md", "/doc/", "/doc/docs",
           "/doc/litmus/sb.lit", "/doc/../bin/jslit", "/doc/docs/FORMAT.md?x"]
-
-
-def same(seen, wanted):
-    assert seen == wanted, f"{str(seen)[:300]} is not {str(wanted)[:300]}"
 
 
 def cases(program):
@@ -98,12 +95,13 @@ def lengths(server):
 
 def words_of_requests(server):
     for path in ("/report", "/report?skip=0&skip=1", "/report?skip=0&more=1", "/quick?skip=0", "/schedule", "/schedule?turns=A%00",
-                 "/picture?sources=A.0=init[0]", "/text", "/text?examples=with&skip=0"):
+                 "/picture?sources=A.0=init[0]", "/why", "/why?outcomes=met&most=1", "/race?x=1", "/text", "/text?examples=with&skip=0"):
         same((path, server.ask("POST", path, litmus("sb").encode())[0]), (path, 400))
     for kind, given in (("text", {"examples": "some"}), ("report", {"skip": "--help"}),
                         ("report", {"skip": "9" * 5000}), ("report", {"skip": "-1"}),
-                        ("picture", {"sources": "x", "order": "y", "outcome": "z"}),
-                        ("picture", {"sources": "", "order": "", "outcome": "A.r0=5"})):
+                        ("why", {"outcomes": "all"}), ("picture", {"sources": "x", "outcome": "z"}),
+                        ("picture", {"sources": "A.1=init[1]\n--race", "outcome": "A.r0=1"}),
+                        ("picture", {"sources": "", "outcome": "A.r0=5"})):
         status, answer = server.post(kind, litmus("sb"), **given)
         same((status, answer["kind"]), (200, "failed"))
         assert str(TOP) not in json.dumps(answer)
@@ -182,7 +180,7 @@ def links_of_documents(server):
 def pictures(server):
     told = server.post("report", litmus("tear"), skip=0)[1]["outcomes"][1]
     drawn = server.post("picture", litmus("tear"), sources=" ".join(f"{name}={','.join(each)}" for name, each in told["from"]),
-                        order=" ".join(told["order"]), outcome=" ".join(f"{name}={value}" for name, value in told["values"]))[1]
+                        outcome=" ".join(f"{name}={value}" for name, value in told["values"]))[1]
     same(drawn["kind"], "picture")
     texts = ["\n".join(box["lines"]) for box in drawn["boxes"]]
     for text in ("agent A", "agent B", "agent C", "r0 = U16[0]\nC.0 #4 = 1", "byte 0", "byte 1"):
@@ -355,5 +353,5 @@ def large_texts(server):
 
 
 PROVED = (files, other_paths, other_names, lengths, words_of_requests, many_words, every_test, quick_and_turns, refusals,
-          other_faults, texts, links_of_documents, pictures)
+          other_faults, texts, links_of_documents, pictures, reasons)
 FEIGNED = (thirty_at_once, connections, slow_clients, one_who_leaves, a_large_report, a_long_text, a_program_that_fails, large_texts)

@@ -135,3 +135,7 @@ def named_in_proc(word):
 
 def litmus(name):
     return (TOP / "litmus" / f"{name}.lit").read_text()
+
+
+def same(seen, wanted):
+    assert seen == wanted, f"{str(seen)[:300]} is not {str(wanted)[:300]}"

@@ -3,8 +3,9 @@ import subprocess
 import threading
 
 from litmus import notes, torn
+from litmus.program import own_why
 from litmus.report import read_report
-from litmus.text import Fault, read_test
+from litmus.text import Fault
 
 EXAMPLES = range(1000)  # of a report, those that are looked at
 
@@ -32,4 +33,6 @@ def noted(program, words, data, seconds):
 
 
 def of_report(data, outcomes):
-    return notes.of_text(data) + torn.notes(read_test(data.decode("latin-1")), outcomes)
+    """The notes on a text and on the outcomes of its report; on these where jslit-why is there, since a note waits for no build."""
+    why = own_why()
+    return notes.of_text(data) + (torn.notes(str(why), data, outcomes) if why.exists() else [])

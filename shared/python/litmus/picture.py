@@ -10,10 +10,12 @@ PLACES = (.5, .4, .6, .3, .7, .2, .8)
 
 # How Graphviz shows each kind of box, and of edge: its color and its line.
 BOXES = {"title": "shape=plaintext, fixedsize=false", "agent": "shape=plaintext",
-         "init": 'shape=box, style="rounded,filled", fillcolor=white', "event": "shape=box, style=filled, fillcolor=white"}
+         "init": 'shape=box, style="rounded,filled", fillcolor=white', "event": "shape=box, style=filled, fillcolor=white",
+         "reason": "shape=plaintext"}
 EDGES = {"agent-order": ("gray50", "style=solid"), "reads": ("firebrick", "style=solid"),
-         "synchronizes": ("mediumblue", "style=dashed"), "before": ("darkgreen", "style=bold"),
-         "race": ("darkorange3", "style=dotted, penwidth=2")}
+         "refused": ("firebrick", "style=solid, penwidth=3"), "synchronizes": ("mediumblue", "style=dashed"),
+         "step": ("darkgreen", "style=solid, penwidth=3"), "earlier": ("darkgreen", "style=solid"),
+         "race": ("darkorange3", "style=dotted, penwidth=2"), "least": ("darkorange3", "style=dotted, penwidth=5")}
 
 
 def hits(start, end, box, clear=CLEAR):
@@ -57,7 +59,8 @@ class Picture:
         look = BOXES.get(kind) or f'shape=box, style=filled, fillcolor=white, color=white, fontcolor="{EDGES[kind][0]}"'
         half = (max(map(len, lines)) * size * 0.3 + 6, len(lines) * size * 0.62 + 3)
         self.boxes[name] = (x, y, *half)
-        label = text.replace("\\", "\\\\").replace('"', '\\"').replace("\n", "\\n")
+        label = text.replace("\\", "\\\\").replace('"', '\\"')
+        label = label.replace("\n", "\\l") + "\\l" if kind == "reason" else label.replace("\n", "\\n")
         self.lines.append(f'"{name}" [pos="{x:.0f},{y:.0f}!", width={half[0] / 36 + .02:.2f}, height={half[1] / 36:.2f}, '
                           f'fontsize={size}, label="{label}", {look}];')
 

@@ -23,7 +23,12 @@ def built(words):
     return str(own if program == JSLIT else program)
 
 
+def own_why():
+    """Where the program of bin/jslit-why stands once it is built."""
+    return WHY_INSTALLED if WHY_INSTALLED.exists() else WHY_MADE
+
+
 def built_why():
     """The program of bin/jslit-why, once it is built."""
     subprocess.run([WHY, "--help"], check=True, stdout=subprocess.DEVNULL)
-    return str(WHY_INSTALLED if WHY_INSTALLED.exists() else WHY_MADE)
+    return str(own_why())

@@ -7,10 +7,10 @@ class Fault(Exception):
     """What a tool says instead of doing its work."""
 
 
-class Event(collections.namedtuple("Event", "line register atomic first size value expected number whole failed",
-                                   defaults=(0, True, False))):
+class Event(collections.namedtuple("Event", "line register atomic first size value expected number whole",
+                                   defaults=(0, True))):
     """An access as a statement makes it: `register` is None where it doesn't read, `value` where it doesn't write;
-    `number` is its line's, `whole` whether it is marked against tearing, `failed` a compareExchange that wrote nothing."""
+    `number` is its line's, `whole` whether it is marked against tearing. A compareExchange that fails doesn't write."""
 
     def range(self):
         return range(self.first, self.first + self.size)
@@ -83,7 +83,7 @@ def walks(statements):
     if isinstance(head, If):
         ways = [[(None, (head, holds))] + walk for holds in (True, False) for walk in walks(head.body if holds else head.other)]
     elif head.expected is not None:
-        ways = [[(head, head)], [(head._replace(value=None, failed=True), head)]]
+        ways = [[(head, head)], [(head._replace(value=None), head)]]
     else:
         ways = [[(head, head)]]
     for way in ways:

@@ -2,13 +2,12 @@
 in which that read alone takes all its bytes from one store, or from the first zeros, is valid and has the same outcome."""
 import time
 
-from litmus.execution import Relations, execution_of
+from litmus.executions import ask_sources
 from litmus.text import Fault
 from litmus.unread import Note
 
 SECONDS = 1  # for the examples of one report
-MOST_SETS = 2000  # of events, in the search for a memory-order
-SHOWN = 6  # outcomes that are named
+SHOWN = 6  # outcomes that are named beside the first
 
 
 def is_first(source):
@@ -20,35 +19,31 @@ def writers(sources):
     return list(dict.fromkeys("the first zeros" if is_first(source) else source for source in sources))
 
 
-def whole_sources(execution, name):
+def whole_sources(execution, read):
     """Ways for the read to take all its bytes from one store, or from the first zeros."""
-    read = execution.events[name]
     yield "the first zeros", [f"init[{byte}]" for byte in read.range()]
     for other, event in execution.events.items():
-        if event.value is not None and other != name and not is_first(other) and set(read.range()) <= set(event.range()):
+        if event.writes is not None and other != read.name and not is_first(other) and set(read.range()) <= set(event.range()):
             yield other, [other] * read.size
 
 
-def valid(test, sources, outcome):
-    try:
-        return Relations(execution_of(test, sources, (), outcome), MOST_SETS).refusal() is None
-    except Fault:
-        return False
+def needless(why, data, example, end):
+    """A read of this example that mixes stores needlessly, the stores, that which it can take all bytes from, and its line; or None,
+    where there is none."""
+    def told(sources):
+        left = end - time.monotonic()
+        if left <= 0:
+            raise Fault("the time is up")
+        return ask_sources(why, sources, values, "the text", data, left)
 
-
-def needless(test, sources, outcome, end):
-    """A read of this example that mixes stores needlessly, the stores, and that which it can take all bytes from; or None, where
-    there is none or the time is up."""
+    sources, values = dict(example["from"]), dict(example["values"])
     mixed = [name for name, given in sources.items() if len(writers(given)) > 1]
-    if not mixed:
-        return None
-    execution = execution_of(test, sources, (), outcome)
-    for name in mixed:
-        for one, whole in whole_sources(execution, name):
-            if time.monotonic() > end:
-                return None
-            if valid(test, {**sources, name: whole}, outcome):
-                return name, writers(sources[name]), one, execution.events[name].number
+    execution = told(sources) if mixed else None
+    for name in mixed if execution else []:
+        for one, whole in whole_sources(execution, execution.events[name]):
+            other = told({**sources, name: whole})
+            if other and not other.refusal:
+                return name, writers(sources[name]), one, execution.events[name].line
     return None
 
 
@@ -63,17 +58,24 @@ def those(others):
     return f"those of outcomes {', '.join(others[:SHOWN]) + ' and others' if others[SHOWN:] else spoken(others)}"
 
 
-def notes(test, outcomes):
-    """One note at the most on the outcomes as litmus.report has them."""
+def torn_examples(why, data, outcomes):
+    """The examples with such a read, as many as are named, that are found in time: each with what is found."""
     found, end = [], time.monotonic() + SECONDS
     for each in outcomes:
-        values = {tuple(name.split(".")): value for name, value in each["values"]}
         try:
-            torn = needless(test, dict(each["from"]), values, end)
+            torn = needless(why, data, each, end)
         except Fault:
-            continue
+            break
         if torn:
             found.append((f"the {each['group']} outcome" if "group" in each else f"outcome {each['number']}", torn))
+        if len(found) > SHOWN + 1:
+            break
+    return found
+
+
+def notes(why, data, outcomes):
+    """One note at the most on the outcomes as litmus.report has them; `why` is the path of jslit-why."""
+    found = torn_examples(why, data, outcomes)
     if not found:
         return []
     where, (name, mixed, one, line) = found[0]

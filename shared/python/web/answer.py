@@ -1,6 +1,7 @@
-"""answer.py PROGRAM KIND [VALUE ..]: answers one request of the page, with the text on standard input and JSON on standard
-output. It bounds its own memory and time first, and with them the program's, which it starts: so whatever a text asks for,
-the server is none the worse. KIND and its values are those of the table ANSWERS."""
+"""answer.py PROGRAM WHY KIND [VALUE ..]: answers one request of the page by PROGRAM and by WHY, which is jslit-why, with the text
+on standard input and JSON on standard output. It bounds its own memory and time first, and with them those of the programs that
+it starts: so whatever a text asks for, the server is none the worse. KIND and its values are those of the table ANSWERS."""
+import collections
 import json
 import pathlib
 import re
@@ -10,17 +11,18 @@ import sys
 
 sys.dont_write_bytecode = True
 sys.path.insert(0, str(pathlib.Path(__file__).resolve().parent.parent))
-from litmus import faults, noting, racing, refusals  # noqa: E402
+from litmus import faults, noting, refusals  # noqa: E402
 from litmus.condition import meets  # noqa: E402
+from litmus.executions import Execution, OutOfMemory, ask  # noqa: E402
+from litmus.forms import code_of  # noqa: E402
 from litmus.report import read_report  # noqa: E402
 from litmus.text import Fault, read_test  # noqa: E402
-from web.limits import MEBIBYTES, PART, REPORT, SECONDS, stopped  # noqa: E402
+from web.limits import MEBIBYTES, PART, RACE, REPORT, SECONDS, stopped  # noqa: E402
 
 EVENT = r"(?:init\[\d{1,2}\]|\w{1,32}\.\d{1,2})"
+NAME = "the text"
 
-
-class OutOfMemory(Exception):
-    """The program has said so."""
+Programs = collections.namedtuple("Programs", "jslit why")
 
 
 def bound():
@@ -43,13 +45,13 @@ def asked(program, words, data, part=range(0)):
     report = read_report(run.stdout, part)
     status = run.wait()
     if status == 3:
-        raise OutOfMemory
+        raise OutOfMemory("out of memory")
     if status not in (0, 1) or (status == 1) != ("refused" in report.other):
         raise Fault(f"the program ended with status {status}")
     return report
 
 
-def refused(program, line, data, schedule=None):
+def refused(programs, line, data, schedule=None):
     """The program's refusal, what there is to say of it, and the same of the text's other faults."""
     def fault(said, advice):
         kind, name = said.split()[1:3]
@@ -58,7 +60,7 @@ def refused(program, line, data, schedule=None):
 
     def ask(text):
         try:
-            return asked(program, ["--schedule", ""], text).other.get("refused")
+            return asked(programs.jslit, ["--schedule", ""], text).other.get("refused")
         except Fault:
             return None
 
@@ -73,33 +75,48 @@ def marked(outcomes, condition):
     return outcomes
 
 
-def answer_report(program, data, skip="0"):
+def answer_report(programs, data, skip="0"):
     if not re.fullmatch("[0-9]{1,15}", skip):
         raise Fault("how many outcomes to leave out is no number")
     first = int(skip)
-    report = asked(program, [], data, range(first, first + PART))
-    return told("report", program, report, data) | {"skip": first}
+    report = asked(programs.jslit, [], data, range(first, first + PART))
+    return told("report", programs, report, data) | {"skip": first}
 
 
-def answer_quick(program, data):
-    return told("quick", program, asked(program, ["--quick"], data, range(2)), data)
+def answer_quick(programs, data):
+    return told("quick", programs, asked(programs.jslit, ["--quick"], data, range(2)), data)
 
 
-def told(kind, program, report, data):
+def racing(programs, data):
+    """The pairs of accesses in a data race of the first execution with one, where jslit-why finds it in time: of each its name, the
+    number of its line and its line; else None."""
+    try:
+        answer = ask(programs.why, ["--race"], NAME, data, RACE)
+    except Fault:
+        return None
+    if not answer["data_race"]:
+        return None
+    execution, lines = Execution(answer["execution"]), data.decode("latin-1").split("\n")
+    pairs = [[execution.events[name] for name in pair] for pair in execution.races]
+    return [[{"name": event.name, "line": event.line, "code": " ".join(code_of(lines[event.line - 1]).split())} for event in pair]
+            for pair in pairs]
+
+
+def told(kind, programs, report, data):
     if "refused" in report.other:
-        return refused(program, report.other["refused"], data)
+        return refused(programs, report.other["refused"], data)
     test = read_test(data.decode("latin-1"))
-    race = racing.shown(test, report.outcomes) if report.other.get("race") == "yes" else None
+    race = racing(programs, data) if report.other.get("race") == "yes" else None
     return {"kind": kind, "condition": test.condition.strip(), **report.other, "racing": race,
             "notes": [note._asdict() for note in noting.of_report(data, report.outcomes)],
             "outcomes": marked(report.outcomes, test.condition)}
 
 
-def answer_text(program, data, examples):
+def answer_text(programs, data, examples):
     """The report as the program prints it, with its examples or without."""
     if examples not in ("with", "without"):
         raise Fault("examples are with or without")
-    run = subprocess.Popen([program], stdin=subprocess.PIPE, stdout=subprocess.PIPE, stderr=subprocess.DEVNULL)
+    run = subprocess.Popen([programs.jslit], stdin=subprocess.PIPE, stdout=subprocess.PIPE, stderr=subprocess.DEVNULL)
     try:
         run.stdin.write(data)
         run.stdin.close()
@@ -115,33 +132,52 @@ def answer_text(program, data, examples):
             raise Fault(f"it is longer than {REPORT >> 20} MB: the program itself has no such limit")
     status = run.wait()
     if status == 3:
-        raise OutOfMemory
+        raise OutOfMemory("out of memory")
     if status not in (0, 1):
         raise Fault(f"the program ended with status {status}")
     return {"kind": "text", "text": b"".join(kept).decode("latin-1")}
 
 
-def answer_schedule(program, data, turns):
-    report = asked(program, ["--schedule", turns], data)
+def answer_schedule(programs, data, turns):
+    report = asked(programs.jslit, ["--schedule", turns], data)
     if "refused" in report.other:
-        return refused(program, report.other["refused"], data, turns)
+        return refused(programs, report.other["refused"], data, turns)
     return {"kind": "schedule", "turns": turns, **report.other}
 
 
-def answer_picture(program, data, sources, order, outcome):
-    """The picture of an execution, given as the report gives it."""
-    # Here alone, since most answers need no picture.
-    from litmus.drawing import Drawing
-    from litmus.execution import Relations, execution_of
-    report = asked(program, ["--schedule", ""], data)
+def pictured(programs, data, drawing_of, *given):
+    """The picture of an execution of a text that the program takes, with what it shows in words."""
+    report = asked(programs.jslit, ["--schedule", ""], data)
     if "refused" in report.other:
-        return refused(program, report.other["refused"], data)
-    given = dict(re.fullmatch(rf"({EVENT})=({EVENT}(?:,{EVENT})*)", word).groups() for word in sources.split())
-    values = {(agent, register): int(value) for agent, register, value in
-              (re.fullmatch(r"(\w+)\.(r[0-7])=(\d+)", word).groups() for word in outcome.split())}
-    test = read_test(data.decode("latin-1"))
-    execution = execution_of(test, {name: each.split(",") for name, each in given.items()}, order.split(), values)
-    return {"kind": "picture", **Drawing(f"{test.name}: {outcome}", test, Relations(execution)).laid_out().shapes()}
+        return refused(programs, report.other["refused"], data)
+    drawing = drawing_of(programs.why, *given, NAME, data)
+    return {"kind": "picture", "lines": drawing.lines(), **drawing.laid_out().shapes()}
+
+
+def answer_picture(programs, data, sources, outcome):
+    """The picture of an outcome's example, given as the report gives it."""
+    # Here alone, since most answers need no picture.
+    from litmus import scenes
+    words = [re.fullmatch(rf"({EVENT})=({EVENT}(?:,{EVENT})*)", word) for word in sources.split()]
+    registers = [re.fullmatch(r"(\w+\.r[0-7])=(\d{1,10})", word) for word in outcome.split()]
+    if None in words or None in registers:
+        raise Fault("sources or outcome are none")
+    given = {word[1]: word[2].split(",") for word in words}
+    return pictured(programs, data, scenes.example, given, {register[1]: int(register[2]) for register in registers})
+
+
+def answer_why(programs, data, outcomes):
+    """The picture of an attempt at an outcome that meets the condition, or that doesn't."""
+    from litmus import scenes
+    if outcomes not in ("met", "unmet"):
+        raise Fault("outcomes are met or unmet")
+    return pictured(programs, data, scenes.attempt, outcomes == "unmet")
+
+
+def answer_race(programs, data):
+    """The picture of the first execution with a data race."""
+    from litmus import scenes
+    return pictured(programs, data, scenes.race)
 
 
 # Each kind with what answers it, and the names of its values.
@@ -150,14 +186,16 @@ ANSWERS = {
     "quick": (answer_quick, ()),
     "schedule": (answer_schedule, ("turns",)),
     "text": (answer_text, ("examples",)),
-    "picture": (answer_picture, ("sources", "order", "outcome")),
+    "picture": (answer_picture, ("sources", "outcome")),
+    "why": (answer_why, ("outcomes",)),
+    "race": (answer_race, ()),
 }
 
 
-def main(program, kind, *given):
+def main(program, why, kind, *given):
     bound()
     try:
-        answer = ANSWERS[kind][0](program, sys.stdin.buffer.read(), *given)
+        answer = ANSWERS[kind][0](Programs(program, why), sys.stdin.buffer.read(), *given)
     except (MemoryError, OutOfMemory):
         answer = stopped("memory")
     except Fault as fault:

@@ -25,8 +25,9 @@ class Gone(Exception):
 
 
 class Jobs:
-    def __init__(self, program):
-        self.program, self.turns, self.lock, self.running = program, threading.BoundedSemaphore(RUNS), threading.Lock(), set()
+    def __init__(self, program, why):
+        self.program, self.why, self.running = program, why, set()
+        self.turns, self.lock = threading.BoundedSemaphore(RUNS), threading.Lock()
         self.ended = False
 
     def answer(self, kind, given, data, client):
@@ -34,7 +35,7 @@ class Jobs:
         if not self.turns.acquire(timeout=PATIENCE):
             raise Busy
         try:
-            said = self.run([sys.executable, "-I", str(ANSWERER), self.program, kind, *given], data, client)
+            said = self.run([sys.executable, "-I", str(ANSWERER), self.program, self.why, kind, *given], data, client)
         finally:
             self.turns.release()
         return said

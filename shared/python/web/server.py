@@ -96,9 +96,9 @@ class Server(http.server.ThreadingHTTPServer):
     daemon_threads = True
     request_queue_size = 128
 
-    def __init__(self, port, program):
+    def __init__(self, port, program, why):
         super().__init__(("127.0.0.1", port), Handler)
-        self.files, self.jobs, self.places = fixed_files(), Jobs(program), Places(CONNECTIONS)
+        self.files, self.jobs, self.places = fixed_files(), Jobs(program, why), Places(CONNECTIONS)
         self.names = {f"{name}:{self.server_port}" for name in ("127.0.0.1", "localhost")}
 
     def server_bind(self):

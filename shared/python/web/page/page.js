@@ -62,7 +62,7 @@ function show(answer, kind) {
     say('failed', `No answer: ${answer.said}.`);
   } else {
     told = answer;
-    sayVerdict(answer);
+    sayVerdict(answer, showWhy, showRace);
     sayNotes(answer.notes);
     byId('save-report').hidden = answer.kind !== 'report';
     byId('outcomes').hidden = answer.outcomes.length === 0;
@@ -99,27 +99,46 @@ async function saveReport(examples) {
 
 let drawn = '';   // a name for the picture that is shown
 
-async function showOutcome(outcome) {
-  const title = `Outcome ${grouped(outcome.number)}: ${spoken(outcome)}`;
+// Draws what the server answers to a question. Beside it stand its lines in the report, or where it has none what the picture shows.
+async function draw(title, name, kind, words, lines = null) {
   byId('example').hidden = false;
-  for (const name of ['save-svg', 'save-png']) byId(name).disabled = true;
-  drawn = `${told.test}-${outcome.number}`;
+  for (const each of ['save-svg', 'save-png']) byId(each).disabled = true;
+  drawn = `${told.test}-${name}`;
   byId('example-title').textContent = title;
-  byId('lines').textContent = linesOf(outcome);
+  byId('lines-title').textContent = lines === null ? 'In words' : 'In the report';
+  byId('lines').textContent = lines ?? '';
   byId('picture').setAttribute('aria-busy', 'true');
   byId('picture').textContent = 'Drawing.';
-  const words = {
-    sources: outcome.from.map(([event, sources]) => `${event}=${sources.join(',')}`).join(' '),
-    order: outcome.order.join(' '),
-    outcome: spoken(outcome),
-  };
-  const picture = await ask('picture', 'picture', words, asked);
+  const picture = await ask('picture', kind, words, asked);
   if (!picture) return;
   byId('picture').setAttribute('aria-busy', 'false');
   for (const name of ['save-svg', 'save-png']) byId(name).disabled = picture.kind !== 'picture';
-  if (picture.kind === 'picture') showPicture(picture, title);
-  else byId('picture').textContent = `There is no picture: ${picture.limit ? `stopped at the limit of ${picture.limit}` : picture.said ?? picture.refused}.`;
+  if (picture.kind === 'picture') {
+    showPicture(picture, title);
+    byId('lines').textContent = lines ?? picture.lines.join('\n');
+  } else byId('picture').textContent = `There is no picture: ${picture.limit ? `stopped at the limit of ${picture.limit}` : picture.said ?? picture.refused}.`;
   byId('example').scrollIntoView({ block: 'nearest' });
+}
+
+function showOutcome(outcome) {
+  const sources = outcome.from.map(([event, given]) => `${event}=${given.join(',')}`).join(' ');
+  return draw(`Outcome ${grouped(outcome.number)}: ${spoken(outcome)}`, outcome.number, 'picture', { sources, outcome: spoken(outcome) },
+    linesOf(outcome));
+}
+
+// Who asks for these goes to where they are shown.
+function showWhy() {
+  const never = told.verdict === 'never';
+  const shown = draw(never ? 'Why not: an attempt to meet the condition' : 'Why always: an attempt to fail the condition', 'why', 'why',
+    { outcomes: never ? 'met' : 'unmet' });
+  byId('example-title').focus();
+  return shown;
+}
+
+function showRace() {
+  const shown = draw('The first execution with a data race', 'race', 'race', {});
+  byId('example-title').focus();
+  return shown;
 }
 
 function changed() {

@@ -28,7 +28,8 @@ function edge({ kind, arrow, points }) {
 
 function box({ name, kind, x, y, width, height, lines, size }) {
   const step = size * 1.24;
-  const texts = lines.map((line, place) => shape('text', { x, y: y + (place - (lines.length - 1) / 2) * step, 'font-size': size }, line));
+  const at = kind === 'reason' ? x - width / 2 + 6 : x;
+  const texts = lines.map((line, place) => shape('text', { x: at, y: y + (place - (lines.length - 1) / 2) * step, 'font-size': size }, line));
   return shape('g', { class: kind, 'data-name': name }, shape('rect', { x: x - width / 2, y: y - height / 2, width, height }), ...texts);
 }
 
@@ -38,9 +39,11 @@ export function showPicture(picture, title) {
   const [left, top] = [0, 1].map((axis) => Math.min(...points.map((point) => point[axis])) - MARGIN);
   const [right, bottom] = [0, 1].map((axis) => Math.max(...points.map((point) => point[axis])) + MARGIN);
   const made = shape('svg', { viewBox: `${left} ${top} ${right - left} ${bottom - top}`, width: LARGER * (right - left), height: LARGER * (bottom - top),
-    role: 'img', 'aria-label': `${title}. The lines of the report below say the same.` }, ...picture.edges.map(edge), ...picture.boxes.map(box));
+    role: 'img', 'aria-label': `${title}. The lines below say the same.` }, ...picture.edges.map(edge), ...picture.boxes.map(box));
   byId('picture').replaceChildren(made);
-  byId('race-key').hidden = !picture.edges.some((each) => each.kind === 'race');
+  for (const key of document.querySelectorAll('#legend [data-kind]')) {
+    key.hidden = !picture.edges.some((each) => each.kind === key.dataset.kind);
+  }
   byId('picture').scrollLeft = 0;
 }
 

@@ -57,6 +57,7 @@ function paint(brush, shape) {
   brush.setLineDash((given('stroke-dasharray') ?? '').match(/[\d.]+/g)?.map(Number) ?? []);
   if (shape.localName === 'text') {
     brush.font = `${given('font-weight')} ${given('font-size')} ${given('font-family')}`;
+    brush.textAlign = given('text-anchor') === 'start' ? 'left' : 'center';
     brush.fillText(shape.textContent, Number(given('x')), Number(given('y')));
     return;
   }
@@ -78,7 +79,6 @@ export function savePng(name) {
     brush.translate(-x, -y);
     brush.fillStyle = paper;
     brush.fillRect(x, y, width, height);
-    brush.textAlign = 'center';
     brush.textBaseline = 'middle';
     for (const shape of copy.querySelectorAll('path, rect, text')) paint(brush, shape);
     canvas.toBlob((blob) => saveBlob(name, blob), 'image/png');

@@ -12,29 +12,33 @@ export function say(kind, ...inside) {
 
 const access = ({ name, line, code }) => [make('code', {}, code), ` (${name}, line ${line})`];
 
-// What the report says of data races, and which example shows one.
-function race(told) {
+const asking = (id, said, act) => make('p', {}, make('button', { type: 'button', id, onclick: act }, said));
+
+// What the report says of data races, and which accesses are in one.
+function race(told, show) {
   if (told.kind === 'quick') return [make('p', { class: 'note' }, 'A quick report doesn\u2019t say whether there is a data race.')];
   if (!told.race) return [];
   const said = [make('p', { id: 'race', class: `race-${told.race}` }, make('strong', {}, `data race ${told.race}`))];
   if (told.racing) {
-    const [[one, other], ...more] = told.racing.pairs;
+    const [[one, other], ...more] = told.racing;
     const also = more.length ? `, and ${more.length} more pair${more.length === 1 ? '' : 's'}` : '';
-    const where = `as in the example of outcome ${grouped(told.racing.number)}: `;
-    said.push(make('p', { id: 'racing' }, where, ...access(one), ' and ', ...access(other), also));
+    said.push(make('p', { id: 'racing' }, 'as in the first execution with one: ', ...access(one), ' and ', ...access(other), also));
   } else {
-    const why = told.race === 'yes' ? 'some execution has one; it need not be one of these examples' : 'no execution has one';
-    said.push(make('p', { id: 'racing' }, why));
+    said.push(make('p', { id: 'racing' }, told.race === 'yes' ? 'some execution has one' : 'no execution has one'));
   }
-  return said;
+  return told.race === 'yes' ? [...said, asking('show-race', 'Show the race', show)] : said;
 }
 
-export function sayVerdict(told) {
+// What there is to ask where all outcomes are alike.
+const WHY = { always: 'Why always?', never: 'Why not?' };
+
+export function sayVerdict(told, showWhy, showRace) {
   const count = told.kind === 'quick' ? 'quick report: an example of each kind that there is'
     : `${grouped(told.count)} outcome${told.count === 1 ? '' : 's'}`;
   say('told', make('p', {}, make('strong', {}, `${told.test}: verdict ${told.verdict}`)),
     make('p', {}, `${MEANS[told.verdict]} the condition `, make('code', {}, told.condition)),
-    make('p', { id: 'count' }, count), ...race(told));
+    ...(WHY[told.verdict] ? [asking('show-why', WHY[told.verdict], showWhy)] : []),
+    make('p', { id: 'count' }, count), ...race(told, showRace));
 }
 
 export function sayStopped(told, kind, quick) {
