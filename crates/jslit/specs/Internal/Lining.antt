@@ -1,7 +1,7 @@
 -- The lines of the reads of a choice, the last up to its sources, kept.
+use Rattle.std.specs.Prelude.{List}
 use Rattle.lit_read.specs.Syntax.{Litmus}
 use Rattle.lit_paths.specs.declared.event.Event.{Event}
-use Rattle.std.specs.Prelude.{List}
 use Rattle.jslit.specs.declared.page.lining.KeptLines.{KeptLines}
 use Rattle.jslit.specs.Internal.Keeping.{Holds}
 use Rattle.jslit.specs.Internal.ReadLine.{lines_up_to}
