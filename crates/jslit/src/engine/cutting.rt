@@ -53,23 +53,30 @@ fn is_observed(combination: &Combination<'_>, read: u8) -> bool {
     false
 }
 
-/// How many choices of the first combination have the same sources of its leading observed bytes: of as many bytes as make few
-/// pieces. Other sources mostly are other values, so hardly an outcome is in two such pieces; and as bytes of one read mostly come
-/// from one event, pieces that are cut elsewhere leave most workers nothing to do.
-fn cut_by_sources(plan: &Plan<'_>) -> u64
+/// How many choices of the first combination have the same sources of its leading observed bytes, for as many bytes as make so many
+/// pieces that likely have outcomes: those in which the bytes of a read come from one event. Other sources mostly are other values, so
+/// hardly an outcome is in two such pieces, where an even cut leaves most workers nothing to do.
+fn cut_by_sources(plan: &Plan<'_>, wanted: u64) -> u64
     ensures some { 0 < result }
     ensures small { result ≤ CHOICE_LIMIT }
 {
     // That there is a combination is known of how many there are.
     let _combinations = plan.combinations();
     let combination = plan.enter(0);
-    let mut cut = plan.total();
+    let (mut cut, mut likely, mut last) = (plan.total(), 1_u64, None);
     for (place, at) in combination.byte_reads().iter().enumerate() {
         let next = combination.ways_after(place);
-        if plan.total().div_ceil(next) > PIECES_BY_SOURCES || !is_observed(&combination, at.read) {
+        if likely >= wanted
+            || plan.total().div_ceil(next) > PIECES_BY_SOURCES
+            || !is_observed(&combination, at.read)
+        {
             break;
         }
         cut = next;
+        if last != Some(at.read) {
+            likely = likely.saturating_mul(combination.candidates(place).len() as u64);
+            last = Some(at.read);
+        }
     }
     // Each of these is from 1 to the total; saying so here spares the loop an invariant.
     cut.min(plan.total()).max(1)
@@ -81,9 +88,10 @@ pub(crate) fn cut_for_outcomes(plan: &Plan<'_>, options: Options) -> u64
     ensures some { 0 < result }
     ensures small { result ≤ CUT_LIMIT }
 {
-    let even = plan.total().div_ceil(pieces_of(options.workers));
+    let wanted = pieces_of(options.workers);
+    let even = plan.total().div_ceil(wanted);
     if options.workers == 1 {
         return options.cut.max(even);
     }
-    options.cut.max(cut_by_sources(plan).min(even))
+    options.cut.max(cut_by_sources(plan, wanted).min(even))
 }
