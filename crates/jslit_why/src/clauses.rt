@@ -43,7 +43,7 @@ pub(crate) fn place_of(refusal: Refusal) -> usize
     ensures { result < CLAUSE_COUNT }
 {
     match refusal {
-        Refusal::FalseTest { .. } => 0,
+        Refusal::FalseGuard { .. } => 0,
         Refusal::BeforeItself { .. } => 1,
         Refusal::Incoherent { .. } => 2,
         Refusal::Torn { .. } => 3,

@@ -271,9 +271,9 @@ fn put_refusal(alloc: Global, page: &mut Vec<u8>, scene: &Scene<'_>) -> io::Resu
     };
     write!(page, "{{\"clause\":\"{}\"", clause_of(refusal).name)?;
     match refusal {
-        Refusal::FalseTest { agent, place } => {
+        Refusal::FalseGuard { agent, place } => {
             write!(page, ",\"agent\":{agent},\"test\":{place},\"line\":")?;
-            put_number(page, scene.line_of_test(alloc, agent, place)?)?;
+            put_number(page, scene.line_of_guard(alloc, agent, place)?)?;
         }
         Refusal::BeforeItself { event } => {
             page.write_all(b",\"event\":")?;

@@ -5,7 +5,7 @@ use lit_read::{Stmt, count_with_parts, statement_count};
 use std::alloc::{AllocError, Global};
 
 /// The tests after the next one.
-fn tests_behind(tests: &[Tested]) -> &[Tested] {
+fn guards_behind(tests: &[Tested]) -> &[Tested] {
     match tests {
         [_, rest @ ..] => rest,
         [] => tests,
@@ -46,7 +46,7 @@ fn push_guards_at<'t>(
     statement: &Stmt,
     tests: &'t [Tested],
 ) -> Result<&'t [Tested], AllocError> {
-    let left = tests_behind(tests);
+    let left = guards_behind(tests);
     match statement {
         Stmt::Load { .. } | Stmt::Store { .. } | Stmt::Exchange { .. } => Ok(tests),
         Stmt::CompareExchange { .. } => {

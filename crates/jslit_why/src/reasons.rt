@@ -96,7 +96,7 @@ fn put_no_order(alloc: Global, page: &mut Vec<u8>, scene: &Scene<'_>) -> io::Res
 }
 
 /// Puts that the path of an agent takes a read to have another value than it has.
-fn put_false_test(
+fn put_false_guard(
     alloc: Global,
     page: &mut Vec<u8>,
     scene: &Scene<'_>,
@@ -111,7 +111,7 @@ fn put_false_test(
         return Ok(());
     };
     page.write_all(b"  the path")?;
-    if let Some(line) = scene.line_of_test(alloc, agent, place)? {
+    if let Some(line) = scene.line_of_guard(alloc, agent, place)? {
         write!(page, " from line {line}")?;
     }
     let other = if test.equal {
@@ -134,7 +134,7 @@ fn put_false_test(
 pub(crate) fn put_reason(alloc: Global, page: &mut Vec<u8>, scene: &Scene<'_>) -> io::Result<()> {
     match scene.refusal {
         None => Ok(()),
-        Some(Refusal::FalseTest { agent, place }) => put_false_test(
+        Some(Refusal::FalseGuard { agent, place }) => put_false_guard(
             alloc, page, scene, agent, place,
         ),
         Some(Refusal::BeforeItself { event }) => {

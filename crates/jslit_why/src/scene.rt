@@ -75,7 +75,7 @@ impl<'p> Scene<'p> {
     }
 
     /// The line of the statement that a test of an agent's path comes from.
-    pub(crate) fn line_of_test(
+    pub(crate) fn line_of_guard(
         &self,
         alloc: Global,
         agent: usize,

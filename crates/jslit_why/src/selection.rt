@@ -180,7 +180,7 @@ pub(crate) fn select(
         }
         match scene.refusal {
             None => return Ok(Some(choice)),
-            Some(Refusal::FalseTest { .. }) => (),
+            Some(Refusal::FalseGuard { .. }) => (),
             Some(_) => allowed = allowed.or(Some(choice)),
         }
     }

@@ -8,9 +8,9 @@ use Rattle.lit_read.specs.Litmus.{statement_of, statements_of}
 use Rattle.lit_read.specs.StatementOrder.{count_with_parts, statement_count}
 use Rattle.lit_paths.specs.declared.path.Tested.{Tested}
 use Rattle.lit_paths.specs.Path.{Step, IfMet, IsStatementWalk, IsWalk, walks_of, statement_walks}
-use Rattle.lit_paths.specs.PathModel.{tests_at, tests_after, tests_on, asked, access_count}
+use Rattle.lit_paths.specs.PathModel.{guards_at, guards_after, guards_on, asked, access_count}
 use Rattle.lit_paths.specs.StatementNumbers.{AreStatementMakers, AreMakers}
-use Rattle.lit_paths.specs.Internal.Makers.{asks_equal, tests_behind, holds_where, statement_makers, makers_of}
+use Rattle.lit_paths.specs.Internal.Makers.{asks_equal, guards_behind, holds_where, statement_makers, makers_of}
 use Rattle.lit_paths.specs.Internal.Walks.{longest, statement_longest, AreShort}
 use Rattle.lit_paths.proofs.AgentPaths.{longest-agent_of, count-agent_of}
 use Rattle.lit_paths.proofs.Parts.{statements_left, statements_end}
@@ -20,11 +20,11 @@ use Rattle.lit_paths.proofs.Walks.{length-walks_of, length-walks-if, walks_of-so
 
 -- ---- what is found are the makers
 
-tests_after-append : (before a b : List Step) → tests_after before (a ++ b) ≡ tests_after before a ++ tests_after (before ++ a) b
-tests_after-append before [] b = ap (λ (xs : List Step). tests_after xs b) (sym (append-nil before))
-tests_after-append before (step ∷ a) b =
-    ap (λ (ts : List Tested). tests_at before step ++ ts) (tests_after-append (before ++ step ∷ []) a b ∙ ap (λ (xs : List Step). tests_after (before ++ step ∷ []) a ++ tests_after xs b) (append_assoc before (step ∷ []) a))
-    ∙ sym (append_assoc (tests_at before step) (tests_after (before ++ step ∷ []) a) (tests_after (before ++ step ∷ a) b))
+guards_after-append : (before a b : List Step) → guards_after before (a ++ b) ≡ guards_after before a ++ guards_after (before ++ a) b
+guards_after-append before [] b = ap (λ (xs : List Step). guards_after xs b) (sym (append-nil before))
+guards_after-append before (step ∷ a) b =
+    ap (λ (ts : List Tested). guards_at before step ++ ts) (guards_after-append (before ++ step ∷ []) a b ∙ ap (λ (xs : List Step). guards_after (before ++ step ∷ []) a ++ guards_after xs b) (append_assoc before (step ∷ []) a))
+    ∙ sym (append_assoc (guards_at before step) (guards_after (before ++ step ∷ []) a) (guards_after (before ++ step ∷ a) b))
 
 holds_where-asked : (equal holds : Bool) → holds_where equal (asked equal holds) ≡ holds
 holds_where-asked true true = refl
@@ -47,7 +47,7 @@ joined n s ss steps first rest later tests between split early late =
     ((first, rest, (statement_makers n s tests).0, (makers_of (n + count_with_parts s) ss (statement_makers n s tests).1).0, split, refl, early.0, same.0), same.1)
 
 mutual
-  found_at : (n : ℕ) (s : Statement) (before steps : List Step) (later : List Tested) → IsStatementWalk s steps → AreFoundAt n s steps later (statement_makers n s (tests_after before steps ++ later))
+  found_at : (n : ℕ) (s : Statement) (before steps : List Step) (later : List Tested) → IsStatementWalk s steps → AreFoundAt n s steps later (statement_makers n s (guards_after before steps ++ later))
   found_at n (Load r w i a) before steps later h = rw h ((refl, refl), refl)
   found_at n (Store w i v a) before steps later h = rw h ((refl, refl), refl)
   found_at n (Exchange r w i v) before steps later h = rw h ((refl, refl), refl)
@@ -55,19 +55,19 @@ mutual
   found_at n (If r e v body other) before steps later (inl h) = rw h.1 (rw (holds_where-asked e true) (let inner = found (n + 1) body (before ++ IfMet r e v true ∷ []) h.0 later h.2 in (inl (h.0, refl, inner.0), inner.1)))
   found_at n (If r e v body other) before steps later (inr h) = rw h.1 (rw (holds_where-asked e false) (let inner = found (n + 1 + statement_count body) other (before ++ IfMet r e v false ∷ []) h.0 later h.2 in (inr (h.0, refl, inner.0), inner.1)))
 
-  pub found : (n : ℕ) (ss : Statements) (before steps : List Step) (later : List Tested) → IsWalk ss steps → AreFound n ss steps later (makers_of n ss (tests_after before steps ++ later))
+  pub found : (n : ℕ) (ss : Statements) (before steps : List Step) (later : List Tested) → IsWalk ss steps → AreFound n ss steps later (makers_of n ss (guards_after before steps ++ later))
   found n End before steps later h = rw h ((refl, refl), refl)
   found n (Then s ss) before steps later h =
-      let first = found_at n s before h.0 (tests_after (before ++ h.0) h.1 ++ later) h.3 in
+      let first = found_at n s before h.0 (guards_after (before ++ h.0) h.1 ++ later) h.3 in
       let rest = found (n + count_with_parts s) ss (before ++ h.0) h.1 later h.4 in
-      let tests : tests_after before steps ++ later ≡ tests_after before h.0 ++ (tests_after (before ++ h.0) h.1 ++ later) =
-      ap (λ (xs : List Step). tests_after before xs ++ later) h.2 ∙ ap (λ (ts : List Tested). ts ++ later) (tests_after-append before h.0 h.1) ∙ append_assoc (tests_after before h.0) (tests_after (before ++ h.0) h.1) later in
-      rw tests (joined n s ss steps h.0 h.1 later (tests_after before h.0 ++ (tests_after (before ++ h.0) h.1 ++ later)) (tests_after (before ++ h.0) h.1 ++ later) h.2 first rest)
+      let tests : guards_after before steps ++ later ≡ guards_after before h.0 ++ (guards_after (before ++ h.0) h.1 ++ later) =
+      ap (λ (xs : List Step). guards_after before xs ++ later) h.2 ∙ ap (λ (ts : List Tested). ts ++ later) (guards_after-append before h.0 h.1) ∙ append_assoc (guards_after before h.0) (guards_after (before ++ h.0) h.1) later in
+      rw tests (joined n s ss steps h.0 h.1 later (guards_after before h.0 ++ (guards_after (before ++ h.0) h.1 ++ later)) (guards_after (before ++ h.0) h.1 ++ later) h.2 first rest)
 
-makers_found : (ss : Statements) (steps : List Step) (tests : List Tested) → IsWalk ss steps → tests ≡ tests_on steps → AreMakers 0 ss steps (makers_of 0 ss tests).0
+makers_found : (ss : Statements) (steps : List Step) (tests : List Tested) → IsWalk ss steps → tests ≡ guards_on steps → AreMakers 0 ss steps (makers_of 0 ss tests).0
 makers_found ss steps tests walk is =
     let none : List Tested = [] in
-    let whole : tests_after [] steps ++ none ≡ tests = append-nil (tests_after [] steps) ∙ sym is in
+    let whole : guards_after [] steps ++ none ≡ tests = append-nil (guards_after [] steps) ∙ sym is in
     subst (λ (ts : List Tested). AreMakers 0 ss steps (makers_of 0 ss ts).0) whole (found 0 ss [] steps none walk).0
 
 -- ---- how many there are
@@ -97,10 +97,10 @@ mutual
   statement_makers_few n (Exchange r w i v) tests = omega arith
   statement_makers_few n (CompareExchange r w i e v) tests = omega arith
   statement_makers_few n (If r e v body other) tests =
-      by (holds_where e (asks_equal tests)) (makers_few (n + 1) body (tests_behind tests)) (makers_few (n + 1 + statement_count body) other (tests_behind tests))
+      by (holds_where e (asks_equal tests)) (makers_few (n + 1) body (guards_behind tests)) (makers_few (n + 1 + statement_count body) other (guards_behind tests))
     where
-      by : (x : Bool) → length (makers_of (n + 1) body (tests_behind tests)).0 ≤ longest body → length (makers_of (n + 1 + statement_count body) other (tests_behind tests)).0 ≤ longest other
-          → length (cond x (makers_of (n + 1) body (tests_behind tests)) (makers_of (n + 1 + statement_count body) other (tests_behind tests))).0 ≤ max (longest body) (longest other)
+      by : (x : Bool) → length (makers_of (n + 1) body (guards_behind tests)).0 ≤ longest body → length (makers_of (n + 1 + statement_count body) other (guards_behind tests)).0 ≤ longest other
+          → length (cond x (makers_of (n + 1) body (guards_behind tests)) (makers_of (n + 1 + statement_count body) other (guards_behind tests))).0 ≤ max (longest body) (longest other)
       by true then_few else_few = omega (arith, then_few)
       by false then_few else_few = omega (arith, else_few)
 
@@ -197,20 +197,20 @@ mutual
 -- ---- an `if`, by its parts
 
 pub found-then : (n : ℕ) (s : Statement) (reg : ℕ) (equal : Bool) (value : ℕ) (body other : Statements) (tests left : List Tested) (asked_equal holds : Bool) → s ≡ If reg equal value body other
-    → asked_equal ≡ asks_equal tests → holds ≡ holds_where equal asked_equal → left ≡ tests_behind tests → holds ≡ true → statement_makers n s tests ≡ makers_of (n + 1) body left
+    → asked_equal ≡ asks_equal tests → holds ≡ holds_where equal asked_equal → left ≡ guards_behind tests → holds ≡ true → statement_makers n s tests ≡ makers_of (n + 1) body left
 found-then n s reg equal value body other tests left asked_equal holds is asks by_asked behind so_holds =
     let so : holds_where equal (asks_equal tests) ≡ true = ap (holds_where equal) (sym asks) ∙ sym by_asked ∙ so_holds in
     ap (λ x. statement_makers n x tests) is
-    ∙ ap (λ (b : Bool). cond b (makers_of (n + 1) body (tests_behind tests)) (makers_of (n + 1 + statement_count body) other (tests_behind tests))) so
+    ∙ ap (λ (b : Bool). cond b (makers_of (n + 1) body (guards_behind tests)) (makers_of (n + 1 + statement_count body) other (guards_behind tests))) so
     ∙ ap (makers_of (n + 1) body) (sym behind)
 
 pub found-else : (n next : ℕ) (s : Statement) (reg : ℕ) (equal : Bool) (value : ℕ) (body other : Statements) (tests left : List Tested) (asked_equal holds : Bool) → s ≡ If reg equal value body other
-    → asked_equal ≡ asks_equal tests → holds ≡ holds_where equal asked_equal → left ≡ tests_behind tests → holds ≡ false → next ≡ n + 1 + statement_count body → statement_makers n s tests ≡ makers_of next other left
+    → asked_equal ≡ asks_equal tests → holds ≡ holds_where equal asked_equal → left ≡ guards_behind tests → holds ≡ false → next ≡ n + 1 + statement_count body → statement_makers n s tests ≡ makers_of next other left
 found-else n next s reg equal value body other tests left asked_equal holds is asks by_asked behind so_fails next_is =
     let so : holds_where equal (asks_equal tests) ≡ false = ap (holds_where equal) (sym asks) ∙ sym by_asked ∙ so_fails in
     ap (λ x. statement_makers n x tests) is
-    ∙ ap (λ (b : Bool). cond b (makers_of (n + 1) body (tests_behind tests)) (makers_of (n + 1 + statement_count body) other (tests_behind tests))) so
-    ∙ ap (λ m. makers_of m other (tests_behind tests)) (sym next_is) ∙ ap (makers_of next other) (sym behind)
+    ∙ ap (λ (b : Bool). cond b (makers_of (n + 1) body (guards_behind tests)) (makers_of (n + 1 + statement_count body) other (guards_behind tests))) so
+    ∙ ap (λ m. makers_of m other (guards_behind tests)) (sym next_is) ∙ ap (makers_of next other) (sym behind)
 
 pub agent_few : (t : Litmus) (agent : ℕ) → agent < length t.agents → AreShort t.agents → statement_count (agent_of t agent).body < 102400
 agent_few t agent inside short =
@@ -218,7 +218,7 @@ agent_few t agent inside short =
     let long : longest (agent_of t agent).body + 1 ≤ 25 = omega (arith, longest-agent_of t agent inside, short.short) in
     omega (arith, statements_few (agent_of t agent).body, mul-le-mul few long)
 
-pub makers_all_found : (ss body : Statements) (steps : List Step) (tests : List Tested) (begun new : List ℕ) → begun ≡ [] → ss ≡ body → new ≡ begun ++ (makers_of 0 ss tests).0 → tests ≡ tests_on steps → IsWalk body steps
+pub makers_all_found : (ss body : Statements) (steps : List Step) (tests : List Tested) (begun new : List ℕ) → begun ≡ [] → ss ≡ body → new ≡ begun ++ (makers_of 0 ss tests).0 → tests ≡ guards_on steps → IsWalk body steps
     → AreMakers 0 body steps new
 makers_all_found ss body steps tests begun new none same put is walk =
     let items : new ≡ (makers_of 0 body tests).0 = put ∙ ap (λ (xs : List ℕ). xs ++ (makers_of 0 ss tests).0) none ∙ ap (λ x. (makers_of 0 x tests).0) same in

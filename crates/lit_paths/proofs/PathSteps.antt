@@ -13,19 +13,19 @@ use Rattle.lit_paths.specs.declared.event.Event.{Event}
 use Rattle.lit_paths.specs.declared.path.Tested.{Tested}
 use Rattle.lit_paths.specs.Path.{Step, LoadMet, StoreMet, ExchangeMet, CompareExchangeMet, IfMet, IsStatementWalk, IsWalk, read_event, write_event, modify_event, compare_exchange_event, decisions_on, events_on}
 use Rattle.lit_paths.specs.Event.{does_read}
-use Rattle.lit_paths.specs.PathModel.{PathModel, IsReadAt, accesses_of, access_count, reads_into, last_read_from, last_read, asked, tests_after, tests_on, path_model}
+use Rattle.lit_paths.specs.PathModel.{PathModel, IsReadAt, accesses_of, access_count, reads_into, last_read_from, last_read, asked, guards_after, guards_on, path_model}
 use Rattle.lit_paths.specs.Internal.PathSteps.{empty_path, with_steps}
 
 -- ---- what steps ask and hold, from a place on, where the registers hold these reads
-abbrev pub tests_from : ℕ → List (Option ℕ) → List Step → List Tested
-tests_from place last [] = []
-tests_from place last (LoadMet reg window index atomic ∷ steps) = tests_from (place + 1) (slice_set last reg (Some place)) steps
-tests_from place last (StoreMet window index value atomic ∷ steps) = tests_from (place + 1) last steps
-tests_from place last (ExchangeMet reg window index value ∷ steps) = tests_from (place + 1) (slice_set last reg (Some place)) steps
-tests_from place last (CompareExchangeMet reg window index expected value succeeds ∷ steps) =
-    record { on = Some place; equal = succeeds; value = expected } ∷ tests_from (place + 1) (slice_set last reg (Some place)) steps
-tests_from place last (IfMet reg equal value holds ∷ steps) =
-    record { on = slice_index_or last reg None; equal = asked equal holds; value = value } ∷ tests_from place last steps
+abbrev pub guards_from : ℕ → List (Option ℕ) → List Step → List Tested
+guards_from place last [] = []
+guards_from place last (LoadMet reg window index atomic ∷ steps) = guards_from (place + 1) (slice_set last reg (Some place)) steps
+guards_from place last (StoreMet window index value atomic ∷ steps) = guards_from (place + 1) last steps
+guards_from place last (ExchangeMet reg window index value ∷ steps) = guards_from (place + 1) (slice_set last reg (Some place)) steps
+guards_from place last (CompareExchangeMet reg window index expected value succeeds ∷ steps) =
+    record { on = Some place; equal = succeeds; value = expected } ∷ guards_from (place + 1) (slice_set last reg (Some place)) steps
+guards_from place last (IfMet reg equal value holds ∷ steps) =
+    record { on = slice_index_or last reg None; equal = asked equal holds; value = value } ∷ guards_from place last steps
 
 abbrev pub last_from : ℕ → List (Option ℕ) → List Step → List (Option ℕ)
 last_from place last [] = last
@@ -38,21 +38,21 @@ last_from place last (IfMet reg equal value holds ∷ steps) = last_from place l
 abbrev pub model_from : ℕ → List Event → List Tested → List (Option ℕ) → List Step → PathModel
 model_from owner events tests last steps = record {
   events = events ++ events_on owner (length events) steps;
-  tests = tests ++ tests_from (length events) last steps;
+  tests = tests ++ guards_from (length events) last steps;
   last = last_from (length events) last steps;
 }
 
 -- one event in front of what the later steps make
 moved : (owner : ℕ) (events : List Event) (e : Event) (tests : List Tested) (last : List (Option ℕ)) (steps : List Step)
     → model_from owner (events ++ e ∷ []) tests last steps
-    ≡ record { events = events ++ e ∷ events_on owner (length events + 1) steps; tests = tests ++ tests_from (length events + 1) last steps; last = last_from (length events + 1) last steps }
+    ≡ record { events = events ++ e ∷ events_on owner (length events + 1) steps; tests = tests ++ guards_from (length events + 1) last steps; last = last_from (length events + 1) last steps }
 moved owner events e tests last steps =
     let n : ℕ = length events + 1 in
-    ap (λ (k : ℕ). record { events = (events ++ e ∷ []) ++ events_on owner k steps; tests = tests ++ tests_from k last steps; last = last_from k last steps }) (length_push events e)
-    ∙ ap (λ (es : List Event). record { events = es; tests = tests ++ tests_from n last steps; last = last_from n last steps }) (append_assoc events (e ∷ []) (events_on owner n steps))
+    ap (λ (k : ℕ). record { events = (events ++ e ∷ []) ++ events_on owner k steps; tests = tests ++ guards_from k last steps; last = last_from k last steps }) (length_push events e)
+    ∙ ap (λ (es : List Event). record { events = es; tests = tests ++ guards_from n last steps; last = last_from n last steps }) (append_assoc events (e ∷ []) (events_on owner n steps))
 
-abbrev put_tests : PathModel → List Tested → PathModel
-put_tests path tests = record { events = path.events; tests = tests; last = path.last }
+abbrev put_guards : PathModel → List Tested → PathModel
+put_guards path tests = record { events = path.events; tests = tests; last = path.last }
 
 with_steps-from : (owner : ℕ) (events : List Event) (tests : List Tested) (last : List (Option ℕ)) (steps : List Step)
     → with_steps owner (record { events = events; tests = tests; last = last }) steps ≡ model_from owner events tests last steps
@@ -75,11 +75,11 @@ with_steps-from owner events tests last (CompareExchangeMet reg window index exp
     let test : Tested = record { on = Some (length events); equal = succeeds; value = expected } in
     let whole : PathModel = record { events = events ++ e ∷ events_on owner (length events + 1) steps; tests = tests; last = last_from (length events + 1) held steps } in
     with_steps-from owner (events ++ e ∷ []) (tests ++ test ∷ []) held steps ∙ moved owner events e (tests ++ test ∷ []) held steps
-    ∙ ap (put_tests whole) (append_assoc tests (test ∷ []) (tests_from (length events + 1) held steps))
+    ∙ ap (put_guards whole) (append_assoc tests (test ∷ []) (guards_from (length events + 1) held steps))
 with_steps-from owner events tests last (IfMet reg equal value holds ∷ steps) =
     let test : Tested = record { on = slice_index_or last reg None; equal = asked equal holds; value = value } in
     with_steps-from owner events (tests ++ test ∷ []) last steps
-    ∙ ap (put_tests (model_from owner events tests last steps)) (append_assoc tests (test ∷ []) (tests_from (length events) last steps))
+    ∙ ap (put_guards (model_from owner events tests last steps)) (append_assoc tests (test ∷ []) (guards_from (length events) last steps))
 
 -- ---- the steps of what a text can say have registers that there are
 abbrev pub HasRegister : Step → Type 0
@@ -239,61 +239,61 @@ reflects-other before step last reads is = record {
 counted : (before : List Step) (step : Step) → access_count (before ++ step ∷ []) ≡ access_count before + accesses_of step
 counted before step = omega (arith, access_count-append before (step ∷ []))
 
-tests_after-from : (before steps : List Step) (last : List (Option ℕ)) → Reflects before last → HaveRegisters steps → tests_after before steps ≡ tests_from (access_count before) last steps
-tests_after-from before [] last is have = refl
-tests_after-from before (LoadMet reg window index atomic ∷ steps) last is have =
+guards_after-from : (before steps : List Step) (last : List (Option ℕ)) → Reflects before last → HaveRegisters steps → guards_after before steps ≡ guards_from (access_count before) last steps
+guards_after-from before [] last is have = refl
+guards_after-from before (LoadMet reg window index atomic ∷ steps) last is have =
     let step : Step = LoadMet reg window index atomic in
     let held = slice_set last reg (Some (access_count before)) in
-    tests_after-from (before ++ step ∷ []) steps held (reflects-read before step reg last (λ r. refl) is) have.1
-    ∙ ap (λ n. tests_from n held steps) (counted before step)
-tests_after-from before (StoreMet window index value atomic ∷ steps) last is have =
+    guards_after-from (before ++ step ∷ []) steps held (reflects-read before step reg last (λ r. refl) is) have.1
+    ∙ ap (λ n. guards_from n held steps) (counted before step)
+guards_after-from before (StoreMet window index value atomic ∷ steps) last is have =
     let step : Step = StoreMet window index value atomic in
-    tests_after-from (before ++ step ∷ []) steps last (reflects-other before step last (λ r. refl) is) have.1
-    ∙ ap (λ n. tests_from n last steps) (counted before step)
-tests_after-from before (ExchangeMet reg window index value ∷ steps) last is have =
+    guards_after-from (before ++ step ∷ []) steps last (reflects-other before step last (λ r. refl) is) have.1
+    ∙ ap (λ n. guards_from n last steps) (counted before step)
+guards_after-from before (ExchangeMet reg window index value ∷ steps) last is have =
     let step : Step = ExchangeMet reg window index value in
     let held = slice_set last reg (Some (access_count before)) in
-    tests_after-from (before ++ step ∷ []) steps held (reflects-read before step reg last (λ r. refl) is) have.1
-    ∙ ap (λ n. tests_from n held steps) (counted before step)
-tests_after-from before (CompareExchangeMet reg window index expected value succeeds ∷ steps) last is have =
+    guards_after-from (before ++ step ∷ []) steps held (reflects-read before step reg last (λ r. refl) is) have.1
+    ∙ ap (λ n. guards_from n held steps) (counted before step)
+guards_after-from before (CompareExchangeMet reg window index expected value succeeds ∷ steps) last is have =
     let step : Step = CompareExchangeMet reg window index expected value succeeds in
     let held = slice_set last reg (Some (access_count before)) in
     let test : Tested = record { on = Some (access_count before); equal = succeeds; value = expected } in
     ap (λ (ts : List Tested). test ∷ ts)
-    (tests_after-from (before ++ step ∷ []) steps held (reflects-read before step reg last (λ r. refl) is) have.1
-    ∙ ap (λ n. tests_from n held steps) (counted before step))
-tests_after-from before (IfMet reg equal value holds ∷ steps) last is have =
+    (guards_after-from (before ++ step ∷ []) steps held (reflects-read before step reg last (λ r. refl) is) have.1
+    ∙ ap (λ n. guards_from n held steps) (counted before step))
+guards_after-from before (IfMet reg equal value holds ∷ steps) last is have =
     let step : Step = IfMet reg equal value holds in
     let test : Option ℕ → Tested = λ on. record { on = on; equal = asked equal holds; value = value } in
-    ap (λ (o : Option ℕ). test o ∷ tests_after (before ++ step ∷ []) steps) (sym (is.each reg have.0))
+    ap (λ (o : Option ℕ). test o ∷ guards_after (before ++ step ∷ []) steps) (sym (is.each reg have.0))
     ∙ ap (λ (ts : List Tested). test (slice_index_or last reg None) ∷ ts)
-    (tests_after-from (before ++ step ∷ []) steps last (reflects-other before step last (λ r. refl) is) have.1
-    ∙ ap (λ n. tests_from n last steps) (counted before step ∙ (let e : access_count before + 0 ≡ access_count before = omega arith in e)))
+    (guards_after-from (before ++ step ∷ []) steps last (reflects-other before step last (λ r. refl) is) have.1
+    ∙ ap (λ n. guards_from n last steps) (counted before step ∙ (let e : access_count before + 0 ≡ access_count before = omega arith in e)))
 
-pub path_model-tests : (steps : List Step) → HaveRegisters steps → tests_from 0 (replicate REGISTERS None) steps ≡ tests_on steps
+pub path_model-tests : (steps : List Step) → HaveRegisters steps → guards_from 0 (replicate REGISTERS None) steps ≡ guards_on steps
 path_model-tests steps have =
     let none : List Step = [] in
-    sym (tests_after-from none steps (replicate REGISTERS None) (record { long = refl; each = λ r inside. none-at REGISTERS r }) have)
+    sym (guards_after-from none steps (replicate REGISTERS None) (record { long = refl; each = λ r inside. none-at REGISTERS r }) have)
 
 -- ---- a path once it is walked
 pub with_steps-model : (owner : ℕ) (steps : List Step) → HaveRegisters steps → with_steps owner empty_path steps ≡ path_model owner steps
 with_steps-model owner steps have =
-    let with_tests : List Tested → PathModel = λ tests. record { events = events_on owner 0 steps; tests = tests; last = last_from 0 (replicate REGISTERS None) steps } in
-    let with_last : List (Option ℕ) → PathModel = λ last. record { events = events_on owner 0 steps; tests = tests_on steps; last = last } in
-    with_steps-from owner [] [] (replicate REGISTERS None) steps ∙ ap with_tests (path_model-tests steps have) ∙ ap with_last (path_model-last steps)
+    let with_guards : List Tested → PathModel = λ tests. record { events = events_on owner 0 steps; tests = tests; last = last_from 0 (replicate REGISTERS None) steps } in
+    let with_last : List (Option ℕ) → PathModel = λ last. record { events = events_on owner 0 steps; tests = guards_on steps; last = last } in
+    with_steps-from owner [] [] (replicate REGISTERS None) steps ∙ ap with_guards (path_model-tests steps have) ∙ ap with_last (path_model-last steps)
 
 -- ---- one test for each decision
-length-tests_after : (before steps : List Step) → length (tests_after before steps) ≡ length (decisions_on steps)
-length-tests_after before [] = refl
-length-tests_after before (LoadMet reg window index atomic ∷ steps) = length-tests_after (before ++ LoadMet reg window index atomic ∷ []) steps
-length-tests_after before (StoreMet window index value atomic ∷ steps) = length-tests_after (before ++ StoreMet window index value atomic ∷ []) steps
-length-tests_after before (ExchangeMet reg window index value ∷ steps) = length-tests_after (before ++ ExchangeMet reg window index value ∷ []) steps
-length-tests_after before (CompareExchangeMet reg window index expected value succeeds ∷ steps) =
-    ap suc (length-tests_after (before ++ CompareExchangeMet reg window index expected value succeeds ∷ []) steps)
-length-tests_after before (IfMet reg equal value holds ∷ steps) = ap suc (length-tests_after (before ++ IfMet reg equal value holds ∷ []) steps)
+length-guards_after : (before steps : List Step) → length (guards_after before steps) ≡ length (decisions_on steps)
+length-guards_after before [] = refl
+length-guards_after before (LoadMet reg window index atomic ∷ steps) = length-guards_after (before ++ LoadMet reg window index atomic ∷ []) steps
+length-guards_after before (StoreMet window index value atomic ∷ steps) = length-guards_after (before ++ StoreMet window index value atomic ∷ []) steps
+length-guards_after before (ExchangeMet reg window index value ∷ steps) = length-guards_after (before ++ ExchangeMet reg window index value ∷ []) steps
+length-guards_after before (CompareExchangeMet reg window index expected value succeeds ∷ steps) =
+    ap suc (length-guards_after (before ++ CompareExchangeMet reg window index expected value succeeds ∷ []) steps)
+length-guards_after before (IfMet reg equal value holds ∷ steps) = ap suc (length-guards_after (before ++ IfMet reg equal value holds ∷ []) steps)
 
-pub length-tests_on : (steps : List Step) → length (tests_on steps) ≡ length (decisions_on steps)
-length-tests_on steps = let none : List Step = [] in length-tests_after none steps
+pub length-guards_on : (steps : List Step) → length (guards_on steps) ≡ length (decisions_on steps)
+length-guards_on steps = let none : List Step = [] in length-guards_after none steps
 
 -- ---- what is asked and held is of events that read
 pub length-events_on : (owner place : ℕ) (steps : List Step) → length (events_on owner place steps) ≡ access_count steps
@@ -379,30 +379,30 @@ pushed : (owner : ℕ) (before : List Step) (step : Step) (steps : List Step) (p
     → IsReadAt (events_on owner 0 (before ++ step ∷ steps)) place
 pushed owner before step steps place is = subst (λ (l : List Step). IsReadAt (events_on owner 0 l) place) (append_assoc before (step ∷ []) steps) is
 
-tests_after-reads : (owner : ℕ) (before steps : List Step) (k place : ℕ) (test : Tested) → slice_get (tests_after before steps) k ≡ Some test → test.on ≡ Some place
+guards_after-reads : (owner : ℕ) (before steps : List Step) (k place : ℕ) (test : Tested) → slice_get (guards_after before steps) k ≡ Some test → test.on ≡ Some place
     → IsReadAt (events_on owner 0 (before ++ steps)) place
-tests_after-reads owner before [] k place test at on = cc
-tests_after-reads owner before (LoadMet reg window index atomic ∷ steps) k place test at on =
-    pushed owner before (LoadMet reg window index atomic) steps place (tests_after-reads owner (before ++ LoadMet reg window index atomic ∷ []) steps k place test at on)
-tests_after-reads owner before (StoreMet window index value atomic ∷ steps) k place test at on =
-    pushed owner before (StoreMet window index value atomic) steps place (tests_after-reads owner (before ++ StoreMet window index value atomic ∷ []) steps k place test at on)
-tests_after-reads owner before (ExchangeMet reg window index value ∷ steps) k place test at on =
-    pushed owner before (ExchangeMet reg window index value) steps place (tests_after-reads owner (before ++ ExchangeMet reg window index value ∷ []) steps k place test at on)
-tests_after-reads owner before (CompareExchangeMet reg window index expected value succeeds ∷ steps) zero place test at on =
+guards_after-reads owner before [] k place test at on = cc
+guards_after-reads owner before (LoadMet reg window index atomic ∷ steps) k place test at on =
+    pushed owner before (LoadMet reg window index atomic) steps place (guards_after-reads owner (before ++ LoadMet reg window index atomic ∷ []) steps k place test at on)
+guards_after-reads owner before (StoreMet window index value atomic ∷ steps) k place test at on =
+    pushed owner before (StoreMet window index value atomic) steps place (guards_after-reads owner (before ++ StoreMet window index value atomic ∷ []) steps k place test at on)
+guards_after-reads owner before (ExchangeMet reg window index value ∷ steps) k place test at on =
+    pushed owner before (ExchangeMet reg window index value) steps place (guards_after-reads owner (before ++ ExchangeMet reg window index value ∷ []) steps k place test at on)
+guards_after-reads owner before (CompareExchangeMet reg window index expected value succeeds ∷ steps) zero place test at on =
     let same : record { on = Some (access_count before); equal = succeeds; value = expected } ≡ test = same_Some _ _ at in
     let here : Some (access_count before) ≡ Some place = ap (λ (m : Tested). m.on) same ∙ on in
     let is : access_count before ≡ place = cc in
     among-append owner place before (CompareExchangeMet reg window index expected value succeeds ∷ steps)
     (read-behind (events_on owner 0 before) _ place 0 (omega (arith, is, length-events_on owner 0 before)) (omega arith, exchange-reads owner (0 + access_count before) window index value succeeds))
-tests_after-reads owner before (CompareExchangeMet reg window index expected value succeeds ∷ steps) (suc k) place test at on =
+guards_after-reads owner before (CompareExchangeMet reg window index expected value succeeds ∷ steps) (suc k) place test at on =
     pushed owner before (CompareExchangeMet reg window index expected value succeeds) steps place
-    (tests_after-reads owner (before ++ CompareExchangeMet reg window index expected value succeeds ∷ []) steps k place test at on)
-tests_after-reads owner before (IfMet reg equal value holds ∷ steps) zero place test at on =
+    (guards_after-reads owner (before ++ CompareExchangeMet reg window index expected value succeeds ∷ []) steps k place test at on)
+guards_after-reads owner before (IfMet reg equal value holds ∷ steps) zero place test at on =
     let same : record { on = last_read before reg; equal = asked equal holds; value = value } ≡ test = same_Some _ _ at in
     let here : last_read before reg ≡ Some place = ap (λ (m : Tested). m.on) same ∙ on in
     among-append owner place before (IfMet reg equal value holds ∷ steps) (read-front (events_on owner 0 before) _ place (holds_reads owner before reg place here))
-tests_after-reads owner before (IfMet reg equal value holds ∷ steps) (suc k) place test at on =
-    pushed owner before (IfMet reg equal value holds) steps place (tests_after-reads owner (before ++ IfMet reg equal value holds ∷ []) steps k place test at on)
+guards_after-reads owner before (IfMet reg equal value holds ∷ steps) (suc k) place test at on =
+    pushed owner before (IfMet reg equal value holds) steps place (guards_after-reads owner (before ++ IfMet reg equal value holds ∷ []) steps k place test at on)
 
-pub tests_reads : (owner : ℕ) (steps : List Step) (k place : ℕ) (test : Tested) → slice_get (tests_on steps) k ≡ Some test → test.on ≡ Some place → IsReadAt (events_on owner 0 steps) place
-tests_reads owner steps k place test at on = let none : List Step = [] in tests_after-reads owner none steps k place test at on
+pub guards_reads : (owner : ℕ) (steps : List Step) (k place : ℕ) (test : Tested) → slice_get (guards_on steps) k ≡ Some test → test.on ≡ Some place → IsReadAt (events_on owner 0 steps) place
+guards_reads owner steps k place test at on = let none : List Step = [] in guards_after-reads owner none steps k place test at on

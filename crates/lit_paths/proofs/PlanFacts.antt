@@ -17,7 +17,7 @@ use Rattle.lit_paths.specs.Internal.Planned.{IsPlanned}
 use Rattle.lit_paths.specs.Internal.Totals.{totals_below}
 use Rattle.lit_paths.proofs.AgentPaths.{count_of-some}
 use Rattle.lit_paths.proofs.CombinedPaths.{count_of-combinations, path_at, walk_in-walks}
-use Rattle.lit_paths.proofs.PathSteps.{length-tests_on, tests_reads, holds_reads}
+use Rattle.lit_paths.proofs.PathSteps.{length-guards_on, guards_reads, holds_reads}
 use Rattle.lit_paths.proofs.Placed.{agent-stands}
 use Rattle.lit_paths.proofs.EventFacts.{are_events}
 use Rattle.lit_paths.proofs.Candidates.{candidates_of-known, candidates_of-found, candidates_from-rising}
@@ -135,8 +135,8 @@ walk_in-known t c agent litmus known inside =
       said = litmus.bodies agent inside;
       walked = walk_in-walks t c agent known inside;
       listed = path_at t c agent known inside;
-      one_test_each = length-tests_on steps;
-      tests_reads = λ k place test at on. tests_reads agent steps k place test at on;
+      one_guard_each = length-guards_on steps;
+      guards_reads = λ k place test at on. guards_reads agent steps k place test at on;
       holds_reads = λ r place at. holds_reads agent steps r place at;
       within = stands.within;
       numbered = λ place within. stands.each place no_event within;

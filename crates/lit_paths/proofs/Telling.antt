@@ -12,7 +12,7 @@ use Rattle.lit_paths.specs.PathModel.{PathModel, asked, path_model}
 use Rattle.lit_paths.specs.Run.{Run, IsRun, AgreesWith, compares, run_path}
 use Rattle.lit_paths.specs.Told.{read_places, chosen_on, value_at, value_on, is_true_of, TellsRuns}
 use Rattle.lit_paths.proofs.Walks.{walk-decided}
-use Rattle.lit_paths.proofs.PathSteps.{tests_from, last_from, path_model-tests, path_model-last, walk-registers}
+use Rattle.lit_paths.proofs.PathSteps.{guards_from, last_from, path_model-tests, path_model-last, walk-registers}
 
 -- ---- registers
 map-set : (f : Option ℕ → ℕ) (xs : List (Option ℕ)) (i : ℕ) (x : Option ℕ) → map f (slice_set xs i x) ≡ slice_set (map f xs) i (f x)
@@ -121,7 +121,7 @@ pub record Agreed (chosen : List (ℕ × ℕ)) (tests : List Tested) (last : Lis
 
 pub agrees-tells : (owner place : ℕ) (steps : List Step) (chosen : List (ℕ × ℕ)) (last : List (Option ℕ)) (before values after : List ℕ)
     → before ≡ map (value_on chosen) last → Looks chosen (chosen_on (events_on owner place steps) values) → AgreesWith steps before values after
-    → Agreed chosen (tests_from place last steps) (last_from place last steps) (read_places (events_on owner place steps)) values after
+    → Agreed chosen (guards_from place last steps) (last_from place last steps) (read_places (events_on owner place steps)) values after
 agrees-tells owner place [] chosen last before values after held looks agrees =
     record { true_of = refl; held = agrees.1 ∙ held; one_each = ap (λ vs. length vs) agrees.0 }
 agrees-tells owner place (LoadMet reg window index atomic ∷ steps) chosen last before values after held looks agrees =
@@ -164,7 +164,7 @@ agrees-tells owner place (IfMet reg equal value holds ∷ steps) chosen last bef
 -- agreement from what is told
 pub tells-agrees : (owner place : ℕ) (steps : List Step) (chosen : List (ℕ × ℕ)) (last : List (Option ℕ)) (before values : List ℕ)
     → before ≡ map (value_on chosen) last → Looks chosen (chosen_on (events_on owner place steps) values) → length values ≡ length (read_places (events_on owner place steps))
-    → list_all (is_true_of chosen) (tests_from place last steps) ≡ true → AgreesWith steps before values (map (value_on chosen) (last_from place last steps))
+    → list_all (is_true_of chosen) (guards_from place last steps) ≡ true → AgreesWith steps before values (map (value_on chosen) (last_from place last steps))
 tells-agrees owner place [] chosen last before [] held looks one_each true_of = (refl, sym held)
 tells-agrees owner place [] chosen last before (v ∷ values) held looks one_each true_of = absurd (omega (arith, one_each))
 tells-agrees owner place (LoadMet reg window index atomic ∷ steps) chosen last before [] held looks one_each true_of = absurd (omega (arith, one_each))
@@ -180,7 +180,7 @@ tells-agrees owner place (CompareExchangeMet reg window index expected stored su
 tells-agrees owner place (CompareExchangeMet reg window index expected stored succeeds ∷ steps) chosen last before (v ∷ values) held looks one_each true_of =
     let places = compare_exchange-places owner place window index stored succeeds (events_on owner (place + 1) steps) in
     let here : (value_at chosen place ≡ v) × Looks chosen (zip (read_places (events_on owner (place + 1) steps)) values) = subst (λ (ps : List ℕ). Looks chosen (zip ps (v ∷ values))) places looks in
-    let both = and_parts (compares succeeds (value_at chosen place) expected) (list_all (is_true_of chosen) (tests_from (place + 1) (slice_set last reg (Some place)) steps)) true_of in (
+    let both = and_parts (compares succeeds (value_at chosen place) expected) (list_all (is_true_of chosen) (guards_from (place + 1) (slice_set last reg (Some place)) steps)) true_of in (
       v,
       values,
       refl,
@@ -190,7 +190,7 @@ tells-agrees owner place (CompareExchangeMet reg window index expected stored su
     )
 tells-agrees owner place (IfMet reg equal value holds ∷ steps) chosen last before values held looks one_each true_of =
     let now : slice_index before reg ≡ value_on chosen (slice_index_or last reg None) = ap (λ (rs : List ℕ). slice_index rs reg) held ∙ held-index chosen last reg in
-    let both = and_parts (compares (asked equal holds) (value_on chosen (slice_index_or last reg None)) value) (list_all (is_true_of chosen) (tests_from place last steps)) true_of in (
+    let both = and_parts (compares (asked equal holds) (value_on chosen (slice_index_or last reg None)) value) (list_all (is_true_of chosen) (guards_from place last steps)) true_of in (
       asked-from equal holds (value_on chosen (slice_index_or last reg None)) value both.0 ∙ ap (λ v. compares equal v value) (sym now),
       tells-agrees owner place steps chosen last before values held looks one_each both.1,
     )
@@ -201,10 +201,10 @@ zeros chosen zero = refl
 zeros chosen (suc n) = ap (λ rs. 0 ∷ rs) (zeros chosen n)
 
 abbrev whole : ℕ → List Step → PathModel
-whole owner steps = record { events = events_on owner 0 steps; tests = tests_from 0 (replicate REGISTERS None) steps; last = last_from 0 (replicate REGISTERS None) steps }
+whole owner steps = record { events = events_on owner 0 steps; tests = guards_from 0 (replicate REGISTERS None) steps; last = last_from 0 (replicate REGISTERS None) steps }
 
 run-agreed : (owner : ℕ) (ss : Statements) (steps : List Step) → IsWalk ss steps → (run : Run) → IsRun owner ss run → run_path run ≡ path_on owner steps
-    → Agreed (chosen_on (events_on owner 0 steps) run.values) (tests_from 0 (replicate REGISTERS None) steps) (last_from 0 (replicate REGISTERS None) steps) (read_places (events_on owner 0 steps)) run.values run.registers
+    → Agreed (chosen_on (events_on owner 0 steps) run.values) (guards_from 0 (replicate REGISTERS None) steps) (last_from 0 (replicate REGISTERS None) steps) (read_places (events_on owner 0 steps)) run.values run.registers
 run-agreed owner ss steps walked run is on =
     let same : is.path.steps ≡ steps = walk-decided ss is.path.steps steps is.path.walked walked
     (ap (λ (p : Path). p.decisions) is.path.taken ∙ ap (λ (p : Path). p.decisions) on) in
@@ -230,9 +230,9 @@ tells-whole owner ss steps walked = record {
 
 pub tells_runs : (bytes owner : ℕ) (ss : Statements) (steps : List Step) → AreStatementsIn bytes ss → IsWalk ss steps → TellsRuns owner ss (path_on owner steps) (path_model owner steps)
 tells_runs bytes owner ss steps said walked =
-    let with_tests : List Tested → PathModel = λ tests. record { events = events_on owner 0 steps; tests = tests; last = last_from 0 (replicate REGISTERS None) steps } in
+    let with_guards : List Tested → PathModel = λ tests. record { events = events_on owner 0 steps; tests = tests; last = last_from 0 (replicate REGISTERS None) steps } in
     let with_last : List (Option ℕ) → PathModel = λ last. record { events = events_on owner 0 steps; tests = (path_model owner steps).tests; last = last } in
-    let same : whole owner steps ≡ path_model owner steps = ap with_tests (path_model-tests steps (walk-registers bytes ss steps said walked)) ∙ ap with_last (path_model-last steps) in
+    let same : whole owner steps ≡ path_model owner steps = ap with_guards (path_model-tests steps (walk-registers bytes ss steps said walked)) ∙ ap with_last (path_model-last steps) in
     subst (λ (told : PathModel). TellsRuns owner ss (path_on owner steps) told) same (tells-whole owner ss steps walked)
 
 pub one_value_each : (owner : ℕ) (ss : Statements) (run : Run) → IsRun owner ss run → length run.values ≡ length (read_places run.events)

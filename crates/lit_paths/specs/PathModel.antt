@@ -56,28 +56,28 @@ asked equal false = not equal
 
 -- What a step asks, of the steps before it: a compareExchange of its own read, and an `if` of the last read before it
 -- that goes into its register.
-abbrev pub tests_at : List Step → Step → List Tested
-tests_at before (LoadMet reg window index atomic) = []
-tests_at before (StoreMet window index value atomic) = []
-tests_at before (ExchangeMet reg window index value) = []
-tests_at before (CompareExchangeMet reg window index expected value succeeds) =
+abbrev pub guards_at : List Step → Step → List Tested
+guards_at before (LoadMet reg window index atomic) = []
+guards_at before (StoreMet window index value atomic) = []
+guards_at before (ExchangeMet reg window index value) = []
+guards_at before (CompareExchangeMet reg window index expected value succeeds) =
     record { on = Some (access_count before); equal = succeeds; value = expected } ∷ []
-tests_at before (IfMet reg equal value holds) = record { on = last_read before reg; equal = asked equal holds; value = value } ∷ []
+guards_at before (IfMet reg equal value holds) = record { on = last_read before reg; equal = asked equal holds; value = value } ∷ []
 
 -- what the steps after some ask
-abbrev pub tests_after : (before steps : List Step) → List Tested
-tests_after before [] = []
-tests_after before (step ∷ steps) = tests_at before step ++ tests_after (before ++ step ∷ []) steps
+abbrev pub guards_after : (before steps : List Step) → List Tested
+guards_after before [] = []
+guards_after before (step ∷ steps) = guards_at before step ++ guards_after (before ++ step ∷ []) steps
 
 -- what the steps of a path ask: one test for each decision, in order
-abbrev pub tests_on : List Step → List Tested
-tests_on steps = tests_after [] steps
+abbrev pub guards_on : List Step → List Tested
+guards_on steps = guards_after [] steps
 
 -- a path of these steps
 abbrev pub path_model : (owner : ℕ) → List Step → PathModel
 path_model owner steps = record {
   events = events_on owner 0 steps;
-  tests = tests_on steps;
+  tests = guards_on steps;
   last = map (last_read steps) (range_with_len 0 REGISTERS);
 }
 

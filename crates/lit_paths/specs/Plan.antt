@@ -12,7 +12,7 @@ use Rattle.lit_paths.specs.declared.fault.PlanFault.{PlanFault}
 use Rattle.lit_paths.specs.declared.fault.PlanFault.TheVariants.{TooManyEvents, TooManyPaths, TooManyChoices, OutOfMemory}
 use Rattle.lit_paths.specs.Event.{event_at, init_event}
 use Rattle.lit_paths.specs.Path.{Path, Step, IsWalk, walks_of, decisions_on, path_on}
-use Rattle.lit_paths.specs.PathModel.{PathModel, IsReadAt, last_read, tests_on, path_model}
+use Rattle.lit_paths.specs.PathModel.{PathModel, IsReadAt, last_read, guards_on, path_model}
 use Rattle.lit_paths.specs.Run.{run_path}
 use Rattle.lit_paths.specs.ByteReads.{byte_reads, IsCandidate}
 use Rattle.lit_paths.specs.Choice.{Choice, AreCombined, AreSources, events_of, product, choices_on, combinations_of, choices_of}
@@ -110,8 +110,8 @@ pub record IsWalkIn (t : Litmus) (c agent : ℕ) (steps : List Step) : Type 0 wh
   pub said : AreStatementsIn t.bytes (agent_of t agent).body
   pub walked : IsWalk (agent_of t agent).body steps
   pub listed : slice_get (combination_at t c) agent ≡ Some (path_on agent steps)
-  pub one_test_each : length (tests_on steps) ≡ length (decisions_on steps)
-  pub tests_reads : (k place : ℕ) (test : Tested) → slice_get (tests_on steps) k ≡ Some test → test.on ≡ Some place
+  pub one_guard_each : length (guards_on steps) ≡ length (decisions_on steps)
+  pub guards_reads : (k place : ℕ) (test : Tested) → slice_get (guards_on steps) k ≡ Some test → test.on ≡ Some place
       → IsReadAt (path_on agent steps).events place
   pub holds_reads : (r place : ℕ) → last_read steps r ≡ Some place → IsReadAt (path_on agent steps).events place
   pub within : first_event t c agent + length (path_on agent steps).events ≤ length (events_in t c)

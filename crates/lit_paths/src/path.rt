@@ -7,7 +7,7 @@ pub(crate) mod walking;
 ghost use Rattle.std.specs.Prelude.{◌≡◌, ◌<◌, length, Some, None, IfOk, slice_index_or};
 ghost use Rattle.lit_read.specs.declared.limits.TheConstants.{REGISTERS as HELD};
 ghost use Rattle.lit_paths.specs.declared.limits.TheConstants.{ACCESS_LIMIT as ACCESSES};
-ghost use Rattle.lit_paths.specs.Internal.PathSteps.{empty_path, with_access, with_read, with_test};
+ghost use Rattle.lit_paths.specs.Internal.PathSteps.{empty_path, with_access, with_read, with_guard};
 
 use crate::event::Event;
 use crate::limits::ACCESS_LIMIT;
@@ -100,13 +100,13 @@ impl Path {
     }
 
     /// Adds a test.
-    pub(crate) fn add_test(
+    pub(crate) fn add_guard(
         &mut self,
         on: Option<u8>,
         equal: bool,
         value: u32,
     ) -> Result<(), AllocError>
-        ensures { IfOk result (λ _. self.new ≡ with_test self.old (record { on = on; equal = equal; value = value })) }
+        ensures { IfOk result (λ _. self.new ≡ with_guard self.old (record { on = on; equal = equal; value = value })) }
     {
         self.tests.push(Tested { on, equal, value })?;
         Ok(())

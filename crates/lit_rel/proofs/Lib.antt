@@ -16,7 +16,7 @@ pub mod RowLemmas
 pub mod SameRelations
 pub mod SetLemmas
 pub mod SourceLemmas
-pub mod TestedByteLemmas
+pub mod GuardedByteLemmas
 pub mod TripleLemmas
 pub mod ValueLemmas
 pub mod WideLemmas

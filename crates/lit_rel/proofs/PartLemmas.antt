@@ -15,7 +15,7 @@ use Rattle.lit_paths.specs.Event.{event_at, no_event}
 use Rattle.lit_paths.specs.Plan.{AreEventsIn, events_in}
 use Rattle.lit_rel.specs.declared.given.SourcedByte.{SourcedByte}
 use Rattle.lit_rel.specs.declared.part.level.Level.{Level}
-use Rattle.lit_rel.specs.Broken.{HasFalseTest, IsBroken}
+use Rattle.lit_rel.specs.Broken.{HasFalseGuard, IsBroken}
 use Rattle.lit_rel.specs.Part.{AreFirstSources, IsNextSource, PartModel, part_events, with_sources}
 use Rattle.lit_rel.specs.Internal.Given.{AreFirstReads, HasBrokenBytes, IsKnown, part_of, read_of, sources_of}
 use Rattle.lit_rel.specs.Internal.Levels.{IsKept, IsLevel, IsOrder}
@@ -69,7 +69,7 @@ AreFirstSources-push part byte left candidate are i r b w at_read at_source =
 
 -- what is asked byte by byte says whether a part is broken
 pub broken-iff : (t : Litmus) (c : ℕ) (bytes : List SourcedByte) (rows : Rows) → AreFirstReads (events_in t c) bytes → IsOrder (events_in t c) (sources_of bytes) rows
-    → (HasBrokenBytes (events_in t c) (Holds rows) bytes ⊎ HasFalseTest (part_of t c bytes)) ↔ IsBroken (part_of t c bytes)
+    → (HasBrokenBytes (events_in t c) (Holds rows) bytes ⊎ HasFalseGuard (part_of t c bytes)) ↔ IsBroken (part_of t c bytes)
 broken-iff t c bytes rows first is =
     sums ((λ h. (h.0, (is.pairs h.0 h.0).0 h.1)), (λ h. (h.0, (is.pairs h.0 h.0).1 h.1)))
     (incoherent-iff (events_in t c) bytes first (Holds rows) is.pairs) (torn-iff (events_in t c) bytes first)

@@ -10,7 +10,7 @@ use Rattle.lit_paths.specs.declared.byte_reads.ByteRead.{ByteRead}
 use Rattle.lit_paths.specs.ByteReads.{byte_reads, pair_of}
 use Rattle.lit_paths.specs.Plan.{IsWalkIn, events_in, first_event, walk_in}
 use Rattle.lit_rel.specs.declared.given.SourcedByte.{SourcedByte}
-use Rattle.lit_rel.specs.Broken.{HasFalseTestOn, number_on}
+use Rattle.lit_rel.specs.Broken.{HasFalseGuardOn, number_on}
 use Rattle.lit_rel.specs.Growth.{IsGivenWhole}
 use Rattle.lit_rel.specs.Internal.Given.{sources_of}
 use Rattle.lit_paths.proofs.Rising.{slice_get-map-found, slice_get-map-known}
@@ -35,7 +35,7 @@ given_whole-iff events reads bytes read are =
     )
 
 -- a test asks about an event
-pub asked_known : (t : Litmus) (c r v : ℕ) → ((agent : ℕ) → agent < length t.agents → IsWalkIn t c agent (walk_in t c agent)) → HasFalseTestOn t c (Some r) v → r < length (events_in t c)
+pub asked_known : (t : Litmus) (c r v : ℕ) → ((agent : ℕ) → agent < length t.agents → IsWalkIn t c agent (walk_in t c agent)) → HasFalseGuardOn t c (Some r) v → r < length (events_in t c)
 asked_known t c r v walks f = by f.test.on refl f.asks
   where
     by : (on : Option ℕ) → f.test.on ≡ on → number_on (first_event t c f.agent) on ≡ Some r → r < length (events_in t c)
@@ -43,6 +43,6 @@ asked_known t c r v walks f = by f.test.on refl f.asks
     by (Some place) is h =
         let walk = walks f.agent f.known in
         let number : first_event t c f.agent + place ≡ r = same_Some (first_event t c f.agent + place) r h in
-        let below : place < length _ = (walk.tests_reads f.place place f.test f.at_place is).0 in
+        let below : place < length _ = (walk.guards_reads f.place place f.test f.at_place is).0 in
         let within : first_event t c f.agent + length _ ≤ length (events_in t c) = walk.within in
         omega arith

@@ -46,7 +46,7 @@ number_on first None = None
 number_on first (Some place) = Some (first + place)
 
 -- some test of a path of a combination asks about this event, or about a register that was not written, and is false of the value
-pub record HasFalseTestOn (t : Litmus) (c : ℕ) (asked : Option ℕ) (value : ℕ) : Type 0 where
+pub record HasFalseGuardOn (t : Litmus) (c : ℕ) (asked : Option ℕ) (value : ℕ) : Type 0 where
   pub agent : ℕ
   pub known : agent < length t.agents
   pub place : ℕ
@@ -57,14 +57,14 @@ pub record HasFalseTestOn (t : Litmus) (c : ℕ) (asked : Option ℕ) (value : �
 
 -- a test is on a register that was not written and false of 0, or on a read all of whose bytes are given and false of
 -- its value
-abbrev pub HasFalseTest : PartModel → Type 0
-HasFalseTest part =
-    HasFalseTestOn part.test part.combination None 0
+abbrev pub HasFalseGuard : PartModel → Type 0
+HasFalseGuard part =
+    HasFalseGuardOn part.test part.combination None 0
     ⊎ ((r : ℕ) × IsGivenWhole (part_events part) part.sources r
-    × HasFalseTestOn part.test part.combination (Some r) (value_of (part_events part) part.sources r))
+    × HasFalseGuardOn part.test part.combination (Some r) (value_of (part_events part) part.sources r))
 
 abbrev pub IsBroken : PartModel → Type 0
-IsBroken part = HasBrokenRelations part ⊎ HasFalseTest part
+IsBroken part = HasBrokenRelations part ⊎ HasFalseGuard part
 
 -- a broken part is broken with any sources more
 abbrev pub StaysBroken : Type 0

@@ -16,6 +16,6 @@ pub mod DataRace
 pub mod Racing
 pub mod Part
 pub mod Broken
-pub mod TestedBytes
+pub mod GuardedBytes
 pub mod WideEvents
 pub mod Internal

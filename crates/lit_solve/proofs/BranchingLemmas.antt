@@ -2,7 +2,7 @@
 use Rattle.lit_solve.proofs.Words.{◌+◌, ◌<◌, arith, byte_reads, IfNone, IfSome, inl, inr, length, None, Option, same_Some, slice_get, Some}
 use Rattle.lit_solve.proofs.Words.{subst, sym, ℕ, ◌≡◌, ◌≤◌, ◌⊎◌}
 use Rattle.lit_solve.specs.Box.{Box, HasSource, box_events}
-use Rattle.lit_solve.specs.Fill.{HasEffect, IsIdle, IsQuiet}
+use Rattle.lit_solve.specs.Fill.{HasEffect, IsIdle, IsLeaf}
 use Rattle.lit_solve.specs.Given.{HasAlone}
 use Rattle.lit_solve.proofs.FrameLemmas.{below_or_last}
 
@@ -37,9 +37,9 @@ module _ (box : Box) (best : Option ℕ) (n : ℕ) (is : IsBestBelow box best n)
           at k (inr last) = subst (λ (j : ℕ). ((w : ℕ) × HasAlone box j w) ⊎ IsIdle box j) (sym last) quiet_there
 
 -- where all are looked at
-pub all_quiet : (box : Box) (best : Option ℕ) (n : ℕ) → IsBestBelow box best n → length (byte_reads (box_events box)) ≤ n → IfNone best (IsQuiet box)
+pub all_quiet : (box : Box) (best : Option ℕ) (n : ℕ) → IsBestBelow box best n → length (byte_reads (box_events box)) ≤ n → IfNone best (IsLeaf box)
 all_quiet box best n is all = by best is.quiet
   where
-    by : (b : Option ℕ) → IfNone b ((k : ℕ) → k < n → ((w : ℕ) × HasAlone box k w) ⊎ IsIdle box k) → IfNone b (IsQuiet box)
+    by : (b : Option ℕ) → IfNone b ((k : ℕ) → k < n → ((w : ℕ) × HasAlone box k w) ⊎ IsIdle box k) → IfNone b (IsLeaf box)
     by (Some k) earlier = tt
     by None earlier = λ k below. earlier k (omega (arith, below, all))

@@ -15,7 +15,7 @@ use Rattle.lit_valid.proofs.CompletionLemmas.{its_events, not_broken}
 use Rattle.lit_solve.specs.Box.{Box, IsBox, LiesIn, box_events}
 use Rattle.lit_solve.specs.Completion.{IsCompletion}
 use Rattle.lit_solve.specs.Given.{GivenIn, HappensBeforeIn, IsForbiddenIn, IsForcedIn}
-use Rattle.lit_solve.specs.Out.{IsOut, IsRefuted}
+use Rattle.lit_solve.specs.Prunable.{IsPrunable, IsRefuted}
 
 -- the box's combination with these sources
 abbrev pub part_of : Box → List ℕ → PartModel
@@ -90,7 +90,7 @@ module _ (box : Box) (x : Execution) (is : IsCompletion box x) where
 
     -- it has no source that is out
     pub not_out : RefusedBytesMakeFalse → AreEventsIn box.test.bytes events → (k r b w : ℕ) → slice_get (byte_reads events) k ≡ Some (r, b)
-        → slice_get x.sources k ≡ Some w → IsOut box r b w → ⊥
+        → slice_get x.sources k ≡ Some w → IsPrunable box r b w → ⊥
     not_out false_of sound k r b w is_read source (inl refused) =
         whole (inr (false_of (part_of box x.sources) r b w sound sourced.one_each (k, is_read, source) refused))
     not_out false_of sound k r b w is_read source (inr (inl incoherent)) =

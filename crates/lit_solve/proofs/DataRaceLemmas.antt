@@ -7,7 +7,7 @@ use Rattle.lit_rel.proofs.RaceLemmas.{HasDataRaceOf-wider}
 use Rattle.lit_solve.specs.declared.goal.Goal.TheVariants.{Race}
 use Rattle.lit_solve.specs.Box.{Box, IsBox, box_events}
 use Rattle.lit_solve.specs.Completion.{HasSolution, IsCompletion}
-use Rattle.lit_solve.specs.Fill.{AreCoherentSources, AreSourcesIn, IsFilled, IsQuiet}
+use Rattle.lit_solve.specs.Fill.{AreCoherentSources, AreSourcesIn, IsFilled, IsLeaf}
 use Rattle.lit_solve.specs.Given.{HappensBeforeIn}
 use Rattle.lit_solve.specs.DataRace.{CanFillFrom, CanRaceIn, HasSourceOf, MayRaceIn}
 use Rattle.lit_solve.proofs.CompletionLemmas.{events_same}
@@ -41,7 +41,7 @@ module _ (box : Box) (laws : Laws) (entered : IsBox box) where
       (subst (λ (es : List Event). HasDataRace es x.sources) (events_same box x is) race)
 
   -- ---- in a quiet box that has a completion
-  module _ (quiet : IsQuiet box) (coherent : AreCoherentSources box) (x : Execution) (is : IsCompletion box x) where
+  module _ (quiet : IsLeaf box) (coherent : AreCoherentSources box) (x : Execution) (is : IsCompletion box x) where
     -- another takes the sources of one read from elsewhere
     module _ (r : ℕ) (others : List ℕ) (lie : AreSourcesIn box others) (filled : IsFilled box r others) where
       abbrev picked : ℕ → List ℕ

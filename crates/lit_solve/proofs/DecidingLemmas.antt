@@ -7,7 +7,7 @@ use Rattle.lit_solve.proofs.Words.{range_with_len, refl, same_Some, slice_get, s
 use Rattle.lit_solve.proofs.Words.{suc, sym, to_le_bytes, true, value_of, w32, ℕ, ◌∙◌, ◌∷◌, ◌≡◌, ◌≢◌, ◌≤◌, ◌⊎◌}
 use Rattle.std.proofs.Common.{zip}
 use Rattle.lit_rel.proofs.OwnByteLemmas.{only, only_its}
-use Rattle.lit_rel.proofs.TestedByteLemmas.{false_of}
+use Rattle.lit_rel.proofs.GuardedByteLemmas.{false_of}
 use Rattle.lit_solve.specs.declared.deciding.Decided.{Decided}
 use Rattle.lit_solve.specs.declared.deciding.Decided.TheVariants.{Comes, Hangs}
 use Rattle.lit_solve.specs.Box.{Box, HasSource, box_events}

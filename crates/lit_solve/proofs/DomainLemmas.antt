@@ -6,7 +6,7 @@ use Rattle.lit_rel.proofs.SetLemmas.{event_or_not, within_le}
 use Rattle.lit_solve.specs.declared.frame.Frame.{Frame}
 use Rattle.lit_solve.specs.Box.{Box, HasEmptyDomain, HasSource, IsBox, IsWithin, box_events}
 use Rattle.lit_solve.specs.Completion.{IsCompletion}
-use Rattle.lit_solve.specs.Out.{IsOut}
+use Rattle.lit_solve.specs.Prunable.{IsPrunable}
 use Rattle.lit_solve.specs.Internal.Frames.{IsContained}
 use Rattle.lit_solve.specs.Internal.Narrowing.{HasNoCompletion, Narrows, size_of}
 use Rattle.lit_solve.proofs.BoxLemmas.{before_grows, forced_grows}
@@ -22,9 +22,9 @@ abbrev pub frame_at : Frame → ℕ → EventSet → Frame
 frame_at frame place left = record { happens_before = frame.happens_before; forced = frame.forced; domains = slice_set frame.domains place left }
 
 -- no completion has a source that is out, as the law says
-abbrev pub LeavesOut : Box → Type 0
-LeavesOut box = (x : Execution) (k r b w : ℕ) → IsBox box → AreEventsIn box.test.bytes (box_events box) → IsCompletion box x
-    → slice_get (byte_reads (box_events box)) k ≡ Some (r, b) → slice_get x.sources k ≡ Some w → ¬ IsOut box r b w
+abbrev pub PrunesSoundly : Box → Type 0
+PrunesSoundly box = (x : Execution) (k r b w : ℕ) → IsBox box → AreEventsIn box.test.bytes (box_events box) → IsCompletion box x
+    → slice_get (byte_reads (box_events box)) k ≡ Some (r, b) → slice_get x.sources k ≡ Some w → ¬ IsPrunable box r b w
 
 module _ (box : Box) (place : ℕ) (left : EventSet) (room : place < length box.domains) where
   pub domain_here : slice_index_or (slice_set box.domains place left) place no_events ≡ left
@@ -93,9 +93,9 @@ module _ (box : Box) (place : ℕ) (left : EventSet) (room : place < length box.
       none (get_or x.sources place 0) (source_left (get_or x.sources place 0) (slice_get-get_or x.sources place 0 here))
 
   -- the sources of completions are left
-  module _ (is_box : IsBox box) (sound : AreEventsIn box.test.bytes (box_events box)) (law : LeavesOut box) (inside : place < length (byte_reads (box_events box)))
+  module _ (is_box : IsBox box) (sound : AreEventsIn box.test.bytes (box_events box)) (law : PrunesSoundly box) (inside : place < length (byte_reads (box_events box)))
       (out : (w : ℕ) → HasSource box place w → ¬ HasEvent left w
-      → IsOut box (byte_read_at (box_events box) place).0 (byte_read_at (box_events box) place).1 w) where
+      → IsPrunable box (byte_read_at (box_events box) place).0 (byte_read_at (box_events box) place).1 w) where
     source_left : (x : Execution) → IsCompletion box x → (w : ℕ) → slice_get x.sources place ≡ Some w → HasEvent left w
     source_left x is w source = elim (event_or_not left w) [
       | inl there ↦ there

@@ -1,7 +1,7 @@
 -- Quiet boxes: the relations of sources that lie in one are those of what it gives, so that sources are a completion's exactly
 -- where they fill each read and there is an order of what is given.
 use Rattle.lit_solve.proofs.Words.{◌+◌, ◌<◌, arith, byte_reads, CanSynchronize, does_write, Event, event_at, Execution, first_event, Grows}
-use Rattle.lit_solve.proofs.Words.{HappensBefore, HasFalseTestOn, HasOrder, HasTearFreeReads, inl, inr, IsBroken, IsEntered, IsForbidden}
+use Rattle.lit_solve.proofs.Words.{HappensBefore, HasFalseGuardOn, HasOrder, HasTearFreeReads, inl, inr, IsBroken, IsOnCombination, IsForbidden}
 use Rattle.lit_solve.proofs.Words.{IsForbiddenBetween, IsMemoryOrder, IsOrderOf, IsTrue, IsWalkIn, Laws, length, List, None, none-some}
 use Rattle.lit_solve.proofs.Words.{number_on, Option, ReadsByteFrom, refl, same_Some, slice_get_within, Some, StepBy, subst, sym}
 use Rattle.lit_solve.proofs.Words.{SynchronizesBy, walk_in, ℕ, ◌≡◌, ◌≢◌, ◌⊎◌}
@@ -12,7 +12,7 @@ use Rattle.lit_order.proofs.SameOrders.{IsOrderOf-same}
 use Rattle.lit_valid.proofs.CompletionLemmas.{example, example_paths, example_valid}
 use Rattle.lit_solve.specs.Box.{Box, HasSource, IsBox, box_events}
 use Rattle.lit_solve.specs.Completion.{IsCompletion}
-use Rattle.lit_solve.specs.Fill.{AreCoherentSources, AreSourcesIn, HasEffect, IsFilled, IsIdle, IsQuiet}
+use Rattle.lit_solve.specs.Fill.{AreCoherentSources, AreSourcesIn, HasEffect, IsFilled, IsIdle, IsLeaf}
 use Rattle.lit_solve.specs.Given.{GivenIn, HappensBeforeIn, HasAlone, IsForbiddenIn}
 use Rattle.lit_solve.proofs.CompletionLemmas.{all_given, events_same, order_here, part_of, sourced, takes_given, whole}
 
@@ -44,7 +44,7 @@ module _ (box : Box) (sources : List ℕ) (lie : AreSourcesIn box sources) where
       (IsForbiddenIn box) refl grows_in.happens_before grows_in.forbidden order o
 
   -- ---- in a quiet box they add nothing
-  module _ (quiet : IsQuiet box) where
+  module _ (quiet : IsLeaf box) where
     -- a source is given, or has no effect
     given_or_idle : (r b w : ℕ) → from r b w → GivenIn box r b w ⊎ ¬ HasEffect events w r
     given_or_idle r b w f = by (quiet f.0 (slice_get_within (byte_reads events) f.0 (r, b) f.1))
@@ -78,12 +78,12 @@ module _ (box : Box) (sources : List ℕ) (lie : AreSourcesIn box sources) where
 
     -- ---- sources that fill each read are a completion's
     module _ (laws : Laws) (entered : IsBox box) (coherent : AreCoherentSources box) (no_cycle : (e : ℕ) → ¬ HappensBeforeIn box e e)
-        (filled : (r : ℕ) → r < length (box_events box) → IsFilled box r sources) (unwritten : ¬ HasFalseTestOn box.test box.combination None 0) where
+        (filled : (r : ℕ) → r < length (box_events box) → IsFilled box r sources) (unwritten : ¬ HasFalseGuardOn box.test box.combination None 0) where
       read_known : (r b w : ℕ) → from r b w → r < length events
       read_known r b w f = (laws.of_events events).known f.0 r b f.1
 
       -- a test asks about an event of the combination
-      asked_known : (r value : ℕ) → HasFalseTestOn box.test box.combination (Some r) value → r < length events
+      asked_known : (r value : ℕ) → HasFalseGuardOn box.test box.combination (Some r) value → r < length events
       asked_known r value bad = by bad.test.on refl bad.asks
         where
           walk : IsWalkIn box.test box.combination bad.agent (walk_in box.test box.combination bad.agent)
@@ -94,7 +94,7 @@ module _ (box : Box) (sources : List ℕ) (lie : AreSourcesIn box sources) where
           by (Some place) is asks =
               let same : first_event box.test box.combination bad.agent + place ≡ r = same_Some
               (first_event box.test box.combination bad.agent + place) r asks in
-              omega (arith, same, (walk.tests_reads bad.place place bad.test bad.at_place is).0, walk.within)
+              omega (arith, same, (walk.guards_reads bad.place place bad.test bad.at_place is).0, walk.within)
 
       not_broken_in : ¬ IsBroken (part_of box sources)
       not_broken_in (inl (inl cycle)) = no_cycle cycle.0 (before_back cycle.0 cycle.0 cycle.1)
@@ -110,7 +110,7 @@ module _ (box : Box) (sources : List ℕ) (lie : AreSourcesIn box sources) where
       pub completion_of_filled : HasOrder (length events) (HappensBeforeIn box) (IsForbiddenIn box)
           → (x : Execution) × IsCompletion box x × (x.sources ≡ sources)
       completion_of_filled ordered =
-          let known : IsEntered (part_of box sources) = record { litmus = entered.litmus; known = entered.known } in (
+          let known : IsOnCombination (part_of box sources) = record { litmus = entered.litmus; known = entered.known } in (
             example (part_of box sources) known laws lie.sourced not_broken_in,
             record {
               valid = example_valid (part_of box sources) known laws lie.sourced not_broken_in ordered.0 (order_back_in ordered.0 ordered.1);
@@ -147,5 +147,5 @@ module _ (box : Box) (x : Execution) (is : IsCompletion box x) where
       tests = λ bad. whole box x is laws entered (inr (inr (r, all_given box x is r, bad)));
     }
 
-    pub unwritten_true : ¬ HasFalseTestOn box.test box.combination None 0
+    pub unwritten_true : ¬ HasFalseGuardOn box.test box.combination None 0
     unwritten_true bad = whole box x is laws entered (inr (inl bad))

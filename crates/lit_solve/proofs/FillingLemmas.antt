@@ -1,6 +1,6 @@
 -- Filling a read byte by byte.
 use Rattle.lit_solve.proofs.Words.{◌*◌, ◌+◌, ◌-◌, ◌<◌, [], ◌^◌, ap, arith, byte_reads, CanReadWhole, cases_eq, composed, drop, eq-eqb}
-use Rattle.lit_solve.proofs.Words.{Event, event_at, get_or, HasEvent, HasFalseTestOn, inl, inr, length, List, nat_tests, none-some}
+use Rattle.lit_solve.proofs.Words.{Event, event_at, get_or, HasEvent, HasFalseGuardOn, inl, inr, length, List, nat_tests, none-some}
 use Rattle.lit_solve.proofs.Words.{payload_at, pow_more, ReadsByteFrom, ReadsWholeBy, refl, same_Some, slice_get, slice_get-get_or}
 use Rattle.lit_solve.proofs.Words.{slice_get_within, Some, subst, suc, sym, value_of, zero, ℕ, ◌↔◌, ◌∙◌, ◌∷◌, ◌≡◌, ◌≢◌, ◌≤◌, ◌⊎◌}
 use Rattle.lit_paths.proofs.Products.{slice_get-drop}
@@ -39,7 +39,7 @@ module _ (box : Box) (r : ℕ) where
   events = box_events box
 
   abbrev has_false : ℕ → Type 0
-  has_false value = HasFalseTestOn box.test box.combination (Some r) value
+  has_false value = HasFalseGuardOn box.test box.combination (Some r) value
 
   -- with less to be tear free with
   pub FillsBytes-less : (reads : List (ℕ × ℕ)) (less more : ℕ → Type 0) (value bytes : ℕ) (sources : List ℕ) → ((v : ℕ) → less v → more v)
@@ -291,7 +291,7 @@ module _ (box : Box) (r : ℕ) where
   module _ (is_box : IsBox box) (some : ¬ HasEmptyDomain box) where
     -- where no byte of the read is left its tests decide
     pub filled_at_end : (k : ℕ) (whole : ℕ → Type 0) (value bytes : ℕ) → k ≤ length reads → ((j b : ℕ) → k ≤ j → slice_get reads j ≢ Some (r, b))
-        → CanFillOn box r k whole value bytes ↔ ¬ HasFalseTestOn box.test box.combination (Some r) value
+        → CanFillOn box r k whole value bytes ↔ ¬ HasFalseGuardOn box.test box.combination (Some r) value
     filled_at_end k whole value bytes within none = (
       (λ can. fills_none_back box r (reads_on (box_events box) k) whole value bytes can.0 none_left can.2),
       (λ tests.
@@ -317,7 +317,7 @@ module _ (box : Box) (r : ℕ) where
         },
         record {
           tear_free = λ w v t h. elim h [ inl given ↦ absurd (not_yet v given) | inr u ↦ filled.tear_free w v (read_whole w t) (read_whole v u) ];
-          tests = subst (λ (n : ℕ). ¬ HasFalseTestOn box.test box.combination (Some r) n) (sym (same_value sources)) filled.tests;
+          tests = subst (λ (n : ℕ). ¬ HasFalseGuardOn box.test box.combination (Some r) n) (sym (same_value sources)) filled.tests;
         },
       )
         where
@@ -336,7 +336,7 @@ module _ (box : Box) (r : ℕ) where
         },
         record {
           tear_free = λ w v t u. f.tear_free w v (takes_whole w t) (inr (takes_whole v u));
-          tests = subst (λ (n : ℕ). ¬ HasFalseTestOn box.test box.combination (Some r) n) (same_value sources) f.tests;
+          tests = subst (λ (n : ℕ). ¬ HasFalseGuardOn box.test box.combination (Some r) n) (same_value sources) f.tests;
         },
       )
         where

@@ -8,7 +8,7 @@ use Rattle.lit_order.proofs.SameOrders.{IsLeastOrderOf-same, IsOrderOf-same}
 use Rattle.lit_solve.specs.declared.goal.Goal.TheVariants.{Any}
 use Rattle.lit_solve.specs.Box.{Box, HasEmptyDomain, HasSource, IsWithin, box_events}
 use Rattle.lit_solve.specs.Completion.{HasSolution}
-use Rattle.lit_solve.specs.Fill.{AreCoherentSources, AreSourcesIn, CanFill, IsFilled, IsQuiet}
+use Rattle.lit_solve.specs.Fill.{AreCoherentSources, AreSourcesIn, CanFill, IsFilled, IsLeaf}
 use Rattle.lit_solve.specs.Given.{HappensBeforeIn, IsForbiddenIn}
 use Rattle.lit_solve.specs.Internal.Independent.{FillsAll, HasLeastOrderIn, IsIndependent}
 use Rattle.lit_solve.proofs.BoxLemmas.{before_grows, forbidden_grows}
@@ -58,7 +58,7 @@ module _ (box : Box) (of_events : AreOfEvents (box_events box)) (is : IsIndepend
   forbidden_in : (w q v : ℕ) → IsForbiddenIn box w q v → IsForbiddenIn part w q v
   forbidden_in = forbidden_grows part box inner part_some
 
-  quiet_part : IsQuiet part
+  quiet_part : IsLeaf part
   quiet_part k below = elim (is.quiet k below) [
     | inl one ↦ inl (one.0, alone_stays part box inner part_some k one.0 below one.1)
     | inr idle ↦ inr (λ q b w at there. idle q b w at (inner.domains k w there))

@@ -1,12 +1,12 @@
 -- Leaves: what a settled and quiet frame has completions by.
-use Rattle.lit_solve.proofs.Words.{◌<◌, arith, Execution, false≢true, Given, HasFalseTestOn, HasOrder, Holds, IfNone, IfSome, is_some}
+use Rattle.lit_solve.proofs.Words.{◌<◌, arith, Execution, false≢true, Given, HasFalseGuardOn, HasOrder, Holds, IfNone, IfSome, is_some}
 use Rattle.lit_solve.proofs.Words.{IsLeastOrderOf, IsOrderOf, IsTrue, length, List, None, Option, refl, ℕ, ◌↔◌, ◌≡◌}
 use Rattle.lit_rel.proofs.SameRelations.{coherent_read_by}
 use Rattle.lit_solve.specs.declared.frame.Frame.{Frame}
 use Rattle.lit_solve.specs.declared.goal.Goal.TheVariants.{Any}
 use Rattle.lit_solve.specs.Box.{Box, IsBox, box_events}
 use Rattle.lit_solve.specs.Completion.{HasSolution, IsCompletion}
-use Rattle.lit_solve.specs.Fill.{AreCoherentSources, AreSourcesIn, CanFill, IsFilled, IsQuiet}
+use Rattle.lit_solve.specs.Fill.{AreCoherentSources, AreSourcesIn, CanFill, IsFilled, IsLeaf}
 use Rattle.lit_solve.specs.Given.{HappensBeforeIn, IsForbiddenIn}
 use Rattle.lit_solve.specs.Internal.Settled.{IsSettled}
 use Rattle.lit_solve.proofs.FillLemmas.{sources_lie}
@@ -15,13 +15,13 @@ use Rattle.lit_solve.proofs.FillLemmas.{sources_lie}
 abbrev pub AreFilling : Box → List ℕ → Type 0
 AreFilling box sources =
     ((r : ℕ) → r < length (box_events box) → IsFilled box r sources)
-    × (¬ HasFalseTestOn box.test box.combination None 0)
+    × (¬ HasFalseGuardOn box.test box.combination None 0)
     × HasOrder (length (box_events box)) (HappensBeforeIn box) (IsForbiddenIn box)
 
 -- so it is, as the law says
 abbrev pub IsFilledReadByRead : Box → Type 0
 IsFilledReadByRead box =
-    (sources : List ℕ) → IsBox box → IsQuiet box → AreCoherentSources box → ((e : ℕ) → ¬ HappensBeforeIn box e e) → AreSourcesIn box sources
+    (sources : List ℕ) → IsBox box → IsLeaf box → AreCoherentSources box → ((e : ℕ) → ¬ HappensBeforeIn box e e) → AreSourcesIn box sources
     → ((x : Execution) × IsCompletion box x × (x.sources ≡ sources)) ↔ AreFilling box sources
 
 module _ (box : Box) (frame : Frame) (settled : IsSettled box frame) where
@@ -33,12 +33,12 @@ module _ (box : Box) (frame : Frame) (settled : IsSettled box frame) where
   pub no_cycle : (e : ℕ) → ¬ HappensBeforeIn box e e
   no_cycle e h = settled.calm e (Given h)
 
-  module _ (quiet : IsQuiet box) (law : IsFilledReadByRead box) where
+  module _ (quiet : IsLeaf box) (law : IsFilledReadByRead box) where
     by_law : (sources : List ℕ) → AreSourcesIn box sources → ((x : Execution) × IsCompletion box x × (x.sources ≡ sources)) ↔ AreFilling box sources
     by_law sources lie = law sources settled.exact.contained.is_box quiet coherent_sources no_cycle lie
 
     -- sources that fill each read are those of a completion
-    pub completion_found : ¬ HasFalseTestOn box.test box.combination None 0
+    pub completion_found : ¬ HasFalseGuardOn box.test box.combination None 0
         → ((sources : List ℕ) × AreSourcesIn box sources × ((r : ℕ) → r < length (box_events box) → IsFilled box r sources))
         → HasOrder (length (box_events box)) (HappensBeforeIn box) (IsForbiddenIn box) → HasSolution box Any
     completion_found unwritten fills ordered = grind (arith, by_law)
@@ -48,7 +48,7 @@ module _ (box : Box) (frame : Frame) (settled : IsSettled box frame) where
       parts : AreFilling box h.0.sources
       parts = (by_law h.0.sources (sources_lie box h.0 h.1.completes)).0 (h.0, h.1.completes, refl)
 
-      pub no_false_unwritten : ¬ HasFalseTestOn box.test box.combination None 0
+      pub no_false_unwritten : ¬ HasFalseGuardOn box.test box.combination None 0
       no_false_unwritten = parts.1
 
       pub fills_each : (r : ℕ) → r < length (box_events box) → CanFill box r

@@ -6,7 +6,7 @@ use Rattle.lit_rel.proofs.PlaceLemmas.{place-push}
 use Rattle.lit_solve.specs.declared.goal.Goal.{Goal}
 use Rattle.lit_solve.specs.Box.{Box, HasSource, IsBox, LiesIn, box_events}
 use Rattle.lit_solve.specs.Completion.{HasSolution, IsCompletion, IsLeastSolution, IsSolution}
-use Rattle.lit_solve.specs.Fill.{IsQuiet}
+use Rattle.lit_solve.specs.Fill.{IsLeaf}
 use Rattle.lit_solve.specs.Given.{HappensBeforeIn, IsForbiddenIn}
 use Rattle.lit_solve.specs.Internal.Narrowing.{Narrows}
 use Rattle.lit_solve.specs.Internal.Descending.{AreAloneBelow, IsLowest}
@@ -23,7 +23,7 @@ lies_more box sources w lies there k v at = grind (arith, place-push)
 -- a completion of a box has the memory-orders of what the box gives
 abbrev pub HasOneOrder : Box → Type 0
 HasOneOrder box =
-    (x : Execution) (order : List ℕ) → IsBox box → IsQuiet box → IsCompletion box x
+    (x : Execution) (order : List ℕ) → IsBox box → IsLeaf box → IsCompletion box x
     → IsMemoryOrder (execution_events box.test x) x.sources order ↔ IsOrderOf (length (box_events box)) (HappensBeforeIn box) (IsForbiddenIn box) order
 
 module _ (box : Box) (alone : AreAloneBelow box (length (byte_reads (box_events box)))) (sources : List ℕ) (long : length sources ≡ length (byte_reads (box_events box))) (lies : LiesIn box sources) where

@@ -10,7 +10,7 @@ use Rattle.lit_rel.proofs.SetLemmas.{event_or_not}
 use Rattle.lit_solve.specs.declared.frame.Frame.{Frame}
 use Rattle.lit_solve.specs.Box.{Box, HasSource, IsBox, box_events}
 use Rattle.lit_solve.specs.Given.{GivenIn, HappensBeforeIn}
-use Rattle.lit_solve.specs.Out.{IsOut}
+use Rattle.lit_solve.specs.Prunable.{IsPrunable}
 use Rattle.lit_solve.specs.Internal.Frames.{IsContained}
 
 -- ---- sets
@@ -83,14 +83,14 @@ module _ (events : List Event) (rows : Rows) (len : rows_len rows ≡ length eve
 -- ---- sources that are out
 -- what is so of the frame's relations is so of those of its box
 module _ (box : Box) (frame : Frame) (is : IsContained box frame) (r b w : ℕ) where
-  pub incoherent_out : ¬ IsCoherentRead (box_events box) (Holds frame.happens_before.rows) r b w → IsOut box r b w
+  pub incoherent_out : ¬ IsCoherentRead (box_events box) (Holds frame.happens_before.rows) r b w → IsPrunable box r b w
   incoherent_out incoherent =
       inr (inl (λ coherent. incoherent (coherent_read_by (box_events box) (HappensBeforeIn box) (Holds frame.happens_before.rows) is.before_in r b w coherent)))
 
-  pub later_out : CanSynchronize (event_at (box_events box) w) (event_at (box_events box) r) → Holds frame.forced.rows r w → IsOut box r b w
+  pub later_out : CanSynchronize (event_at (box_events box) w) (event_at (box_events box) r) → Holds frame.forced.rows r w → IsPrunable box r b w
   later_out can later = inr (inr (inl (record { can = can; later = is.forced_in r w later })))
 
-  pub between_out : (v : ℕ) → IsForbiddenBetween (box_events box) (Holds frame.happens_before.rows) w r v → Holds frame.forced.rows w v → Holds frame.forced.rows v r → IsOut box r b w
+  pub between_out : (v : ℕ) → IsForbiddenBetween (box_events box) (Holds frame.happens_before.rows) w r v → Holds frame.forced.rows w v → Holds frame.forced.rows v r → IsPrunable box r b w
   between_out v between after before =
       inr (inr (inr (inl (
         v,
@@ -102,6 +102,6 @@ module _ (box : Box) (frame : Frame) (is : IsContained box frame) (r b w : ℕ) 
       ))))
 
   -- another event, from which the read is given a byte
-  pub tear_out : CanReadWhole (event_at (box_events box) r) (event_at (box_events box) w) → (u : ℕ) → ReadsWholeBy (box_events box) (GivenIn box) r u → u ≢ w → IsOut box r b w
+  pub tear_out : CanReadWhole (event_at (box_events box) r) (event_at (box_events box) w) → (u : ℕ) → ReadsWholeBy (box_events box) (GivenIn box) r u → u ≢ w → IsPrunable box r b w
   tear_out can u whole other =
       inr (inr (inr (inr (record { source = u; byte = whole.reads.0; is_given = whole.reads.1; can = can; can_other = whole.can; other = other }))))

@@ -1,8 +1,8 @@
 -- What registers observe: the value of a read from bytes that are decided one after the other, and the outcomes of the parts of a
 -- box.
 use Rattle.lit_solve.proofs.Words.{◌*◌, ◌+◌, ◌++◌, ◌<◌, [], ◌^◌, ap, ap₂, arith, byte_read_at, byte_reads, composed, drop, Event, Execution}
-use Rattle.lit_solve.proofs.Words.{execution_outcome, get_or, get_or-map, Laws, length, length-map, List, map, names_of, read_held, refl}
-use Rattle.lit_solve.proofs.Words.{slice_get, slice_get-get_or, Some, suc, sym, take, take_all, take_more, value_held, value_of, zero, ℕ}
+use Rattle.lit_solve.proofs.Words.{execution_outcome, get_or, get_or-map, Laws, length, length-map, List, map, names_of, observed_read, refl}
+use Rattle.lit_solve.proofs.Words.{slice_get, slice_get-get_or, Some, suc, sym, take, take_all, take_more, observed_value, value_of, zero, ℕ}
 use Rattle.lit_solve.proofs.Words.{◌∙◌, ◌∷◌, ◌≡◌, ◌≢◌, ◌≤◌}
 use Rattle.lit_paths.proofs.NameSteps.{names_from-within}
 use Rattle.lit_paths.proofs.Products.{slice_get-drop}
@@ -16,7 +16,7 @@ use Rattle.lit_solve.specs.Fill.{AreSourcesIn}
 use Rattle.lit_solve.specs.Internal.Deciding.{stored_for}
 use Rattle.lit_solve.specs.Internal.Filling.{bytes_taken, reads_on}
 use Rattle.lit_solve.specs.Prospect.{IsValueOf}
-use Rattle.lit_solve.specs.Internal.Observation.{IsValueHeld, part_with}
+use Rattle.lit_solve.specs.Internal.Observation.{IsValueObserved, part_with}
 use Rattle.lit_solve.proofs.CompletionLemmas.{completes, part_of}
 use Rattle.lit_solve.proofs.FillLemmas.{sources_lie}
 use Rattle.lit_solve.proofs.FillingLemmas.{no_more, same_number, taken_other}
@@ -88,14 +88,14 @@ module _ (box : Box) (r : ℕ) where
 
 -- ---- registers
 -- a register that holds a read has its value
-pub held_by_read : (box : Box) (name : ℕ × ℕ) (r : ℕ) (value : ReadValue) → Some r ≡ read_held box.test box.combination name → IsValueOf box r value
-    → IsValueHeld box name value
-held_by_read box name r value holds is = grind arith
+pub observed_by_read : (box : Box) (name : ℕ × ℕ) (r : ℕ) (value : ReadValue) → Some r ≡ observed_read box.test box.combination name → IsValueOf box r value
+    → IsValueObserved box name value
+observed_by_read box name r value holds is = grind arith
 
 module _ (box : Box) (entered : IsBox box) (laws : Laws) (x : Execution) (is : IsCompletion box x) where
   -- what a register has at the end of the completion
   abbrev pub held_in : ℕ × ℕ → ℕ
-  held_in name = value_held (part_with box x.sources) (read_held box.test box.combination name)
+  held_in name = observed_value (part_with box x.sources) (observed_read box.test box.combination name)
 
   pub outcome_is : execution_outcome box.test x ≡ map held_in (names_of box.test)
   outcome_is =
@@ -108,7 +108,7 @@ module _ (box : Box) (entered : IsBox box) (laws : Laws) (x : Execution) (is : I
   -- one value more
   pub value_more : (values more : List ℕ) (name : ℕ × ℕ) (value : ℕ) → length values < length (names_of box.test)
       → name ≡ get_or (names_of box.test) (length values) (0, 0) → values ≡ take (length values) (execution_outcome box.test x)
-      → IsValueHeld box name (One value) → more ≡ values ++ value ∷ [] → more ≡ take (length values + 1) (execution_outcome box.test x)
+      → IsValueObserved box name (One value) → more ≡ values ++ value ∷ [] → more ≡ take (length values + 1) (execution_outcome box.test x)
   value_more values more name value inside at so_far held grown =
       let outcome = execution_outcome box.test x in
       let within : length values < length outcome = omega (arith, inside, length_outcome) in

@@ -2,7 +2,7 @@
 -- part of a box by that byte is least in the box.
 use Rattle.lit_solve.proofs.Words.{◌<◌, ap, AreEventsIn, arith, byte_read_at, byte_reads, cases_eq, Entry, eq-eqb, Event, EventSet}
 use Rattle.lit_solve.proofs.Words.{Execution, execution_outcome, false≢true, HasEvent, HasOutcome, inl, inr, Laws, length, List, names_of}
-use Rattle.lit_solve.proofs.Words.{refl, same_Some, slice_get, Some, subst, sym, true, value_held, value_in, value_of, zip, ℕ, ◌↔◌, ◌∙◌}
+use Rattle.lit_solve.proofs.Words.{refl, same_Some, slice_get, Some, subst, sym, true, observed_value, value_in, value_of, zip, ℕ, ◌↔◌, ◌∙◌}
 use Rattle.lit_solve.proofs.Words.{◌≡◌, ◌⊎◌}
 use Rattle.lit_rel.proofs.SetLemmas.{event_or_not}
 use Rattle.lit_solve.specs.declared.goal.Goal.TheVariants.{Any}
@@ -60,7 +60,7 @@ module _ (laws : Laws) (box : Box) (entered : IsBox box) (sound : AreEventsIn bo
   -- what the register has at the end is the value of the read
   held : (x : Execution) → IsCompletion box x
       → value_in (zip (names_of box.test) (execution_outcome box.test x)) observed.0.0 observed.0.1 ≡ value_of events x.sources r
-  held x is = register_value laws box x entered is observed.0.0 observed.0.1 ∙ ap (value_held (part_of box x.sources)) observed.1
+  held x is = register_value laws box x entered is observed.0.0 observed.0.1 ∙ ap (observed_value (part_of box x.sources)) observed.1
 
   same_value : (x y : Execution) → IsCompletion box x → IsCompletion box y → execution_outcome box.test x ≡ execution_outcome box.test y
       → value_of events x.sources r ≡ value_of events y.sources r

@@ -5,9 +5,9 @@ use Rattle.lit_solve.proofs.Words.{execution_outcome, false, false≢true, filte
 use Rattle.lit_solve.proofs.Words.{if◌then◌else◌, inl, inr, Is, IsReadAt, IsStatementWalk, IsTrue, IsWalk, IsWalkIn, last_read}
 use Rattle.lit_solve.proofs.Words.{last_read_from, Laws, length, length-map, length-map-range_with_len, List, list_any, list_any-append}
 use Rattle.lit_solve.proofs.Words.{Litmus, Load, map, names_from, names_in, names_of, nat_tests, ne_eqb, None, none-some, number_on, Option}
-use Rattle.lit_solve.proofs.Words.{option_or, or_parts, path_in, path_on, range_with_len, read_held, reads_into, refl, REGISTERS, same_Some}
+use Rattle.lit_solve.proofs.Words.{option_or, or_parts, path_in, path_on, range_with_len, observed_read, reads_into, refl, REGISTERS, same_Some}
 use Rattle.lit_solve.proofs.Words.{slice_get, slice_get-get_or, slice_index_or, Some, Statement, statement_writes, Statements, Step, Store}
-use Rattle.lit_solve.proofs.Words.{subst, suc, sym, Then, true, value_held, value_in, walk_in, writes, zero, ◌||◌, ℕ, ◌∙◌, ◌∷◌, ◌≡◌, ◌≢◌}
+use Rattle.lit_solve.proofs.Words.{subst, suc, sym, Then, true, observed_value, value_in, walk_in, writes, zero, ◌||◌, ℕ, ◌∙◌, ◌∷◌, ◌≡◌, ◌≢◌}
 use Rattle.lit_solve.proofs.Words.{◌≤◌, ◌⊎◌}
 use Rattle.std.proofs.Common.{zip}
 use Rattle.lit_paths.proofs.NameSteps.{names_from-within}
@@ -139,32 +139,32 @@ pub walk_beyond : (t : Litmus) (c agent : ℕ) → length t.agents ≤ agent →
 walk_beyond t c agent past = grind (arith, cases_lt, get_or_past, length-map, product-known, slice_get-get_or)
 
 -- such a register holds nothing at the end of its agent's path
-abbrev last_held : (t : Litmus) (c agent reg : ℕ) → Option ℕ
-last_held t c agent reg = slice_index_or (path_in t c agent).last reg None
+abbrev last_observed : (t : Litmus) (c agent reg : ℕ) → Option ℕ
+last_observed t c agent reg = slice_index_or (path_in t c agent).last reg None
 
-pub none_beyond : (t : Litmus) (c agent reg : ℕ) → REGISTERS ≤ reg → last_held t c agent reg ≡ None
+pub none_beyond : (t : Litmus) (c agent reg : ℕ) → REGISTERS ≤ reg → last_observed t c agent reg ≡ None
 none_beyond t c agent reg past = grind (arith, get_or_past, length-map-range_with_len)
 
-pub none_without_agent : (t : Litmus) (c agent reg : ℕ) → length t.agents ≤ agent → last_held t c agent reg ≡ None
+pub none_without_agent : (t : Litmus) (c agent reg : ℕ) → length t.agents ≤ agent → last_observed t c agent reg ≡ None
 none_without_agent t c agent reg past = grind (arith, cases_lt, get_or-map-range_with_len, none_beyond, walk_beyond)
 
 none_unwritten : (t : Litmus) (c agent reg : ℕ) → IsWalkIn t c agent (walk_in t c agent) → reg < REGISTERS
-    → writes (agent_of t agent).body reg ≡ false → last_held t c agent reg ≡ None
+    → writes (agent_of t agent).body reg ≡ false → last_observed t c agent reg ≡ None
 none_unwritten t c agent reg walk known off =
     get_or-map-range_with_len (last_read (walk_in t c agent)) 0 REGISTERS reg reg None known (omega arith)
     ∙ last_none reg 0 (walk_in t c agent) (walk_none reg (agent_of t agent).body (walk_in t c agent) walk.walked off)
 
 -- a register that is not named holds nothing
 none_unnamed : (t : Litmus) (c agent reg : ℕ) → (agent < length t.agents → IsWalkIn t c agent (walk_in t c agent))
-    → list_any (is_name agent reg) (names_of t) ≡ false → last_held t c agent reg ≡ None
+    → list_any (is_name agent reg) (names_of t) ≡ false → last_observed t c agent reg ≡ None
 none_unnamed t c agent reg walk unnamed = by (cases_lt agent (length t.agents)) (cases_lt reg REGISTERS)
   where
-    by : (agent < length t.agents) ⊎ (length t.agents ≤ agent) → (reg < REGISTERS) ⊎ (REGISTERS ≤ reg) → last_held t c agent reg ≡ None
+    by : (agent < length t.agents) ⊎ (length t.agents ≤ agent) → (reg < REGISTERS) ⊎ (REGISTERS ≤ reg) → last_observed t c agent reg ≡ None
     by (inr past) reg_known = none_without_agent t c agent reg past
     by (inl inside) (inr past) = none_beyond t c agent reg past
     by (inl inside) (inl known) = written (writes (agent_of t agent).body reg) refl
       where
-        written : (b : Bool) → writes (agent_of t agent).body reg ≡ b → last_held t c agent reg ≡ None
+        written : (b : Bool) → writes (agent_of t agent).body reg ≡ b → last_observed t c agent reg ≡ None
         written false is = none_unwritten t c agent reg (walk inside) known is
         written true is =
             let named : list_any (is_name (0 + agent) reg) (names_of t) ≡ true =
@@ -173,9 +173,9 @@ none_unnamed t c agent reg walk unnamed = by (cases_lt agent (length t.agents)) 
             absurd (false≢true (sym unnamed ∙ subst (λ (a : ℕ). list_any (is_name a reg) (names_of t) ≡ true) same named))
 
 -- the read that a register holds is an event of the combination that reads
-pub held_reads : (t : Litmus) (c agent reg k : ℕ) → IsWalkIn t c agent (walk_in t c agent) → reg < REGISTERS → last_held t c agent reg ≡ Some k
+pub observed_reads : (t : Litmus) (c agent reg k : ℕ) → IsWalkIn t c agent (walk_in t c agent) → reg < REGISTERS → last_observed t c agent reg ≡ Some k
     → (first_event t c agent + k < length (events_in t c)) × IsTrue (does_read (event_at (events_in t c) (first_event t c agent + k)).kind)
-held_reads t c agent reg k walk known at =
+observed_reads t c agent reg k walk known at =
     let last : last_read (walk_in t c agent) reg ≡ Some k = sym
     (get_or-map-range_with_len (last_read (walk_in t c agent)) 0 REGISTERS reg reg None known (omega arith)) ∙ at in
     let is : IsReadAt (path_on agent (walk_in t c agent)).events k = walk.holds_reads reg k last in
@@ -183,21 +183,21 @@ held_reads t c agent reg k walk known at =
 
 -- ---- by sources, and in a completion
 -- what a register has in the outcome that these sources give
-pub register_held : (laws : Laws) (box : Box) → IsBox box → (sources : List ℕ) (agent reg : ℕ)
-    → value_in (zip (names_of box.test) (outcome_by box sources)) agent reg ≡ value_held (part_of box sources)
-    (read_held box.test box.combination (agent, reg))
-register_held laws box entered sources agent reg = value_named held names agent reg ∙ by (list_any (is_name agent reg) names) refl
+pub register_observed : (laws : Laws) (box : Box) → IsBox box → (sources : List ℕ) (agent reg : ℕ)
+    → value_in (zip (names_of box.test) (outcome_by box sources)) agent reg ≡ observed_value (part_of box sources)
+    (observed_read box.test box.combination (agent, reg))
+register_observed laws box entered sources agent reg = value_named held names agent reg ∙ by (list_any (is_name agent reg) names) refl
   where
     names : List (ℕ × ℕ)
     names = names_of box.test
 
     held : ℕ × ℕ → ℕ
-    held name = value_held (part_of box sources) (read_held box.test box.combination name)
+    held name = observed_value (part_of box sources) (observed_read box.test box.combination name)
 
     by : (b : Bool) → list_any (is_name agent reg) names ≡ b → cond b (held (agent, reg)) 0 ≡ held (agent, reg)
     by true is_named = refl
     by false unnamed =
-        sym (ap (λ (last : Option ℕ). value_held (part_of box sources) (number_on (first_event box.test box.combination agent) last))
+        sym (ap (λ (last : Option ℕ). observed_value (part_of box sources) (number_on (first_event box.test box.combination agent) last))
         (none_unnamed box.test box.combination agent reg (λ inside. laws.walked box.test box.combination agent entered.litmus entered.known inside) unnamed))
 
 -- a completion has the outcome that its sources give
@@ -208,11 +208,11 @@ outcome_given laws box x entered is =
     (names_from-within box.test.agents)
 
 pub register_value : (laws : Laws) (box : Box) (x : Execution) → IsBox box → IsCompletion box x → (agent reg : ℕ)
-    → value_in (zip (names_of box.test) (execution_outcome box.test x)) agent reg ≡ value_held (part_of box x.sources)
-    (read_held box.test box.combination (agent, reg))
+    → value_in (zip (names_of box.test) (execution_outcome box.test x)) agent reg ≡ observed_value (part_of box x.sources)
+    (observed_read box.test box.combination (agent, reg))
 register_value laws box x entered is agent reg =
     ap (λ (outcome : List ℕ). value_in (zip (names_of box.test) outcome) agent reg) (outcome_given laws box x entered is)
-    ∙ register_held laws box entered x.sources agent reg
+    ∙ register_observed laws box entered x.sources agent reg
 
 -- what is foreseen of outcomes by sources is so of completions
 pub foreseen : (laws : Laws) (box : Box) → IsBox box → (class : Class) (prospect : Prospect) → IsOutcomeProspect box class prospect
@@ -225,16 +225,16 @@ foreseen laws box entered class (Open k) hangs = hangs
 
 -- ---- what is decided of a register
 module _ (laws : Laws) (box : Box) (entered : IsBox box) (agent reg number : ℕ) where
-  pub decided_by_read : (r : ℕ) (decided : Decided) → read_held box.test box.combination (agent, reg) ≡ Some r → IsReadDecided box r number decided
+  pub decided_by_read : (r : ℕ) (decided : Decided) → observed_read box.test box.combination (agent, reg) ≡ Some r → IsReadDecided box r number decided
       → IsDecided box (Is agent reg true number) decided
   decided_by_read r (Comes value) held each = λ sources lie.
-      ap (λ (n : ℕ). n == number) (register_held laws box entered sources agent reg ∙ ap (value_held (part_of box sources)) held)
+      ap (λ (n : ℕ). n == number) (register_observed laws box entered sources agent reg ∙ ap (observed_value (part_of box sources)) held)
       ∙ each sources lie
   decided_by_read r (Hangs k) held hangs = hangs
 
-  pub decided_unwritten : read_held box.test box.combination (agent, reg) ≡ None → IsDecided box (Is agent reg true number) (Comes (number == 0))
+  pub decided_unwritten : observed_read box.test box.combination (agent, reg) ≡ None → IsDecided box (Is agent reg true number) (Comes (number == 0))
   decided_unwritten held sources lie =
-      ap (λ (n : ℕ). n == number) (register_held laws box entered sources agent reg ∙ ap (value_held (part_of box sources)) held)
+      ap (λ (n : ℕ). n == number) (register_observed laws box entered sources agent reg ∙ ap (observed_value (part_of box sources)) held)
       ∙ turned (cases_eq number 0)
     where
       turned : (number ≡ 0) ⊎ (number ≢ 0) → (0 == number) ≡ (number == 0)

@@ -21,7 +21,7 @@ pub use Rattle.lit_read.specs.Syntax.{Statements, Store, Then, agent_of, stateme
 pub use Rattle.lit_read.specs.declared.limits.TheConstants.{REGISTERS}
 pub use Rattle.lit_read.specs.declared.syntax.Cond.{Cond}
 pub use Rattle.lit_rel.specs.Between.{Forbids}
-pub use Rattle.lit_rel.specs.Broken.{HasFalseTestOn, IsBroken, number_on}
+pub use Rattle.lit_rel.specs.Broken.{HasFalseGuardOn, IsBroken, number_on}
 pub use Rattle.lit_rel.specs.Coherent.{HasCoherentReads, IsCoherentRead}
 pub use Rattle.lit_rel.specs.DataRace.{HasDataRace, HasDataRaceOf, WriteOneByte}
 pub use Rattle.lit_rel.specs.EventSet.{HasEvent, IsSplit, no_events}
@@ -37,15 +37,15 @@ pub use Rattle.lit_rel.specs.ReadsFrom.{ReadsByteFrom, ReadsFrom, composed, valu
 pub use Rattle.lit_rel.specs.Rows.{Holds, IsTransitive, WithPair, rows_len}
 pub use Rattle.lit_rel.specs.SynchronizesWith.{CanSynchronize, SynchronizesBy}
 pub use Rattle.lit_rel.specs.TearFree.{CanReadWhole, HasTearFreeReads, ReadsWholeBy}
-pub use Rattle.lit_rel.specs.TestedBytes.{RefusedBytesMakeFalse}
+pub use Rattle.lit_rel.specs.GuardedBytes.{RefusedBytesMakeFalse}
 pub use Rattle.lit_rel.specs.declared.event_set.EventSet.{EventSet}
 pub use Rattle.lit_rel.specs.declared.given.SourcedByte.{SourcedByte}
 pub use Rattle.lit_rel.specs.declared.rows.Rows.{Rows}
 pub use Rattle.lit_rel.specs.declared.rows.two_way_rows.TwoWayRows.{TwoWayRows}
-pub use Rattle.lit_valid.specs.Completion.{Completes, IsEntered}
+pub use Rattle.lit_valid.specs.Completion.{Completes, IsOnCombination}
 pub use Rattle.lit_valid.specs.Entry.{Entry, HasOutcome}
 pub use Rattle.lit_valid.specs.Laws.{Laws}
-pub use Rattle.lit_valid.specs.PartOutcome.{read_held, value_held}
+pub use Rattle.lit_valid.specs.PartOutcome.{observed_read, observed_value}
 pub use Rattle.std.proofs.Common.{Bool, Global, List, None, Option, Some, Vec, [], ap, ap₂, arith, below_more, cond, drop, eq-eqb, false}
 pub use Rattle.std.proofs.Common.{filter, get_or, inl, inr, length, length-append, length-set, map, not, refl, rules, set, subst, suc, sym}
 pub use Rattle.std.proofs.Common.{take, true, zero, ℕ, ⊎_elim, ◌&&◌, ◌*◌, ◌++◌, ◌+◌, ◌-◌, ◌<◌, ◌==◌, ◌^◌, ◌||◌, ◌↔◌, ◌∙◌, ◌∷◌, ◌≡◌, ◌≢◌}

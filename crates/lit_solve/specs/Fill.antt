@@ -6,7 +6,7 @@ use Rattle.lit_paths.specs.declared.event.Order3.TheVariants.{SeqCst}
 use Rattle.lit_paths.specs.ByteReads.{byte_reads}
 use Rattle.lit_paths.specs.Choice.{AreSources}
 use Rattle.lit_paths.specs.Event.{HasSameRange, does_write, event_at}
-use Rattle.lit_rel.specs.Broken.{HasFalseTestOn}
+use Rattle.lit_rel.specs.Broken.{HasFalseGuardOn}
 use Rattle.lit_rel.specs.Coherent.{IsCoherentRead}
 use Rattle.lit_rel.specs.ReadsFrom.{ReadsByteFrom, value_of}
 use Rattle.lit_rel.specs.TearFree.{ReadsWholeBy}
@@ -29,8 +29,8 @@ abbrev pub IsIdle : Box → ℕ → Type 0
 IsIdle box k = (r b w : ℕ) → slice_get (byte_reads (box_events box)) k ≡ Some (r, b) → HasSource box k w → ¬ HasEffect (box_events box) w r
 
 -- each byte read has one source left, or only such without an effect
-abbrev pub IsQuiet : Box → Type 0
-IsQuiet box = (k : ℕ) → k < length (byte_reads (box_events box)) → ((w : ℕ) × HasAlone box k w) ⊎ IsIdle box k
+abbrev pub IsLeaf : Box → Type 0
+IsLeaf box = (k : ℕ) → k < length (byte_reads (box_events box)) → ((w : ℕ) × HasAlone box k w) ⊎ IsIdle box k
 
 -- each source in a domain is coherent there, by what is given
 abbrev pub AreCoherentSources : Box → Type 0
@@ -42,7 +42,7 @@ AreCoherentSources box =
 pub record IsFilled (box : Box) (r : ℕ) (sources : List ℕ) : Type 0 where
   pub tear_free : (w v : ℕ) → ReadsWholeBy (box_events box) (ReadsByteFrom (box_events box) sources) r w
       → ReadsWholeBy (box_events box) (ReadsByteFrom (box_events box) sources) r v → v ≡ w
-  pub tests : ¬ HasFalseTestOn box.test box.combination (Some r) (value_of (box_events box) sources r)
+  pub tests : ¬ HasFalseGuardOn box.test box.combination (Some r) (value_of (box_events box) sources r)
 
 -- sources of all byte reads that lie in the box
 pub record AreSourcesIn (box : Box) (sources : List ℕ) : Type 0 where

@@ -3,7 +3,7 @@ pub mod Goal
 pub mod Completion
 pub mod Outcomes
 pub mod Given
-pub mod Out
+pub mod Prunable
 pub mod Fill
 pub mod Prospect
 pub mod DataRace

@@ -3,7 +3,7 @@
 ghost use Rattle.std.specs.Prelude.{◌≡◌, ◌⊎◌, ◌↔◌, ℕ, ◌<◌, Some, IfNone, IfSome, IsFalse, IsTrue, length};
 ghost use Rattle.lit_paths.specs.ByteReads.{byte_reads};
 ghost use Rattle.lit_paths.specs.declared.limits.TheConstants.{BYTE_READ_LIMIT};
-ghost use Rattle.lit_solve.specs.Fill.{HasEffect, IsIdle, IsQuiet};
+ghost use Rattle.lit_solve.specs.Fill.{HasEffect, IsIdle, IsLeaf};
 ghost use Rattle.lit_solve.specs.Given.{HasAlone};
 ghost use Rattle.lit_solve.specs.Box.{events_on};
 ghost use Rattle.lit_solve.specs.Internal.Frames.{IsContained, box_of};
@@ -76,7 +76,7 @@ impl Problem<'_> {
         requires { IsContained (box_of self.now frame.now) frame.now }
         ensures known { IfSome result (λ place. place < length (byte_reads (events_on self.now))) }
         ensures open { IfSome result (λ place. (w : ℕ) → ¬ HasAlone (box_of self.now frame.now) place w) }
-        ensures quiet { IfNone result (IsQuiet (box_of self.now frame.now)) }
+        ensures quiet { IfNone result (IsLeaf (box_of self.now frame.now)) }
     {
         let mut best = None;
         for place in 0..self.reads() {

@@ -7,7 +7,7 @@ ghost use Rattle.lit_valid.specs.Entry.{HasOutcome};
 ghost use Rattle.lit_solve.specs.Box.{box_with, events_on};
 ghost use Rattle.lit_solve.specs.declared.goal.Goal.TheVariants.{Any};
 ghost use Rattle.lit_solve.specs.Completion.{IsCompletion, IsLeastSolution};
-ghost use Rattle.lit_solve.specs.Fill.{IsQuiet};
+ghost use Rattle.lit_solve.specs.Fill.{IsLeaf};
 ghost use Rattle.lit_solve.specs.Prospect.{IsUndecidedAt};
 ghost use Rattle.lit_solve.specs.Internal.Frames.{box_of};
 ghost use Rattle.lit_solve.specs.Internal.Narrowing.{HasNoCompletion};
@@ -19,7 +19,7 @@ use crate::domains::Domains;
 use crate::frame::Frame;
 use crate::goal::Goal;
 use crate::heartbeat::Heartbeat;
-use crate::laws::{quiet_boxes_are_filled_read_by_read, reads_are_filled_together};
+use crate::laws::{leaves_are_filled_read_by_read, reads_are_filled_together};
 use crate::leading::Least;
 use crate::numbering::number_of;
 use crate::observation::Values;
@@ -57,7 +57,7 @@ impl Problem<'_> {
     {
         let _events = self.events();
         for name in self.names {
-            if let Some(read) = self.read_held(name.0, name.1) {
+            if let Some(read) = self.observed_read(name.0, name.1) {
                 if let Some(place) = self.forcing_byte(frame, read as u8) {
                     return Some(place);
                 }
@@ -131,13 +131,13 @@ impl Problem<'_> {
         heartbeat: &H,
     ) -> Result<(), AllocError>
         requires settled { IsSettled (box_of self.now frame.now) frame.now }
-        requires quiet { IsQuiet (box_of self.now frame.now) }
+        requires quiet { IsLeaf (box_of self.now frame.now) }
         requires first { AreFirstValues (box_of self.now frame.now) values.now.items }
         ensures added { AddsEntries (box_of self.now frame.now) (T.entries table.old) (T.entries table.new) }
         ensures whole { OnOk result (HasEachOutcome (box_of self.now frame.now) (T.entries table.new)) }
     {
         reads_are_filled_together();
-        quiet_boxes_are_filled_read_by_read();
+        leaves_are_filled_read_by_read();
         *doubt = true;
         if self.has_false_unwritten() {
             return Ok(());

@@ -6,7 +6,7 @@ ghost use Rattle.lit_read.specs.Syntax.{Is};
 ghost use Rattle.lit_paths.specs.ByteReads.{byte_reads};
 ghost use Rattle.lit_paths.specs.Event.{does_read, event_at as event_of};
 ghost use Rattle.lit_rel.specs.EventSet.{HasEvent};
-ghost use Rattle.lit_valid.specs.PartOutcome.{read_held as read_of};
+ghost use Rattle.lit_valid.specs.PartOutcome.{observed_read as read_of};
 ghost use Rattle.lit_solve.specs.Box.{HasSource, IsBox, box_with, events_on};
 ghost use Rattle.lit_solve.specs.Prospect.{IsOutcomeProspect};
 ghost use Rattle.lit_solve.specs.Internal.Deciding.{IsByteDecided, IsDecided, IsReadDecided, opposite_of, stored_for};
@@ -111,7 +111,7 @@ impl Problem<'_> {
     }
 
     /// The read that a register of an agent holds at the end of the agent's path, by number; `None` where it was not written.
-    pub(crate) fn read_held(&self, agent: u8, reg: u8) -> Option<usize>
+    pub(crate) fn observed_read(&self, agent: u8, reg: u8) -> Option<usize>
         ensures value { result ≡ read_of self.now.0 self.now.1 (agent, reg) }
         ensures reads { IfSome result (λ r. (r < length (events_on self.now))
             × IsTrue (does_read (event_of (events_on self.now) r).kind)) }
@@ -130,7 +130,7 @@ impl Problem<'_> {
         ensures { IsDecided (box_with self.now domains.now) (Is agent reg true value) result }
     {
         laws_below();
-        match self.read_held(agent, reg) {
+        match self.observed_read(agent, reg) {
             Some(read) => self.read_is(domains, read, value),
             None => Decided::Comes(value == 0),
         }

@@ -4,7 +4,7 @@ ghost use Rattle.std.specs.Prelude.{◌≡◌, ◌↔◌, ℕ, ◌+◌, ◌*◌,
 ghost use Rattle.lit_paths.specs.ByteReads.{byte_read_at, byte_reads};
 ghost use Rattle.lit_paths.specs.declared.limits.TheConstants.{BYTE_READ_LIMIT, EVENT_LIMIT};
 ghost use Rattle.lit_paths.specs.Event.{event_at as event_of, payload_at as payload_of};
-ghost use Rattle.lit_rel.specs.Broken.{HasFalseTestOn};
+ghost use Rattle.lit_rel.specs.Broken.{HasFalseGuardOn};
 ghost use Rattle.lit_rel.specs.EventSet.{HasEvent};
 ghost use Rattle.lit_solve.specs.Box.{HasEmptyDomain, IsBox, box_with, events_on};
 ghost use Rattle.lit_solve.specs.Fill.{CanFill};
@@ -13,7 +13,7 @@ ghost use Rattle.lit_solve.specs.Internal.Filling.{CanFillOn, HasRoom, TakesOn, 
 use crate::domains::Domains;
 use crate::problem::Problem;
 use lit_paths::{Event, event_at};
-use lit_rel::{EventSet, can_read_whole, has_false_test, payload_at};
+use lit_rel::{EventSet, can_read_whole, has_false_guard, payload_at};
 
 /// What a read takes from the sources that were chosen for its first bytes.
 #[derive(Clone, Copy)]
@@ -83,17 +83,17 @@ impl Problem<'_> {
     }
 
     /// Whether each test on a read is true of a value.
-    fn are_tests_true(&self, read: u8, value: u32) -> bool
-        ensures { IsTrue result ↔ ¬ HasFalseTestOn self.now.0 self.now.1 (Some read) value }
+    fn are_guards_true(&self, read: u8, value: u32) -> bool
+        ensures { IsTrue result ↔ ¬ HasFalseGuardOn self.now.0 self.now.1 (Some read) value }
     {
-        !has_false_test(&self.combination, Some(usize::from(read)), value)
+        !has_false_guard(&self.combination, Some(usize::from(read)), value)
     }
 
     /// Whether a test is false of a register that was not written.
     pub(crate) fn has_false_unwritten(&self) -> bool
-        ensures { IsTrue result ↔ HasFalseTestOn self.now.0 self.now.1 None 0 }
+        ensures { IsTrue result ↔ HasFalseGuardOn self.now.0 self.now.1 None 0 }
     {
-        has_false_test(&self.combination, None, 0)
+        has_false_guard(&self.combination, None, 0)
     }
 
     /// The byte that a source stores for the byte read at a place.
@@ -208,7 +208,7 @@ impl Problem<'_> {
         ensures { IsTrue result ↔ CanFillOn (box_with self.now domains.now) read place (HasEvent taken.whole) taken.value taken.bytes }
     {
         if !self.is_of(read, place) {
-            return self.are_tests_true(read, taken.value);
+            return self.are_guards_true(read, taken.value);
         }
         let mut left = domains[place];
         while let Some((source, others)) = left.split_first() {

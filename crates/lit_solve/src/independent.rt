@@ -19,7 +19,7 @@ ghost use Rattle.lit_solve.specs.Outcomes.{AddsEntries, HasEachOutcome};
 use crate::domains::{Domains, only_one, set_of};
 use crate::heartbeat::Heartbeat;
 use crate::laws::{
-    completions_fill_each_read, quiet_boxes_are_filled_read_by_read, quiet_boxes_have_one_order,
+    completions_fill_each_read, leaves_are_filled_read_by_read, leaves_have_one_order,
 };
 use crate::leading::Least;
 use crate::observation::Values;
@@ -67,7 +67,7 @@ impl Problem<'_> {
         ensures alone { (w : ℕ) × HasAlone (box_with self.now domains.new) place w }
         ensures lowest { IsLowestAt (box_with self.now domains.old) Any place (box_with self.now domains.new) }
     {
-        quiet_boxes_are_filled_read_by_read();
+        leaves_are_filled_read_by_read();
         let _events = self.events();
         let _reads = self.reads();
         if let Some(_source) = only_one(domains[place]) {
@@ -91,8 +91,8 @@ impl Problem<'_> {
         ensures { (order : List ℕ) → HasLeastOrderIn (box_with self.now domains.now) order
             → IsLeastSolution (box_with self.now domains.now) Any result.items order }
     {
-        quiet_boxes_are_filled_read_by_read();
-        quiet_boxes_have_one_order();
+        leaves_are_filled_read_by_read();
+        leaves_have_one_order();
         let mut down = *domains;
         for place in 0..self.reads() {
             self.give_least(&mut down, place);

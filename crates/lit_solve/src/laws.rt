@@ -4,18 +4,18 @@ ghost use Rattle.std.specs.Prelude.{◌≡◌, ◌↔◌, ℕ, ◌<◌, List, No
 ghost use Rattle.lit_paths.specs.ByteReads.{byte_reads};
 ghost use Rattle.lit_paths.specs.Execution.{Execution, execution_events};
 ghost use Rattle.lit_paths.specs.Plan.{AreEventsIn};
-ghost use Rattle.lit_rel.specs.Broken.{HasFalseTestOn};
+ghost use Rattle.lit_rel.specs.Broken.{HasFalseGuardOn};
 ghost use Rattle.lit_rel.specs.DataRace.{HasDataRace};
 ghost use Rattle.lit_order.specs.MemoryOrder.{HasOrder, IsMemoryOrder, IsOrderOf, StandsBefore};
 ghost use Rattle.lit_solve.specs.Box.{Box, HasEmptyDomain, IsBox, IsWithin, box_events};
 ghost use Rattle.lit_solve.specs.Completion.{HasSolution, IsCompletion};
 ghost use Rattle.lit_solve.specs.DataRace.{CanRaceIn, MayRaceIn};
-ghost use Rattle.lit_solve.specs.Fill.{AreCoherentSources, AreSourcesIn, CanFill, IsFilled, IsQuiet};
+ghost use Rattle.lit_solve.specs.Fill.{AreCoherentSources, AreSourcesIn, CanFill, IsFilled, IsLeaf};
 ghost use Rattle.lit_solve.specs.Given.{GivenIn, HappensBeforeIn, IsForbiddenIn, IsForcedIn};
 ghost use Rattle.lit_solve.specs.declared.goal.Goal.TheVariants.{Any, Race};
-ghost use Rattle.lit_solve.specs.Out.{IsOut, IsRefuted};
+ghost use Rattle.lit_solve.specs.Prunable.{IsPrunable, IsRefuted};
 
-use lit_rel::laws::{byte_reads_are_of_events, refused_bytes_make_tests_false};
+use lit_rel::laws::{byte_reads_are_of_events, refused_bytes_make_guards_false};
 use lit_valid::laws::laws_below;
 
 /// What is given, the relations of it, and what they force grow where domains shrink, as long as none is empty.
@@ -39,12 +39,12 @@ pub fn completions_keep_what_is_forced()
 }
 
 /// No completion has a source that the box leaves out.
-pub fn completions_have_no_source_that_is_out()
+pub fn completions_have_no_prunable_source()
     ensures { (box : Box) (x : Execution) (k r b w : ℕ) → IsBox box → AreEventsIn box.test.bytes (box_events box) → IsCompletion box x
-        → slice_get (byte_reads (box_events box)) k ≡ Some (r, b) → slice_get x.sources k ≡ Some w → ¬ IsOut box r b w }
+        → slice_get (byte_reads (box_events box)) k ≡ Some (r, b) → slice_get x.sources k ≡ Some w → ¬ IsPrunable box r b w }
 {
     laws_below();
-    refused_bytes_make_tests_false();
+    refused_bytes_make_guards_false();
 }
 
 /// A box that is refuted has no completion.
@@ -64,18 +64,18 @@ pub fn completions_fill_each_read()
 /// In a quiet box, whose sources are coherent and in which no event happens before itself, the sources that lie in it are
 /// those of a completion exactly where each read is filled by them, no test on a register that was not written is false,
 /// and there is an order of what is given.
-pub fn quiet_boxes_are_filled_read_by_read()
-    ensures { (box : Box) (sources : List ℕ) → IsBox box → IsQuiet box → AreCoherentSources box → ((e : ℕ) → ¬ HappensBeforeIn box e e)
+pub fn leaves_are_filled_read_by_read()
+    ensures { (box : Box) (sources : List ℕ) → IsBox box → IsLeaf box → AreCoherentSources box → ((e : ℕ) → ¬ HappensBeforeIn box e e)
         → AreSourcesIn box sources → ((x : Execution) × IsCompletion box x × (x.sources ≡ sources))
-        ↔ (((r : ℕ) → r < length (box_events box) → IsFilled box r sources) × (¬ HasFalseTestOn box.test box.combination None 0)
+        ↔ (((r : ℕ) → r < length (box_events box) → IsFilled box r sources) × (¬ HasFalseGuardOn box.test box.combination None 0)
         × HasOrder (length (box_events box)) (HappensBeforeIn box) (IsForbiddenIn box)) }
 {
     laws_below();
 }
 
 /// In a quiet box a completion has the memory-orders of what the box gives.
-pub fn quiet_boxes_have_one_order()
-    ensures { (box : Box) (x : Execution) (order : List ℕ) → IsBox box → IsQuiet box → IsCompletion box x
+pub fn leaves_have_one_order()
+    ensures { (box : Box) (x : Execution) (order : List ℕ) → IsBox box → IsLeaf box → IsCompletion box x
         → IsMemoryOrder (execution_events box.test x) x.sources order
         ↔ IsOrderOf (length (box_events box)) (HappensBeforeIn box) (IsForbiddenIn box) order }
 {
@@ -102,8 +102,8 @@ pub fn boxes_foresee_races()
 
 /// A quiet box whose sources are coherent, and that has a completion, has one with a data race exactly where there is one by
 /// what it gives: of two writes, or of a read and a source with which it can be filled.
-pub fn quiet_boxes_race_as_reads_are_filled()
-    ensures { (box : Box) → IsBox box → IsQuiet box → AreCoherentSources box → HasSolution box Any → HasSolution box Race ↔ CanRaceIn box }
+pub fn leaves_race_as_reads_are_filled()
+    ensures { (box : Box) → IsBox box → IsLeaf box → AreCoherentSources box → HasSolution box Any → HasSolution box Race ↔ CanRaceIn box }
 {
     laws_below();
 }

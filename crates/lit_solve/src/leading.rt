@@ -11,7 +11,7 @@ ghost use Rattle.lit_solve.specs.Internal.Settled.{IsSettled};
 use crate::domains::{Domains, only_one};
 use crate::frame::Frame;
 use crate::goal::Goal;
-use crate::laws::quiet_boxes_have_one_order;
+use crate::laws::leaves_have_one_order;
 use crate::problem::Problem;
 use lit_order::Order;
 use lit_paths::Sources;
@@ -66,7 +66,7 @@ impl Problem<'_> {
         ensures { MatchOption result (¬ HasSolution (box_of self.now frame.now) goal)
             (λ least. IsLeastSolution (box_of self.now frame.now) goal least.sources.items least.order.items) }
     {
-        quiet_boxes_have_one_order();
+        leaves_have_one_order();
         let mut down = *frame;
         if !self.lead(&mut down, goal) {
             return None;

@@ -7,7 +7,7 @@ ghost use Rattle.lit_rel.specs.Racing.{AreApart, HasApartPair, WritesWith};
 ghost use Rattle.lit_rel.specs.Rows.{Holds};
 ghost use Rattle.lit_solve.specs.Box.{HasEmptyDomain, HasSource, IsBox, box_with, events_on};
 ghost use Rattle.lit_solve.specs.Completion.{HasSolution};
-ghost use Rattle.lit_solve.specs.Fill.{CanFill, IsQuiet};
+ghost use Rattle.lit_solve.specs.Fill.{CanFill, IsLeaf};
 ghost use Rattle.lit_solve.specs.declared.goal.Goal.TheVariants.{Any};
 ghost use Rattle.lit_solve.specs.Internal.Frames.{IsContained, IsExact, box_of};
 ghost use Rattle.lit_solve.specs.Internal.Leaves.{CanFillAt, MayHave, RacesAt, RacesIn};
@@ -15,7 +15,7 @@ ghost use Rattle.lit_solve.specs.Internal.Settled.{IsSettled};
 
 use crate::domains::{Domains, set_of};
 use crate::frame::Frame;
-use crate::laws::{quiet_boxes_are_filled_read_by_read, reads_are_filled_together};
+use crate::laws::{leaves_are_filled_read_by_read, reads_are_filled_together};
 use crate::problem::Problem;
 use lit_rel::{are_apart, has_racing_writes};
 
@@ -38,11 +38,11 @@ impl Problem<'_> {
     /// Its reads are filled one by one there, and all orders of what is given are orders of it.
     pub(crate) fn has_completion(&self, frame: &Frame) -> bool
         requires settled { IsSettled (box_of self.now frame.now) frame.now }
-        requires quiet { IsQuiet (box_of self.now frame.now) }
+        requires quiet { IsLeaf (box_of self.now frame.now) }
         ensures { IsTrue result ↔ HasSolution (box_of self.now frame.now) Any }
     {
         reads_are_filled_together();
-        quiet_boxes_are_filled_read_by_read();
+        leaves_are_filled_read_by_read();
         if self.has_false_unwritten() {
             return false;
         }

@@ -11,14 +11,14 @@ ghost use Rattle.lit_rel.specs.SynchronizesWith.{CanSynchronize};
 ghost use Rattle.lit_rel.specs.TearFree.{CanReadWhole, ReadsWholeBy};
 ghost use Rattle.lit_solve.specs.Box.{HasSource, events_on};
 ghost use Rattle.lit_solve.specs.Given.{GivenIn, HasAlone};
-ghost use Rattle.lit_solve.specs.Out.{IsOut};
+ghost use Rattle.lit_solve.specs.Prunable.{IsPrunable};
 ghost use Rattle.lit_solve.specs.Internal.Frames.{AreCoherentAt, IsContained, box_of};
 ghost use Rattle.lit_solve.specs.Internal.Narrowing.{HasNoCompletion, Narrows, size_of};
 ghost use Rattle.lit_solve.specs.declared.narrowing.Narrowed.TheVariants.{Empty, Less, Same};
 
 use crate::domains::only_one;
 use crate::frame::Frame;
-use crate::laws::completions_have_no_source_that_is_out;
+use crate::laws::completions_have_no_prunable_source;
 use crate::problem::Problem;
 use lit_paths::event_at;
 use lit_rel::{EventSet, can_read_whole, can_synchronize, others_between};
@@ -151,7 +151,7 @@ impl Problem<'_> {
         requires calm { (e : ℕ) → ¬ Holds frame.now.happens_before.rows e e }
         requires whole { (u : ℕ) → HasEvent whole u → ReadsWholeBy (events_on self.now) (GivenIn (box_of self.now frame.now))
             (byte_read_at (events_on self.now) place).0 u }
-        ensures out { IsTrue result → IsOut (box_of self.now frame.now) (byte_read_at (events_on self.now) place).0
+        ensures out { IsTrue result → IsPrunable (box_of self.now frame.now) (byte_read_at (events_on self.now) place).0
             (byte_read_at (events_on self.now) place).1 source }
         ensures coherent { IsFalse result → IsCoherentRead (events_on self.now) (Holds frame.now.happens_before.rows)
             (byte_read_at (events_on self.now) place).0 (byte_read_at (events_on self.now) place).1 source }
@@ -170,7 +170,7 @@ impl Problem<'_> {
         requires calm { (e : ℕ) → ¬ Holds frame.now.happens_before.rows e e }
         ensures within { (w : ℕ) → HasEvent result w → HasSource (box_of self.now frame.now) place w }
         ensures out { (w : ℕ) → HasSource (box_of self.now frame.now) place w → ¬ HasEvent result w
-            → IsOut (box_of self.now frame.now) (byte_read_at (events_on self.now) place).0 (byte_read_at (events_on self.now) place).1 w }
+            → IsPrunable (box_of self.now frame.now) (byte_read_at (events_on self.now) place).0 (byte_read_at (events_on self.now) place).1 w }
         ensures coherent { (w : ℕ) → HasEvent result w → IsCoherentRead (events_on self.now) (Holds frame.now.happens_before.rows)
             (byte_read_at (events_on self.now) place).0 (byte_read_at (events_on self.now) place).1 w }
     {
@@ -202,7 +202,7 @@ impl Problem<'_> {
         ensures less { result ≡ Less → size_of frame.new.domains < size_of frame.old.domains }
         ensures empty { result ≡ Empty → HasNoCompletion (box_of self.now frame.old) }
     {
-        completions_have_no_source_that_is_out();
+        completions_have_no_prunable_source();
         let _events = self.events();
         let left = self.left(&*frame, place);
         if left.is_empty() {

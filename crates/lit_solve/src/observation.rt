@@ -5,7 +5,7 @@ ghost use Rattle.lit_paths.specs.ByteReads.{byte_reads};
 ghost use Rattle.lit_solve.specs.Box.{HasEmptyDomain, HasSource, IsBox, box_with, events_on};
 ghost use Rattle.lit_solve.specs.Prospect.{IsUndecidedAt, IsValueOf};
 ghost use Rattle.lit_solve.specs.Internal.Deciding.{stored_for};
-ghost use Rattle.lit_solve.specs.Internal.Observation.{AreFirstValues, IsObservation, IsValueHeld};
+ghost use Rattle.lit_solve.specs.Internal.Observation.{AreFirstValues, IsObservation, IsValueObserved};
 
 use crate::domains::Domains;
 use crate::filling::Taken;
@@ -72,10 +72,10 @@ impl Problem<'_> {
     fn register_value(&self, domains: &Domains, name: (u8, u8)) -> ReadValue
         requires is_box { IsBox (box_with self.now domains.now) }
         requires some { ¬ HasEmptyDomain (box_with self.now domains.now) }
-        ensures { IsValueHeld (box_with self.now domains.now) name result }
+        ensures { IsValueObserved (box_with self.now domains.now) name result }
     {
         let _events = self.events();
-        match self.read_held(name.0, name.1) {
+        match self.observed_read(name.0, name.1) {
             Some(read) => self.read_value(domains, read as u8),
             None => ReadValue::One(0),
         }

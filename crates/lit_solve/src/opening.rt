@@ -13,7 +13,7 @@ ghost use Rattle.lit_solve.specs.Internal.Settled.{IsCut, IsSettled, TakesFrom};
 use crate::domains::Domains;
 use crate::frame::Frame;
 use crate::laws::{
-    completions_fill_each_read, completions_have_no_source_that_is_out,
+    completions_fill_each_read, completions_have_no_prunable_source,
     refuted_boxes_have_no_completion,
 };
 use crate::problem::Problem;
@@ -53,7 +53,7 @@ impl Problem<'_> {
         ensures is_box { IsBox (box_with self.now result) }
         ensures narrows { Narrows (box_with self.now domains.now) (box_with self.now result) }
     {
-        completions_have_no_source_that_is_out();
+        completions_have_no_prunable_source();
         let mut left = *domains;
         for place in 0..self.reads() {
             left[place] = left[place].difference(self.refused[place]);

@@ -3,14 +3,14 @@
 ghost use Rattle.std.specs.Prelude.{◌↔◌, IsTrue};
 ghost use Rattle.lit_paths.specs.Execution.{Execution};
 ghost use Rattle.lit_solve.specs.Completion.{HasSolution, IsCompletion};
-ghost use Rattle.lit_solve.specs.Fill.{IsQuiet};
+ghost use Rattle.lit_solve.specs.Fill.{IsLeaf};
 ghost use Rattle.lit_solve.specs.Internal.Deciding.{MeetsByOutcome};
 ghost use Rattle.lit_solve.specs.Internal.Frames.{box_of};
 ghost use Rattle.lit_solve.specs.Internal.Settled.{IsSettled};
 
 use crate::frame::Frame;
 use crate::goal::Goal;
-use crate::laws::quiet_boxes_race_as_reads_are_filled;
+use crate::laws::leaves_race_as_reads_are_filled;
 use crate::problem::Problem;
 use crate::stepping::Step;
 
@@ -19,12 +19,12 @@ impl Problem<'_> {
     /// far as its outcome goes.
     fn is_met(&self, frame: &Frame, goal: Goal) -> bool
         requires settled { IsSettled (box_of self.now frame.now) frame.now }
-        requires quiet { IsQuiet (box_of self.now frame.now) }
+        requires quiet { IsLeaf (box_of self.now frame.now) }
         requires each { (x : Execution) → IsCompletion (box_of self.now frame.now) x
             → MeetsByOutcome (box_of self.now frame.now).test goal x }
         ensures { IsTrue result ↔ HasSolution (box_of self.now frame.now) goal }
     {
-        quiet_boxes_race_as_reads_are_filled();
+        leaves_race_as_reads_are_filled();
         match goal {
             Goal::Any | Goal::OfClass(_) => self.has_completion(frame),
             Goal::Race => self.has_completion(frame) && self.races(frame, true),

@@ -5,7 +5,7 @@ ghost use Rattle.lit_paths.specs.ByteReads.{byte_read_at, byte_reads};
 ghost use Rattle.lit_paths.specs.Choice.{combinations_of};
 ghost use Rattle.lit_rel.specs.EventSet.{HasEvent};
 ghost use Rattle.lit_solve.specs.Box.{events_on};
-ghost use Rattle.lit_solve.specs.Out.{IsRefusedOn};
+ghost use Rattle.lit_solve.specs.Prunable.{IsRefusedOn};
 
 use lit_paths::Combination;
 use lit_rel::laws::byte_reads_are_of_events;

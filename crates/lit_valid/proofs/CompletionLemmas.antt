@@ -16,7 +16,7 @@ use Rattle.lit_paths.specs.Path.{path_on}
 use Rattle.lit_paths.specs.Plan.{combination_at, first_event, path_in, walk_in}
 use Rattle.lit_paths.specs.Run.{Run, compares, run_path}
 use Rattle.lit_paths.specs.Told.{TellsRuns}
-use Rattle.lit_rel.specs.Broken.{HasBrokenRelations, HasFalseTest, HasFalseTestOn, IsBroken, number_on}
+use Rattle.lit_rel.specs.Broken.{HasBrokenRelations, HasFalseGuard, HasFalseGuardOn, IsBroken, number_on}
 use Rattle.lit_rel.specs.Coherent.{HasCoherentReads, IsCoherentRead}
 use Rattle.lit_rel.specs.Growth.{GrowWithBytes, IsGivenWhole, ValuesStay}
 use Rattle.lit_rel.specs.HappensBefore.{HappensBefore}
@@ -24,12 +24,12 @@ use Rattle.lit_rel.specs.Part.{PartModel, part_events, with_sources}
 use Rattle.lit_rel.specs.ReadsFrom.{value_of}
 use Rattle.lit_rel.specs.TearFree.{HasTearFreeReads}
 use Rattle.lit_order.specs.MemoryOrder.{IsMemoryOrder}
-use Rattle.lit_valid.specs.Completion.{Completes, IsEntered}
+use Rattle.lit_valid.specs.Completion.{Completes, IsOnCombination}
 use Rattle.lit_valid.specs.ValidExecution.{IsValidExecution, read_numbers}
 use Rattle.lit_valid.specs.Internal.GivenRuns.{AreGivenRuns, HasGivenRun, IsGivenRun}
 use Rattle.lit_valid.specs.Laws.{ChooseForEachRead, Laws}
-use Rattle.lit_valid.specs.PartOutcome.{part_outcome, value_held}
-use Rattle.lit_valid.proofs.HeldLemmas.{held_by_run, holds, run_where_true, true_of_run}
+use Rattle.lit_valid.specs.PartOutcome.{part_outcome, observed_value}
+use Rattle.lit_valid.proofs.ObservedLemmas.{held_by_run, holds, run_where_true, true_of_run}
 use Rattle.lit_valid.proofs.RunLemmas.{given_apart, given_together, made, no_path, no_run}
 use Rattle.lit_valid.proofs.Takings.{gathered}
 
@@ -80,10 +80,10 @@ module _ (part : PartModel) (x : Execution) (is : Completes part x) where
       torn.two_sources (grows.tear_free (carried HasTearFreeReads is.valid.tear_free_reads) torn.read torn.source torn.other torn.first torn.second)
 
   -- each test is true of its sources
-  its_tests : Laws → IsLitmus part.test → part.combination < length (combinations_of part.test)
+  its_guards : Laws → IsLitmus part.test → part.combination < length (combinations_of part.test)
       → (agent k : ℕ) (test : Tested) → agent < length part.test.agents
       → slice_get (path_in part.test part.combination agent).tests k ≡ Some test → holds part.test part.combination agent x.sources test ≡ true
-  its_tests laws litmus known agent k test inside at =
+  its_guards laws litmus known agent k test inside at =
       let runs = its_runs laws.choose in
       let there : agent < length x.runs = omega (arith, runs.one_each, inside) in
       let run = get_or x.runs agent no_run in
@@ -92,32 +92,32 @@ module _ (part : PartModel) (x : Execution) (is : Completes part x) where
 
   -- a read whose bytes are all given has the value that the part gives it
   pub value_stays : ValuesStay → (place : Option ℕ) → ((r : ℕ) → place ≡ Some r → IsGivenWhole (part_events part) part.sources r)
-      → value_held (with_sources part x.sources) place ≡ value_held part place
+      → observed_value (with_sources part x.sources) place ≡ observed_value part place
   value_stays stay None whole = refl
   value_stays stay (Some r) whole =
       ap (λ (ws : List ℕ). value_of (part_events part) ws r) is.begun ∙ stay (part_events part) part.sources is.rest r (whole r refl)
 
-  tests_true : Laws → ValuesStay → IsEntered part → ¬ HasFalseTest part
-  tests_true laws stay entered (inl bad) =
-      let true_there = its_tests laws entered.litmus entered.known bad.agent bad.place bad.test bad.known bad.at_place in
-      let value : value_held (with_sources part x.sources) (number_on (first_event part.test part.combination bad.agent) bad.test.on) ≡ 0 =
-      ap (λ (p : Option ℕ). value_held (with_sources part x.sources) p) bad.asks in
+  guards_true : Laws → ValuesStay → IsOnCombination part → ¬ HasFalseGuard part
+  guards_true laws stay entered (inl bad) =
+      let true_there = its_guards laws entered.litmus entered.known bad.agent bad.place bad.test bad.known bad.at_place in
+      let value : observed_value (with_sources part x.sources) (number_on (first_event part.test part.combination bad.agent) bad.test.on) ≡ 0 =
+      ap (λ (p : Option ℕ). observed_value (with_sources part x.sources) p) bad.asks in
       absurd (let e : true ≡ false = sym true_there ∙ ap (λ (v : ℕ). compares bad.test.equal v bad.test.value) value ∙ bad.is_false in cc)
-  tests_true laws stay entered (inr (r, whole, bad)) =
-      let true_there = its_tests laws entered.litmus entered.known bad.agent bad.place bad.test bad.known bad.at_place in
+  guards_true laws stay entered (inr (r, whole, bad)) =
+      let true_there = its_guards laws entered.litmus entered.known bad.agent bad.place bad.test bad.known bad.at_place in
       let place = number_on (first_event part.test part.combination bad.agent) bad.test.on in
-      let value : value_held (with_sources part x.sources) place ≡ value_of (part_events part) part.sources r =
+      let value : observed_value (with_sources part x.sources) place ≡ value_of (part_events part) part.sources r =
       value_stays stay place (λ q at. let e : Some q ≡ Some r = sym at ∙ bad.asks in let same : r ≡ q = cc in
       subst (λ (p : ℕ). IsGivenWhole (part_events part) part.sources p) same whole)
-      ∙ ap (λ (p : Option ℕ). value_held part p) bad.asks in
+      ∙ ap (λ (p : Option ℕ). observed_value part p) bad.asks in
       absurd (let e : true ≡ false = sym true_there ∙ ap (λ (v : ℕ). compares bad.test.equal v bad.test.value) value ∙ bad.is_false in cc)
 
-  pub not_broken : Laws → GrowWithBytes → ValuesStay → IsEntered part → ¬ IsBroken part
+  pub not_broken : Laws → GrowWithBytes → ValuesStay → IsOnCombination part → ¬ IsBroken part
   not_broken laws grow stay entered (inl bad) = relations_whole grow bad
-  not_broken laws grow stay entered (inr bad) = tests_true laws stay entered bad
+  not_broken laws grow stay entered (inr bad) = guards_true laws stay entered bad
 
   -- its outcome is what the registers hold by its sources
-  pub its_outcome : Laws → IsEntered part → All (λ name. (name.0 < length part.test.agents) × (name.1 < REGISTERS)) (names_of part.test)
+  pub its_outcome : Laws → IsOnCombination part → All (λ name. (name.0 < length part.test.agents) × (name.1 < REGISTERS)) (names_of part.test)
       → execution_outcome part.test x ≡ part_outcome (with_sources part x.sources)
   its_outcome laws entered named =
       let runs = its_runs laws.choose in
@@ -138,7 +138,7 @@ module _ (part : PartModel) (x : Execution) (is : Completes part x) where
           ap (λ (v : ℕ). v ∷ map f ns) (same 0 n refl) ∙ ap (λ (vs : List ℕ). g n ∷ vs) (same_maps ns (λ k name at. same (suc k) name at))
 
 -- ---- an execution of a complete part that is not broken
-module _ (part : PartModel) (entered : IsEntered part) (laws : Laws) (sourced : AreSources (part_events part) part.sources) (whole : ¬ IsBroken part) where
+module _ (part : PartModel) (entered : IsOnCombination part) (laws : Laws) (sourced : AreSources (part_events part) part.sources) (whole : ¬ IsBroken part) where
   abbrev t : Litmus
   t = part.test
 
@@ -152,23 +152,23 @@ module _ (part : PartModel) (entered : IsEntered part) (laws : Laws) (sourced : 
       → holds t c agent part.sources test ≡ true
   true_here agent k test inside at = by (number_on (first_event t c agent) test.on) refl (holds t c agent part.sources test) refl
     where
-      false_test : (place : Option ℕ) → number_on (first_event t c agent) test.on ≡ place → holds t c agent part.sources test ≡ false
-          → HasFalseTestOn t c place (value_held part place)
-      false_test place asks is = record {
+      false_guard : (place : Option ℕ) → number_on (first_event t c agent) test.on ≡ place → holds t c agent part.sources test ≡ false
+          → HasFalseGuardOn t c place (observed_value part place)
+      false_guard place asks is = record {
         agent = agent;
         known = inside;
         place = k;
         test = test;
         at_place = at;
         asks = asks;
-        is_false = ap (λ (p : Option ℕ). compares test.equal (value_held part p) test.value) (sym asks) ∙ is;
+        is_false = ap (λ (p : Option ℕ). compares test.equal (observed_value part p) test.value) (sym asks) ∙ is;
       }
 
       by : (place : Option ℕ) → number_on (first_event t c agent) test.on ≡ place → (b : Bool) → holds t c agent part.sources test ≡ b
           → holds t c agent part.sources test ≡ true
       by place asks true is = is
-      by None asks false is = absurd (whole (inr (inl (false_test None asks is))))
-      by (Some r) asks false is = absurd (whole (inr (inr (r, all_given r, false_test (Some r) asks is))))
+      by None asks false is = absurd (whole (inr (inl (false_guard None asks is))))
+      by (Some r) asks false is = absurd (whole (inr (inr (r, all_given r, false_guard (Some r) asks is))))
 
   pub each_run : (agent : ℕ) → agent < length t.agents → HasGivenRun t c part.sources agent
   each_run agent inside =

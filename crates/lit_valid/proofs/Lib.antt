@@ -1,4 +1,4 @@
-pub mod HeldLemmas
+pub mod ObservedLemmas
 pub mod Takings
 pub mod RunLemmas
 pub mod CompletionLemmas

@@ -11,7 +11,7 @@ use Rattle.lit_paths.specs.Path.{Path}
 use Rattle.lit_paths.specs.Plan.{choices_before}
 use Rattle.lit_paths.proofs.NameSteps.{names_from-within}
 use Rattle.lit_rel.specs.Part.{PartModel, with_sources}
-use Rattle.lit_valid.specs.Completion.{Completes, IsEntered}
+use Rattle.lit_valid.specs.Completion.{Completes, IsOnCombination}
 use Rattle.lit_valid.specs.Gives.{Gives}
 use Rattle.lit_valid.specs.PartOutcome.{part_outcome}
 use Rattle.lit_valid.specs.Laws.{Laws}
@@ -42,7 +42,7 @@ one_outcome laws t n some other litmus g h =
     let at = stands (choices_before t) (length (combinations_of t)) n (omega arith) (omega (arith, inside, all_before t)) in
     let c = at.0 in
     let of = laws.placed t n c at.1 at.2 at.3 in
-    let entered : IsEntered (start t c) = record { litmus = litmus; known = at.1 } in
+    let entered : IsOnCombination (start t c) = record { litmus = litmus; known = at.1 } in
     let first : Completes (start t c)
     g.execution = record {
       valid = g.valid;

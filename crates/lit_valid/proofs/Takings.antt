@@ -10,7 +10,7 @@ use Rattle.lit_paths.specs.Plan.{accesses_on}
 use Rattle.lit_paths.specs.Told.{read_places}
 use Rattle.lit_valid.specs.ValidExecution.{read_numbers_from, read_numbers}
 use Rattle.lit_paths.proofs.EventLists.{length-init_events}
-use Rattle.lit_valid.proofs.HeldLemmas.{length-taken}
+use Rattle.lit_valid.proofs.ObservedLemmas.{length-taken}
 
 -- ---- the numbers of reads
 read_numbers_from-append : (n : ℕ) (xs ys : List Event) → read_numbers_from n (xs ++ ys) ≡ read_numbers_from n xs ++ read_numbers_from (n + length xs) ys

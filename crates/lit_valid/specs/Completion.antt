@@ -9,7 +9,7 @@ use Rattle.lit_rel.specs.Part.{PartModel}
 use Rattle.lit_valid.specs.ValidExecution.{IsValidExecution}
 
 -- a part of a combination of a test that a text can say
-pub record IsEntered (part : PartModel) : Type 0 where
+pub record IsOnCombination (part : PartModel) : Type 0 where
   pub litmus : IsLitmus part.test
   pub known : part.combination < length (combinations_of part.test)
 

@@ -8,14 +8,14 @@ use Rattle.lit_rel.specs.Part.{PartModel, part_events}
 use Rattle.lit_rel.specs.ReadsFrom.{value_of}
 
 -- the number of the read that a register, named by agent and register, holds
-abbrev pub read_held : Litmus → ℕ → ℕ × ℕ → Option ℕ
-read_held t c name = number_on (first_event t c name.0) (slice_index_or (path_in t c name.0).last name.1 None)
+abbrev pub observed_read : Litmus → ℕ → ℕ × ℕ → Option ℕ
+observed_read t c name = number_on (first_event t c name.0) (slice_index_or (path_in t c name.0).last name.1 None)
 
 -- the value of a read by the sources given, or 0 where there is none
-abbrev pub value_held : PartModel → Option ℕ → ℕ
-value_held part None = 0
-value_held part (Some r) = value_of (part_events part) part.sources r
+abbrev pub observed_value : PartModel → Option ℕ → ℕ
+observed_value part None = 0
+observed_value part (Some r) = value_of (part_events part) part.sources r
 
 -- what the registers of an outcome hold by the sources given
 abbrev pub part_outcome : PartModel → List ℕ
-part_outcome part = map (λ name. value_held part (read_held part.test part.combination name)) (names_of part.test)
+part_outcome part = map (λ name. observed_value part (observed_read part.test part.combination name)) (names_of part.test)

@@ -7,7 +7,7 @@ ghost use Rattle.lit_paths.specs.Execution.{Execution, execution_events};
 ghost use Rattle.lit_rel.specs.Broken.{IsBroken};
 ghost use Rattle.lit_rel.specs.Part.{PartModel, part_events};
 ghost use Rattle.lit_order.specs.MemoryOrder.{IsMemoryOrder};
-ghost use Rattle.lit_valid.specs.Completion.{Completes, HasCompletion, IsEntered};
+ghost use Rattle.lit_valid.specs.Completion.{Completes, HasCompletion, IsOnCombination};
 ghost use Rattle.lit_valid.specs.Gives.{Gives};
 ghost use Rattle.lit_valid.specs.Laws.{Laws};
 
@@ -44,7 +44,7 @@ pub fn choices_have_one_outcome()
 
 /// No valid execution goes on from a part that is broken.
 pub fn broken_parts_have_no_completion()
-    ensures { (part : PartModel) (x : Execution) → IsEntered part → IsBroken part → ¬ Completes part x }
+    ensures { (part : PartModel) (x : Execution) → IsOnCombination part → IsBroken part → ¬ Completes part x }
 {
     laws_below();
 }
@@ -61,7 +61,7 @@ pub fn orders_of_completions_keep_parts()
 /// Of a part that is not broken, and in which each byte read has a source, there is a valid execution exactly where an
 /// order keeps its happens-before and avoids what it forbids.
 pub fn whole_parts_are_decided_by_orders()
-    ensures { (part : PartModel) → IsEntered part → AreSources (part_events part) part.sources → ¬ IsBroken part
+    ensures { (part : PartModel) → IsOnCombination part → AreSources (part_events part) part.sources → ¬ IsBroken part
         → HasCompletion part ↔ ((order : List ℕ) × IsMemoryOrder (part_events part) part.sources order) }
 {
     laws_below();

@@ -10,12 +10,12 @@ use Rattle.lit_paths.specs.ByteReads.{byte_reads}
 use Rattle.lit_paths.specs.Event.{event_at, payload_at}
 use Rattle.lit_paths.specs.Outcome.{names_of}
 use Rattle.lit_paths.specs.Plan.{events_in}
-use Rattle.lit_rel.specs.Broken.{HasFalseTest, HasFalseTestOn}
+use Rattle.lit_rel.specs.Broken.{HasFalseGuard, HasFalseGuardOn}
 use Rattle.lit_rel.specs.ReadsFrom.{composed, value_of}
 use Rattle.lit_valid.specs.declared.class.Class.{Class}
 use Rattle.lit_valid.specs.Class.{is_of_class}
 use Rattle.lit_valid.specs.Laws.{Laws}
-use Rattle.lit_valid.specs.PartOutcome.{part_outcome, read_held, value_held}
+use Rattle.lit_valid.specs.PartOutcome.{part_outcome, observed_read, observed_value}
 use Rattle.lit_why.specs.Attempts.{AreOneAttempt, IsTry, TriesClass, give_alike, part_with, store_alike}
 use Rattle.lit_why.proofs.AttemptLemmas.{both, one_combination}
 use Rattle.lit_why.proofs.NodeLemmas.{on_sourced}
@@ -60,23 +60,23 @@ module _ (t : Litmus) (class : Class) (c : ℕ) (some other : List ℕ) (long : 
   value_same : (r : ℕ) → value_of (events_in t c) some r ≡ value_of (events_in t c) other r
   value_same r = ap composed (taken_same (events_in t c) r (byte_reads (events_in t c)) some other long long_other alike)
 
-  held_same : (held : Option ℕ) → value_held (part_with t c some) held ≡ value_held (part_with t c other) held
+  held_same : (held : Option ℕ) → observed_value (part_with t c some) held ≡ observed_value (part_with t c other) held
   held_same None = refl
   held_same (Some r) = value_same r
 
   outcome_same : part_outcome (part_with t c some) ≡ part_outcome (part_with t c other)
   outcome_same =
-      map_same (λ name. value_held (part_with t c some) (read_held t c name))
-      (λ name. value_held (part_with t c other) (read_held t c name)) (names_of t)
-      (λ name. held_same (read_held t c name))
+      map_same (λ name. observed_value (part_with t c some) (observed_read t c name))
+      (λ name. observed_value (part_with t c other) (observed_read t c name)) (names_of t)
+      (λ name. held_same (observed_read t c name))
 
-  false_same : HasFalseTest (part_with t c other) → HasFalseTest (part_with t c some)
+  false_same : HasFalseGuard (part_with t c other) → HasFalseGuard (part_with t c some)
   false_same (inl unwritten) = inl unwritten
   false_same (inr (r, whole, is)) =
       inr (
         r,
         (λ i b at. omega (arith, whole i b at, long, long_other)),
-        subst (λ (v : ℕ). HasFalseTestOn t c (Some r) v) (sym (value_same r)) is,
+        subst (λ (v : ℕ). HasFalseGuardOn t c (Some r) v) (sym (value_same r)) is,
       )
 
   try_same : IsTry t class c some → IsTry t class c other

@@ -15,8 +15,8 @@ use Rattle.lit_paths.specs.Plan.{AreEventsIn, choices_before, combination_at, ev
 use Rattle.lit_paths.proofs.PlanFacts.{before_mono}
 use Rattle.lit_paths.proofs.Totals.{before_all}
 use Rattle.lit_rel.specs.declared.event_set.EventSet.{EventSet}
-use Rattle.lit_rel.specs.Broken.{HasFalseTest}
-use Rattle.lit_rel.specs.TestedBytes.{RefusedBytesMakeFalse}
+use Rattle.lit_rel.specs.Broken.{HasFalseGuard}
+use Rattle.lit_rel.specs.GuardedBytes.{RefusedBytesMakeFalse}
 use Rattle.lit_valid.specs.declared.class.Class.{Class}
 use Rattle.lit_valid.specs.Laws.{Laws}
 use Rattle.lit_solve.specs.Box.{Box, LiesIn, box_with, events_on}
@@ -169,7 +169,7 @@ module _ (laws : Laws) (refused : RefusedBytesMakeFalse) (p : Litmus × ℕ) (cl
 
   -- the sources of the first choice of an attempt are representatives
   module _ (n : ℕ) (is : IsLeastTry t class n) (sources : List ℕ) (on : IsOn t n c sources)
-      (allowed : ¬ HasFalseTest (part_with t c sources)) where
+      (allowed : ¬ HasFalseGuard (part_with t c sources)) where
     are : AreSources events sources
     are = on_sourced laws t n c sources on
 

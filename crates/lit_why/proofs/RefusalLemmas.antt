@@ -16,17 +16,17 @@ use Rattle.lit_paths.specs.declared.byte_reads.ByteRead.{ByteRead}
 use Rattle.lit_paths.specs.declared.event.Event.{Event}
 use Rattle.lit_paths.specs.declared.path.Tested.{Tested}
 use Rattle.lit_rel.proofs.ByteReadLemmas.{are_of_events}
-use Rattle.lit_rel.specs.Broken.{HasFalseTest, HasFalseTestOn, IsBroken, number_on}
+use Rattle.lit_rel.specs.Broken.{HasFalseGuard, HasFalseGuardOn, IsBroken, number_on}
 use Rattle.lit_rel.specs.Coherent.{HasCoherentReads, Hides, IsCoherentRead}
 use Rattle.lit_rel.specs.Forbidden.{IsForbidden}
 use Rattle.lit_rel.specs.Growth.{IsGivenWhole}
 use Rattle.lit_rel.specs.Part.{PartModel, part_events}
 use Rattle.lit_rel.specs.ReadsFrom.{ReadsFrom, composed, value_of}
 use Rattle.lit_rel.specs.TearFree.{HasTearFreeReads}
-use Rattle.lit_valid.specs.PartOutcome.{value_held}
+use Rattle.lit_valid.specs.PartOutcome.{observed_value}
 use Rattle.lit_why.specs.Internal.Refusing.{AreTorn, IsFirstFalse, IsFirstIncoherent, IsHiddenBy, IsLeastFalse}
 use Rattle.lit_why.specs.declared.refusals.causes.Refusal.{Refusal}
-use Rattle.lit_why.specs.declared.refusals.causes.Refusal.TheVariants.{BeforeItself, FalseTest, Incoherent, NoOrder, Torn}
+use Rattle.lit_why.specs.declared.refusals.causes.Refusal.TheVariants.{BeforeItself, FalseGuard, Incoherent, NoOrder, Torn}
 use Rattle.lit_why.specs.Refusal.{IsRefusal, BeforeIn, HasNoCycle, HasNoFalse, IsFalseAt, IsFalseIn, IsIncoherentAt, IsIncoherentBy, IsTornBy}
 
 -- ---- a number that is no event's has no value
@@ -172,7 +172,7 @@ module _ (part : PartModel) (before reads : ℕ → ℕ → Type 0) (same : (e d
 
 -- ---- what nothing refuses is not broken
 module _ (part : PartModel) where
-  false_on : (asked : Option ℕ) (value : ℕ) → value ≡ value_held part asked → HasFalseTestOn part.test part.combination asked value → HasNoFalse part → ⊥
+  false_on : (asked : Option ℕ) (value : ℕ) → value ≡ observed_value part asked → HasFalseGuardOn part.test part.combination asked value → HasNoFalse part → ⊥
   false_on asked value is h none =
       none h.agent h.place (record { known = h.known; test = h.test; at_place = h.at_place; is_false = rw (h.asks, ← is) h.is_false })
 
@@ -212,16 +212,16 @@ module _ (part : PartModel) (are : AreSources (part_events part) part.sources) w
       let each = are.one_each in
       omega arith
 
-  false_breaks : (agent place : ℕ) → IsFalseAt part agent place → HasFalseTest part
+  false_breaks : (agent place : ℕ) → IsFalseAt part agent place → HasFalseGuard part
   false_breaks agent place h = go (number_on (first_event part.test part.combination agent) h.test.on) refl
     where
-      go : (asked : Option ℕ) → number_on (first_event part.test part.combination agent) h.test.on ≡ asked → HasFalseTest part
+      go : (asked : Option ℕ) → number_on (first_event part.test part.combination agent) h.test.on ≡ asked → HasFalseGuard part
       go None asks = inl record { agent = agent; known = h.known; place = place; test = h.test; at_place = h.at_place; asks = asks; is_false = rw asks at h.is_false }
       go (Some r) asks =
           inr (r, all_given r, record { agent = agent; known = h.known; place = place; test = h.test; at_place = h.at_place; asks = asks; is_false = rw asks at h.is_false })
 
   pub refused : (refusal : Refusal) → IsRefusal part refusal → IsBroken part ⊎ (¬ IsBroken part × ((order : List ℕ) → ¬ IsMemoryOrder (part_events part) part.sources order))
-  refused (FalseTest agent place) h = inl (inr (false_breaks agent place h.0))
+  refused (FalseGuard agent place) h = inl (inr (false_breaks agent place h.0))
   refused (BeforeItself event) h = inl (inl (inl (event, h.1)))
   refused (Incoherent r b w hidden_by) h =
       let at = h.2 in inl (inl (inr (inl record { read = r; byte = b; source = w; is_given = at.given; incoherent = at.incoherent })))

@@ -8,7 +8,7 @@ use Rattle.lit_paths.specs.Event.{event_at, payload_at}
 use Rattle.lit_rel.specs.declared.event_set.EventSet.{EventSet}
 use Rattle.lit_rel.specs.EventSet.{HasEvent}
 use Rattle.lit_solve.specs.Box.{events_on}
-use Rattle.lit_solve.specs.Out.{IsRefusedOn}
+use Rattle.lit_solve.specs.Prunable.{IsRefusedOn}
 use Rattle.lit_why.specs.Internal.Trials.{IsRepresentative}
 
 -- a candidate that no test refuses is one where no lesser candidate stores the same

@@ -6,7 +6,7 @@ use Rattle.lit_paths.specs.declared.byte_reads.ByteRead.{ByteRead}
 use Rattle.lit_paths.specs.declared.event.Event.{Event}
 use Rattle.lit_paths.specs.ByteReads.{byte_reads, pair_of}
 use Rattle.lit_paths.specs.Plan.{AreEventsIn}
-use Rattle.lit_rel.specs.Broken.{HasFalseTest, HasFalseTestOn}
+use Rattle.lit_rel.specs.Broken.{HasFalseGuard, HasFalseGuardOn}
 use Rattle.lit_rel.specs.ReadsFrom.{value_of}
 use Rattle.lit_solve.specs.Box.{Box, box_events, events_on}
 use Rattle.lit_solve.specs.Fill.{AreSourcesIn}
@@ -15,8 +15,8 @@ use Rattle.lit_why.specs.Attempts.{part_with}
 
 -- where each byte read has a source, a test on any read that is false of its value is a false one
 pub refused_by_read : (box : Box) (r : ℕ) (sources : List ℕ) → AreSourcesIn box sources
-    → HasFalseTestOn box.test box.combination (Some r) (value_of (box_events box) sources r)
-    → HasFalseTest (part_with box.test box.combination sources)
+    → HasFalseGuardOn box.test box.combination (Some r) (value_of (box_events box) sources r)
+    → HasFalseGuard (part_with box.test box.combination sources)
 refused_by_read box r sources lie is =
     inr (r, (λ i b at. omega (arith, slice_get_within (byte_reads (box_events box)) i (r, b) at, lie.sourced.one_each)), is)
 

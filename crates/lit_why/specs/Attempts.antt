@@ -8,7 +8,7 @@ use Rattle.lit_paths.specs.ByteReads.{byte_reads}
 use Rattle.lit_paths.specs.Choice.{combinations_of, sources_of}
 use Rattle.lit_paths.specs.Event.{event_at, payload_at}
 use Rattle.lit_paths.specs.Plan.{HasSources, choices_before, events_in}
-use Rattle.lit_rel.specs.Broken.{HasFalseTest}
+use Rattle.lit_rel.specs.Broken.{HasFalseGuard}
 use Rattle.lit_rel.specs.Part.{PartModel}
 use Rattle.lit_valid.specs.declared.class.Class.{Class}
 use Rattle.lit_valid.specs.Class.{is_of_class}
@@ -28,7 +28,7 @@ part_with t c sources = record { test = t; combination = c; sources = sources }
 
 -- by these sources no test of a path is false of what is read, and the outcome is in the class
 pub record IsTry (t : Litmus) (class : Class) (c : ℕ) (sources : List ℕ) : Type 0 where
-  pub allowed : ¬ HasFalseTest (part_with t c sources)
+  pub allowed : ¬ HasFalseGuard (part_with t c sources)
   pub of_class : IsTrue (is_of_class t class (part_outcome (part_with t c sources)))
 
 -- choice n tries the class

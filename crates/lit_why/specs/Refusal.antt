@@ -11,17 +11,17 @@ use Rattle.lit_rel.specs.Part.{PartModel, part_events}
 use Rattle.lit_rel.specs.ReadsFrom.{ReadsByteFrom}
 use Rattle.lit_rel.specs.TearFree.{HasTearFreeReads, ReadsWholeBy}
 use Rattle.lit_order.specs.MemoryOrder.{IsMemoryOrder}
-use Rattle.lit_valid.specs.PartOutcome.{value_held}
+use Rattle.lit_valid.specs.PartOutcome.{observed_value}
 use Rattle.lit_why.specs.RacingPair.{IsLesserPair}
 use Rattle.lit_why.specs.declared.refusals.causes.Refusal.{Refusal}
-use Rattle.lit_why.specs.declared.refusals.causes.Refusal.TheVariants.{BeforeItself, FalseTest, Incoherent, NoOrder, Torn}
+use Rattle.lit_why.specs.declared.refusals.causes.Refusal.TheVariants.{BeforeItself, FalseGuard, Incoherent, NoOrder, Torn}
 
 abbrev pub BeforeIn : PartModel → ℕ → ℕ → Type 0
 BeforeIn part = HappensBefore (part_events part) part.sources
 
 -- a test on a path whose first event has this number is false of the value that its read takes, of 0 where the register was not written
 abbrev pub IsFalseIn : PartModel → ℕ → Tested → Type 0
-IsFalseIn part first test = compares test.equal (value_held part (number_on first test.on)) test.value ≡ false
+IsFalseIn part first test = compares test.equal (observed_value part (number_on first test.on)) test.value ≡ false
 
 -- the one at a place of an agent's path
 pub record IsFalseAt (part : PartModel) (agent place : ℕ) : Type 0 where
@@ -63,7 +63,7 @@ IsLesserTriple q u x r w v = (q < r) ⊎ ((q ≡ r) × IsLesserPair u x w v)
 
 -- the clauses before this one refuse nothing, this is what this one refuses, and it refuses nothing less
 abbrev pub IsRefusal : PartModel → Refusal → Type 0
-IsRefusal part (FalseTest agent place) =
+IsRefusal part (FalseGuard agent place) =
     IsFalseAt part agent place × ((a p : ℕ) → IsFalseAt part a p → ¬ IsLesserPair a p agent place)
 IsRefusal part (BeforeItself event) = HasNoFalse part × BeforeIn part event event × ((e : ℕ) → e < event → ¬ BeforeIn part e e)
 IsRefusal part (Incoherent r b w hidden_by) =

@@ -16,7 +16,7 @@ use crate::representatives::representatives;
 use crate::trials::can_try;
 use lit_paths::{Plan, Sources};
 use lit_rel::EventSet;
-use lit_rel::laws::refused_bytes_make_tests_false;
+use lit_rel::laws::refused_bytes_make_guards_false;
 use lit_solve::{Domains, Problem, number_of};
 use lit_valid::Class;
 use lit_valid::laws::laws_below;
@@ -134,7 +134,7 @@ fn add_on(
         attempts.old.items attempts.new.items) }
 {
     laws_below();
-    refused_bytes_make_tests_false();
+    refused_bytes_make_guards_false();
     let _events = problem.combination().events();
     let domains = representatives(problem.combination());
     if has_empty(problem, &domains) {

@@ -8,7 +8,7 @@ ghost use Rattle.lit_read.specs.Syntax.{Litmus};
 ghost use Rattle.lit_rel.specs.Forbidden.{IsForbidden};
 ghost use Rattle.lit_rel.specs.HappensBefore.{HappensBefore};
 ghost use Rattle.lit_rel.specs.Part.{PartModel, part_events};
-ghost use Rattle.lit_valid.specs.Completion.{HasCompletion, IsEntered};
+ghost use Rattle.lit_valid.specs.Completion.{HasCompletion, IsOnCombination};
 ghost use Rattle.lit_valid.specs.declared.class.Class.{Class};
 ghost use Rattle.lit_why.specs.Attempts.{AreOneAttempt, TriesClass};
 ghost use Rattle.lit_why.specs.declared.refusals.causes.Refusal.{Refusal as PartRefusal};
@@ -28,7 +28,7 @@ pub fn derivations_end_in_forced_cycles()
 
 /// A complete part that something refuses is that of no valid execution. So `refusal` names something exactly there.
 pub fn refused_parts_have_no_completion()
-    ensures { (part : PartModel) (refusal : PartRefusal) → IsEntered part → AreSources (part_events part) part.sources
+    ensures { (part : PartModel) (refusal : PartRefusal) → IsOnCombination part → AreSources (part_events part) part.sources
         → IsRefusal part refusal → ¬ HasCompletion part }
 {
     broken_parts_have_no_completion();

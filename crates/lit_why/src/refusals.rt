@@ -18,7 +18,7 @@ use crate::derivations::first_before_itself;
 use crate::refusals::causes::Refusal;
 use crate::refusals::incoherence::first_incoherent;
 use crate::refusals::tearing::first_torn;
-use crate::refusals::tests::false_test;
+use crate::refusals::tests::false_guard;
 use lit_order::{ForcedFinder, OrderFinder};
 use lit_rel::{Between, Part, Rows};
 use lit_valid::laws::whole_parts_are_decided_by_orders;
@@ -43,8 +43,8 @@ pub fn refusal(part: &Part<'_>, sources: &[u8]) -> Option<Refusal>
     requires sources { sources.now ≡ part.now.sources }
     ensures { MatchOption result (HasCompletion part.now) (IsRefusal part.now) }
 {
-    if let Some((agent, place)) = false_test(part) {
-        return Some(Refusal::FalseTest { agent, place });
+    if let Some((agent, place)) = false_guard(part) {
+        return Some(Refusal::FalseGuard { agent, place });
     }
     let before = part.happens_before();
     if let Some(event) = first_before_itself(&before) {

@@ -4,7 +4,7 @@ ghost use Rattle.std.specs.Prelude.{◌<◌, length};
 ghost use Rattle.lit_solve.specs.Box.{HasEmptyDomain, IsBox, box_with, events_on};
 ghost use Rattle.lit_why.specs.Internal.Trials.{AreRefused, IsReadRefused, MayTry};
 
-use lit_rel::has_false_test;
+use lit_rel::has_false_guard;
 use lit_solve::{Domains, Problem, Prospect, ReadValue};
 use lit_valid::Class;
 
@@ -18,7 +18,7 @@ fn is_read_refused(problem: &Problem<'_>, domains: &Domains, read: usize) -> boo
     // The number of an event is that of one byte.
     let _events = problem.combination().events();
     match problem.read_value(domains, read as u8) {
-        ReadValue::One(value) => has_false_test(problem.combination(), Some(read), value),
+        ReadValue::One(value) => has_false_guard(problem.combination(), Some(read), value),
         ReadValue::Open(_) => false,
     }
 }
@@ -29,7 +29,7 @@ fn are_refused(problem: &Problem<'_>, domains: &Domains) -> bool
     requires some { ¬ HasEmptyDomain (box_with problem.now domains.now) }
     ensures { AreRefused (box_with problem.now domains.now) result }
 {
-    if has_false_test(problem.combination(), None, 0) {
+    if has_false_guard(problem.combination(), None, 0) {
         return true;
     }
     for read in 0..problem.combination().events().len() {

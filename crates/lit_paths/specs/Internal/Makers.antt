@@ -9,9 +9,9 @@ abbrev pub asks_equal : List Tested → Bool
 asks_equal [] = false
 asks_equal (test ∷ tests) = test.equal
 
-abbrev pub tests_behind : List Tested → List Tested
-tests_behind [] = []
-tests_behind (test ∷ tests) = tests
+abbrev pub guards_behind : List Tested → List Tested
+guards_behind [] = []
+guards_behind (test ∷ tests) = tests
 
 -- whether the comparison of an `if` holds where its value is to equal the number, or to differ from it
 abbrev pub holds_where : (equal asked : Bool) → Bool
@@ -24,11 +24,11 @@ abbrev mutual
   statement_makers n (Load reg window index atomic) tests = (n ∷ [], tests)
   statement_makers n (Store window index value atomic) tests = (n ∷ [], tests)
   statement_makers n (Exchange reg window index value) tests = (n ∷ [], tests)
-  statement_makers n (CompareExchange reg window index expected value) tests = (n ∷ [], tests_behind tests)
+  statement_makers n (CompareExchange reg window index expected value) tests = (n ∷ [], guards_behind tests)
   statement_makers n (If reg equal value body other) tests =
       if holds_where equal (asks_equal tests)
-      then makers_of (n + 1) body (tests_behind tests)
-      else makers_of (n + 1 + statement_count body) other (tests_behind tests)
+      then makers_of (n + 1) body (guards_behind tests)
+      else makers_of (n + 1 + statement_count body) other (guards_behind tests)
 
   pub makers_of : ℕ → Statements → List Tested → List ℕ × List Tested
   makers_of n End tests = ([], tests)

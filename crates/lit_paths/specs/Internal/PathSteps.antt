@@ -21,8 +21,8 @@ with_read path reg e =
     record { events = path.events ++ e ∷ []; tests = path.tests; last = slice_set path.last reg (Some (length path.events)) }
 
 -- a test more
-abbrev pub with_test : PathModel → Tested → PathModel
-with_test path test = record { events = path.events; tests = path.tests ++ test ∷ []; last = path.last }
+abbrev pub with_guard : PathModel → Tested → PathModel
+with_guard path test = record { events = path.events; tests = path.tests ++ test ∷ []; last = path.last }
 
 -- a step more
 abbrev pub with_step : ℕ → PathModel → Step → PathModel
@@ -31,10 +31,10 @@ with_step owner path (StoreMet window index value atomic) =
     with_access path (write_event owner (length path.events) window index value atomic)
 with_step owner path (ExchangeMet reg window index value) = with_read path reg (modify_event owner (length path.events) window index value)
 with_step owner path (CompareExchangeMet reg window index expected value succeeds) =
-    with_test (with_read path reg (compare_exchange_event owner (length path.events) window index value succeeds))
+    with_guard (with_read path reg (compare_exchange_event owner (length path.events) window index value succeeds))
     (record { on = Some (length path.events); equal = succeeds; value = expected })
 with_step owner path (IfMet reg equal value holds) =
-    with_test path (record { on = slice_index_or path.last reg None; equal = asked equal holds; value = value })
+    with_guard path (record { on = slice_index_or path.last reg None; equal = asked equal holds; value = value })
 
 abbrev pub with_steps : ℕ → PathModel → List Step → PathModel
 with_steps owner path [] = path

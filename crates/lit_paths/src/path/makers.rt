@@ -4,7 +4,7 @@ ghost use Rattle.std.specs.Prelude.{◌≡◌, ◌+◌, ◌≤◌, ◌<◌, ◌+
 ghost use Rattle.lit_read.specs.Litmus.{statement_of, statements_of};
 ghost use Rattle.lit_read.specs.StatementOrder.{count_with_parts, statement_count};
 ghost use Rattle.lit_paths.specs.declared.limits.TheConstants.{ACCESS_LIMIT as ACCESSES};
-ghost use Rattle.lit_paths.specs.Internal.Makers.{asks_equal, tests_behind, holds_where, makers_of, statement_makers};
+ghost use Rattle.lit_paths.specs.Internal.Makers.{asks_equal, guards_behind, holds_where, makers_of, statement_makers};
 ghost use Rattle.lit_paths.specs.Internal.Walks.{longest, statement_longest};
 
 use crate::limits::ACCESS_LIMIT;
@@ -28,8 +28,8 @@ fn asks_equal(tests: &[Tested]) -> bool
 }
 
 /// The tests after the next one.
-fn tests_behind(tests: &[Tested]) -> &[Tested]
-    ensures { result.now ≡ tests_behind tests.now }
+fn guards_behind(tests: &[Tested]) -> &[Tested]
+    ensures { result.now ≡ guards_behind tests.now }
 {
     match tests {
         [_, rest @ ..] => rest,
@@ -87,7 +87,7 @@ fn find_makers_at<'t>(
         }
         Stmt::CompareExchange { .. } => {
             makers.push(number);
-            tests_behind(tests)
+            guards_behind(tests)
         }
         Stmt::If {
             equal,
@@ -95,7 +95,7 @@ fn find_makers_at<'t>(
             other,
             ..
         } => {
-            let left = tests_behind(tests);
+            let left = guards_behind(tests);
             if holds_where(*equal, asks_equal(tests)) {
                 find_makers(makers, number + 1, body, left)
             } else {

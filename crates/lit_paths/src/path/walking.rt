@@ -78,7 +78,7 @@ fn compare_exchange(
         event_of(access, place, Kind::Read, true, 0)
     };
     path.add_into_register(reg, met);
-    path.add_test(Some(place), succeeds, expected)
+    path.add_guard(Some(place), succeeds, expected)
 }
 
 /// Walks on through statements, by the walk with this number, from 0.
@@ -183,10 +183,10 @@ fn meet(path: &mut Path, owner: u8, statement: &Stmt, number: usize) -> Result<(
             let on = path.last(*reg);
             let first_else = walk_count(body);
             if number < first_else {
-                path.add_test(on, *equal, *value)?;
+                path.add_guard(on, *equal, *value)?;
                 walk(path, owner, body, number)
             } else {
-                path.add_test(on, !*equal, *value)?;
+                path.add_guard(on, !*equal, *value)?;
                 walk(path, owner, other, number - first_else)
             }
         }

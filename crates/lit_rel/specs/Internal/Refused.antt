@@ -4,7 +4,7 @@ use Rattle.lit_paths.specs.declared.event.Event.{Event}
 use Rattle.lit_paths.specs.declared.path.Tested.{Tested}
 use Rattle.lit_paths.specs.Run.{compares}
 use Rattle.lit_rel.specs.Broken.{number_on}
-use Rattle.lit_rel.specs.TestedBytes.{IsFalseOfByte}
+use Rattle.lit_rel.specs.GuardedBytes.{IsFalseOfByte}
 
 -- some test of a path whose first event has this number asks about the event, and is false of the value
 pub record HasFalse (tests : List Tested) (first : ℕ) (asked : Option ℕ) (value : ℕ) : Type 0 where

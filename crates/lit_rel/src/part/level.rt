@@ -3,7 +3,7 @@
 ghost use Rattle.std.specs.Prelude.{◌≡◌, ◌⊎◌, ◌↔◌, ◌≤◌, IsTrue, length};
 ghost use Rattle.lit_paths.specs.declared.limits.TheConstants.{BYTE_READ_LIMIT as READS};
 ghost use Rattle.lit_paths.specs.Plan.{events_in};
-ghost use Rattle.lit_rel.specs.Broken.{HasFalseTest};
+ghost use Rattle.lit_rel.specs.Broken.{HasFalseGuard};
 ghost use Rattle.lit_rel.specs.Internal.Given.{AreFirstReads, AreKnown, HasBrokenBytes, part_of, sources_of};
 ghost use Rattle.lit_rel.specs.Internal.Levels.{IsLevel, IsOrder};
 ghost use Rattle.lit_rel.specs.Rows.{Holds, rows_len};
@@ -27,7 +27,7 @@ fn is_broken(combination: &Combination<'_>, given: &Given<'_>, before: &TwoWayRo
     requires events { given.now.events.now ≡ events_in combination.now.0 combination.now.1 }
     requires len { rows_len before.now.rows ≡ length given.now.events.now }
     ensures { IsTrue result ↔ (HasBrokenBytes given.now.events.now (Holds before.now.rows) given.now.bytes.now
-        ⊎ HasFalseTest (part_of combination.now.0 combination.now.1 given.now.bytes.now)) }
+        ⊎ HasFalseGuard (part_of combination.now.0 combination.now.1 given.now.bytes.now)) }
 {
     given.is_broken(before) || is_refused(combination, given)
 }

@@ -4,7 +4,7 @@ ghost use Rattle.std.specs.Prelude.{◌≡◌, ◌↔◌, ℕ, ◌<◌, ◌≤�
 ghost use Rattle.lit_paths.specs.declared.byte_reads.ByteRead.{ByteRead as Read};
 ghost use Rattle.lit_paths.specs.Plan.{IsWalkIn, events_in, walk_in};
 ghost use Rattle.lit_paths.specs.Run.{compares};
-ghost use Rattle.lit_rel.specs.Broken.{HasFalseTest, HasFalseTestOn, number_on as number_asked};
+ghost use Rattle.lit_rel.specs.Broken.{HasFalseGuard, HasFalseGuardOn, number_on as number_asked};
 ghost use Rattle.lit_rel.specs.Internal.Given.{part_of};
 ghost use Rattle.lit_rel.specs.Internal.Refused.{HasFalse};
 
@@ -40,8 +40,8 @@ fn has_false(tests: &[Tested], first: u8, asked: Option<usize>, value: u32) -> b
 
 /// Whether some test of a path of the combination asks about the event, or about a register that was not written, and
 /// is false of the value.
-pub fn has_false_test(combination: &Combination<'_>, asked: Option<usize>, value: u32) -> bool
-    ensures value { IsTrue result ↔ HasFalseTestOn combination.now.0 combination.now.1 asked value }
+pub fn has_false_guard(combination: &Combination<'_>, asked: Option<usize>, value: u32) -> bool
+    ensures value { IsTrue result ↔ HasFalseGuardOn combination.now.0 combination.now.1 asked value }
     ensures walks { ¬ IsTrue result → (agent : ℕ) → agent < length combination.now.0.agents
         → IsWalkIn combination.now.0 combination.now.1 agent (walk_in combination.now.0 combination.now.1 agent) }
 {
@@ -71,15 +71,15 @@ fn is_given_whole(reads: &[ByteRead], count: usize, read: usize) -> bool
 /// have a source. The events are those of the combination.
 pub(crate) fn is_refused(combination: &Combination<'_>, given: &Given<'_>) -> bool
     requires { given.now.events.now ≡ events_in combination.now.0 combination.now.1 }
-    ensures { IsTrue result ↔ HasFalseTest (part_of combination.now.0 combination.now.1 given.now.bytes.now) }
+    ensures { IsTrue result ↔ HasFalseGuard (part_of combination.now.0 combination.now.1 given.now.bytes.now) }
 {
-    if has_false_test(combination, None, 0) {
+    if has_false_guard(combination, None, 0) {
         return true;
     }
     let reads = combination.byte_reads();
     for read in 0..combination.events().len() {
         if is_given_whole(reads, given.bytes.len(), read)
-            && has_false_test(combination, Some(read), given.value(read))
+            && has_false_guard(combination, Some(read), given.value(read))
         {
             return true;
         }

@@ -20,7 +20,7 @@ use Rattle.lit_rel.specs.SynchronizesWith.{CanSynchronize}
 use Rattle.lit_solve.specs.declared.frame.Frame.{Frame}
 use Rattle.lit_solve.specs.Box.{Box, HasEmptyDomain, HasSource, IsBox, box_events, box_with, events_on}
 use Rattle.lit_solve.specs.Given.{HappensBeforeIn, HasAlone, IsForcedIn}
-use Rattle.lit_solve.specs.Out.{IsRefusedOn}
+use Rattle.lit_solve.specs.Prunable.{IsRefusedOn}
 
 -- the box of a frame
 abbrev pub box_of : Litmus × ℕ → Frame → Box
@@ -69,7 +69,7 @@ pub record IsProblem (c : Litmus × ℕ) (candidates refused : List EventSet) (p
   pub known : c.1 < length (combinations_of c.0)
   pub sound : AreEventsIn c.0.bytes (events_on c)
   pub all : AreCandidates (events_on c) candidates
-  pub by_tests : AreRefused c refused
+  pub by_guards : AreRefused c refused
   pub same_range : ArePeers (events_on c) peers
   pub named : names ≡ names_of c.0
   pub few_names : length names ≤ NAME_LIMIT

@@ -1,9 +1,9 @@
 -- Boxes in which reads are independent of each other.
 use Rattle.std.specs.Prelude.{ℕ, ◌<◌, List, None, length}
-use Rattle.lit_rel.specs.Broken.{HasFalseTestOn}
+use Rattle.lit_rel.specs.Broken.{HasFalseGuardOn}
 use Rattle.lit_order.specs.MemoryOrder.{HasOrder, IsLeastOrderOf}
 use Rattle.lit_solve.specs.Box.{Box, HasEmptyDomain, IsBox, box_events}
-use Rattle.lit_solve.specs.Fill.{AreCoherentSources, AreSourcesIn, IsFilled, IsQuiet}
+use Rattle.lit_solve.specs.Fill.{AreCoherentSources, AreSourcesIn, IsFilled, IsLeaf}
 use Rattle.lit_solve.specs.Given.{HappensBeforeIn, IsForbiddenIn}
 
 -- sources that lie in the box and fill each read
@@ -17,10 +17,10 @@ pub record FillsAll (box : Box) : Type 0 where
 pub record IsIndependent (box : Box) : Type 0 where
   pub is_box : IsBox box
   pub some : ¬ HasEmptyDomain box
-  pub quiet : IsQuiet box
+  pub quiet : IsLeaf box
   pub coherent : AreCoherentSources box
   pub calm : (e : ℕ) → ¬ HappensBeforeIn box e e
-  pub unwritten : ¬ HasFalseTestOn box.test box.combination None 0
+  pub unwritten : ¬ HasFalseGuardOn box.test box.combination None 0
   pub ordered : HasOrder (length (box_events box)) (HappensBeforeIn box) (IsForbiddenIn box)
   pub filled : FillsAll box
 

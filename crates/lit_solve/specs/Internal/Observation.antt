@@ -4,7 +4,7 @@ use Rattle.lit_paths.specs.ByteReads.{byte_read_at, byte_reads}
 use Rattle.lit_paths.specs.Execution.{Execution, execution_outcome}
 use Rattle.lit_paths.specs.Outcome.{names_of}
 use Rattle.lit_rel.specs.Part.{PartModel}
-use Rattle.lit_valid.specs.PartOutcome.{read_held, value_held}
+use Rattle.lit_valid.specs.PartOutcome.{observed_read, observed_value}
 use Rattle.lit_solve.specs.declared.observation.ReadValue.{ReadValue}
 use Rattle.lit_solve.specs.declared.observation.ReadValue.TheVariants.{One, Open}
 use Rattle.lit_solve.specs.Box.{Box, box_events}
@@ -18,14 +18,14 @@ part_with box sources = record { test = box.test; combination = box.combination;
 
 -- a register, named by agent and register, holds the read of the k-th byte read at the end
 abbrev pub IsObservedAt : Box → ℕ → Type 0
-IsObservedAt box k = (name : ℕ × ℕ) × (read_held box.test box.combination name ≡ Some (byte_read_at (box_events box) k).0)
+IsObservedAt box k = (name : ℕ × ℕ) × (observed_read box.test box.combination name ≡ Some (byte_read_at (box_events box) k).0)
 
 -- a register has this value at the end by any sources that lie in the box; or a byte that it observes can be read as several
-abbrev pub IsValueHeld : Box → ℕ × ℕ → ReadValue → Type 0
-IsValueHeld box name (One value) =
+abbrev pub IsValueObserved : Box → ℕ × ℕ → ReadValue → Type 0
+IsValueObserved box name (One value) =
     (sources : List ℕ) → AreSourcesIn box sources
-    → value_held (part_with box sources) (read_held box.test box.combination name) ≡ value
-IsValueHeld box name (Open k) = (k < length (byte_reads (box_events box))) × IsUndecidedAt box k × IsObservedAt box k
+    → observed_value (part_with box sources) (observed_read box.test box.combination name) ≡ value
+IsValueObserved box name (Open k) = (k < length (byte_reads (box_events box))) × IsUndecidedAt box k × IsObservedAt box k
 
 -- the outcome of each completion begins with these values
 pub record AreFirstValues (box : Box) (values : List ℕ) : Type 0 where

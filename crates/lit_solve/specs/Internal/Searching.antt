@@ -8,7 +8,7 @@ use Rattle.lit_solve.specs.declared.stepping.Step.{Step}
 use Rattle.lit_solve.specs.declared.stepping.Step.TheVariants.{Leaf, Parted, Refuted}
 use Rattle.lit_solve.specs.Box.{Box, box_events}
 use Rattle.lit_solve.specs.Completion.{IsCompletion}
-use Rattle.lit_solve.specs.Fill.{IsQuiet}
+use Rattle.lit_solve.specs.Fill.{IsLeaf}
 use Rattle.lit_solve.specs.Given.{HasAlone}
 use Rattle.lit_solve.specs.Goal.{Meets}
 use Rattle.lit_solve.specs.Prospect.{IsUndecidedAt}
@@ -27,5 +27,5 @@ GoesWith box branch source w = MatchBool branch.by_value (stored_for box branch.
 -- goes; or a domain is to be parted
 abbrev pub IsStep : Box → Goal → Step → Type 0
 IsStep box goal Refuted = (x : Execution) → IsCompletion box x → ¬ Meets box.test goal x
-IsStep box goal Leaf = IsQuiet box × ((x : Execution) → IsCompletion box x → MeetsByOutcome box.test goal x)
+IsStep box goal Leaf = IsLeaf box × ((x : Execution) → IsCompletion box x → MeetsByOutcome box.test goal x)
 IsStep box goal (Parted branch) = IsBranch box branch

@@ -4,13 +4,13 @@ use Rattle.lit_read.specs.Syntax.{Litmus}
 use Rattle.lit_paths.specs.ByteReads.{IsCandidate, byte_reads}
 use Rattle.lit_paths.specs.Event.{event_at, payload_at}
 use Rattle.lit_paths.specs.Plan.{choices_before}
-use Rattle.lit_rel.specs.Broken.{HasFalseTest, HasFalseTestOn}
+use Rattle.lit_rel.specs.Broken.{HasFalseGuard, HasFalseGuardOn}
 use Rattle.lit_rel.specs.ReadsFrom.{value_of}
 use Rattle.lit_valid.specs.declared.class.Class.{Class}
 use Rattle.lit_solve.specs.Box.{Box, HasEmptyDomain, IsBox, LiesIn, box_events, events_on}
 use Rattle.lit_solve.specs.Fill.{AreSourcesIn}
 use Rattle.lit_solve.specs.Given.{HasAlone}
-use Rattle.lit_solve.specs.Out.{IsRefusedOn}
+use Rattle.lit_solve.specs.Prunable.{IsRefusedOn}
 use Rattle.lit_solve.specs.Prospect.{IsUndecidedAt}
 use Rattle.lit_why.specs.Attempts.{IsLeastTry, IsOn, IsTry, part_with}
 
@@ -35,16 +35,16 @@ IsUndecided box = (k : ℕ) × IsUndecidedAt box k
 abbrev pub IsReadRefused : Box → ℕ → Bool → Type 0
 IsReadRefused box r true =
     (sources : List ℕ) → AreSourcesIn box sources
-    → HasFalseTestOn box.test box.combination (Some r) (value_of (box_events box) sources r)
+    → HasFalseGuardOn box.test box.combination (Some r) (value_of (box_events box) sources r)
 IsReadRefused box r false =
     (sources : List ℕ) → AreSourcesIn box sources
-    → HasFalseTestOn box.test box.combination (Some r) (value_of (box_events box) sources r) → IsUndecided box
+    → HasFalseGuardOn box.test box.combination (Some r) (value_of (box_events box) sources r) → IsUndecided box
 
 -- the same of all tests
 abbrev pub AreRefused : Box → Bool → Type 0
-AreRefused box true = (sources : List ℕ) → AreSourcesIn box sources → HasFalseTest (part_with box.test box.combination sources)
+AreRefused box true = (sources : List ℕ) → AreSourcesIn box sources → HasFalseGuard (part_with box.test box.combination sources)
 AreRefused box false =
-    (sources : List ℕ) → AreSourcesIn box sources → HasFalseTest (part_with box.test box.combination sources) → IsUndecided box
+    (sources : List ℕ) → AreSourcesIn box sources → HasFalseGuard (part_with box.test box.combination sources) → IsUndecided box
 
 -- any sources that lie in the box try the class, where no byte is undecided; or none do
 abbrev pub MayTry : Box → Class → Bool → Type 0

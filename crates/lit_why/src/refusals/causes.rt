@@ -4,7 +4,7 @@
 #[derive(Clone, Copy, Debug, PartialEq, Eq)]
 pub enum Refusal {
     /// A test of a path is false of the value read.
-    FalseTest {
+    FalseGuard {
         /// The agent, from 0.
         agent: usize,
         /// The test's place on its path, from 0.

@@ -3,7 +3,7 @@
 ghost use Rattle.std.specs.Prelude.{◌≡◌, ◌↔◌, ℕ, ◌<◌, Some, IsTrue, MatchOption, slice_get};
 ghost use Rattle.lit_paths.specs.declared.path.Tested.{Tested as PathTest};
 ghost use Rattle.lit_rel.specs.Broken.{number_on};
-ghost use Rattle.lit_valid.specs.PartOutcome.{value_held};
+ghost use Rattle.lit_valid.specs.PartOutcome.{observed_value};
 ghost use Rattle.lit_why.specs.Internal.Refusing.{IsFirstFalse, IsLeastFalse};
 ghost use Rattle.lit_why.specs.Refusal.{HasNoFalse, IsFalseIn};
 
@@ -20,7 +20,7 @@ fn number_asked(test: Tested, first: u8) -> Option<usize>
 
 /// The value of a read by the part's sources, or 0 where there is none.
 fn value_asked(part: &Part<'_>, asked: Option<usize>) -> u32
-    ensures { result ≡ value_held part.now asked }
+    ensures { result ≡ observed_value part.now asked }
 {
     let Some(read) = asked else {
         return 0;
@@ -54,7 +54,7 @@ fn false_among(part: &Part<'_>, first: u8, tests: &[Tested]) -> Option<usize>
 }
 
 /// The agent and the place of the first test that is.
-pub(crate) fn false_test(part: &Part<'_>) -> Option<(usize, usize)>
+pub(crate) fn false_guard(part: &Part<'_>) -> Option<(usize, usize)>
     ensures { MatchOption result (HasNoFalse part.now) (λ found. IsLeastFalse part.now found.0 found.1) }
 {
     let combination = part.combination();

@@ -35,13 +35,13 @@ const REFUSED: [Refused<'_>; 10] = [
     (
         UNWRITTEN,
         &[0],
-        Some(Refusal::FalseTest { agent: 0, place: 0 }),
+        Some(Refusal::FalseGuard { agent: 0, place: 0 }),
     ),
     // A loads 1 (2) from B's store (5), and B loads 0 (4) from the event that made its byte.
     (
         LOAD_BUFFERING,
         &[5, 1],
-        Some(Refusal::FalseTest { agent: 1, place: 0 }),
+        Some(Refusal::FalseGuard { agent: 1, place: 0 }),
     ),
     // Each agent loads (2, 4) what the other stores after its own load (5, 3).
     (

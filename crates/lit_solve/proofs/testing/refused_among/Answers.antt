@@ -1,7 +1,7 @@
 use Rattle.lit_solve.proofs.Words.{arith, byte_read_at, ByteRead, common_steps, false≢true, get_or, subst, sym, ℕ, ◌∙◌}
 use Rattle.lit_rel.proofs.SetLemmas.{split_less}
 use Rattle.lit_solve.specs.Box.{events_on}
-use Rattle.lit_solve.specs.Out.{IsRefusedOn}
+use Rattle.lit_solve.specs.Prunable.{IsRefusedOn}
 use Rattle.lit_solve.proofs.NarrowingLemmas.{read_known, read_listed, read_there}
 use Rattle.lit_solve.proofs.ReadByteLemmas.{alike_more, alike_same}
 use Rattle.lit_solve.proofs.testing.refused_among.Goals as goal

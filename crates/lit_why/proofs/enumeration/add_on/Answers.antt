@@ -23,7 +23,7 @@ returns-then-has_empty c =
     c.events-events.ensures.sound c.combination.ensures in
     let empty = c.has_empty.ensures.0 c.if-has_empty.true in
     adds_none p.0 c.args.most (IsLeastTryOn p.0 c.args.class p.1) c.args.attempts.now.items c.requires.few (λ n first.
-    let tries = (first_by c.laws_below.ensures c.refused_bytes_make_tests_false.ensures p c.args.class c.requires.known sound domains by
+    let tries = (first_by c.laws_below.ensures c.refused_bytes_make_guards_false.ensures p c.args.class c.requires.known sound domains by
     n).1 first in
     let at = tries_at c.laws_below.ensures box c.args.class empty.0 n tries empty.1 in
     absurd (empty.2 _ (tries.lies empty.0 _ at)))
@@ -53,5 +53,5 @@ returns c =
     on_ok_weaker c.add.result (λ adds.
     adds_same p.0 c.args.most (TriesIn box c.args.class)
     (IsLeastTryOn p.0 c.args.class p.1) c.args.attempts.now.items c.add.new.attempts.items
-    (first_by c.laws_below.ensures c.refused_bytes_make_tests_false.ensures p c.args.class c.requires.known sound domains by) adds)
+    (first_by c.laws_below.ensures c.refused_bytes_make_guards_false.ensures p c.args.class c.requires.known sound domains by) adds)
     c.add.ensures

@@ -7,7 +7,7 @@ use Rattle.lit_paths.specs.ByteReads.{IsCandidate, byte_read_at, pair_of}
 use Rattle.lit_paths.specs.Event.{event_at, payload_at}
 use Rattle.lit_rel.specs.EventSet.{HasEvent}
 use Rattle.lit_solve.specs.Box.{events_on}
-use Rattle.lit_solve.specs.Out.{IsRefusedOn}
+use Rattle.lit_solve.specs.Prunable.{IsRefusedOn}
 use Rattle.lit_solve.proofs.NarrowingLemmas.{read_known, read_listed, read_there}
 use Rattle.lit_why.specs.Internal.Trials.{IsRepresentative}
 use Rattle.lit_why.proofs.RepresentativeLemmas.{unless_before}

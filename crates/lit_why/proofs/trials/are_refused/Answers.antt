@@ -3,7 +3,7 @@ use Rattle.std.proofs.lemmas.Bool.{cases_eq, false≢true}
 use Rattle.lit_read.specs.Syntax.{Litmus}
 use Rattle.lit_paths.specs.declared.event.Event.{Event}
 use Rattle.lit_paths.specs.Plan.{IsWalkIn, walk_in}
-use Rattle.lit_rel.specs.Broken.{HasFalseTestOn}
+use Rattle.lit_rel.specs.Broken.{HasFalseGuardOn}
 use Rattle.lit_rel.proofs.RefusalLemmas.{asked_known}
 use Rattle.lit_solve.specs.Box.{box_with, events_on}
 use Rattle.lit_why.specs.Internal.Trials.{IsReadRefused}
@@ -31,12 +31,12 @@ pub returns : goal.returns
 returns c sources lie h =
     let p = c.args.problem.now in
     elim h [
-      | inl f ↦ absurd (false≢true (sym c.if-has_false_test.false
-          ∙ c.has_false_test.ensures.value.1 (subst (λ (q : Litmus × ℕ). HasFalseTestOn q.0 q.1 None 0) (sym c.combination.ensures) f)))
+      | inl f ↦ absurd (false≢true (sym c.if-has_false_guard.false
+          ∙ c.has_false_guard.ensures.value.1 (subst (λ (q : Litmus × ℕ). HasFalseGuardOn q.0 q.1 None 0) (sym c.combination.ensures) f)))
       | inr some ↦
           let walks = subst (λ (q : Litmus × ℕ). (agent : ℕ) → agent < length q.0.agents
           → IsWalkIn q.0 q.1 agent (walk_in q.0 q.1 agent)) c.combination.ensures
-          (c.has_false_test.ensures.walks (λ is. false≢true (sym c.if-has_false_test.false ∙ is))) in
+          (c.has_false_guard.ensures.walks (λ is. false≢true (sym c.if-has_false_guard.false ∙ is))) in
           let known = asked_known p.0 p.1 some.0 _ walks some.2 in
           let end : length c.events-read-end.result.now ≡ length (events_on p) =
           ap (λ (es : List Event). length es) c.events-read-end.ensures.value

@@ -82,16 +82,16 @@ pub find_makers_at-returns-then-holds_where-clause-makers : goal.find_makers_at-
 find_makers_at-returns-then-holds_where-clause-makers t c =
     let same = ap statements_of c.deref.ensures.value in
     let is = ap statement_of c.in-If.is ∙ if_views c.in-If.reg c.in-If.equal c.in-If.value c.in-If.body c.in-If.other in
-    let found = found-then c.args.number _ _ _ _ _ _ c.args.tests.now c.tests_behind-left.result.now _ _ is c.asks_equal.ensures c.holds_where.ensures c.tests_behind-left.ensures c.if-holds_where.true in
-    c.find_makers.ensures.makers ∙ ap (λ ss. c.args.makers.now.items ++ (makers_of (c.args.number + 1) ss c.tests_behind-left.result.now).0) same
+    let found = found-then c.args.number _ _ _ _ _ _ c.args.tests.now c.guards_behind-left.result.now _ _ is c.asks_equal.ensures c.holds_where.ensures c.guards_behind-left.ensures c.if-holds_where.true in
+    c.find_makers.ensures.makers ∙ ap (λ ss. c.args.makers.now.items ++ (makers_of (c.args.number + 1) ss c.guards_behind-left.result.now).0) same
     ∙ ap (λ (p : List ℕ × List Tested). c.args.makers.now.items ++ p.0) (sym found)
 
 pub find_makers_at-returns-then-holds_where-clause-left : goal.find_makers_at-returns-then-holds_where-clause-left
 find_makers_at-returns-then-holds_where-clause-left t c =
     let same = ap statements_of c.deref.ensures.value in
     let is = ap statement_of c.in-If.is ∙ if_views c.in-If.reg c.in-If.equal c.in-If.value c.in-If.body c.in-If.other in
-    let found = found-then c.args.number _ _ _ _ _ _ c.args.tests.now c.tests_behind-left.result.now _ _ is c.asks_equal.ensures c.holds_where.ensures c.tests_behind-left.ensures c.if-holds_where.true in
-    c.find_makers.ensures.left ∙ ap (λ ss. (makers_of (c.args.number + 1) ss c.tests_behind-left.result.now).1) same
+    let found = found-then c.args.number _ _ _ _ _ _ c.args.tests.now c.guards_behind-left.result.now _ _ is c.asks_equal.ensures c.holds_where.ensures c.guards_behind-left.ensures c.if-holds_where.true in
+    c.find_makers.ensures.left ∙ ap (λ ss. (makers_of (c.args.number + 1) ss c.guards_behind-left.result.now).1) same
     ∙ ap (λ (p : List ℕ × List Tested). p.1) (sym found)
 
 pub find_makers_at-returns-else-holds_where-clause-makers : goal.find_makers_at-returns-else-holds_where-clause-makers
@@ -101,9 +101,9 @@ find_makers_at-returns-else-holds_where-clause-makers t c =
     let is = ap statement_of c.in-If.is ∙ if_views c.in-If.reg c.in-If.equal c.in-If.value c.in-If.body c.in-If.other in
     let next : c.args.number + 1 + c.statement_count.result ≡ c.args.number + 1 + statement_count (statements_of c.in-If.body.items) =
     omega (arith, ap count_with_parts is, ap statement_count counted, c.statement_count.ensures, c.requires.fits) in
-    let found = found-else c.args.number _ _ _ _ _ _ _ c.args.tests.now c.tests_behind-left.result.now _ _ is c.asks_equal.ensures c.holds_where.ensures c.tests_behind-left.ensures c.if-holds_where.false next in
+    let found = found-else c.args.number _ _ _ _ _ _ _ c.args.tests.now c.guards_behind-left.result.now _ _ is c.asks_equal.ensures c.holds_where.ensures c.guards_behind-left.ensures c.if-holds_where.false next in
     c.find_makers-else-holds_where.ensures.makers
-    ∙ ap (λ ss. c.args.makers.now.items ++ (makers_of (c.args.number + 1 + c.statement_count.result) ss c.tests_behind-left.result.now).0) same
+    ∙ ap (λ ss. c.args.makers.now.items ++ (makers_of (c.args.number + 1 + c.statement_count.result) ss c.guards_behind-left.result.now).0) same
     ∙ ap (λ (p : List ℕ × List Tested). c.args.makers.now.items ++ p.0) (sym found)
 
 pub find_makers_at-returns-else-holds_where-clause-left : goal.find_makers_at-returns-else-holds_where-clause-left
@@ -113,6 +113,6 @@ find_makers_at-returns-else-holds_where-clause-left t c =
     let is = ap statement_of c.in-If.is ∙ if_views c.in-If.reg c.in-If.equal c.in-If.value c.in-If.body c.in-If.other in
     let next : c.args.number + 1 + c.statement_count.result ≡ c.args.number + 1 + statement_count (statements_of c.in-If.body.items) =
     omega (arith, ap count_with_parts is, ap statement_count counted, c.statement_count.ensures, c.requires.fits) in
-    let found = found-else c.args.number _ _ _ _ _ _ _ c.args.tests.now c.tests_behind-left.result.now _ _ is c.asks_equal.ensures c.holds_where.ensures c.tests_behind-left.ensures c.if-holds_where.false next in
-    c.find_makers-else-holds_where.ensures.left ∙ ap (λ ss. (makers_of (c.args.number + 1 + c.statement_count.result) ss c.tests_behind-left.result.now).1) same
+    let found = found-else c.args.number _ _ _ _ _ _ _ c.args.tests.now c.guards_behind-left.result.now _ _ is c.asks_equal.ensures c.holds_where.ensures c.guards_behind-left.ensures c.if-holds_where.false next in
+    c.find_makers-else-holds_where.ensures.left ∙ ap (λ ss. (makers_of (c.args.number + 1 + c.statement_count.result) ss c.guards_behind-left.result.now).1) same
     ∙ ap (λ (p : List ℕ × List Tested). p.1) (sym found)

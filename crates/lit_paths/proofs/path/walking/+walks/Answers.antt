@@ -5,7 +5,7 @@ use Rattle.lit_read.proofs.TreeViews.{if_views}
 use Rattle.lit_paths.specs.Path.{walks_of}
 use Rattle.lit_paths.specs.PathModel.{PathModel}
 use Rattle.lit_paths.specs.declared.limits.TheConstants.{COMBINATION_LIMIT}
-use Rattle.lit_paths.specs.Internal.PathSteps.{with_test, with_steps}
+use Rattle.lit_paths.specs.Internal.PathSteps.{with_guard, with_steps}
 use Rattle.lit_paths.specs.Internal.Walks.{AreSaid, longest, walk_at}
 use Rattle.lit_paths.proofs.Stepping.{IsIf, if_known, said-then, said-else, walked-then, walked-else, here-on_way, on_way_more, AreSaid-left, size_of, size_of-item, size_of-parts}
 use Rattle.lit_paths.proofs.path.walking.+walks.Goals as goal
@@ -23,7 +23,7 @@ meet-walk-requires t c =
           omega (arith, known.count, ap (λ ss. length (walks_of ss)) same, c.requires.few),
           (
             omega (arith, known.count, ap (λ ss. length (walks_of ss)) same, ap (λ ss. length (walks_of ss)) counted, c.walk_count-first_else.ensures, c.if-number-first_else.true),
-            omega (arith, known.long, ap longest same, ap (λ (path : PathModel). length path.events) c.in_ok-add_test-in-If.ensures, c.requires.room),
+            omega (arith, known.long, ap longest same, ap (λ (path : PathModel). length path.events) c.in_ok-add_guard-in-If.ensures, c.requires.room),
           ),
         ),
       ),
@@ -42,56 +42,56 @@ meet-walk-requires-else-number-first_else t c =
           omega (arith, known.count, ap (λ ss. length (walks_of ss)) same, c.requires.few),
           (
             omega (arith, known.count, c.requires.known, c.requires.few, ap (λ ss. length (walks_of ss)) same, ap (λ ss. length (walks_of ss)) counted, c.walk_count-first_else.ensures, c.if-number-first_else.false),
-            omega (arith, known.long, ap longest same, ap (λ (path : PathModel). length path.events) c.in_ok-add_test-in-If-2.ensures, c.requires.room),
+            omega (arith, known.long, ap longest same, ap (λ (path : PathModel). length path.events) c.in_ok-add_guard-in-If-2.ensures, c.requires.room),
           ),
         ),
       ),
     )
 
-pub meet-returns-in_ok-add_test-in-If-clause-walked : goal.meet-returns-in_ok-add_test-in-If-clause-walked
-meet-returns-in_ok-add_test-in-If-clause-walked t c =
+pub meet-returns-in_ok-add_guard-in-If-clause-walked : goal.meet-returns-in_ok-add_guard-in-If-clause-walked
+meet-returns-in_ok-add_guard-in-If-clause-walked t c =
     let known : IsIf (statement_of c.args.statement.now) c.in-If.reg c.in-If.equal c.in-If.value (statements_of c.in-If.body.items) (statements_of c.in-If.other.items) =
     if_known _ _ _ _ _ _ (ap statement_of c.in-If.is ∙ if_views c.in-If.reg c.in-If.equal c.in-If.value c.in-If.body c.in-If.other) in
     let same = ap statements_of c.deref-then-number-first_else.ensures.value in
     let counted = ap statements_of c.deref.ensures.value in
     IfOk-weaker c.walk.result _ _
-    (λ done walked. walked-then c.args.owner _ _ _ _ _ _ c.args.number c.args.path.now c.add_test.new.self c.walk.new.path known
+    (λ done walked. walked-then c.args.owner _ _ _ _ _ _ c.args.number c.args.path.now c.add_guard.new.self c.walk.new.path known
     (omega (arith, known.count, ap (λ ss. length (walks_of ss)) same, ap (λ ss. length (walks_of ss)) counted, c.walk_count-first_else.ensures, c.if-number-first_else.true))
-    (c.in_ok-add_test-in-If.ensures ∙ ap (λ o. with_test c.args.path.now (record { on = o; equal = c.in-If.equal; value = c.in-If.value })) c.last-on.ensures)
-    (walked ∙ ap (λ ss. with_steps c.args.owner c.add_test.new.self (walk_at ss c.args.number)) same))
+    (c.in_ok-add_guard-in-If.ensures ∙ ap (λ o. with_guard c.args.path.now (record { on = o; equal = c.in-If.equal; value = c.in-If.value })) c.last-on.ensures)
+    (walked ∙ ap (λ ss. with_steps c.args.owner c.add_guard.new.self (walk_at ss c.args.number)) same))
     c.walk.ensures.walked
 
-pub meet-returns-in_ok-add_test-in-If-clause-short : goal.meet-returns-in_ok-add_test-in-If-clause-short
-meet-returns-in_ok-add_test-in-If-clause-short t c =
+pub meet-returns-in_ok-add_guard-in-If-clause-short : goal.meet-returns-in_ok-add_guard-in-If-clause-short
+meet-returns-in_ok-add_guard-in-If-clause-short t c =
     let known : IsIf (statement_of c.args.statement.now) c.in-If.reg c.in-If.equal c.in-If.value (statements_of c.in-If.body.items) (statements_of c.in-If.other.items) =
     if_known _ _ _ _ _ _ (ap statement_of c.in-If.is ∙ if_views c.in-If.reg c.in-If.equal c.in-If.value c.in-If.body c.in-If.other) in
     let same = ap statements_of c.deref-then-number-first_else.ensures.value in
     IfOk-weaker c.walk.result _ _
-    (λ done short. omega (arith, short, known.long, ap longest same, ap (λ (path : PathModel). length path.events) c.in_ok-add_test-in-If.ensures))
+    (λ done short. omega (arith, short, known.long, ap longest same, ap (λ (path : PathModel). length path.events) c.in_ok-add_guard-in-If.ensures))
     c.walk.ensures.short
 
-pub meet-returns-in_ok-add_test-in-If-2-clause-walked : goal.meet-returns-in_ok-add_test-in-If-2-clause-walked
-meet-returns-in_ok-add_test-in-If-2-clause-walked t c =
+pub meet-returns-in_ok-add_guard-in-If-2-clause-walked : goal.meet-returns-in_ok-add_guard-in-If-2-clause-walked
+meet-returns-in_ok-add_guard-in-If-2-clause-walked t c =
     let known : IsIf (statement_of c.args.statement.now) c.in-If.reg c.in-If.equal c.in-If.value (statements_of c.in-If.body.items) (statements_of c.in-If.other.items) =
     if_known _ _ _ _ _ _ (ap statement_of c.in-If.is ∙ if_views c.in-If.reg c.in-If.equal c.in-If.value c.in-If.body c.in-If.other) in
     let same = ap statements_of c.deref-else-number-first_else.ensures.value in
     let counted = ap statements_of c.deref.ensures.value in
     let left : ℕ = c.args.number - c.walk_count-first_else.result in
     IfOk-weaker c.walk-else-number-first_else.result _ _
-    (λ done walked. walked-else c.args.owner _ _ _ _ _ _ c.args.number left c.args.path.now c.add_test-else-number-first_else.new.self c.walk-else-number-first_else.new.path known
+    (λ done walked. walked-else c.args.owner _ _ _ _ _ _ c.args.number left c.args.path.now c.add_guard-else-number-first_else.new.self c.walk-else-number-first_else.new.path known
     (omega (arith, known.count, c.requires.few, ap (λ ss. length (walks_of ss)) counted, c.walk_count-first_else.ensures, c.if-number-first_else.false))
     (omega (arith, known.count, c.requires.known, c.requires.few, ap (λ ss. length (walks_of ss)) counted, c.walk_count-first_else.ensures, c.if-number-first_else.false))
-    (c.in_ok-add_test-in-If-2.ensures ∙ ap (λ o. with_test c.args.path.now (record { on = o; equal = not c.in-If.equal; value = c.in-If.value })) c.last-on.ensures)
-    (walked ∙ ap (λ ss. with_steps c.args.owner c.add_test-else-number-first_else.new.self (walk_at ss left)) same))
+    (c.in_ok-add_guard-in-If-2.ensures ∙ ap (λ o. with_guard c.args.path.now (record { on = o; equal = not c.in-If.equal; value = c.in-If.value })) c.last-on.ensures)
+    (walked ∙ ap (λ ss. with_steps c.args.owner c.add_guard-else-number-first_else.new.self (walk_at ss left)) same))
     c.walk-else-number-first_else.ensures.walked
 
-pub meet-returns-in_ok-add_test-in-If-2-clause-short : goal.meet-returns-in_ok-add_test-in-If-2-clause-short
-meet-returns-in_ok-add_test-in-If-2-clause-short t c =
+pub meet-returns-in_ok-add_guard-in-If-2-clause-short : goal.meet-returns-in_ok-add_guard-in-If-2-clause-short
+meet-returns-in_ok-add_guard-in-If-2-clause-short t c =
     let known : IsIf (statement_of c.args.statement.now) c.in-If.reg c.in-If.equal c.in-If.value (statements_of c.in-If.body.items) (statements_of c.in-If.other.items) =
     if_known _ _ _ _ _ _ (ap statement_of c.in-If.is ∙ if_views c.in-If.reg c.in-If.equal c.in-If.value c.in-If.body c.in-If.other) in
     let same = ap statements_of c.deref-else-number-first_else.ensures.value in
     IfOk-weaker c.walk-else-number-first_else.result _ _
-    (λ done short. omega (arith, short, known.long, ap longest same, ap (λ (path : PathModel). length path.events) c.in_ok-add_test-in-If-2.ensures))
+    (λ done short. omega (arith, short, known.long, ap longest same, ap (λ (path : PathModel). length path.events) c.in_ok-add_guard-in-If-2.ensures))
     c.walk-else-number-first_else.ensures.short
 
 pub walk-nonzero_div-left : goal.walk-nonzero_div-left

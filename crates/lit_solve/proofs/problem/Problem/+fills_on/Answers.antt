@@ -12,7 +12,7 @@ returns-then-not-is_of t c =
     let none = none_later (events_on c.args.self.now) c.args.read c.args.place c.requires.room.later (λ here. false≢true (c.if-not-is_of.ensures.of.1 here)) in
     let end = filled_at_end box c.args.read c.requires.is_box c.requires.some c.args.place (HasEvent c.args.taken.whole) c.args.taken.value
     c.args.taken.bytes c.requires.room.place none in
-    (λ h. end.1 (c.are_tests_true.ensures.0 h), λ h. c.are_tests_true.ensures.1 (end.0 h))
+    (λ h. end.1 (c.are_guards_true.ensures.0 h), λ h. c.are_guards_true.ensures.1 (end.0 h))
 
 pub fills_on-requires : goal.fills_on-requires
 fills_on-requires t c = grind (arith, common_steps, c.if-not-is_of.ensures.of)

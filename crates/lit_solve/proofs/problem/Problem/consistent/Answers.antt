@@ -2,7 +2,7 @@ use Rattle.lit_solve.proofs.Words.{◌<◌, arith, byte_read_at, byte_reads, com
 use Rattle.lit_solve.proofs.Words.{subst, ℕ, ◌∙◌}
 use Rattle.lit_rel.proofs.SetLemmas.{event_or_not}
 use Rattle.lit_solve.specs.Box.{HasSource, box_with, events_on}
-use Rattle.lit_solve.specs.Out.{IsOut}
+use Rattle.lit_solve.specs.Prunable.{IsPrunable}
 use Rattle.lit_solve.specs.Internal.Frames.{IsProblem}
 use Rattle.lit_solve.proofs.DomainLemmas.{narrowed_at, narrowed_is_box, narrows, narrows_on}
 use Rattle.lit_solve.proofs.NarrowingLemmas.{read_here}
@@ -24,12 +24,12 @@ loop-place-preserved c =
     let room : place < length box.domains = omega (arith, was.len, c.reads-place-end.ensures.few, c.loop-place-test.true) in
     let inside : place < length (byte_reads events) = omega (arith, c.reads-place-end.ensures.value, c.loop-place-test.true) in
     let read = byte_read_at events place in
-    let out : (w : ℕ) → HasSource box place w → ¬ HasEvent less w → IsOut box read.0 read.1 w = λ w there lost. elim (event_or_not _ w) [
-      | inl refused ↦ inl ((is.by_tests place read.0 read.1 w (read_here events place inside)).0 refused).1
+    let out : (w : ℕ) → HasSource box place w → ¬ HasEvent less w → IsPrunable box read.0 read.1 w = λ w there lost. elim (event_or_not _ w) [
+      | inl refused ↦ inl ((is.by_guards place read.0 read.1 w (read_here events place inside)).0 refused).1
       | inr passes ↦ absurd (lost ((c.difference.ensures w).1 (there, passes)))
     ] in
     let within : (w : ℕ) → HasEvent less w → HasSource box place w = λ w there. ((c.difference.ensures w).0 there).0 in
-    let step = narrows box place less room was.is_box is.sound (c.completions_have_no_source_that_is_out.ensures box) inside out within in record {
+    let step = narrows box place less room was.is_box is.sound (c.completions_have_no_prunable_source.ensures box) inside out within in record {
       len = length-set c.loop-place.left place less ∙ was.len;
       is_box = narrowed_is_box box place less room within was.is_box;
       narrows = narrows_on first box (narrowed_at box place less) was.narrows step;

@@ -60,6 +60,6 @@ pub unreachable-requires : goal.unreachable-requires
 unreachable-requires c =
     let box = box_with c.args.self.now c.loop-source.domains in
     let is = independent_still c.args.self.now c.loop-source.domains c.args.domains.now c.loop-source.invariant.same c.requires.independent in
-    let found = independent_solution box is (c.quiet_boxes_are_filled_read_by_read.ensures box) in
+    let found = independent_solution box is (c.leaves_are_filled_read_by_read.ensures box) in
     let some = takes_some box Any c.args.place c.requires.place found.0 found.1 in
     c.in_default-split_first.ensures some.0 (c.loop-source.invariant.taken found.0 found.1 some.0 some.1)

@@ -1,4 +1,4 @@
-use Rattle.lit_solve.proofs.Words.{false≢true, HasFalseTestOn, length, None, sym, ◌∙◌}
+use Rattle.lit_solve.proofs.Words.{false≢true, HasFalseGuardOn, length, None, sym, ◌∙◌}
 use Rattle.lit_solve.specs.Given.{HappensBeforeIn, IsForbiddenIn}
 use Rattle.lit_solve.specs.Box.{events_on}
 use Rattle.lit_solve.specs.Internal.Frames.{box_of}
@@ -10,15 +10,15 @@ returns-then-has_false_unwritten c =
     let box = box_of c.args.self.now c.args.frame.now in
     let unwritten = c.has_false_unwritten.ensures.0 c.if-has_false_unwritten.true in (
       (λ never. absurd (false≢true never)),
-      (λ some. absurd (no_false_unwritten box c.args.frame.now c.requires.settled c.requires.quiet (c.quiet_boxes_are_filled_read_by_read.ensures box)
+      (λ some. absurd (no_false_unwritten box c.args.frame.now c.requires.settled c.requires.quiet (c.leaves_are_filled_read_by_read.ensures box)
           some unwritten)),
     )
 
 pub returns-then-can_fill_each : goal.returns-then-can_fill_each
 returns-then-can_fill_each c =
     let box = box_of c.args.self.now c.args.frame.now in
-    let law = c.quiet_boxes_are_filled_read_by_read.ensures box in
-    let unwritten = λ (bad : HasFalseTestOn box.test box.combination None 0).
+    let law = c.leaves_are_filled_read_by_read.ensures box in
+    let unwritten = λ (bad : HasFalseGuardOn box.test box.combination None 0).
     false≢true (sym c.if-has_false_unwritten.false ∙ c.has_false_unwritten.ensures.1 bad) in
     let ordered = order_is_some c.least_order.result (λ order. order.items) (length (events_on c.args.self.now)) (HappensBeforeIn box)
     (IsForbiddenIn box) c.least_order.ensures.found c.least_order.ensures.none in (
@@ -33,5 +33,5 @@ returns-else-can_fill_each c =
     let box = box_of c.args.self.now c.args.frame.now in (
       (λ never. absurd (false≢true (sym c.if-can_fill_each.false ∙ never))),
       (λ found. c.can_fill_each.ensures.1
-          (fills_each box c.args.frame.now c.requires.settled c.requires.quiet (c.quiet_boxes_are_filled_read_by_read.ensures box) found)),
+          (fills_each box c.args.frame.now c.requires.settled c.requires.quiet (c.leaves_are_filled_read_by_read.ensures box) found)),
     )

@@ -1,5 +1,5 @@
 use Rattle.lit_solve.proofs.Words.{ap, byte_read_at, CanReadWhole, event_at, false≢true, subst, sym, ℕ, ◌∙◌, ◌≡◌}
-use Rattle.lit_solve.specs.Out.{IsOut}
+use Rattle.lit_solve.specs.Prunable.{IsPrunable}
 use Rattle.lit_solve.specs.Box.{events_on}
 use Rattle.lit_solve.specs.Internal.Frames.{box_of}
 use Rattle.lit_solve.proofs.NarrowingLemmas.{between_out, incoherent_out, later_out, tear_out}
@@ -23,11 +23,11 @@ returns-then-is_forced_between-clause-out c found =
                 (λ coherent. false≢true (sym x.if-not-is_coherent.true ∙ c.is_coherent.ensures.1 coherent))
             | else-not-is_coherent x ↦
                 let later = x.is_forced_later.ensures.0 (sym x.value-is ∙ w.if-is_forced_later.true) in
-                subst (λ (r : ℕ). IsOut box r byte c.args.source) same (later_out box c.args.frame.now is c.from-read.result byte c.args.source later.0 later.1)
+                subst (λ (r : ℕ). IsPrunable box r byte c.args.source) same (later_out box c.args.frame.now is c.from-read.result byte c.args.source later.0 later.1)
           ]
       | else-is_forced_later w ↦
           let between = w.is_forced_between.ensures.0 (sym w.value-is ∙ found) in
-          subst (λ (r : ℕ). IsOut box r byte c.args.source) same
+          subst (λ (r : ℕ). IsPrunable box r byte c.args.source) same
           (between_out box c.args.frame.now is c.from-read.result byte c.args.source between.0 between.1 between.2 between.3)
     ]
 

@@ -7,7 +7,7 @@ pub returns-in-Some : goal.returns-in-Some
 returns-in-Some c =
     let new = box_of c.args.self.now c.lead.new.frame in
     least_found (box_of c.args.self.now c.args.frame.now) new c.args.goal (c.lead.ensures.lowest c.if-not-lead.false) (c.lead.ensures.alone c.if-not-lead.false)
-    (c.lead.ensures.settled c.if-not-lead.false).exact.contained.is_box (c.quiet_boxes_have_one_order.ensures new) (c.lead.ensures.found c.if-not-lead.false)
+    (c.lead.ensures.settled c.if-not-lead.false).exact.contained.is_box (c.leaves_have_one_order.ensures new) (c.lead.ensures.found c.if-not-lead.false)
     c.sources_of.result.items c.sources_of.ensures.one_each c.sources_of.ensures.within c.in-Some.order.items c.in-Some.ensures.found
 
 pub returns-in-None : goal.returns-in-None

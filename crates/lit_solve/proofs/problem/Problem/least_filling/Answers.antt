@@ -35,6 +35,6 @@ returns c order least =
     let new = box_with c.args.self.now c.loop-place.down in
     let is = c.loop-place.invariant in
     let end : c.loop-place.place ≡ length (byte_reads (events_on c.args.self.now)) = omega (arith, c.loop-place-test.false, c.reads-place-end.ensures.value) in
-    least_found old new Any is.lowest (subst (AreAloneBelow new) end is.alone) is.independent.is_box (c.quiet_boxes_have_one_order.ensures new)
-    (independent_solution new is.independent (c.quiet_boxes_are_filled_read_by_read.ensures new)) c.sources_of.result.items c.sources_of.ensures.one_each
+    least_found old new Any is.lowest (subst (AreAloneBelow new) end is.alone) is.independent.is_box (c.leaves_have_one_order.ensures new)
+    (independent_solution new is.independent (c.leaves_are_filled_read_by_read.ensures new)) c.sources_of.result.items c.sources_of.ensures.one_each
     c.sources_of.ensures.within order (is.order order least)

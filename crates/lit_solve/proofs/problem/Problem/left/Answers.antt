@@ -1,7 +1,7 @@
 use Rattle.lit_solve.proofs.Words.{◌<◌, arith, byte_read_at, cases_eq, Holds, inl, inr, IsCoherentRead, length, subst, sym, ℕ}
 use Rattle.lit_rel.proofs.SetLemmas.{split_less}
 use Rattle.lit_solve.specs.Box.{HasSource, events_on}
-use Rattle.lit_solve.specs.Out.{IsOut}
+use Rattle.lit_solve.specs.Prunable.{IsPrunable}
 use Rattle.lit_solve.specs.Internal.Frames.{box_of}
 use Rattle.lit_solve.proofs.NarrowingLemmas.{source_known}
 use Rattle.lit_solve.proofs.problem.Problem.left.Goals as goal
@@ -60,7 +60,7 @@ loop-source-preserved c =
       rest = λ w h. was.rest w ((c.in-Some.ensures.rest w).0 h).0;
       within = was.within;
       out = λ w h gone lost. elim (cases_eq w source) [
-        | inl is ↦ subst (λ (v : ℕ). IsOut box read.0 read.1 v) (sym is) (c.is_out.ensures.out c.if-not-is_out.false)
+        | inl is ↦ subst (λ (v : ℕ). IsPrunable box read.0 read.1 v) (sym is) (c.is_out.ensures.out c.if-not-is_out.false)
         | inr other ↦ was.out w h (λ there. gone ((c.in-Some.ensures.rest w).1 (there, other))) lost
       ];
       coherent = was.coherent;

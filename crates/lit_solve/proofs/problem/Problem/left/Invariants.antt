@@ -1,6 +1,6 @@
 use Rattle.lit_solve.proofs.Words.{byte_read_at, HasEvent, Holds, IsCoherentRead, ℕ}
 use Rattle.lit_solve.specs.Box.{HasSource, events_on}
-use Rattle.lit_solve.specs.Out.{IsOut}
+use Rattle.lit_solve.specs.Prunable.{IsPrunable}
 use Rattle.lit_solve.specs.Internal.Frames.{box_of}
 use Rattle.lit_solve.proofs.problem.Problem.left.Given as goal
 
@@ -9,7 +9,7 @@ invariant-loop-source l = record {
   rest : (w : ℕ) → HasEvent l.rest w → HasSource (box_of l.self l.frame) l.place w;
   within : (w : ℕ) → HasEvent l.left w → HasSource (box_of l.self l.frame) l.place w;
   out : (w : ℕ) → HasSource (box_of l.self l.frame) l.place w → ¬ HasEvent l.rest w → ¬ HasEvent l.left w
-      → IsOut (box_of l.self l.frame) (byte_read_at (events_on l.self) l.place).0 (byte_read_at (events_on l.self) l.place).1 w;
+      → IsPrunable (box_of l.self l.frame) (byte_read_at (events_on l.self) l.place).0 (byte_read_at (events_on l.self) l.place).1 w;
   coherent : (w : ℕ) → HasEvent l.left w
       → IsCoherentRead (events_on l.self) (Holds l.frame.happens_before.rows) (byte_read_at (events_on l.self) l.place).0
       (byte_read_at (events_on l.self) l.place).1 w;

@@ -9,7 +9,7 @@ returns-then-is_empty-clause-empty c _ =
     let box = box_of c.args.self.now c.args.frame.now in
     let room : c.args.place < length box.domains = omega arith in
     none_if_empty box c.args.place c.left-left.result room c.requires.contained.is_box c.events-events.ensures.sound
-    (c.completions_have_no_source_that_is_out.ensures box)
+    (c.completions_have_no_prunable_source.ensures box)
     c.requires.place c.left-left.ensures.out
     (c.is_empty.ensures.0 c.if-is_empty.true)
 
@@ -28,7 +28,7 @@ returns-clause-narrows c _ =
     let box = box_of c.args.self.now c.args.frame.now in
     let room : c.args.place < length box.domains = omega arith in
     narrows box c.args.place c.left-left.result room c.requires.contained.is_box c.events-events.ensures.sound
-    (c.completions_have_no_source_that_is_out.ensures box)
+    (c.completions_have_no_prunable_source.ensures box)
     c.requires.place c.left-left.ensures.out c.left-left.ensures.within
 
 pub returns-clause-less : goal.returns-clause-less

@@ -2,7 +2,7 @@ use Rattle.lit_solve.proofs.Words.{◌<◌, ap, AreEventsIn, ArePeers, arith, BY
 use Rattle.lit_solve.proofs.Words.{IsLitmus, length, length-set, List, Litmus, names_of, slice_get, slice_get_within, Some, subst, sym, ℕ}
 use Rattle.lit_solve.proofs.Words.{◌∙◌, ◌≡◌, ◌≤◌}
 use Rattle.lit_solve.specs.Box.{events_on}
-use Rattle.lit_solve.specs.Out.{IsRefusedOn}
+use Rattle.lit_solve.specs.Prunable.{IsRefusedOn}
 use Rattle.lit_solve.proofs.CandidateLemmas.{sets_more}
 use Rattle.lit_solve.proofs.NarrowingLemmas.{as_many}
 use Rattle.lit_solve.proofs.problem.Problem.open.Goals as goal
@@ -56,7 +56,7 @@ invariant_of-result c =
       known = subst (λ (p : Litmus × ℕ). p.1 < length (combinations_of p.0)) (sym entered) c.requires;
       sound = subst (λ (es : List Event). AreEventsIn c.enter-combination.result.0.bytes es) same c.events.ensures.sound;
       all = λ k r b w at. c.loop-place.invariant.all k r b w (done k r b at) at;
-      by_tests = λ k r b w at. c.loop-place.invariant.refused k r b w (done k r b at) at;
+      by_guards = λ k r b w at. c.loop-place.invariant.refused k r b w (done k r b at) at;
       same_range = subst (λ (es : List Event). ArePeers es c.peers_of-peers.result) same c.peers_of-peers.ensures;
       named = c.names.ensures.value ∙ ap (λ (p : Litmus × ℕ). names_of p.0) (sym entered);
       few_names = c.names.ensures.few;

@@ -6,7 +6,7 @@ use Rattle.lit_solve.proofs.problem.Problem.quiet_outcomes.Goals as goal
 pub returns-then-has_false_unwritten-clause-whole : goal.returns-then-has_false_unwritten-clause-whole
 returns-then-has_false_unwritten-clause-whole g c x is =
     let box = box_of c.args.self.now c.args.frame.now in
-    absurd (no_false_unwritten box c.args.frame.now c.requires.settled c.requires.quiet (c.quiet_boxes_are_filled_read_by_read.ensures box)
+    absurd (no_false_unwritten box c.args.frame.now c.requires.settled c.requires.quiet (c.leaves_are_filled_read_by_read.ensures box)
     (x, record { completes = is; meets = tt })
     (c.has_false_unwritten.ensures.0 c.if-has_false_unwritten.true))
 
@@ -15,13 +15,13 @@ returns-then-not-can_fill_each-clause-whole g c x is =
     let box = box_of c.args.self.now c.args.frame.now in
     absurd (false≢true (sym c.if-not-can_fill_each.true
     ∙ c.can_fill_each.ensures.1
-    (fills_each box c.args.frame.now c.requires.settled c.requires.quiet (c.quiet_boxes_are_filled_read_by_read.ensures box)
+    (fills_each box c.args.frame.now c.requires.settled c.requires.quiet (c.leaves_are_filled_read_by_read.ensures box)
     (x, record { completes = is; meets = tt }))))
 
 pub returns-in_default-clause-whole : goal.returns-in_default-clause-whole
 returns-in_default-clause-whole g c x is =
     let box = box_of c.args.self.now c.args.frame.now in
-    let order = has_order box c.args.frame.now c.requires.settled c.requires.quiet (c.quiet_boxes_are_filled_read_by_read.ensures box)
+    let order = has_order box c.args.frame.now c.requires.settled c.requires.quiet (c.leaves_are_filled_read_by_read.ensures box)
     (x, record { completes = is; meets = tt }) in
     absurd (c.in_default.ensures.none order.0 order.1)
 

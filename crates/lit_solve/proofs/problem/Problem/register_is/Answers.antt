@@ -9,4 +9,4 @@ returns-in-Some c = grind (arith, common_steps, decided_by_read, c.laws_below.en
 pub returns-in-None : goal.returns-in-None
 returns-in-None c =
     decided_unwritten c.laws_below.ensures (box_with c.args.self.now c.args.domains.now) c.requires c.args.agent c.args.reg c.args.value
-    (sym c.read_held.ensures.value ∙ c.in-None.is)
+    (sym c.observed_read.ensures.value ∙ c.in-None.is)

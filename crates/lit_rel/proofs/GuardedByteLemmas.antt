@@ -15,7 +15,7 @@ use Rattle.lit_paths.specs.Plan.{AreEventsIn}
 use Rattle.lit_paths.specs.Run.{compares}
 use Rattle.lit_paths.proofs.Rising.{slice_get-map-found}
 use Rattle.lit_rel.specs.ReadsFrom.{ReadsByteFrom, bytes_of_read, composed, value_of}
-use Rattle.lit_rel.specs.TestedBytes.{IsFalseOfByte}
+use Rattle.lit_rel.specs.GuardedBytes.{IsFalseOfByte}
 use Rattle.lit_rel.proofs.OwnByteLemmas.{all_read, only, only_its}
 use Rattle.lit_rel.proofs.SourceLemmas.{read_here, read_known}
 

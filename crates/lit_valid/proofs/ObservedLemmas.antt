@@ -11,7 +11,7 @@ use Rattle.lit_paths.specs.declared.event.Event.{Event}
 use Rattle.lit_paths.specs.declared.path.Tested.{Tested}
 use Rattle.lit_paths.specs.Event.{does_read, event_at}
 use Rattle.lit_paths.specs.Path.{Path, Step, LoadMet, StoreMet, ExchangeMet, CompareExchangeMet, IfMet, events_on, path_on, compare_exchange_event}
-use Rattle.lit_paths.specs.PathModel.{IsReadAt, last_read, tests_on}
+use Rattle.lit_paths.specs.PathModel.{IsReadAt, last_read, guards_on}
 use Rattle.lit_paths.specs.Plan.{IsWalkIn, combination_at, events_in, first_event, path_in, walk_in}
 use Rattle.lit_paths.specs.Run.{Run, compares}
 use Rattle.lit_paths.specs.Told.{TellsRuns, chosen_on, is_true_of, read_places, value_at, value_on}
@@ -19,7 +19,7 @@ use Rattle.lit_rel.specs.Broken.{number_on}
 use Rattle.lit_rel.specs.ReadsFrom.{value_of}
 use Rattle.lit_valid.specs.ValidExecution.{read_numbers_from}
 use Rattle.lit_valid.specs.Internal.GivenRuns.{HasGivenRun, IsGivenRun, path_at, taken_by}
-use Rattle.lit_valid.specs.PartOutcome.{read_held, value_held}
+use Rattle.lit_valid.specs.PartOutcome.{observed_read, observed_value}
 
 -- each read takes one value
 pub length-taken : (value : ℕ → ℕ) (n : ℕ) (es : List Event) → length (map value (read_numbers_from n es)) ≡ length (read_places es)
@@ -89,7 +89,7 @@ index-range f low (suc count) (suc k) v at = ap f (let e : low + suc k ≡ (low 
 
 -- whether a test is true of a run that is given what its reads take
 abbrev pub holds : Litmus → ℕ → ℕ → List ℕ → Tested → Bool
-holds t c agent sources test = compares test.equal (value_held (record { test = t; combination = c; sources = sources }) (number_on (first_event t c agent) test.on)) test.value
+holds t c agent sources test = compares test.equal (observed_value (record { test = t; combination = c; sources = sources }) (number_on (first_event t c agent) test.on)) test.value
 
 -- ---- the runs of an agent on its path
 module _ (t : Litmus) (c agent : ℕ) (sources : List ℕ) (walk : IsWalkIn t c agent (walk_in t c agent))
@@ -102,7 +102,7 @@ module _ (t : Litmus) (c agent : ℕ) (sources : List ℕ) (walk : IsWalkIn t c 
 
   -- what the read at a place takes
   taken_there : (place : Option ℕ) → ((k : ℕ) → place ≡ Some k → IsReadAt (path_on agent steps).events k)
-      → value_on chosen place ≡ value_held (record { test = t; combination = c; sources = sources }) (number_on (first_event t c agent) place)
+      → value_on chosen place ≡ observed_value (record { test = t; combination = c; sources = sources }) (number_on (first_event t c agent) place)
   taken_there None reads = refl
   taken_there (Some k) reads =
       let same : path_at t c agent ≡ path_on agent steps = path_walked t c agent steps walk in
@@ -111,8 +111,8 @@ module _ (t : Litmus) (c agent : ℕ) (sources : List ℕ) (walk : IsWalkIn t c 
       ap (λ (p : ℕ). value_at chosen p) (let e : k ≡ 0 + k = omega arith in e)
       ∙ value_there (value_of (events_in t c) sources) (first_event t c agent) 0 k (path_at t c agent).events placed is.0 is.1
 
-  test_there : (k : ℕ) (test : Tested) → slice_get (tests_on steps) k ≡ Some test → is_true_of chosen test ≡ holds t c agent sources test
-  test_there k test at = ap (λ (v : ℕ). compares test.equal v test.value) (taken_there test.on (λ place on. walk.tests_reads k place test at on))
+  guard_there : (k : ℕ) (test : Tested) → slice_get (guards_on steps) k ≡ Some test → is_true_of chosen test ≡ holds t c agent sources test
+  guard_there k test at = ap (λ (v : ℕ). compares test.equal v test.value) (taken_there test.on (λ place on. walk.guards_reads k place test at on))
 
   -- a run on the path
   on_walk : (run : Run) → IsGivenRun t c sources agent run → (record { decisions = run.decisions; events = run.events }) ≡ path_on agent steps
@@ -122,27 +122,27 @@ module _ (t : Litmus) (c agent : ℕ) (sources : List ℕ) (walk : IsWalkIn t c 
   chosen_of run given = ap (λ (p : Path). chosen_on p.events run.values) (sym (path_walked t c agent steps walk)) ∙ ap (λ (vs : List ℕ). chosen_on (path_at t c agent).events vs) given.given
 
   -- of such a run each test is true
-  pub true_of_run : (run : Run) → IsGivenRun t c sources agent run → (k : ℕ) (test : Tested) → slice_get (tests_on steps) k ≡ Some test → holds t c agent sources test ≡ true
+  pub true_of_run : (run : Run) → IsGivenRun t c sources agent run → (k : ℕ) (test : Tested) → slice_get (guards_on steps) k ≡ Some test → holds t c agent sources test ≡ true
   true_of_run run given k test at =
-      let all : list_all (is_true_of chosen) (tests_on steps) ≡ true = ap (λ (vs : List (ℕ × ℕ)). list_all (is_true_of vs) (tests_on steps)) (sym (chosen_of run given)) ∙ tells.true_of run given.is_run (on_walk run given) in
+      let all : list_all (is_true_of chosen) (guards_on steps) ≡ true = ap (λ (vs : List (ℕ × ℕ)). list_all (is_true_of vs) (guards_on steps)) (sym (chosen_of run given)) ∙ tells.true_of run given.is_run (on_walk run given) in
       by (is_true_of chosen test) refl all
     where
-      by : (b : Bool) → is_true_of chosen test ≡ b → list_all (is_true_of chosen) (tests_on steps) ≡ true → holds t c agent sources test ≡ true
-      by true is all = sym (test_there k test at) ∙ is
+      by : (b : Bool) → is_true_of chosen test ≡ b → list_all (is_true_of chosen) (guards_on steps) ≡ true → holds t c agent sources test ≡ true
+      by true is all = sym (guard_there k test at) ∙ is
       by false is all =
-          let inside : k < length (tests_on steps) = slice_get_within (tests_on steps) k test at in
-          let here : is_true_of chosen (get_or (tests_on steps) k test) ≡ false = ap (is_true_of chosen) (get_or_from_slice_get (tests_on steps) k test test at) ∙ is in
-          absurd (let e : true ≡ false = sym all ∙ list_all_at (is_true_of chosen) (tests_on steps) k test inside here in cc)
+          let inside : k < length (guards_on steps) = slice_get_within (guards_on steps) k test at in
+          let here : is_true_of chosen (get_or (guards_on steps) k test) ≡ false = ap (is_true_of chosen) (get_or_from_slice_get (guards_on steps) k test test at) ∙ is in
+          absurd (let e : true ≡ false = sym all ∙ list_all_at (is_true_of chosen) (guards_on steps) k test inside here in cc)
 
   -- where each test is true, there is such a run
-  pub run_where_true : ((k : ℕ) (test : Tested) → slice_get (tests_on steps) k ≡ Some test → holds t c agent sources test ≡ true) → HasGivenRun t c sources agent
+  pub run_where_true : ((k : ℕ) (test : Tested) → slice_get (guards_on steps) k ≡ Some test → holds t c agent sources test ≡ true) → HasGivenRun t c sources agent
   run_where_true each =
       let es = (path_on agent steps).events in
       let same : path_on agent steps ≡ path_at t c agent = sym (path_walked t c agent steps walk) in
       let values = taken_by t c sources agent in
       let long : length values ≡ length (read_places es) = length-taken (value_of (events_in t c) sources) (first_event t c agent) (path_at t c agent).events ∙ ap (λ (p : Path). length (read_places p.events)) (sym same) in
-      let all : list_all (is_true_of (chosen_on es values)) (tests_on steps) ≡ true =
-      ap (λ (p : Path). list_all (is_true_of (chosen_on p.events values)) (tests_on steps)) same ∙ every (is_true_of chosen) (tests_on steps) (λ k test at. test_there k test at ∙ each k test at) in
+      let all : list_all (is_true_of (chosen_on es values)) (guards_on steps) ≡ true =
+      ap (λ (p : Path). list_all (is_true_of (chosen_on p.events values)) (guards_on steps)) same ∙ every (is_true_of chosen) (guards_on steps) (λ k test at. guard_there k test at ∙ each k test at) in
       (_, record { is_run = tells.run values long all; on_path = same; given = refl })
     where
       every : (p : Tested → Bool) (ts : List Tested) → ((k : ℕ) (test : Tested) → slice_get ts k ≡ Some test → p test ≡ true) → list_all p ts ≡ true
@@ -150,7 +150,7 @@ module _ (t : Litmus) (c agent : ℕ) (sources : List ℕ) (walk : IsWalkIn t c 
       every p (test ∷ ts) each = ap (λ (b : Bool). b && list_all p ts) (each 0 test refl) ∙ every p ts (λ k other at. each (suc k) other at)
 
   -- what a register holds at the end of such a run
-  pub held_by_run : (run : Run) (reg : ℕ) → IsGivenRun t c sources agent run → slice_index run.registers reg ≡ value_held (record { test = t; combination = c; sources = sources }) (read_held t c (agent, reg))
+  pub held_by_run : (run : Run) (reg : ℕ) → IsGivenRun t c sources agent run → slice_index run.registers reg ≡ observed_value (record { test = t; combination = c; sources = sources }) (observed_read t c (agent, reg))
   held_by_run run reg given =
       let lasts : List (Option ℕ) = (path_in t c agent).last in
       ap (λ (rs : List ℕ). slice_index rs reg) (tells.held run given.is_run (on_walk run given) ∙ ap (λ (vs : List (ℕ × ℕ)). map (value_on vs) lasts) (chosen_of run given))

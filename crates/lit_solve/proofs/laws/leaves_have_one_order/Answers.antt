@@ -1,7 +1,7 @@
 use Rattle.lit_solve.proofs.Words.{Event, IsMemoryOrder, List, subst, sym}
 use Rattle.lit_solve.proofs.CompletionLemmas.{events_same, order_here}
 use Rattle.lit_solve.proofs.FillLemmas.{order_back_in, order_in, sources_lie}
-use Rattle.lit_solve.proofs.laws.quiet_boxes_have_one_order.Goals as goal
+use Rattle.lit_solve.proofs.laws.leaves_have_one_order.Goals as goal
 
 pub returns : goal.returns
 returns c box x order is_box quiet is = (

@@ -3,14 +3,14 @@ use Rattle.std.specs.Prelude.{◌≢◌, ◌⊎◌, ℕ, List, Some, None}
 use Rattle.lit_read.specs.Syntax.{Litmus}
 use Rattle.lit_paths.specs.Choice.{AreSources}
 use Rattle.lit_paths.specs.Event.{event_at, payload_at}
-use Rattle.lit_rel.specs.Broken.{HasFalseTestOn, HasTornReadBy}
+use Rattle.lit_rel.specs.Broken.{HasFalseGuardOn, HasTornReadBy}
 use Rattle.lit_rel.specs.Coherent.{IsCoherentRead}
 use Rattle.lit_rel.specs.Forbidden.{IsForbiddenBetween}
 use Rattle.lit_rel.specs.Growth.{IsGivenWholeBy}
 use Rattle.lit_rel.specs.ReadsFrom.{value_of}
 use Rattle.lit_rel.specs.SynchronizesWith.{CanSynchronize}
 use Rattle.lit_rel.specs.TearFree.{CanReadWhole}
-use Rattle.lit_rel.specs.TestedBytes.{HasFalseByteOn}
+use Rattle.lit_rel.specs.GuardedBytes.{HasFalseByteOn}
 use Rattle.lit_order.specs.Forcing.{HasForcedCycle}
 use Rattle.lit_solve.specs.Box.{Box, HasEmptyDomain, LiesIn, box_events, events_on}
 use Rattle.lit_solve.specs.Given.{GivenIn, HappensBeforeIn, IsForbiddenIn, IsForcedIn}
@@ -43,8 +43,8 @@ pub record WouldTear (box : Box) (r w : ℕ) : Type 0 where
   pub other : source ≢ w
 
 -- no completion has w as the source of byte b of read r, by what is given
-abbrev pub IsOut : Box → ℕ → ℕ → ℕ → Type 0
-IsOut box r b w =
+abbrev pub IsPrunable : Box → ℕ → ℕ → ℕ → Type 0
+IsPrunable box r b w =
     IsRefused box r b w
     ⊎ (¬ IsCoherentRead (box_events box) (HappensBeforeIn box) r b w)
     ⊎ IsForcedLater box w r
@@ -53,12 +53,12 @@ IsOut box r b w =
 
 -- A test is false of a register that was not written, or of a read all of whose bytes are given: of its value by any sources
 -- that lie in the box.
-abbrev pub HasFalseTestIn : Box → Type 0
-HasFalseTestIn box =
-    HasFalseTestOn box.test box.combination None 0
+abbrev pub HasFalseGuardIn : Box → Type 0
+HasFalseGuardIn box =
+    HasFalseGuardOn box.test box.combination None 0
     ⊎ ((r : ℕ) × IsGivenWholeBy (box_events box) (GivenIn box) r
     × ((sources : List ℕ) → AreSources (box_events box) sources → LiesIn box sources
-    → HasFalseTestOn box.test box.combination (Some r) (value_of (box_events box) sources r)))
+    → HasFalseGuardOn box.test box.combination (Some r) (value_of (box_events box) sources r)))
 
 -- there is no completion, by what is given
 abbrev pub IsRefuted : Box → Type 0
@@ -66,4 +66,4 @@ IsRefuted box =
     HasForcedCycle (HappensBeforeIn box) (IsForbiddenIn box)
     ⊎ HasEmptyDomain box
     ⊎ HasTornReadBy (box_events box) (GivenIn box)
-    ⊎ HasFalseTestIn box
+    ⊎ HasFalseGuardIn box

@@ -1,9 +1,9 @@
 use Rattle.lit_solve.proofs.Words.{◌+◌, ◌<◌, ap, ap₂, arith, does_read, event_at, first_event, IsTrue, length, Litmus, None, number_on}
 use Rattle.lit_solve.proofs.Words.{Option, slice_index_or, subst, sym, ℕ, ◌∙◌, ◌≡◌}
 use Rattle.lit_solve.specs.Box.{events_on}
-use Rattle.lit_solve.proofs.RegisterLemmas.{held_reads, none_beyond, none_without_agent}
-use Rattle.lit_solve.proofs.problem.Problem.read_held.Goals.{then-agent-agents-via-then-agent-agents, then-agent-agents-via-else-agent-agents+then-from-ge-REGISTERS}
-use Rattle.lit_solve.proofs.problem.Problem.read_held.Goals as goal
+use Rattle.lit_solve.proofs.RegisterLemmas.{observed_reads, none_beyond, none_without_agent}
+use Rattle.lit_solve.proofs.problem.Problem.observed_read.Goals.{then-agent-agents-via-then-agent-agents, then-agent-agents-via-else-agent-agents+then-from-ge-REGISTERS}
+use Rattle.lit_solve.proofs.problem.Problem.observed_read.Goals as goal
 
 pub returns-then-agent-agents-clause-value : goal.returns-then-agent-agents-clause-value
 returns-then-agent-agents-clause-value c =
@@ -24,7 +24,7 @@ returns-clause-reads c =
     let e = c.self.inside.combination in
     let agent = c.from-agent.result in
     let at = sym (c.last.ensures ∙ ap (λ p. slice_index_or p.last c.args.reg None) c.path.ensures.exact) ∙ c.in_ok-place.was in
-    let is = held_reads e.0 e.1 agent c.args.reg c.in_ok-place.place c.path.ensures.walk (omega (arith, c.if-from-ge-REGISTERS.false, c.from.ensures)) at in
+    let is = observed_reads e.0 e.1 agent c.args.reg c.in_ok-place.place c.path.ensures.walk (omega (arith, c.if-from-ge-REGISTERS.false, c.from.ensures)) at in
     let sum : first_event e.0 e.1 agent + c.in_ok-place.place ≡ c.from-2.result + c.from-3.result = ap₂ (λ (a b : ℕ). a + b)
     (sym (c.from-2.ensures ∙ c.first_event.ensures)) (sym c.from-3.ensures) in
     subst (λ (p : Litmus × ℕ). (c.from-2.result + c.from-3.result < length (events_on p))

@@ -1,5 +1,5 @@
 use Rattle.lit_solve.proofs.DataRaceLemmas.{race_found, race_given}
-use Rattle.lit_solve.proofs.laws.quiet_boxes_race_as_reads_are_filled.Goals as goal
+use Rattle.lit_solve.proofs.laws.leaves_race_as_reads_are_filled.Goals as goal
 
 pub returns : goal.returns
 returns c box is_box quiet coherent some = (

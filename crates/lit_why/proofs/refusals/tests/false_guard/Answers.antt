@@ -1,7 +1,7 @@
 use Rattle.std.proofs.Common.{ℕ, ◌<◌, length, below_more, arith}
 use Rattle.lit_why.specs.Refusal.{IsFalseAt}
 use Rattle.lit_why.proofs.RefusalLemmas.{least_here, none_here}
-use Rattle.lit_why.proofs.refusals.tests.false_test.Goals as goal
+use Rattle.lit_why.proofs.refusals.tests.false_guard.Goals as goal
 
 pub returns-in-Some : goal.returns-in-Some
 returns-in-Some c =

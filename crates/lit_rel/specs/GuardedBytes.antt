@@ -6,7 +6,7 @@ use Rattle.lit_paths.specs.declared.path.Tested.{Tested}
 use Rattle.lit_paths.specs.Event.{event_at, payload_at}
 use Rattle.lit_paths.specs.Path.{payload_of}
 use Rattle.lit_paths.specs.Plan.{AreEventsIn, events_in, first_event, path_in}
-use Rattle.lit_rel.specs.Broken.{HasFalseTest, number_on}
+use Rattle.lit_rel.specs.Broken.{HasFalseGuard, number_on}
 use Rattle.lit_rel.specs.Part.{IsComplete, PartModel, part_events}
 use Rattle.lit_rel.specs.ReadsFrom.{ReadsByteFrom}
 
@@ -28,11 +28,11 @@ pub record HasFalseByteOn (t : Litmus) (c r b x : ℕ) : Type 0 where
   pub is_false : IsFalseOfByte (event_at (events_in t c) r) b x test
 
 -- the source w of byte b of read r is refused by a test
-abbrev pub TestsRefuse : PartModel → ℕ → ℕ → ℕ → Type 0
-TestsRefuse part r b w = HasFalseByteOn part.test part.combination r b (payload_at (event_at (part_events part) w) b)
+abbrev pub GuardsRefuse : PartModel → ℕ → ℕ → ℕ → Type 0
+GuardsRefuse part r b w = HasFalseByteOn part.test part.combination r b (payload_at (event_at (part_events part) w) b)
 
 -- where tests refuse a source of a byte, some test is false of the value of its read
 abbrev pub RefusedBytesMakeFalse : Type 0
 RefusedBytesMakeFalse =
     (part : PartModel) (r b w : ℕ) → AreEventsIn part.test.bytes (part_events part) → IsComplete part
-    → ReadsByteFrom (part_events part) part.sources r b w → TestsRefuse part r b w → HasFalseTest part
+    → ReadsByteFrom (part_events part) part.sources r b w → GuardsRefuse part r b w → HasFalseGuard part
