@@ -2,4 +2,4 @@
 pub mod Beginning
 pub mod Constrained
 pub mod Deciding
-pub mod Narrowed
+pub mod Restricted

@@ -6,7 +6,7 @@ ghost use Rattle.lit_rel.specs.Between.{Forbids};
 ghost use Rattle.lit_rel.specs.EventSet.{HasEvent};
 ghost use Rattle.lit_rel.specs.Rows.{rows_len, Holds};
 ghost use Rattle.lit_order.specs.Internal.Constrained.{BeginsNone, ComesBefore, IsBegun, IsLeastOf, MayNotStand, constrained_len};
-ghost use Rattle.lit_order.specs.Internal.Narrowed.{IsNarrowed};
+ghost use Rattle.lit_order.specs.Internal.Restricted.{IsRestricted};
 ghost use Rattle.lit_order.specs.MemoryOrder.{IsLeastOrderOf, IsOrderOf};
 
 use crate::constraints::Constraints;
@@ -74,18 +74,18 @@ fn walk(order: &mut Order, placed: EventSet, constraints: &Constraints<'_>) -> b
 }
 
 /// Makes the beginning of an order, of which `placed` has the events, the least order that begins so, and says whether
-/// there is one. The orders of `narrow` are those that begin so.
+/// there is one. The orders of `restriction` are those that begin so.
 fn complete(
     order: &mut Order,
     placed: EventSet,
-    narrow: &Rows,
+    restriction: &Rows,
     constraints: &Constraints<'_>,
 ) -> bool
     requires fits { array_vec_len order.old ≤ constrained_len constraints.now }
     requires begun { IsBegun constraints.now placed order.old.items }
-    requires len { rows_len narrow.now ≡ constrained_len constraints.now }
-    requires narrowed { IsNarrowed (constrained_len constraints.now) (ComesBefore constraints.now) (MayNotStand constraints.now)
-        (Holds narrow.now) order.old.items }
+    requires len { rows_len restriction.now ≡ constrained_len constraints.now }
+    requires restricted { IsRestricted (constrained_len constraints.now) (ComesBefore constraints.now) (MayNotStand constraints.now)
+        (Holds restriction.now) order.old.items }
     ensures found { IsTrue result → IsLeastOf constraints.now order.old.items order.new.items }
     ensures none { ¬ IsTrue result → BeginsNone constraints.now order.old.items }
 {
@@ -94,7 +94,7 @@ fn complete(
     }
     for event in 0..constraints.len() {
         if constraints.can_stand_next(event, placed) {
-            let next = placed_next(narrow, event, placed.with(event));
+            let next = placed_next(restriction, event, placed.with(event));
             if has_order(&next, constraints.between()) {
                 order.push(event as u8);
                 return complete(order, placed.with(event), &next, constraints);

@@ -32,7 +32,7 @@ fn extend(order: &mut Order, placed: EventSet, constraints: &Constraints<'_>) ->
     requires begun { IsBegun constraints.now placed order.old.items }
     ensures found { IsTrue result → IsLeastOf constraints.now order.old.items order.new.items }
     ensures none { ¬ IsTrue result → BeginsNone constraints.now order.old.items }
-    ensures kept { ¬ IsTrue result → order.new.items ≡ order.old.items }
+    ensures unchanged { ¬ IsTrue result → order.new.items ≡ order.old.items }
 {
     if order.len() == constraints.len() {
         return true;

@@ -17,13 +17,13 @@ walk-requires t c =
     let it = c.args.constraints.now in
     let n = constrained_len it in
     let order = c.args.order.now.items in
-    let same_length : length c.walking.order.items ≡ length order = ap length c.walking.invariant.kept in
+    let same_length : length c.walking.order.items ≡ length order = ap length c.walking.invariant.unchanged in
     let shorter : n - length c.push.new.self.items < n - length order = omega arith in (
       search rules,
       (
         omega arith,
         IsPlaced-next n (ComesBefore it) (MayNotStand it) (HasEvent c.args.placed) order _ c.requires.begun (HasEvent c.with.result) c.walking.order.items c.push.new.self.items
-            c.walking.invariant.kept c.push.ensures.items (c.walking.invariant.known c.in-Some.event c.in-Some.ensures.there) (c.if-can_stand_next.ensures.0 refl) c.with.ensures,
+            c.walking.invariant.unchanged c.push.ensures.items (c.walking.invariant.known c.in-Some.event c.in-Some.ensures.there) (c.if-can_stand_next.ensures.0 refl) c.with.ensures,
       ),
     )
 
@@ -32,7 +32,7 @@ returns-then-can_stand_next t c found =
     let it = c.args.constraints.now in
     let order = c.args.order.now.items in
     let event = c.in-Some.event in
-    let least : IsLeastOf it (order ++ event ∷ []) c.walk.new.order.items = rw (c.push.ensures.items, c.walking.invariant.kept) at (c.walk.ensures found) in
+    let least : IsLeastOf it (order ++ event ∷ []) c.walk.new.order.items = rw (c.push.ensures.items, c.walking.invariant.unchanged) at (c.walk.ensures found) in
     let known : event < constrained_len it = c.walking.invariant.known event c.in-Some.ensures.there in
     IsLeastFrom-push (constrained_len it) (ComesBefore it) (MayNotStand it) order event c.walk.new.order.items (omega arith)
     (λ e less. c.walking.invariant.none e (omega arith) (c.in-Some.ensures.least e less)) least
@@ -41,7 +41,7 @@ pub walking-init : goal.walking-init
 walking-init t c =
     let it = c.args.constraints.now in
     record {
-      kept = refl;
+      unchanged = refl;
       known = λ e h. ((c.unplaced-left.ensures e).0 h).0;
       none = λ e below not_left. HasNoOrder-cannot (constrained_len it) (ComesBefore it) (MayNotStand it) (HasEvent c.args.placed) c.args.order.now.items e c.requires.begun
           (λ x r v f. f.read_known) (λ can. not_left ((c.unplaced-left.ensures e).1 (below, can.new)));
@@ -55,7 +55,7 @@ walking-preserved t c =
     let it = c.args.constraints.now in
     let rest = c.in-Some.ensures.rest in
     record {
-      kept = c.walking.invariant.kept;
+      unchanged = c.walking.invariant.unchanged;
       known = λ e h. c.walking.invariant.known e ((rest e).0 h).0;
       none = λ e below not_left. elim (cases_eq e c.in-Some.event) [
         | inl same ↦

@@ -12,7 +12,7 @@ decreases-walking l = l.left.bits
 
 abbrev pub invariant-walking : goal.invariant-walking
 invariant-walking l = record {
-  kept : l.order.items ≡ l.fn.order.items;
+  unchanged : l.order.items ≡ l.fn.order.items;
   known : (e : ℕ) → HasEvent l.left e → e < constrained_len l.constraints;
   none : (e : ℕ) → e < constrained_len l.constraints → ¬ HasEvent l.left e → BeginsNone l.constraints (l.fn.order.items ++ e ∷ []);
 }

@@ -4,7 +4,7 @@ use Rattle.std.proofs.lemmas.Bool.{cases_eq, cases_order}
 use Rattle.std.proofs.lemmas.Option.{same_Some, slice_get_within}
 use Rattle.std.specs.List.{slice_get}
 use Rattle.lit_order.specs.Internal.Beginning.{Stands, HasNoOrder}
-use Rattle.lit_order.specs.Internal.Narrowed.{IsNarrowed}
+use Rattle.lit_order.specs.Internal.Restricted.{IsRestricted}
 use Rattle.lit_order.specs.MemoryOrder.{StandsBefore, HasOrder, IsOrderOf}
 use Rattle.lit_rel.proofs.PlaceLemmas.{place-left, place_from-left, place-middle}
 
@@ -13,20 +13,20 @@ pub IsOrderOf-fewer : (n : ℕ) (before other : ℕ → ℕ → Type 0) (forbidd
 IsOrderOf-fewer n before other forbidden fewer order o = record { complete = o.complete; keeps = λ a d h. o.keeps a d (fewer a d h); avoids = o.avoids }
 
 -- with no beginning nothing is narrowed
-pub IsNarrowed-nil : (n : ℕ) (before : ℕ → ℕ → Type 0) (forbidden : ℕ → ℕ → ℕ → Type 0) (narrow : ℕ → ℕ → Type 0) → ((a d : ℕ) → narrow a d ↔ before a d) → IsNarrowed n before forbidden narrow []
-IsNarrowed-nil n before forbidden narrow same = record {
-  only = λ order o. IsOrderOf-fewer n narrow before forbidden (λ a d h. (same a d).1 h) order o;
+pub IsRestricted-nil : (n : ℕ) (before : ℕ → ℕ → Type 0) (forbidden : ℕ → ℕ → ℕ → Type 0) (restriction : ℕ → ℕ → Type 0) → ((a d : ℕ) → restriction a d ↔ before a d) → IsRestricted n before forbidden restriction []
+IsRestricted-nil n before forbidden restriction same = record {
+  only = λ order o. IsOrderOf-fewer n restriction before forbidden (λ a d h. (same a d).1 h) order o;
   begins = λ order o. (order, refl);
-  all = λ rest o. IsOrderOf-fewer n before narrow forbidden (λ a d h. (same a d).0 h) rest o;
+  all = λ rest o. IsOrderOf-fewer n before restriction forbidden (λ a d h. (same a d).0 h) rest o;
 }
 
 -- the event is put before all others that do not stand
-abbrev pub PutsNext : (n : ℕ) (narrow next : ℕ → ℕ → Type 0) (start : List ℕ) (event : ℕ) → Type 0
-PutsNext n narrow next start event = (a d : ℕ) → next a d ↔ (narrow a d ⊎ ((a ≡ event) × (d < n) × ¬ (Stands start d ⊎ (d ≡ event))))
+abbrev pub PutsNext : (n : ℕ) (restriction next : ℕ → ℕ → Type 0) (start : List ℕ) (event : ℕ) → Type 0
+PutsNext n restriction next start event = (a d : ℕ) → next a d ↔ (restriction a d ⊎ ((a ≡ event) × (d < n) × ¬ (Stands start d ⊎ (d ≡ event))))
 
-module _ (n : ℕ) (before : ℕ → ℕ → Type 0) (forbidden : ℕ → ℕ → ℕ → Type 0) (narrow next : ℕ → ℕ → Type 0) (start : List ℕ) (event : ℕ) (within : event < n) (left : ¬ Stands start event) (puts : PutsNext n narrow next start event) (narrowed : IsNarrowed n before forbidden narrow start) where
-  as_narrow : (order : List ℕ) → IsOrderOf n next forbidden order → IsOrderOf n narrow forbidden order
-  as_narrow order o = IsOrderOf-fewer n next narrow forbidden (λ a d h. (puts a d).1 (inl h)) order o
+module _ (n : ℕ) (before : ℕ → ℕ → Type 0) (forbidden : ℕ → ℕ → ℕ → Type 0) (restriction next : ℕ → ℕ → Type 0) (start : List ℕ) (event : ℕ) (within : event < n) (left : ¬ Stands start event) (puts : PutsNext n restriction next start event) (restricted : IsRestricted n before forbidden restriction start) where
+  as_restriction : (order : List ℕ) → IsOrderOf n next forbidden order → IsOrderOf n restriction forbidden order
+  as_restriction order o = IsOrderOf-fewer n next restriction forbidden (λ a d h. (puts a d).1 (inl h)) order o
 
   -- another event can't come next
   not_other : (y : ℕ) (rest : List ℕ) → IsOrderOf n next forbidden (start ++ y ∷ rest) → ¬ (y ≢ event)
@@ -54,12 +54,12 @@ module _ (n : ℕ) (before : ℕ → ℕ → Type 0) (forbidden : ℕ → ℕ �
 
   begins : (order : List ℕ) → IsOrderOf n next forbidden order → (rest : List ℕ) × (order ≡ (start ++ event ∷ []) ++ rest)
   begins order o =
-      let first = narrowed.begins order (as_narrow order o) in
+      let first = restricted.begins order (as_restriction order o) in
       let more = begins_next first.0 (subst (λ (xs : List ℕ). IsOrderOf n next forbidden xs) first.1 o) in
       (more.0, first.1 ∙ more.1)
 
   -- what does not stand yet comes after the event
-  comes_after : (rest : List ℕ) → IsOrderOf n narrow forbidden (start ++ event ∷ rest) → (d : ℕ) → d < n → ¬ (Stands start d ⊎ (d ≡ event)) → StandsBefore (start ++ event ∷ rest) event d
+  comes_after : (rest : List ℕ) → IsOrderOf n restriction forbidden (start ++ event ∷ rest) → (d : ℕ) → d < n → ¬ (Stands start d ⊎ (d ≡ event)) → StandsBefore (start ++ event ∷ rest) event d
   comes_after rest o d in_d not_there =
       let here = o.complete.all d in_d in
       let behind : length start < here.0 = elim (cases_order here.0 (length start)) [
@@ -73,19 +73,19 @@ module _ (n : ℕ) (before : ℕ → ℕ → Type 0) (forbidden : ℕ → ℕ �
 
   all : (rest : List ℕ) → IsOrderOf n before forbidden (start ++ event ∷ rest) → IsOrderOf n next forbidden (start ++ event ∷ rest)
   all rest o =
-      let narrow_order = narrowed.all (event ∷ rest) o in
+      let restricted_order = restricted.all (event ∷ rest) o in
       record {
         complete = o.complete;
         keeps = λ a d h. elim ((puts a d).0 h) [
-          | inl old ↦ narrow_order.keeps a d old
-          | inr put ↦ subst (λ (x : ℕ). StandsBefore (start ++ event ∷ rest) x d) (sym put.0) (comes_after rest narrow_order d put.1 put.2)
+          | inl old ↦ restricted_order.keeps a d old
+          | inr put ↦ subst (λ (x : ℕ). StandsBefore (start ++ event ∷ rest) x d) (sym put.0) (comes_after rest restricted_order d put.1 put.2)
         ];
         avoids = o.avoids;
       }
 
-  pub IsNarrowed-next : IsNarrowed n before forbidden next (start ++ event ∷ [])
-  IsNarrowed-next = record {
-    only = λ order o. narrowed.only order (as_narrow order o);
+  pub IsRestricted-next : IsRestricted n before forbidden next (start ++ event ∷ [])
+  IsRestricted-next = record {
+    only = λ order o. restricted.only order (as_restriction order o);
     begins = begins;
     all = λ rest o.
         let regrouped : IsOrderOf n before forbidden (start ++ event ∷ rest) = subst (λ (xs : List ℕ). IsOrderOf n before forbidden xs) (append_assoc start (event ∷ []) rest) o in
@@ -93,23 +93,23 @@ module _ (n : ℕ) (before : ℕ → ℕ → Type 0) (forbidden : ℕ → ℕ �
   }
 
 -- the same, of the events placed
-pub PutsNext-from_placed : (n m : ℕ) (narrow next : ℕ → ℕ → Type 0) (start : List ℕ) (event : ℕ) (placed more : ℕ → Type 0) → m ≡ n → ((e : ℕ) → placed e ↔ Stands start e) → ((e : ℕ) → more e ↔ (placed e ⊎ (e ≡ event)))
-    → ((a d : ℕ) → next a d ↔ (narrow a d ⊎ ((a ≡ event) × (d < m) × ¬ more d))) → PutsNext n narrow next start event
-PutsNext-from_placed n m narrow next start event placed more len is_placed with_event pairs a d =
+pub PutsNext-from_placed : (n m : ℕ) (restriction next : ℕ → ℕ → Type 0) (start : List ℕ) (event : ℕ) (placed more : ℕ → Type 0) → m ≡ n → ((e : ℕ) → placed e ↔ Stands start e) → ((e : ℕ) → more e ↔ (placed e ⊎ (e ≡ event)))
+    → ((a d : ℕ) → next a d ↔ (restriction a d ⊎ ((a ≡ event) × (d < m) × ¬ more d))) → PutsNext n restriction next start event
+PutsNext-from_placed n m restriction next start event placed more len is_placed with_event pairs a d =
     put_next (rw len at (pairs a d)) (with_event d) (is_placed d)
   where
-    put_next : {Next Narrow First Below More Placed Standing Same : Type 0} → Next ↔ (Narrow ⊎ (First × Below × ¬ More)) → More ↔ (Placed ⊎ Same)
-        → Placed ↔ Standing → Next ↔ (Narrow ⊎ (First × Below × ¬ (Standing ⊎ Same)))
+    put_next : {Next Restriction First Below More Placed Standing Same : Type 0} → Next ↔ (Restriction ⊎ (First × Below × ¬ More)) → More ↔ (Placed ⊎ Same)
+        → Placed ↔ Standing → Next ↔ (Restriction ⊎ (First × Below × ¬ (Standing ⊎ Same)))
     put_next next more placed = grind arith
 
 -- where the narrow relation has no order, none begins so
-pub HasNoOrder-narrow : (n m : ℕ) (before : ℕ → ℕ → Type 0) (forbidden : ℕ → ℕ → ℕ → Type 0) (narrow : ℕ → ℕ → Type 0) (start : List ℕ) → m ≡ n → IsNarrowed n before forbidden narrow start → ¬ HasOrder m narrow forbidden → HasNoOrder n before forbidden start
-HasNoOrder-narrow n m before forbidden narrow start len narrowed none rest o =
-    none (start ++ rest, subst (λ (x : ℕ). IsOrderOf x narrow forbidden (start ++ rest)) (sym len) (narrowed.all rest o))
+pub HasNoOrder-restriction : (n m : ℕ) (before : ℕ → ℕ → Type 0) (forbidden : ℕ → ℕ → ℕ → Type 0) (restriction : ℕ → ℕ → Type 0) (start : List ℕ) → m ≡ n → IsRestricted n before forbidden restriction start → ¬ HasOrder m restriction forbidden → HasNoOrder n before forbidden start
+HasNoOrder-restriction n m before forbidden restriction start len restricted none rest o =
+    none (start ++ rest, subst (λ (x : ℕ). IsOrderOf x restriction forbidden (start ++ rest)) (sym len) (restricted.all rest o))
 
 -- where it has one, some order begins so
-pub not_HasNoOrder : (n m : ℕ) (before : ℕ → ℕ → Type 0) (forbidden : ℕ → ℕ → ℕ → Type 0) (narrow : ℕ → ℕ → Type 0) (start : List ℕ) → m ≡ n → IsNarrowed n before forbidden narrow start → HasOrder m narrow forbidden → ¬ HasNoOrder n before forbidden start
-not_HasNoOrder n m before forbidden narrow start len narrowed some none =
-    let o = subst (λ (x : ℕ). IsOrderOf x narrow forbidden some.0) len some.1 in
-    let begins = narrowed.begins some.0 o in
-    none begins.0 (subst (λ (xs : List ℕ). IsOrderOf n before forbidden xs) begins.1 (narrowed.only some.0 o))
+pub not_HasNoOrder : (n m : ℕ) (before : ℕ → ℕ → Type 0) (forbidden : ℕ → ℕ → ℕ → Type 0) (restriction : ℕ → ℕ → Type 0) (start : List ℕ) → m ≡ n → IsRestricted n before forbidden restriction start → HasOrder m restriction forbidden → ¬ HasNoOrder n before forbidden start
+not_HasNoOrder n m before forbidden restriction start len restricted some none =
+    let o = subst (λ (x : ℕ). IsOrderOf x restriction forbidden some.0) len some.1 in
+    let begins = restricted.begins some.0 o in
+    none begins.0 (subst (λ (xs : List ℕ). IsOrderOf n before forbidden xs) begins.1 (restricted.only some.0 o))

@@ -3,7 +3,7 @@ use Rattle.lit_rel.specs.Rows.{Holds, rows_len}
 use Rattle.lit_order.specs.Forcing.{IsForced}
 use Rattle.lit_order.proofs.ExtendLemmas.{order_from_forced, order_of_forced}
 use Rattle.lit_order.proofs.ForcingLemmas.{Forbids-below}
-use Rattle.lit_order.proofs.laws.forcing_keeps_orders.Goals as goal
+use Rattle.lit_order.proofs.laws.forcing_preserves_orders.Goals as goal
 
 pub returns : goal.returns
 returns c before between same order =
