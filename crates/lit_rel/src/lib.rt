@@ -23,7 +23,7 @@ pub use given::values::payload_at;
 pub use part::Part;
 pub use part::fixed_steps::unsourced_order;
 pub use part::guarded_bytes::is_source_refused;
-pub use part::refused::has_false_guard;
+pub use part::false_guards::has_false_guard;
 pub use rows::Rows;
 pub use rows::closing::close;
 pub use rows::two_way_rows::{TwoWayRows, converse_of};

@@ -3,11 +3,11 @@
 ghost use Rattle.std.specs.Prelude.{◌↔◌, ◌<◌, IsTrue, length};
 ghost use Rattle.lit_paths.specs.Event.{event_at as event_of, payload_at as payload_of_event};
 ghost use Rattle.lit_paths.specs.Plan.{events_in};
-ghost use Rattle.lit_rel.specs.Internal.Refused.{HasFalseByte};
+ghost use Rattle.lit_rel.specs.Internal.FalseGuards.{HasFalseByte};
 ghost use Rattle.lit_rel.specs.GuardedBytes.{HasFalseByteOn, IsFalseOfByte};
 
 use crate::given::values::{byte_from, payload_at};
-use crate::part::refused::number_on;
+use crate::part::false_guards::number_on;
 use lit_paths::{ByteRead, Combination, Event, Tested, event_at};
 
 /// Whether a test is false of whatever an event reads, if this byte of it has this value.

@@ -5,17 +5,17 @@ ghost use Rattle.lit_paths.specs.declared.limits.TheConstants.{BYTE_READ_LIMIT a
 ghost use Rattle.lit_paths.specs.Plan.{events_in};
 ghost use Rattle.lit_rel.specs.Broken.{HasFalseGuard};
 ghost use Rattle.lit_rel.specs.Internal.Given.{AreFirstReads, AreKnown, HasBrokenBytes, part_of, sources_of};
-ghost use Rattle.lit_rel.specs.Internal.Levels.{IsLevel, IsOrder};
+ghost use Rattle.lit_rel.specs.Internal.PrefixStates.{IsPrefixState, IsOrder};
 ghost use Rattle.lit_rel.specs.Rows.{Holds, rows_len};
 
 use crate::given::{Given, SourcedByte};
-use crate::part::refused::is_refused;
+use crate::part::false_guards::contradicts_guard;
 use crate::rows::two_way_rows::TwoWayRows;
 use lit_paths::Combination;
 
 /// What is known of a part with a number of sources.
 #[derive(Clone, Copy, Default)]
-pub(crate) struct Level {
+pub(crate) struct PrefixState {
     /// happens-before of these sources.
     pub before: TwoWayRows,
     /// Whether the part is broken.
@@ -29,10 +29,10 @@ fn is_broken(combination: &Combination<'_>, given: &Given<'_>, before: &TwoWayRo
     ensures { IsTrue result ↔ (HasBrokenBytes given.now.events.now (Holds before.now.rows) given.now.bytes.now
         ⊎ HasFalseGuard (part_of combination.now.0 combination.now.1 given.now.bytes.now)) }
 {
-    given.is_broken(before) || is_refused(combination, given)
+    given.is_broken(before) || contradicts_guard(combination, given)
 }
 
-impl Level {
+impl PrefixState {
     /// That of a combination with these byte reads, of which this is happens-before.
     pub(crate) fn new(
         combination: &Combination<'_>,
@@ -43,13 +43,13 @@ impl Level {
         requires reads { AreFirstReads (events_in combination.now.0 combination.now.1) bytes.now }
         requires known { AreKnown (events_in combination.now.0 combination.now.1) bytes.now }
         requires before { IsOrder (events_in combination.now.0 combination.now.1) (sources_of bytes.now) before.rows }
-        ensures { IsLevel (part_of combination.now.0 combination.now.1 bytes.now) result }
+        ensures { IsPrefixState (part_of combination.now.0 combination.now.1 bytes.now) result }
     {
         let given = Given {
             events: combination.events(),
             bytes,
         };
         let broken = is_broken(combination, &given, &before);
-        Level { before, broken }
+        PrefixState { before, broken }
     }
 }

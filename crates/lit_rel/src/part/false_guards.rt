@@ -6,7 +6,7 @@ ghost use Rattle.lit_paths.specs.Plan.{IsWalkIn, events_in, walk_in};
 ghost use Rattle.lit_paths.specs.Run.{compares};
 ghost use Rattle.lit_rel.specs.Broken.{HasFalseGuard, HasFalseGuardOn, number_on as number_asked};
 ghost use Rattle.lit_rel.specs.Internal.Given.{part_of};
-ghost use Rattle.lit_rel.specs.Internal.Refused.{HasFalse};
+ghost use Rattle.lit_rel.specs.Internal.FalseGuards.{HasFalse};
 
 use crate::given::Given;
 use lit_paths::{ByteRead, Combination, Tested};
@@ -69,7 +69,7 @@ fn is_given_whole(reads: &[ByteRead], count: usize, read: usize) -> bool
 
 /// Whether a test of a path is false: of 0 in a register that was not written, or of the value of a read all of whose bytes
 /// have a source. The events are those of the combination.
-pub(crate) fn is_refused(combination: &Combination<'_>, given: &Given<'_>) -> bool
+pub(crate) fn contradicts_guard(combination: &Combination<'_>, given: &Given<'_>) -> bool
     requires { given.now.events.now ≡ events_in combination.now.0 combination.now.1 }
     ensures { IsTrue result ↔ HasFalseGuard (part_of combination.now.0 combination.now.1 given.now.bytes.now) }
 {

@@ -5,7 +5,7 @@ use Rattle.lit_paths.specs.declared.event.Event.{Event}
 use Rattle.lit_paths.specs.Plan.{AreEventsIn, events_in}
 use Rattle.lit_rel.specs.declared.rows.Rows.{Rows}
 use Rattle.lit_rel.specs.declared.given.SourcedByte.{SourcedByte}
-use Rattle.lit_rel.specs.declared.part.level.Level.{Level}
+use Rattle.lit_rel.specs.declared.part.prefix_state.PrefixState.{PrefixState}
 use Rattle.lit_rel.specs.Broken.{IsBroken}
 use Rattle.lit_rel.specs.HappensBefore.{HappensBefore}
 use Rattle.lit_rel.specs.Part.{AreFirstSources, PartModel, part_events}
@@ -18,17 +18,17 @@ pub record IsOrder (events : List Event) (sources : List ℕ) (rows : Rows) : Ty
   pub pairs : (e d : ℕ) → Holds rows e d ↔ HappensBefore events sources e d
 
 -- what is known of a part: its happens-before, and whether it is broken
-pub record IsLevel (part : PartModel) (level : Level) : Type 0 where
-  pub before : IsOrder (part_events part) part.sources level.before.rows
-  pub broken : IsTrue level.broken ↔ IsBroken part
+pub record IsPrefixState (part : PartModel) (prefix_state : PrefixState) : Type 0 where
+  pub before : IsOrder (part_events part) part.sources prefix_state.before.rows
+  pub broken : IsTrue prefix_state.broken ↔ IsBroken part
 
 -- what a part keeps: the first byte reads, each with a source that is a candidate, and what is known with all of them and with
 -- each lesser number of them
-pub record IsKept (t : Litmus) (c : ℕ) (bytes : List SourcedByte) (earlier : List Level) (now : Level) : Type 0 where
+pub record HasPrefixStates (t : Litmus) (c : ℕ) (bytes : List SourcedByte) (earlier : List PrefixState) (now : PrefixState) : Type 0 where
   pub sound : AreEventsIn t.bytes (events_in t c)
   pub first_reads : AreFirstReads (events_in t c) bytes
   pub known : AreKnown (events_in t c) bytes
   pub candidates : AreFirstSources (part_of t c bytes)
   pub one_each : length earlier ≡ length bytes
-  pub at_all : IsLevel (part_of t c bytes) now
-  pub at_less : (k : ℕ) (level : Level) → slice_get earlier k ≡ Some level → IsLevel (part_of t c (take k bytes)) level
+  pub at_all : IsPrefixState (part_of t c bytes) now
+  pub at_less : (k : ℕ) (prefix_state : PrefixState) → slice_get earlier k ≡ Some prefix_state → IsPrefixState (part_of t c (take k bytes)) prefix_state

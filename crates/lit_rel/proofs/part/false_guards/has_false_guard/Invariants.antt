@@ -1,7 +1,7 @@
 use Rattle.std.proofs.Common.{ℕ, ◌<◌}
 use Rattle.lit_paths.specs.Plan.{IsWalkIn, first_event, path_in, walk_in}
-use Rattle.lit_rel.specs.Internal.Refused.{HasFalse}
-use Rattle.lit_rel.proofs.part.refused.has_false_guard.Given as goal
+use Rattle.lit_rel.specs.Internal.FalseGuards.{HasFalse}
+use Rattle.lit_rel.proofs.part.false_guards.has_false_guard.Given as goal
 
 abbrev pub invariant-loop-agent : goal.invariant-loop-agent
 invariant-loop-agent l = record {

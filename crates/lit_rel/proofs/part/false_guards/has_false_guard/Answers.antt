@@ -1,8 +1,8 @@
 use Rattle.std.proofs.Common.{below_more}
 use Rattle.std.proofs.lemmas.Bool.{false≢true}
 use Rattle.lit_paths.specs.Plan.{IsWalkIn, first_event, path_in, walk_in}
-use Rattle.lit_rel.specs.Internal.Refused.{HasFalse}
-use Rattle.lit_rel.proofs.part.refused.has_false_guard.Goals as goal
+use Rattle.lit_rel.specs.Internal.FalseGuards.{HasFalse}
+use Rattle.lit_rel.proofs.part.false_guards.has_false_guard.Goals as goal
 
 pub loop-agent-preserved : goal.loop-agent-preserved
 loop-agent-preserved c =

@@ -1,5 +1,5 @@
 use Rattle.lit_rel.proofs.PartLemmas.{broken-iff}
-use Rattle.lit_rel.proofs.part.level.Level.new.Goals as goal
+use Rattle.lit_rel.proofs.part.prefix_state.PrefixState.new.Goals as goal
 
 pub returns : goal.returns
 returns c =

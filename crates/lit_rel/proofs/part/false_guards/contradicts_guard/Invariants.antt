@@ -4,7 +4,7 @@ use Rattle.lit_rel.specs.Broken.{HasFalseGuardOn}
 use Rattle.lit_rel.specs.Growth.{IsGivenWhole}
 use Rattle.lit_rel.specs.Internal.Given.{sources_of}
 use Rattle.lit_rel.specs.ReadsFrom.{value_of}
-use Rattle.lit_rel.proofs.part.refused.is_refused.Given as goal
+use Rattle.lit_rel.proofs.part.false_guards.contradicts_guard.Given as goal
 
 abbrev pub invariant-loop-read : goal.invariant-loop-read
 invariant-loop-read l =

@@ -2,8 +2,8 @@ use Rattle.std.proofs.Common.{◌≡◌, ◌<◌, length, refl, ap, arith, inl, 
 use Rattle.std.proofs.lemmas.Bool.{cases_eq, false≢true}
 use Rattle.lit_paths.specs.Plan.{events_in}
 use Rattle.lit_rel.proofs.RefusalLemmas.{asked_known, given_whole-iff}
-use Rattle.lit_rel.proofs.part.refused.is_refused.Goals as goal
-use Rattle.lit_rel.proofs.part.refused.is_refused.Goals.{else-is_given_whole-via-then-is_given_whole+else-has_false_guard-2, else-is_given_whole-via-else-is_given_whole}
+use Rattle.lit_rel.proofs.part.false_guards.contradicts_guard.Goals as goal
+use Rattle.lit_rel.proofs.part.false_guards.contradicts_guard.Goals.{else-is_given_whole-via-then-is_given_whole+else-has_false_guard-2, else-is_given_whole-via-else-is_given_whole}
 
 pub returns-then-has_false_guard-2 : goal.returns-then-has_false_guard-2
 returns-then-has_false_guard-2 c =
