@@ -12,7 +12,7 @@ pub mod WalkLemmas
 pub mod MarkLemmas
 pub mod LineForms
 pub mod BuildLemmas
-pub mod FrameLemmas
+pub mod GroupLemmas
 pub mod SpellLemmas
 pub mod DraftForms
 pub mod StepHolds

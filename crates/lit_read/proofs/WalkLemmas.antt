@@ -156,8 +156,8 @@ conjunctions fuel operand before n ms lt e = let a = operand n ms lt e in by a a
 single : (n : ℕ) (ms : List Mark) → (a : Loose Conjunction conjunction_marks n ms) → starts_parts a.front.rest ≡ false → Free Written written_marks n ms
 single n ms a e = record { front = record { part = Single a.front.part; rest = a.front.rest; parts = a.front.parts; shorter = a.front.shorter; goes_on = a.front.goes_on }; no_joins = a.no_joins; no_parts = e }
 
-parted : (n : ℕ) (ms rest : List Mark) → (a : Loose Conjunction conjunction_marks n ms) → a.front.rest ≡ Parts ∷ rest → Free Written written_marks n rest → Free Written written_marks n ms
-parted n ms rest a is b = record {
+after_or : (n : ℕ) (ms rest : List Mark) → (a : Loose Conjunction conjunction_marks n ms) → a.front.rest ≡ Parts ∷ rest → Free Written written_marks n rest → Free Written written_marks n ms
+after_or n ms rest a is b = record {
   front = record {
     part = Either a.front.part b.front.part;
     rest = b.front.rest;
@@ -175,7 +175,7 @@ conditions fuel conjunction before n ms lt e = let a = conjunction n ms lt e in 
   where
     by : (a : Loose Conjunction conjunction_marks n ms) (rest : List Mark) → a.front.rest ≡ rest → Free Written written_marks n ms
     by a [] is = single n ms a (ap starts_parts is)
-    by a (Parts ∷ rest) is = parted n ms rest a is (before n rest (omega (arith, a.front.shorter, ap length is)) (sym (ap (walk true n) is) ∙ a.front.goes_on))
+    by a (Parts ∷ rest) is = after_or n ms rest a is (before n rest (omega (arith, a.front.shorter, ap length is)) (sym (ap (walk true n) is) ∙ a.front.goes_on))
     by a (Bang ∷ rest) is = single n ms a (ap starts_parts is)
     by a (Opens ∷ rest) is = single n ms a (ap starts_parts is)
     by a (Closes ∷ rest) is = single n ms a (ap starts_parts is)

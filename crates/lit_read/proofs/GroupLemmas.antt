@@ -9,7 +9,7 @@ use Rattle.lit_read.specs.declared.syntax.Cond.{Cond}
 use Rattle.lit_read.specs.declared.syntax.Cond as code
 use Rattle.lit_read.specs.Syntax.{Agent, Condition, Conditions, Any, All, Also}
 use Rattle.lit_read.specs.Litmus.{condition_of}
-use Rattle.lit_read.specs.Internal.Built.{Frames, pushed, all_of, any_of, asked, build_step, build, and_then}
+use Rattle.lit_read.specs.Internal.Built.{Groups, pushed, all_of, any_of, asked, build_step, build, and_then}
 use Rattle.lit_read.specs.Internal.Views.{conditions_view, mark_view, mark_views, Fails}
 use Rattle.lit_read.proofs.TreeViews.{all_views, any_views}
 
@@ -50,23 +50,23 @@ fails_on TooDeep r f e = ap (λ x. and_then x f) e
 fails_on MissingPart r f e = ap (λ x. and_then x f) e
 fails_on OutOfMemory r f e = tt
 
-build_more : (agents : List Agent) (s : Frames) (xs : List marks.Mark) (i : ℕ) (d : marks.Mark) → i < length xs
+build_more : (agents : List Agent) (s : Groups) (xs : List marks.Mark) (i : ℕ) (d : marks.Mark) → i < length xs
     → build agents s (mark_views (drop i xs)) ≡ and_then (build_step agents s (mark_view (get_or xs i d))) (λ t. build agents t (mark_views (drop (suc i) xs)))
 unfolding build
 build_more agents s [] i d lt = absurd (omega arith)
 build_more agents s (x ∷ xs) zero d lt = refl
 build_more agents s (x ∷ xs) (suc i) d lt = build_more agents s xs i d (omega arith)
 
-module _ (agents : List Agent) (s : Frames) (xs : List marks.Mark) (i : ℕ) (d : marks.Mark) (r : Result Condition ReadKind) (lt : i < length xs) (so_far : build agents s (mark_views (drop i xs)) ≡ r) where
+module _ (agents : List Agent) (s : Groups) (xs : List marks.Mark) (i : ℕ) (d : marks.Mark) (r : Result Condition ReadKind) (lt : i < length xs) (so_far : build agents s (mark_views (drop i xs)) ≡ r) where
   here : r ≡ and_then (build_step agents s (mark_view (get_or xs i d))) (λ t. build agents t (mark_views (drop (suc i) xs)))
   here = sym so_far ∙ build_more agents s xs i d lt
 
   pub build_fails : (k : ReadKind) → Fails k (build_step agents s (mark_view (get_or xs i d))) → Fails k r
   build_fails k e = subst (Fails k) (sym here) (fails_on k (build_step agents s (mark_view (get_or xs i d))) (λ t. build agents t (mark_views (drop (suc i) xs))) e)
 
-  pub build_goes_on : (t : Frames) → build_step agents s (mark_view (get_or xs i d)) ≡ Ok t → build agents t (mark_views (drop (i + 1) xs)) ≡ r
+  pub build_goes_on : (t : Groups) → build_step agents s (mark_view (get_or xs i d)) ≡ Ok t → build agents t (mark_views (drop (i + 1) xs)) ≡ r
   build_goes_on t e = rw (add-one i) (sym (here ∙ ap (λ y. and_then y (λ t. build agents t (mark_views (drop (suc i) xs)))) e))
 
-pub build_ends : (agents : List Agent) (s : Frames) (xs : List marks.Mark) (i : ℕ) (r : Result Condition ReadKind) → length xs ≤ i → build agents s (mark_views (drop i xs)) ≡ r → r ≡ Ok (asked s.inner)
+pub build_ends : (agents : List Agent) (s : Groups) (xs : List marks.Mark) (i : ℕ) (r : Result Condition ReadKind) → length xs ≤ i → build agents s (mark_views (drop i xs)) ≡ r → r ≡ Ok (asked s.inner)
 unfolding build
 build_ends agents s xs i r le so_far = sym so_far ∙ ap (λ (l : List marks.Mark). build agents s (mark_views l)) (drop_of_length-le xs le)
