@@ -123,12 +123,12 @@ pub finding_begins : (xs : List Stmt) (first : ℕ) (tests : List Tested) (begun
 finding_begins xs first tests begun = record { whole = refl; rest = refl; count = refl; room = omega arith }
 
 -- what stands for a statement among those that are left
-pub record IsNext (xs : List Stmt) (i : ℕ) (s : Statement) : Type 0 where
+pub record IsNextStatement (xs : List Stmt) (i : ℕ) (s : Statement) : Type 0 where
   pub split : left_of xs i ≡ Then s (left_of xs (i + 1))
   pub count : statement_count (left_of xs i) ≡ count_with_parts s + statement_count (left_of xs (i + 1))
   pub long : longest (left_of xs i) ≡ statement_longest s + longest (left_of xs (i + 1))
 
-pub is_next : (xs : List Stmt) (i : ℕ) (x : Stmt) → i < length xs → x ≡ get_or xs i x → IsNext xs i (statement_of x)
+pub is_next : (xs : List Stmt) (i : ℕ) (x : Stmt) → i < length xs → x ≡ get_or xs i x → IsNextStatement xs i (statement_of x)
 is_next xs i x inside is = let split = statements_left xs i x inside is in record { split = split; count = ap statement_count split; long = ap longest split }
 
 pub finding_more : (xs : List Stmt) (first : ℕ) (tests : List Tested) (begun : List ℕ) (i number : ℕ) (left : List Tested) (makers : List ℕ) (x : Stmt) (number' : ℕ) (left' : List Tested) (makers' : List ℕ)

@@ -60,22 +60,22 @@ with_steps-from owner events tests last [] =
     ap₂ (λ (es : List Event) (ts : List Tested). record { events = es; tests = ts; last = last }) (sym (append-nil events)) (sym (append-nil tests))
 with_steps-from owner events tests last (LoadMet reg window index atomic ∷ steps) =
     let e = read_event owner (length events) window index atomic in
-    let held = slice_set last reg (Some (length events)) in
-    with_steps-from owner (events ++ e ∷ []) tests held steps ∙ moved owner events e tests held steps
+    let last_now = slice_set last reg (Some (length events)) in
+    with_steps-from owner (events ++ e ∷ []) tests last_now steps ∙ moved owner events e tests last_now steps
 with_steps-from owner events tests last (StoreMet window index value atomic ∷ steps) =
     let e = write_event owner (length events) window index value atomic in
     with_steps-from owner (events ++ e ∷ []) tests last steps ∙ moved owner events e tests last steps
 with_steps-from owner events tests last (ExchangeMet reg window index value ∷ steps) =
     let e = modify_event owner (length events) window index value in
-    let held = slice_set last reg (Some (length events)) in
-    with_steps-from owner (events ++ e ∷ []) tests held steps ∙ moved owner events e tests held steps
+    let last_now = slice_set last reg (Some (length events)) in
+    with_steps-from owner (events ++ e ∷ []) tests last_now steps ∙ moved owner events e tests last_now steps
 with_steps-from owner events tests last (CompareExchangeMet reg window index expected value succeeds ∷ steps) =
     let e = compare_exchange_event owner (length events) window index value succeeds in
-    let held = slice_set last reg (Some (length events)) in
+    let last_now = slice_set last reg (Some (length events)) in
     let test : Tested = record { on = Some (length events); equal = succeeds; value = expected } in
-    let whole : PathModel = record { events = events ++ e ∷ events_on owner (length events + 1) steps; tests = tests; last = last_from (length events + 1) held steps } in
-    with_steps-from owner (events ++ e ∷ []) (tests ++ test ∷ []) held steps ∙ moved owner events e (tests ++ test ∷ []) held steps
-    ∙ ap (put_guards whole) (append_assoc tests (test ∷ []) (guards_from (length events + 1) held steps))
+    let whole : PathModel = record { events = events ++ e ∷ events_on owner (length events + 1) steps; tests = tests; last = last_from (length events + 1) last_now steps } in
+    with_steps-from owner (events ++ e ∷ []) (tests ++ test ∷ []) last_now steps ∙ moved owner events e (tests ++ test ∷ []) last_now steps
+    ∙ ap (put_guards whole) (append_assoc tests (test ∷ []) (guards_from (length events + 1) last_now steps))
 with_steps-from owner events tests last (IfMet reg equal value holds ∷ steps) =
     let test : Tested = record { on = slice_index_or last reg None; equal = asked equal holds; value = value } in
     with_steps-from owner events (tests ++ test ∷ []) last steps
@@ -243,25 +243,25 @@ guards_after-from : (before steps : List Step) (last : List (Option ℕ)) → Re
 guards_after-from before [] last is have = refl
 guards_after-from before (LoadMet reg window index atomic ∷ steps) last is have =
     let step : Step = LoadMet reg window index atomic in
-    let held = slice_set last reg (Some (access_count before)) in
-    guards_after-from (before ++ step ∷ []) steps held (reflects-read before step reg last (λ r. refl) is) have.1
-    ∙ ap (λ n. guards_from n held steps) (counted before step)
+    let last_now = slice_set last reg (Some (access_count before)) in
+    guards_after-from (before ++ step ∷ []) steps last_now (reflects-read before step reg last (λ r. refl) is) have.1
+    ∙ ap (λ n. guards_from n last_now steps) (counted before step)
 guards_after-from before (StoreMet window index value atomic ∷ steps) last is have =
     let step : Step = StoreMet window index value atomic in
     guards_after-from (before ++ step ∷ []) steps last (reflects-other before step last (λ r. refl) is) have.1
     ∙ ap (λ n. guards_from n last steps) (counted before step)
 guards_after-from before (ExchangeMet reg window index value ∷ steps) last is have =
     let step : Step = ExchangeMet reg window index value in
-    let held = slice_set last reg (Some (access_count before)) in
-    guards_after-from (before ++ step ∷ []) steps held (reflects-read before step reg last (λ r. refl) is) have.1
-    ∙ ap (λ n. guards_from n held steps) (counted before step)
+    let last_now = slice_set last reg (Some (access_count before)) in
+    guards_after-from (before ++ step ∷ []) steps last_now (reflects-read before step reg last (λ r. refl) is) have.1
+    ∙ ap (λ n. guards_from n last_now steps) (counted before step)
 guards_after-from before (CompareExchangeMet reg window index expected value succeeds ∷ steps) last is have =
     let step : Step = CompareExchangeMet reg window index expected value succeeds in
-    let held = slice_set last reg (Some (access_count before)) in
+    let last_now = slice_set last reg (Some (access_count before)) in
     let test : Tested = record { on = Some (access_count before); equal = succeeds; value = expected } in
     ap (λ (ts : List Tested). test ∷ ts)
-    (guards_after-from (before ++ step ∷ []) steps held (reflects-read before step reg last (λ r. refl) is) have.1
-    ∙ ap (λ n. guards_from n held steps) (counted before step))
+    (guards_after-from (before ++ step ∷ []) steps last_now (reflects-read before step reg last (λ r. refl) is) have.1
+    ∙ ap (λ n. guards_from n last_now steps) (counted before step))
 guards_after-from before (IfMet reg equal value holds ∷ steps) last is have =
     let step : Step = IfMet reg equal value holds in
     let test : Option ℕ → Tested = λ on. record { on = on; equal = asked equal holds; value = value } in
@@ -295,7 +295,7 @@ length-guards_after before (IfMet reg equal value holds ∷ steps) = ap suc (len
 pub length-guards_on : (steps : List Step) → length (guards_on steps) ≡ length (decisions_on steps)
 length-guards_on steps = let none : List Step = [] in length-guards_after none steps
 
--- ---- what is asked and held is of events that read
+-- ---- guards and registers refer to events that read
 pub length-events_on : (owner place : ℕ) (steps : List Step) → length (events_on owner place steps) ≡ access_count steps
 length-events_on owner place [] = refl
 length-events_on owner place (LoadMet reg window index atomic ∷ steps) = omega (arith, length-events_on owner (place + 1) steps)

@@ -44,5 +44,5 @@ pub record TellsRuns (owner : ℕ) (body : Statements) (path : Path) (told : Pat
   pub one_each : (run : Run) → IsRun owner body run → run_path run ≡ path → length run.values ≡ length (read_places path.events)
   pub true_of : (run : Run) → IsRun owner body run → run_path run ≡ path
       → list_all (is_true_of (chosen_on path.events run.values)) told.tests ≡ true
-  pub held : (run : Run) → IsRun owner body run → run_path run ≡ path
+  pub observed : (run : Run) → IsRun owner body run → run_path run ≡ path
       → run.registers ≡ map (value_on (chosen_on path.events run.values)) told.last

@@ -1,6 +1,6 @@
 //! A combination of paths, entered: what the choices on it share.
 
-pub(crate) mod joined;
+pub(crate) mod paths;
 
 ghost use Rattle.std.specs.Prelude.{◌≡◌, ℕ, ◌+◌, ◌/◌, ◌%◌, ◌<◌, ◌≤◌, length, map, Some, slice_get};
 ghost use Rattle.std.specs.List.{AllByRecursion};
@@ -20,7 +20,7 @@ ghost use Rattle.lit_paths.specs.Internal.Entered.{IsFormed};
 ghost use Rattle.lit_paths.specs.Internal.Walks.{IsInLimits};
 
 use crate::byte_reads::{ByteRead, ByteReads, candidates_of, find_byte_reads};
-use crate::combination::joined::{Joined, join};
+use crate::combination::paths::{CombinationPaths, join};
 use crate::event::{Event, Sources};
 use crate::limits::{BYTE_READ_LIMIT, CANDIDATE_LIMIT};
 use crate::path::Path;
@@ -61,7 +61,7 @@ fn find_ways(ways: &mut Ways, events: &[Event], reads: &[ByteRead], total: u64)
 /// What is formed on entering a combination: its paths and events, the bytes that these read, and the candidates of each.
 #[derive(Drop)]
 struct Formed {
-    joined: Joined,
+    combination_paths: CombinationPaths,
     reads: ByteReads,
     ways: Ways,
 }
@@ -70,7 +70,7 @@ impl Formed {
     /// Nothing yet.
     fn new() -> Self {
         Formed {
-            joined: Joined::new(),
+            combination_paths: CombinationPaths::new(),
             reads: ByteReads::new(),
             ways: Ways {
                 candidates: ArrayVec::new(),
@@ -86,8 +86,8 @@ impl Formed {
         requires whole { choices_before paths.now number + total ≡ choices_before paths.now (number + 1) }
         ensures { IsFormed paths.now number total self.new }
     {
-        join(&mut self.joined, paths, number);
-        let events = self.joined.events.as_slice();
+        join(&mut self.combination_paths, paths, number);
+        let events = self.combination_paths.events.as_slice();
         find_byte_reads(&mut self.reads, events);
         find_ways(&mut self.ways, events, self.reads.as_slice(), total);
     }
@@ -186,7 +186,7 @@ impl<'p> Combination<'p> {
         ensures value { result.now ≡ events_in self.now.0 self.now.1 }
         ensures sound { AreEventsIn self.now.0.bytes result.now }
     {
-        self.formed.joined.events.as_slice()
+        self.formed.combination_paths.events.as_slice()
     }
 
     /// The path of an agent, by its number: below the number of agents.
@@ -195,7 +195,7 @@ impl<'p> Combination<'p> {
         ensures exact { result.now ≡ path_in self.now.0 self.now.1 agent }
         ensures walk { IsWalkIn self.now.0 self.now.1 agent (walk_in self.now.0 self.now.1 agent) }
     {
-        let number = self.formed.joined.numbers.as_slice()[agent];
+        let number = self.formed.combination_paths.numbers.as_slice()[agent];
         self.paths.path(agent, usize::from(number))
     }
 
@@ -205,7 +205,7 @@ impl<'p> Combination<'p> {
         requires { agent < length self.now.0.agents }
         ensures { result ≡ first_event self.now.0 self.now.1 agent }
     {
-        self.formed.joined.firsts.as_slice()[agent]
+        self.formed.combination_paths.firsts.as_slice()[agent]
     }
 
     /// The number of the statement that makes each event on the path of an agent, by the event's place. Agents are

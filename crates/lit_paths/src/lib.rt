@@ -10,7 +10,7 @@ mod event;
 mod fault;
 pub mod laws;
 mod limits;
-mod names;
+mod registers;
 mod path;
 mod planning;
 
@@ -21,8 +21,8 @@ pub use fault::PlanFault;
 pub use limits::{
     ACCESS_LIMIT, BYTE_READ_LIMIT, CHOICE_LIMIT, COMBINATION_LIMIT, EVENT_LIMIT, NAME_LIMIT,
 };
-pub use names::{Names, meets, written_names};
+pub use registers::{OutcomeRegisters, meets, written_names};
 pub use path::makers::Makers;
 pub use path::{Path, Tested};
 pub use planning::Plan;
-pub use planning::making::plan;
+pub use planning::plan_builder::plan;

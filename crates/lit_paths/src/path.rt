@@ -5,7 +5,7 @@ pub(crate) mod makers;
 pub(crate) mod walking;
 
 ghost use Rattle.std.specs.Prelude.{◌≡◌, ◌<◌, length, Some, None, IfOk, slice_index_or};
-ghost use Rattle.lit_read.specs.declared.limits.TheConstants.{REGISTERS as HELD};
+ghost use Rattle.lit_read.specs.declared.limits.TheConstants.{REGISTERS as REGISTER_COUNT};
 ghost use Rattle.lit_paths.specs.declared.limits.TheConstants.{ACCESS_LIMIT as ACCESSES};
 ghost use Rattle.lit_paths.specs.Internal.PathSteps.{empty_path, with_access, with_read, with_guard};
 
@@ -74,7 +74,7 @@ impl Path {
     /// The place of the read that a register, `r0` up to `r7` by its number, holds at the end, or `None` where it was
     /// not written.
     pub fn last(&self, reg: u8) -> Option<u8>
-        requires { reg < HELD }
+        requires { reg < REGISTER_COUNT }
         ensures { result ≡ slice_index_or self.now.last reg None }
     {
         self.last[usize::from(reg)]
@@ -91,7 +91,7 @@ impl Path {
     /// Adds an access whose value goes into a register.
     pub(crate) fn add_into_register(&mut self, reg: u8, event: Event)
         requires room { length self.old.events < ACCESSES }
-        requires register { reg < HELD }
+        requires register { reg < REGISTER_COUNT }
         ensures { self.new ≡ with_read self.old reg event }
     {
         let register = usize::from(reg);

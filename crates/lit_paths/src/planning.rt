@@ -1,7 +1,7 @@
 //! The plan of a test: its choices by number, and what they are made of. `making` makes it.
 
 pub(crate) mod agent_paths;
-pub(crate) mod making;
+pub(crate) mod plan_builder;
 
 ghost use Rattle.std.specs.Prelude.{◌≡◌, ℕ, ◌+◌, ◌<◌, ◌≤◌, length, All, nat_le, slice_index};
 ghost use Rattle.std.specs.List.Sorted.{IsNonDecreasingBy};
@@ -16,9 +16,9 @@ ghost use Rattle.lit_paths.specs.Plan.{HasSources, IsOfCombination, IsWalkIn, Li
 
 use crate::byte_reads::{ByteRead, Candidates, candidates_of};
 use crate::combination::Combination;
-use crate::combination::joined::{Joined, join};
+use crate::combination::paths::{CombinationPaths, join};
 use crate::event::{Events, Sources, event_at};
-use crate::names::{Names, asks, holds};
+use crate::registers::{OutcomeRegisters, asks, holds};
 use crate::path::Path;
 use crate::planning::agent_paths::AgentPaths;
 use lit_read::Test;
@@ -29,7 +29,7 @@ use std::marker::Model;
 pub struct Plan<'t> {
     paths: AgentPaths<'t>,
     totals: Vec<u64>,
-    names: Names,
+    names: OutcomeRegisters,
 }
 
 impl<'t> Model for Plan<'t> {
@@ -65,7 +65,7 @@ impl<'t> Plan<'t> {
     ghost use Rattle.lit_paths.specs.Internal.Walks.{IsInLimits};
 
     /// The plan of a test, from what it keeps of it.
-    pub(crate) fn new(paths: AgentPaths<'t>, totals: Vec<u64>, names: Names) -> Self
+    pub(crate) fn new(paths: AgentPaths<'t>, totals: Vec<u64>, names: OutcomeRegisters) -> Self
         requires limits { IsInLimits paths }
         requires totals { totals.items ≡ totals_below paths (length (combinations_of paths)) }
         requires few { length (choices_of paths) ≤ CHOICE_LIMIT }
@@ -172,9 +172,9 @@ impl<'t> Plan<'t> {
         ensures value { result.items ≡ events_in self.now combination }
         ensures sound { AreEventsIn self.now.bytes result.items }
     {
-        let mut joined = Joined::new();
-        join(&mut joined, &self.paths, combination);
-        joined.events
+        let mut combination_paths = CombinationPaths::new();
+        join(&mut combination_paths, &self.paths, combination);
+        combination_paths.events
     }
 
     /// The path of an agent in a combination. The combination is below `combinations`, the agent below the number of
