@@ -5,7 +5,7 @@ use lit_read::read;
 use lit_texts::STORE_BUFFERING;
 use std::test::Fail;
 
-mod asked;
+mod guards;
 mod choices;
 mod makers;
 mod numbers;

@@ -9,14 +9,14 @@ use std::test::Fail;
 
 /// That a test has so many combinations, that the path of an agent in one of them, by the numbers of both, has so many
 /// events and asks this and no more, and that each of these registers holds the read at this place at its end.
-fn assert_asks(
+fn assert_guards(
     rt: &(impl Abort + AllocGlobal),
     text: &str,
     combinations: usize,
     (combination, agent): (usize, usize),
     events: usize,
-    asked: &[Tested],
-    held: &[(u8, Option<u8>)],
+    guards: &[Tested],
+    observed: &[(u8, Option<u8>)],
 ) -> Result<(), Fail> {
     let test = read(rt.alloc(), text.as_bytes())?;
     let plan = plan(rt.alloc(), &test)?;
@@ -24,8 +24,8 @@ fn assert_asks(
     assert!(rt; combination < combinations && agent < plan.test().agents());
     let path = plan.path(combination, agent);
     assert_eq!(rt; path.events().len(), events);
-    assert!(rt; path.tests() == asked);
-    for (register, place) in held {
+    assert!(rt; path.tests() == guards);
+    for (register, place) in observed {
         assert!(rt; *register < 8 && path.last(*register) == *place);
     }
     Ok(())
@@ -42,17 +42,17 @@ fn of_place(place: u8, equal: bool, value: u32) -> Tested {
 
 #[test]
 fn no_branch(rt: HostRuntime) -> Result<(), Fail> {
-    let held = [(0, Some(1)), (1, None)];
-    assert_asks(&rt, STORE_BUFFERING, 1, (0, 1), 2, &[], &held)
+    let observed = [(0, Some(1)), (1, None)];
+    assert_guards(&rt, STORE_BUFFERING, 1, (0, 1), 2, &[], &observed)
 }
 
 #[test]
 fn one_branch(rt: HostRuntime) -> Result<(), Fail> {
-    let held = [(0, Some(0)), (1, None)];
+    let observed = [(0, Some(0)), (1, None)];
     let stores = [of_place(0, true, 1)];
-    assert_asks(&rt, LOAD_BUFFERING, 4, (1, 0), 2, &stores, &held)?;
-    let leaves = [of_place(0, false, 1)];
-    assert_asks(&rt, LOAD_BUFFERING, 4, (1, 1), 1, &leaves, &held)
+    assert_guards(&rt, LOAD_BUFFERING, 4, (1, 0), 2, &stores, &observed)?;
+    let skips = [of_place(0, false, 1)];
+    assert_guards(&rt, LOAD_BUFFERING, 4, (1, 1), 1, &skips, &observed)
 }
 
 #[test]
@@ -68,9 +68,9 @@ if r0 == 2 {
 check A.r0 == 0
 ";
     let both = [of_place(0, true, 1), of_place(0, true, 2)];
-    assert_asks(&rt, text, 4, (0, 0), 1, &both, &[(0, Some(0)), (1, None)])?;
+    assert_guards(&rt, text, 4, (0, 0), 1, &both, &[(0, Some(0)), (1, None)])?;
     let second = [of_place(0, false, 1), of_place(0, true, 2)];
-    assert_asks(&rt, text, 4, (2, 0), 1, &second, &[])
+    assert_guards(&rt, text, 4, (2, 0), 1, &second, &[])
 }
 
 #[test]
@@ -82,9 +82,9 @@ r1 = U8[1]
 r0 = Atomics.compareExchange(U8, 0, 0, 1)
 check A.r0 == 0
 ";
-    let held = [(0, Some(1)), (1, Some(0))];
-    assert_asks(&rt, text, 2, (0, 0), 2, &[of_place(1, true, 0)], &held)?;
-    assert_asks(&rt, text, 2, (1, 0), 2, &[of_place(1, false, 0)], &held)
+    let observed = [(0, Some(1)), (1, Some(0))];
+    assert_guards(&rt, text, 2, (0, 0), 2, &[of_place(1, true, 0)], &observed)?;
+    assert_guards(&rt, text, 2, (1, 0), 2, &[of_place(1, false, 0)], &observed)
 }
 
 #[test]
@@ -100,7 +100,7 @@ if r0 == 1 {
 check A.r0 == 0
 ";
     let twice = [of_place(0, true, 1), of_place(0, true, 1)];
-    assert_asks(&rt, text, 4, (0, 0), 1, &twice, &[])
+    assert_guards(&rt, text, 4, (0, 0), 1, &twice, &[])
 }
 
 #[test]
@@ -123,16 +123,16 @@ check A.r0 == 0
         value: 2,
     };
     let then_part = [of_place(0, true, 1), of_nothing];
-    assert_asks(&rt, text, 4, (0, 0), 1, &then_part, &[(1, None)])?;
+    assert_guards(&rt, text, 4, (0, 0), 1, &then_part, &[(1, None)])?;
     let else_part = [of_place(0, false, 1), of_place(1, true, 2)];
-    assert_asks(&rt, text, 4, (3, 0), 2, &else_part, &[(1, Some(1))])
+    assert_guards(&rt, text, 4, (3, 0), 2, &else_part, &[(1, Some(1))])
 }
 
 #[test]
 fn two_exchanges(rt: HostRuntime) -> Result<(), Fail> {
-    let (text, held) = (BOTH_EXCHANGE_FOR_ONE, [(0, Some(0))]);
-    assert_asks(&rt, text, 4, (1, 0), 1, &[of_place(0, true, 0)], &held)?;
-    assert_asks(&rt, text, 4, (1, 1), 1, &[of_place(0, false, 0)], &held)
+    let (text, observed) = (BOTH_EXCHANGE_FOR_ONE, [(0, Some(0))]);
+    assert_guards(&rt, text, 4, (1, 0), 1, &[of_place(0, true, 0)], &observed)?;
+    assert_guards(&rt, text, 4, (1, 1), 1, &[of_place(0, false, 0)], &observed)
 }
 
 #[test]
