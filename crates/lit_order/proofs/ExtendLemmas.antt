@@ -1,4 +1,4 @@
--- Orders where one pair more is given.
+-- Orders of a relation with one more pair.
 use Rattle.std.proofs.Common.{◌≡◌, ◌≢◌, ◌⊎◌, ◌↔◌, ℕ, ◌<◌, List, [], refl, subst, inl, inr, arith}
 use Rattle.lit_rel.specs.declared.rows.Rows.{Rows}
 use Rattle.lit_rel.specs.Rows.{Holds, rows_len, IsTransitive, WithPair}
@@ -15,7 +15,7 @@ use Rattle.lit_order.proofs.RestrictionLemmas.{IsOrderOf-fewer}
 use Rattle.lit_order.proofs.RowsLemmas.{holds_or_not}
 use Rattle.lit_order.proofs.StandingLemmas.{StandsBefore-through, never_before_itself, either_before}
 
--- no order is there where an event is forced before itself
+-- there is no order where an event is forced before itself
 pub no_order-from_cycle : (n : ℕ) (before : ℕ → ℕ → Type 0) (forbidden : ℕ → ℕ → ℕ → Type 0) → AreTriplesBelow n forbidden → HasForcedCycle before forbidden → (order : List ℕ) → ¬ IsOrderOf n before forbidden order
 no_order-from_cycle n before forbidden triples cycle order o =
     never_before_itself order o.complete.once cycle.0 (respects_forced n before forbidden triples order o cycle.0 cycle.0 cycle.1)

@@ -1,4 +1,4 @@
--- What is forced, every order keeps.
+-- Every order respects what is forced.
 use Rattle.std.proofs.Common.{◌≢◌, ℕ, ◌<◌, List, inl, inr}
 use Rattle.lit_order.specs.Forcing.{IsForced, Given, Through, AfterRead, BeforeSource}
 use Rattle.lit_order.specs.MemoryOrder.{StandsBefore, IsOrderOf}

@@ -12,7 +12,7 @@ use Rattle.lit_rel.proofs.PlaceLemmas.{place-left, place_from-left, place-middle
 pub IsOrderOf-fewer : (n : ℕ) (before other : ℕ → ℕ → Type 0) (forbidden : ℕ → ℕ → ℕ → Type 0) → ((a d : ℕ) → other a d → before a d) → (order : List ℕ) → IsOrderOf n before forbidden order → IsOrderOf n other forbidden order
 IsOrderOf-fewer n before other forbidden fewer order o = record { complete = o.complete; keeps = λ a d h. o.keeps a d (fewer a d h); avoids = o.avoids }
 
--- with no beginning nothing is narrowed
+-- the restriction to the empty prefix is the relation itself
 pub IsRestricted-nil : (n : ℕ) (before : ℕ → ℕ → Type 0) (forbidden : ℕ → ℕ → ℕ → Type 0) (restriction : ℕ → ℕ → Type 0) → ((a d : ℕ) → restriction a d ↔ before a d) → IsRestricted n before forbidden restriction []
 IsRestricted-nil n before forbidden restriction same = record {
   only = λ order o. IsOrderOf-fewer n restriction before forbidden (λ a d h. (same a d).1 h) order o;
@@ -102,12 +102,12 @@ PutsNext-from_placed n m restriction next start event placed more len is_placed 
         → Placed ↔ Standing → Next ↔ (Restriction ⊎ (First × Below × ¬ (Standing ⊎ Same)))
     put_next next more placed = grind arith
 
--- where the narrow relation has no order, none begins so
+-- where the restriction has no order, no order has the prefix
 pub HasNoOrder-restriction : (n m : ℕ) (before : ℕ → ℕ → Type 0) (forbidden : ℕ → ℕ → ℕ → Type 0) (restriction : ℕ → ℕ → Type 0) (start : List ℕ) → m ≡ n → IsRestricted n before forbidden restriction start → ¬ HasOrder m restriction forbidden → HasNoOrder n before forbidden start
 HasNoOrder-restriction n m before forbidden restriction start len restricted none rest o =
     none (start ++ rest, subst (λ (x : ℕ). IsOrderOf x restriction forbidden (start ++ rest)) (sym len) (restricted.all rest o))
 
--- where it has one, some order begins so
+-- where it has one, some order has the prefix
 pub not_HasNoOrder : (n m : ℕ) (before : ℕ → ℕ → Type 0) (forbidden : ℕ → ℕ → ℕ → Type 0) (restriction : ℕ → ℕ → Type 0) (start : List ℕ) → m ≡ n → IsRestricted n before forbidden restriction start → HasOrder m restriction forbidden → ¬ HasNoOrder n before forbidden start
 not_HasNoOrder n m before forbidden restriction start len restricted some none =
     let o = subst (λ (x : ℕ). IsOrderOf x restriction forbidden some.0) len some.1 in

@@ -1,4 +1,4 @@
-//! Memory-orders by what is forced.
+//! Finds memory-orders with propagation of forced pairs.
 
 ghost use Rattle.std.specs.Prelude.{◌≡◌, ◌⊎◌, ℕ, ◌<◌, ◌≤◌, ◌↔◌, IsTrue, IfNone, IfSome, List};
 ghost use Rattle.arrayvec.specs.ArrayVec.{array_vec_len};
@@ -15,8 +15,9 @@ use crate::forcing::force;
 use crate::order::{Order, OrderFinder};
 use lit_rel::{Between, EventSet, Rows, TwoWayRows};
 
-/// Finds first what is forced, and then places the least event that can stand next, again and again: so it seldom has
-/// to try. Only where no event can stand next does it begin anew, and ask at each place what leaves an order.
+/// Propagates what is forced, and then places the least event that can stand next, again and again: so it seldom has to
+/// search. Only where no event can stand next does it start again, and checks for each event that it places whether some
+/// order has it there.
 #[derive(Clone, Copy, Debug, Default, PartialEq, Eq)]
 pub struct ForcedFinder;
 
@@ -40,6 +41,7 @@ pub fn least_of(forced: &TwoWayRows, between: &Between) -> Option<Order>
         ((order : List ℕ) → ¬ IsOrderOf (rows_len forced.now.rows) (Holds forced.now.rows) (Forbids between.now) order) }
 {
     let constraints = Constraints::new(&forced.converse, between);
+    // The greedy walk is tried first: it needs no search, and it succeeds wherever each least event leads to an order.
     let mut walked = Order::new();
     if walk(&mut walked, EventSet::new(), &constraints) {
         return Some(walked);
@@ -52,8 +54,8 @@ pub fn least_of(forced: &TwoWayRows, between: &Between) -> Option<Order>
     }
 }
 
-/// Goes on with the beginning of an order, of which `placed` has the events, by the least event that can stand next,
-/// until none can. Says whether all events are placed then: the order is the least that begins so.
+/// Extends the prefix of an order, whose events are those in `placed`, by the least event that can stand next, until none
+/// can. Says whether all events are placed then: the order is the least one with that prefix.
 fn walk(order: &mut Order, placed: EventSet, constraints: &Constraints<'_>) -> bool
     requires fits { array_vec_len order.old ≤ constrained_len constraints.now }
     requires begun { IsBegun constraints.now placed order.old.items }
@@ -73,8 +75,8 @@ fn walk(order: &mut Order, placed: EventSet, constraints: &Constraints<'_>) -> b
     false
 }
 
-/// Makes the beginning of an order, of which `placed` has the events, the least order that begins so, and says whether
-/// there is one. The orders of `restriction` are those that begin so.
+/// Makes the prefix of an order, whose events are those in `placed`, the least order with that prefix, and says whether
+/// there is one. The orders of `restriction` are those with the prefix.
 fn complete(
     order: &mut Order,
     placed: EventSet,
@@ -104,7 +106,7 @@ fn complete(
     false
 }
 
-/// The relation with an event before all that are not placed.
+/// The relation with an event put before all events that are not placed.
 fn placed_next(rows: &Rows, event: usize, placed: EventSet) -> Rows
     requires { event < rows_len rows.now }
     ensures len { rows_len result ≡ rows_len rows.now }

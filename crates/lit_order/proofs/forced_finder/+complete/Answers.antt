@@ -12,7 +12,7 @@ use Rattle.lit_order.proofs.RestrictionLemmas.{IsRestricted-next, PutsNext-from_
 use Rattle.lit_order.proofs.forced_finder.+complete.Goals as goal
 use Rattle.lit_order.proofs.forced_finder.+complete.Goals.{then-can_stand_next+else-has_order, else-can_stand_next}
 
--- an event that can stand next, put before all that are not placed, narrows to the orders that go on with it
+-- an event that can stand next, put before all that are not placed, restricts the orders to those that go on with it
 restricted_next : (it : Constraints) (restriction next : Rows) (order : List ℕ) (event : ℕ) (placed more : ℕ → Type 0)
     → rows_len restriction ≡ constrained_len it → event < constrained_len it → ((e : ℕ) → placed e ↔ Stands order e) → CanStandNext (ComesBefore it) (MayNotStand it) placed event
     → ((e : ℕ) → more e ↔ (placed e ⊎ (e ≡ event))) → ((a d : ℕ) → Holds next a d ↔ (Holds restriction a d ⊎ ((a ≡ event) × (d < rows_len restriction) × ¬ more d)))
