@@ -1,4 +1,4 @@
--- A byte of a read's value is that of its source, and so a test that refuses it is false of the value.
+-- A byte of a read's value is that of its source, and so a guard that refuses it is false of the value.
 use Rattle.std.proofs.Common.{◌≡◌, ◌≢◌, inl, inr, ℕ, zero, suc, ◌+◌, ◌-◌, ◌*◌, ◌<◌, ◌==◌, All, Bool, true, false, Some, List, [], ◌∷◌, length, map, filter, zip, refl, sym, ap, ◌∙◌, arith}
 use Rattle.std.specs.Prelude.{if◌then◌else◌, not, slice_get, slice_index}
 use Rattle.std.proofs.lemmas.Bool.{cases_lt, eq-eqb}

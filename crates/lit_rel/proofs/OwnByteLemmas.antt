@@ -11,7 +11,7 @@ use Rattle.lit_paths.specs.declared.event.Event.{Event}
 use Rattle.lit_paths.specs.ByteReads.{byte_reads, byte_reads_from, bytes_read_by}
 use Rattle.lit_paths.specs.Event.{does_read, event_at, no_event}
 
--- those of one read
+-- the byte reads of one read
 abbrev pub only : ℕ → List (ℕ × ℕ) → List (ℕ × ℕ)
 only r qs = filter {X = ℕ × ℕ} (λ q. q.0 == r) qs
 
@@ -51,7 +51,7 @@ pub only_its : (r n k : ℕ) (es : List Event) (e : Event) → n + k ≡ r → s
     → only r (byte_reads_from n es) ≡ bytes_read_by r e
 only_its r n k es e sum at = only_at r n k es sum ∙ ap (bytes_read_by r) (get_or_from_slice_get es k e no_event at)
 
--- they are as many as it has, or none
+-- an event that reads has as many of them as its size, another none
 pub all_read : (r : ℕ) (e : Event) → IsTrue (does_read e.kind) → length (bytes_read_by r e) ≡ e.size
 all_read r e reads = rw reads (length-map-range_with_len {X = ℕ × ℕ} (λ k. (r, e.first + k)) 0 e.size)
 

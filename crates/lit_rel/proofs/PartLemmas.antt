@@ -1,4 +1,4 @@
--- What a part keeps of its combination, and with one source more or less.
+-- The invariant of a part, and that it holds with one source more or less.
 use Rattle.std.proofs.Common.{◌≡◌, ◌↔◌, ◌⊎◌, ℕ, ◌+◌, ◌<◌, ◌≤◌, List, ◌∷◌, [], ◌++◌, Some, length, map, take, get_or, sym, ap, ◌∙◌, subst, arith, inl, inr}
 use Rattle.std.proofs.lemmas.Bool.{cases_lt}
 use Rattle.std.proofs.lemmas.List.{get_or_past, length-map, length-take-le, length_push, take-take, map_push, take-append-le, take_at}

@@ -1,4 +1,4 @@
--- Notions of the contracts inside this crate: what a part has, and the steps that no source decides.
+-- Notions of private contracts: given bytes, prefix states, false guards, and the steps that no source decides.
 pub mod Forbidding
 pub mod Given
 pub mod PrefixStates

@@ -39,9 +39,10 @@ pub struct Part<'p> {
     combination: Combination<'p>,
     /// The byte reads that have a source.
     bytes: SourcedBytes,
-    /// What was known with each lesser number of sources, from none on.
+    /// The state of each shorter prefix of the sources, from the empty one on: saved, so that `pop` computes nothing again
+    /// (decision 15).
     earlier: ArrayVec<PrefixState, BYTE_READ_LIMIT>,
-    /// What is known with all of them.
+    /// The state of all given sources.
     prefix_state: PrefixState,
 }
 
@@ -88,7 +89,7 @@ impl<'p> Part<'p> {
         &self.combination
     }
 
-    /// Gives the next byte read its source, by event number: a candidate of it. A byte read is left.
+    /// Gives the next byte read its source, by event number: a candidate of it. Some byte read has no source yet.
     pub fn push(&mut self, source: u8)
         requires { IsNextSource self.old source }
         ensures { self.new ≡ with_sources self.old (self.old.sources ++ source ∷ []) }
@@ -116,7 +117,7 @@ impl<'p> Part<'p> {
     }
 
     /// Whether no complete choice that begins with its paths and sources belongs to a valid execution, as far as these
-    /// show: some event happens before itself, a byte is not coherent, two bytes tear their read, or a test of a path
+    /// show: some event happens before itself, a byte is not coherent, two bytes tear their read, or a guard of a path
     /// is false, of 0 in a register that was not written or of a read all of whose bytes have a source.
     pub fn broken(&self) -> bool
         ensures { IsTrue result ↔ IsBroken self.now }

@@ -1,4 +1,4 @@
--- What a part keeps for each number of sources.
+-- The states of a part after each prefix of its sources.
 use Rattle.std.specs.Prelude.{◌≡◌, ◌↔◌, ℕ, IsTrue, List, length, take, Some, slice_get}
 use Rattle.lit_read.specs.Syntax.{Litmus}
 use Rattle.lit_paths.specs.declared.event.Event.{Event}
@@ -17,13 +17,13 @@ pub record IsOrder (events : List Event) (sources : List ℕ) (rows : Rows) : Ty
   pub len : rows_len rows ≡ length events
   pub pairs : (e d : ℕ) → Holds rows e d ↔ HappensBefore events sources e d
 
--- what is known of a part: its happens-before, and whether it is broken
+-- the state of a part: its happens-before, and whether it is broken
 pub record IsPrefixState (part : PartModel) (prefix_state : PrefixState) : Type 0 where
   pub before : IsOrder (part_events part) part.sources prefix_state.before.rows
   pub broken : IsTrue prefix_state.broken ↔ IsBroken part
 
--- what a part keeps: the first byte reads, each with a source that is a candidate, and what is known with all of them and with
--- each lesser number of them
+-- The invariant of a part: its first byte reads, each with a source that is a candidate, the state of all these sources,
+-- and the state of each shorter prefix of them.
 pub record HasPrefixStates (t : Litmus) (c : ℕ) (bytes : List SourcedByte) (earlier : List PrefixState) (now : PrefixState) : Type 0 where
   pub sound : AreEventsIn t.bytes (events_in t c)
   pub first_reads : AreFirstReads (events_in t c) bytes

@@ -61,7 +61,7 @@ impl Given<'_> {
         rows
     }
 
-    /// Puts the source and the read of a byte in, where they synchronize.
+    /// Adds the pair of a byte's source and read, where they synchronize.
     fn put_synchronizing(&self, rows: &mut Rows, byte: SourcedByte)
         requires known { IsKnown (length self.now.events.now) byte }
         requires len { rows_len rows.old ≡ length self.now.events.now }

@@ -1,4 +1,4 @@
-//! Tests of paths that are false of what is read.
+//! Guards of paths that are false of the values read.
 
 ghost use Rattle.std.specs.Prelude.{◌≡◌, ◌↔◌, ℕ, ◌<◌, ◌≤◌, None, Some, false, IsTrue, length, slice_get};
 ghost use Rattle.lit_paths.specs.declared.byte_reads.ByteRead.{ByteRead as Read};
@@ -11,7 +11,7 @@ ghost use Rattle.lit_rel.specs.Internal.FalseGuards.{HasFalse};
 use crate::given::Given;
 use lit_paths::{ByteRead, Combination, Tested};
 
-/// The number of the event that a test asks about, on a path whose first event has this number; `None` for a register
+/// The number of the read that a guard asks about, on a path whose first event has number `first`; `None` for a register
 /// that was not written.
 pub(crate) fn number_on(test: Tested, first: u8) -> Option<usize>
     ensures { result ≡ number_asked first test.on }
@@ -19,14 +19,14 @@ pub(crate) fn number_on(test: Tested, first: u8) -> Option<usize>
     test.on.map(|place| usize::from(first) + usize::from(place))
 }
 
-/// Whether a test is false of a value.
+/// Whether a guard is false of a value.
 fn is_false(test: Tested, value: u32) -> bool
     ensures { IsTrue result ↔ (compares test.equal value test.value ≡ false) }
 {
     (value == test.value) != test.equal
 }
 
-/// Whether some test asks about the event, or about a register that was not written, and is false of the value.
+/// Whether some guard asks about an event, or about a register that was not written, and is false of a value.
 fn has_false(tests: &[Tested], first: u8, asked: Option<usize>, value: u32) -> bool
     ensures { IsTrue result ↔ HasFalse tests.now first asked value }
 {
@@ -38,8 +38,8 @@ fn has_false(tests: &[Tested], first: u8, asked: Option<usize>, value: u32) -> b
     false
 }
 
-/// Whether some test of a path of the combination asks about the event, or about a register that was not written, and
-/// is false of the value.
+/// Whether some guard of a path of the combination asks about an event, or about a register that was not written, and is
+/// false of a value.
 pub fn has_false_guard(combination: &Combination<'_>, asked: Option<usize>, value: u32) -> bool
     ensures value { IsTrue result ↔ HasFalseGuardOn combination.now.0 combination.now.1 asked value }
     ensures walks { ¬ IsTrue result → (agent : ℕ) → agent < length combination.now.0.agents
@@ -54,7 +54,7 @@ pub fn has_false_guard(combination: &Combination<'_>, asked: Option<usize>, valu
     false
 }
 
-/// Whether the first byte reads, so many, are all of a read's: those that come later are of others.
+/// Whether the first `count` byte reads have all bytes of a read: later byte reads are of other reads.
 fn is_given_whole(reads: &[ByteRead], count: usize, read: usize) -> bool
     ensures { IsTrue result
         ↔ ((place : ℕ) (later : Read) → count ≤ place → slice_get reads.now place ≡ Some later → ¬ (later.read ≡ read)) }
@@ -67,7 +67,7 @@ fn is_given_whole(reads: &[ByteRead], count: usize, read: usize) -> bool
     true
 }
 
-/// Whether a test of a path is false: of 0 in a register that was not written, or of the value of a read all of whose bytes
+/// Whether a guard of a path is false: of 0 in a register that was not written, or of the value of a read all of whose bytes
 /// have a source. The events are those of the combination.
 pub(crate) fn contradicts_guard(combination: &Combination<'_>, given: &Given<'_>) -> bool
     requires { given.now.events.now ≡ events_in combination.now.0 combination.now.1 }

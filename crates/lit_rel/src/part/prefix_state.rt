@@ -1,4 +1,4 @@
-//! What is known of a part with a number of sources.
+//! The state of a part after a prefix of its sources: happens-before, and whether the part is broken.
 
 ghost use Rattle.std.specs.Prelude.{◌≡◌, ◌⊎◌, ◌↔◌, ◌≤◌, IsTrue, length};
 ghost use Rattle.lit_paths.specs.declared.limits.TheConstants.{BYTE_READ_LIMIT as READS};
@@ -13,7 +13,7 @@ use crate::part::false_guards::contradicts_guard;
 use crate::rows::two_way_rows::TwoWayRows;
 use lit_paths::Combination;
 
-/// What is known of a part with a number of sources.
+/// The state of a part after a prefix of its sources.
 #[derive(Clone, Copy, Default)]
 pub(crate) struct PrefixState {
     /// happens-before of these sources.
@@ -33,7 +33,8 @@ fn is_broken(combination: &Combination<'_>, given: &Given<'_>, before: &TwoWayRo
 }
 
 impl PrefixState {
-    /// That of a combination with these byte reads, of which this is happens-before.
+    /// The state of a combination with these byte reads, by their happens-before. Whether the part is broken is computed
+    /// from all given bytes, since one more source may break any of them (decision 16).
     pub(crate) fn new(
         combination: &Combination<'_>,
         bytes: &[SourcedByte],
