@@ -1,4 +1,4 @@
--- What an entered combination keeps, for each agent and each byte read.
+-- What an entered combination saves, for each agent and each byte read.
 use Rattle.std.proofs.Common.{◌≡◌, ℕ, suc, ◌+◌, ◌*◌, ◌<◌, ◌≤◌, List, [], ◌∷◌, length, map, drop, get_or, slice_get, Some, arith, sym, ap, ◌∙◌, subst, add-one}
 use Rattle.std.specs.List.{range_with_len}
 use Rattle.std.proofs.lemmas.List.{length-map, get_or-map, drop-map}
@@ -20,7 +20,7 @@ use Rattle.lit_paths.proofs.Products.{length-product, product-some, AreSome-map,
 use Rattle.lit_paths.proofs.Totals.{entered_lists, some_candidate}
 use Rattle.lit_paths.proofs.WaySteps.{ways_after-at, length-ways_after}
 
--- ---- what is kept for each agent
+-- ---- what is saved for each agent
 pub agent_here : (t : Litmus) (c : ℕ) (p : Litmus × ℕ) → (t, c) ≡ p → (agent : ℕ) → agent < length p.0.agents → agent < length t.agents
 agent_here t c p view agent inside = omega (arith, inside, ap (λ (q : Litmus × ℕ). length q.0.agents) view)
 
@@ -34,7 +34,7 @@ pub saved_at : (f : ℕ → ℕ) (t : Litmus) (c : ℕ) (p : Litmus × ℕ) → 
 saved_at f t c p view saved agent is inside =
     ap (λ (ns : List ℕ). get_or ns agent 0) is ∙ get_or-map-range_with_len f 0 (length t.agents) agent agent 0 (agent_here t c p view agent inside) (omega arith)
 
--- ---- what is kept for each byte read
+-- ---- what is saved for each byte read
 pub length_product-is : (xss : List (List ℕ)) → length (product xss) ≡ length_product xss
 length_product-is [] = omega arith
 length_product-is (xs ∷ rest) = length-product xs rest ∙ ap (λ n. length xs * n) (length_product-is rest)
@@ -90,7 +90,7 @@ module _ (x : Inside) (is : IsEntered x) (p : Litmus × ℕ) (view : (x.paths.no
       sound : AreEventsIn x.paths.now.bytes all
       sound = subst (λ (es : List Event). AreEventsIn x.paths.now.bytes es) is.formed.combination_paths.events is.formed.sound
 
-  -- the list of candidates that is kept
+  -- the saved list of candidates
   module _ (saved : List (ArrayVec ℕ)) (is_saved : saved ≡ x.formed.ways.candidates.items) where
     lists_are : map (λ (v : ArrayVec ℕ). v.items) saved ≡ lists
     lists_are = ap (λ (vs : List (ArrayVec ℕ)). map (λ v. v.items) vs) is_saved ∙ is.formed.all_candidates ∙ entered_lists x is

@@ -1,4 +1,4 @@
--- What a path asks and holds, by its steps, is what it has once it is walked.
+-- The guards and registers of a path, by its steps, are those that it has once it is built.
 use Rattle.std.proofs.Common.{◌≡◌, ℕ, zero, suc, ◌+◌, ◌<◌, ◌==◌, Bool, true, false, if◌then◌else◌, Option, Some, None, List, [], ◌∷◌, ◌++◌, length, map, replicate, slice_get, arith, refl, sym, ap, ap₂, ◌∙◌, subst, ⊎_elim, append_assoc, append-nil, IsTrue}
 use Rattle.std.specs.Prelude.{slice_set, slice_index_or}
 use Rattle.std.proofs.lemmas.Bool.{cases_eq, eq-eqb, ne_eqb}
@@ -16,7 +16,7 @@ use Rattle.lit_paths.specs.Event.{does_read}
 use Rattle.lit_paths.specs.PathModel.{PathModel, IsReadAt, accesses_of, access_count, reads_into, last_read_from, last_read, asked, guards_after, guards_on, path_model}
 use Rattle.lit_paths.specs.Internal.PathSteps.{empty_path, with_steps}
 
--- ---- what steps ask and hold, from a place on, where the registers hold these reads
+-- ---- the guards and registers of steps, from a place on, where the registers hold these reads
 abbrev pub guards_from : ℕ → List (Option ℕ) → List Step → List Tested
 guards_from place last [] = []
 guards_from place last (LoadMet reg window index atomic ∷ steps) = guards_from (place + 1) (slice_set last reg (Some place)) steps
@@ -198,7 +198,7 @@ path_model-last steps =
     ∙ ap (λ o. option_or (last_read steps r) o) (none-at REGISTERS r) ∙ option_or-none (last_read steps r)
     ∙ sym (get_or-map-range_with_len (last_read steps) 0 REGISTERS r r d within (omega arith)))
 
--- ---- the tests
+-- ---- the guards
 pub access_count-append : (a b : List Step) → access_count (a ++ b) ≡ access_count a + access_count b
 access_count-append [] b = omega arith
 access_count-append (x ∷ a) b = omega (arith, access_count-append a b)
@@ -275,14 +275,14 @@ path_model-tests steps have =
     let none : List Step = [] in
     sym (guards_after-from none steps (replicate REGISTERS None) (record { long = refl; each = λ r inside. none-at REGISTERS r }) have)
 
--- ---- a path once it is walked
+-- ---- a path once it is built
 pub with_steps-model : (owner : ℕ) (steps : List Step) → HaveRegisters steps → with_steps owner empty_path steps ≡ path_model owner steps
 with_steps-model owner steps have =
     let with_guards : List Tested → PathModel = λ tests. record { events = events_on owner 0 steps; tests = tests; last = last_from 0 (replicate REGISTERS None) steps } in
     let with_last : List (Option ℕ) → PathModel = λ last. record { events = events_on owner 0 steps; tests = guards_on steps; last = last } in
     with_steps-from owner [] [] (replicate REGISTERS None) steps ∙ ap with_guards (path_model-tests steps have) ∙ ap with_last (path_model-last steps)
 
--- ---- one test for each decision
+-- ---- one guard for each decision
 length-guards_after : (before steps : List Step) → length (guards_after before steps) ≡ length (decisions_on steps)
 length-guards_after before [] = refl
 length-guards_after before (LoadMet reg window index atomic ∷ steps) = length-guards_after (before ++ LoadMet reg window index atomic ∷ []) steps

@@ -1,4 +1,4 @@
--- What a path asks and holds, by its steps, is what it has once it is walked, and is true of its runs.
+-- The guards and registers of a path, by its steps, are those that it has once it is built, and are true of its runs.
 use Rattle.std.proofs.Common.{◌≡◌, ℕ, zero, suc, ◌+◌, ◌≤◌, ◌==◌, Bool, true, false, not, if◌then◌else◌, Option, Some, None, List, [], ◌∷◌, length, map, replicate, arith, refl, sym, ap, ◌∙◌, subst}
 use Rattle.std.specs.Prelude.{slice_set, slice_index, slice_index_or}
 use Rattle.std.specs.List.{list_all, zip}

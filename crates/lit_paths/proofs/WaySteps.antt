@@ -108,11 +108,11 @@ member_all xss n i sources known past taken =
     let long = (product-known xss n (member_at xss n) at).one_each in
     at ∙ ap (λ ws. Some ws) (sym (taken ∙ take_all i (member_at xss n) (omega (arith, long, past))))
 
--- ---- of the lists that are kept
+-- ---- of the saved lists
 abbrev pub lists_of : List (ArrayVec ℕ) → List (List ℕ)
 lists_of lists = map (λ list. list.items) lists
 
--- one list of those kept
+-- one of the saved lists
 pub record IsWay (lists : List (ArrayVec ℕ)) (later : List ℕ) (i : ℕ) (xs : List ℕ) : Type 0 where
   pub here : slice_get (lists_of lists) i ≡ Some xs
   pub behind : get_or later i 0 ≡ later_ways (lists_of lists) i

@@ -36,7 +36,7 @@ does_write Modify = true
 abbrev pub payload_at : Event → ℕ → ℕ
 payload_at e b = slice_index e.payload (b - e.first)
 
--- an event with no byte, no order and no payload, which stands for none
+-- the placeholder for an event past the end of a list: it has no byte and writes nothing (decision 2)
 abbrev pub no_event : Event
 no_event = record { kind = Read; order = Unordered; no_tear = false; first = 0; size = 0; payload = []; owner = None; place = 0 }
 

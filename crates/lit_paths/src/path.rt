@@ -1,4 +1,4 @@
-//! A path of an agent, with what it asks of the values that are read on it.
+//! A path of an agent, with its guards on the values that are read on it.
 
 pub(crate) mod counting;
 pub(crate) mod makers;
@@ -16,19 +16,19 @@ use lit_read::REGISTERS;
 use std::alloc::{AllocError, Global};
 use std::marker::Model;
 
-/// What a path asks of the values that are read on it.
+/// A guard: what one decision of a path asks of a value.
 #[derive(Clone, Copy, Debug, PartialEq, Eq)]
 pub struct Tested {
-    /// The place, from 0 in its event list, of the read whose value is asked about; `None` for a register that was not
-    /// written, which holds 0.
+    /// The place, from 0 in the path's event list, of the read whose value the guard asks about; `None` for a register
+    /// that was not written, which holds 0.
     pub on: Option<u8>,
-    /// Whether the value is to equal the number, or to differ from it.
+    /// Whether the value has to equal the number, or to differ from it.
     pub equal: bool,
     /// The number.
     pub value: u32,
 }
 
-/// A path of an agent through its text: the events on it, the tests of its decisions, and the reads that its registers
+/// A path of an agent through its text: the events on it, the guards of its decisions, and the reads that its registers
 /// hold at the end. A clause sees it as a `PathModel`.
 #[derive(Drop)]
 pub struct Path {
@@ -64,7 +64,7 @@ impl Path {
         self.events.as_slice()
     }
 
-    /// What the path asks: one test for each `if` and compareExchange on it, in order.
+    /// The guards of the path: one for each `if` and compareExchange on it, in order.
     pub fn tests(&self) -> &[Tested]
         ensures { result.now ≡ self.now.tests }
     {
@@ -99,7 +99,7 @@ impl Path {
         self.events.push(event);
     }
 
-    /// Adds a test.
+    /// Adds a guard.
     pub(crate) fn add_guard(
         &mut self,
         on: Option<u8>,

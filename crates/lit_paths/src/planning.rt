@@ -1,4 +1,4 @@
-//! The plan of a test: its choices by number, and what they are made of. `making` makes it.
+//! The plan of a test: its choices by number, with their combinations and sources. `plan_builder` builds it.
 
 pub(crate) mod agent_paths;
 pub(crate) mod plan_builder;
@@ -46,7 +46,7 @@ impl<'t> Model for Plan<'t> {
     ghost invariant = { IsPlanned };
 }
 
-/// The number of the combination that a choice is of: the first one whose choices end behind it.
+/// The number of the combination that a choice is of, by binary search: the first one whose choices end behind it.
 fn combination_of(totals: &[u64], n: u64) -> usize
     requires { IsNonDecreasingBy (λ x. x) totals.now }
     ensures bound { result ≤ length totals.now }
@@ -64,7 +64,7 @@ impl<'t> Plan<'t> {
     ghost use Rattle.lit_paths.specs.Internal.Totals.{totals_below};
     ghost use Rattle.lit_paths.specs.Internal.Walks.{IsInLimits};
 
-    /// The plan of a test, from what it keeps of it.
+    /// The plan of a test, of its paths, the running totals of its choices, and the registers of its outcomes.
     pub(crate) fn new(paths: AgentPaths<'t>, totals: Vec<u64>, names: OutcomeRegisters) -> Self
         requires limits { IsInLimits paths }
         requires totals { totals.items ≡ totals_below paths (length (combinations_of paths)) }
@@ -147,8 +147,8 @@ impl<'t> Plan<'t> {
         Combination::new(&self.paths, combination, first, total)
     }
 
-    /// Enters a combination of paths, by its number, below `combinations`, in place of one that was entered before. This
-    /// is `enter`, but that nothing as large as a combination is made.
+    /// Enters a combination of paths, by its number, below `combinations`, in place of one that was entered before. Unlike
+    /// `enter`, it makes no new value as large as a combination.
     pub fn reenter<'p>(&'p self, combination: &mut Combination<'p>, number: usize)
         requires { number < length (combinations_of self.now) }
         ensures { combination.new ≡ (self.now, number) }

@@ -40,7 +40,7 @@ pub fn written_names(test: &Test) -> OutcomeRegisters
     names
 }
 
-/// What a register has in an outcome, or 0 where it isn't named.
+/// The value of a register in an outcome, or 0 where the outcome has no such register.
 fn value_in(names: &[(u8, u8)], outcome: &[u32], agent: u8, register: u8) -> u32
     requires { length outcome.now ≡ length names.now }
     ensures { result ≡ value_among (zip names.now outcome.now) agent register }

@@ -64,7 +64,7 @@ mutual
   written_deep (Single c) n lt = conjunction_deep c n lt
   written_deep (Either c w) n lt = list_all-append shallow (conjunction_depths n c) (written_depths n w) ∙ and_left _ _ (conjunction_deep c n lt)
 
--- ---- the frames behind the marks
+-- ---- the groups behind the marks
 
 abbrev group : ℕ → ℕ → Conditions → Conditions → Group
 group depth nots any all = record { depth = depth; nots = nots; any = any; all = all }

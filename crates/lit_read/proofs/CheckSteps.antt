@@ -25,7 +25,7 @@ use Rattle.lit_read.specs.Internal.Views.{mark_view, mark_views, open_if_view, a
 use Rattle.lit_read.proofs.BuildLemmas.{built}
 use Rattle.lit_read.proofs.StepLemmas.{check_preserved}
 
--- ---- the levels that a vector holds
+-- ---- the open `if`s that a vector holds
 
 abbrev pub views : List raw.OpenIf → List OpenIf
 views items = map open_if_view (reverse items)
@@ -134,7 +134,7 @@ module _ (name : List ℕ) (bytes : ℕ) (agents : List Agent) (agent : List ℕ
       by true g h = (g, cc)
       by false g h = absurd cc
 
--- ---- the same over the program's marks and levels
+-- ---- the same over the program's marks and open `if`s
 
 module _ (name : List ℕ) (bytes : ℕ) (agents : List Agent) (agent : List ℕ) (items : List raw.OpenIf) (body : Statements) (xs : List marks.Mark) where
   abbrev every : List Agent

@@ -1,4 +1,4 @@
--- What a frame's parts stand for.
+-- What the parts of a group represent.
 use Rattle.std.proofs.Common.{◌≡◌, ◌≢◌, ℕ, suc, ◌+◌, ◌<◌, ◌≤◌, List, [], ◌∷◌, ◌++◌, length, get_or, Result, Ok, refl, ap, sym, subst, ◌∙◌, arith, add-one, zero, drop}
 use Rattle.std.specs.Global.{Vec}
 use Rattle.std.proofs.Math.ListN.{drop_of_length-le}

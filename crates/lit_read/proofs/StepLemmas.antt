@@ -1,4 +1,4 @@
--- What a form adds to lines without a fault is again without a fault.
+-- Each step preserves the invariant of the state.
 use Rattle.std.proofs.Common.{◌≡◌, ℕ, zero, suc, ◌+◌, ◌<◌, ◌≤◌, Bool, true, false, cond, eqb, ltb, leb, ◌||◌, List, [], ◌∷◌, length, Option, Some, None, Result, Ok, Err, refl, subst, arith}
 use Rattle.std.specs.Prelude.{IfSome}
 use Rattle.std.specs.List.{list_any}

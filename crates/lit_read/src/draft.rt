@@ -1,4 +1,4 @@
-//! The test as far as a text has come.
+//! A draft: the part of a test that the lines read so far say.
 
 pub(crate) mod accesses;
 pub(crate) mod checking;
@@ -34,7 +34,7 @@ pub struct OpenIf {
     then_part: Option<Vec<Stmt>>,
 }
 
-/// An agent that more statements may follow, and the agents before it. The innermost `if` is the last, and `body` are
+/// An agent that more statements may follow, and the agents before it. The innermost open `if` is the last, and `body` has
 /// the statements of its open part.
 #[derive(Drop)]
 pub struct Open {
@@ -46,7 +46,7 @@ pub struct Open {
     body: Vec<Stmt>,
 }
 
-/// What the lines so far say.
+/// What the lines read so far say.
 #[derive(Drop)]
 pub enum Draft {
     Empty,
@@ -56,7 +56,7 @@ pub enum Draft {
     Whole(Test),
 }
 
-/// The agents, and one more behind them.
+/// The agents, with one more at the end.
 fn with_last(
     agents: IndexMap<String, Vec<Stmt>>,
     agent: String,
@@ -76,7 +76,7 @@ impl OpenIf {
     ghost use Rattle.lit_read.specs.Internal.State.{ended_if};
     ghost use Rattle.lit_read.specs.Internal.Views.{open_if_view, part_view};
 
-    /// The `if` whose part this is the last of, behind the statements before it.
+    /// The statements before an `if`, and the whole `if`, whose last part has these statements.
     fn ended(self, alloc: Global, body: Vec<Stmt>) -> Result<Vec<Stmt>, AllocError>
         ensures { IfOk result
             (λ all. statements_of all.items

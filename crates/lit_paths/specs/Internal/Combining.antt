@@ -12,7 +12,7 @@ use Rattle.lit_paths.specs.Internal.Walks.{walk_at, count_of}
 abbrev pub path_models : ℕ → Statements → List PathModel
 path_models owner body = map (path_model owner) (walks_of body)
 
--- the same of each agent, of which the first has this number
+-- the paths of each agent, of which the first has this number
 abbrev pub all_path_models : ℕ → List Agent → List (List PathModel)
 all_path_models n [] = []
 all_path_models n (a ∷ agents) = path_models n a.body ∷ all_path_models (n + 1) agents

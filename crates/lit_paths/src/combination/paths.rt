@@ -15,7 +15,7 @@ use crate::planning::agent_paths::AgentPaths;
 use arrayvec::ArrayVec;
 use lit_read::AGENT_LIMIT;
 
-/// What the paths of a combination are, agent by agent, and all its events.
+/// The paths of a combination, agent by agent, and all its events.
 #[derive(Drop)]
 pub(crate) struct CombinationPaths {
     /// The number of each agent's path among the paths of that agent.
@@ -36,7 +36,7 @@ impl CombinationPaths {
     }
 }
 
-/// Makes a list that of the events that make a block.
+/// Replaces the list by the events that make a block.
 fn make_events(events: &mut Events, bytes: u8)
     requires { bytes ≤ BLOCK_LIMIT }
     ensures { events.new.items ≡ init_events bytes }
@@ -66,7 +66,7 @@ fn push_events(events: &mut Events, path: &Path)
     }
 }
 
-/// Makes what is there the paths of a combination, by its number: the last agent's paths change first.
+/// Replaces `combination_paths` by those of a combination, by its number: the last agent's paths change first.
 pub(crate) fn join(combination_paths: &mut CombinationPaths, paths: &AgentPaths<'_>, combination: usize)
     requires { combination < count_of paths.now.agents }
     ensures combination_paths { AreCombinationPaths paths.now combination combination_paths.new }

@@ -81,7 +81,7 @@ fn compare_exchange(
     path.add_guard(Some(place), succeeds, expected)
 }
 
-/// Walks on through statements, by the walk with this number, from 0.
+/// Extends a path through statements, by the walk with this number, from 0.
 #[cycle(walks)]
 pub(crate) fn walk(
     path: &mut Path,
@@ -106,7 +106,7 @@ pub(crate) fn walk(
     Ok(())
 }
 
-/// Walks on through a statement, by the walk with this number.
+/// Extends a path through a statement, by the walk with this number.
 #[cycle(walks)]
 fn meet(path: &mut Path, owner: u8, statement: &Stmt, number: usize) -> Result<(), AllocError>
     requires said { IsSaid (statement_of statement.now) }

@@ -1,4 +1,4 @@
-//! Makes the plan of a test. `planning` has the `Plan` and its calls.
+//! Builds the plan of a test, or refuses the test. `planning` has the `Plan` and its calls.
 
 ghost use Rattle.std.specs.Prelude.{◌≡◌, ◌↔◌, ◌⊎◌, ◌<◌, ◌≤◌, length, min, IsTrue, IfOk, IfErr, OnOk, MatchOption};
 ghost use Rattle.lit_read.specs.Syntax.{IsLitmus};
@@ -32,7 +32,7 @@ fn has_too_many_events(test: &Test) -> bool
     count > ACCESS_LIMIT
 }
 
-/// How many combinations of paths there are, as far as one more than there may be.
+/// How many combinations of paths there are, capped at one more than there may be.
 fn combination_count(test: &Test) -> usize
     ensures value { result ≡ min (count_of test.now.agents) many_walks }
     ensures litmus { IsLitmus test.now }
@@ -44,8 +44,8 @@ fn combination_count(test: &Test) -> usize
     count
 }
 
-/// How many choices a combination has, or `None` where these are more than there may be. Its paths and byte reads come in
-/// place of what is there.
+/// How many choices a combination has, or `None` where these are more than there may be. Its paths and byte reads replace
+/// those given.
 fn choice_count(
     combination_paths: &mut CombinationPaths,
     reads: &mut ByteReads,
@@ -62,7 +62,7 @@ fn choice_count(
     count_sources(events, reads.as_slice())
 }
 
-/// How many choices the first combinations have, up to each.
+/// The running totals of choices: for each combination, how many choices it has with those before it.
 fn running_totals(alloc: Global, paths: &AgentPaths<'_>) -> Result<Vec<u64>, PlanFault>
     ensures totals { IfOk result (λ totals. totals.items ≡ totals_below paths.now (length (combinations_of paths.now))) }
     ensures few { OnOk result (length (choices_of paths.now) ≤ CHOICES) }
@@ -97,6 +97,7 @@ pub fn plan<'t>(alloc: Global, test: &'t Test) -> Result<Plan<'t>, PlanFault>
     ensures few_choices { OnOk result (length (choices_of test.now) ≤ CHOICES) }
     ensures refused { IfErr result (IsPlanFault test.now) }
 {
+    // Both counts are capped and take no memory, so they come before any growth (decision 10).
     if has_too_many_events(test) {
         return Err(PlanFault::TooManyEvents);
     }

@@ -1,4 +1,4 @@
--- The condition that marks ask, one after the other.
+-- Parsing the marks of a condition, one after the other, with a stack of open groups.
 use Rattle.std.specs.Prelude.{ℕ, zero, suc, ◌+◌, ◌≤◌, nat_le, if◌then◌else◌, List, [], ◌∷◌, Result, Ok, Err}
 use Rattle.lit_read.specs.declared.fault.ReadKind.{ReadKind}
 use Rattle.lit_read.specs.declared.fault.ReadKind.TheVariants.{Syntax, TooDeep}
@@ -7,15 +7,15 @@ use Rattle.lit_read.specs.Syntax.{Condition, Conditions, Any, All, Not, NoMore, 
 use Rattle.lit_read.specs.Spelling.{numbered}
 use Rattle.lit_read.specs.Internal.Marks.{Mark, Bang, Opens, Closes, Joins, Parts, Compares}
 
--- What stands in a parenthesis so far: how many `!` and `(` are around it, the `!` before the next operand, the
--- conjunctions before the last `||`, and the operands behind it.
+-- The part of a parenthesized condition that is read so far: how many `!` and `(` are around it, the `!` before the next
+-- operand, the conjunctions before the last `||`, and the operands behind it.
 pub record Group : Type 0 where
   pub depth : ℕ
   pub nots : ℕ
   pub any : Conditions
   pub all : Conditions
 
--- a frame, and those around it, the innermost first
+-- the innermost open group, and the groups around it, the innermost first
 pub record Groups : Type 0 where
   pub inner : Group
   pub outer : List Group
@@ -40,14 +40,15 @@ any_of NoMore = Any NoMore
 any_of (Also c NoMore) = c
 any_of (Also c (Also d ds)) = Any (Also c (Also d ds))
 
--- a frame with one operand more, and behind `||`
+-- a group with one more operand
 abbrev pub with_operand : Group → Condition → Group
 with_operand f c = record { depth = f.depth; nots = 0; any = f.any; all = pushed f.all (negated f.nots c) }
 
+-- a group after `||`: its operands so far become a conjunction
 abbrev pub after_or : Group → Group
 after_or f = record { depth = f.depth; nots = f.nots; any = pushed f.any (all_of f.all); all = NoMore }
 
--- what the frame asks
+-- the condition of the whole group
 abbrev pub asked : Group → Condition
 asked f = any_of (pushed f.any (all_of f.all))
 
@@ -77,7 +78,7 @@ abbrev pub and_then : {A B : Type 0} → Result A ReadKind → (A → Result B R
 and_then (Ok x) f = f x
 and_then (Err k) f = Err k
 
--- what the frames and these marks ask
+-- the condition that open groups and further marks spell
 unfoldable pub build : List Agent → Groups → List Mark → Result Condition ReadKind
 build agents s [] = Ok (asked s.inner)
 build agents s (m ∷ ms) = and_then (build_step agents s m) (λ t. build agents t ms)

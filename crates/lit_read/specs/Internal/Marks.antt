@@ -1,4 +1,4 @@
--- The parts of a condition, one after the other.
+-- The marks of a condition, one after the other: its operators, parentheses and comparisons.
 use Rattle.std.specs.Prelude.{◌≡◌, ℕ, zero, suc, ◌<◌, nat_le, Bool, true, false, List, [], ◌∷◌, ◌++◌, Option, Some, None}
 use Rattle.std.specs.Option.{option_map}
 use Rattle.std.specs.List.{AllByRecursion}

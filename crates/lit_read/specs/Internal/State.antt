@@ -1,4 +1,4 @@
--- What the lines so far say, and what one form more makes of it.
+-- The state of the reader: what the lines read so far say, and the step that each form makes.
 use Rattle.std.specs.Prelude.{◌≢◌, ℕ, ◌+◌, ◌≤◌, ◌<◌, ◌==◌, ◌||◌, nat_lt, nat_le, Bool, true, if◌then◌else◌}
 use Rattle.std.specs.Prelude.{List, [], ◌∷◌, ◌++◌, length, Option, Some, None, Result, Ok, Err, IfSome}
 use Rattle.std.specs.List.{list_any, list_all, AllByRecursion}
@@ -101,7 +101,7 @@ if_step (Open name bytes agents agent ifs body) reg equal value =
     (record { reg = reg; equal = equal; value = value; before = body; then_part = None } ∷ ifs) End))
 if_step _ reg equal value = Err Misplaced
 
--- the level behind its else line
+-- the open `if` after its else line
 abbrev pub else_open_if : OpenIf → Statements → OpenIf
 else_open_if l body = record { reg = l.reg; equal = l.equal; value = l.value; before = l.before; then_part = Some body }
 
@@ -113,7 +113,7 @@ unfoldable pub else_step : State → Result State ReadKind
 else_step (Open name bytes agents agent (l ∷ ifs) body) = else_from name bytes agents agent l ifs body l.then_part
 else_step _ = Err Misplaced
 
--- the `if` whose part this is the last of
+-- the whole `if`, whose last part has these statements
 abbrev pub ended_if : OpenIf → Statements → Option Statements → Statement
 ended_if l body None = If l.reg l.equal l.value body End
 ended_if l body (Some part) = If l.reg l.equal l.value part body
@@ -141,7 +141,7 @@ unfoldable pub check_step : State → Written → Result State ReadKind
 check_step (Open name bytes agents agent [] body) w = whole (test_of name bytes (with_agent agents agent body) w)
 check_step _ w = Err Misplaced
 
--- what the lines so far and one more form say
+-- the state after one more form
 unfoldable pub step : State → Form → Result State ReadKind
 step s Blank = Ok s
 step s (TestLine name) = test_step s name
@@ -182,7 +182,7 @@ abbrev pub AreOpenIfs : ℕ → List OpenIf → Type 0
 AreOpenIfs bytes [] = Unit {0}
 AreOpenIfs bytes (l ∷ ifs) = IsOpenIf bytes (length ifs) l × AreOpenIfs bytes ifs
 
--- what lines without a fault can say
+-- the invariant of the state: what lines without a fault can say
 unfoldable pub IsState : State → Type 0
 IsState (Named name) = IsWord name
 IsState (Sized name bytes) = IsWord name × (1 ≤ bytes) × (bytes ≤ BLOCK_LIMIT)

@@ -1,4 +1,4 @@
--- What the values of the reader stand for.
+-- What the values of the reader represent.
 use Rattle.std.specs.Prelude.{◌≡◌, ℕ, List, [], ◌∷◌, map, reverse, Option, Some, None, Result, Ok, Err, string_bytes, String}
 use Rattle.std.specs.Global.{Vec, Global}
 use Rattle.lit_read.specs.declared.fault.ReadKind.{ReadKind}

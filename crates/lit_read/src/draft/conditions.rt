@@ -1,4 +1,4 @@
-//! The condition of a test, from the marks of its `check` line.
+//! Parses the condition of a test from the marks of its `check` line, with a stack of open groups.
 
 ghost use Rattle.std.specs.Prelude.{◌≡◌, ◌+◌, ◌≤◌, nat_le, IfOk, length, string_bytes, true};
 ghost use Rattle.std.specs.List.{list_all};
@@ -16,8 +16,8 @@ use crate::syntax::{Cond, Stmt};
 use indexmap::IndexMap;
 use std::alloc::{AllocError, Global};
 
-/// What stands in a parenthesis so far: how many `!` and `(` are around it, the `!` before the next operand, the
-/// conjunctions before the last `||`, and the operands behind it.
+/// The part of a parenthesized condition that is read so far: how many `!` and `(` are around it, the `!` before the next
+/// operand, the conjunctions before the last `||`, and the operands behind it.
 #[derive(Drop)]
 pub struct Group {
     depth: usize,
@@ -26,7 +26,7 @@ pub struct Group {
     all: Vec<Cond>,
 }
 
-/// A frame, and those around it, the outermost first.
+/// The innermost open group, and the groups around it, the outermost first.
 #[derive(Drop)]
 pub struct Groups {
     inner: Group,
@@ -119,7 +119,7 @@ impl Group {
         })
     }
 
-    /// Behind `||`.
+    /// The group after `||`: its operands so far become a conjunction.
     #[tactic(auto, using(crate::proofs::GroupLemmas::views_pushed))]
     fn after_or(self, alloc: Global) -> Result<Group, AllocError>
         ensures { IfOk result (λ f. group_view f ≡ after_or (group_view self)) }
@@ -134,7 +134,7 @@ impl Group {
         })
     }
 
-    /// What it asks.
+    /// The condition of the whole group.
     #[tactic(auto, using(crate::proofs::GroupLemmas::views_pushed))]
     fn asked(self) -> Result<Cond, AllocError>
         ensures { IfOk result (λ c. condition_of c ≡ asked (group_view self)) }
@@ -197,7 +197,7 @@ impl Groups {
     }
 }
 
-/// The condition that the marks ask.
+/// The condition that the marks spell.
 pub fn condition(
     alloc: Global,
     agents: &IndexMap<String, Vec<Stmt>>,

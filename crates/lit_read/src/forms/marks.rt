@@ -1,4 +1,4 @@
-//! The condition of a `check` line, mark by mark.
+//! The marks of the condition of a `check` line: its operators, parentheses and comparisons.
 
 ghost use Rattle.std.specs.Prelude.{◌≡◌, ◌<◌, ◌≤◌, ◌+◌, ◌^◌, length, drop, option_map, IfSome, IfNone, IfOk};
 ghost use Rattle.lit_read.specs.Internal.FormOfTokens.{comparison_of};

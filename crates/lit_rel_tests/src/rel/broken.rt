@@ -61,7 +61,7 @@ fn a_test_or_a_cycle_breaks(rt: HostRuntime) -> Result<(), Fail> {
     Ok(())
 }
 
-/// Combination 0 is the then-part, which asks that a register that holds 0 be 1.
+/// Combination 0 is the then-part, whose guard asks that a register that holds 0 be 1.
 #[test]
 fn an_unwritten_register_breaks_at_once(rt: HostRuntime) -> Result<(), Fail> {
     let test = read(rt.alloc(), UNWRITTEN.as_bytes())?;

@@ -10,7 +10,7 @@ use std::test::Fail;
 /// A choice by its number, the combination that it is of, and its sources.
 type Expected = (u64, usize, &'static [u8]);
 
-/// That a test has so many choices, and these among them.
+/// Asserts that a test has this number of choices, and these among them.
 fn assert_choices(
     rt: &(impl Abort + AllocGlobal),
     text: &str,

@@ -1,4 +1,4 @@
-//! What paths ask, and which reads their registers hold.
+//! The guards of paths, and which reads their registers hold at the end.
 
 use lit_paths::{Tested, plan};
 use lit_read::read;
@@ -7,8 +7,8 @@ use std::alloc::AllocGlobal;
 use std::process::Abort;
 use std::test::Fail;
 
-/// That a test has so many combinations, that the path of an agent in one of them, by the numbers of both, has so many
-/// events and asks this and no more, and that each of these registers holds the read at this place at its end.
+/// Asserts that a test has this number of combinations, that the path of an agent in one of them, by the numbers of both,
+/// has this number of events and exactly these guards, and that each of these registers holds the read at this place at the end.
 fn assert_guards(
     rt: &(impl Abort + AllocGlobal),
     text: &str,
@@ -31,7 +31,7 @@ fn assert_guards(
     Ok(())
 }
 
-/// A test of the value read at a place.
+/// A guard on the value read at a place.
 fn of_place(place: u8, equal: bool, value: u32) -> Tested {
     Tested {
         on: Some(place),

@@ -10,7 +10,7 @@ use std::test::Fail;
 /// The byte read of a combination at a place: its candidates, and how many choices each of them leads to.
 type Expected = (usize, usize, &'static [u8], u64);
 
-/// That a test has so many combinations, and these byte reads.
+/// Asserts that a test has this number of combinations, and these byte reads.
 fn assert_reads(
     rt: &(impl Abort + AllocGlobal),
     text: &str,

@@ -49,7 +49,7 @@ check B.r0 == 0
     TWELVE_BRANCHES,
 ];
 
-/// A text of each form, with blanks, comments and empty parts that can be left out.
+/// A text of each form, with blanks, comments and empty parts that can be omitted.
 const UNTIDY: &str = "
 \ttest whole // a name
 
@@ -149,7 +149,7 @@ const CONDITIONS: [(&str, &str); 10] = [
     ),
 ];
 
-/// That two tests say the same.
+/// Asserts that two tests say the same.
 fn are_same(rt: &(impl Abort + AllocGlobal), test: &Test, other: &Test) -> Result<(), Fail> {
     assert!(rt; test.name() == other.name());
     assert!(rt; test.bytes() == other.bytes());
@@ -166,7 +166,7 @@ fn are_same(rt: &(impl Abort + AllocGlobal), test: &Test, other: &Test) -> Resul
     Ok(())
 }
 
-/// That a text's test is shown so, and that the text shown is one of the same test.
+/// Asserts that a text's test has this canonical text, and that reading this text gives the same test.
 fn is_shown(rt: &(impl Abort + AllocGlobal), text: &[u8], canonical: &[u8]) -> Result<(), Fail> {
     let test = read(rt.alloc(), text).expect(rt, "a test");
     let shown = show(rt.alloc(), &test).expect(rt, "its text");
