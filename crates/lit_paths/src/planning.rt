@@ -18,9 +18,9 @@ use crate::byte_reads::{ByteRead, Candidates, candidates_of};
 use crate::combination::Combination;
 use crate::combination::paths::{CombinationPaths, join};
 use crate::event::{Events, Sources, event_at};
-use crate::registers::{OutcomeRegisters, asks, holds};
 use crate::path::Path;
 use crate::planning::agent_paths::AgentPaths;
+use crate::registers::{OutcomeRegisters, asks, holds};
 use lit_read::Test;
 use std::marker::Model;
 

@@ -194,11 +194,7 @@ impl Open {
             return Err(ReadKind::Misplaced);
         };
         let body = innermost.ended(alloc, self.body)?;
-        Ok(Open {
-            ifs,
-            body,
-            ..self
-        })
+        Ok(Open { ifs, body, ..self })
     }
 
     /// Whether an agent so far has this name.

@@ -1,9 +1,9 @@
 //! A combination of paths, with sources for its first byte reads.
 
+pub(crate) mod false_guards;
 pub(crate) mod fixed_steps;
 pub(crate) mod guarded_bytes;
 pub(crate) mod prefix_state;
-pub(crate) mod false_guards;
 
 ghost use Rattle.std.specs.Prelude.{◌≡◌, ◌↔◌, ℕ, ◌-◌, ◌<◌, ◌≤◌, IsTrue, [], ◌∷◌, ◌++◌, length, take};
 ghost use Rattle.lit_paths.specs.ByteReads.{byte_reads};

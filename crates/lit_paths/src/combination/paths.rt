@@ -67,7 +67,11 @@ fn push_events(events: &mut Events, path: &Path)
 }
 
 /// Replaces `combination_paths` by those of a combination, by its number: the last agent's paths change first.
-pub(crate) fn join(combination_paths: &mut CombinationPaths, paths: &AgentPaths<'_>, combination: usize)
+pub(crate) fn join(
+    combination_paths: &mut CombinationPaths,
+    paths: &AgentPaths<'_>,
+    combination: usize,
+)
     requires { combination < count_of paths.now.agents }
     ensures combination_paths { AreCombinationPaths paths.now combination combination_paths.new }
     ensures sound { AreEventsIn paths.now.bytes combination_paths.new.events.items }
@@ -81,7 +85,9 @@ pub(crate) fn join(combination_paths: &mut CombinationPaths, paths: &AgentPaths<
         later /= count;
         let number = combination / later % count;
         combination_paths.numbers.push(number as u16);
-        combination_paths.firsts.push(combination_paths.events.len() as u8);
+        combination_paths
+            .firsts
+            .push(combination_paths.events.len() as u8);
         push_events(&mut combination_paths.events, paths.path(agent, number));
     }
 }

@@ -14,10 +14,10 @@ use crate::byte_reads::{ByteReads, count_sources, find_byte_reads};
 use crate::combination::paths::{CombinationPaths, join};
 use crate::fault::PlanFault;
 use crate::limits::{ACCESS_LIMIT, CHOICE_LIMIT, COMBINATION_LIMIT};
-use crate::registers::written_names;
 use crate::path::counting::{longest_walk, walk_count};
 use crate::planning::Plan;
 use crate::planning::agent_paths::AgentPaths;
+use crate::registers::written_names;
 use lit_read::Test;
 use std::alloc::Global;
 
@@ -74,7 +74,8 @@ fn running_totals(alloc: Global, paths: &AgentPaths<'_>) -> Result<Vec<u64>, Pla
     let mut reads = ByteReads::new();
     let mut total = 0;
     for combination in 0..count {
-        let Some(choices) = choice_count(&mut combination_paths, &mut reads, paths, combination) else {
+        let Some(choices) = choice_count(&mut combination_paths, &mut reads, paths, combination)
+        else {
             return Err(PlanFault::TooManyChoices);
         };
         total += choices;

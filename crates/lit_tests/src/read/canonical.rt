@@ -176,7 +176,7 @@ fn is_shown(rt: &(impl Abort + AllocGlobal), text: &[u8], canonical: &[u8]) -> R
 }
 
 /// The small text with this condition.
-fn asking(alloc: Global, condition: &str) -> Result<String, AllocError> {
+fn text_with_condition(alloc: Global, condition: &str) -> Result<String, AllocError> {
     format!(in alloc;
         "test t
 bytes 2
@@ -204,8 +204,8 @@ fn untidy_text(rt: HostRuntime) -> Result<(), Fail> {
 #[test]
 fn conditions(rt: HostRuntime) -> Result<(), Fail> {
     for (written, canonical) in CONDITIONS {
-        let text = asking(rt.alloc(), written)?;
-        let wanted = asking(rt.alloc(), canonical)?;
+        let text = text_with_condition(rt.alloc(), written)?;
+        let wanted = text_with_condition(rt.alloc(), canonical)?;
         is_shown(&rt, text.as_bytes(), wanted.as_bytes())?;
     }
     Ok(())
