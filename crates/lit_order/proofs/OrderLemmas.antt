@@ -202,7 +202,7 @@ IsBeginning-nil n before forbidden =
       whole = λ w r v _ s. absurd (none-some w s.first_is);
     }
 
--- The same, where the lists of the code are equal to the beginning: what stands now, and what is there after a push.
+-- The same, where the program's lists are equal to the prefix: its list now, and its list after a push.
 module _ (n : ℕ) (before : ℕ → ℕ → Type 0) (forbidden : ℕ → ℕ → ℕ → Type 0) (placed : ℕ → Type 0) (order : List ℕ) (event : ℕ) (is : IsPlaced n before forbidden placed order) where
   pub IsPlaced-next : (next : ℕ → Type 0) (now more : List ℕ) → now ≡ order → more ≡ now ++ event ∷ [] → event < n → CanStandNext before forbidden placed event
       → ((e : ℕ) → next e ↔ (placed e ⊎ (e ≡ event))) → IsPlaced n before forbidden next more

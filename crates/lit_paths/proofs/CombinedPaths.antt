@@ -82,7 +82,7 @@ path_at t c i known inside =
     ∙ ap (λ steps. Some (path_on i steps)) (sym (walk_in-numbered t c i known inside))
 
 -- ---- the events
--- those of the first so many agents
+-- the accesses of the first agents, as many as given
 abbrev pub accesses_before : Litmus → ℕ → ℕ → List Event
 accesses_before t c zero = []
 accesses_before t c (suc i) = accesses_before t c i ++ (path_in t c i).events
@@ -155,7 +155,7 @@ events-longest ss owner place steps is =
       ap (λ (l : List Step). length (events_on owner place l)) (append-nil steps),
     )
 
--- how many accesses the first so many agents have, with what the others may have
+-- how many accesses the first i agents have, with the most that the others may have
 pub length-accesses_before : (t : Litmus) (c i : ℕ) → c < length (combinations_of t) → i ≤ length t.agents → length (accesses_before t c i) + longest_of (drop i t.agents) ≤ longest_of t.agents
 length-accesses_before t c zero known le = omega arith
 length-accesses_before t c (suc i) known le =

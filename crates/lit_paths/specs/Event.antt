@@ -49,6 +49,6 @@ abbrev pub init_event : ℕ → Event
 init_event b =
     record { kind = Write; order = Init; no_tear = true; first = b; size = 1; payload = 0 ∷ 0 ∷ 0 ∷ 0 ∷ []; owner = None; place = b }
 
--- the events that make a block of so many bytes, by byte
+-- the events that make a block with this number of bytes, by byte
 abbrev pub init_events : ℕ → List Event
 init_events bytes = map init_event (range_with_len 0 bytes)

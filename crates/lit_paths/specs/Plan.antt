@@ -87,8 +87,8 @@ pub record IsOfCombination (t : Litmus) (n c : ℕ) : Type 0 where
   pub on_paths : (x : Execution) → IsCandidateExecution t x → slice_get (choices_of t) n ≡ Some (execution_choice x)
       → map run_path x.runs ≡ combination_at t c
 
--- The events of a combination, in a block of so many bytes: first one event a byte, which makes it, and then accesses
--- that lie in the block.
+-- The events of a combination, in a block of `bytes` bytes: first one event for each byte, which makes it, and then
+-- accesses that lie in the block.
 pub record AreEventsIn (bytes : ℕ) (events : List Event) : Type 0 where
   pub few : length events ≤ EVENT_LIMIT
   pub few_reads : length (byte_reads events) ≤ BYTE_READ_LIMIT

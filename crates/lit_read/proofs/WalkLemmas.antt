@@ -5,7 +5,7 @@ use Rattle.lit_read.specs.Written.{Operand, Compared, Negated, Grouped, Conjunct
 use Rattle.lit_read.specs.Internal.FormOfTokens.{◌>>=◌}
 use Rattle.lit_read.specs.Internal.Marks.{Mark, Bang, Opens, Closes, Joins, Parts, Compares, operand_marks, conjunction_marks, written_marks, follow}
 
--- what `follow` says behind these marks: whether an operand stands last, and how many parentheses are open
+-- the state after these marks, by `follow`, if they can follow one another
 abbrev pub walk : Bool → ℕ → List Mark → Option (Bool × ℕ)
 walk b n [] = Some (b, n)
 walk b n (m ∷ ms) = follow b n m >>= λ p. walk p.0 p.1 ms

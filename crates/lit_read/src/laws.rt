@@ -20,7 +20,7 @@ ghost use Rattle.lit_read.specs.Parentheses.{without_parentheses};
 ghost use Rattle.lit_read.specs.CanonicalText.{canonical};
 
 /// A text is its lines, none of which has a byte 10, each with a byte 10 after it. Where the text does not end with a
-/// byte 10, the last one is left out.
+/// byte 10, the last one is missing.
 pub fn lines_are_joined()
     ensures some { (text : List ℕ) → 1 ≤ length (lines_of text) }
     ensures whole { (text : List ℕ) → list_all is_whole_line (lines_of text) ≡ true }
@@ -71,8 +71,8 @@ pub fn differ_by_nothing_else()
         → without_parentheses (written_tokens a.check) ≡ without_parentheses (written_tokens b.check) }
 {}
 
-/// A text spells a test wherever it can: it is no longer than a text may be, its bytes may stand there, its forms, blank
-/// ones left out, are those of the test, and no comparison of its check line stands too deep.
+/// A text spells a test wherever it can: it is no longer than a text may be, its bytes may stand there, its forms
+/// without the blank ones are those of the test, and no comparison of its check line stands too deep.
 pub fn spells_where_it_can()
     ensures { (text : List ℕ) (forms : List Form) (t : Litmus) → IsLitmus t → length text ≤ TEXT_LIMIT → list_all is_allowed text ≡ true
         → HaveForms (lines_of text) forms → (are : AreFormsOf (without_blanks forms) t) → is_shallow are.check ≡ true → Spells text t }

@@ -285,7 +285,7 @@ fn misplaced_forms(rt: HostRuntime) {
     );
 }
 
-/// A text with a block of so many bytes, of which the last is loaded.
+/// A text with a block of `bytes` bytes, of which the last is loaded.
 fn with_block(alloc: Global, bytes: usize) -> Result<Vec<u8>, Fail> {
     let last = bytes.saturating_sub(1);
     let text = format!(in alloc;
@@ -306,7 +306,7 @@ fn sizes_of_blocks(rt: HostRuntime) -> Result<(), Fail> {
     Ok(())
 }
 
-/// The beginning of a text with the agents `A0`, `A1` and so on, so many.
+/// The beginning of a text with this number of agents: `A0`, `A1` and so on.
 fn with_agents(alloc: Global, agents: usize) -> Result<Vec<u8>, Fail> {
     let mut text = Vec::from_slice(alloc, b"test t\nbytes 1\n")?;
     for agent in 0..agents {

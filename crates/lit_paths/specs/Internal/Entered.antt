@@ -17,7 +17,8 @@ pub record IsFormed (t : Litmus) (c total : ℕ) (formed : Formed) : Type 0 wher
   pub combination_paths : AreCombinationPaths t c formed.combination_paths
   pub sound : AreEventsIn t.bytes formed.combination_paths.events.items
   pub all_reads : map pair_of formed.reads.items ≡ byte_reads formed.combination_paths.events.items
-  pub all_candidates : map (λ list. list.items) formed.ways.candidates.items ≡ candidate_lists formed.combination_paths.events.items formed.reads.items
+  pub all_candidates : map (λ list. list.items) formed.ways.candidates.items
+      ≡ candidate_lists formed.combination_paths.events.items formed.reads.items
   pub all_later : formed.ways.later.items ≡ ways_after (candidate_lists formed.combination_paths.events.items formed.reads.items)
   pub whole : total ≡ length (product (candidate_lists formed.combination_paths.events.items formed.reads.items))
 

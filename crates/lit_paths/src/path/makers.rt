@@ -46,7 +46,7 @@ fn holds_where(equal: bool, asked: bool) -> bool
 
 /// Adds the makers of the events on the way through statements, the first of which has number `first`, by the guards of a
 /// path, and returns the guards after those of these statements.
-#[cycle(making)]
+#[cycle(finding)]
 pub(crate) fn find_makers<'t>(
     makers: &mut Makers,
     first: usize,
@@ -69,7 +69,7 @@ pub(crate) fn find_makers<'t>(
 
 /// Adds the makers of the events on the way through the statement with a number, by the guards of a path, and returns the
 /// guards after those of this statement.
-#[cycle(making)]
+#[cycle(finding)]
 fn find_makers_at<'t>(
     makers: &mut Makers,
     number: usize,

@@ -158,11 +158,11 @@ abbrev pub AreDistinct : List Agent → Type 0
 AreDistinct [] = Unit {0}
 AreDistinct (a ∷ others) = AllByRecursion (λ b. a.name ≢ b.name) others × AreDistinct others
 
--- what statements inside so many `if`s can be, over a block of so many bytes
+-- what the statements of a part inside `outside` open `if`s can be, over a block of `bytes` bytes
 abbrev pub IsPart : ℕ → ℕ → Statements → Type 0
 IsPart bytes outside body = AreStatementsIn bytes body × (nesting body + outside ≤ IF_LIMIT)
 
--- what agents over a block of so many bytes can be
+-- what agents over a block of `bytes` bytes can be
 pub record AreAgentsIn (bytes : ℕ) (agents : List Agent) : Type 0 where
   pub some_byte : 1 ≤ bytes
   pub block : bytes ≤ BLOCK_LIMIT

@@ -33,7 +33,7 @@ pub struct Groups {
     outer: Vec<Group>,
 }
 
-/// The condition under so many `!`.
+/// The condition under `nots` times `!`.
 fn negated(alloc: Global, cond: Cond, nots: usize) -> Result<Cond, AllocError>
     ensures { IfOk result (λ c. condition_of c ≡ negated nots (condition_of cond)) }
 {

@@ -31,4 +31,5 @@ pub record HasPrefixStates (t : Litmus) (c : ℕ) (bytes : List SourcedByte) (ea
   pub candidates : AreFirstSources (part_of t c bytes)
   pub one_each : length earlier ≡ length bytes
   pub at_all : IsPrefixState (part_of t c bytes) now
-  pub at_less : (k : ℕ) (prefix_state : PrefixState) → slice_get earlier k ≡ Some prefix_state → IsPrefixState (part_of t c (take k bytes)) prefix_state
+  pub at_less : (k : ℕ) (prefix_state : PrefixState) → slice_get earlier k ≡ Some prefix_state
+      → IsPrefixState (part_of t c (take k bytes)) prefix_state

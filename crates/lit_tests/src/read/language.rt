@@ -272,7 +272,7 @@ fn misplaced_parts(rt: HostRuntime) {
     );
 }
 
-/// A text with so many `if` lines, one inside the other, and then these bytes.
+/// A text with `count` `if` lines, one inside the other, and then these bytes.
 fn nested(alloc: Global, count: usize, back: &[u8]) -> Result<Vec<u8>, Fail> {
     let mut text = Vec::from_slice(alloc, b"test t\nbytes 1\nagent A\n")?;
     for _ in 0..count {

@@ -2,7 +2,7 @@ use Rattle.std.proofs.Common.{◌+◌, ◌*◌}
 use Rattle.lit_read.specs.Litmus.{statement_of, statements_of}
 use Rattle.lit_paths.proofs.Stepping.{size_of, statement_size}
 use Rattle.lit_paths.proofs.MakerSteps.{IsFinding}
-use Rattle.lit_paths.proofs.path.makers.+making.Given as goal
+use Rattle.lit_paths.proofs.path.makers.+finding.Given as goal
 
 abbrev pub decreases-find_makers : goal.decreases-find_makers
 decreases-find_makers l = 2 * size_of (statements_of l.body.now) + 1

@@ -7,7 +7,7 @@ use Rattle.lit_paths.specs.Internal.Makers.{makers_of}
 use Rattle.lit_paths.specs.Internal.Walks.{longest}
 use Rattle.lit_paths.proofs.Stepping.{IsIf, if_known, size_of, size_of-item, size_of-parts}
 use Rattle.lit_paths.proofs.MakerSteps.{finding_begins, finding_more, finding_ends, is_next, found-then, found-else}
-use Rattle.lit_paths.proofs.path.makers.+making.Goals as goal
+use Rattle.lit_paths.proofs.path.makers.+finding.Goals as goal
 
 pub find_makers-loop-statement-init : goal.find_makers-loop-statement-init
 find_makers-loop-statement-init t c = finding_begins c.args.body.now c.args.first c.args.tests.now c.args.makers.now.items
