@@ -41,10 +41,10 @@ pub fn least_of(forced: &TwoWayRows, between: &Between) -> Option<Order>
         ((order : List ℕ) → ¬ IsOrderOf (rows_len forced.now.rows) (Holds forced.now.rows) (Forbids between.now) order) }
 {
     let constraints = Constraints::new(&forced.converse, between);
-    // The greedy walk is tried first: it needs no search, and it succeeds wherever each least event leads to an order.
-    let mut walked = Order::new();
-    if walk(&mut walked, EventSet::new(), &constraints) {
-        return Some(walked);
+    // The greedy extension is tried first: it needs no search, and it succeeds wherever it never runs into a dead end.
+    let mut greedy = Order::new();
+    if extend_greedily(&mut greedy, EventSet::new(), &constraints) {
+        return Some(greedy);
     }
     let mut order = Order::new();
     if complete(&mut order, EventSet::new(), &forced.rows, &constraints) {
@@ -56,7 +56,7 @@ pub fn least_of(forced: &TwoWayRows, between: &Between) -> Option<Order>
 
 /// Extends the prefix of an order, whose events are those in `placed`, by the least event that can stand next, until none
 /// can. Says whether all events are placed then: the order is the least one with that prefix.
-fn walk(order: &mut Order, placed: EventSet, constraints: &Constraints<'_>) -> bool
+fn extend_greedily(order: &mut Order, placed: EventSet, constraints: &Constraints<'_>) -> bool
     requires fits { array_vec_len order.old ≤ constrained_len constraints.now }
     requires begun { IsBegun constraints.now placed order.old.items }
     ensures { IsTrue result → IsLeastOf constraints.now order.old.items order.new.items }
@@ -65,10 +65,10 @@ fn walk(order: &mut Order, placed: EventSet, constraints: &Constraints<'_>) -> b
         return true;
     }
     let mut left = constraints.unplaced(placed);
-    'walking: while let Some((event, others)) = left.split_first() {
+    'extending: while let Some((event, others)) = left.split_first() {
         if constraints.can_stand_next(event, placed) {
             order.push(event as u8);
-            return walk(order, placed.with(event), constraints);
+            return extend_greedily(order, placed.with(event), constraints);
         }
         left = others;
     }

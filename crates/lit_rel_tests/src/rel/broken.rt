@@ -82,8 +82,8 @@ const BREAKS: [(&str, &[u8], bool); 11] = [
     // Two stores tear, a store and init do not.
     (TYPED_READ, &[2, 3], true),
     (TYPED_READ, &[2, 1], false),
-    // The load of two bytes is 2, the store 4. Its first byte alone is 0, which is not 256; but a read is tested when it
-    // is whole.
+    // The load of two bytes is 2, the store 4. Its first byte alone is 0, which is not 256; but a guard is checked once all
+    // bytes of its read have a source.
     (WIDE, &[0], false),
     (WIDE, &[0, 1], true),
     (WIDE, &[0, 4], false),

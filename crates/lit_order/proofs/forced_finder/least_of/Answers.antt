@@ -27,10 +27,10 @@ module _ (forced : TwoWayRows) (between : BetweenModel) (it : Constraints) (len 
       subst (λ (xs : List ℕ). BeginsNone it xs) empty from_start order
       (order_back (constrained_len it) (rows_len forced.rows) (ComesBefore it) (Holds forced.rows) (MayNotStand it) (Forbids between) (len ∙ forced.same.len) are_pairs triples order o)
 
-pub returns-then-walk-clause-found : goal.returns-then-walk-clause-found
-returns-then-walk-clause-found c =
+pub returns-then-extend_greedily-clause-found : goal.returns-then-extend_greedily-clause-found
+returns-then-extend_greedily-clause-found c =
     let it = c.new-constraints.result in
-    least c.args.forced.now c.args.between.now it c.new-constraints.ensures.len c.new-constraints.ensures.pairs c.new-constraints.ensures.triples c.new-walked.result.items c.walk.new.order.items c.new-walked.ensures (c.if-walk.ensures refl)
+    least c.args.forced.now c.args.between.now it c.new-constraints.ensures.len c.new-constraints.ensures.pairs c.new-constraints.ensures.triples c.new-greedy.result.items c.extend_greedily.new.order.items c.new-greedy.ensures (c.if-extend_greedily.ensures refl)
 
 pub complete-requires-clause-restricted : goal.complete-requires-clause-restricted
 complete-requires-clause-restricted c =

@@ -4,7 +4,7 @@ use Rattle.lit_rel.specs.EventSet.{HasEvent}
 use Rattle.lit_rel.proofs.SetLemmas.{split_less}
 use Rattle.lit_order.specs.Internal.Constrained.{ComesBefore, IsLeastOf, MayNotStand, constrained_len}
 use Rattle.lit_order.proofs.OrderLemmas.{HasNoOrder-cannot, IsLeastFrom-itself, IsLeastFrom-push, IsOrderOf-from_beginning, IsPlaced-next}
-use Rattle.lit_order.proofs.forced_finder.+walk.Goals as goal
+use Rattle.lit_order.proofs.forced_finder.+extend_greedily.Goals as goal
 
 pub returns-then-len : goal.returns-then-len
 returns-then-len t c _ =
@@ -12,18 +12,18 @@ returns-then-len t c _ =
     IsLeastFrom-itself (constrained_len it) (ComesBefore it) (MayNotStand it) c.args.order.now.items
     (IsOrderOf-from_beginning (constrained_len it) (ComesBefore it) (MayNotStand it) c.args.order.now.items (λ a d h. rw (← it.same) h.first_known) (omega arith) c.requires.begun.begins)
 
-pub walk-requires : goal.walk-requires
-walk-requires t c =
+pub extend_greedily-requires : goal.extend_greedily-requires
+extend_greedily-requires t c =
     let it = c.args.constraints.now in
     let n = constrained_len it in
     let order = c.args.order.now.items in
-    let same_length : length c.walking.order.items ≡ length order = ap length c.walking.invariant.unchanged in
+    let same_length : length c.extending.order.items ≡ length order = ap length c.extending.invariant.unchanged in
     let shorter : n - length c.push.new.self.items < n - length order = omega arith in (
       search rules,
       (
         omega arith,
-        IsPlaced-next n (ComesBefore it) (MayNotStand it) (HasEvent c.args.placed) order _ c.requires.begun (HasEvent c.with.result) c.walking.order.items c.push.new.self.items
-            c.walking.invariant.unchanged c.push.ensures.items (c.walking.invariant.known c.in-Some.event c.in-Some.ensures.there) (c.if-can_stand_next.ensures.0 refl) c.with.ensures,
+        IsPlaced-next n (ComesBefore it) (MayNotStand it) (HasEvent c.args.placed) order _ c.requires.begun (HasEvent c.with.result) c.extending.order.items c.push.new.self.items
+            c.extending.invariant.unchanged c.push.ensures.items (c.extending.invariant.known c.in-Some.event c.in-Some.ensures.there) (c.if-can_stand_next.ensures.0 refl) c.with.ensures,
       ),
     )
 
@@ -32,13 +32,13 @@ returns-then-can_stand_next t c found =
     let it = c.args.constraints.now in
     let order = c.args.order.now.items in
     let event = c.in-Some.event in
-    let least : IsLeastOf it (order ++ event ∷ []) c.walk.new.order.items = rw (c.push.ensures.items, c.walking.invariant.unchanged) at (c.walk.ensures found) in
-    let known : event < constrained_len it = c.walking.invariant.known event c.in-Some.ensures.there in
-    IsLeastFrom-push (constrained_len it) (ComesBefore it) (MayNotStand it) order event c.walk.new.order.items (omega arith)
-    (λ e less. c.walking.invariant.none e (omega arith) (c.in-Some.ensures.least e less)) least
+    let least : IsLeastOf it (order ++ event ∷ []) c.extend_greedily.new.order.items = rw (c.push.ensures.items, c.extending.invariant.unchanged) at (c.extend_greedily.ensures found) in
+    let known : event < constrained_len it = c.extending.invariant.known event c.in-Some.ensures.there in
+    IsLeastFrom-push (constrained_len it) (ComesBefore it) (MayNotStand it) order event c.extend_greedily.new.order.items (omega arith)
+    (λ e less. c.extending.invariant.none e (omega arith) (c.in-Some.ensures.least e less)) least
 
-pub walking-init : goal.walking-init
-walking-init t c =
+pub extending-init : goal.extending-init
+extending-init t c =
     let it = c.args.constraints.now in
     record {
       unchanged = refl;
@@ -47,20 +47,20 @@ walking-init t c =
           (λ x r v f. f.read_known) (λ can. not_left ((c.unplaced-left.ensures e).1 (below, can.new)));
     }
 
-pub walking-smaller : goal.walking-smaller
-walking-smaller t c = split_less c.walking.left c.in-Some.event c.in-Some.others c.in-Some.ensures
+pub extending-smaller : goal.extending-smaller
+extending-smaller t c = split_less c.extending.left c.in-Some.event c.in-Some.others c.in-Some.ensures
 
-pub walking-preserved : goal.walking-preserved
-walking-preserved t c =
+pub extending-preserved : goal.extending-preserved
+extending-preserved t c =
     let it = c.args.constraints.now in
     let rest = c.in-Some.ensures.rest in
     record {
-      unchanged = c.walking.invariant.unchanged;
-      known = λ e h. c.walking.invariant.known e ((rest e).0 h).0;
+      unchanged = c.extending.invariant.unchanged;
+      known = λ e h. c.extending.invariant.known e ((rest e).0 h).0;
       none = λ e below not_left. elim (cases_eq e c.in-Some.event) [
         | inl same ↦
             rw same (HasNoOrder-cannot (constrained_len it) (ComesBefore it) (MayNotStand it) (HasEvent c.args.placed) c.args.order.now.items c.in-Some.event c.requires.begun
             (λ x r v f. f.read_known) (λ can. false≢true (c.if-can_stand_next.ensures.1 can)))
-        | inr other ↦ c.walking.invariant.none e below (λ in_left. not_left ((rest e).1 (in_left, other)))
+        | inr other ↦ c.extending.invariant.none e below (λ in_left. not_left ((rest e).1 (in_left, other)))
       ];
     }
