@@ -8,7 +8,7 @@ pub mod Cuttings
 pub mod RowLemmas
 pub mod FormLemmas
 pub mod OneForm
-pub mod WalkLemmas
+pub mod FollowLemmas
 pub mod MarkLemmas
 pub mod LineForms
 pub mod BuildLemmas

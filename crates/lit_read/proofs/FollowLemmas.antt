@@ -6,16 +6,16 @@ use Rattle.lit_read.specs.Internal.FormOfTokens.{◌>>=◌}
 use Rattle.lit_read.specs.Internal.Marks.{Mark, Bang, Opens, Closes, Joins, Parts, Compares, operand_marks, conjunction_marks, written_marks, follow}
 
 -- the state after these marks, by `follow`, if they can follow one another
-abbrev pub walk : Bool → ℕ → List Mark → Option (Bool × ℕ)
-walk b n [] = Some (b, n)
-walk b n (m ∷ ms) = follow b n m >>= λ p. walk p.0 p.1 ms
+abbrev pub follow_all : Bool → ℕ → List Mark → Option (Bool × ℕ)
+follow_all b n [] = Some (b, n)
+follow_all b n (m ∷ ms) = follow b n m >>= λ p. follow_all p.0 p.1 ms
 
-pub walk-append : (b : Bool) (n : ℕ) (ms more : List Mark) → walk b n (ms ++ more) ≡ (walk b n ms >>= λ p. walk p.0 p.1 more)
-walk-append b n [] more = refl
-walk-append b n (m ∷ ms) more = by (follow b n m) (λ c k. walk-append c k ms more)
+pub follow_all-append : (b : Bool) (n : ℕ) (ms more : List Mark) → follow_all b n (ms ++ more) ≡ (follow_all b n ms >>= λ p. follow_all p.0 p.1 more)
+follow_all-append b n [] more = refl
+follow_all-append b n (m ∷ ms) more = by (follow b n m) (λ c k. follow_all-append c k ms more)
   where
-    by : (o : Option (Bool × ℕ)) → ((c : Bool) (k : ℕ) → walk c k (ms ++ more) ≡ (walk c k ms >>= λ p. walk p.0 p.1 more))
-        → (o >>= λ p. walk p.0 p.1 (ms ++ more)) ≡ ((o >>= λ p. walk p.0 p.1 ms) >>= λ p. walk p.0 p.1 more)
+    by : (o : Option (Bool × ℕ)) → ((c : Bool) (k : ℕ) → follow_all c k (ms ++ more) ≡ (follow_all c k ms >>= λ p. follow_all p.0 p.1 more))
+        → (o >>= λ p. follow_all p.0 p.1 (ms ++ more)) ≡ ((o >>= λ p. follow_all p.0 p.1 ms) >>= λ p. follow_all p.0 p.1 more)
     by None h = refl
     by (Some p) h = h p.0 p.1
 
@@ -24,21 +24,21 @@ walk-append b n (m ∷ ms) more = by (follow b n m) (λ c k. walk-append c k ms 
 mutual
   unfolding follow
 
-  pub operand_walks : (o : Operand) (n : ℕ) (rest : List Mark) → walk false n (operand_marks o ++ rest) ≡ walk true n rest
-  operand_walks (Compared c) n rest = refl
-  operand_walks (Negated o) n rest = operand_walks o n rest
-  operand_walks (Grouped w) n rest = ap (walk false (suc n)) (append_assoc (written_marks w) (Closes ∷ []) rest) ∙ written_walks w (suc n) (Closes ∷ rest)
+  pub operand_follows : (o : Operand) (n : ℕ) (rest : List Mark) → follow_all false n (operand_marks o ++ rest) ≡ follow_all true n rest
+  operand_follows (Compared c) n rest = refl
+  operand_follows (Negated o) n rest = operand_follows o n rest
+  operand_follows (Grouped w) n rest = ap (follow_all false (suc n)) (append_assoc (written_marks w) (Closes ∷ []) rest) ∙ written_follows w (suc n) (Closes ∷ rest)
 
-  pub conjunction_walks : (c : Conjunction) (n : ℕ) (rest : List Mark) → walk false n (conjunction_marks c ++ rest) ≡ walk true n rest
-  conjunction_walks (Lone o) n rest = operand_walks o n rest
-  conjunction_walks (Both o c) n rest = ap (walk false n) (append_assoc (operand_marks o) (Joins ∷ conjunction_marks c) rest) ∙ operand_walks o n (Joins ∷ (conjunction_marks c ++ rest)) ∙ conjunction_walks c n rest
+  pub conjunction_follows : (c : Conjunction) (n : ℕ) (rest : List Mark) → follow_all false n (conjunction_marks c ++ rest) ≡ follow_all true n rest
+  conjunction_follows (Lone o) n rest = operand_follows o n rest
+  conjunction_follows (Both o c) n rest = ap (follow_all false n) (append_assoc (operand_marks o) (Joins ∷ conjunction_marks c) rest) ∙ operand_follows o n (Joins ∷ (conjunction_marks c ++ rest)) ∙ conjunction_follows c n rest
 
-  pub written_walks : (w : Written) (n : ℕ) (rest : List Mark) → walk false n (written_marks w ++ rest) ≡ walk true n rest
-  written_walks (Single c) n rest = conjunction_walks c n rest
-  written_walks (Either c w) n rest = ap (walk false n) (append_assoc (conjunction_marks c) (Parts ∷ written_marks w) rest) ∙ conjunction_walks c n (Parts ∷ (written_marks w ++ rest)) ∙ written_walks w n rest
+  pub written_follows : (w : Written) (n : ℕ) (rest : List Mark) → follow_all false n (written_marks w ++ rest) ≡ follow_all true n rest
+  written_follows (Single c) n rest = conjunction_follows c n rest
+  written_follows (Either c w) n rest = ap (follow_all false n) (append_assoc (conjunction_marks c) (Parts ∷ written_marks w) rest) ∙ conjunction_follows c n (Parts ∷ (written_marks w ++ rest)) ∙ written_follows w n rest
 
-pub walks_whole : (w : Written) → walk false 0 (written_marks w) ≡ Some (true, 0)
-walks_whole w = ap (walk false 0) (sym (append-nil (written_marks w))) ∙ written_walks w 0 []
+pub follows_whole : (w : Written) → follow_all false 0 (written_marks w) ≡ Some (true, 0)
+follows_whole w = ap (follow_all false 0) (sym (append-nil (written_marks w))) ∙ written_follows w 0 []
 
 -- ---- marks that follow one another are those of a condition
 
@@ -51,7 +51,7 @@ record Front (A : Type 0) (marks : A → List Mark) (n : ℕ) (ms : List Mark) :
   rest : List Mark
   parts : ms ≡ marks part ++ rest
   shorter : length rest < length ms
-  goes_on : walk true n rest ≡ whole
+  goes_on : follow_all true n rest ≡ whole
 
 abbrev starts_joins : List Mark → Bool
 starts_joins (Joins ∷ ms) = true
@@ -85,7 +85,7 @@ open_end : (n : ℕ) → Some (true, suc n) ≡ whole → ⊥
 open_end n e = let same : suc n ≡ 0 = ap count_of e in omega (arith, same)
 
 -- what stands behind a condition in a parenthesis
-closes : (n : ℕ) (rest : List Mark) → starts_joins rest ≡ false → starts_parts rest ≡ false → walk true (suc n) rest ≡ whole → (after : List Mark) × (rest ≡ Closes ∷ after) × (walk true n after ≡ whole)
+closes : (n : ℕ) (rest : List Mark) → starts_joins rest ≡ false → starts_parts rest ≡ false → follow_all true (suc n) rest ≡ whole → (after : List Mark) × (rest ≡ Closes ∷ after) × (follow_all true n after ≡ whole)
 unfolding follow
 closes n [] a b e = absurd (open_end n e)
 closes n (Bang ∷ rest) a b e = absurd cc
@@ -96,13 +96,13 @@ closes n (Parts ∷ rest) a b e = absurd cc
 closes n (Compares c ∷ rest) a b e = absurd cc
 
 abbrev ToldOperands : ℕ → Type 0
-ToldOperands fuel = (n : ℕ) (ms : List Mark) → length ms < fuel → walk false n ms ≡ whole → Front Operand operand_marks n ms
+ToldOperands fuel = (n : ℕ) (ms : List Mark) → length ms < fuel → follow_all false n ms ≡ whole → Front Operand operand_marks n ms
 
 abbrev ToldConjunctions : ℕ → Type 0
-ToldConjunctions fuel = (n : ℕ) (ms : List Mark) → length ms < fuel → walk false n ms ≡ whole → Loose Conjunction conjunction_marks n ms
+ToldConjunctions fuel = (n : ℕ) (ms : List Mark) → length ms < fuel → follow_all false n ms ≡ whole → Loose Conjunction conjunction_marks n ms
 
 abbrev ToldConditions : ℕ → Type 0
-ToldConditions fuel = (n : ℕ) (ms : List Mark) → length ms < fuel → walk false n ms ≡ whole → Free Written written_marks n ms
+ToldConditions fuel = (n : ℕ) (ms : List Mark) → length ms < fuel → follow_all false n ms ≡ whole → Free Written written_marks n ms
 
 operands : (fuel : ℕ) → ToldOperands fuel → ToldConditions fuel → ToldOperands (suc fuel)
 unfolding follow
@@ -146,7 +146,7 @@ conjunctions fuel operand before n ms lt e = let a = operand n ms lt e in by a a
   where
     by : (a : Front Operand operand_marks n ms) (rest : List Mark) → a.rest ≡ rest → Loose Conjunction conjunction_marks n ms
     by a [] is = lone n ms a (ap starts_joins is)
-    by a (Joins ∷ rest) is = joined n ms rest a is (before n rest (omega (arith, a.shorter, ap length is)) (sym (ap (walk true n) is) ∙ a.goes_on))
+    by a (Joins ∷ rest) is = joined n ms rest a is (before n rest (omega (arith, a.shorter, ap length is)) (sym (ap (follow_all true n) is) ∙ a.goes_on))
     by a (Bang ∷ rest) is = lone n ms a (ap starts_joins is)
     by a (Opens ∷ rest) is = lone n ms a (ap starts_joins is)
     by a (Closes ∷ rest) is = lone n ms a (ap starts_joins is)
@@ -175,7 +175,7 @@ conditions fuel conjunction before n ms lt e = let a = conjunction n ms lt e in 
   where
     by : (a : Loose Conjunction conjunction_marks n ms) (rest : List Mark) → a.front.rest ≡ rest → Free Written written_marks n ms
     by a [] is = single n ms a (ap starts_parts is)
-    by a (Parts ∷ rest) is = after_or n ms rest a is (before n rest (omega (arith, a.front.shorter, ap length is)) (sym (ap (walk true n) is) ∙ a.front.goes_on))
+    by a (Parts ∷ rest) is = after_or n ms rest a is (before n rest (omega (arith, a.front.shorter, ap length is)) (sym (ap (follow_all true n) is) ∙ a.front.goes_on))
     by a (Bang ∷ rest) is = single n ms a (ap starts_parts is)
     by a (Opens ∷ rest) is = single n ms a (ap starts_parts is)
     by a (Closes ∷ rest) is = single n ms a (ap starts_parts is)
@@ -191,7 +191,7 @@ told (suc fuel) =
     (a, b, conditions fuel b before.2)
 
 -- nothing stands behind a whole condition
-ends : (rest : List Mark) → starts_joins rest ≡ false → starts_parts rest ≡ false → walk true 0 rest ≡ whole → rest ≡ []
+ends : (rest : List Mark) → starts_joins rest ≡ false → starts_parts rest ≡ false → follow_all true 0 rest ≡ whole → rest ≡ []
 unfolding follow
 ends [] a b e = refl
 ends (Bang ∷ rest) a b e = absurd cc
@@ -201,7 +201,7 @@ ends (Joins ∷ rest) a b e = absurd cc
 ends (Parts ∷ rest) a b e = absurd cc
 ends (Compares c ∷ rest) a b e = absurd cc
 
-pub condition_told : (ms : List Mark) → walk false 0 ms ≡ whole → (w : Written) × (ms ≡ written_marks w)
+pub condition_told : (ms : List Mark) → follow_all false 0 ms ≡ whole → (w : Written) × (ms ≡ written_marks w)
 condition_told ms e =
     let a = (told (suc (length ms))).2 0 ms (omega arith) e in
     (a.front.part, a.front.parts ∙ ap (λ (x : List Mark). written_marks a.front.part ++ x) (ends a.front.rest a.no_joins a.no_parts a.front.goes_on) ∙ append-nil (written_marks a.front.part))
