@@ -1,4 +1,5 @@
-//! The plan of a test: its choices by number, with their combinations and sources. `plan_builder` builds it.
+//! The plan of a test: its choices by number, with their combinations and sources. `plan_builder` builds it
+//! (decision 14).
 
 pub(crate) mod agent_paths;
 pub(crate) mod plan_builder;
