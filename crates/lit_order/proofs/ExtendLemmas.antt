@@ -1,4 +1,4 @@
--- Orders where one pair more is given.
+-- Orders of a relation with one more pair.
 use Rattle.std.proofs.Common.{◌≡◌, ◌≢◌, ◌⊎◌, ◌↔◌, ℕ, ◌<◌, List, [], refl, subst, inl, inr, arith}
 use Rattle.lit_rel.specs.declared.rows.Rows.{Rows}
 use Rattle.lit_rel.specs.Rows.{Holds, rows_len, IsTransitive, WithPair}
@@ -8,21 +8,21 @@ use Rattle.lit_order.specs.Internal.Deciding.{AreDecided, IsUndecided}
 use Rattle.lit_order.specs.Forced.{AndPair}
 use Rattle.lit_order.specs.Forcing.{HasChain, IsForced, Given, Through, HasForcedCycle}
 use Rattle.lit_order.specs.MemoryOrder.{StandsBefore, IsOrderOf}
-use Rattle.lit_order.proofs.ForcedLemmas.{AreTriplesBelow, keeps_forced, stands_before_source}
+use Rattle.lit_order.proofs.ForcedLemmas.{AreTriplesBelow, respects_forced, stands_before_source}
 use Rattle.lit_order.proofs.ForcingLemmas.{HasChain-through}
 use Rattle.lit_order.proofs.LinearLemmas.{IsStrict}
-use Rattle.lit_order.proofs.NarrowLemmas.{IsOrderOf-fewer}
+use Rattle.lit_order.proofs.RestrictionLemmas.{IsOrderOf-fewer}
 use Rattle.lit_order.proofs.RowsLemmas.{holds_or_not}
 use Rattle.lit_order.proofs.StandingLemmas.{StandsBefore-through, never_before_itself, either_before}
 
--- no order is there where an event is forced before itself
+-- there is no order where an event is forced before itself
 pub no_order-from_cycle : (n : ℕ) (before : ℕ → ℕ → Type 0) (forbidden : ℕ → ℕ → ℕ → Type 0) → AreTriplesBelow n forbidden → HasForcedCycle before forbidden → (order : List ℕ) → ¬ IsOrderOf n before forbidden order
 no_order-from_cycle n before forbidden triples cycle order o =
-    never_before_itself order o.complete.once cycle.0 (keeps_forced n before forbidden triples order o cycle.0 cycle.0 cycle.1)
+    never_before_itself order o.complete.once cycle.0 (respects_forced n before forbidden triples order o cycle.0 cycle.0 cycle.1)
 
 module _ (n : ℕ) (before : ℕ → ℕ → Type 0) (forbidden : ℕ → ℕ → ℕ → Type 0) (triples : AreTriplesBelow n forbidden) (forced : ℕ → ℕ → Type 0) (pairs : (a d : ℕ) → forced a d ↔ IsForced before forbidden a d) where
   pub order_of_forced : (order : List ℕ) → IsOrderOf n before forbidden order → IsOrderOf n forced forbidden order
-  order_of_forced order o = record { complete = o.complete; keeps = λ a d h. keeps_forced n before forbidden triples order o a d ((pairs a d).0 h); avoids = o.avoids }
+  order_of_forced order o = record { complete = o.complete; keeps = λ a d h. respects_forced n before forbidden triples order o a d ((pairs a d).0 h); avoids = o.avoids }
 
   pub order_from_forced : (order : List ℕ) → IsOrderOf n forced forbidden order → IsOrderOf n before forbidden order
   order_from_forced order o = IsOrderOf-fewer n forced before forbidden (λ a d h. (pairs a d).1 (Given h)) order o

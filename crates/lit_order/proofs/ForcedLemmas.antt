@@ -1,4 +1,4 @@
--- What is forced, every order keeps.
+-- Every order respects what is forced.
 use Rattle.std.proofs.Common.{◌≢◌, ℕ, ◌<◌, List, inl, inr}
 use Rattle.lit_order.specs.Forcing.{IsForced, Given, Through, AfterRead, BeforeSource}
 use Rattle.lit_order.specs.MemoryOrder.{StandsBefore, IsOrderOf}
@@ -27,8 +27,8 @@ module _ (n : ℕ) (before : ℕ → ℕ → Type 0) (forbidden : ℕ → ℕ �
         | inr between ↦ absurd (o.avoids w r v f between p)
       ]
 
-  pub keeps_forced : (a d : ℕ) → IsForced before forbidden a d → StandsBefore order a d
-  keeps_forced a d (Given h) = o.keeps a d h
-  keeps_forced a d (Through m p q) = StandsBefore-through order o.complete.once a m d (keeps_forced a m p) (keeps_forced m d q)
-  keeps_forced r v (AfterRead w f ne_w ne_r p) = stands_after_read w r v f ne_r (keeps_forced w v p)
-  keeps_forced v w (BeforeSource r f ne_w ne_r p) = stands_before_source w r v f ne_w (keeps_forced v r p)
+  pub respects_forced : (a d : ℕ) → IsForced before forbidden a d → StandsBefore order a d
+  respects_forced a d (Given h) = o.keeps a d h
+  respects_forced a d (Through m p q) = StandsBefore-through order o.complete.once a m d (respects_forced a m p) (respects_forced m d q)
+  respects_forced r v (AfterRead w f ne_w ne_r p) = stands_after_read w r v f ne_r (respects_forced w v p)
+  respects_forced v w (BeforeSource r f ne_w ne_r p) = stands_before_source w r v f ne_w (respects_forced v r p)

@@ -1,4 +1,4 @@
--- How what is forced is found, pair by pair.
+-- Propagation finds the forced relation, pair by pair.
 use Rattle.std.proofs.Common.{◌≡◌, ◌≢◌, ◌↔◌, ℕ, ◌<◌, List, [], ◌∷◌, ◌++◌, Some, refl, sym, ◌∙◌, arith, inl, inr}
 use Rattle.std.specs.List.{slice_get}
 use Rattle.lit_rel.specs.declared.between.Pair.{Pair}
@@ -83,7 +83,7 @@ next_apart rows forbidden a d next same =
       | inr earlier ↦ next.forces.not_source (sym earlier.0 ∙ same ∙ earlier.1)
     ]
 
--- a pair put in closes no cycle where it is not turned round already
+-- a pair that is added closes no cycle where the relation lacks its converse
 pub with_pair_no_cycle : (rows : ℕ → ℕ → Type 0) → IsTransitive rows → ((e : ℕ) → ¬ rows e e) → (a d : ℕ) → a ≢ d → ¬ rows d a → (e : ℕ) → ¬ WithPair rows a d e e
 with_pair_no_cycle rows through none a d apart not_back e h = grind (arith, through)
 

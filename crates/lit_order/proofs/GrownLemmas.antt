@@ -1,4 +1,4 @@
--- The orders of what is forced.
+-- The orders of the forced relation.
 use Rattle.std.proofs.Common.{◌≡◌, ◌↔◌, ℕ, List, Option, None, Some, sym, subst}
 use Rattle.std.specs.Prelude.{IfNone}
 use Rattle.lit_order.specs.Forcing.{IsForced}

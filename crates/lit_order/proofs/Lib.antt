@@ -9,5 +9,5 @@ pub mod ForcingLemmas
 pub mod GrownLemmas
 pub mod LinearLemmas
 pub mod MissingLemmas
-pub mod NarrowLemmas
+pub mod RestrictionLemmas
 pub mod RowsLemmas

@@ -1,4 +1,4 @@
--- Where every triple is decided, events can be lined up one after another.
+-- A strict relation that decides every triple has a linear extension that avoids the triples.
 use Rattle.std.proofs.Common.{◌≡◌, ◌≢◌, ◌⊎◌, ℕ, ◌+◌, ◌<◌, ◌≤◌, suc, zero, List, [], ◌∷◌, ◌++◌, length, eqb, arith, inl, inr, subst, sym, ◌∙◌}
 use Rattle.std.proofs.lemmas.Bool.{cases_eq, cases_Bool, false≢true}
 use Rattle.std.proofs.lemmas.List.{length_push}
@@ -35,21 +35,21 @@ pub record IsFirstLeft (before : ℕ → ℕ → Type 0) (order : List ℕ) (k m
 module _ (n : ℕ) (before : ℕ → ℕ → Type 0) (strict : IsStrict n before) where
   first_left : (order : List ℕ) (k : ℕ) → ((m : ℕ) × IsFirstLeft before order k m) ⊎ ((e : ℕ) → e < k → Stands order e)
   first_left order zero = inr (λ e h. absurd (omega arith))
-  first_left order (suc k) = elim (stands_or_not order k) [ inl here ↦ passed here (first_left order k) | inr left ↦ one_more left (first_left order k) ]
+  first_left order (suc k) = elim (stands_or_not order k) [ inl here ↦ skipped here (first_left order k) | inr left ↦ one_more left (first_left order k) ]
     where
       split : (y : ℕ) → y < suc k → (y < k) ⊎ (y ≡ k)
       split y h = elim (cases_eq y k) [ inl same ↦ inr same | inr other ↦ inl (omega arith) ]
 
-      kept : (m : ℕ) → IsFirstLeft before order k m → (¬ Stands order k → ¬ before k m) → IsFirstLeft before order (suc k) m
-      kept m f last = record {
+      still_first : (m : ℕ) → IsFirstLeft before order k m → (¬ Stands order k → ¬ before k m) → IsFirstLeft before order (suc k) m
+      still_first m f last = record {
         below = omega (arith, f.below);
         left = f.left;
         first = λ y h left b. elim (split y h) [ inl l ↦ f.first y l left b | inr same ↦ last (rw same at left) (rw same at b) ];
       }
 
-      passed : Stands order k → ((m : ℕ) × IsFirstLeft before order k m) ⊎ ((e : ℕ) → e < k → Stands order e) → ((m : ℕ) × IsFirstLeft before order (suc k) m) ⊎ ((e : ℕ) → e < suc k → Stands order e)
-      passed here (inl found) = inl (found.0, kept found.0 found.1 (λ left b. left here))
-      passed here (inr all) = inr (λ e h. elim (split e h) [ inl l ↦ all e l | inr same ↦ rw same here ])
+      skipped : Stands order k → ((m : ℕ) × IsFirstLeft before order k m) ⊎ ((e : ℕ) → e < k → Stands order e) → ((m : ℕ) × IsFirstLeft before order (suc k) m) ⊎ ((e : ℕ) → e < suc k → Stands order e)
+      skipped here (inl found) = inl (found.0, still_first found.0 found.1 (λ left b. left here))
+      skipped here (inr all) = inr (λ e h. elim (split e h) [ inl l ↦ all e l | inr same ↦ rw same here ])
 
       itself : ¬ Stands order k → ((y : ℕ) → y < k → ¬ Stands order y → ¬ before y k) → IsFirstLeft before order (suc k) k
       itself left none = record {
@@ -63,7 +63,7 @@ module _ (n : ℕ) (before : ℕ → ℕ → Type 0) (strict : IsStrict n before
       one_more left (inl found) =
           elim (strict.cases k found.0) [
             | inl earlier ↦ inl (k, itself left (λ y l other b. found.1.first y l other (strict.through y k found.0 b earlier)))
-            | inr not_earlier ↦ inl (found.0, kept found.0 found.1 (λ other. not_earlier))
+            | inr not_earlier ↦ inl (found.0, still_first found.0 found.1 (λ other. not_earlier))
           ]
 
   module _ (forbidden : ℕ → ℕ → ℕ → Type 0) (triples : AreTriplesBelow n forbidden) (decided : AreDecided before forbidden) where

@@ -1,4 +1,4 @@
--- How beginnings of orders grow, event by event, to the least order.
+-- How prefixes of orders grow, event by event, to the least order.
 use Rattle.std.proofs.Common.{◌≡◌, ◌⊎◌, ◌↔◌, ℕ, ◌<◌, ◌≤◌, ◌≢◌, Some, List, [], ◌∷◌, ◌++◌, length, take, ◌-◌, refl, sym, ap, ◌∙◌, arith, inl, inr, append_assoc, append-nil}
 use Rattle.std.proofs.lemmas.Bool.{cases_eq, cases_lt, cases_order}
 use Rattle.std.proofs.lemmas.List.{length_push, take_at}
@@ -202,11 +202,11 @@ IsBeginning-nil n before forbidden =
       whole = λ w r v _ s. absurd (none-some w s.first_is);
     }
 
--- The same, where the lists of the code are equal to the beginning: what stands now, and what is there after a push.
+-- The same, where the program's lists are equal to the prefix: its list now, and its list after a push.
 module _ (n : ℕ) (before : ℕ → ℕ → Type 0) (forbidden : ℕ → ℕ → ℕ → Type 0) (placed : ℕ → Type 0) (order : List ℕ) (event : ℕ) (is : IsPlaced n before forbidden placed order) where
   pub IsPlaced-next : (next : ℕ → Type 0) (now more : List ℕ) → now ≡ order → more ≡ now ++ event ∷ [] → event < n → CanStandNext before forbidden placed event
       → ((e : ℕ) → next e ↔ (placed e ⊎ (e ≡ event))) → IsPlaced n before forbidden next more
-  IsPlaced-next next now more kept pushed within can puts = rw (pushed, kept) record {
+  IsPlaced-next next now more unchanged pushed within can puts = rw (pushed, unchanged) record {
     begins = IsBeginning-push n before forbidden placed order event is.events within is.begins can;
     events = λ e. put_more (puts e) (is.events e) (stands_push order event e) ((λ h. h), (λ h. h));
   }
@@ -217,6 +217,6 @@ module _ (n : ℕ) (before : ℕ → ℕ → Type 0) (forbidden : ℕ → ℕ �
 
 -- a pop takes a push back
 pub popped_is : (order now pushed after popped : List ℕ) (event : ℕ) → now ≡ order → pushed ≡ now ++ event ∷ [] → after ≡ pushed → popped ≡ take (length after - 1) after → popped ≡ order
-popped_is order now pushed after popped event kept push same pop =
+popped_is order now pushed after popped event unchanged push same pop =
     let count : length order ≡ length (order ++ event ∷ []) - 1 = omega (arith, length_push order event) in
-    rw (pop, same, push, kept) (take_at order (event ∷ []) (length (order ++ event ∷ []) - 1) count)
+    rw (pop, same, push, unchanged) (take_at order (event ∷ []) (length (order ++ event ∷ []) - 1) count)

@@ -28,7 +28,7 @@ module _ (n m : ℕ) (before other : ℕ → ℕ → Type 0) (forbidden refused 
         least = λ list o. l.least list (order_back list o);
       }
 
--- an order of pairs keeps their chains
+-- an order that respects pairs respects their chains
 module _ (n : ℕ) (before : ℕ → ℕ → Type 0) (forbidden : ℕ → ℕ → ℕ → Type 0) where
   pub HaveSameOrders-chains : HaveSameOrders n before (HasChain before) forbidden
   HaveSameOrders-chains order = (

@@ -1,5 +1,5 @@
--- What a relation and forbidden triples force every order to keep (this project's own; the triples are those of
--- ECMA-262, 2024, 29.7.4).
+-- The forced relation: the pairs that every order has to respect, by a relation and forbidden triples (this project's own;
+-- the triples are those of ECMA-262, 2024, 29.7.4).
 use Rattle.std.specs.Prelude.{◌≢◌, ℕ, List}
 use Rattle.lit_rel.specs.HappensBefore.{Chain}
 

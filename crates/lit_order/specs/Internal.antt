@@ -1,5 +1,5 @@
--- Notions of the contracts inside this crate: beginnings of orders, and what each event may follow.
+-- Notions of private contracts: prefixes of orders, constraints, decided triples and restricted relations.
 pub mod Beginning
 pub mod Constrained
 pub mod Deciding
-pub mod Narrowed
+pub mod Restricted

@@ -21,13 +21,13 @@ pub record IsListOfAll (n : ℕ) (order : List ℕ) : Type 0 where
   pub only : (k e : ℕ) → slice_get order k ≡ Some e → e < n
   pub once : (k l e : ℕ) → slice_get order k ≡ Some e → slice_get order l ≡ Some e → k ≡ l
 
--- A list of n events that keeps each pair of a relation, and in which no v of a triple (w, r, v) stands between w and r.
+-- A list of n events that respects each pair of a relation, and in which no v of a triple (w, r, v) stands between w and r.
 pub record IsOrderOf (n : ℕ) (before : ℕ → ℕ → Type 0) (forbidden : ℕ → ℕ → ℕ → Type 0) (order : List ℕ) : Type 0 where
   pub complete : IsListOfAll n order
   pub keeps : (a d : ℕ) → before a d → StandsBefore order a d
   pub avoids : (w r v : ℕ) → forbidden w r v → StandsBefore order w v → StandsBefore order v r → ⊥
 
--- there is one
+-- some list is such an order
 abbrev pub HasOrder : ℕ → (ℕ → ℕ → Type 0) → (ℕ → ℕ → ℕ → Type 0) → Type 0
 HasOrder n before forbidden = (order : List ℕ) × IsOrderOf n before forbidden order
 
@@ -35,7 +35,7 @@ HasOrder n before forbidden = (order : List ℕ) × IsOrderOf n before forbidden
 abbrev pub HaveSameOrders : ℕ → (ℕ → ℕ → Type 0) → (ℕ → ℕ → Type 0) → (ℕ → ℕ → ℕ → Type 0) → Type 0
 HaveSameOrders n before other forbidden = (order : List ℕ) → IsOrderOf n before forbidden order ↔ IsOrderOf n other forbidden order
 
--- one of them, of which none is less as a list
+-- such an order, of which no other is less as a list
 pub record IsLeastOrderOf (n : ℕ) (before : ℕ → ℕ → Type 0) (forbidden : ℕ → ℕ → ℕ → Type 0) (order : List ℕ) : Type 0 where
   pub is_order : IsOrderOf n before forbidden order
   pub least : (other : List ℕ) → IsOrderOf n before forbidden other → slice_cmp nat_cmp other order ≢ Less

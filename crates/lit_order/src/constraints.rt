@@ -1,4 +1,4 @@
-//! What an order keeps.
+//! The constraints on a memory-order: precedences, and forbidden triples.
 
 ghost use Rattle.std.specs.Prelude.{◌≡◌, ◌⊎◌, ℕ, ◌<◌, ◌≤◌, ◌↔◌, IsTrue};
 ghost use Rattle.lit_paths.specs.declared.limits.TheConstants.{EVENT_LIMIT};
@@ -9,8 +9,8 @@ ghost use Rattle.lit_rel.specs.Rows.{rows_len, Holds};
 use lit_paths::EVENT_LIMIT;
 use lit_rel::{Between, EventSet, Pair, Rows};
 
-/// Whether an event may stand next after the events placed, as far as one pair says: it may stand between the source
-/// and the read, or the source is not placed, or the read is the event itself or is placed too.
+/// Whether one source and its read let an event stand next after the placed events: the event may stand between them,
+/// or the source is not placed, or the read is the event itself or is placed too.
 fn pair_allows(pair: &Pair, event: usize, placed: EventSet) -> bool
     requires event { event < EVENT_LIMIT }
     requires source { pair.now.source < EVENT_LIMIT }
@@ -27,8 +27,8 @@ fn pair_allows(pair: &Pair, event: usize, placed: EventSet) -> bool
     usize::from(pair.read) == event || placed.contains(usize::from(pair.read))
 }
 
-/// Whether an event may stand next after the events placed: none of those is a source that may not have it before its
-/// read, unless the read is placed too, or is the event itself.
+/// Whether the forbidden triples let an event stand next after the placed events: where the event may not stand between
+/// a placed source and its read, that read is placed too, or is the event itself.
 fn allows(between: &Between, event: usize, placed: EventSet) -> bool
     requires { event < between.now.len }
     ensures { IsTrue result ↔ ((w r : ℕ) → Forbids between.now w r event → HasEvent placed w → (r ≡ event) ⊎ HasEvent placed r) }
@@ -41,10 +41,11 @@ fn allows(between: &Between, event: usize, placed: EventSet) -> bool
     true
 }
 
-/// What comes before each event, and what may not stand between a source and its read.
+/// The constraints on an order: which events come before each event, and which may not stand between a source and its
+/// read.
 #[derive(Drop)]
 pub(crate) struct Constraints<'a> {
-    /// What comes before what, turned round.
+    /// From each event to the events that come before it.
     converse: &'a Rows,
     between: &'a Between,
     ghost same: { rows_len converse.now ≡ between.now.len },
@@ -55,7 +56,7 @@ impl<'a> Constraints<'a> {
     ghost use Rattle.lit_order.specs.Internal.Beginning.{CanStandNext};
     ghost use Rattle.lit_order.specs.Internal.Constrained.{constrained_len, ComesBefore, MayNotStand};
 
-    /// What the converse of a relation and triples ask, both on the same events.
+    /// The constraints of a relation, given by its converse, and of forbidden triples, both on the same events.
     pub(crate) fn new(converse: &'a Rows, between: &'a Between) -> Self
         requires { rows_len converse.now ≡ between.now.len }
         ensures len { constrained_len result ≡ rows_len converse.now }
@@ -73,7 +74,7 @@ impl<'a> Constraints<'a> {
         self.between.len()
     }
 
-    /// What may not stand between a source and its read.
+    /// The forbidden triples: which events may not stand between a source and its read.
     pub(crate) fn between(&self) -> &'a Between
         ensures { result.now ≡ self.now.between.now }
     {
@@ -87,8 +88,8 @@ impl<'a> Constraints<'a> {
         EventSet::below(self.len()).difference(placed)
     }
 
-    /// Whether an event, below `len()`, can stand after the events placed: it is not placed, all that come before it
-    /// are, and it does not stand between a source and its read.
+    /// Whether an event, below `len()`, can stand next after the placed events: it is not placed, every event that comes
+    /// before it is, and no forbidden triple has it between a source and its read.
     pub(crate) fn can_stand_next(&self, event: usize, placed: EventSet) -> bool
         requires { event < constrained_len self.now }
         ensures { IsTrue result ↔ CanStandNext (ComesBefore self.now) (MayNotStand self.now) (HasEvent placed) event }
@@ -98,7 +99,7 @@ impl<'a> Constraints<'a> {
             && allows(self.between, event, placed)
     }
 
-    /// Whether all that come before an event, below `len()`, are placed.
+    /// Whether every event that comes before an event, below `len()`, is placed.
     fn follows(&self, event: usize, placed: EventSet) -> bool
         requires { event < constrained_len self.now }
         ensures { IsTrue result ↔ ((a : ℕ) → ComesBefore self.now a event → HasEvent placed a) }

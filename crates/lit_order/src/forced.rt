@@ -1,4 +1,4 @@
-//! Whether precedences between events, with forbidden triples, leave an order.
+//! Whether some order satisfies precedences between events and avoids forbidden triples.
 
 ghost use Rattle.std.specs.Prelude.{◌≡◌, ◌↔◌, ℕ, ◌<◌, IsNone, IsTrue, IfSome};
 ghost use Rattle.lit_rel.specs.Between.{Forbids};
@@ -9,12 +9,13 @@ use crate::forcing::{closed, forced_precedence};
 use crate::triple::undecided;
 use lit_rel::{Between, Rows};
 
-/// Whether some order keeps a relation and avoids forbidden triples, both on the same events. Where nothing decides a
-/// triple, either side of it is asked; each time more pairs are there.
+/// Whether some order respects a relation and avoids forbidden triples, both on the same events. Where propagation leaves
+/// a triple undecided, the search branches on its two sides.
 pub(crate) fn has_order(before: &Rows, between: &Between) -> bool
     requires { rows_len before.now ≡ between.now.len }
     ensures { IsTrue result ↔ HasOrder (rows_len before.now) (Holds before.now) (Forbids between.now) }
 {
+    // What is forced is added first, so that no branch closes a cycle (decision 18).
     let Some(forced) = forced_precedence(before, between) else {
         return false;
     };
@@ -75,7 +76,7 @@ impl<'a> Forced<'a> {
         })
     }
 
-    /// Whether some order has all pairs given and avoids the triples.
+    /// Whether some order respects all given pairs and avoids the triples.
     pub fn extendable(&self) -> bool
         ensures { IsTrue result ↔ HasOrder (forced_len self.now) (IsBefore self.now) (Refuses self.now) }
     {

@@ -1,4 +1,4 @@
-//! Memory-orders by what is forced.
+//! Finds memory-orders with propagation of forced pairs.
 
 ghost use Rattle.std.specs.Prelude.{◌≡◌, ◌⊎◌, ℕ, ◌<◌, ◌≤◌, ◌↔◌, IsTrue, IfNone, IfSome, List};
 ghost use Rattle.arrayvec.specs.ArrayVec.{array_vec_len};
@@ -6,7 +6,7 @@ ghost use Rattle.lit_rel.specs.Between.{Forbids};
 ghost use Rattle.lit_rel.specs.EventSet.{HasEvent};
 ghost use Rattle.lit_rel.specs.Rows.{rows_len, Holds};
 ghost use Rattle.lit_order.specs.Internal.Constrained.{BeginsNone, ComesBefore, IsBegun, IsLeastOf, MayNotStand, constrained_len};
-ghost use Rattle.lit_order.specs.Internal.Narrowed.{IsNarrowed};
+ghost use Rattle.lit_order.specs.Internal.Restricted.{IsRestricted};
 ghost use Rattle.lit_order.specs.MemoryOrder.{IsLeastOrderOf, IsOrderOf};
 
 use crate::constraints::Constraints;
@@ -15,8 +15,9 @@ use crate::forcing::force;
 use crate::order::{Order, OrderFinder};
 use lit_rel::{Between, EventSet, Rows, TwoWayRows};
 
-/// Finds first what is forced, and then places the least event that can stand next, again and again: so it seldom has
-/// to try. Only where no event can stand next does it begin anew, and ask at each place what leaves an order.
+/// Propagates what is forced, and then places the least event that can stand next, again and again: so it seldom has to
+/// search. Only where no event can stand next does it start again, and checks for each event that it places whether some
+/// order has it there.
 #[derive(Clone, Copy, Debug, Default, PartialEq, Eq)]
 pub struct ForcedFinder;
 
@@ -40,9 +41,10 @@ pub fn least_of(forced: &TwoWayRows, between: &Between) -> Option<Order>
         ((order : List ℕ) → ¬ IsOrderOf (rows_len forced.now.rows) (Holds forced.now.rows) (Forbids between.now) order) }
 {
     let constraints = Constraints::new(&forced.converse, between);
-    let mut walked = Order::new();
-    if walk(&mut walked, EventSet::new(), &constraints) {
-        return Some(walked);
+    // The greedy extension is tried first: it needs no search, and it succeeds wherever it never runs into a dead end.
+    let mut greedy = Order::new();
+    if extend_greedily(&mut greedy, EventSet::new(), &constraints) {
+        return Some(greedy);
     }
     let mut order = Order::new();
     if complete(&mut order, EventSet::new(), &forced.rows, &constraints) {
@@ -52,9 +54,9 @@ pub fn least_of(forced: &TwoWayRows, between: &Between) -> Option<Order>
     }
 }
 
-/// Goes on with the beginning of an order, of which `placed` has the events, by the least event that can stand next,
-/// until none can. Says whether all events are placed then: the order is the least that begins so.
-fn walk(order: &mut Order, placed: EventSet, constraints: &Constraints<'_>) -> bool
+/// Extends the prefix of an order, whose events are those in `placed`, by the least event that can stand next, until none
+/// can. Says whether all events are placed then: the order is the least one with that prefix.
+fn extend_greedily(order: &mut Order, placed: EventSet, constraints: &Constraints<'_>) -> bool
     requires fits { array_vec_len order.old ≤ constrained_len constraints.now }
     requires begun { IsBegun constraints.now placed order.old.items }
     ensures { IsTrue result → IsLeastOf constraints.now order.old.items order.new.items }
@@ -63,29 +65,29 @@ fn walk(order: &mut Order, placed: EventSet, constraints: &Constraints<'_>) -> b
         return true;
     }
     let mut left = constraints.unplaced(placed);
-    'walking: while let Some((event, others)) = left.split_first() {
+    'extending: while let Some((event, others)) = left.split_first() {
         if constraints.can_stand_next(event, placed) {
             order.push(event as u8);
-            return walk(order, placed.with(event), constraints);
+            return extend_greedily(order, placed.with(event), constraints);
         }
         left = others;
     }
     false
 }
 
-/// Makes the beginning of an order, of which `placed` has the events, the least order that begins so, and says whether
-/// there is one. The orders of `narrow` are those that begin so.
+/// Makes the prefix of an order, whose events are those in `placed`, the least order with that prefix, and says whether
+/// there is one. The orders of `restriction` are those with the prefix.
 fn complete(
     order: &mut Order,
     placed: EventSet,
-    narrow: &Rows,
+    restriction: &Rows,
     constraints: &Constraints<'_>,
 ) -> bool
     requires fits { array_vec_len order.old ≤ constrained_len constraints.now }
     requires begun { IsBegun constraints.now placed order.old.items }
-    requires len { rows_len narrow.now ≡ constrained_len constraints.now }
-    requires narrowed { IsNarrowed (constrained_len constraints.now) (ComesBefore constraints.now) (MayNotStand constraints.now)
-        (Holds narrow.now) order.old.items }
+    requires len { rows_len restriction.now ≡ constrained_len constraints.now }
+    requires restricted { IsRestricted (constrained_len constraints.now) (ComesBefore constraints.now) (MayNotStand constraints.now)
+        (Holds restriction.now) order.old.items }
     ensures found { IsTrue result → IsLeastOf constraints.now order.old.items order.new.items }
     ensures none { ¬ IsTrue result → BeginsNone constraints.now order.old.items }
 {
@@ -94,7 +96,7 @@ fn complete(
     }
     for event in 0..constraints.len() {
         if constraints.can_stand_next(event, placed) {
-            let next = placed_next(narrow, event, placed.with(event));
+            let next = placed_next(restriction, event, placed.with(event));
             if has_order(&next, constraints.between()) {
                 order.push(event as u8);
                 return complete(order, placed.with(event), &next, constraints);
@@ -104,7 +106,7 @@ fn complete(
     false
 }
 
-/// The relation with an event before all that are not placed.
+/// The relation with an event put before all events that are not placed.
 fn placed_next(rows: &Rows, event: usize, placed: EventSet) -> Rows
     requires { event < rows_len rows.now }
     ensures len { rows_len result ≡ rows_len rows.now }

@@ -1,4 +1,4 @@
-//! What a relation and forbidden triples force every order to keep.
+//! The forced relation: the pairs that every order has to respect, by a relation and forbidden triples.
 
 ghost use Rattle.std.specs.Prelude.{◌≡◌, ◌↔◌, ℕ, IsNone, IsTrue, IfSome};
 ghost use Rattle.lit_rel.specs.Between.{Forbids};
@@ -19,8 +19,8 @@ pub(crate) fn closed(before: &Rows) -> Option<Rows>
     if rows.has_cycle() { None } else { Some(rows) }
 }
 
-/// Puts in what a transitive relation and forbidden triples force, both on the same events. Says no exactly where an
-/// event is forced before itself; then some of what is forced may be in.
+/// Propagates: adds the pairs that a transitive relation and forbidden triples force, both on the same events. The answer
+/// is false exactly where an event is forced before itself; then the relation may have some of the forced pairs.
 pub fn force(forced: &mut TwoWayRows, between: &Between) -> bool
     requires len { rows_len forced.old.rows ≡ between.now.len }
     requires transitive { IsTransitive (Holds forced.old.rows) }
@@ -41,7 +41,7 @@ pub fn force(forced: &mut TwoWayRows, between: &Between) -> bool
 }
 
 /// The pairs of events that a relation and forbidden triples force, or `None` exactly where an event is forced before
-/// itself. Both are on the same events. Every order keeps these pairs, and where there is `None`, no order is there.
+/// itself. Both are on the same events. Every order respects these pairs, and where there is `None`, there is no order.
 pub fn forced_precedence(before: &Rows, between: &Between) -> Option<Rows>
     requires { rows_len before.now ≡ between.now.len }
     ensures cycle { IsNone result ↔ HasForcedCycle (Holds before.now) (Forbids between.now) }

@@ -1,7 +1,7 @@
-//! Memory-orders of a candidate execution: the least list of its events that keeps a relation and that no forbidden triple refuses.
+//! Memory-orders of a candidate execution: the least list of its events that respects a relation and avoids forbidden triples.
 //!
 //! `OrderFinder` is the law: `least_order` gives the least such list, and `None` exactly where there is none.
-//! `PlainFinder` and `ForcedFinder` keep it. The definitions stand in `specs/MemoryOrder`.
+//! `PlainFinder` and `ForcedFinder` obey it. The definitions stand in `specs/MemoryOrder`.
 #![tactic(auto)]
 
 mod constraints;

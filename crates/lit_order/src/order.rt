@@ -1,4 +1,4 @@
-//! What finds memory-orders (ECMA-262, 2024, 29.7.4).
+//! The law of finders of memory-orders (ECMA-262, 2024, 29.7.4).
 
 use arrayvec::ArrayVec;
 use lit_paths::EVENT_LIMIT;

@@ -1,4 +1,4 @@
-//! Memory-orders, event by event.
+//! Finds memory-orders by backtracking, event by event.
 
 ghost use Rattle.std.specs.Prelude.{◌≡◌, ◌≤◌, IsTrue};
 ghost use Rattle.arrayvec.specs.ArrayVec.{array_vec_len};
@@ -8,7 +8,7 @@ use crate::constraints::Constraints;
 use crate::order::{Order, OrderFinder};
 use lit_rel::{Between, EventSet, Rows, converse_of};
 
-/// Builds orders event by event, the least event that can stand next first, and goes back where none can be completed.
+/// Builds orders event by event, the least event that can stand next first, and backtracks where none can be completed.
 #[derive(Clone, Copy, Debug, Default, PartialEq, Eq)]
 pub struct PlainFinder;
 
@@ -25,14 +25,14 @@ impl OrderFinder for PlainFinder {
     }
 }
 
-/// Makes the beginning of an order, of which `placed` has the events, the least order that begins so, and says whether
-/// there is one. If not, the beginning stays.
+/// Makes the prefix of an order, whose events are those in `placed`, the least order with that prefix, and says whether
+/// there is one. If not, the prefix is unchanged.
 fn extend(order: &mut Order, placed: EventSet, constraints: &Constraints<'_>) -> bool
     requires fits { array_vec_len order.old ≤ constrained_len constraints.now }
     requires begun { IsBegun constraints.now placed order.old.items }
     ensures found { IsTrue result → IsLeastOf constraints.now order.old.items order.new.items }
     ensures none { ¬ IsTrue result → BeginsNone constraints.now order.old.items }
-    ensures kept { ¬ IsTrue result → order.new.items ≡ order.old.items }
+    ensures unchanged { ¬ IsTrue result → order.new.items ≡ order.old.items }
 {
     if order.len() == constraints.len() {
         return true;

@@ -60,7 +60,7 @@ fn others_of(pair: &Pair) -> EventSet
     pair.others.difference(source.with(usize::from(pair.read)))
 }
 
-/// A pair of events that some triple of a source and its read forces and that is not there yet.
+/// A pair of events that some triple of a source and its read forces, and that the relation lacks.
 fn forced_by(rows: &TwoWayRows, pair: &Pair) -> Option<Precedence>
     requires source { pair.now.source < rows_len rows.now.rows }
     requires read { pair.now.read < rows_len rows.now.rows }
@@ -88,7 +88,7 @@ fn forced_by(rows: &TwoWayRows, pair: &Pair) -> Option<Precedence>
     None
 }
 
-/// A pair of events that some triple forces and that is not there yet.
+/// A pair of events that some triple forces, and that the relation lacks.
 pub(crate) fn next_forced(rows: &TwoWayRows, between: &Between) -> Option<Precedence>
     requires { rows_len rows.now.rows ≡ between.now.len }
     ensures { MatchOption result (HasAllForced (Holds rows.now.rows) (Forbids between.now))

@@ -11,7 +11,7 @@ use Rattle.lit_paths.specs.Internal.Walks.{AreSaid, longest, longest_of, count_o
 use Rattle.lit_paths.proofs.PathSteps.{with_steps-model, walk-registers}
 use Rattle.lit_paths.proofs.Walks.{walks_of-known, walks_of-some}
 
--- the first so many paths
+-- the first n paths of an agent
 abbrev pub AreFirst : ℕ → Statements → ℕ → List PathModel → Type 0
 AreFirst owner ss n paths = paths ≡ map (path_model owner) (take n (walks_of ss))
 

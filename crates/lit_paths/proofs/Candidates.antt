@@ -48,7 +48,7 @@ length-candidates_from read n (e ∷ es) =
     [ true ↦ omega (arith, length-candidates_from read (n + 1) es) | false ↦ omega (arith, length-candidates_from read (n + 1) es) ] in
     step (is_candidate read.0 read.1 (n, e))
 
--- what is left at the end is nothing
+-- no event is left at the end
 pub candidates_from-end : (read : ℕ × ℕ) (events : List Event) (i : ℕ) → length events ≤ i → candidates_from read i (drop i events) ≡ []
 candidates_from-end read events i past = ap (λ es. candidates_from read i es) (drop_all i events past)
 

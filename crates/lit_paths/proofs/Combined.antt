@@ -49,7 +49,7 @@ list_at t lists i v are inside at =
     same h = ap (λ m. path_models m (get_or t.agents i (agent_of t i)).body) (let e : 0 + i ≡ i = omega arith in e)
         ∙ ap (λ (a : Agent). path_models i a.body) (get_or_default t.agents i (agent_of t i) _ h)
 
--- the same of what is kept of a test's paths
+-- the same of the saved paths of a test
 pub lists_here : (p : Inside) → AreAllPaths p → (t : Litmus) → p.test.now ≡ t → length p.lists.items ≡ length t.agents
 lists_here p is t view = length-lists p.test.now p.lists.items is.all ∙ ap (λ (s : Litmus). length s.agents) view
 

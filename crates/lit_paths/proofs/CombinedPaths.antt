@@ -82,7 +82,7 @@ path_at t c i known inside =
     ∙ ap (λ steps. Some (path_on i steps)) (sym (walk_in-numbered t c i known inside))
 
 -- ---- the events
--- those of the first so many agents
+-- the accesses of the first agents, as many as given
 abbrev pub accesses_before : Litmus → ℕ → ℕ → List Event
 accesses_before t c zero = []
 accesses_before t c (suc i) = accesses_before t c i ++ (path_in t c i).events
@@ -155,7 +155,7 @@ events-longest ss owner place steps is =
       ap (λ (l : List Step). length (events_on owner place l)) (append-nil steps),
     )
 
--- how many accesses the first so many agents have, with what the others may have
+-- how many accesses the first i agents have, with the most that the others may have
 pub length-accesses_before : (t : Litmus) (c i : ℕ) → c < length (combinations_of t) → i ≤ length t.agents → length (accesses_before t c i) + longest_of (drop i t.agents) ≤ longest_of t.agents
 length-accesses_before t c zero known le = omega arith
 length-accesses_before t c (suc i) known le =
@@ -170,7 +170,7 @@ events_whole t c i events known at is =
     is ∙ ap (λ k. init_events t.bytes ++ accesses_before t c k) at ∙ ap (λ xs. init_events t.bytes ++ xs) (sym (accesses_of-combination t c known))
 
 -- ---- joining the paths, agent after agent
-pub record AreJoined (t : Litmus) (c i : ℕ) (later : ℕ) (numbers firsts : List ℕ) (events : List Event) : Type 0 where
+pub record AreFirstPaths (t : Litmus) (c i : ℕ) (later : ℕ) (numbers firsts : List ℕ) (events : List Event) : Type 0 where
   pub behind : later ≡ count_of (drop i t.agents)
   pub all_numbers : numbers ≡ map (walk_number t c) (range_with_len 0 i)
   pub all_firsts : firsts ≡ map (first_event t c) (range_with_len 0 i)
@@ -185,7 +185,7 @@ first_counted t c i events known inside is =
     ∙ ap (λ (es : List Event). t.bytes + length es) (sym (first_accesses t c i known (length-combination t c known) (omega (arith, inside))))
 
 -- what joining one agent more does
-pub record IsNextJoined (t : Litmus) (c i count later left number first : ℕ) (now : List Event) (path : PathModel) (new : List Event) : Type 0 where
+pub record IsNextPath (t : Litmus) (c i count later left number first : ℕ) (now : List Event) (path : PathModel) (new : List Event) : Type 0 where
   pub known : c < length (combinations_of t)
   pub inside : i < length t.agents
   pub counted : count ≡ length (walks_of (agent_of t i).body)
@@ -196,33 +196,33 @@ pub record IsNextJoined (t : Litmus) (c i count later left number first : ℕ) (
   pub pushed : new ≡ now ++ path.events
 
 pub joined_none : (t : Litmus) (c : ℕ) (later : ℕ) (numbers firsts : List ℕ) (made : List Event) → later ≡ count_of t.agents → numbers ≡ [] → firsts ≡ [] → made ≡ init_events t.bytes
-    → AreJoined t c 0 later numbers firsts made
+    → AreFirstPaths t c 0 later numbers firsts made
 joined_none t c later numbers firsts made counted a b is = record { behind = counted; all_numbers = a; all_firsts = b; all_events = is ∙ sym (append-nil (init_events t.bytes)) }
 
 pub numbered_is : (t : Litmus) (c i count later left : ℕ) (numbers firsts : List ℕ) (now : List Event) → i < length t.agents → count ≡ length (walks_of (agent_of t i).body) → left ≡ later / count
-    → AreJoined t c i later numbers firsts now → (left ≡ count_of (drop (i + 1) t.agents)) × (c / left % count ≡ walk_number t c i)
-numbered_is t c i count later left numbers firsts now inside counted is joined = next_number t c i count later left inside counted joined.behind is
+    → AreFirstPaths t c i later numbers firsts now → (left ≡ count_of (drop (i + 1) t.agents)) × (c / left % count ≡ walk_number t c i)
+numbered_is t c i count later left numbers firsts now inside counted is combination_paths = next_number t c i count later left inside counted combination_paths.behind is
 
-pub path_joined : (t : Litmus) (c i count later left number first : ℕ) (numbers firsts : List ℕ) (now new : List Event) (path : PathModel)
-    → IsNextJoined t c i count later left number first now path new → AreJoined t c i later numbers firsts now → path ≡ path_in t c i
-path_joined t c i count later left number first numbers firsts now new path next joined =
-    let number_is : number ≡ walk_number t c i = next.number_is ∙ (next_number t c i count later left next.inside next.counted joined.behind next.left_is).1 in
+pub next_path_is : (t : Litmus) (c i count later left number first : ℕ) (numbers firsts : List ℕ) (now new : List Event) (path : PathModel)
+    → IsNextPath t c i count later left number first now path new → AreFirstPaths t c i later numbers firsts now → path ≡ path_in t c i
+next_path_is t c i count later left number first numbers firsts now new path next combination_paths =
+    let number_is : number ≡ walk_number t c i = next.number_is ∙ (next_number t c i count later left next.inside next.counted combination_paths.behind next.left_is).1 in
     next.path_is ∙ ap (λ n. path_model i (walk_at (agent_of t i).body n)) number_is ∙ ap (path_model i) (sym (walk_in-numbered t c i next.known next.inside))
 
 pub joined_more : (t : Litmus) (c i count later left number first : ℕ) (numbers firsts more_numbers more_firsts : List ℕ) (now new : List Event) (path : PathModel)
-    → IsNextJoined t c i count later left number first now path new → more_numbers ≡ numbers ++ number ∷ [] → more_firsts ≡ firsts ++ first ∷ []
-    → AreJoined t c i later numbers firsts now → AreJoined t c (i + 1) left more_numbers more_firsts new
-joined_more t c i count later left number first numbers firsts more_numbers more_firsts now new path next put_number put_first joined =
-    let numbered : (left ≡ count_of (drop (i + 1) t.agents)) × (c / left % count ≡ walk_number t c i) = next_number t c i count later left next.inside next.counted joined.behind next.left_is in
+    → IsNextPath t c i count later left number first now path new → more_numbers ≡ numbers ++ number ∷ [] → more_firsts ≡ firsts ++ first ∷ []
+    → AreFirstPaths t c i later numbers firsts now → AreFirstPaths t c (i + 1) left more_numbers more_firsts new
+joined_more t c i count later left number first numbers firsts more_numbers more_firsts now new path next put_number put_first combination_paths =
+    let numbered : (left ≡ count_of (drop (i + 1) t.agents)) × (c / left % count ≡ walk_number t c i) = next_number t c i count later left next.inside next.counted combination_paths.behind next.left_is in
     let at : 0 + i ≡ i = omega arith in
     record {
       behind = numbered.0;
-      all_numbers = put_number ∙ ap₂ (λ (ns : List ℕ) (n : ℕ). ns ++ n ∷ []) joined.all_numbers (next.number_is ∙ numbered.1) ∙ sym (map-range_with_len_more (walk_number t c) 0 i i at);
-      all_firsts = put_first ∙ ap₂ (λ (ns : List ℕ) (n : ℕ). ns ++ n ∷ []) joined.all_firsts (next.first_is ∙ first_counted t c i now next.known next.inside joined.all_events)
+      all_numbers = put_number ∙ ap₂ (λ (ns : List ℕ) (n : ℕ). ns ++ n ∷ []) combination_paths.all_numbers (next.number_is ∙ numbered.1) ∙ sym (map-range_with_len_more (walk_number t c) 0 i i at);
+      all_firsts = put_first ∙ ap₂ (λ (ns : List ℕ) (n : ℕ). ns ++ n ∷ []) combination_paths.all_firsts (next.first_is ∙ first_counted t c i now next.known next.inside combination_paths.all_events)
           ∙ sym (map-range_with_len_more (first_event t c) 0 i i at);
-      all_events = next.pushed ∙ ap (λ (es : List Event). es ++ path.events) joined.all_events
+      all_events = next.pushed ∙ ap (λ (es : List Event). es ++ path.events) combination_paths.all_events
           ∙ append_assoc (init_events t.bytes) (accesses_before t c i) path.events
-          ∙ ap (λ (p : PathModel). init_events t.bytes ++ (accesses_before t c i ++ p.events)) (path_joined t c i count later left number first numbers firsts now new path next joined)
+          ∙ ap (λ (p : PathModel). init_events t.bytes ++ (accesses_before t c i ++ p.events)) (next_path_is t c i count later left number first numbers firsts now new path next combination_paths)
           ∙ ap (λ k. init_events t.bytes ++ accesses_before t c k) (sym (add-one i));
     }
 

@@ -1,4 +1,4 @@
--- Counting walks and accesses as far as a limit.
+-- Counting walks and accesses, capped at a limit.
 use Rattle.std.proofs.Common.{◌≡◌, ℕ, ◌+◌, ◌*◌, ◌<◌, ◌≤◌, List, length, get_or, drop, arith, sym, ap, ◌∙◌, ⊎_elim, mul_assoc, mul-le-mul, min}
 use Rattle.std.proofs.lemmas.Bool.{cases_lt}
 use Rattle.lit_read.specs.declared.syntax.Stmt.{Stmt}
@@ -25,7 +25,7 @@ capped_product k p b some =
     ap (λ m. min (m * b) k) (min-high p k high) ∙ min-high (k * b) k (omega (arith, first)) ∙ sym (min-high (p * b) k (omega (arith, second, high))))
     (cases_lt p k)
 
--- a factor that is counted as far as k changes nothing
+-- a factor that is capped at k changes nothing
 pub capped_factor : (k a s b : ℕ) → 1 ≤ a → 1 ≤ s → 1 ≤ b → min (min (a * min s k) k * b) k ≡ min (a * (s * b)) k
 capped_factor k a s b one some more =
     ⊎_elim

@@ -6,7 +6,7 @@ use Rattle.std.proofs.lemmas.Option.{slice_get_within}
 use Rattle.lit_paths.specs.Choice.{product}
 use Rattle.lit_paths.proofs.Products.{length-product, fronted-known, factors-positive}
 
--- how many ways the lists after one leave
+-- the number of members of the product of the lists after one
 abbrev pub later_ways : {A : Type 0} → List (List A) → ℕ → ℕ
 later_ways xss i = length (product (drop (suc i) xss))
 

@@ -13,7 +13,7 @@ pub mod Counts
 pub mod Stepping
 pub mod Digits
 pub mod AgentPaths
-pub mod NameSteps
+pub mod OutcomeRegisterSteps
 pub mod ByteReads
 pub mod Conditions
 pub mod Combined
@@ -26,6 +26,6 @@ pub mod WaySteps
 pub mod PlanFacts
 pub mod Entered
 pub mod NumberLaws
-pub mod MakingSteps
+pub mod PlanBuilderSteps
 pub mod MakerSteps
 pub mod MakerLaws

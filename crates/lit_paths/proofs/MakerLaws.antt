@@ -90,8 +90,8 @@ makers_exist n ss steps walk =
 abbrev AreSame : List ℕ → List ℕ → List Step → List Step → Type 0
 AreSame ms ns xs ys = (ms ≡ ns) × (xs ≡ ys)
 
-held_one_way : (r : ℕ) (q : Bool) (v : ℕ) (xs ys : List Step) → IfMet r q v true ∷ xs ≡ IfMet r q v false ∷ ys → ⊥
-held_one_way r q v xs ys e = cc
+decided_one_way : (r : ℕ) (q : Bool) (v : ℕ) (xs ys : List Step) → IfMet r q v true ∷ xs ≡ IfMet r q v false ∷ ys → ⊥
+decided_one_way r q v xs ys e = cc
 
 step_parts : (a b : Step) (xs ys : List Step) → a ∷ xs ≡ b ∷ ys → (a ≡ b) × (xs ≡ ys)
 step_parts a b xs ys e = (cc, cc)
@@ -113,9 +113,9 @@ mutual
   statement_once n (If r q v body other) first others rest more ms ns (inr h) (inr g) e =
       statements_once (n + 1 + statement_count body) other h.0 g.0 rest more ms ns h.2 g.2 (step_parts _ _ (h.0 ++ rest) (g.0 ++ more) (ap (λ (xs : List Step). xs ++ rest) (sym h.1) ∙ e ∙ ap (λ (xs : List Step). xs ++ more) g.1)).1
   statement_once n (If r q v body other) first others rest more ms ns (inl h) (inr g) e =
-      absurd (held_one_way r q v (h.0 ++ rest) (g.0 ++ more) (ap (λ (xs : List Step). xs ++ rest) (sym h.1) ∙ e ∙ ap (λ (xs : List Step). xs ++ more) g.1))
+      absurd (decided_one_way r q v (h.0 ++ rest) (g.0 ++ more) (ap (λ (xs : List Step). xs ++ rest) (sym h.1) ∙ e ∙ ap (λ (xs : List Step). xs ++ more) g.1))
   statement_once n (If r q v body other) first others rest more ms ns (inr h) (inl g) e =
-      absurd (held_one_way r q v (g.0 ++ more) (h.0 ++ rest) (sym (ap (λ (xs : List Step). xs ++ rest) (sym h.1) ∙ e ∙ ap (λ (xs : List Step). xs ++ more) g.1)))
+      absurd (decided_one_way r q v (g.0 ++ more) (h.0 ++ rest) (sym (ap (λ (xs : List Step). xs ++ rest) (sym h.1) ∙ e ∙ ap (λ (xs : List Step). xs ++ more) g.1)))
 
   statements_once : (n : ℕ) (ss : Statements) (first others rest more : List Step) (ms ns : List ℕ) → AreMakers n ss first ms → AreMakers n ss others ns → first ++ rest ≡ others ++ more
       → AreSame ms ns rest more

@@ -1,4 +1,4 @@
--- The statements that make the events of a walk, found by what the walk asks.
+-- The statements that make the events of a walk, found by the guards of the walk.
 use Rattle.std.proofs.Common.{◌≡◌, ℕ, ◌+◌, ◌-◌, ◌*◌, ◌<◌, ◌≤◌, Bool, true, false, cond, List, [], ◌∷◌, ◌++◌, length, get_or, max, inl, inr, refl, sym, ap, subst, ◌∙◌, arith, append_assoc, mul-le-mul}
 use Rattle.std.proofs.lemmas.List.{append-nil, length-append}
 use Rattle.std.proofs.Math.Nat.{mul-add, add-mul}
@@ -32,7 +32,7 @@ holds_where-asked true false = refl
 holds_where-asked false true = refl
 holds_where-asked false false = refl
 
--- what is found, with these tests left
+-- what is found, with these guards after it
 abbrev AreFoundAt : ℕ → Statement → List Step → List Tested → List ℕ × List Tested → Type 0
 AreFoundAt n s steps later found = AreStatementMakers n s steps found.0 × (found.1 ≡ later)
 
@@ -112,7 +112,7 @@ mutual
 
 -- ---- one statement more
 
--- What is found so far, with what is found in the statements that are left, is what is found in all of them.
+-- What is found so far, with what is found in the remaining statements, is what is found in all of them.
 pub record IsFinding (xs : List Stmt) (first : ℕ) (tests : List Tested) (begun : List ℕ) (i number : ℕ) (left : List Tested) (makers : List ℕ) : Type 0 where
   pub whole : makers ++ (makers_of number (left_of xs i) left).0 ≡ begun ++ (makers_of first (statements_of xs) tests).0
   pub rest : (makers_of number (left_of xs i) left).1 ≡ (makers_of first (statements_of xs) tests).1
@@ -122,13 +122,13 @@ pub record IsFinding (xs : List Stmt) (first : ℕ) (tests : List Tested) (begun
 pub finding_begins : (xs : List Stmt) (first : ℕ) (tests : List Tested) (begun : List ℕ) → IsFinding xs first tests begun 0 first tests begun
 finding_begins xs first tests begun = record { whole = refl; rest = refl; count = refl; room = omega arith }
 
--- what stands for a statement among those that are left
-pub record IsNext (xs : List Stmt) (i : ℕ) (s : Statement) : Type 0 where
+-- a statement among those that are still to come
+pub record IsNextStatement (xs : List Stmt) (i : ℕ) (s : Statement) : Type 0 where
   pub split : left_of xs i ≡ Then s (left_of xs (i + 1))
   pub count : statement_count (left_of xs i) ≡ count_with_parts s + statement_count (left_of xs (i + 1))
   pub long : longest (left_of xs i) ≡ statement_longest s + longest (left_of xs (i + 1))
 
-pub is_next : (xs : List Stmt) (i : ℕ) (x : Stmt) → i < length xs → x ≡ get_or xs i x → IsNext xs i (statement_of x)
+pub is_next : (xs : List Stmt) (i : ℕ) (x : Stmt) → i < length xs → x ≡ get_or xs i x → IsNextStatement xs i (statement_of x)
 is_next xs i x inside is = let split = statements_left xs i x inside is in record { split = split; count = ap statement_count split; long = ap longest split }
 
 pub finding_more : (xs : List Stmt) (first : ℕ) (tests : List Tested) (begun : List ℕ) (i number : ℕ) (left : List Tested) (makers : List ℕ) (x : Stmt) (number' : ℕ) (left' : List Tested) (makers' : List ℕ)

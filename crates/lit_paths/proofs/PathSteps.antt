@@ -1,4 +1,4 @@
--- What a path asks and holds, by its steps, is what it has once it is walked.
+-- The guards and registers of a path, by its steps, are those that it has once it is built.
 use Rattle.std.proofs.Common.{◌≡◌, ℕ, zero, suc, ◌+◌, ◌<◌, ◌==◌, Bool, true, false, if◌then◌else◌, Option, Some, None, List, [], ◌∷◌, ◌++◌, length, map, replicate, slice_get, arith, refl, sym, ap, ap₂, ◌∙◌, subst, ⊎_elim, append_assoc, append-nil, IsTrue}
 use Rattle.std.specs.Prelude.{slice_set, slice_index_or}
 use Rattle.std.proofs.lemmas.Bool.{cases_eq, eq-eqb, ne_eqb}
@@ -16,7 +16,7 @@ use Rattle.lit_paths.specs.Event.{does_read}
 use Rattle.lit_paths.specs.PathModel.{PathModel, IsReadAt, accesses_of, access_count, reads_into, last_read_from, last_read, asked, guards_after, guards_on, path_model}
 use Rattle.lit_paths.specs.Internal.PathSteps.{empty_path, with_steps}
 
--- ---- what steps ask and hold, from a place on, where the registers hold these reads
+-- ---- the guards and registers of steps, from a place on, where the registers hold these reads
 abbrev pub guards_from : ℕ → List (Option ℕ) → List Step → List Tested
 guards_from place last [] = []
 guards_from place last (LoadMet reg window index atomic ∷ steps) = guards_from (place + 1) (slice_set last reg (Some place)) steps
@@ -60,22 +60,22 @@ with_steps-from owner events tests last [] =
     ap₂ (λ (es : List Event) (ts : List Tested). record { events = es; tests = ts; last = last }) (sym (append-nil events)) (sym (append-nil tests))
 with_steps-from owner events tests last (LoadMet reg window index atomic ∷ steps) =
     let e = read_event owner (length events) window index atomic in
-    let held = slice_set last reg (Some (length events)) in
-    with_steps-from owner (events ++ e ∷ []) tests held steps ∙ moved owner events e tests held steps
+    let last_now = slice_set last reg (Some (length events)) in
+    with_steps-from owner (events ++ e ∷ []) tests last_now steps ∙ moved owner events e tests last_now steps
 with_steps-from owner events tests last (StoreMet window index value atomic ∷ steps) =
     let e = write_event owner (length events) window index value atomic in
     with_steps-from owner (events ++ e ∷ []) tests last steps ∙ moved owner events e tests last steps
 with_steps-from owner events tests last (ExchangeMet reg window index value ∷ steps) =
     let e = modify_event owner (length events) window index value in
-    let held = slice_set last reg (Some (length events)) in
-    with_steps-from owner (events ++ e ∷ []) tests held steps ∙ moved owner events e tests held steps
+    let last_now = slice_set last reg (Some (length events)) in
+    with_steps-from owner (events ++ e ∷ []) tests last_now steps ∙ moved owner events e tests last_now steps
 with_steps-from owner events tests last (CompareExchangeMet reg window index expected value succeeds ∷ steps) =
     let e = compare_exchange_event owner (length events) window index value succeeds in
-    let held = slice_set last reg (Some (length events)) in
+    let last_now = slice_set last reg (Some (length events)) in
     let test : Tested = record { on = Some (length events); equal = succeeds; value = expected } in
-    let whole : PathModel = record { events = events ++ e ∷ events_on owner (length events + 1) steps; tests = tests; last = last_from (length events + 1) held steps } in
-    with_steps-from owner (events ++ e ∷ []) (tests ++ test ∷ []) held steps ∙ moved owner events e (tests ++ test ∷ []) held steps
-    ∙ ap (put_guards whole) (append_assoc tests (test ∷ []) (guards_from (length events + 1) held steps))
+    let whole : PathModel = record { events = events ++ e ∷ events_on owner (length events + 1) steps; tests = tests; last = last_from (length events + 1) last_now steps } in
+    with_steps-from owner (events ++ e ∷ []) (tests ++ test ∷ []) last_now steps ∙ moved owner events e (tests ++ test ∷ []) last_now steps
+    ∙ ap (put_guards whole) (append_assoc tests (test ∷ []) (guards_from (length events + 1) last_now steps))
 with_steps-from owner events tests last (IfMet reg equal value holds ∷ steps) =
     let test : Tested = record { on = slice_index_or last reg None; equal = asked equal holds; value = value } in
     with_steps-from owner events (tests ++ test ∷ []) last steps
@@ -198,7 +198,7 @@ path_model-last steps =
     ∙ ap (λ o. option_or (last_read steps r) o) (none-at REGISTERS r) ∙ option_or-none (last_read steps r)
     ∙ sym (get_or-map-range_with_len (last_read steps) 0 REGISTERS r r d within (omega arith)))
 
--- ---- the tests
+-- ---- the guards
 pub access_count-append : (a b : List Step) → access_count (a ++ b) ≡ access_count a + access_count b
 access_count-append [] b = omega arith
 access_count-append (x ∷ a) b = omega (arith, access_count-append a b)
@@ -243,25 +243,25 @@ guards_after-from : (before steps : List Step) (last : List (Option ℕ)) → Re
 guards_after-from before [] last is have = refl
 guards_after-from before (LoadMet reg window index atomic ∷ steps) last is have =
     let step : Step = LoadMet reg window index atomic in
-    let held = slice_set last reg (Some (access_count before)) in
-    guards_after-from (before ++ step ∷ []) steps held (reflects-read before step reg last (λ r. refl) is) have.1
-    ∙ ap (λ n. guards_from n held steps) (counted before step)
+    let last_now = slice_set last reg (Some (access_count before)) in
+    guards_after-from (before ++ step ∷ []) steps last_now (reflects-read before step reg last (λ r. refl) is) have.1
+    ∙ ap (λ n. guards_from n last_now steps) (counted before step)
 guards_after-from before (StoreMet window index value atomic ∷ steps) last is have =
     let step : Step = StoreMet window index value atomic in
     guards_after-from (before ++ step ∷ []) steps last (reflects-other before step last (λ r. refl) is) have.1
     ∙ ap (λ n. guards_from n last steps) (counted before step)
 guards_after-from before (ExchangeMet reg window index value ∷ steps) last is have =
     let step : Step = ExchangeMet reg window index value in
-    let held = slice_set last reg (Some (access_count before)) in
-    guards_after-from (before ++ step ∷ []) steps held (reflects-read before step reg last (λ r. refl) is) have.1
-    ∙ ap (λ n. guards_from n held steps) (counted before step)
+    let last_now = slice_set last reg (Some (access_count before)) in
+    guards_after-from (before ++ step ∷ []) steps last_now (reflects-read before step reg last (λ r. refl) is) have.1
+    ∙ ap (λ n. guards_from n last_now steps) (counted before step)
 guards_after-from before (CompareExchangeMet reg window index expected value succeeds ∷ steps) last is have =
     let step : Step = CompareExchangeMet reg window index expected value succeeds in
-    let held = slice_set last reg (Some (access_count before)) in
+    let last_now = slice_set last reg (Some (access_count before)) in
     let test : Tested = record { on = Some (access_count before); equal = succeeds; value = expected } in
     ap (λ (ts : List Tested). test ∷ ts)
-    (guards_after-from (before ++ step ∷ []) steps held (reflects-read before step reg last (λ r. refl) is) have.1
-    ∙ ap (λ n. guards_from n held steps) (counted before step))
+    (guards_after-from (before ++ step ∷ []) steps last_now (reflects-read before step reg last (λ r. refl) is) have.1
+    ∙ ap (λ n. guards_from n last_now steps) (counted before step))
 guards_after-from before (IfMet reg equal value holds ∷ steps) last is have =
     let step : Step = IfMet reg equal value holds in
     let test : Option ℕ → Tested = λ on. record { on = on; equal = asked equal holds; value = value } in
@@ -275,14 +275,14 @@ path_model-tests steps have =
     let none : List Step = [] in
     sym (guards_after-from none steps (replicate REGISTERS None) (record { long = refl; each = λ r inside. none-at REGISTERS r }) have)
 
--- ---- a path once it is walked
+-- ---- a path once it is built
 pub with_steps-model : (owner : ℕ) (steps : List Step) → HaveRegisters steps → with_steps owner empty_path steps ≡ path_model owner steps
 with_steps-model owner steps have =
     let with_guards : List Tested → PathModel = λ tests. record { events = events_on owner 0 steps; tests = tests; last = last_from 0 (replicate REGISTERS None) steps } in
     let with_last : List (Option ℕ) → PathModel = λ last. record { events = events_on owner 0 steps; tests = guards_on steps; last = last } in
     with_steps-from owner [] [] (replicate REGISTERS None) steps ∙ ap with_guards (path_model-tests steps have) ∙ ap with_last (path_model-last steps)
 
--- ---- one test for each decision
+-- ---- one guard for each decision
 length-guards_after : (before steps : List Step) → length (guards_after before steps) ≡ length (decisions_on steps)
 length-guards_after before [] = refl
 length-guards_after before (LoadMet reg window index atomic ∷ steps) = length-guards_after (before ++ LoadMet reg window index atomic ∷ []) steps
@@ -295,7 +295,7 @@ length-guards_after before (IfMet reg equal value holds ∷ steps) = ap suc (len
 pub length-guards_on : (steps : List Step) → length (guards_on steps) ≡ length (decisions_on steps)
 length-guards_on steps = let none : List Step = [] in length-guards_after none steps
 
--- ---- what is asked and held is of events that read
+-- ---- guards and registers refer to events that read
 pub length-events_on : (owner place : ℕ) (steps : List Step) → length (events_on owner place steps) ≡ access_count steps
 length-events_on owner place [] = refl
 length-events_on owner place (LoadMet reg window index atomic ∷ steps) = omega (arith, length-events_on owner (place + 1) steps)

@@ -1,4 +1,4 @@
--- What follows from what a plan keeps of a test.
+-- What follows from the invariant of a plan.
 use Rattle.std.proofs.Common.{◌≡◌, ◌⊎◌, ℕ, zero, suc, ◌+◌, ◌-◌, ◌<◌, ◌≤◌, List, [], ◌∷◌, length, flat_map, take, get_or, arith, sym, ap, ◌∙◌, subst, add-one, length-append, inl, inr}
 use Rattle.std.specs.Prelude.{slice_index}
 use Rattle.std.specs.List.Sorted.{IsNonDecreasingBy}

@@ -2,7 +2,7 @@
 use Rattle.std.proofs.Common.{◌≡◌, ◌↔◌, ℕ, ◌+◌, ◌-◌, ◌<◌, ◌≤◌, ◌≢◌, arith, inl, inr}
 use Rattle.std.proofs.lemmas.Bool.{cases_eq}
 
--- a byte is in the range that begins at first and has so many bytes
+-- a byte is in the range of `size` bytes that begins at `first`
 abbrev pub InRange : ℕ → ℕ → ℕ → Type 0
 InRange first size b = (first ≤ b) × (b < first + size)
 

@@ -27,11 +27,11 @@ pub slice_get-map-found : {A B : Type 0} (f : A → B) (xs : List A) (k : ℕ) (
 slice_get-map-found {A} f xs k x at = slice_get-map f xs k ∙ ap (λ (o : Option A). option_map f o) at
 
 pub map-rises : {A B : Type 0} (R : A → A → Type 0) (S : B → B → Type 0) (f : A → B) (xs : List A) → ((a b : A) → R a b → S (f a) (f b)) → RisesBy R xs → RisesBy S (map f xs)
-map-rises {A} {B} R S f xs keeps rises = λ i j a b less here there.
+map-rises {A} {B} R S f xs preserves rises = λ i j a b less here there.
     let first = slice_get-map-known f xs i a here in
     let second = slice_get-map-known f xs j b there in
     let T : B → Type 0 = λ y. S y (f second.0) in
-    subst (λ (y : B). S a y) second.2 (subst T first.2 (keeps first.0 second.0 (rises i j first.0 second.0 less first.1 second.1)))
+    subst (λ (y : B). S a y) second.2 (subst T first.2 (preserves first.0 second.0 (rises i j first.0 second.0 less first.1 second.1)))
 
 pub append-rises : {A : Type 0} (R : A → A → Type 0) (xs ys : List A) → RisesBy R xs → RisesBy R ys
     → ((i j : ℕ) (a b : A) → slice_get xs i ≡ Some a → slice_get ys j ≡ Some b → R a b) → RisesBy R (xs ++ ys)

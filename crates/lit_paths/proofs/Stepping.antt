@@ -66,7 +66,7 @@ pub with_steps-append : (owner : ℕ) (path : PathModel) (a b : List Step) → w
 with_steps-append owner path [] b = refl
 with_steps-append owner path (step ∷ steps) b = with_steps-append owner (with_step owner path step) steps b
 
--- ---- what is left of the statements
+-- ---- the remaining statements
 pub AreSaid-left : (xs : List Stmt) (i : ℕ) (x : Stmt) → i < length xs → x ≡ get_or xs i x → AreSaid (statements_of xs) → IsSaid (statement_of x)
 AreSaid-left xs i x inside is said = (said.0, said.1, here xs i x inside is said.2)
   where
@@ -182,7 +182,7 @@ walked-else owner s reg equal value body other n k path asked new known is insid
     walked ∙ ap (λ t. with_steps owner t (walk_at other k)) put
     ∙ ap (λ w. with_steps owner path w) (sym (walk_at-else_part reg equal value body other n k is inside) ∙ sym (ap (λ x. statement_walk_at x n) known.is))
 
--- ---- what the recursion goes down
+-- ---- the measure of the recursion
 abbrev mutual
   pub statement_size : Statement → ℕ
   statement_size (Load reg window index atomic) = 0

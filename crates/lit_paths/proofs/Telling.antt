@@ -1,4 +1,4 @@
--- What a path asks and holds, by its steps, is what it has once it is walked, and is true of its runs.
+-- The guards and registers of a path, by its steps, are those that it has once it is built, and are true of its runs.
 use Rattle.std.proofs.Common.{◌≡◌, ℕ, zero, suc, ◌+◌, ◌≤◌, ◌==◌, Bool, true, false, not, if◌then◌else◌, Option, Some, None, List, [], ◌∷◌, length, map, replicate, arith, refl, sym, ap, ◌∙◌, subst}
 use Rattle.std.specs.Prelude.{slice_set, slice_index, slice_index_or}
 use Rattle.std.specs.List.{list_all, zip}
@@ -20,10 +20,10 @@ map-set f [] i x = refl
 map-set f (y ∷ xs) zero x = refl
 map-set f (y ∷ xs) (suc i) x = ap (λ ys. f y ∷ ys) (map-set f xs i x)
 
-held-index : (chosen : List (ℕ × ℕ)) (last : List (Option ℕ)) (reg : ℕ) → slice_index (map (value_on chosen) last) reg ≡ value_on chosen (slice_index_or last reg None)
-held-index chosen [] reg = refl
-held-index chosen (x ∷ xs) zero = refl
-held-index chosen (x ∷ xs) (suc i) = held-index chosen xs i
+observed-index : (chosen : List (ℕ × ℕ)) (last : List (Option ℕ)) (reg : ℕ) → slice_index (map (value_on chosen) last) reg ≡ value_on chosen (slice_index_or last reg None)
+observed-index chosen [] reg = refl
+observed-index chosen (x ∷ xs) zero = refl
+observed-index chosen (x ∷ xs) (suc i) = observed-index chosen xs i
 
 -- ---- the value of each place
 abbrev pub Looks : List (ℕ × ℕ) → List (ℕ × ℕ) → Type 0
@@ -106,58 +106,58 @@ front-value : (owner place : ℕ) (reads : List ℕ) (value : ℕ) (others value
 front-value owner place reads value others values chosen is looks = subst (λ (vs : List ℕ). Looks chosen (zip (place ∷ reads) vs)) is looks
 
 -- the registers after a read
-held-more : (chosen : List (ℕ × ℕ)) (last : List (Option ℕ)) (before : List ℕ) (reg place value : ℕ) → before ≡ map (value_on chosen) last → value_at chosen place ≡ value
+observed-more : (chosen : List (ℕ × ℕ)) (last : List (Option ℕ)) (before : List ℕ) (reg place value : ℕ) → before ≡ map (value_on chosen) last → value_at chosen place ≡ value
     → slice_set before reg value ≡ map (value_on chosen) (slice_set last reg (Some place))
-held-more chosen last before reg place value held at =
-    ap (λ (rs : List ℕ). slice_set rs reg value) held
+observed-more chosen last before reg place value observed at =
+    ap (λ (rs : List ℕ). slice_set rs reg value) observed
     ∙ ap (λ v. slice_set (map (value_on chosen) last) reg v) (sym at)
     ∙ sym (map-set (value_on chosen) last reg (Some place))
 
 -- what agreement with values tells
 pub record Agreed (chosen : List (ℕ × ℕ)) (tests : List Tested) (last : List (Option ℕ)) (reads values after : List ℕ) : Type 0 where
   pub true_of : list_all (is_true_of chosen) tests ≡ true
-  pub held : after ≡ map (value_on chosen) last
+  pub observed : after ≡ map (value_on chosen) last
   pub one_each : length values ≡ length reads
 
 pub agrees-tells : (owner place : ℕ) (steps : List Step) (chosen : List (ℕ × ℕ)) (last : List (Option ℕ)) (before values after : List ℕ)
     → before ≡ map (value_on chosen) last → Looks chosen (chosen_on (events_on owner place steps) values) → AgreesWith steps before values after
     → Agreed chosen (guards_from place last steps) (last_from place last steps) (read_places (events_on owner place steps)) values after
-agrees-tells owner place [] chosen last before values after held looks agrees =
-    record { true_of = refl; held = agrees.1 ∙ held; one_each = ap (λ vs. length vs) agrees.0 }
-agrees-tells owner place (LoadMet reg window index atomic ∷ steps) chosen last before values after held looks agrees =
+agrees-tells owner place [] chosen last before values after observed looks agrees =
+    record { true_of = refl; observed = agrees.1 ∙ observed; one_each = ap (λ vs. length vs) agrees.0 }
+agrees-tells owner place (LoadMet reg window index atomic ∷ steps) chosen last before values after observed looks agrees =
     let value : ℕ = agrees.0 in
     let others : List ℕ = agrees.1 in
     let reads : List ℕ = read_places (events_on owner (place + 1) steps) in
     let here = front-value owner place reads value others values chosen agrees.2 looks in
-    let rest = agrees-tells owner (place + 1) steps chosen (slice_set last reg (Some place)) (slice_set before reg value) others after (held-more chosen last before reg place value held here.0) here.1 agrees.3 in
-    record { true_of = rest.true_of; held = rest.held; one_each = ap (λ vs. length vs) agrees.2 ∙ ap suc rest.one_each }
-agrees-tells owner place (StoreMet window index stored atomic ∷ steps) chosen last before values after held looks agrees =
-    agrees-tells owner (place + 1) steps chosen last before values after held looks agrees
-agrees-tells owner place (ExchangeMet reg window index stored ∷ steps) chosen last before values after held looks agrees =
+    let rest = agrees-tells owner (place + 1) steps chosen (slice_set last reg (Some place)) (slice_set before reg value) others after (observed-more chosen last before reg place value observed here.0) here.1 agrees.3 in
+    record { true_of = rest.true_of; observed = rest.observed; one_each = ap (λ vs. length vs) agrees.2 ∙ ap suc rest.one_each }
+agrees-tells owner place (StoreMet window index stored atomic ∷ steps) chosen last before values after observed looks agrees =
+    agrees-tells owner (place + 1) steps chosen last before values after observed looks agrees
+agrees-tells owner place (ExchangeMet reg window index stored ∷ steps) chosen last before values after observed looks agrees =
     let value : ℕ = agrees.0 in
     let others : List ℕ = agrees.1 in
     let reads : List ℕ = read_places (events_on owner (place + 1) steps) in
     let here = front-value owner place reads value others values chosen agrees.2 looks in
-    let rest = agrees-tells owner (place + 1) steps chosen (slice_set last reg (Some place)) (slice_set before reg value) others after (held-more chosen last before reg place value held here.0) here.1 agrees.3 in
-    record { true_of = rest.true_of; held = rest.held; one_each = ap (λ vs. length vs) agrees.2 ∙ ap suc rest.one_each }
-agrees-tells owner place (CompareExchangeMet reg window index expected stored succeeds ∷ steps) chosen last before values after held looks agrees =
+    let rest = agrees-tells owner (place + 1) steps chosen (slice_set last reg (Some place)) (slice_set before reg value) others after (observed-more chosen last before reg place value observed here.0) here.1 agrees.3 in
+    record { true_of = rest.true_of; observed = rest.observed; one_each = ap (λ vs. length vs) agrees.2 ∙ ap suc rest.one_each }
+agrees-tells owner place (CompareExchangeMet reg window index expected stored succeeds ∷ steps) chosen last before values after observed looks agrees =
     let value : ℕ = agrees.0 in
     let others : List ℕ = agrees.1 in
     let reads : List ℕ = read_places (events_on owner (place + 1) steps) in
     let places = compare_exchange-places owner place window index stored succeeds (events_on owner (place + 1) steps) in
     let here = front-value owner place reads value others values chosen agrees.2 (subst (λ (ps : List ℕ). Looks chosen (zip ps values)) places looks) in
-    let rest = agrees-tells owner (place + 1) steps chosen (slice_set last reg (Some place)) (slice_set before reg value) others after (held-more chosen last before reg place value held here.0) here.1 agrees.4 in
+    let rest = agrees-tells owner (place + 1) steps chosen (slice_set last reg (Some place)) (slice_set before reg value) others after (observed-more chosen last before reg place value observed here.0) here.1 agrees.4 in
     record {
       true_of = and_from _ _ (succeeds-true succeeds (value_at chosen place) expected (agrees.3 ∙ ap (λ v. v == expected) (sym here.0))) rest.true_of;
-      held = rest.held;
+      observed = rest.observed;
       one_each = ap (λ vs. length vs) agrees.2 ∙ ap suc rest.one_each ∙ sym (ap (λ ps. length ps) places);
     }
-agrees-tells owner place (IfMet reg equal value holds ∷ steps) chosen last before values after held looks agrees =
-    let rest = agrees-tells owner place steps chosen last before values after held looks agrees.1 in
-    let now : slice_index before reg ≡ value_on chosen (slice_index_or last reg None) = ap (λ (rs : List ℕ). slice_index rs reg) held ∙ held-index chosen last reg in
+agrees-tells owner place (IfMet reg equal value holds ∷ steps) chosen last before values after observed looks agrees =
+    let rest = agrees-tells owner place steps chosen last before values after observed looks agrees.1 in
+    let now : slice_index before reg ≡ value_on chosen (slice_index_or last reg None) = ap (λ (rs : List ℕ). slice_index rs reg) observed ∙ observed-index chosen last reg in
     record {
       true_of = and_from _ _ (asked-true equal holds (value_on chosen (slice_index_or last reg None)) value (agrees.0 ∙ ap (λ v. compares equal v value) now)) rest.true_of;
-      held = rest.held;
+      observed = rest.observed;
       one_each = rest.one_each;
     }
 
@@ -165,19 +165,19 @@ agrees-tells owner place (IfMet reg equal value holds ∷ steps) chosen last bef
 pub tells-agrees : (owner place : ℕ) (steps : List Step) (chosen : List (ℕ × ℕ)) (last : List (Option ℕ)) (before values : List ℕ)
     → before ≡ map (value_on chosen) last → Looks chosen (chosen_on (events_on owner place steps) values) → length values ≡ length (read_places (events_on owner place steps))
     → list_all (is_true_of chosen) (guards_from place last steps) ≡ true → AgreesWith steps before values (map (value_on chosen) (last_from place last steps))
-tells-agrees owner place [] chosen last before [] held looks one_each true_of = (refl, sym held)
-tells-agrees owner place [] chosen last before (v ∷ values) held looks one_each true_of = absurd (omega (arith, one_each))
-tells-agrees owner place (LoadMet reg window index atomic ∷ steps) chosen last before [] held looks one_each true_of = absurd (omega (arith, one_each))
-tells-agrees owner place (LoadMet reg window index atomic ∷ steps) chosen last before (v ∷ values) held looks one_each true_of =
-    (v, values, refl, tells-agrees owner (place + 1) steps chosen (slice_set last reg (Some place)) (slice_set before reg v) values (held-more chosen last before reg place v held looks.0) looks.1 (omega (arith, one_each)) true_of)
-tells-agrees owner place (StoreMet window index stored atomic ∷ steps) chosen last before values held looks one_each true_of =
-    tells-agrees owner (place + 1) steps chosen last before values held looks one_each true_of
-tells-agrees owner place (ExchangeMet reg window index stored ∷ steps) chosen last before [] held looks one_each true_of = absurd (omega (arith, one_each))
-tells-agrees owner place (ExchangeMet reg window index stored ∷ steps) chosen last before (v ∷ values) held looks one_each true_of =
-    (v, values, refl, tells-agrees owner (place + 1) steps chosen (slice_set last reg (Some place)) (slice_set before reg v) values (held-more chosen last before reg place v held looks.0) looks.1 (omega (arith, one_each)) true_of)
-tells-agrees owner place (CompareExchangeMet reg window index expected stored succeeds ∷ steps) chosen last before [] held looks one_each true_of =
+tells-agrees owner place [] chosen last before [] observed looks one_each true_of = (refl, sym observed)
+tells-agrees owner place [] chosen last before (v ∷ values) observed looks one_each true_of = absurd (omega (arith, one_each))
+tells-agrees owner place (LoadMet reg window index atomic ∷ steps) chosen last before [] observed looks one_each true_of = absurd (omega (arith, one_each))
+tells-agrees owner place (LoadMet reg window index atomic ∷ steps) chosen last before (v ∷ values) observed looks one_each true_of =
+    (v, values, refl, tells-agrees owner (place + 1) steps chosen (slice_set last reg (Some place)) (slice_set before reg v) values (observed-more chosen last before reg place v observed looks.0) looks.1 (omega (arith, one_each)) true_of)
+tells-agrees owner place (StoreMet window index stored atomic ∷ steps) chosen last before values observed looks one_each true_of =
+    tells-agrees owner (place + 1) steps chosen last before values observed looks one_each true_of
+tells-agrees owner place (ExchangeMet reg window index stored ∷ steps) chosen last before [] observed looks one_each true_of = absurd (omega (arith, one_each))
+tells-agrees owner place (ExchangeMet reg window index stored ∷ steps) chosen last before (v ∷ values) observed looks one_each true_of =
+    (v, values, refl, tells-agrees owner (place + 1) steps chosen (slice_set last reg (Some place)) (slice_set before reg v) values (observed-more chosen last before reg place v observed looks.0) looks.1 (omega (arith, one_each)) true_of)
+tells-agrees owner place (CompareExchangeMet reg window index expected stored succeeds ∷ steps) chosen last before [] observed looks one_each true_of =
     absurd (omega (arith, one_each, ap (λ ps. length ps) (compare_exchange-places owner place window index stored succeeds (events_on owner (place + 1) steps))))
-tells-agrees owner place (CompareExchangeMet reg window index expected stored succeeds ∷ steps) chosen last before (v ∷ values) held looks one_each true_of =
+tells-agrees owner place (CompareExchangeMet reg window index expected stored succeeds ∷ steps) chosen last before (v ∷ values) observed looks one_each true_of =
     let places = compare_exchange-places owner place window index stored succeeds (events_on owner (place + 1) steps) in
     let here : (value_at chosen place ≡ v) × Looks chosen (zip (read_places (events_on owner (place + 1) steps)) values) = subst (λ (ps : List ℕ). Looks chosen (zip ps (v ∷ values))) places looks in
     let both = and_parts (compares succeeds (value_at chosen place) expected) (list_all (is_true_of chosen) (guards_from (place + 1) (slice_set last reg (Some place)) steps)) true_of in (
@@ -185,14 +185,14 @@ tells-agrees owner place (CompareExchangeMet reg window index expected stored su
       values,
       refl,
       succeeds-from succeeds (value_at chosen place) expected both.0 ∙ ap (λ x. x == expected) here.0,
-      tells-agrees owner (place + 1) steps chosen (slice_set last reg (Some place)) (slice_set before reg v) values (held-more chosen last before reg place v held here.0) here.1
+      tells-agrees owner (place + 1) steps chosen (slice_set last reg (Some place)) (slice_set before reg v) values (observed-more chosen last before reg place v observed here.0) here.1
           (omega (arith, one_each, ap (λ ps. length ps) places)) both.1,
     )
-tells-agrees owner place (IfMet reg equal value holds ∷ steps) chosen last before values held looks one_each true_of =
-    let now : slice_index before reg ≡ value_on chosen (slice_index_or last reg None) = ap (λ (rs : List ℕ). slice_index rs reg) held ∙ held-index chosen last reg in
+tells-agrees owner place (IfMet reg equal value holds ∷ steps) chosen last before values observed looks one_each true_of =
+    let now : slice_index before reg ≡ value_on chosen (slice_index_or last reg None) = ap (λ (rs : List ℕ). slice_index rs reg) observed ∙ observed-index chosen last reg in
     let both = and_parts (compares (asked equal holds) (value_on chosen (slice_index_or last reg None)) value) (list_all (is_true_of chosen) (guards_from place last steps)) true_of in (
       asked-from equal holds (value_on chosen (slice_index_or last reg None)) value both.0 ∙ ap (λ v. compares equal v value) (sym now),
-      tells-agrees owner place steps chosen last before values held looks one_each both.1,
+      tells-agrees owner place steps chosen last before values observed looks one_each both.1,
     )
 
 -- ---- the whole of a walk
@@ -225,7 +225,7 @@ tells-whole owner ss steps walked = record {
       };
   one_each = λ run is on. (run-agreed owner ss steps walked run is on).one_each;
   true_of = λ run is on. (run-agreed owner ss steps walked run is on).true_of;
-  held = λ run is on. (run-agreed owner ss steps walked run is on).held;
+  observed = λ run is on. (run-agreed owner ss steps walked run is on).observed;
 }
 
 pub tells_runs : (bytes owner : ℕ) (ss : Statements) (steps : List Step) → AreStatementsIn bytes ss → IsWalk ss steps → TellsRuns owner ss (path_on owner steps) (path_model owner steps)

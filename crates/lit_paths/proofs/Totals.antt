@@ -182,12 +182,12 @@ module _ (x : Inside) (is : IsEntered x) where
   c = x.number
 
   abbrev lists : List (List ℕ)
-  lists = candidate_lists x.formed.joined.events.items x.formed.reads.items
+  lists = candidate_lists x.formed.combination_paths.events.items x.formed.reads.items
 
   pub entered_lists : lists ≡ map (candidates_of (events_in t c)) (byte_reads (events_in t c))
   entered_lists =
-      candidate_lists-are x.formed.joined.events.items x.formed.reads.items is.formed.all_reads
-      ∙ ap (λ (es : List Event). map (candidates_of es) (byte_reads es)) is.formed.joined.events
+      candidate_lists-are x.formed.combination_paths.events.items x.formed.reads.items is.formed.all_reads
+      ∙ ap (λ (es : List Event). map (candidates_of es) (byte_reads es)) is.formed.combination_paths.events
 
   pub entered_count : length (product lists) ≡ length (sources_of (events_in t c))
   entered_count = ap (λ (ws : List (List ℕ)). length (product ws)) entered_lists
@@ -197,7 +197,7 @@ module _ (x : Inside) (is : IsEntered x) where
 
   pub entered_first : x.first < length (choices_of t)
   entered_first =
-      let sound = subst (λ (es : List Event). AreEventsIn t.bytes es) is.formed.joined.events is.formed.sound in
+      let sound = subst (λ (es : List Event). AreEventsIn t.bytes es) is.formed.combination_paths.events is.formed.sound in
       omega (arith, is.before, some_choice t.bytes (events_in t c) sound, before_more t c is.known, before_le t (c + 1))
 
   entered_at : (n : ℕ) (sources : List ℕ) → slice_get (product lists) (n - x.first) ≡ Some sources → slice_get (sources_of (events_in t c)) (n - choices_before t c) ≡ Some sources

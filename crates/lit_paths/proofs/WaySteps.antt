@@ -108,11 +108,11 @@ member_all xss n i sources known past taken =
     let long = (product-known xss n (member_at xss n) at).one_each in
     at ∙ ap (λ ws. Some ws) (sym (taken ∙ take_all i (member_at xss n) (omega (arith, long, past))))
 
--- ---- of the lists that are kept
+-- ---- of the saved lists
 abbrev pub lists_of : List (ArrayVec ℕ) → List (List ℕ)
 lists_of lists = map (λ list. list.items) lists
 
--- one list of those kept
+-- one of the saved lists
 pub record IsWay (lists : List (ArrayVec ℕ)) (later : List ℕ) (i : ℕ) (xs : List ℕ) : Type 0 where
   pub here : slice_get (lists_of lists) i ≡ Some xs
   pub behind : get_or later i 0 ≡ later_ways (lists_of lists) i
@@ -122,13 +122,13 @@ pub record IsWay (lists : List (ArrayVec ℕ)) (later : List ℕ) (i : ℕ) (xs 
 
 pub way_at : (lists : List (ArrayVec ℕ)) (later : List ℕ) (ways : List (List ℕ)) (place i : ℕ) (v : ArrayVec ℕ) (xs : List ℕ) → lists_of lists ≡ ways → later ≡ ways_after ways
     → place < length (product ways) → i < length lists → v ≡ get_or lists i v → xs ≡ v.items → IsWay lists later i xs
-way_at lists later ways place i v xs same kept known inside at is =
+way_at lists later ways place i v xs same saved known inside at is =
     let all : List (List ℕ) = lists_of lists in
     let there : slice_get all i ≡ Some xs =
     slice_get-map (λ (l : ArrayVec ℕ). l.items) lists i ∙ ap (λ (o : Option (ArrayVec ℕ)). option_map (λ l. l.items) o) (slice_get-get_or lists i v inside)
     ∙ ap (λ (l : ArrayVec ℕ). Some l.items) (sym at) ∙ ap (λ ys. Some ys) (sym is) in
     let within : i < length all = slice_get_within all i xs there in
-    let afters : later ≡ ways_after all = kept ∙ ap (λ (ws : List (List ℕ)). ways_after ws) (sym same) in
+    let afters : later ≡ ways_after all = saved ∙ ap (λ (ws : List (List ℕ)). ways_after ws) (sym same) in
     let behind : get_or later i 0 ≡ later_ways all i = ap (λ ls. get_or ls i 0) afters ∙ ways_after-at all i 0 within in
     let split = ways_split all i xs there in
     let enough : place < split.0 * (length xs * later_ways all i) = omega (arith, known, ap (λ (ws : List (List ℕ)). length (product ws)) same, split.1) in

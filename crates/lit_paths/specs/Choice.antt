@@ -48,7 +48,7 @@ pub record IsChoice (t : Litmus) (choice : Choice) : Type 0 where
 abbrev pub choice_cmp : Choice → Choice → Ordering
 choice_cmp a b = ordering_then (slice_cmp (slice_cmp nat_cmp) a.decisions b.decisions) (slice_cmp nat_cmp a.sources b.sources)
 
--- every way to take one member of each list, the first list's members changing last
+-- the product of lists: every way to take one member of each, the first list's members changing last
 abbrev pub product : {A : Type 0} → List (List A) → List (List A)
 product [] = [] ∷ []
 product (xs ∷ rest) = flat_map (λ x. map (λ ys. x ∷ ys) (product rest)) xs

@@ -36,7 +36,7 @@ does_write Modify = true
 abbrev pub payload_at : Event → ℕ → ℕ
 payload_at e b = slice_index e.payload (b - e.first)
 
--- an event with no byte, no order and no payload, which stands for none
+-- the placeholder for an event past the end of a list: it has no byte and writes nothing (decision 2)
 abbrev pub no_event : Event
 no_event = record { kind = Read; order = Unordered; no_tear = false; first = 0; size = 0; payload = []; owner = None; place = 0 }
 
@@ -49,6 +49,6 @@ abbrev pub init_event : ℕ → Event
 init_event b =
     record { kind = Write; order = Init; no_tear = true; first = b; size = 1; payload = 0 ∷ 0 ∷ 0 ∷ 0 ∷ []; owner = None; place = b }
 
--- the events that make a block of so many bytes, by byte
+-- the events that make a block with this number of bytes, by byte
 abbrev pub init_events : ℕ → List Event
 init_events bytes = map init_event (range_with_len 0 bytes)

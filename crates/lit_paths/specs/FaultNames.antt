@@ -1,9 +1,9 @@
--- The limit that a test passes, as it is shown (this project's own).
+-- The limit that a test exceeds, as it is shown (this project's own).
 use Rattle.std.specs.Prelude.{ℕ, List, codes}
 use Rattle.lit_paths.specs.declared.fault.PlanFault.{PlanFault}
 use Rattle.lit_paths.specs.declared.fault.PlanFault.TheVariants as limits
 
--- the limit that a test passes, by its number and its name
+-- the limit that a test exceeds, by its number and its name
 abbrev pub limit_text : PlanFault → List ℕ
 limit_text limits.TooManyPaths = codes "13 too_many_paths"
 limit_text limits.TooManyEvents = codes "14 too_many_events"

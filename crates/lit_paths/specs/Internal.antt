@@ -1,4 +1,4 @@
--- Notions of the contracts inside this crate: how its answers are put together.
+-- Notions of private contracts: how walks, paths, combinations and totals are computed.
 pub mod PathSteps
 pub mod Makers
 pub mod Walks

@@ -18,16 +18,16 @@ names_from n (a ∷ agents) = names_in n a ++ names_from (n + 1) agents
 abbrev pub names_of : Litmus → List (ℕ × ℕ)
 names_of t = names_from 0 t.agents
 
--- the outcome where each agent's registers hold these in the end
+-- the outcome where each agent's registers hold these values at the end
 abbrev pub outcome_of : Litmus → List (List ℕ) → List ℕ
 outcome_of t registers = map (λ name. slice_index (slice_index_or registers name.0 []) name.1) (names_of t)
 
--- what a register has in an outcome, seen as pairs of a name and a value
+-- the value of a register in an outcome, given as pairs of a register and a value
 abbrev pub value_in : List ((ℕ × ℕ) × ℕ) → ℕ → ℕ → ℕ
 value_in [] agent reg = 0
 value_in (p ∷ ps) agent reg = cond ((p.0.0 == agent) && (p.0.1 == reg)) p.1 (value_in ps agent reg)
 
--- whether a condition holds of these
+-- whether a condition holds of these pairs
 abbrev mutual
   pub holds : List ((ℕ × ℕ) × ℕ) → Condition → Bool
   holds values (Any cs) = any_holds values cs

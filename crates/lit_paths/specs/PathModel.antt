@@ -1,4 +1,4 @@
--- What a path asks of the values that are read on it, and which read each register holds at its end (this project's
+-- The guards of a path on the values that are read on it, and which read each register holds at its end (this project's
 -- own). A place is that of an access in the agent's event list, from 0.
 use Rattle.std.specs.Prelude.{ℕ, ◌+◌, ◌<◌, ◌==◌, Bool, true, false, not, if◌then◌else◌, IsTrue}
 use Rattle.std.specs.Prelude.{Option, Some, None, List, [], ◌∷◌, ◌++◌, length, map}
@@ -10,7 +10,7 @@ use Rattle.lit_paths.specs.declared.path.Tested.{Tested}
 use Rattle.lit_paths.specs.Event.{does_read, event_at}
 use Rattle.lit_paths.specs.Path.{Step, LoadMet, StoreMet, ExchangeMet, CompareExchangeMet, IfMet, events_on}
 
--- its events, what it asks, and for each register the place of the read that it holds
+-- a path's events, its guards, and for each register the place of the read that it holds at the end
 pub record PathModel : Type 0 where
   pub events : List Event
   pub tests : List Tested
@@ -48,14 +48,14 @@ last_read_from place (step ∷ steps) r =
 abbrev pub last_read : List Step → ℕ → Option ℕ
 last_read steps r = last_read_from 0 steps r
 
--- whether the value is to equal the number of an `if`, or to differ from it: where the comparison `==` is to hold, or
--- `!=` is to fail, it is to equal it
+-- whether the guard of an `if` asks that the value equals the number, or that it differs: it asks for equality where the
+-- comparison `==` holds, or `!=` fails
 abbrev pub asked : (equal holds : Bool) → Bool
 asked equal true = equal
 asked equal false = not equal
 
--- What a step asks, of the steps before it: a compareExchange of its own read, and an `if` of the last read before it
--- that goes into its register.
+-- The guard of a step, by the steps before it: that of a compareExchange is on its own read, and that of an `if` on the
+-- last read before it that goes into its register.
 abbrev pub guards_at : List Step → Step → List Tested
 guards_at before (LoadMet reg window index atomic) = []
 guards_at before (StoreMet window index value atomic) = []
@@ -64,12 +64,12 @@ guards_at before (CompareExchangeMet reg window index expected value succeeds) =
     record { on = Some (access_count before); equal = succeeds; value = expected } ∷ []
 guards_at before (IfMet reg equal value holds) = record { on = last_read before reg; equal = asked equal holds; value = value } ∷ []
 
--- what the steps after some ask
+-- the guards of steps that come after others
 abbrev pub guards_after : (before steps : List Step) → List Tested
 guards_after before [] = []
 guards_after before (step ∷ steps) = guards_at before step ++ guards_after (before ++ step ∷ []) steps
 
--- what the steps of a path ask: one test for each decision, in order
+-- the guards of a path's steps: one for each decision, in order
 abbrev pub guards_on : List Step → List Tested
 guards_on steps = guards_after [] steps
 

@@ -59,7 +59,7 @@ walks_in t c = slice_index_or (product (map (λ agent. walks_of agent.body) t.ag
 abbrev pub walk_in : (t : Litmus) → (c agent : ℕ) → List Step
 walk_in t c agent = slice_index_or (walks_in t c) agent []
 
--- the path of an agent in a combination: its events, what it asks, and what its registers hold at the end
+-- the path of an agent in a combination: its events, its guards, and what its registers hold at the end
 abbrev pub path_in : (t : Litmus) → (c agent : ℕ) → PathModel
 path_in t c agent = path_model agent (walk_in t c agent)
 
@@ -87,8 +87,8 @@ pub record IsOfCombination (t : Litmus) (n c : ℕ) : Type 0 where
   pub on_paths : (x : Execution) → IsCandidateExecution t x → slice_get (choices_of t) n ≡ Some (execution_choice x)
       → map run_path x.runs ≡ combination_at t c
 
--- The events of a combination, in a block of so many bytes: first one event a byte, which makes it, and then accesses
--- that lie in the block.
+-- The events of a combination, in a block of `bytes` bytes: first one event for each byte, which makes it, and then
+-- accesses that lie in the block.
 pub record AreEventsIn (bytes : ℕ) (events : List Event) : Type 0 where
   pub few : length events ≤ EVENT_LIMIT
   pub few_reads : length (byte_reads events) ≤ BYTE_READ_LIMIT
@@ -105,7 +105,7 @@ pub record AreEventsIn (bytes : ℕ) (events : List Event) : Type 0 where
       → (event_at events e).place < (event_at events d).place → e < d
 
 -- These steps are the walk of an agent on the path that it has in combination c. Each of its events, by its place, is
--- one of the combination's; it asks one thing at each decision; and what is asked and held is of events that read.
+-- one of the combination's; it has one guard for each decision; and its guards and registers refer to events that read.
 pub record IsWalkIn (t : Litmus) (c agent : ℕ) (steps : List Step) : Type 0 where
   pub said : AreStatementsIn t.bytes (agent_of t agent).body
   pub walked : IsWalk (agent_of t agent).body steps

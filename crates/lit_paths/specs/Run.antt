@@ -6,12 +6,12 @@ use Rattle.lit_read.specs.Syntax.{Statements}
 use Rattle.lit_paths.specs.declared.event.Event.{Event}
 use Rattle.lit_paths.specs.Path.{Step, LoadMet, StoreMet, ExchangeMet, CompareExchangeMet, IfMet, Path, IsPath}
 
--- whether two numbers are equal, or differ, as is asked
+-- whether two numbers are equal, or with `false`, whether they differ
 abbrev pub compares : Bool → ℕ → ℕ → Bool
 compares true a b = a == b
 compares false a b = not (a == b)
 
--- The decisions on the way agree with the chosen values, from these registers, and leave those: a reading statement
+-- The decisions on the way agree with the chosen values, from the first registers to the second: a reading statement
 -- puts its value into its register, a compareExchange succeeds where its value is the expected one, and the comparison
 -- of an `if` is of what its register holds now.
 abbrev pub AgreesWith : List Step → (before values after : List ℕ) → Type 0

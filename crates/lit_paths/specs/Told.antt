@@ -1,5 +1,5 @@
--- What a path tells of the runs on it: when its decisions agree with chosen values, and which of these the registers
--- hold at the end (this project's own).
+-- The runs on a path, by its guards: when its decisions agree with chosen values, and which of these values the
+-- registers hold at the end (this project's own).
 use Rattle.std.specs.Prelude.{◌≡◌, ℕ, ◌==◌, Bool, true, if◌then◌else◌, Option, Some, None, List, [], ◌∷◌, length, map}
 use Rattle.std.specs.List.{list_all, zip}
 use Rattle.lit_read.specs.Syntax.{Statements}
@@ -29,12 +29,12 @@ abbrev pub value_on : List (ℕ × ℕ) → Option ℕ → ℕ
 value_on chosen None = 0
 value_on chosen (Some place) = value_at chosen place
 
--- whether what is asked is true of the chosen values
+-- whether a guard is true of the chosen values
 abbrev pub is_true_of : List (ℕ × ℕ) → Tested → Bool
 is_true_of chosen test = compares test.equal (value_on chosen test.on) test.value
 
--- For each list of values, one for each read on the path, there is a run with them on this path exactly where each test
--- is true of them, and then each register holds what `last` says.
+-- For each list of values, one for each read on the path, there is a run with them on this path exactly where each guard
+-- is true of them, and then each register holds the value of the read that `last` names.
 pub record TellsRuns (owner : ℕ) (body : Statements) (path : Path) (told : PathModel) : Type 0 where
   pub events : told.events ≡ path.events
   pub run : (values : List ℕ) → length values ≡ length (read_places path.events)
@@ -44,5 +44,5 @@ pub record TellsRuns (owner : ℕ) (body : Statements) (path : Path) (told : Pat
   pub one_each : (run : Run) → IsRun owner body run → run_path run ≡ path → length run.values ≡ length (read_places path.events)
   pub true_of : (run : Run) → IsRun owner body run → run_path run ≡ path
       → list_all (is_true_of (chosen_on path.events run.values)) told.tests ≡ true
-  pub held : (run : Run) → IsRun owner body run → run_path run ≡ path
+  pub observed : (run : Run) → IsRun owner body run → run_path run ≡ path
       → run.registers ≡ map (value_on (chosen_on path.events run.values)) told.last

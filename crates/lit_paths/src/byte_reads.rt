@@ -43,7 +43,7 @@ fn push_bytes(reads: &mut ByteReads, number: u8, event: &Event)
     }
 }
 
-/// Makes a list that of each byte that the events read.
+/// Replaces the list by that of all byte reads of the events.
 pub(crate) fn find_byte_reads(reads: &mut ByteReads, events: &[Event])
     requires few { length events.now ≤ 2 ^ 8 }
     requires room { length (byte_reads events.now) ≤ BYTE_READ_LIMIT }
@@ -63,7 +63,7 @@ fn is_candidate(number: usize, event: &Event, read: ByteRead) -> bool
     event.kind.does_write() && event.has_byte(read.byte) && number != usize::from(read.read)
 }
 
-/// The candidates of a byte of a read, at most so many.
+/// The candidates of a byte of a read, at most `MOST`.
 pub(crate) fn candidates_of<const MOST: usize>(
     events: &[Event],
     read: ByteRead,
@@ -96,7 +96,7 @@ fn candidate_count(events: &[Event], read: ByteRead) -> u64
     count
 }
 
-/// How many sources the reads can have in all, or `None` where these are more than there may be choices.
+/// In how many ways sources can be chosen for all reads, or `None` where these are more than `CHOICE_LIMIT`.
 pub(crate) fn count_sources(events: &[Event], reads: &[ByteRead]) -> Option<u64>
     requires few { length events.now ≤ EVENT_LIMIT }
     requires some { (i : ℕ) (read : Read) → slice_get reads.now i ≡ Some read → 1 ≤ length (candidates_for events.now read) }

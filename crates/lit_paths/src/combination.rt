@@ -1,6 +1,6 @@
-//! A combination of paths, entered: what the choices on it share.
+//! A combination of paths: its events, its byte reads with their candidates, and the choices on it.
 
-pub(crate) mod joined;
+pub(crate) mod paths;
 
 ghost use Rattle.std.specs.Prelude.{◌≡◌, ℕ, ◌+◌, ◌/◌, ◌%◌, ◌<◌, ◌≤◌, length, map, Some, slice_get};
 ghost use Rattle.std.specs.List.{AllByRecursion};
@@ -20,7 +20,7 @@ ghost use Rattle.lit_paths.specs.Internal.Entered.{IsFormed};
 ghost use Rattle.lit_paths.specs.Internal.Walks.{IsInLimits};
 
 use crate::byte_reads::{ByteRead, ByteReads, candidates_of, find_byte_reads};
-use crate::combination::joined::{Joined, join};
+use crate::combination::paths::{CombinationPaths, join};
 use crate::event::{Event, Sources};
 use crate::limits::{BYTE_READ_LIMIT, CANDIDATE_LIMIT};
 use crate::path::Path;
@@ -30,14 +30,14 @@ use arrayvec::ArrayVec;
 use lit_read::Test;
 use std::marker::Model;
 
-/// The candidates of each byte read, and how many ways the later ones leave.
+/// The candidates of each byte read, and in how many ways sources can be chosen for the byte reads after it.
 #[derive(Drop)]
 struct Ways {
     candidates: ArrayVec<ArrayVec<u8, CANDIDATE_LIMIT>, BYTE_READ_LIMIT>,
     later: ArrayVec<u64, BYTE_READ_LIMIT>,
 }
 
-/// Makes what is there the candidates of each of these bytes, whose sources can be chosen in `total` ways.
+/// Replaces `ways` by those of these byte reads, whose sources can be chosen in `total` ways.
 fn find_ways(ways: &mut Ways, events: &[Event], reads: &[ByteRead], total: u64)
     requires few { length events.now ≤ EVENT_LIMIT }
     requires room { length reads.now ≤ READS }
@@ -58,19 +58,19 @@ fn find_ways(ways: &mut Ways, events: &[Event], reads: &[ByteRead], total: u64)
     }
 }
 
-/// What is formed on entering a combination: its paths and events, the bytes that these read, and the candidates of each.
+/// What is computed on entering a combination: its paths and events, its byte reads, and the candidates of each.
 #[derive(Drop)]
 struct Formed {
-    joined: Joined,
+    combination_paths: CombinationPaths,
     reads: ByteReads,
     ways: Ways,
 }
 
 impl Formed {
-    /// Nothing yet.
+    /// The value before any combination is entered.
     fn new() -> Self {
         Formed {
-            joined: Joined::new(),
+            combination_paths: CombinationPaths::new(),
             reads: ByteReads::new(),
             ways: Ways {
                 candidates: ArrayVec::new(),
@@ -79,21 +79,23 @@ impl Formed {
         }
     }
 
-    /// Forms a combination, by its number, of which there are `total` choices, in place of what is there.
+    /// Computes the paths, events, byte reads and candidates of a combination, by its number, in place of another's. It has
+    /// `total` choices.
     fn form(&mut self, paths: &AgentPaths<'_>, number: usize, total: u64)
         requires limits { IsInLimits paths.now }
         requires known { number < length (combinations_of paths.now) }
         requires whole { choices_before paths.now number + total ≡ choices_before paths.now (number + 1) }
         ensures { IsFormed paths.now number total self.new }
     {
-        join(&mut self.joined, paths, number);
-        let events = self.joined.events.as_slice();
+        join(&mut self.combination_paths, paths, number);
+        let events = self.combination_paths.events.as_slice();
         find_byte_reads(&mut self.reads, events);
         find_ways(&mut self.ways, events, self.reads.as_slice(), total);
     }
 }
 
-/// The candidate of a byte that a choice takes: `place / later` counts round and round through them.
+/// The candidate that a choice takes for a byte, by the choice's place on its combination: a digit of `place` in a mixed radix,
+/// of which `later` is the weight.
 fn candidate_at(candidates: &[u8], later: u64, place: u64) -> u8
     requires some { 1 ≤ length candidates.now }
     requires later { 1 ≤ later }
@@ -103,8 +105,8 @@ fn candidate_at(candidates: &[u8], later: u64, place: u64) -> u8
     candidates[index as usize]
 }
 
-/// One combination of paths: the path of each agent, its events, the bytes that they read with the candidates of each,
-/// and the choices on it. It borrows the plan, and its size is fixed. A clause sees it as the test's value and the
+/// One combination of paths: the path of each agent, all events, the byte reads with the candidates of each, and the
+/// choices on it. It borrows the plan (decision 11), and its size is fixed. A clause sees it as the test's value and the
 /// combination's number.
 #[derive(Drop)]
 pub struct Combination<'p> {
@@ -132,7 +134,7 @@ impl<'p> Model for Combination<'p> {
 }
 
 impl<'p> Combination<'p> {
-    /// Combination `number` of a plan's test, with so many choices from number `first` on.
+    /// Combination `number` of a plan's test, with `total` choices from number `first` on.
     pub(crate) fn new(paths: &'p AgentPaths<'p>, number: usize, first: u64, total: u64) -> Self
         requires limits { IsInLimits paths.now }
         requires known { number < length (combinations_of paths.now) }
@@ -152,7 +154,7 @@ impl<'p> Combination<'p> {
         }
     }
 
-    /// Makes it combination `number` of a plan's test, with so many choices from number `first` on, in place.
+    /// Makes it combination `number` of a plan's test, with `total` choices from number `first` on, in place.
     pub(crate) fn reenter(
         &mut self,
         paths: &'p AgentPaths<'p>,
@@ -186,7 +188,7 @@ impl<'p> Combination<'p> {
         ensures value { result.now ≡ events_in self.now.0 self.now.1 }
         ensures sound { AreEventsIn self.now.0.bytes result.now }
     {
-        self.formed.joined.events.as_slice()
+        self.formed.combination_paths.events.as_slice()
     }
 
     /// The path of an agent, by its number: below the number of agents.
@@ -195,7 +197,7 @@ impl<'p> Combination<'p> {
         ensures exact { result.now ≡ path_in self.now.0 self.now.1 agent }
         ensures walk { IsWalkIn self.now.0 self.now.1 agent (walk_in self.now.0 self.now.1 agent) }
     {
-        let number = self.formed.joined.numbers.as_slice()[agent];
+        let number = self.formed.combination_paths.numbers.as_slice()[agent];
         self.paths.path(agent, usize::from(number))
     }
 
@@ -205,7 +207,7 @@ impl<'p> Combination<'p> {
         requires { agent < length self.now.0.agents }
         ensures { result ≡ first_event self.now.0 self.now.1 agent }
     {
-        self.formed.joined.firsts.as_slice()[agent]
+        self.formed.combination_paths.firsts.as_slice()[agent]
     }
 
     /// The number of the statement that makes each event on the path of an agent, by the event's place. Agents are
@@ -255,7 +257,7 @@ impl<'p> Combination<'p> {
         self.formed.ways.later.as_slice()[place]
     }
 
-    /// The number of its first choice. There is one.
+    /// The number of its first choice. It has one at least.
     pub fn first(&self) -> u64
         ensures value { result ≡ choices_before self.now.0 self.now.1 }
         ensures known { result < length (choices_of self.now.0) }
@@ -271,7 +273,7 @@ impl<'p> Combination<'p> {
         self.first + self.total
     }
 
-    /// The sources of a choice on it, by the choice's number: from `first` up to and without `end`.
+    /// The sources of a choice on it, by the choice's number: at least `first` and below `end`.
     pub fn sources(&self, n: u64) -> Sources
         requires low { choices_before self.now.0 self.now.1 ≤ n }
         requires high { n < choices_before self.now.0 (self.now.1 + 1) }

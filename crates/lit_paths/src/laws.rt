@@ -1,4 +1,4 @@
-//! Laws of the definitions that the contracts cite.
+//! Laws of the definitions that the contracts cite. The functions do nothing: their contracts are theorems.
 
 ghost use Rattle.std.specs.Prelude.{◌≡◌, ℕ, ◌+◌, ◌<◌, ◌≤◌, List, length, map, Some, slice_get};
 ghost use Rattle.lit_read.specs.Syntax.{Litmus, IsLitmus, Statements, AreStatementsIn};
@@ -45,8 +45,8 @@ pub fn combinations_are_walked()
         → IsWalkIn t c agent (walk_in t c agent) }
 {}
 
-/// Of statements that a text can say: there is a run on a path with given values exactly where each test of the path is
-/// true of them, and its registers hold the reads that the path says.
+/// Of statements that a text can say (decision 12): there is a run on a path with given values exactly where each guard of
+/// the path is true of them, and its registers hold the reads that the path says.
 pub fn paths_tell_their_runs()
     ensures { (bytes owner : ℕ) (body : Statements) (steps : List Step) → AreStatementsIn bytes body → IsWalk body steps
         → TellsRuns owner body (path_on owner steps) (path_model owner steps) }
@@ -57,8 +57,8 @@ pub fn runs_choose_for_each_read()
     ensures { (owner : ℕ) (body : Statements) (run : Run) → IsRun owner body run → length run.values ≡ length (read_places run.events) }
 {}
 
-/// The decisions and sources of every candidate execution of a test are a choice of the test. So no decision of a run
-/// is left out of the choices.
+/// The decisions and sources of every candidate execution of a test are a choice of the test. So the choices have every
+/// decision of a run.
 pub fn candidate_executions_have_choices()
     ensures { (t : Litmus) (x : Execution) → IsCandidateExecution t x → IsChoice t (execution_choice x) }
 {}

@@ -10,9 +10,9 @@ mod event;
 mod fault;
 pub mod laws;
 mod limits;
-mod names;
 mod path;
 mod planning;
+mod registers;
 
 pub use byte_reads::{ByteRead, ByteReads, Candidates};
 pub use combination::Combination;
@@ -21,8 +21,8 @@ pub use fault::PlanFault;
 pub use limits::{
     ACCESS_LIMIT, BYTE_READ_LIMIT, CHOICE_LIMIT, COMBINATION_LIMIT, EVENT_LIMIT, NAME_LIMIT,
 };
-pub use names::{Names, meets, written_names};
 pub use path::makers::Makers;
 pub use path::{Path, Tested};
 pub use planning::Plan;
-pub use planning::making::plan;
+pub use planning::plan_builder::plan;
+pub use registers::{OutcomeRegisters, meets, written_names};

@@ -1,11 +1,11 @@
-//! A path of an agent, with what it asks of the values that are read on it.
+//! A path of an agent, with its guards on the values that are read on it.
 
 pub(crate) mod counting;
 pub(crate) mod makers;
 pub(crate) mod walking;
 
 ghost use Rattle.std.specs.Prelude.{◌≡◌, ◌<◌, length, Some, None, IfOk, slice_index_or};
-ghost use Rattle.lit_read.specs.declared.limits.TheConstants.{REGISTERS as HELD};
+ghost use Rattle.lit_read.specs.declared.limits.TheConstants.{REGISTERS as REGISTER_COUNT};
 ghost use Rattle.lit_paths.specs.declared.limits.TheConstants.{ACCESS_LIMIT as ACCESSES};
 ghost use Rattle.lit_paths.specs.Internal.PathSteps.{empty_path, with_access, with_read, with_guard};
 
@@ -16,19 +16,19 @@ use lit_read::REGISTERS;
 use std::alloc::{AllocError, Global};
 use std::marker::Model;
 
-/// What a path asks of the values that are read on it.
+/// A guard: what one decision of a path asks of a value.
 #[derive(Clone, Copy, Debug, PartialEq, Eq)]
 pub struct Tested {
-    /// The place, from 0 in its event list, of the read whose value is asked about; `None` for a register that was not
-    /// written, which holds 0.
+    /// The place, from 0 in the path's event list, of the read whose value the guard asks about; `None` for a register
+    /// that was not written, which holds 0.
     pub on: Option<u8>,
-    /// Whether the value is to equal the number, or to differ from it.
+    /// Whether the value has to equal the number, or to differ from it.
     pub equal: bool,
     /// The number.
     pub value: u32,
 }
 
-/// A path of an agent through its text: the events on it, the tests of its decisions, and the reads that its registers
+/// A path of an agent through its text: the events on it, the guards of its decisions, and the reads that its registers
 /// hold at the end. A clause sees it as a `PathModel`.
 #[derive(Drop)]
 pub struct Path {
@@ -64,7 +64,7 @@ impl Path {
         self.events.as_slice()
     }
 
-    /// What the path asks: one test for each `if` and compareExchange on it, in order.
+    /// The guards of the path: one for each `if` and compareExchange on it, in order.
     pub fn tests(&self) -> &[Tested]
         ensures { result.now ≡ self.now.tests }
     {
@@ -74,7 +74,7 @@ impl Path {
     /// The place of the read that a register, `r0` up to `r7` by its number, holds at the end, or `None` where it was
     /// not written.
     pub fn last(&self, reg: u8) -> Option<u8>
-        requires { reg < HELD }
+        requires { reg < REGISTER_COUNT }
         ensures { result ≡ slice_index_or self.now.last reg None }
     {
         self.last[usize::from(reg)]
@@ -91,7 +91,7 @@ impl Path {
     /// Adds an access whose value goes into a register.
     pub(crate) fn add_into_register(&mut self, reg: u8, event: Event)
         requires room { length self.old.events < ACCESSES }
-        requires register { reg < HELD }
+        requires register { reg < REGISTER_COUNT }
         ensures { self.new ≡ with_read self.old reg event }
     {
         let register = usize::from(reg);
@@ -99,7 +99,7 @@ impl Path {
         self.events.push(event);
     }
 
-    /// Adds a test.
+    /// Adds a guard.
     pub(crate) fn add_guard(
         &mut self,
         on: Option<u8>,

@@ -1,7 +1,8 @@
-//! The plan of a test: its choices by number, and what they are made of. `making` makes it.
+//! The plan of a test: its choices by number, with their combinations and sources. `plan_builder` builds it
+//! (decision 14).
 
 pub(crate) mod agent_paths;
-pub(crate) mod making;
+pub(crate) mod plan_builder;
 
 ghost use Rattle.std.specs.Prelude.{◌≡◌, ℕ, ◌+◌, ◌<◌, ◌≤◌, length, All, nat_le, slice_index};
 ghost use Rattle.std.specs.List.Sorted.{IsNonDecreasingBy};
@@ -16,11 +17,11 @@ ghost use Rattle.lit_paths.specs.Plan.{HasSources, IsOfCombination, IsWalkIn, Li
 
 use crate::byte_reads::{ByteRead, Candidates, candidates_of};
 use crate::combination::Combination;
-use crate::combination::joined::{Joined, join};
+use crate::combination::paths::{CombinationPaths, join};
 use crate::event::{Events, Sources, event_at};
-use crate::names::{Names, asks, holds};
 use crate::path::Path;
 use crate::planning::agent_paths::AgentPaths;
+use crate::registers::{OutcomeRegisters, asks, holds};
 use lit_read::Test;
 use std::marker::Model;
 
@@ -29,7 +30,7 @@ use std::marker::Model;
 pub struct Plan<'t> {
     paths: AgentPaths<'t>,
     totals: Vec<u64>,
-    names: Names,
+    names: OutcomeRegisters,
 }
 
 impl<'t> Model for Plan<'t> {
@@ -46,7 +47,7 @@ impl<'t> Model for Plan<'t> {
     ghost invariant = { IsPlanned };
 }
 
-/// The number of the combination that a choice is of: the first one whose choices end behind it.
+/// The number of the combination that a choice is of, by binary search: the first one whose choices end behind it.
 fn combination_of(totals: &[u64], n: u64) -> usize
     requires { IsNonDecreasingBy (λ x. x) totals.now }
     ensures bound { result ≤ length totals.now }
@@ -64,8 +65,8 @@ impl<'t> Plan<'t> {
     ghost use Rattle.lit_paths.specs.Internal.Totals.{totals_below};
     ghost use Rattle.lit_paths.specs.Internal.Walks.{IsInLimits};
 
-    /// The plan of a test, from what it keeps of it.
-    pub(crate) fn new(paths: AgentPaths<'t>, totals: Vec<u64>, names: Names) -> Self
+    /// The plan of a test, of its paths, the running totals of its choices, and the registers of its outcomes.
+    pub(crate) fn new(paths: AgentPaths<'t>, totals: Vec<u64>, names: OutcomeRegisters) -> Self
         requires limits { IsInLimits paths }
         requires totals { totals.items ≡ totals_below paths (length (combinations_of paths)) }
         requires few { length (choices_of paths) ≤ CHOICE_LIMIT }
@@ -147,8 +148,8 @@ impl<'t> Plan<'t> {
         Combination::new(&self.paths, combination, first, total)
     }
 
-    /// Enters a combination of paths, by its number, below `combinations`, in place of one that was entered before. This
-    /// is `enter`, but that nothing as large as a combination is made.
+    /// Enters a combination of paths, by its number, below `combinations`, in place of one that was entered before. Unlike
+    /// `enter`, it makes no new value as large as a combination.
     pub fn reenter<'p>(&'p self, combination: &mut Combination<'p>, number: usize)
         requires { number < length (combinations_of self.now) }
         ensures { combination.new ≡ (self.now, number) }
@@ -172,9 +173,9 @@ impl<'t> Plan<'t> {
         ensures value { result.items ≡ events_in self.now combination }
         ensures sound { AreEventsIn self.now.bytes result.items }
     {
-        let mut joined = Joined::new();
-        join(&mut joined, &self.paths, combination);
-        joined.events
+        let mut combination_paths = CombinationPaths::new();
+        join(&mut combination_paths, &self.paths, combination);
+        combination_paths.events
     }
 
     /// The path of an agent in a combination. The combination is below `combinations`, the agent below the number of

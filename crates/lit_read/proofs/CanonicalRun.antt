@@ -173,7 +173,7 @@ allowed_lines (l ∷ ls) (f ∷ fs) have allowed = by (list_all is_allowed l) re
     by true e g rest = (f, fs, refl, record { allowed = e; has = have.0 }, rest g)
     by false e g rest = absurd cc
 
--- Where so many lines are read, and the others have these forms, which reach the test, the text spells it.
+-- Where some lines are read, and the others have these forms, which lead to the test, the text spells the test.
 runs : (n : ℕ) (text : List ℕ) (fs : List Form) (number : ℕ) (s : State) (t : Litmus) (rest : Option (List ℕ)) → Progress text number s rest → length (lines_from rest) < n → AreLines (lines_from rest) fs → Reaches s fs (Whole t) → Spells text t
 runs zero text fs number s t rest p few are reached = absurd (omega arith)
 runs (suc n) text fs number s t None p few are reached = progress_spells text number t (subst (λ (x : State). Progress text number x None) (subst (λ (gs : List Form). Reaches s gs (Whole t)) are reached) p)

@@ -7,7 +7,7 @@ use Rattle.std.specs.Str.{bytes_eq}
 use Rattle.std.proofs.lemmas.Bool.{leb-true, eqb-true}
 use Rattle.std.proofs.lemmas.List.{length-reverse}
 use Rattle.std.proofs.lemmas.List.Folds.{list_all-map, list_all-append}
-use Rattle.lit_read.specs.declared.draft.Level as raw
+use Rattle.lit_read.specs.declared.draft.OpenIf as raw
 use Rattle.lit_read.specs.declared.forms.marks.Mark as marks
 use Rattle.lit_read.specs.declared.fault.ReadKind.{ReadKind}
 use Rattle.lit_read.specs.declared.fault.ReadKind.TheVariants.{TooLong, NotAscii, Syntax, Misplaced, BlockSize, TooManyAgents, DuplicateAgent, LiteralRange, OutOfBlock, UnknownName, TooDeep, MissingPart, OutOfMemory}
@@ -20,17 +20,17 @@ use Rattle.lit_read.specs.Faults.{has_small_numbers}
 use Rattle.lit_read.specs.Spelling.{written_value}
 use Rattle.lit_read.specs.Internal.Marks.{Mark, Bang, Opens, Closes, Joins, Parts, Compares, operand_marks, conjunction_marks, written_marks, is_small}
 use Rattle.lit_read.specs.Internal.Built.{build, begun}
-use Rattle.lit_read.specs.Internal.State.{State, Open, Whole, Level, with_agent, is_known, is_known_mark, are_known, next_step, agent_step, test_of, check_step, IsState}
-use Rattle.lit_read.specs.Internal.Views.{mark_view, mark_views, level_view, agents_view, Fails}
+use Rattle.lit_read.specs.Internal.State.{State, Open, Whole, OpenIf, with_agent, is_known, is_known_mark, are_known, next_step, agent_step, test_of, check_step, IsState}
+use Rattle.lit_read.specs.Internal.Views.{mark_view, mark_views, open_if_view, agents_view, Fails}
 use Rattle.lit_read.proofs.BuildLemmas.{built}
-use Rattle.lit_read.proofs.StepLemmas.{check_kept}
+use Rattle.lit_read.proofs.StepLemmas.{check_preserved}
 
--- ---- the levels that a vector holds
+-- ---- the open `if`s that a vector holds
 
-abbrev pub views : List raw.Level → List Level
-views items = map level_view (reverse items)
+abbrev pub views : List raw.OpenIf → List OpenIf
+views items = map open_if_view (reverse items)
 
-pub none_open : (items : List raw.Level) → length items ≡ 0 → views items ≡ []
+pub none_open : (items : List raw.OpenIf) → length items ≡ 0 → views items ≡ []
 none_open [] e = refl
 none_open (x ∷ xs) e = absurd (omega (arith, e))
 
@@ -134,9 +134,9 @@ module _ (name : List ℕ) (bytes : ℕ) (agents : List Agent) (agent : List ℕ
       by true g h = (g, cc)
       by false g h = absurd cc
 
--- ---- the same over the program's marks and levels
+-- ---- the same over the program's marks and open `if`s
 
-module _ (name : List ℕ) (bytes : ℕ) (agents : List Agent) (agent : List ℕ) (items : List raw.Level) (body : Statements) (xs : List marks.Mark) where
+module _ (name : List ℕ) (bytes : ℕ) (agents : List Agent) (agent : List ℕ) (items : List raw.OpenIf) (body : Statements) (xs : List marks.Mark) where
   abbrev every : List Agent
   every = with_agent agents agent body
 
@@ -144,16 +144,16 @@ module _ (name : List ℕ) (bytes : ℕ) (agents : List Agent) (agent : List ℕ
   draft = Open name bytes agents agent (views items) body
 
   bare_is : length items ≡ 0 → draft ≡ Open name bytes agents agent [] body
-  bare_is none = ap (λ (l : List Level). Open name bytes agents agent l body) (none_open items none)
+  bare_is none = ap (λ (l : List OpenIf). Open name bytes agents agent l body) (none_open items none)
 
   pub too_open : (w : Written) → length items ≢ 0 → check_step draft w ≡ Err Misplaced
   unfolding check_step
   too_open w some = by (reverse items) refl
     where
-      nothing : (l : List raw.Level) → reverse l ≡ [] → length l ≡ 0
+      nothing : (l : List raw.OpenIf) → reverse l ≡ [] → length l ≡ 0
       nothing l e = sym (length-reverse l) ∙ ap length e
 
-      by : (l : List raw.Level) → reverse items ≡ l → check_step (Open name bytes agents agent (map level_view l) body) w ≡ Err Misplaced
+      by : (l : List raw.OpenIf) → reverse items ≡ l → check_step (Open name bytes agents agent (map open_if_view l) body) w ≡ Err Misplaced
       by [] e = absurd (some (nothing items e))
       by (x ∷ l) e = refl
 
@@ -180,7 +180,7 @@ module _ (name : List ℕ) (bytes : ℕ) (agents : List Agent) (agent : List ℕ
   pub made_litmus : (w : Written) (c : Condition) → IsState draft → IsForm (CheckLine w) → mark_views xs ≡ written_marks w → length items ≡ 0 → list_all (λ m. is_small (mark_view m)) xs ≡ true
       → list_all (λ m. is_known_mark every (mark_view m)) xs ≡ true → build every begun (mark_views xs) ≡ Ok c → IsLitmus (record { name = name; bytes = bytes; agents = every; check = c })
   unfolding IsState
-  made_litmus w c state form is none small known h = check_kept draft (Whole (record { name = name; bytes = bytes; agents = every; check = c })) w state form (makes w c is none small known h)
+  made_litmus w c state form is none small known h = check_preserved draft (Whole (record { name = name; bytes = bytes; agents = every; check = c })) w state form (makes w c is none small known h)
 
 views_len : (entries : List (String Global × Vec Stmt)) → length (agents_view entries) ≡ length entries
 views_len [] = refl
@@ -191,14 +191,14 @@ few_entries entries agents e few = omega (arith, views_len entries, ap length e)
 
 -- ---- the next agent
 
-pub next_ok : (name : List ℕ) (bytes : ℕ) (entries : List (String Global × Vec Stmt)) (agent : List ℕ) (items : List raw.Level) (body : Statements) (next : List ℕ) (more : List Agent) → length items ≡ 0 → length entries + 1 < AGENT_LIMIT
+pub next_ok : (name : List ℕ) (bytes : ℕ) (entries : List (String Global × Vec Stmt)) (agent : List ℕ) (items : List raw.OpenIf) (body : Statements) (next : List ℕ) (more : List Agent) → length items ≡ 0 → length entries + 1 < AGENT_LIMIT
     → list_any (λ a. bytes_eq next a.name) (with_agent (agents_view entries) agent body) ≡ false → more ≡ with_agent (agents_view entries) agent body
     → agent_step (Open name bytes (agents_view entries) agent (views items) body) next ≡ Ok (Open name bytes more next (views items) End)
 unfolding agent_step next_step
 next_ok name bytes entries agent items body next more none few new is =
     let room : leb AGENT_LIMIT (length (agents_view entries) + 1) ≡ false = above (leb AGENT_LIMIT (length (agents_view entries) + 1)) refl in
-    ap (λ (l : List Level). agent_step (Open name bytes (agents_view entries) agent l body) next) (none_open items none) ∙ rw (room, new) refl
-    ∙ ap (λ (l : List Agent). Ok (Open name bytes l next [] End)) (sym is) ∙ ap (λ (l : List Level). Ok (Open name bytes more next l End)) (sym (none_open items none))
+    ap (λ (l : List OpenIf). agent_step (Open name bytes (agents_view entries) agent l body) next) (none_open items none) ∙ rw (room, new) refl
+    ∙ ap (λ (l : List Agent). Ok (Open name bytes l next [] End)) (sym is) ∙ ap (λ (l : List OpenIf). Ok (Open name bytes more next l End)) (sym (none_open items none))
   where
     above : (b : Bool) → leb AGENT_LIMIT (length (agents_view entries) + 1) ≡ b → b ≡ false
     above true e = let le : AGENT_LIMIT ≤ length (agents_view entries) + 1 = leb-true _ _ e in absurd (omega (arith, views_len entries))

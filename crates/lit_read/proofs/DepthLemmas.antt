@@ -75,36 +75,36 @@ module _ (agents : List Agent) where
   any_more c (Also d ds) n most some a b = within_both most (conjunction_depths n (conjunction_of agents c)) (written_depths n (any_written agents (Also d ds))) a b
 
   mutual
-    operand_kept : (o : Operand) (n most : ℕ) → AreWithin most (operand_depths n o) → AreWithin most (operand_depths n (operand_of agents (operand_value agents o)))
-    operand_kept (Compared c) n most h = (h.0, tt)
-    operand_kept (Negated o) n most h = operand_kept o (n + 1) most h
-    operand_kept (Grouped w) n most h = tight (written_value agents w) n most (written_kept w (n + 1) most h)
+    operand_within : (o : Operand) (n most : ℕ) → AreWithin most (operand_depths n o) → AreWithin most (operand_depths n (operand_of agents (operand_value agents o)))
+    operand_within (Compared c) n most h = (h.0, tt)
+    operand_within (Negated o) n most h = operand_within o (n + 1) most h
+    operand_within (Grouped w) n most h = tight (written_value agents w) n most (written_within w (n + 1) most h)
 
-    conjunction_kept : (c : Conjunction) (n most : ℕ) → AreWithin most (conjunction_depths n c) → AreWithin most (conjunction_depths n (conjunction_of agents (conjunction_value agents c)))
-    conjunction_kept (Lone o) n most h = loose (operand_value agents o) n most (operand_kept o n most h)
-    conjunction_kept (Both o c) n most h =
+    conjunction_within : (c : Conjunction) (n most : ℕ) → AreWithin most (conjunction_depths n c) → AreWithin most (conjunction_depths n (conjunction_of agents (conjunction_value agents c)))
+    conjunction_within (Lone o) n most h = loose (operand_value agents o) n most (operand_within o n most h)
+    conjunction_within (Both o c) n most h =
         let parts = within_parts most (operand_depths n o) (conjunction_depths n c) h in
-        all_more (operand_value agents o) (operand_values agents c) n most (operands_count c) (operand_kept o n most parts.0) (operands_kept c n most parts.1)
+        all_more (operand_value agents o) (operand_values agents c) n most (operands_count c) (operand_within o n most parts.0) (operands_within c n most parts.1)
 
-    operands_kept : (c : Conjunction) (n most : ℕ) → AreWithin most (conjunction_depths n c) → AreWithin most (conjunction_depths n (all_written agents (operand_values agents c)))
-    operands_kept (Lone o) n most h = operand_kept o n most h
-    operands_kept (Both o c) n most h =
+    operands_within : (c : Conjunction) (n most : ℕ) → AreWithin most (conjunction_depths n c) → AreWithin most (conjunction_depths n (all_written agents (operand_values agents c)))
+    operands_within (Lone o) n most h = operand_within o n most h
+    operands_within (Both o c) n most h =
         let parts = within_parts most (operand_depths n o) (conjunction_depths n c) h in
-        all_more (operand_value agents o) (operand_values agents c) n most (operands_count c) (operand_kept o n most parts.0) (operands_kept c n most parts.1)
+        all_more (operand_value agents o) (operand_values agents c) n most (operands_count c) (operand_within o n most parts.0) (operands_within c n most parts.1)
 
-    written_kept : (w : Written) (n most : ℕ) → AreWithin most (written_depths n w) → AreWithin most (written_depths n (written_of agents (written_value agents w)))
-    written_kept (Single c) n most h = lone (conjunction_value agents c) n most (conjunction_kept c n most h)
-    written_kept (Either c w) n most h =
+    written_within : (w : Written) (n most : ℕ) → AreWithin most (written_depths n w) → AreWithin most (written_depths n (written_of agents (written_value agents w)))
+    written_within (Single c) n most h = lone (conjunction_value agents c) n most (conjunction_within c n most h)
+    written_within (Either c w) n most h =
         let parts = within_parts most (conjunction_depths n c) (written_depths n w) h in
-        any_more (conjunction_value agents c) (conjunction_values agents w) n most (conjunctions_count w) (conjunction_kept c n most parts.0) (conjunctions_kept w n most parts.1)
+        any_more (conjunction_value agents c) (conjunction_values agents w) n most (conjunctions_count w) (conjunction_within c n most parts.0) (conjunctions_within w n most parts.1)
 
-    conjunctions_kept : (w : Written) (n most : ℕ) → AreWithin most (written_depths n w) → AreWithin most (written_depths n (any_written agents (conjunction_values agents w)))
-    conjunctions_kept (Single c) n most h = conjunction_kept c n most h
-    conjunctions_kept (Either c w) n most h =
+    conjunctions_within : (w : Written) (n most : ℕ) → AreWithin most (written_depths n w) → AreWithin most (written_depths n (any_written agents (conjunction_values agents w)))
+    conjunctions_within (Single c) n most h = conjunction_within c n most h
+    conjunctions_within (Either c w) n most h =
         let parts = within_parts most (conjunction_depths n c) (written_depths n w) h in
-        any_more (conjunction_value agents c) (conjunction_values agents w) n most (conjunctions_count w) (conjunction_kept c n most parts.0) (conjunctions_kept w n most parts.1)
+        any_more (conjunction_value agents c) (conjunction_values agents w) n most (conjunctions_count w) (conjunction_within c n most parts.0) (conjunctions_within w n most parts.1)
 
-  pub shallow_kept : (w : Written) → is_shallow w ≡ true → is_shallow (written_of agents (written_value agents w)) ≡ true
-  shallow_kept w h =
+  pub stays_shallow : (w : Written) → is_shallow w ≡ true → is_shallow (written_of agents (written_value agents w)) ≡ true
+  stays_shallow w h =
       all_pass (λ p. p.1 ≤ DEPTH_LIMIT) (λ p. leb p.1 DEPTH_LIMIT) (λ p le. le-leb _ _ le) (written_depths 0 (written_of agents (written_value agents w)))
-      (written_kept w 0 DEPTH_LIMIT (all_passed (λ p. p.1 ≤ DEPTH_LIMIT) (λ p. leb p.1 DEPTH_LIMIT) (λ p e. leb-true _ _ e) (written_depths 0 w) h))
+      (written_within w 0 DEPTH_LIMIT (all_passed (λ p. p.1 ≤ DEPTH_LIMIT) (λ p. leb p.1 DEPTH_LIMIT) (λ p e. leb-true _ _ e) (written_depths 0 w) h))

@@ -12,7 +12,7 @@ use Rattle.lit_read.specs.Forms.{Form, Blank, TestLine, BytesLine, AgentLine, St
 use Rattle.lit_read.specs.Structure.{is_body_line, AreStatements, AreAgents}
 use Rattle.lit_read.specs.Faults.{is_block_line, is_agent_line, is_check_line, is_begun, ends_in_test, open_behind, open_ifs, is_in_then, is_empty, block_of, names_of, line_writes, lines_write, agent_writes, is_misplaced}
 use Rattle.lit_read.specs.Spelling.{AreFormsOf}
-use Rattle.lit_read.specs.Internal.State.{State, Empty, Named, Sized, Open, Whole, Level, with_agent, body_named, IsUnfinished}
+use Rattle.lit_read.specs.Internal.State.{State, Empty, Named, Sized, Open, Whole, OpenIf, with_agent, body_named, IsUnfinished}
 use Rattle.lit_read.proofs.SpellLemmas.{all_joined, are_body_lines, statements_body, statements_open, any_writes, statements_wrote, or_right_false}
 
 -- ---- the forms of a draft
@@ -23,9 +23,9 @@ AreParts inner None body = AreStatements inner body
 AreParts inner (Some part) body = (thens elses : List Form) × (inner ≡ thens ++ ElseLine ∷ elses) × AreStatements thens part × AreStatements elses body
 
 -- the lines of an agent that more statements may follow
-abbrev pub AreOpen : List Form → List Level → Statements → Type 0
+abbrev pub AreOpen : List Form → List OpenIf → Statements → Type 0
 AreOpen own [] body = AreStatements own body
-AreOpen own (l ∷ levels) body = (outer inner : List Form) × (own ≡ outer ++ IfLine l.reg l.equal l.value ∷ inner) × AreOpen outer levels l.before × AreParts inner l.then_part body
+AreOpen own (l ∷ ifs) body = (outer inner : List Form) × (own ≡ outer ++ IfLine l.reg l.equal l.value ∷ inner) × AreOpen outer ifs l.before × AreParts inner l.then_part body
 
 abbrev pub opening : List ℕ → ℕ → List Form → List ℕ → List Form → List Form
 opening name bytes front agent own = TestLine name ∷ BytesLine bytes ∷ (front ++ AgentLine agent ∷ own)
@@ -35,7 +35,7 @@ abbrev pub Holds : List Form → State → Type 0
 Holds given Empty = given ≡ []
 Holds given (Named name) = given ≡ TestLine name ∷ []
 Holds given (Sized name bytes) = given ≡ TestLine name ∷ BytesLine bytes ∷ []
-Holds given (Open name bytes agents agent levels body) = (front own : List Form) × (given ≡ opening name bytes front agent own) × AreAgents front agents × AreOpen own levels body
+Holds given (Open name bytes agents agent ifs body) = (front own : List Form) × (given ≡ opening name bytes front agent own) × AreAgents front agents × AreOpen own ifs body
 Holds given (Whole t) = AreFormsOf given t
 
 -- ---- what they say
@@ -44,23 +44,23 @@ parts_body : (inner : List Form) (part : Option Statements) (body : Statements) 
 parts_body inner None body h = statements_body inner body h
 parts_body inner (Some part) body h = ap are_body_lines h.2 ∙ all_joined is_body_line h.0 (ElseLine ∷ h.1) (statements_body h.0 part h.3) (statements_body h.1 body h.4)
 
-pub open_body : (own : List Form) (levels : List Level) (body : Statements) → AreOpen own levels body → are_body_lines own ≡ true
+pub open_body : (own : List Form) (ifs : List OpenIf) (body : Statements) → AreOpen own ifs body → are_body_lines own ≡ true
 open_body own [] body h = statements_body own body h
-open_body own (l ∷ levels) body h = ap are_body_lines h.2 ∙ all_joined is_body_line h.0 (IfLine l.reg l.equal l.value ∷ h.1) (open_body h.0 levels l.before h.3) (parts_body h.1 l.then_part body h.4)
+open_body own (l ∷ ifs) body h = ap are_body_lines h.2 ∙ all_joined is_body_line h.0 (IfLine l.reg l.equal l.value ∷ h.1) (open_body h.0 ifs l.before h.3) (parts_body h.1 l.then_part body h.4)
 
-abbrev pub flags : List Level → List Bool
-flags levels = map (λ l. is_some l.then_part) levels
+abbrev pub flags : List OpenIf → List Bool
+flags ifs = map (λ l. is_some l.then_part) ifs
 
 parts_open : (inner : List Form) (part : Option Statements) (body : Statements) (o : List Bool) → AreParts inner part body → fold open_behind (false ∷ o) inner ≡ is_some part ∷ o
 parts_open inner None body o h = statements_open inner body (false ∷ o) h
 parts_open inner (Some part) body o h =
     ap (fold open_behind (false ∷ o)) h.2 ∙ fold-append open_behind (false ∷ o) h.0 (ElseLine ∷ h.1) ∙ ap (λ (p : List Bool). fold open_behind p (ElseLine ∷ h.1)) (statements_open h.0 part (false ∷ o) h.3) ∙ statements_open h.1 body (true ∷ o) h.4
 
-open_flags : (own : List Form) (levels : List Level) (body : Statements) → AreOpen own levels body → fold open_behind [] own ≡ flags levels
+open_flags : (own : List Form) (ifs : List OpenIf) (body : Statements) → AreOpen own ifs body → fold open_behind [] own ≡ flags ifs
 open_flags own [] body h = statements_open own body [] h
-open_flags own (l ∷ levels) body h =
-    ap (fold open_behind []) h.2 ∙ fold-append open_behind [] h.0 (IfLine l.reg l.equal l.value ∷ h.1) ∙ ap (λ (p : List Bool). fold open_behind p (IfLine l.reg l.equal l.value ∷ h.1)) (open_flags h.0 levels l.before h.3)
-    ∙ parts_open h.1 l.then_part body (flags levels) h.4
+open_flags own (l ∷ ifs) body h =
+    ap (fold open_behind []) h.2 ∙ fold-append open_behind [] h.0 (IfLine l.reg l.equal l.value ∷ h.1) ∙ ap (λ (p : List Bool). fold open_behind p (IfLine l.reg l.equal l.value ∷ h.1)) (open_flags h.0 ifs l.before h.3)
+    ∙ parts_open h.1 l.then_part body (flags ifs) h.4
 
 agents_open : (front : List Form) (agents : List Agent) (o : List Bool) → AreAgents front agents → fold open_behind o front ≡ o
 agents_open front [] o h = ap (fold open_behind o) h
@@ -202,38 +202,38 @@ agents_added front own (c ∷ others) agent body a b =
 
 -- ---- what each draft says of its forms
 
-pub record Opened (given : List Form) (bytes : ℕ) (agents : List Agent) (agent : List ℕ) (levels : List Level) : Type 0 where
+pub record Opened (given : List Form) (bytes : ℕ) (agents : List Agent) (agent : List ℕ) (ifs : List OpenIf) : Type 0 where
   pub block : block_of given ≡ bytes
   pub named : names_of given ≡ names agents ++ agent ∷ []
   pub sized : list_any is_block_line given ≡ true
   pub begun : is_begun given ≡ true
   pub unchecked : list_any is_check_line given ≡ false
   pub ends : ends_in_test given ≡ false
-  pub opens : open_ifs given ≡ flags levels
+  pub opens : open_ifs given ≡ flags ifs
 
 or_true : (x : Bool) → (x || true) ≡ true
 or_true true = refl
 or_true false = refl
 
-no_check : (front own : List Form) (agents : List Agent) (agent : List ℕ) (levels : List Level) (body : Statements) → AreAgents front agents → AreOpen own levels body → list_any is_check_line (front ++ AgentLine agent ∷ own) ≡ false
-no_check front own agents agent levels body a b =
-    list_any-append is_check_line front (AgentLine agent ∷ own) ∙ ap (λ (x : Bool). x || list_any is_check_line own) (any_agents is_check_line front agents other_check (λ n. refl) a) ∙ any_body is_check_line own other_check (open_body own levels body b)
+no_check : (front own : List Form) (agents : List Agent) (agent : List ℕ) (ifs : List OpenIf) (body : Statements) → AreAgents front agents → AreOpen own ifs body → list_any is_check_line (front ++ AgentLine agent ∷ own) ≡ false
+no_check front own agents agent ifs body a b =
+    list_any-append is_check_line front (AgentLine agent ∷ own) ∙ ap (λ (x : Bool). x || list_any is_check_line own) (any_agents is_check_line front agents other_check (λ n. refl) a) ∙ any_body is_check_line own other_check (open_body own ifs body b)
 
-opened_is : (name : List ℕ) (bytes : ℕ) (front own : List Form) (agents : List Agent) (agent : List ℕ) (levels : List Level) (body : Statements) → AreAgents front agents → AreOpen own levels body
-    → Opened (opening name bytes front agent own) bytes agents agent levels
-opened_is name bytes front own agents agent levels body a b = record {
+opened_is : (name : List ℕ) (bytes : ℕ) (front own : List Form) (agents : List Agent) (agent : List ℕ) (ifs : List OpenIf) (body : Statements) → AreAgents front agents → AreOpen own ifs body
+    → Opened (opening name bytes front agent own) bytes agents agent ifs
+opened_is name bytes front own agents agent ifs body a b = record {
   block = refl;
-  named = agents_names front (AgentLine agent ∷ own) agents a ∙ ap (λ (l : List (List ℕ)). names agents ++ agent ∷ l) (ap names_of (sym (append-nil own)) ∙ names_skip own [] (open_body own levels body b));
+  named = agents_names front (AgentLine agent ∷ own) agents a ∙ ap (λ (l : List (List ℕ)). names agents ++ agent ∷ l) (ap names_of (sym (append-nil own)) ∙ names_skip own [] (open_body own ifs body b));
   sized = refl;
-  begun = ap (λ (x : Bool). x && not (list_any is_check_line (front ++ AgentLine agent ∷ own))) (list_any-append is_agent_line front (AgentLine agent ∷ own) ∙ or_true (list_any is_agent_line front)) ∙ ap not (no_check front own agents agent levels body a b);
-  unchecked = no_check front own agents agent levels body a b;
+  begun = ap (λ (x : Bool). x && not (list_any is_check_line (front ++ AgentLine agent ∷ own))) (list_any-append is_agent_line front (AgentLine agent ∷ own) ∙ or_true (list_any is_agent_line front)) ∙ ap not (no_check front own agents agent ifs body a b);
+  unchecked = no_check front own agents agent ifs body a b;
   ends = no_end (TestLine name) (BytesLine bytes ∷ (front ++ AgentLine agent ∷ own))
-      (list_any-append is_test_line front (AgentLine agent ∷ own) ∙ ap (λ (x : Bool). x || list_any is_test_line own) (any_agents is_test_line front agents other_test (λ n. refl) a) ∙ any_body is_test_line own other_test (open_body own levels body b)) (omega arith);
-  opens = fold-append open_behind [] front (AgentLine agent ∷ own) ∙ ap (λ (p : List Bool). fold open_behind p own) (agents_open front agents [] a) ∙ open_flags own levels body b;
+      (list_any-append is_test_line front (AgentLine agent ∷ own) ∙ ap (λ (x : Bool). x || list_any is_test_line own) (any_agents is_test_line front agents other_test (λ n. refl) a) ∙ any_body is_test_line own other_test (open_body own ifs body b)) (omega arith);
+  opens = fold-append open_behind [] front (AgentLine agent ∷ own) ∙ ap (λ (p : List Bool). fold open_behind p own) (agents_open front agents [] a) ∙ open_flags own ifs body b;
 }
 
-pub opened : (given : List Form) (name : List ℕ) (bytes : ℕ) (agents : List Agent) (agent : List ℕ) (levels : List Level) (body : Statements) → Holds given (Open name bytes agents agent levels body) → Opened given bytes agents agent levels
-opened given name bytes agents agent levels body h = subst (λ (l : List Form). Opened l bytes agents agent levels) (sym h.2) (opened_is name bytes h.0 h.1 agents agent levels body h.3 h.4)
+pub opened : (given : List Form) (name : List ℕ) (bytes : ℕ) (agents : List Agent) (agent : List ℕ) (ifs : List OpenIf) (body : Statements) → Holds given (Open name bytes agents agent ifs body) → Opened given bytes agents agent ifs
+opened given name bytes agents agent ifs body h = subst (λ (l : List Form). Opened l bytes agents agent ifs) (sym h.2) (opened_is name bytes h.0 h.1 agents agent ifs body h.3 h.4)
 
 checked_is : (given : List Form) (t : Litmus) → AreFormsOf given t → list_any is_check_line given ≡ true
 checked_is given t h = ap (list_any is_check_line) h.parts ∙ list_any-append is_check_line h.agents (CheckLine h.check ∷ []) ∙ or_true (list_any is_check_line h.agents)
@@ -245,23 +245,23 @@ ends_checked given t h =
 
 -- ---- where a form can stand
 
-abbrev pub is_in_then_part : List Level → Bool
-is_in_then_part levels = is_in_then (flags levels)
+abbrev pub is_in_then_part : List OpenIf → Bool
+is_in_then_part ifs = is_in_then (flags ifs)
 
-abbrev pub has_none : List Level → Bool
-has_none levels = is_empty (flags levels)
+abbrev pub has_none : List OpenIf → Bool
+has_none ifs = is_empty (flags ifs)
 
 abbrev pub can_follow : State → Form → Bool
 can_follow s Blank = true
 can_follow Empty (TestLine n) = true
 can_follow (Named m) (BytesLine b) = true
 can_follow (Sized m b) (AgentLine n) = true
-can_follow (Open m b agents agent levels body) (AgentLine n) = has_none levels
-can_follow (Open m b agents agent levels body) (StatementLine r) = true
-can_follow (Open m b agents agent levels body) (IfLine r q v) = true
-can_follow (Open m b agents agent levels body) ElseLine = is_in_then_part levels
-can_follow (Open m b agents agent levels body) EndLine = not (has_none levels)
-can_follow (Open m b agents agent levels body) (CheckLine w) = has_none levels
+can_follow (Open m b agents agent ifs body) (AgentLine n) = has_none ifs
+can_follow (Open m b agents agent ifs body) (StatementLine r) = true
+can_follow (Open m b agents agent ifs body) (IfLine r q v) = true
+can_follow (Open m b agents agent ifs body) ElseLine = is_in_then_part ifs
+can_follow (Open m b agents agent ifs body) EndLine = not (has_none ifs)
+can_follow (Open m b agents agent ifs body) (CheckLine w) = has_none ifs
 can_follow _ _ = false
 
 not_empty : (fs : List Form) → not (eqb (suc (length fs)) 0) ≡ true
@@ -308,17 +308,17 @@ pub not_not : (x : Bool) → x ≡ not (not x)
 not_not true = refl
 not_not false = refl
 
-placed_open : (given : List Form) (m : List ℕ) (b : ℕ) (agents : List Agent) (agent : List ℕ) (levels : List Level) (body : Statements) (f : Form) → Holds given (Open m b agents agent levels body)
-    → is_misplaced given f ≡ not (can_follow (Open m b agents agent levels body) f)
-placed_open given m b agents agent levels body Blank h = refl
-placed_open given m b agents agent levels body (TestLine n) h = rw h.2 (not_empty (BytesLine b ∷ (h.0 ++ AgentLine agent ∷ h.1)))
-placed_open given m b agents agent levels body (BytesLine c) h = let o = opened given m b agents agent levels body h in rw o.ends refl
-placed_open given m b agents agent levels body (AgentLine n) h = let o = opened given m b agents agent levels body h in rw (o.sized, o.unchecked, o.opens) refl
-placed_open given m b agents agent levels body (StatementLine r) h = let o = opened given m b agents agent levels body h in rw o.begun refl
-placed_open given m b agents agent levels body (IfLine r q v) h = let o = opened given m b agents agent levels body h in rw o.begun refl
-placed_open given m b agents agent levels body ElseLine h = let o = opened given m b agents agent levels body h in rw (o.begun, o.opens) refl
-placed_open given m b agents agent levels body EndLine h = let o = opened given m b agents agent levels body h in rw (o.begun, o.opens) (not_not (has_none levels))
-placed_open given m b agents agent levels body (CheckLine w) h = let o = opened given m b agents agent levels body h in rw (o.begun, o.opens) refl
+placed_open : (given : List Form) (m : List ℕ) (b : ℕ) (agents : List Agent) (agent : List ℕ) (ifs : List OpenIf) (body : Statements) (f : Form) → Holds given (Open m b agents agent ifs body)
+    → is_misplaced given f ≡ not (can_follow (Open m b agents agent ifs body) f)
+placed_open given m b agents agent ifs body Blank h = refl
+placed_open given m b agents agent ifs body (TestLine n) h = rw h.2 (not_empty (BytesLine b ∷ (h.0 ++ AgentLine agent ∷ h.1)))
+placed_open given m b agents agent ifs body (BytesLine c) h = let o = opened given m b agents agent ifs body h in rw o.ends refl
+placed_open given m b agents agent ifs body (AgentLine n) h = let o = opened given m b agents agent ifs body h in rw (o.sized, o.unchecked, o.opens) refl
+placed_open given m b agents agent ifs body (StatementLine r) h = let o = opened given m b agents agent ifs body h in rw o.begun refl
+placed_open given m b agents agent ifs body (IfLine r q v) h = let o = opened given m b agents agent ifs body h in rw o.begun refl
+placed_open given m b agents agent ifs body ElseLine h = let o = opened given m b agents agent ifs body h in rw (o.begun, o.opens) refl
+placed_open given m b agents agent ifs body EndLine h = let o = opened given m b agents agent ifs body h in rw (o.begun, o.opens) (not_not (has_none ifs))
+placed_open given m b agents agent ifs body (CheckLine w) h = let o = opened given m b agents agent ifs body h in rw (o.begun, o.opens) refl
 
 ended_begun : (x : Bool) → (x && false) ≡ false
 ended_begun true = refl
@@ -348,7 +348,7 @@ pub placed : (s : State) (given : List Form) (f : Form) → Holds given s → is
 placed Empty given f h = ap (λ (l : List Form). is_misplaced l f) h ∙ placed_empty f
 placed (Named m) given f h = ap (λ (l : List Form). is_misplaced l f) h ∙ placed_named m f
 placed (Sized m b) given f h = ap (λ (l : List Form). is_misplaced l f) h ∙ placed_sized m b f
-placed (Open m b agents agent levels body) given f h = placed_open given m b agents agent levels body f h
+placed (Open m b agents agent ifs body) given f h = placed_open given m b agents agent ifs body f h
 placed (Whole t) given f h = placed_whole given t f h
 
 -- a draft that no check line has ended
@@ -356,7 +356,7 @@ pub not_checked : (s : State) (given : List Form) → Holds given s → IsUnfini
 not_checked Empty given h u = rw h refl
 not_checked (Named m) given h u = rw h refl
 not_checked (Sized m b) given h u = rw h refl
-not_checked (Open m b agents agent levels body) given h u = (opened given m b agents agent levels body h).unchecked
+not_checked (Open m b agents agent ifs body) given h u = (opened given m b agents agent ifs body h).unchecked
 not_checked (Whole t) given h u = absurd u
 
 pub is_checked : (t : Litmus) (given : List Form) → Holds given (Whole t) → list_any is_check_line given ≡ true

@@ -148,7 +148,7 @@ ended_told : (text : List ℕ) (number : ℕ) (s : State) → Progress text numb
 ended_told text number Empty p = inr (MissingPart, number, progress_ends text number Empty p tt)
 ended_told text number (Named m) p = inr (MissingPart, number, progress_ends text number (Named m) p tt)
 ended_told text number (Sized m b) p = inr (MissingPart, number, progress_ends text number (Sized m b) p tt)
-ended_told text number (Open m b agents agent levels body) p = inr (MissingPart, number, progress_ends text number (Open m b agents agent levels body) p tt)
+ended_told text number (Open m b agents agent ifs body) p = inr (MissingPart, number, progress_ends text number (Open m b agents agent ifs body) p tt)
 ended_told text number (Whole t) p = inl (t, progress_spells text number t p, litmus_in t p.sound)
 
 failed : (text : List ℕ) (k : ReadKind) (n : ℕ) → k ≢ OutOfMemory → (k ≡ OutOfMemory) ⊎ IsFirstFault text k n → Told text

@@ -8,11 +8,11 @@ pub mod Cuttings
 pub mod RowLemmas
 pub mod FormLemmas
 pub mod OneForm
-pub mod WalkLemmas
+pub mod FollowLemmas
 pub mod MarkLemmas
 pub mod LineForms
 pub mod BuildLemmas
-pub mod FrameLemmas
+pub mod GroupLemmas
 pub mod SpellLemmas
 pub mod DraftForms
 pub mod StepHolds

@@ -53,7 +53,7 @@ pub onto_some : (b : ℕ) (ls : List (List ℕ)) → 1 ≤ length (onto_first b 
 onto_some b [] = omega arith
 onto_some b (l ∷ ls) = omega arith
 
--- the text is its lines with their bytes 10, of which the last may be left out
+-- the text is its lines with their bytes 10, of which the last may be missing
 abbrev AreJoined : List ℕ → List (List ℕ) → Type 0
 AreJoined text ls = (1 ≤ length ls) × (list_all is_whole_line ls ≡ true) × ((text ≡ ended_lines ls) ⊎ (text ++ 10 ∷ [] ≡ ended_lines ls))
 

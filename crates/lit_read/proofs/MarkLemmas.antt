@@ -16,7 +16,7 @@ use Rattle.lit_read.specs.Internal.FormOfTokens.{◌>>=◌, after_sign, word_of,
 use Rattle.lit_read.specs.Internal.Marks.{Mark, Bang, Opens, Closes, Joins, Parts, Compares, mark_tokens, IsMark, operand_marks, conjunction_marks, written_marks, mark_of, follow, SpellsMarks}
 use Rattle.lit_read.proofs.CutLemmas.{pair_parts}
 use Rattle.lit_read.proofs.RowLemmas.{sign_is, row, along_is, register_number_again, relation_again}
-use Rattle.lit_read.proofs.WalkLemmas.{walk, walk-append, walks_whole, whole, condition_told}
+use Rattle.lit_read.proofs.FollowLemmas.{follow_all, follow_all-append, follows_whole, whole, condition_told}
 use Rattle.lit_read.proofs.ListLemmas.{all_both}
 
 -- ---- one mark
@@ -148,11 +148,11 @@ mutual
 pub record Marking (tokens rest : List Token) (done : List Mark) (behind : Bool) (n : ℕ) : Type 0 where
   pub parts : tokens ≡ flat_map mark_tokens done ++ rest
   pub good : AllByRecursion IsMark done
-  pub walked : walk false 0 done ≡ Some (behind, n)
+  pub followed : follow_all false 0 done ≡ Some (behind, n)
   pub only : (ms : List Mark) → AllByRecursion IsMark ms → tokens ≡ flat_map mark_tokens ms → (more : List Mark) × (ms ≡ done ++ more) × (rest ≡ flat_map mark_tokens more) × AllByRecursion IsMark more
 
 pub marking_begins : (tokens : List Token) → Marking tokens tokens [] false 0
-marking_begins tokens = record { parts = refl; good = tt; walked = refl; only = λ ms good e. (ms, refl, e, good) }
+marking_begins tokens = record { parts = refl; good = tt; followed = refl; only = λ ms good e. (ms, refl, e, good) }
 
 abbrev no_mark : Option (Mark × List Token)
 no_mark = None
@@ -169,7 +169,7 @@ marking_goes_on tokens rest after done behind n m b k e step so_far =
       parts = so_far.parts ∙ ap (λ (l : List Token). flat_map mark_tokens done ++ l) front.0 ∙ sym (append_assoc (flat_map mark_tokens done) (mark_tokens m) after)
           ∙ ap (λ (l : List Token). l ++ after) (sym (tokens-append done (m ∷ []) ∙ ap (λ (l : List Token). flat_map mark_tokens done ++ l) (append-nil (mark_tokens m))));
       good = all_both IsMark done (m ∷ []) so_far.good (front.1, tt);
-      walked = walk-append false 0 done (m ∷ []) ∙ ap (λ o. o >>= λ p. walk p.0 p.1 (m ∷ [])) so_far.walked ∙ ap (λ o. o >>= λ p. walk p.0 p.1 []) step;
+      followed = follow_all-append false 0 done (m ∷ []) ∙ ap (λ o. o >>= λ p. follow_all p.0 p.1 (m ∷ [])) so_far.followed ∙ ap (λ o. o >>= λ p. follow_all p.0 p.1 []) step;
       only = λ ms good is. let old = so_far.only ms good is in by ms old.0 old.1 old.2 old.3;
     }
   where
@@ -184,12 +184,12 @@ marking_goes_on tokens rest after done behind n m b k e step so_far =
 spelled_marks : (tokens : List Token) (w : Written) → tokens ≡ written_tokens w → AllByRecursion IsLow (written_depths 0 w) → (tokens ≡ flat_map mark_tokens (written_marks w)) × AllByRecursion IsMark (written_marks w)
 spelled_marks tokens w is low = (is ∙ written_spelled w, written_low w 0 low)
 
-abbrev no_walk : Option (Bool × ℕ)
-no_walk = None
+abbrev no_follow : Option (Bool × ℕ)
+no_follow = None
 
-walks_apart : (o : Option (Bool × ℕ)) → o ≡ no_walk → o ≡ whole → ⊥
-walks_apart None e f = absurd cc
-walks_apart (Some p) e f = absurd cc
+follow_apart : (o : Option (Bool × ℕ)) → o ≡ no_follow → o ≡ whole → ⊥
+follow_apart None e f = absurd cc
+follow_apart (Some p) e f = absurd cc
 
 -- a mark that cannot follow
 pub marking_stuck : (tokens rest after : List Token) (done : List Mark) (behind : Bool) (n : ℕ) (m : Mark) → mark_of rest ≡ Some (m, after) → follow behind n m ≡ None → Marking tokens rest done behind n
@@ -204,10 +204,10 @@ marking_stuck tokens rest after done behind n m e step so_far w is low =
     by (j ∷ more) whole_is left good =
         let again : Some (m, after) ≡ Some (j, flat_map mark_tokens more) = sym e ∙ ap mark_of left ∙ mark_again j (flat_map mark_tokens more) good.0 in
         let p = pair_parts m j after (flat_map mark_tokens more) again in
-        let walked : walk false 0 (done ++ j ∷ more) ≡ no_walk =
-        walk-append false 0 done (j ∷ more) ∙ ap (λ o. o >>= λ q. walk q.0 q.1 (j ∷ more)) so_far.walked ∙ ap (λ (x : Mark). walk behind n (x ∷ more)) (sym p.0) ∙ ap (λ o. o >>= λ q. walk q.0 q.1 more) step in
-        let all : walk false 0 (done ++ j ∷ more) ≡ whole = ap (walk false 0) (sym whole_is) ∙ walks_whole w in
-        walks_apart (walk false 0 (done ++ j ∷ more)) walked all
+        let followed : follow_all false 0 (done ++ j ∷ more) ≡ no_follow =
+        follow_all-append false 0 done (j ∷ more) ∙ ap (λ o. o >>= λ q. follow_all q.0 q.1 (j ∷ more)) so_far.followed ∙ ap (λ (x : Mark). follow_all behind n (x ∷ more)) (sym p.0) ∙ ap (λ o. o >>= λ q. follow_all q.0 q.1 more) step in
+        let all : follow_all false 0 (done ++ j ∷ more) ≡ whole = ap (follow_all false 0) (sym whole_is) ∙ follows_whole w in
+        follow_apart (follow_all false 0 (done ++ j ∷ more)) followed all
 
 -- the marks end where no mark is left
 done_all : (tokens rest : List Token) (done : List Mark) (behind : Bool) (n : ℕ) → mark_of rest ≡ None → Marking tokens rest done behind n → (w : Written) → tokens ≡ written_tokens w → AllByRecursion IsLow (written_depths 0 w)
@@ -218,13 +218,13 @@ done_all tokens rest done behind n e so_far w is low =
     by old.0 old.1 old.2 old.3
   where
     by : (more : List Mark) → written_marks w ≡ done ++ more → rest ≡ flat_map mark_tokens more → AllByRecursion IsMark more → (rest ≡ []) × (Some (behind, n) ≡ whole)
-    by [] whole_is left good = (left, sym so_far.walked ∙ ap (walk false 0) (sym (append-nil done)) ∙ ap (walk false 0) (sym whole_is) ∙ walks_whole w)
+    by [] whole_is left good = (left, sym so_far.followed ∙ ap (follow_all false 0) (sym (append-nil done)) ∙ ap (follow_all false 0) (sym whole_is) ∙ follows_whole w)
     by (j ∷ more) whole_is left good = let again : mark_of rest ≡ Some (j, flat_map mark_tokens more) = ap mark_of left ∙ mark_again j (flat_map mark_tokens more) good.0 in absurd cc
 
 pub marking_ends : (tokens rest : List Token) (done : List Mark) (behind : Bool) (n : ℕ) → rest ≡ [] → behind ≡ true → n ≡ 0 → Marking tokens rest done behind n → SpellsMarks tokens done
 marking_ends tokens rest done behind n is b_is n_is so_far =
-    let walked : walk false 0 done ≡ whole = so_far.walked ∙ ap (λ (x : Bool). Some (x, n)) b_is ∙ ap (λ (x : ℕ). Some (true, x)) n_is in
-    let told = condition_told done walked in
+    let followed : follow_all false 0 done ≡ whole = so_far.followed ∙ ap (λ (x : Bool). Some (x, n)) b_is ∙ ap (λ (x : ℕ). Some (true, x)) n_is in
+    let told = condition_told done followed in
     (told.0, told.1, so_far.parts ∙ ap (λ (l : List Token). flat_map mark_tokens done ++ l) is ∙ append-nil (flat_map mark_tokens done) ∙ ap (flat_map mark_tokens) told.1 ∙ sym (written_spelled told.0), low_written told.0 0 (subst (AllByRecursion IsMark) told.1 so_far.good))
 
 abbrev behind_of : Option (Bool × ℕ) → Bool

@@ -14,7 +14,7 @@ use Rattle.lit_read.specs.Internal.State.{followed_by}
 use Rattle.lit_read.proofs.SpellLemmas.{are_body_lines, statement_open, statements_open, statements_added, or_right_false}
 use Rattle.lit_read.proofs.DraftForms.{IsOther, other_check, not_not}
 use Rattle.lit_read.proofs.StepHolds.{access_line, if_lines}
-use Rattle.lit_read.proofs.TestForms.{new_level}
+use Rattle.lit_read.proofs.TestForms.{new_open_if}
 
 -- ---- forms that fit behind these open `if`s
 
@@ -141,8 +141,8 @@ statement_left [] fs gs s h is = (followed_by h.0 s, statements_added fs gs h.0 
 statement_left (x ∷ o) fs gs s h is = (h.0, h.1 ++ gs, h.2, h.3, h.4, behind_if fs h.0 h.1 gs h.2 h.3 h.4 h.5, h.6, part_left x h.1 gs s h.7 is)
 
 whole_if : (x : Bool) (inner : List Form) (r : ℕ) (q : Bool) (v : ℕ) → IsOpenPart x inner → (s : Statement) × IsStatement (IfLine r q v ∷ (inner ++ EndLine ∷ [])) s
-whole_if false inner r q v h = (If r q v h.0 End, if_lines (new_level r q v End) inner None h.0 h.1)
-whole_if true inner r q v h = (If r q v h.2 h.3, if_lines (new_level r q v End) inner (Some h.2) h.3 (h.0, h.1, h.4, h.5, h.6))
+whole_if false inner r q v h = (If r q v h.0 End, if_lines (new_open_if r q v End) inner None h.0 h.1)
+whole_if true inner r q v h = (If r q v h.2 h.3, if_lines (new_open_if r q v End) inner (Some h.2) h.3 (h.0, h.1, h.4, h.5, h.6))
 
 form_left : (o : List Bool) (fs : List Form) (f : Form) → LeaveOpen o fs → fits o f ≡ true → IsForm f → LeaveOpen (open_behind o f) (fs ++ f ∷ [])
 unfolding IsForm

@@ -12,7 +12,7 @@ use Rattle.lit_read.specs.Forms.{IsAccess}
 use Rattle.lit_read.specs.Faults.{has_fitting_literals, stays_in_block, has_small_numbers}
 use Rattle.lit_read.specs.Spelling.{place_of, numbered, operand_value, conjunction_value, written_value, operand_values, conjunction_values}
 use Rattle.lit_read.proofs.ListLemmas.{all_parts}
-use Rattle.lit_read.proofs.DepthLemmas.{operands_count, conjunctions_count, shallow_kept}
+use Rattle.lit_read.proofs.DepthLemmas.{operands_count, conjunctions_count, stays_shallow}
 use Rattle.lit_read.specs.Internal.State.{followed_by, body_named, is_known, are_known, AreDistinct, IsPart, AreAgentsIn}
 
 -- ---- lists
@@ -158,5 +158,5 @@ is_litmus name bytes agents w named are some_agent registers known in_range shal
       bodies = λ i within. (at_index (λ a. IsPart bytes 0 a.body) agents i (record { name = []; body = End }) within are.bodies).0;
       few_ifs = λ i within. omega (arith, (at_index (λ a. IsPart bytes 0 a.body) agents i (record { name = []; body = End }) within are.bodies).1);
       check = written_on t w 0 good;
-      shallow = shallow_kept agents w shallow;
+      shallow = stays_shallow agents w shallow;
     }

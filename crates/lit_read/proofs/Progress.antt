@@ -13,7 +13,7 @@ use Rattle.lit_read.specs.Faults.{number_of, is_allowed, is_check_line, is_fault
 use Rattle.lit_read.specs.Spelling.{Spells}
 use Rattle.lit_read.specs.Internal.State.{State, Empty, Whole, IsState, IsUnfinished}
 use Rattle.lit_read.specs.Internal.LineSteps.{LineStep, LineFails}
-use Rattle.lit_read.proofs.StepLemmas.{step_kept}
+use Rattle.lit_read.proofs.StepLemmas.{step_preserved}
 use Rattle.lit_read.proofs.DraftForms.{Holds, not_checked, is_checked}
 use Rattle.lit_read.proofs.StepFaults.{Clear, below, Outcome, outcome}
 use Rattle.lit_read.proofs.StepHolds.{step_holds}
@@ -228,7 +228,7 @@ module _ (text left line : List ℕ) (number : ℕ) (s : State) (after : Option 
     count = omega (arith, length-append p.done (line ∷ []), p.count);
     have = forms_added p.done p.before line st.form p.have st.is.has;
     holds = rw (blanks_added p.before st.form) (step_holds s t (without_blanks p.before) st.form st.is.has.spelling.1 p.holds st.steps);
-    sound = step_kept s t st.form p.sound st.is.has.spelling.1 (has_words line st.form st.is.has) st.steps;
+    sound = step_preserved s t st.form p.sound st.is.has.spelling.1 (has_words line st.form st.is.has) st.steps;
     clean = λ k n ne h. later k n ne h (which text k n h);
   }
     where

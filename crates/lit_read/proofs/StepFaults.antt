@@ -11,7 +11,7 @@ use Rattle.lit_read.specs.Written.{Comparison, Written, written_depths, is_shall
 use Rattle.lit_read.specs.Forms.{Form, Blank, TestLine, BytesLine, AgentLine, StatementLine, IfLine, ElseLine, EndLine, CheckLine}
 use Rattle.lit_read.specs.Faults.{number_of, block_of, names_of, open_ifs, agent_writes, is_misplaced, is_wrong_block, is_one_agent_more, is_known_agent, has_fitting_literals, has_small_numbers, has_large_literal, stays_in_block, leaves_block, has_unknown_name, is_too_deep, is_faulty, is_in_then}
 use Rattle.lit_read.specs.Spelling.{written_value}
-use Rattle.lit_read.specs.Internal.State.{State, Empty, Named, Sized, Open, Whole, Level, followed_by, with_agent, body_named, is_known, are_known, else_from, test_step, block_step, next_step, agent_step, statement_step, if_step, else_step, end_step, test_of, whole, check_step, step}
+use Rattle.lit_read.specs.Internal.State.{State, Empty, Named, Sized, Open, Whole, OpenIf, followed_by, with_agent, body_named, is_known, are_known, else_from, test_step, block_step, next_step, agent_step, statement_step, if_step, else_step, end_step, test_of, whole, check_step, step}
 use Rattle.lit_read.proofs.DraftForms.{Holds, names, any_named, opened, flags, placed, agents_added, agents_wrote}
 
 -- ---- the faults of a form
@@ -60,7 +60,7 @@ unfolding test_step
 test_outcome Empty given name h = record { misplaced = λ _. placed Empty given (TestLine name) h; block = λ _. refl; more = λ _. refl; known = λ _. refl; literal = λ _. refl; outside = λ _. refl; unknown = λ _. refl; deep = λ _. refl }
 test_outcome (Named m) given name h = misplaced_is given (TestLine name) (placed (Named m) given (TestLine name) h)
 test_outcome (Sized m b) given name h = misplaced_is given (TestLine name) (placed (Sized m b) given (TestLine name) h)
-test_outcome (Open m b agents agent levels body) given name h = misplaced_is given (TestLine name) (placed (Open m b agents agent levels body) given (TestLine name) h)
+test_outcome (Open m b agents agent ifs body) given name h = misplaced_is given (TestLine name) (placed (Open m b agents agent ifs body) given (TestLine name) h)
 test_outcome (Whole t) given name h = misplaced_is given (TestLine name) (placed (Whole t) given (TestLine name) h)
 
 block_outcome : (s : State) (given : List Form) (bytes : ℕ) → Holds given s → Outcome given (BytesLine bytes) (block_step s bytes)
@@ -72,7 +72,7 @@ block_outcome (Named m) given bytes h = by (eqb bytes 0 || ltb BLOCK_LIMIT bytes
     by false is in_place = record { misplaced = λ _. in_place; block = λ _. is; more = λ _. refl; known = λ _. refl; literal = λ _. refl; outside = λ _. refl; unknown = λ _. refl; deep = λ _. refl }
 block_outcome Empty given bytes h = misplaced_is given (BytesLine bytes) (placed Empty given (BytesLine bytes) h)
 block_outcome (Sized m b) given bytes h = misplaced_is given (BytesLine bytes) (placed (Sized m b) given (BytesLine bytes) h)
-block_outcome (Open m b agents agent levels body) given bytes h = misplaced_is given (BytesLine bytes) (placed (Open m b agents agent levels body) given (BytesLine bytes) h)
+block_outcome (Open m b agents agent ifs body) given bytes h = misplaced_is given (BytesLine bytes) (placed (Open m b agents agent ifs body) given (BytesLine bytes) h)
 block_outcome (Whole t) given bytes h = misplaced_is given (BytesLine bytes) (placed (Whole t) given (BytesLine bytes) h)
 
 full_is : (given : List Form) (agents : List Agent) (agent : List ℕ) (name : List ℕ) (x : Bool) → names_of given ≡ names agents ++ agent ∷ [] → leb AGENT_LIMIT (length agents + 1) ≡ x → is_one_agent_more given (AgentLine name) ≡ x
@@ -108,18 +108,18 @@ agent_outcome : (s : State) (given : List Form) (name : List ℕ) → Holds give
 unfolding agent_step
 agent_outcome (Sized m b) given name h = record { misplaced = λ _. placed (Sized m b) given (AgentLine name) h; block = λ _. refl; more = λ _. ap (λ (l : List Form). leb AGENT_LIMIT (length (names_of l))) h; known = λ _. ap (λ (l : List Form). list_any (λ n. bytes_eq name n) (names_of l)) h; literal = λ _. refl; outside = λ _. refl; unknown = λ _. refl; deep = λ _. refl }
 agent_outcome (Open m b agents agent [] body) given name h = next_outcome given m b agents agent body name (opened given m b agents agent [] body h).named (placed (Open m b agents agent [] body) given (AgentLine name) h)
-agent_outcome (Open m b agents agent (l ∷ levels) body) given name h = misplaced_is given (AgentLine name) (placed (Open m b agents agent (l ∷ levels) body) given (AgentLine name) h)
+agent_outcome (Open m b agents agent (l ∷ ifs) body) given name h = misplaced_is given (AgentLine name) (placed (Open m b agents agent (l ∷ ifs) body) given (AgentLine name) h)
 agent_outcome Empty given name h = misplaced_is given (AgentLine name) (placed Empty given (AgentLine name) h)
 agent_outcome (Named m) given name h = misplaced_is given (AgentLine name) (placed (Named m) given (AgentLine name) h)
 agent_outcome (Whole t) given name h = misplaced_is given (AgentLine name) (placed (Whole t) given (AgentLine name) h)
 
 statement_outcome : (s : State) (given : List Form) (r : Statement) → Holds given s → Outcome given (StatementLine r) (statement_step s r)
 unfolding statement_step is_faulty
-statement_outcome (Open m b agents agent levels body) given r h =
-    by (has_fitting_literals r) refl (stays_in_block b r) refl (placed (Open m b agents agent levels body) given (StatementLine r) h) (ap (λ (n : ℕ). stays_in_block n r) (opened given m b agents agent levels body h).block)
+statement_outcome (Open m b agents agent ifs body) given r h =
+    by (has_fitting_literals r) refl (stays_in_block b r) refl (placed (Open m b agents agent ifs body) given (StatementLine r) h) (ap (λ (n : ℕ). stays_in_block n r) (opened given m b agents agent ifs body h).block)
   where
     by : (x : Bool) → has_fitting_literals r ≡ x → (y : Bool) → stays_in_block b r ≡ y → is_misplaced given (StatementLine r) ≡ false → stays_in_block (block_of given) r ≡ stays_in_block b r
-        → Outcome given (StatementLine r) (cond x (cond y (Ok (Open m b agents agent levels (followed_by body r))) (Err OutOfBlock)) (Err LiteralRange))
+        → Outcome given (StatementLine r) (cond x (cond y (Ok (Open m b agents agent ifs (followed_by body r))) (Err OutOfBlock)) (Err LiteralRange))
     by false fits y within in_place same = (record { misplaced = λ _. in_place; block = λ _. refl; more = λ _. refl; known = λ _. refl; literal = λ h. absurd (omega (arith, h)); outside = λ h. absurd (omega (arith, h)); unknown = λ _. refl; deep = λ _. refl }, ap not fits)
     by true fits false within in_place same = (record { misplaced = λ _. in_place; block = λ _. refl; more = λ _. refl; known = λ _. refl; literal = λ _. ap not fits; outside = λ h. absurd (omega (arith, h)); unknown = λ _. refl; deep = λ _. refl }, ap not (same ∙ within))
     by true fits true within in_place same = record { misplaced = λ _. in_place; block = λ _. refl; more = λ _. refl; known = λ _. refl; literal = λ _. ap not fits; outside = λ _. ap not (same ∙ within); unknown = λ _. refl; deep = λ _. refl }
@@ -128,18 +128,18 @@ statement_outcome (Named m) given r h = misplaced_is given (StatementLine r) (pl
 statement_outcome (Sized m b) given r h = misplaced_is given (StatementLine r) (placed (Sized m b) given (StatementLine r) h)
 statement_outcome (Whole t) given r h = misplaced_is given (StatementLine r) (placed (Whole t) given (StatementLine r) h)
 
-flags_length : (levels : List Level) → length (flags levels) ≡ length levels
+flags_length : (ifs : List OpenIf) → length (flags ifs) ≡ length ifs
 flags_length [] = refl
-flags_length (l ∷ levels) = ap suc (flags_length levels)
+flags_length (l ∷ ifs) = ap suc (flags_length ifs)
 
 if_outcome : (s : State) (given : List Form) (reg : ℕ) (equal : Bool) (value : ℕ) → Holds given s → Outcome given (IfLine reg equal value) (if_step s reg equal value)
 unfolding if_step is_faulty
-if_outcome (Open m b agents agent levels body) given reg equal value h =
-    by (ltb COMPARED_LIMIT value) refl (leb IF_LIMIT (length levels)) refl (placed (Open m b agents agent levels body) given (IfLine reg equal value) h)
-    (ap (λ (l : List Bool). leb IF_LIMIT (length l)) (opened given m b agents agent levels body h).opens ∙ ap (λ (n : ℕ). leb IF_LIMIT n) (flags_length levels))
+if_outcome (Open m b agents agent ifs body) given reg equal value h =
+    by (ltb COMPARED_LIMIT value) refl (leb IF_LIMIT (length ifs)) refl (placed (Open m b agents agent ifs body) given (IfLine reg equal value) h)
+    (ap (λ (l : List Bool). leb IF_LIMIT (length l)) (opened given m b agents agent ifs body h).opens ∙ ap (λ (n : ℕ). leb IF_LIMIT n) (flags_length ifs))
   where
-    by : (x : Bool) → ltb COMPARED_LIMIT value ≡ x → (y : Bool) → leb IF_LIMIT (length levels) ≡ y → is_misplaced given (IfLine reg equal value) ≡ false → leb IF_LIMIT (length (open_ifs given)) ≡ leb IF_LIMIT (length levels)
-        → Outcome given (IfLine reg equal value) (cond x (Err LiteralRange) (cond y (Err TooDeep) (Ok (Open m b agents agent (record { reg = reg; equal = equal; value = value; before = body; then_part = None } ∷ levels) End))))
+    by : (x : Bool) → ltb COMPARED_LIMIT value ≡ x → (y : Bool) → leb IF_LIMIT (length ifs) ≡ y → is_misplaced given (IfLine reg equal value) ≡ false → leb IF_LIMIT (length (open_ifs given)) ≡ leb IF_LIMIT (length ifs)
+        → Outcome given (IfLine reg equal value) (cond x (Err LiteralRange) (cond y (Err TooDeep) (Ok (Open m b agents agent (record { reg = reg; equal = equal; value = value; before = body; then_part = None } ∷ ifs) End))))
     by true large y full in_place same = (record { misplaced = λ _. in_place; block = λ _. refl; more = λ _. refl; known = λ _. refl; literal = λ h. absurd (omega (arith, h)); outside = λ _. refl; unknown = λ _. refl; deep = λ h. absurd (omega (arith, h)) }, large)
     by false large true full in_place same = (record { misplaced = λ _. in_place; block = λ _. refl; more = λ _. refl; known = λ _. refl; literal = λ _. large; outside = λ _. refl; unknown = λ _. refl; deep = λ h. absurd (omega (arith, h)) }, same ∙ full)
     by false large false full in_place same = record { misplaced = λ _. in_place; block = λ _. refl; more = λ _. refl; known = λ _. refl; literal = λ _. large; outside = λ _. refl; unknown = λ _. refl; deep = λ _. same ∙ full }
@@ -151,11 +151,11 @@ if_outcome (Whole t) given reg equal value h = misplaced_is given (IfLine reg eq
 else_outcome : (s : State) (given : List Form) → Holds given s → Outcome given ElseLine (else_step s)
 unfolding else_step
 else_outcome (Open m b agents agent [] body) given h = misplaced_is given ElseLine (placed (Open m b agents agent [] body) given ElseLine h)
-else_outcome (Open m b agents agent (l ∷ levels) body) given h = by l.then_part refl (placed (Open m b agents agent (l ∷ levels) body) given ElseLine h)
+else_outcome (Open m b agents agent (l ∷ ifs) body) given h = by l.then_part refl (placed (Open m b agents agent (l ∷ ifs) body) given ElseLine h)
   where
-    by : (p : Option Statements) → l.then_part ≡ p → is_misplaced given ElseLine ≡ not (is_in_then (is_some l.then_part ∷ flags levels)) → Outcome given ElseLine (else_from m b agents agent l levels body p)
-    by (Some part) is in_place = misplaced_is given ElseLine (in_place ∙ ap (λ (o : Option Statements). not (is_in_then (is_some o ∷ flags levels))) is)
-    by None is in_place = record { misplaced = λ _. in_place ∙ ap (λ (o : Option Statements). not (is_in_then (is_some o ∷ flags levels))) is; block = λ _. refl; more = λ _. refl; known = λ _. refl; literal = λ _. refl; outside = λ _. refl; unknown = λ _. refl; deep = λ _. refl }
+    by : (p : Option Statements) → l.then_part ≡ p → is_misplaced given ElseLine ≡ not (is_in_then (is_some l.then_part ∷ flags ifs)) → Outcome given ElseLine (else_from m b agents agent l ifs body p)
+    by (Some part) is in_place = misplaced_is given ElseLine (in_place ∙ ap (λ (o : Option Statements). not (is_in_then (is_some o ∷ flags ifs))) is)
+    by None is in_place = record { misplaced = λ _. in_place ∙ ap (λ (o : Option Statements). not (is_in_then (is_some o ∷ flags ifs))) is; block = λ _. refl; more = λ _. refl; known = λ _. refl; literal = λ _. refl; outside = λ _. refl; unknown = λ _. refl; deep = λ _. refl }
 else_outcome Empty given h = misplaced_is given ElseLine (placed Empty given ElseLine h)
 else_outcome (Named m) given h = misplaced_is given ElseLine (placed (Named m) given ElseLine h)
 else_outcome (Sized m b) given h = misplaced_is given ElseLine (placed (Sized m b) given ElseLine h)
@@ -164,7 +164,7 @@ else_outcome (Whole t) given h = misplaced_is given ElseLine (placed (Whole t) g
 end_outcome : (s : State) (given : List Form) → Holds given s → Outcome given EndLine (end_step s)
 unfolding end_step
 end_outcome (Open m b agents agent [] body) given h = misplaced_is given EndLine (placed (Open m b agents agent [] body) given EndLine h)
-end_outcome (Open m b agents agent (l ∷ levels) body) given h = record { misplaced = λ _. placed (Open m b agents agent (l ∷ levels) body) given EndLine h; block = λ _. refl; more = λ _. refl; known = λ _. refl; literal = λ _. refl; outside = λ _. refl; unknown = λ _. refl; deep = λ _. refl }
+end_outcome (Open m b agents agent (l ∷ ifs) body) given h = record { misplaced = λ _. placed (Open m b agents agent (l ∷ ifs) body) given EndLine h; block = λ _. refl; more = λ _. refl; known = λ _. refl; literal = λ _. refl; outside = λ _. refl; unknown = λ _. refl; deep = λ _. refl }
 end_outcome Empty given h = misplaced_is given EndLine (placed Empty given EndLine h)
 end_outcome (Named m) given h = misplaced_is given EndLine (placed (Named m) given EndLine h)
 end_outcome (Sized m b) given h = misplaced_is given EndLine (placed (Sized m b) given EndLine h)
@@ -193,7 +193,7 @@ check_outcome (Open m b agents agent [] body) given w h =
     by true small false known z shallow in_place same = (record { misplaced = λ _. in_place; block = λ _. refl; more = λ _. refl; known = λ _. refl; literal = λ _. ap not small; outside = λ _. refl; unknown = λ h. absurd (omega (arith, h)); deep = λ h. absurd (omega (arith, h)) }, ap not (same ∙ known))
     by true small true known false shallow in_place same = (record { misplaced = λ _. in_place; block = λ _. refl; more = λ _. refl; known = λ _. refl; literal = λ _. ap not small; outside = λ _. refl; unknown = λ _. ap not (same ∙ known); deep = λ h. absurd (omega (arith, h)) }, ap not shallow)
     by true small true known true shallow in_place same = record { misplaced = λ _. in_place; block = λ _. refl; more = λ _. refl; known = λ _. refl; literal = λ _. ap not small; outside = λ _. refl; unknown = λ _. ap not (same ∙ known); deep = λ _. ap not shallow }
-check_outcome (Open m b agents agent (l ∷ levels) body) given w h = misplaced_is given (CheckLine w) (placed (Open m b agents agent (l ∷ levels) body) given (CheckLine w) h)
+check_outcome (Open m b agents agent (l ∷ ifs) body) given w h = misplaced_is given (CheckLine w) (placed (Open m b agents agent (l ∷ ifs) body) given (CheckLine w) h)
 check_outcome Empty given w h = misplaced_is given (CheckLine w) (placed Empty given (CheckLine w) h)
 check_outcome (Named m) given w h = misplaced_is given (CheckLine w) (placed (Named m) given (CheckLine w) h)
 check_outcome (Sized m b) given w h = misplaced_is given (CheckLine w) (placed (Sized m b) given (CheckLine w) h)

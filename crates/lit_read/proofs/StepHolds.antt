@@ -11,7 +11,7 @@ use Rattle.lit_read.specs.Forms.{Form, Blank, TestLine, BytesLine, AgentLine, St
 use Rattle.lit_read.specs.Structure.{IsStatement, AreStatements, AreElse}
 use Rattle.lit_read.specs.Faults.{has_fitting_literals, stays_in_block, has_small_numbers}
 use Rattle.lit_read.specs.Spelling.{written_value}
-use Rattle.lit_read.specs.Internal.State.{State, Empty, Named, Sized, Open, Whole, Level, followed_by, with_agent, else_from, ended_if, are_known, test_step, block_step, next_step, agent_step, statement_step, if_step, else_step, end_step, test_of, whole, check_step, step}
+use Rattle.lit_read.specs.Internal.State.{State, Empty, Named, Sized, Open, Whole, OpenIf, followed_by, with_agent, else_from, ended_if, are_known, test_step, block_step, next_step, agent_step, statement_step, if_step, else_step, end_step, test_of, whole, check_step, step}
 use Rattle.lit_read.proofs.SpellLemmas.{statements_added}
 use Rattle.lit_read.proofs.DraftForms.{AreParts, AreOpen, opening, Holds, agents_added}
 
@@ -29,9 +29,9 @@ parts_added : (inner gs : List Form) (part : Option Statements) (body : Statemen
 parts_added inner gs None body s a b = statements_added inner gs body s a b
 parts_added inner gs (Some part) body s a b = (a.0, a.1 ++ gs, ap (λ (l : List Form). l ++ gs) a.2 ∙ append_assoc a.0 (ElseLine ∷ a.1) gs, a.3, statements_added a.1 gs body s a.4 b)
 
-open_added : (own gs : List Form) (levels : List Level) (body : Statements) (s : Statement) → AreOpen own levels body → IsStatement gs s → AreOpen (own ++ gs) levels (followed_by body s)
+open_added : (own gs : List Form) (ifs : List OpenIf) (body : Statements) (s : Statement) → AreOpen own ifs body → IsStatement gs s → AreOpen (own ++ gs) ifs (followed_by body s)
 open_added own gs [] body s a b = statements_added own gs body s a b
-open_added own gs (l ∷ levels) body s a b =
+open_added own gs (l ∷ ifs) body s a b =
     (a.0, a.1 ++ gs, ap (λ (x : List Form). x ++ gs) a.2 ∙ append_assoc a.0 (IfLine l.reg l.equal l.value ∷ a.1) gs, a.3, parts_added a.1 gs l.then_part body s a.4 b)
 
 pub access_line : (s : Statement) → IsAccess s → IsStatement (StatementLine s ∷ []) s
@@ -46,7 +46,7 @@ else_part : (elses : List Form) (body : Statements) → AreStatements elses body
 else_part elses End h = inr (ap (λ (l : List Form). ElseLine ∷ l) h)
 else_part elses (Then s ss) h = (h.0, h.1, ap (λ (l : List Form). ElseLine ∷ l) h.2, h.3, h.4)
 
-pub if_lines : (l : Level) (inner : List Form) (part : Option Statements) (body : Statements) → AreParts inner part body → IsStatement (IfLine l.reg l.equal l.value ∷ (inner ++ EndLine ∷ [])) (ended_if l body part)
+pub if_lines : (l : OpenIf) (inner : List Form) (part : Option Statements) (body : Statements) → AreParts inner part body → IsStatement (IfLine l.reg l.equal l.value ∷ (inner ++ EndLine ∷ [])) (ended_if l body part)
 if_lines l inner None body h = (inner, [], refl, h, inl refl)
 if_lines l inner (Some part) body h =
     (h.0, ElseLine ∷ h.1, ap (λ (x : List Form). IfLine l.reg l.equal l.value ∷ x) (ap (λ (x : List Form). x ++ EndLine ∷ []) h.2 ∙ append_assoc h.0 (ElseLine ∷ h.1) (EndLine ∷ [])), h.3, else_part h.1 body h.4)
@@ -60,7 +60,7 @@ unfolding test_step
 test_holds Empty given name h = rw h refl
 test_holds (Named m) given name h = tt
 test_holds (Sized m b) given name h = tt
-test_holds (Open m b agents agent levels body) given name h = tt
+test_holds (Open m b agents agent ifs body) given name h = tt
 test_holds (Whole t) given name h = tt
 
 block_holds : (s : State) (given : List Form) (bytes : ℕ) → Holds given s → stands (block_step s bytes) (given ++ BytesLine bytes ∷ [])
@@ -72,7 +72,7 @@ block_holds (Named m) given bytes h = by (eqb bytes 0 || ltb BLOCK_LIMIT bytes)
     by false = rw h refl
 block_holds Empty given bytes h = tt
 block_holds (Sized m b) given bytes h = tt
-block_holds (Open m b agents agent levels body) given bytes h = tt
+block_holds (Open m b agents agent ifs body) given bytes h = tt
 block_holds (Whole t) given bytes h = tt
 
 agent_holds : (s : State) (given : List Form) (name : List ℕ) → Holds given s → stands (agent_step s name) (given ++ AgentLine name ∷ [])
@@ -84,20 +84,20 @@ agent_holds (Open m b agents agent [] body) given name h = by (leb AGENT_LIMIT (
     by true y = tt
     by false true = tt
     by false false = (h.0 ++ AgentLine agent ∷ h.1, [], ap (λ (l : List Form). l ++ AgentLine name ∷ []) h.2, agents_added h.0 h.1 agents agent body h.3 h.4, refl)
-agent_holds (Open m b agents agent (l ∷ levels) body) given name h = tt
+agent_holds (Open m b agents agent (l ∷ ifs) body) given name h = tt
 agent_holds Empty given name h = tt
 agent_holds (Named m) given name h = tt
 agent_holds (Whole t) given name h = tt
 
 statement_holds : (s : State) (given : List Form) (r : Statement) → IsAccess r → Holds given s → stands (statement_step s r) (given ++ StatementLine r ∷ [])
 unfolding statement_step
-statement_holds (Open m b agents agent levels body) given r is h = by (has_fitting_literals r) (stays_in_block b r)
+statement_holds (Open m b agents agent ifs body) given r is h = by (has_fitting_literals r) (stays_in_block b r)
   where
-    by : (x y : Bool) → stands (cond x (cond y (Ok (Open m b agents agent levels (followed_by body r))) (Err OutOfBlock)) (Err LiteralRange)) (given ++ StatementLine r ∷ [])
+    by : (x y : Bool) → stands (cond x (cond y (Ok (Open m b agents agent ifs (followed_by body r))) (Err OutOfBlock)) (Err LiteralRange)) (given ++ StatementLine r ∷ [])
     by false y = tt
     by true false = tt
     by true true =
-        (h.0, h.1 ++ StatementLine r ∷ [], ap (λ (l : List Form). l ++ StatementLine r ∷ []) h.2 ∙ opening_added m b h.0 agent h.1 (StatementLine r ∷ []), h.3, open_added h.1 (StatementLine r ∷ []) levels body r h.4 (access_line r is))
+        (h.0, h.1 ++ StatementLine r ∷ [], ap (λ (l : List Form). l ++ StatementLine r ∷ []) h.2 ∙ opening_added m b h.0 agent h.1 (StatementLine r ∷ []), h.3, open_added h.1 (StatementLine r ∷ []) ifs body r h.4 (access_line r is))
 statement_holds Empty given r is h = tt
 statement_holds (Named m) given r is h = tt
 statement_holds (Sized m b) given r is h = tt
@@ -105,10 +105,10 @@ statement_holds (Whole t) given r is h = tt
 
 if_holds : (s : State) (given : List Form) (reg : ℕ) (equal : Bool) (value : ℕ) → Holds given s → stands (if_step s reg equal value) (given ++ IfLine reg equal value ∷ [])
 unfolding if_step
-if_holds (Open m b agents agent levels body) given reg equal value h = by (ltb COMPARED_LIMIT value) (leb IF_LIMIT (length levels))
+if_holds (Open m b agents agent ifs body) given reg equal value h = by (ltb COMPARED_LIMIT value) (leb IF_LIMIT (length ifs))
   where
     by : (x y : Bool)
-        → stands (cond x (Err LiteralRange) (cond y (Err TooDeep) (Ok (Open m b agents agent (record { reg = reg; equal = equal; value = value; before = body; then_part = None } ∷ levels) End)))) (given ++ IfLine reg equal value ∷ [])
+        → stands (cond x (Err LiteralRange) (cond y (Err TooDeep) (Ok (Open m b agents agent (record { reg = reg; equal = equal; value = value; before = body; then_part = None } ∷ ifs) End)))) (given ++ IfLine reg equal value ∷ [])
     by true y = tt
     by false true = tt
     by false false =
@@ -120,9 +120,9 @@ if_holds (Whole t) given reg equal value h = tt
 
 else_holds : (s : State) (given : List Form) → Holds given s → stands (else_step s) (given ++ ElseLine ∷ [])
 unfolding else_step
-else_holds (Open m b agents agent (l ∷ levels) body) given h = by l.then_part h.4.4
+else_holds (Open m b agents agent (l ∷ ifs) body) given h = by l.then_part h.4.4
   where
-    by : (p : Option Statements) → AreParts h.4.1 p body → stands (else_from m b agents agent l levels body p) (given ++ ElseLine ∷ [])
+    by : (p : Option Statements) → AreParts h.4.1 p body → stands (else_from m b agents agent l ifs body p) (given ++ ElseLine ∷ [])
     by (Some part) parts = tt
     by None parts = (
       h.0,
@@ -139,12 +139,12 @@ else_holds (Whole t) given h = tt
 
 end_holds : (s : State) (given : List Form) → Holds given s → stands (end_step s) (given ++ EndLine ∷ [])
 unfolding end_step
-end_holds (Open m b agents agent (l ∷ levels) body) given h = (
+end_holds (Open m b agents agent (l ∷ ifs) body) given h = (
   h.0,
   h.4.0 ++ IfLine l.reg l.equal l.value ∷ (h.4.1 ++ EndLine ∷ []),
   ap (λ (x : List Form). x ++ EndLine ∷ []) h.2 ∙ opening_added m b h.0 agent h.1 (EndLine ∷ []) ∙ ap (opening m b h.0 agent) (ap (λ (x : List Form). x ++ EndLine ∷ []) h.4.2 ∙ append_assoc h.4.0 (IfLine l.reg l.equal l.value ∷ h.4.1) (EndLine ∷ [])),
   h.3,
-  open_added h.4.0 (IfLine l.reg l.equal l.value ∷ (h.4.1 ++ EndLine ∷ [])) levels l.before (ended_if l body l.then_part) h.4.3 (if_lines l h.4.1 l.then_part body h.4.4),
+  open_added h.4.0 (IfLine l.reg l.equal l.value ∷ (h.4.1 ++ EndLine ∷ [])) ifs l.before (ended_if l body l.then_part) h.4.3 (if_lines l h.4.1 l.then_part body h.4.4),
 )
 end_holds (Open m b agents agent [] body) given h = tt
 end_holds Empty given h = tt
@@ -168,7 +168,7 @@ check_holds (Open m b agents agent [] body) given w h = by (has_small_numbers w)
       bodies = agents_added h.0 h.1 agents agent body h.3 h.4;
       asks = refl;
     }
-check_holds (Open m b agents agent (l ∷ levels) body) given w h = tt
+check_holds (Open m b agents agent (l ∷ ifs) body) given w h = tt
 check_holds Empty given w h = tt
 check_holds (Named m) given w h = tt
 check_holds (Sized m b) given w h = tt

@@ -8,22 +8,22 @@ use Rattle.lit_read.specs.Forms.{Form, Blank, TestLine, BytesLine, AgentLine, St
 use Rattle.lit_read.specs.Structure.{is_body_line, IsStatement, AreStatements, AreElse, AreAgents}
 use Rattle.lit_read.specs.Spelling.{written_value, AreFormsOf}
 use Rattle.lit_read.specs.Canonical.{statement_forms, statements_forms, else_forms, agents_forms, starts_with_end, without_empty_elses}
-use Rattle.lit_read.specs.Internal.State.{Level, followed_by, else_level, ended_if}
+use Rattle.lit_read.specs.Internal.State.{OpenIf, followed_by, else_open_if, ended_if}
 use Rattle.lit_read.proofs.ListLemmas.{tail_is}
 use Rattle.lit_read.proofs.SpellLemmas.{are_body_lines, statements_body}
 
 -- ---- the statements that lines make
 
 abbrev Grown : Type 0
-Grown = List Level × Statements
+Grown = List OpenIf × Statements
 
-abbrev else_on : List Level → Statements → Grown
+abbrev else_on : List OpenIf → Statements → Grown
 else_on [] body = ([], body)
-else_on (l ∷ levels) body = (else_level l body ∷ levels, End)
+else_on (l ∷ ifs) body = (else_open_if l body ∷ ifs, End)
 
-abbrev end_on : List Level → Statements → Grown
+abbrev end_on : List OpenIf → Statements → Grown
 end_on [] body = ([], body)
-end_on (l ∷ levels) body = (levels, followed_by l.before (ended_if l body l.then_part))
+end_on (l ∷ ifs) body = (ifs, followed_by l.before (ended_if l body l.then_part))
 
 abbrev grow : Grown → Form → Grown
 grow g (StatementLine s) = (g.0, followed_by g.1 s)
@@ -44,34 +44,34 @@ pub behind_one : (body : Statements) (s : Statement) (ss : Statements) → behin
 behind_one End s ss = refl
 behind_one (Then t ts) s ss = ap (λ (x : Statements). Then t x) (behind_one ts s ss)
 
-abbrev pub new_level : ℕ → Bool → ℕ → Statements → Level
-new_level reg equal value before = record { reg = reg; equal = equal; value = value; before = before; then_part = None }
+abbrev pub new_open_if : ℕ → Bool → ℕ → Statements → OpenIf
+new_open_if reg equal value before = record { reg = reg; equal = equal; value = value; before = before; then_part = None }
 
 mutual
-  statement_grows : (fs : List Form) (s : Statement) (levels : List Level) (body : Statements) → IsStatement fs s → fold grow (levels, body) fs ≡ (levels, followed_by body s)
-  statement_grows fs (Load r w i a) levels body h = ap (fold grow (levels, body)) h
-  statement_grows fs (Store w i v a) levels body h = ap (fold grow (levels, body)) h
-  statement_grows fs (Exchange r w i v) levels body h = ap (fold grow (levels, body)) h
-  statement_grows fs (CompareExchange r w i e v) levels body h = ap (fold grow (levels, body)) h
-  statement_grows fs (If r e v part other) levels body h =
-      ap (fold grow (levels, body)) h.2 ∙ fold-append grow (new_level r e v body ∷ levels, End) h.0 (h.1 ++ EndLine ∷ [])
-      ∙ ap (λ (g : Grown). fold grow g (h.1 ++ EndLine ∷ [])) (statements_grow h.0 part (new_level r e v body ∷ levels) End h.3)
-      ∙ fold-append grow (new_level r e v body ∷ levels, part) h.1 (EndLine ∷ []) ∙ else_grows h.1 other (new_level r e v body) levels part refl h.4
+  statement_grows : (fs : List Form) (s : Statement) (ifs : List OpenIf) (body : Statements) → IsStatement fs s → fold grow (ifs, body) fs ≡ (ifs, followed_by body s)
+  statement_grows fs (Load r w i a) ifs body h = ap (fold grow (ifs, body)) h
+  statement_grows fs (Store w i v a) ifs body h = ap (fold grow (ifs, body)) h
+  statement_grows fs (Exchange r w i v) ifs body h = ap (fold grow (ifs, body)) h
+  statement_grows fs (CompareExchange r w i e v) ifs body h = ap (fold grow (ifs, body)) h
+  statement_grows fs (If r e v part other) ifs body h =
+      ap (fold grow (ifs, body)) h.2 ∙ fold-append grow (new_open_if r e v body ∷ ifs, End) h.0 (h.1 ++ EndLine ∷ [])
+      ∙ ap (λ (g : Grown). fold grow g (h.1 ++ EndLine ∷ [])) (statements_grow h.0 part (new_open_if r e v body ∷ ifs) End h.3)
+      ∙ fold-append grow (new_open_if r e v body ∷ ifs, part) h.1 (EndLine ∷ []) ∙ else_grows h.1 other (new_open_if r e v body) ifs part refl h.4
 
-  statements_grow : (fs : List Form) (ss : Statements) (levels : List Level) (body : Statements) → AreStatements fs ss → fold grow (levels, body) fs ≡ (levels, behind body ss)
-  statements_grow fs End levels body h = ap (fold grow (levels, body)) h ∙ ap (λ (x : Statements). (levels, x)) (sym (behind_end body))
-  statements_grow fs (Then s ss) levels body h =
-      ap (fold grow (levels, body)) h.2 ∙ fold-append grow (levels, body) h.0 h.1 ∙ ap (λ (g : Grown). fold grow g h.1) (statement_grows h.0 s levels body h.3) ∙ statements_grow h.1 ss levels (followed_by body s) h.4
-      ∙ ap (λ (x : Statements). (levels, x)) (behind_one body s ss)
+  statements_grow : (fs : List Form) (ss : Statements) (ifs : List OpenIf) (body : Statements) → AreStatements fs ss → fold grow (ifs, body) fs ≡ (ifs, behind body ss)
+  statements_grow fs End ifs body h = ap (fold grow (ifs, body)) h ∙ ap (λ (x : Statements). (ifs, x)) (sym (behind_end body))
+  statements_grow fs (Then s ss) ifs body h =
+      ap (fold grow (ifs, body)) h.2 ∙ fold-append grow (ifs, body) h.0 h.1 ∙ ap (λ (g : Grown). fold grow g h.1) (statement_grows h.0 s ifs body h.3) ∙ statements_grow h.1 ss ifs (followed_by body s) h.4
+      ∙ ap (λ (x : Statements). (ifs, x)) (behind_one body s ss)
 
-  else_grows : (fs : List Form) (other : Statements) (l : Level) (levels : List Level) (part : Statements) → l.then_part ≡ None → AreElse fs other
-      → fold grow (fold grow (l ∷ levels, part) fs) (EndLine ∷ []) ≡ (levels, followed_by l.before (If l.reg l.equal l.value part other))
-  else_grows fs End l levels part none (inl h) =
-      ap (λ (x : List Form). fold grow (fold grow (l ∷ levels, part) x) (EndLine ∷ [])) h ∙ ap (λ (p : Option Statements). (levels, followed_by l.before (ended_if l part p))) none
-  else_grows fs End l levels part none (inr h) = ap (λ (x : List Form). fold grow (fold grow (l ∷ levels, part) x) (EndLine ∷ [])) h
-  else_grows fs (Then s ss) l levels part none h =
-      ap (λ (x : List Form). fold grow (fold grow (l ∷ levels, part) x) (EndLine ∷ [])) h.2
-      ∙ ap (λ (g : Grown). fold grow g (EndLine ∷ [])) (fold-append grow (else_level l part ∷ levels, End) h.0 h.1 ∙ ap (λ (g : Grown). fold grow g h.1) (statement_grows h.0 s (else_level l part ∷ levels) End h.3) ∙ statements_grow h.1 ss (else_level l part ∷ levels) (Then s End) h.4)
+  else_grows : (fs : List Form) (other : Statements) (l : OpenIf) (ifs : List OpenIf) (part : Statements) → l.then_part ≡ None → AreElse fs other
+      → fold grow (fold grow (l ∷ ifs, part) fs) (EndLine ∷ []) ≡ (ifs, followed_by l.before (If l.reg l.equal l.value part other))
+  else_grows fs End l ifs part none (inl h) =
+      ap (λ (x : List Form). fold grow (fold grow (l ∷ ifs, part) x) (EndLine ∷ [])) h ∙ ap (λ (p : Option Statements). (ifs, followed_by l.before (ended_if l part p))) none
+  else_grows fs End l ifs part none (inr h) = ap (λ (x : List Form). fold grow (fold grow (l ∷ ifs, part) x) (EndLine ∷ [])) h
+  else_grows fs (Then s ss) l ifs part none h =
+      ap (λ (x : List Form). fold grow (fold grow (l ∷ ifs, part) x) (EndLine ∷ [])) h.2
+      ∙ ap (λ (g : Grown). fold grow g (EndLine ∷ [])) (fold-append grow (else_open_if l part ∷ ifs, End) h.0 h.1 ∙ ap (λ (g : Grown). fold grow g h.1) (statement_grows h.0 s (else_open_if l part ∷ ifs) End h.3) ∙ statements_grow h.1 ss (else_open_if l part ∷ ifs) (Then s End) h.4)
 
 -- ---- the test that lines make
 

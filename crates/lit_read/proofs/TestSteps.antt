@@ -11,8 +11,8 @@ use Rattle.lit_read.specs.Forms.{Form, TestLine, BytesLine, AgentLine, Statement
 use Rattle.lit_read.specs.Structure.{IsStatement, AreStatements, AreElse, AreAgents}
 use Rattle.lit_read.specs.Faults.{has_fitting_literals, stays_in_block}
 use Rattle.lit_read.specs.Spelling.{written_value, AreFormsOf}
-use Rattle.lit_read.specs.Internal.State.{Level, State, Empty, Named, Sized, Open, Whole, followed_by, with_agent, else_level, are_known, test_step, block_step, next_step, agent_step, statement_step, if_step, else_step, end_step, check_step, step}
-use Rattle.lit_read.proofs.TestForms.{behind, behind_end, behind_one, new_level}
+use Rattle.lit_read.specs.Internal.State.{OpenIf, State, Empty, Named, Sized, Open, Whole, followed_by, with_agent, else_open_if, are_known, test_step, block_step, next_step, agent_step, statement_step, if_step, else_step, end_step, check_step, step}
+use Rattle.lit_read.proofs.TestForms.{behind, behind_end, behind_one, new_open_if}
 use Rattle.lit_read.proofs.CanonicalForms.{differ}
 use Rattle.lit_read.proofs.CheckAsks.{check_small, check_known}
 use Rattle.lit_read.proofs.CheckSteps.{fine}
@@ -29,75 +29,75 @@ reaches_then (f ∷ fs) gs s u t a b = (a.0, a.1, reaches_then fs gs a.0 u t a.2
 -- ---- accesses
 
 module _ (name : List ℕ) (bytes : ℕ) (agents : List Agent) (agent : List ℕ) where
-  abbrev at : List Level → Statements → State
-  at levels body = Open name bytes agents agent levels body
+  abbrev at : List OpenIf → Statements → State
+  at ifs body = Open name bytes agents agent ifs body
 
-  access_step : (s : Statement) (levels : List Level) (body : Statements) → has_fitting_literals s ≡ true → stays_in_block bytes s ≡ true → step (at levels body) (StatementLine s) ≡ Ok (at levels (followed_by body s))
+  access_step : (s : Statement) (ifs : List OpenIf) (body : Statements) → has_fitting_literals s ≡ true → stays_in_block bytes s ≡ true → step (at ifs body) (StatementLine s) ≡ Ok (at ifs (followed_by body s))
   unfolding step statement_step
-  access_step s levels body fits stays = rw (fits, stays) refl
+  access_step s ifs body fits stays = rw (fits, stays) refl
 
-  begin_if : (reg : ℕ) (equal : Bool) (value : ℕ) (levels : List Level) (body : Statements) → value ≤ COMPARED_LIMIT → length levels < IF_LIMIT → step (at levels body) (IfLine reg equal value) ≡ Ok (at (new_level reg equal value body ∷ levels) End)
+  begin_if : (reg : ℕ) (equal : Bool) (value : ℕ) (ifs : List OpenIf) (body : Statements) → value ≤ COMPARED_LIMIT → length ifs < IF_LIMIT → step (at ifs body) (IfLine reg equal value) ≡ Ok (at (new_open_if reg equal value body ∷ ifs) End)
   unfolding step if_step
-  begin_if reg equal value levels body small room =
+  begin_if reg equal value ifs body small room =
       let fits : ltb COMPARED_LIMIT value ≡ false = le-ltb _ _ small in
-      rw (fits, no_more (leb IF_LIMIT (length levels)) refl) refl
+      rw (fits, no_more (leb IF_LIMIT (length ifs)) refl) refl
     where
-      no_more : (b : Bool) → leb IF_LIMIT (length levels) ≡ b → b ≡ false
-      no_more true e = let le : IF_LIMIT ≤ length levels = leb-true _ _ e in absurd (omega arith)
+      no_more : (b : Bool) → leb IF_LIMIT (length ifs) ≡ b → b ≡ false
+      no_more true e = let le : IF_LIMIT ≤ length ifs = leb-true _ _ e in absurd (omega arith)
       no_more false e = refl
 
-  begin_else : (reg : ℕ) (equal : Bool) (value : ℕ) (before body : Statements) (levels : List Level) → step (at (new_level reg equal value before ∷ levels) body) ElseLine ≡ Ok (at (else_level (new_level reg equal value before) body ∷ levels) End)
+  begin_else : (reg : ℕ) (equal : Bool) (value : ℕ) (before body : Statements) (ifs : List OpenIf) → step (at (new_open_if reg equal value before ∷ ifs) body) ElseLine ≡ Ok (at (else_open_if (new_open_if reg equal value before) body ∷ ifs) End)
   unfolding step else_step
-  begin_else reg equal value before body levels = refl
+  begin_else reg equal value before body ifs = refl
 
-  end_then : (reg : ℕ) (equal : Bool) (value : ℕ) (before body : Statements) (levels : List Level) → step (at (new_level reg equal value before ∷ levels) body) EndLine ≡ Ok (at levels (followed_by before (If reg equal value body End)))
+  end_then : (reg : ℕ) (equal : Bool) (value : ℕ) (before body : Statements) (ifs : List OpenIf) → step (at (new_open_if reg equal value before ∷ ifs) body) EndLine ≡ Ok (at ifs (followed_by before (If reg equal value body End)))
   unfolding step end_step
-  end_then reg equal value before body levels = refl
+  end_then reg equal value before body ifs = refl
 
-  end_else : (reg : ℕ) (equal : Bool) (value : ℕ) (before part body : Statements) (levels : List Level) → step (at (else_level (new_level reg equal value before) part ∷ levels) body) EndLine ≡ Ok (at levels (followed_by before (If reg equal value part body)))
+  end_else : (reg : ℕ) (equal : Bool) (value : ℕ) (before part body : Statements) (ifs : List OpenIf) → step (at (else_open_if (new_open_if reg equal value before) part ∷ ifs) body) EndLine ≡ Ok (at ifs (followed_by before (If reg equal value part body)))
   unfolding step end_step
-  end_else reg equal value before part body levels = refl
+  end_else reg equal value before part body ifs = refl
 
   -- ---- statements
 
-  abbrev Goes : List Level → Statements → List Form → List Level → Statements → Type 0
-  Goes levels body fs more after = Reaches (at levels body) fs (at more after)
+  abbrev Goes : List OpenIf → Statements → List Form → List OpenIf → Statements → Type 0
+  Goes ifs body fs more after = Reaches (at ifs body) fs (at more after)
 
   mutual
-    statement_reached : (fs : List Form) (s : Statement) (levels : List Level) (body : Statements) → IsStatement fs s → IsStatementIn bytes s → statement_nesting s + length levels ≤ IF_LIMIT → Goes levels body fs levels (followed_by body s)
-    statement_reached fs (Load r w i a) levels body h is deep = rw h (at levels (followed_by body (Load r w i a)), access_step (Load r w i a) levels body refl is.1, refl)
-    statement_reached fs (Store w i v a) levels body h is deep = rw h (at levels (followed_by body (Store w i v a)), access_step (Store w i v a) levels body is.1 is.0, refl)
-    statement_reached fs (Exchange r w i v) levels body h is deep = rw h (at levels (followed_by body (Exchange r w i v)), access_step (Exchange r w i v) levels body is.2 is.1, refl)
-    statement_reached fs (CompareExchange r w i e v) levels body h is deep =
-        rw h (at levels (followed_by body (CompareExchange r w i e v)), access_step (CompareExchange r w i e v) levels body (and_from (fits_window w e) (fits_window w v) is.2 is.3) is.1, refl)
-    statement_reached fs (If r e v part other) levels body h is deep =
-        let inside = new_level r e v body ∷ levels in
+    statement_reached : (fs : List Form) (s : Statement) (ifs : List OpenIf) (body : Statements) → IsStatement fs s → IsStatementIn bytes s → statement_nesting s + length ifs ≤ IF_LIMIT → Goes ifs body fs ifs (followed_by body s)
+    statement_reached fs (Load r w i a) ifs body h is deep = rw h (at ifs (followed_by body (Load r w i a)), access_step (Load r w i a) ifs body refl is.1, refl)
+    statement_reached fs (Store w i v a) ifs body h is deep = rw h (at ifs (followed_by body (Store w i v a)), access_step (Store w i v a) ifs body is.1 is.0, refl)
+    statement_reached fs (Exchange r w i v) ifs body h is deep = rw h (at ifs (followed_by body (Exchange r w i v)), access_step (Exchange r w i v) ifs body is.2 is.1, refl)
+    statement_reached fs (CompareExchange r w i e v) ifs body h is deep =
+        rw h (at ifs (followed_by body (CompareExchange r w i e v)), access_step (CompareExchange r w i e v) ifs body (and_from (fits_window w e) (fits_window w v) is.2 is.3) is.1, refl)
+    statement_reached fs (If r e v part other) ifs body h is deep =
+        let inside = new_open_if r e v body ∷ ifs in
         rw h.2 (
           at inside End,
-          begin_if r e v levels body is.1 (omega arith),
-          reaches_then h.0 (h.1 ++ EndLine ∷ []) (at inside End) (at inside part) (at levels (followed_by body (If r e v part other)))
-              (statements_reached h.0 part inside End h.3 is.2 (omega arith)) (else_reached h.1 r e v body part other levels h.4 is.3 (omega arith)),
+          begin_if r e v ifs body is.1 (omega arith),
+          reaches_then h.0 (h.1 ++ EndLine ∷ []) (at inside End) (at inside part) (at ifs (followed_by body (If r e v part other)))
+              (statements_reached h.0 part inside End h.3 is.2 (omega arith)) (else_reached h.1 r e v body part other ifs h.4 is.3 (omega arith)),
         )
 
-    pub statements_reached : (fs : List Form) (ss : Statements) (levels : List Level) (body : Statements) → AreStatements fs ss → AreStatementsIn bytes ss → nesting ss + length levels ≤ IF_LIMIT → Goes levels body fs levels (behind body ss)
-    statements_reached fs End levels body h are deep = rw h (ap (at levels) (sym (behind_end body)))
-    statements_reached fs (Then s ss) levels body h are deep =
+    pub statements_reached : (fs : List Form) (ss : Statements) (ifs : List OpenIf) (body : Statements) → AreStatements fs ss → AreStatementsIn bytes ss → nesting ss + length ifs ≤ IF_LIMIT → Goes ifs body fs ifs (behind body ss)
+    statements_reached fs End ifs body h are deep = rw h (ap (at ifs) (sym (behind_end body)))
+    statements_reached fs (Then s ss) ifs body h are deep =
         rw h.2
-        (reaches_then h.0 h.1 (at levels body) (at levels (followed_by body s)) (at levels (behind body (Then s ss))) (statement_reached h.0 s levels body h.3 are.0 (omega arith))
-        (subst (λ (x : Statements). Goes levels (followed_by body s) h.1 levels x) (behind_one body s ss) (statements_reached h.1 ss levels (followed_by body s) h.4 are.1 (omega arith))))
+        (reaches_then h.0 h.1 (at ifs body) (at ifs (followed_by body s)) (at ifs (behind body (Then s ss))) (statement_reached h.0 s ifs body h.3 are.0 (omega arith))
+        (subst (λ (x : Statements). Goes ifs (followed_by body s) h.1 ifs x) (behind_one body s ss) (statements_reached h.1 ss ifs (followed_by body s) h.4 are.1 (omega arith))))
 
-    else_reached : (fs : List Form) (r : ℕ) (e : Bool) (v : ℕ) (body part other : Statements) (levels : List Level) → AreElse fs other → AreStatementsIn bytes other → nesting other + (length levels + 1) ≤ IF_LIMIT
-        → Goes (new_level r e v body ∷ levels) part (fs ++ EndLine ∷ []) levels (followed_by body (If r e v part other))
-    else_reached fs r e v body part End levels (inl h) are deep = rw h (at levels (followed_by body (If r e v part End)), end_then r e v body part levels, refl)
-    else_reached fs r e v body part End levels (inr h) are deep =
-        let inside = else_level (new_level r e v body) part ∷ levels in
-        rw h (at inside End, begin_else r e v body part levels, (at levels (followed_by body (If r e v part End)), end_else r e v body part End levels, refl))
-    else_reached fs r e v body part (Then s ss) levels h are deep =
-        let inside = else_level (new_level r e v body) part ∷ levels in
-        let end : Goes inside (Then s ss) (EndLine ∷ []) levels (followed_by body (If r e v part (Then s ss))) = (at levels (followed_by body (If r e v part (Then s ss))), end_else r e v body part (Then s ss) levels, refl) in
+    else_reached : (fs : List Form) (r : ℕ) (e : Bool) (v : ℕ) (body part other : Statements) (ifs : List OpenIf) → AreElse fs other → AreStatementsIn bytes other → nesting other + (length ifs + 1) ≤ IF_LIMIT
+        → Goes (new_open_if r e v body ∷ ifs) part (fs ++ EndLine ∷ []) ifs (followed_by body (If r e v part other))
+    else_reached fs r e v body part End ifs (inl h) are deep = rw h (at ifs (followed_by body (If r e v part End)), end_then r e v body part ifs, refl)
+    else_reached fs r e v body part End ifs (inr h) are deep =
+        let inside = else_open_if (new_open_if r e v body) part ∷ ifs in
+        rw h (at inside End, begin_else r e v body part ifs, (at ifs (followed_by body (If r e v part End)), end_else r e v body part End ifs, refl))
+    else_reached fs r e v body part (Then s ss) ifs h are deep =
+        let inside = else_open_if (new_open_if r e v body) part ∷ ifs in
+        let end : Goes inside (Then s ss) (EndLine ∷ []) ifs (followed_by body (If r e v part (Then s ss))) = (at ifs (followed_by body (If r e v part (Then s ss))), end_else r e v body part (Then s ss) ifs, refl) in
         let both : Goes inside End (h.0 ++ h.1) inside (Then s ss) =
         reaches_then h.0 h.1 (at inside End) (at inside (Then s End)) (at inside (Then s ss)) (statement_reached h.0 s inside End h.3 are.0 (omega arith)) (statements_reached h.1 ss inside (Then s End) h.4 are.1 (omega arith)) in
-        rw h.2 (at inside End, begin_else r e v body part levels, reaches_then (h.0 ++ h.1) (EndLine ∷ []) (at inside End) (at inside (Then s ss)) (at levels (followed_by body (If r e v part (Then s ss)))) both end)
+        rw h.2 (at inside End, begin_else r e v body part ifs, reaches_then (h.0 ++ h.1) (EndLine ∷ []) (at inside End) (at inside (Then s ss)) (at ifs (followed_by body (If r e v part (Then s ss)))) both end)
 
 -- ---- agents
 

@@ -1,4 +1,4 @@
--- What the parts of a statement and of a condition stand for.
+-- What the parts of a statement and of a condition represent.
 use Rattle.std.proofs.Common.{◌≡◌, ℕ, zero, suc, ◌+◌, ◌<◌, Bool, true, false, ◌||◌, List, [], ◌∷◌, length, get_or, drop, refl, ap, sym, ◌∙◌, arith, add-one}
 use Rattle.std.specs.Global.{Vec}
 use mathlib.Core.Former.{Count}
@@ -59,7 +59,7 @@ if_views reg equal value b o =
     ap (λ (x : Statements). If reg equal value x (part_of other.1)) (part_is body.0 body.1 ∙ ap statements_of (items_hidden-the_row-Stmt-0 b))
     ∙ ap (λ (x : Statements). If reg equal value (statements_of b.items) x) (part_is other.0 other.1 ∙ ap statements_of (items_hidden-the_row-Stmt-0 o))
 
--- ---- the statements that are left
+-- ---- the remaining statements
 
 pub writes_more : (xs : List Stmt) (i : ℕ) (d : Stmt) (reg : ℕ) → i < length xs → writes (statements_of (drop i xs)) reg ≡ (statement_writes (statement_of (get_or xs i d)) reg || writes (statements_of (drop (suc i) xs)) reg)
 writes_more [] i d reg lt = absurd (omega arith)

@@ -1,4 +1,4 @@
--- The forms of a test with nothing in them that could be left out (this project's own).
+-- The canonical forms of a test, with nothing in them that could be omitted (this project's own).
 use Rattle.std.specs.Prelude.{Bool, true, false, if◌then◌else◌, List, [], ◌∷◌, ◌++◌}
 use Rattle.lit_read.specs.Syntax.{Statement, Statements, Load, Store, Exchange, CompareExchange, If, End, Then, Agent, Litmus}
 use Rattle.lit_read.specs.Forms.{Form, TestLine, BytesLine, AgentLine, StatementLine, IfLine, ElseLine, EndLine, CheckLine}

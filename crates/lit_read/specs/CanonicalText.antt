@@ -1,4 +1,4 @@
--- The canonical text of a test, as bytes (this project's own).
+-- The canonical text of a test, as bytes, form by form (this project's own; decision 7).
 use Rattle.std.specs.Prelude.{ℕ, Bool, true, false, List, [], ◌∷◌, ◌++◌, map, codes}
 use Rattle.std.specs.Fmt.{decimal}
 use Rattle.lit_read.specs.Syntax.{Window, DataView8, DataView16, DataView32, Statement, Load, Store, Exchange, CompareExchange, If, Litmus}

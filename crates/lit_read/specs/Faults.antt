@@ -79,7 +79,7 @@ abbrev pub is_in_then : List Bool → Bool
 is_in_then (false ∷ opened) = true
 is_in_then _ = false
 
--- how many bytes the block has: 0 before the bytes line
+-- how many bytes the block has: 0 before the bytes line (decision 5)
 abbrev pub block_of : List Form → ℕ
 block_of [] = 0
 block_of (BytesLine bytes ∷ fs) = bytes
@@ -101,7 +101,7 @@ lines_write reg [] = false
 lines_write reg (AgentLine name ∷ fs) = false
 lines_write reg (f ∷ fs) = line_writes reg f || lines_write reg fs
 
--- whether the first agent of this name writes the register
+-- whether the first agent of this name writes the register (decision 6)
 abbrev pub agent_writes : List ℕ → ℕ → List Form → Bool
 agent_writes name reg [] = false
 agent_writes name reg (AgentLine agent ∷ fs) = if bytes_eq name agent then lines_write reg fs else agent_writes name reg fs
@@ -200,7 +200,7 @@ HasLineFault kind before line = (form : Form) × HasForm line form × IsTrue (is
 abbrev pub AreFormsBefore : List ℕ → ℕ → List Form → Type 0
 AreFormsBefore text line before = (1 ≤ line) × (line ≤ length (lines_of text)) × HaveForms (take (line - 1) (lines_of text)) before
 
--- The text has the fault at this line, from 1. The lines before it have forms, which the fault may go by.
+-- The text has the fault at this line, from 1. The lines before it have forms, on which the fault may depend (decision 4).
 unfoldable pub HasFault : List ℕ → ReadKind → ℕ → Type 0
 HasFault text TooLong line = (TEXT_LIMIT < length text) × (line ≡ 1)
 HasFault text MissingPart line =

@@ -1,4 +1,4 @@
--- What the reader has on the way. Private contracts alone cite these: the modules beside this one say what is meant.
+-- Notions of private contracts: the reader's state while it reads. The modules beside this one have the definitions.
 pub mod FirstToken
 pub mod FormOfTokens
 pub mod Marks

@@ -1,4 +1,4 @@
--- The test that a value of the program's type `Test` stands for.
+-- The test that a value of the program's type `Test` represents.
 use Rattle.std.specs.Prelude.{List, [], ◌∷◌, map, string_bytes}
 use Rattle.lit_read.specs.declared.syntax.View.{View}
 use Rattle.lit_read.specs.declared.syntax.View.TheVariants as view

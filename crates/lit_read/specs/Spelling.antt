@@ -51,7 +51,7 @@ pub record AreFormsOf (forms : List Form) (t : Litmus) : Type 0 where
   pub bodies : AreAgents agents t.agents
   pub asks : t.check ≡ written_value t.agents check
 
--- The text has no fault, and its lines, blank ones left out, are those of the test.
+-- The text has no fault, and its lines without the blank ones are those of the test.
 pub record Spells (text : List ℕ) (t : Litmus) : Type 0 where
   pub faultless : (kind : ReadKind) (line : ℕ) → ¬ HasFault text kind line
   pub forms : List Form

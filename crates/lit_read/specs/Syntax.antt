@@ -31,7 +31,7 @@ is_data_view DataView8 = true
 is_data_view DataView16 = true
 is_data_view DataView32 = true
 
--- The whole access lies in a block of so many bytes. A typed array has as many elements as fit.
+-- The whole access lies in a block of `bytes` bytes. A typed array has as many elements as fit.
 abbrev pub is_in_block : ℕ → Window → ℕ → Bool
 is_in_block bytes Uint8 index = nat_lt index bytes
 is_in_block bytes Uint16 index = nat_lt index (bytes / 2)
@@ -44,7 +44,7 @@ is_in_block bytes DataView32 index = nat_le (index + 4) bytes
 abbrev pub fits_window : Window → ℕ → Bool
 fits_window window value = nat_lt value (256 ^ window_size window)
 
--- what a text can say in an agent, over a block of so many bytes
+-- what a text can say in an agent, over a block of `bytes` bytes
 abbrev mutual
   pub IsStatementIn : ℕ → Statement → Type 0
   IsStatementIn bytes (Load reg window index atomic) =

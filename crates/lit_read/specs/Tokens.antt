@@ -24,7 +24,7 @@ begins_word b = is_ascii_alphabetic b || b == 95
 abbrev pub is_in_word : ℕ → Bool
 is_in_word b = is_ascii_alphanumeric b || b == 95
 
--- whether a text begins with a byte that passes the test
+-- whether a text begins with a byte that satisfies the predicate
 abbrev pub begins_with : (ℕ → Bool) → List ℕ → Bool
 begins_with p [] = false
 begins_with p (b ∷ bs) = p b

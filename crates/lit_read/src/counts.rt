@@ -6,7 +6,7 @@ ghost use Rattle.lit_read.specs.StatementOrder.{count_with_parts, statement_coun
 
 use crate::syntax::Stmt;
 
-/// How many statements a statement is, with those of its parts: as far as `usize::MAX`.
+/// How many statements a statement is, with those of its parts: capped at `usize::MAX`.
 #[cycle(counting)]
 pub fn count_with_parts(stmt: &Stmt) -> usize
     ensures { result ≡ min (count_with_parts (statement_of stmt.now)) (2 ^ 64 - 1) }
@@ -22,7 +22,7 @@ pub fn count_with_parts(stmt: &Stmt) -> usize
     }
 }
 
-/// How many statements there are, also in the parts of an `if`, which is one itself: as far as `usize::MAX`.
+/// How many statements there are, also in the parts of an `if`, which is one itself: capped at `usize::MAX`.
 #[cycle(counting)]
 pub fn statement_count(body: &[Stmt]) -> usize
     ensures { result ≡ min (statement_count (statements_of body.now)) (2 ^ 64 - 1) }

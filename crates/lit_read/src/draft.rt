@@ -1,4 +1,4 @@
-//! The test as far as a text has come.
+//! A draft: the part of a test that the lines read so far say.
 
 pub(crate) mod accesses;
 pub(crate) mod checking;
@@ -26,7 +26,7 @@ use std::alloc::{AllocError, Global};
 
 /// An open `if`: its line, the statements before it, and the then-part once the else line has come.
 #[derive(Drop)]
-pub struct Level {
+pub struct OpenIf {
     reg: u8,
     equal: bool,
     value: u32,
@@ -34,7 +34,7 @@ pub struct Level {
     then_part: Option<Vec<Stmt>>,
 }
 
-/// An agent that more statements may follow, and the agents before it. The innermost `if` is the last, and `body` are
+/// An agent that more statements may follow, and the agents before it. The innermost open `if` is the last, and `body` has
 /// the statements of its open part.
 #[derive(Drop)]
 pub struct Open {
@@ -42,11 +42,11 @@ pub struct Open {
     bytes: u8,
     agents: IndexMap<String, Vec<Stmt>>,
     agent: String,
-    levels: Vec<Level>,
+    ifs: Vec<OpenIf>,
     body: Vec<Stmt>,
 }
 
-/// What the lines so far say.
+/// What the lines read so far say.
 #[derive(Drop)]
 pub enum Draft {
     Empty,
@@ -56,7 +56,7 @@ pub enum Draft {
     Whole(Test),
 }
 
-/// The agents, and one more behind them.
+/// The agents, with one more at the end.
 fn with_last(
     agents: IndexMap<String, Vec<Stmt>>,
     agent: String,
@@ -71,19 +71,19 @@ fn with_last(
     Ok(agents)
 }
 
-impl Level {
+impl OpenIf {
     ghost use Rattle.lit_read.specs.Litmus.{statement_of};
     ghost use Rattle.lit_read.specs.Internal.State.{ended_if};
-    ghost use Rattle.lit_read.specs.Internal.Views.{level_view, part_view};
+    ghost use Rattle.lit_read.specs.Internal.Views.{open_if_view, part_view};
 
-    /// The `if` whose part this is the last of, behind the statements before it.
+    /// The statements before an `if`, and the whole `if`, whose last part has these statements.
     fn ended(self, alloc: Global, body: Vec<Stmt>) -> Result<Vec<Stmt>, AllocError>
         ensures { IfOk result
             (λ all. statements_of all.items
             ≡ followed_by (statements_of self.before.items)
-            (ended_if (level_view self) (statements_of body.items) (part_view self.then_part))) }
+            (ended_if (open_if_view self) (statements_of body.items) (part_view self.then_part))) }
     {
-        let Level {
+        let OpenIf {
             reg,
             equal,
             value,
@@ -140,11 +140,11 @@ impl Open {
         if value > COMPARED_LIMIT {
             return Err(ReadKind::LiteralRange);
         }
-        if self.levels.len() >= IF_LIMIT {
+        if self.ifs.len() >= IF_LIMIT {
             return Err(ReadKind::TooDeep);
         }
-        let mut levels = self.levels;
-        levels.push(Level {
+        let mut ifs = self.ifs;
+        ifs.push(OpenIf {
             reg,
             equal,
             value: value as u32,
@@ -152,7 +152,7 @@ impl Open {
             then_part: None,
         })?;
         Ok(Open {
-            levels,
+            ifs,
             body: Vec::new(alloc),
             ..self
         })
@@ -163,22 +163,22 @@ impl Open {
     fn begin_else(self, alloc: Global) -> Result<Open, ReadKind>
         ensures { Returns open_view result (else_step (open_view self)) }
     {
-        let mut levels = self.levels;
-        let Some(level) = levels.pop() else {
+        let mut ifs = self.ifs;
+        let Some(open_if) = ifs.pop() else {
             return Err(ReadKind::Misplaced);
         };
-        if level.then_part.is_some() {
+        if open_if.then_part.is_some() {
             return Err(ReadKind::Misplaced);
         }
-        levels.push(Level {
-            reg: level.reg,
-            equal: level.equal,
-            value: level.value,
-            before: level.before,
+        ifs.push(OpenIf {
+            reg: open_if.reg,
+            equal: open_if.equal,
+            value: open_if.value,
+            before: open_if.before,
             then_part: Some(self.body),
         })?;
         Ok(Open {
-            levels,
+            ifs,
             body: Vec::new(alloc),
             ..self
         })
@@ -189,16 +189,12 @@ impl Open {
     fn end_if(self, alloc: Global) -> Result<Open, ReadKind>
         ensures { Returns open_view result (end_step (open_view self)) }
     {
-        let mut levels = self.levels;
-        let Some(innermost) = levels.pop() else {
+        let mut ifs = self.ifs;
+        let Some(innermost) = ifs.pop() else {
             return Err(ReadKind::Misplaced);
         };
         let body = innermost.ended(alloc, self.body)?;
-        Ok(Open {
-            levels,
-            body,
-            ..self
-        })
+        Ok(Open { ifs, body, ..self })
     }
 
     /// Whether an agent so far has this name.
@@ -215,7 +211,7 @@ impl Open {
         requires { IsState (open_view self) }
         ensures { Returns open_view result (agent_step (open_view self) name.now) }
     {
-        let is_inside_if = !self.levels.is_empty();
+        let is_inside_if = !self.ifs.is_empty();
         if is_inside_if {
             return Err(ReadKind::Misplaced);
         }
@@ -230,7 +226,7 @@ impl Open {
             bytes: self.bytes,
             agents: with_last(self.agents, self.agent, self.body)?,
             agent: String::from_str(alloc, name)?,
-            levels: self.levels,
+            ifs: self.ifs,
             body: Vec::new(alloc),
         })
     }
@@ -241,7 +237,7 @@ impl Open {
         requires form { (w : Written) × (mark_views marks.now ≡ written_marks w) × IsForm (CheckLine w) }
         ensures { (w : Written) → mark_views marks.now ≡ written_marks w → Returns (λ t. Whole t) result (check_step (open_view self) w) }
     {
-        if !self.levels.is_empty() {
+        if !self.ifs.is_empty() {
             return Err(ReadKind::Misplaced);
         }
         if !are_small(marks) {
@@ -305,7 +301,7 @@ impl Draft {
                 bytes,
                 agents: IndexMap::new(alloc),
                 agent: String::from_str(alloc, agent)?,
-                levels: Vec::new(alloc),
+                ifs: Vec::new(alloc),
                 body: Vec::new(alloc),
             })),
             Draft::Open(open) => Ok(Draft::Open(open.next(alloc, agent)?)),

@@ -1,4 +1,5 @@
-//! What holds of texts and tests by the definitions alone, so that each answer of `read` comes exactly where it is due.
+//! Laws of texts and tests. The functions do nothing: their contracts are theorems on the definitions alone, by which
+//! each answer of `read` comes exactly where it is due.
 
 ghost use Rattle.std.specs.Prelude.{◌≡◌, ◌<◌, ◌≤◌, ◌⊎◌, ◌∷◌, ◌++◌, [], ℕ, Bool, List, length, map, true};
 ghost use Rattle.std.specs.List.{list_all, AllByRecursion};
@@ -19,7 +20,7 @@ ghost use Rattle.lit_read.specs.Parentheses.{without_parentheses};
 ghost use Rattle.lit_read.specs.CanonicalText.{canonical};
 
 /// A text is its lines, none of which has a byte 10, each with a byte 10 after it. Where the text does not end with a
-/// byte 10, the last one is left out.
+/// byte 10, the last one is missing.
 pub fn lines_are_joined()
     ensures some { (text : List ℕ) → 1 ≤ length (lines_of text) }
     ensures whole { (text : List ℕ) → list_all is_whole_line (lines_of text) ≡ true }
@@ -62,7 +63,7 @@ pub fn leaves_ifs_open()
         → (none_misplaced given forms ≡ true) × (open_ifs (given ++ forms) ≡ opened) }
 {}
 
-/// Forms of one test differ by else lines with an empty part alone, and in their check lines by parentheses alone.
+/// Two lists of forms of one test differ only in else lines with an empty part, and in parentheses of their check lines.
 pub fn differ_by_nothing_else()
     ensures elses { (forms others : List Form) (t : Litmus) → (a : AreFormsOf forms t) → (b : AreFormsOf others t)
         → without_empty_elses a.agents ≡ without_empty_elses b.agents }
@@ -70,14 +71,14 @@ pub fn differ_by_nothing_else()
         → without_parentheses (written_tokens a.check) ≡ without_parentheses (written_tokens b.check) }
 {}
 
-/// A text spells a test wherever it can: it is no longer than a text may be, its bytes may stand there, its forms, blank
-/// ones left out, are those of the test, and no comparison of its check line stands too deep.
+/// A text spells a test wherever it can: it is no longer than a text may be, its bytes may stand there, its forms
+/// without the blank ones are those of the test, and no comparison of its check line stands too deep.
 pub fn spells_where_it_can()
     ensures { (text : List ℕ) (forms : List Form) (t : Litmus) → IsLitmus t → length text ≤ TEXT_LIMIT → list_all is_allowed text ≡ true
         → HaveForms (lines_of text) forms → (are : AreFormsOf (without_blanks forms) t) → is_shallow are.check ≡ true → Spells text t }
 {}
 
-/// What a text spells keeps the limits and rules of a test.
+/// A test that a text spells is within the limits and rules of a test.
 pub fn spells_within_limits()
     ensures { (text : List ℕ) (t : Litmus) → Spells text t → IsLitmus t }
 {}

@@ -3,8 +3,8 @@
 //! `read` ensures that an `Ok` test is the one that the text spells, and that an `Err` is its first fault or out of
 //! memory; `show` that an `Ok` is the canonical text, which spells the test where it has at most 65,536 bytes. The
 //! definitions stand in specs/: `Lines`, `Tokens`, `Written` (conditions as they are written), `Parentheses`, `Forms`,
-//! `Structure`, `Faults`, `Spelling`, `Canonical` and `CanonicalText`, and in `Trees` and `Syntax` what a test is. What
-//! stands in the folder `Internal` serves private contracts alone.
+//! `Structure`, `Faults`, `Spelling`, `Canonical` and `CanonicalText`, and in `Trees` and `Syntax` what a test is. The
+//! definitions in the folder `Internal` serve private contracts alone.
 #![tactic(auto)]
 
 mod counts;

@@ -1,4 +1,4 @@
-//! What a text may have at the most.
+//! The limits of a text.
 
 /// Bytes of a text.
 pub const TEXT_LIMIT: usize = 65_536;
@@ -21,7 +21,7 @@ pub const REGISTERS: usize = 8;
 /// The greatest number that a condition may compare with.
 pub const COMPARED_LIMIT: u64 = 4_294_967_295;
 
-/// `if`s of an agent, one in the other.
+/// Nested `if`s of an agent.
 pub const IF_LIMIT: usize = 8;
 
 /// `!` and `(` around a comparison.

@@ -1,4 +1,4 @@
-//! Reading a whole text.
+//! Reads a whole text, line by line.
 
 ghost use Rattle.std.specs.Prelude.{◌≡◌, ◌≢◌, ◌<◌, length, Ok, IfOk, IfErr, IsErrAnd, IfSome, IfNone};
 ghost use Rattle.std.specs.List.{list_all};
@@ -52,7 +52,7 @@ fn line_form(alloc: Global, line: &[u8]) -> Result<Line<'_>, ReadKind>
     }
 }
 
-/// What the lines so far and this line say.
+/// The draft after one more line.
 fn add_line(alloc: Global, draft: Draft, line: &[u8]) -> Result<Draft, ReadKind>
     requires { IsState (state_view draft) }
     ensures ok { IfOk result (λ d. LineStep (state_view draft) line.now (Ok (state_view d))) }
@@ -85,13 +85,13 @@ fn finished(draft: Draft) -> Option<Test>
     }
 }
 
-/// The test that a text spells, or the text's first fault. A text that is too long is answered so whatever memory there
-/// is.
+/// The test that a text spells, or the text's first fault. A text that is too long has this answer whatever memory there is.
 pub fn read(alloc: Global, text: &[u8]) -> Result<Test, ReadFault>
     ensures spells { IfOk result (λ t. Spells text.now t) }
     ensures fault { IfErr result (λ e. IsReadFault text.now e.kind e.line) }
     ensures long { TEXT_LIMIT < length text.now → IsErrAnd result (λ e. (e.kind ≡ TooLong) × (e.line ≡ 1)) }
 {
+    // The length is checked first, since this answer must not depend on memory.
     if text.len() > TEXT_LIMIT {
         return Err(fault_at(ReadKind::TooLong, 1));
     }

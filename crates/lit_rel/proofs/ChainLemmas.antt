@@ -1,4 +1,4 @@
--- Relations closed under chains, middle by middle.
+-- The transitive closure, one middle event after another.
 use Rattle.std.proofs.Common.{◌↔◌, ◌⊎◌, ℕ, ◌+◌, ◌<◌, List, [], ◌∷◌, ◌++◌, arith, inl, inr}
 use Rattle.lit_rel.specs.HappensBefore.{Chain}
 use Rattle.lit_rel.specs.Rows.{IsTransitive}

@@ -65,7 +65,7 @@ ReadsByteFrom-push events sources r b w left r' b' w' = (
   ]),
 )
 
--- the first bytes, so many
+-- the first n bytes are given
 abbrev pub GivenFirst : List Event → List SourcedByte → ℕ → ℕ → ℕ → ℕ → Type 0
 GivenFirst events bytes n = ReadsByteFrom events (sources_of (take n bytes))
 

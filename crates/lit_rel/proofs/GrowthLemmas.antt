@@ -1,4 +1,4 @@
--- With more bytes given the relations grow, and what was read whole keeps its value.
+-- With more bytes given the relations grow, and a read all of whose bytes are given has the same value.
 use Rattle.std.proofs.Common.{◌≡◌, ◌≢◌, ℕ, ◌==◌, suc, Some, List, [], ◌∷◌, ◌++◌, filter, get_or, map, refl, sym, subst, ap, ◌∙◌, ◌⊎◌, arith, inl, inr}
 use Rattle.std.proofs.lemmas.Bool.{cases_eq}
 use Rattle.std.proofs.lemmas.Bool.Decides.{nat_tests}

@@ -1,4 +1,4 @@
--- A byte of a read's value is that of its source, and so a test that refuses it is false of the value.
+-- A byte of a read's value is that of its source, and so a guard that refuses it is false of the value.
 use Rattle.std.proofs.Common.{◌≡◌, ◌≢◌, inl, inr, ℕ, zero, suc, ◌+◌, ◌-◌, ◌*◌, ◌<◌, ◌==◌, All, Bool, true, false, Some, List, [], ◌∷◌, length, map, filter, zip, refl, sym, ap, ◌∙◌, arith}
 use Rattle.std.specs.Prelude.{if◌then◌else◌, not, slice_get, slice_index}
 use Rattle.std.proofs.lemmas.Bool.{cases_lt, eq-eqb}
@@ -48,12 +48,12 @@ zip_at (p ∷ reads) [] i q w read from = absurd (none-some w from)
 zip_at (p ∷ reads) (v ∷ sources) zero q w read from = let a : p ≡ q = same_Some p q read in let b : v ≡ w = same_Some v w from in cc
 zip_at (p ∷ reads) (v ∷ sources) (suc i) q w read from = zip_at reads sources i q w read from
 
-kept_at : {X : Type 0} (test : X → Bool) (xs : List X) (i : ℕ) (x : X) → slice_get xs i ≡ Some x → test x ≡ true → (j : ℕ) × (slice_get (filter test xs) j ≡ Some x)
-kept_at test [] i x at passes = absurd (none-some x at)
-kept_at {X} test (y ∷ xs) zero x at passes =
+retained_at : {X : Type 0} (test : X → Bool) (xs : List X) (i : ℕ) (x : X) → slice_get xs i ≡ Some x → test x ≡ true → (j : ℕ) × (slice_get (filter test xs) j ≡ Some x)
+retained_at test [] i x at passes = absurd (none-some x at)
+retained_at {X} test (y ∷ xs) zero x at passes =
     let is : y ≡ x = same_Some y x at in
     (0, ap (λ (t : Bool). slice_get (if t then y ∷ filter test xs else filter test xs) 0) (ap test is ∙ passes) ∙ at)
-kept_at {X} test (y ∷ xs) (suc i) x at passes = by (test y) (kept_at test xs i x at passes)
+retained_at {X} test (y ∷ xs) (suc i) x at passes = by (test y) (retained_at test xs i x at passes)
   where
     by : (t : Bool) → ((j : ℕ) × (slice_get (filter test xs) j ≡ Some x)) → (j : ℕ) × (slice_get (if t then y ∷ filter test xs else filter test xs) j ≡ Some x)
     by true found = (suc found.0, found.1)
@@ -98,7 +98,7 @@ module _ (bytes : ℕ) (events : List Event) (sound : AreEventsIn bytes events) 
       let e = event_at events r in
       let stored : (ℕ × ℕ) × ℕ → ℕ = λ p. payload_at (event_at events p.1) p.0.1 in
       let ps = sourced_of r (byte_reads events) sources in
-      let found = kept_at {X = (ℕ × ℕ) × ℕ} (λ p. p.0.0 == r) (zip (byte_reads events) sources) from.0 ((r, b), w) (zip_at (byte_reads events) sources from.0 (r, b) w from.1 from.2) (eq-eqb r r refl) in
+      let found = retained_at {X = (ℕ × ℕ) × ℕ} (λ p. p.0.0 == r) (zip (byte_reads events) sources) from.0 ((r, b), w) (zip_at (byte_reads events) sources from.0 (r, b) w from.1 from.2) (eq-eqb r r refl) in
       let known = read_known events from.0 r b from.1 in
       let own : map (λ (p : (ℕ × ℕ) × ℕ). p.0) ps ≡ bytes_read_by r e =
       reads_of r (byte_reads events) sources complete ∙ only_its r 0 r events e (omega arith) (slice_get-get_or events r no_event known) in

@@ -8,7 +8,7 @@ use Rattle.lit_rel.specs.declared.rows.Rows.{Rows}
 use Rattle.lit_rel.specs.declared.given.SourcedByte.{SourcedByte}
 use Rattle.lit_rel.specs.HappensBefore.{HappensBefore}
 use Rattle.lit_rel.specs.Internal.Given.{read_of}
-use Rattle.lit_rel.specs.Internal.Levels.{IsOrder}
+use Rattle.lit_rel.specs.Internal.PrefixStates.{IsOrder}
 use Rattle.lit_rel.specs.ReadsFrom.{ReadsByteFrom}
 use Rattle.lit_rel.specs.Rows.{Holds, WithPair, rows_len}
 use Rattle.lit_rel.specs.SynchronizesWith.{CanSynchronize}

@@ -1,4 +1,4 @@
--- What a part keeps of its combination, and with one source more or less.
+-- The invariant of a part, and that it holds with one source more or less.
 use Rattle.std.proofs.Common.{◌≡◌, ◌↔◌, ◌⊎◌, ℕ, ◌+◌, ◌<◌, ◌≤◌, List, ◌∷◌, [], ◌++◌, Some, length, map, take, get_or, sym, ap, ◌∙◌, subst, arith, inl, inr}
 use Rattle.std.proofs.lemmas.Bool.{cases_lt}
 use Rattle.std.proofs.lemmas.List.{get_or_past, length-map, length-take-le, length_push, take-take, map_push, take-append-le, take_at}
@@ -14,11 +14,11 @@ use Rattle.lit_paths.specs.ByteReads.{IsCandidate, byte_reads, pair_of}
 use Rattle.lit_paths.specs.Event.{event_at, no_event}
 use Rattle.lit_paths.specs.Plan.{AreEventsIn, events_in}
 use Rattle.lit_rel.specs.declared.given.SourcedByte.{SourcedByte}
-use Rattle.lit_rel.specs.declared.part.level.Level.{Level}
+use Rattle.lit_rel.specs.declared.part.prefix_state.PrefixState.{PrefixState}
 use Rattle.lit_rel.specs.Broken.{HasFalseGuard, IsBroken}
 use Rattle.lit_rel.specs.Part.{AreFirstSources, IsNextSource, PartModel, part_events, with_sources}
 use Rattle.lit_rel.specs.Internal.Given.{AreFirstReads, HasBrokenBytes, IsKnown, part_of, read_of, sources_of}
-use Rattle.lit_rel.specs.Internal.Levels.{IsKept, IsLevel, IsOrder}
+use Rattle.lit_rel.specs.Internal.PrefixStates.{HasPrefixStates, IsPrefixState, IsOrder}
 use Rattle.lit_rel.specs.Rows.{Holds}
 use Rattle.lit_rel.specs.declared.rows.Rows.{Rows}
 use Rattle.lit_rel.proofs.BrokenLemmas.{incoherent-iff, torn-iff}
@@ -26,8 +26,8 @@ use Rattle.lit_rel.proofs.PlaceLemmas.{place-push}
 use Rattle.lit_rel.proofs.SourceLemmas.{AreFirstReads-push, AreFirstReads-take, next_read, read_known, take_from}
 
 -- the rows of a part that is seen as this value are happens-before, of as many events and sources
-pub given_order : (part value : PartModel) (level : Level) → part ≡ value → IsLevel part level → (events : List Event) (sources : List ℕ) → events ≡ part_events value → sources ≡ value.sources → IsOrder events sources level.before.rows
-given_order part value level view is events sources same_events same_sources = rw (same_events, same_sources) (rw view at is.before)
+pub given_order : (part value : PartModel) (prefix_state : PrefixState) → part ≡ value → IsPrefixState part prefix_state → (events : List Event) (sources : List ℕ) → events ≡ part_events value → sources ≡ value.sources → IsOrder events sources prefix_state.before.rows
+given_order part value prefix_state view is events sources same_events same_sources = rw (same_events, same_sources) (rw view at is.before)
 
 -- no event has more than four bytes
 pub small_events : (block : ℕ) (events : List Event) → AreEventsIn block events → (n : ℕ) → (event_at events n).size ≤ 4
@@ -77,14 +77,14 @@ broken-iff t c bytes rows first is =
     sums : {A B C A' B' C' D : Type 0} → A ↔ A' → B ↔ B' → C ↔ C' → ((A ⊎ B ⊎ C) ⊎ D) ↔ ((A' ⊎ B' ⊎ C') ⊎ D)
     sums a b c = grind arith
 
-module _ (t : Litmus) (c : ℕ) (bytes : List SourcedByte) (earlier : List Level) (now : Level) where
+module _ (t : Litmus) (c : ℕ) (bytes : List SourcedByte) (earlier : List PrefixState) (now : PrefixState) where
   -- with one byte more
-  module _ (byte : SourcedByte) (kept : IsKept t c bytes earlier now) (new : IsNextByte (part_of t c bytes) bytes byte) where
+  module _ (byte : SourcedByte) (so_far : HasPrefixStates t c bytes earlier now) (new : IsNextByte (part_of t c bytes) bytes byte) where
     -- there is room for it
     pub few_bytes : length bytes < BYTE_READ_LIMIT
     few_bytes =
         let below : length bytes < length (byte_reads (events_in t c)) = slice_get_within (byte_reads (events_in t c)) (length bytes) (read_of byte) new.left in
-        let few : length (byte_reads (events_in t c)) ≤ BYTE_READ_LIMIT = kept.sound.few_reads in
+        let few : length (byte_reads (events_in t c)) ≤ BYTE_READ_LIMIT = so_far.sound.few_reads in
         omega arith
 
     pub sources_more : (more : List SourcedByte) → more ≡ bytes ++ byte ∷ [] → sources_of more ≡ sources_of bytes ++ byte.source ∷ []
@@ -94,40 +94,40 @@ module _ (t : Litmus) (c : ℕ) (bytes : List SourcedByte) (earlier : List Level
     left_of = ap (slice_get (byte_reads (events_in t c))) (length-map bytes (λ (b : SourcedByte). b.source)) ∙ new.left
 
     pub first_more : (more : List SourcedByte) → more ≡ bytes ++ byte ∷ [] → AreFirstReads (events_in t c) more
-    first_more more pushed = AreFirstReads-push (events_in t c) bytes kept.first_reads more byte pushed new.left
+    first_more more pushed = AreFirstReads-push (events_in t c) bytes so_far.first_reads more byte pushed new.left
 
     pub known_more : (more : List SourcedByte) → more ≡ bytes ++ byte ∷ [] → All (IsKnown (length (events_in t c))) more
     known_more more pushed =
-        rw pushed (All-push (IsKnown (length (events_in t c))) bytes byte kept.known (next_known (part_of t c bytes) bytes byte new))
+        rw pushed (All-push (IsKnown (length (events_in t c))) bytes byte so_far.known (next_known (part_of t c bytes) bytes byte new))
 
-    pub IsKept-push : (more : List SourcedByte) (levels : List Level) (next : Level) → more ≡ bytes ++ byte ∷ [] → levels ≡ earlier ++ now ∷ [] → IsLevel (part_of t c more) next → IsKept t c more levels next
-    IsKept-push more levels next pushed pushed_level is = record {
-      sound = kept.sound;
+    pub HasPrefixStates-push : (more : List SourcedByte) (prefix_states : List PrefixState) (next : PrefixState) → more ≡ bytes ++ byte ∷ [] → prefix_states ≡ earlier ++ now ∷ [] → IsPrefixState (part_of t c more) next → HasPrefixStates t c more prefix_states next
+    HasPrefixStates-push more prefix_states next pushed pushed_state is = record {
+      sound = so_far.sound;
       first_reads = first_more more pushed;
       known = known_more more pushed;
-      candidates = rw (sources_more more pushed) (AreFirstSources-push (part_of t c bytes) byte left_of new.candidate kept.candidates);
-      one_each = rw (pushed, pushed_level, length_push bytes byte, length_push earlier now, kept.one_each);
+      candidates = rw (sources_more more pushed) (AreFirstSources-push (part_of t c bytes) byte left_of new.candidate so_far.candidates);
+      one_each = rw (pushed, pushed_state, length_push bytes byte, length_push earlier now, so_far.one_each);
       at_all = is;
-      at_less = λ k l at_k. elim (place-push earlier now k l (rw pushed_level at at_k)) [
-        | inl old ↦ rw (pushed, take-append-le k bytes (byte ∷ []) (omega (arith, old.0, kept.one_each))) (kept.at_less k l old.1)
-        | inr last ↦ rw (← last.1, pushed, take_at bytes (byte ∷ []) k (omega (arith, last.0, kept.one_each))) kept.at_all
+      at_less = λ k l at_k. elim (place-push earlier now k l (rw pushed_state at at_k)) [
+        | inl old ↦ rw (pushed, take-append-le k bytes (byte ∷ []) (omega (arith, old.0, so_far.one_each))) (so_far.at_less k l old.1)
+        | inr last ↦ rw (← last.1, pushed, take_at bytes (byte ∷ []) k (omega (arith, last.0, so_far.one_each))) so_far.at_all
       ];
     }
 
   -- with one byte less
-  pub IsKept-pop : (n : ℕ) (d : Level) (less : List SourcedByte) (levels : List Level) → IsKept t c bytes earlier now → n + 1 ≡ length bytes → less ≡ take n bytes → levels ≡ take n earlier → IsKept t c less levels (get_or earlier n d)
-  IsKept-pop n d less levels kept count is_less is_levels =
-      let one_each : length earlier ≡ length bytes = kept.one_each in
-      let lower : length levels ≡ n = ap length is_levels ∙ length-take-le n earlier (omega arith) in
+  pub HasPrefixStates-pop : (n : ℕ) (d : PrefixState) (less : List SourcedByte) (prefix_states : List PrefixState) → HasPrefixStates t c bytes earlier now → n + 1 ≡ length bytes → less ≡ take n bytes → prefix_states ≡ take n earlier → HasPrefixStates t c less prefix_states (get_or earlier n d)
+  HasPrefixStates-pop n d less prefix_states so_far count is_less are_prefix_states =
+      let one_each : length earlier ≡ length bytes = so_far.one_each in
+      let lower : length prefix_states ≡ n = ap length are_prefix_states ∙ length-take-le n earlier (omega arith) in
       record {
-        sound = kept.sound;
-        first_reads = rw is_less (AreFirstReads-take (events_in t c) bytes kept.first_reads n (omega arith));
-        known = rw is_less (All-take (IsKnown (length (events_in t c))) n bytes kept.known);
+        sound = so_far.sound;
+        first_reads = rw is_less (AreFirstReads-take (events_in t c) bytes so_far.first_reads n (omega arith));
+        known = rw is_less (All-take (IsKnown (length (events_in t c))) n bytes so_far.known);
         candidates = λ i r b w at_read at_source.
-            kept.candidates i r b w at_read (take_from n (sources_of bytes) i w (rw (is_less, ← take-map (λ (b : SourcedByte). b.source) n bytes) at at_source));
+            so_far.candidates i r b w at_read (take_from n (sources_of bytes) i w (rw (is_less, ← take-map (λ (b : SourcedByte). b.source) n bytes) at at_source));
         one_each = rw (is_less, length-take-le n bytes (omega arith)) lower;
-        at_all = rw is_less (kept.at_less n (get_or earlier n d) (slice_get-get_or earlier n d (omega arith)));
+        at_all = rw is_less (so_far.at_less n (get_or earlier n d) (slice_get-get_or earlier n d (omega arith)));
         at_less = λ k l at_k.
-            let within = slice_get_within levels k l at_k in
-            rw (is_less, take-take k n bytes (omega arith)) (kept.at_less k l (take_from n earlier k l (rw is_levels at at_k)));
+            let within = slice_get_within prefix_states k l at_k in
+            rw (is_less, take-take k n bytes (omega arith)) (so_far.at_less k l (take_from n earlier k l (rw are_prefix_states at at_k)));
       }

@@ -1,4 +1,4 @@
--- Tests that are false of the sources given.
+-- Guards that are false of the sources given.
 use Rattle.std.proofs.Common.{◌≡◌, ◌≢◌, ◌↔◌, ℕ, ◌+◌, ◌<◌, ◌≤◌, Option, Some, None, List, length, map, refl, sym, ap, ◌∙◌, arith, inl, inr}
 use Rattle.std.proofs.lemmas.Bool.{cases_lt}
 use Rattle.std.proofs.lemmas.List.{length-map}
@@ -34,7 +34,7 @@ given_whole-iff events reads bytes read are =
           omega arith),
     )
 
--- a test asks about an event
+-- a guard asks about an event
 pub asked_known : (t : Litmus) (c r v : ℕ) → ((agent : ℕ) → agent < length t.agents → IsWalkIn t c agent (walk_in t c agent)) → HasFalseGuardOn t c (Some r) v → r < length (events_in t c)
 asked_known t c r v walks f = by f.test.on refl f.asks
   where

@@ -11,7 +11,7 @@ pub WithPair-within : (before other : ℕ → ℕ → Type 0) (a d : ℕ) → Is
     → (x y : ℕ) → WithPair before a d x y → other x y
 WithPair-within before other a d through has pair x y h = grind (arith, through, has)
 
--- one more event leads to the set, or passes
+-- one more event leads to the set, or is skipped
 module _ (init cur : ℕ → ℕ → Type 0) (a first : ℕ) (set : ℕ → Type 0) (so_far : (x y : ℕ) → cur x y ↔ (init x y ⊎ ((x < first) × (init x a ⊎ (x ≡ a)) × set y))) where
   pub led_more : (new : ℕ → ℕ → Type 0) → (cur first a ⊎ (first ≡ a)) → ((x y : ℕ) → new x y ↔ (cur x y ⊎ ((x ≡ first) × set y)))
       → (x y : ℕ) → new x y ↔ (init x y ⊎ ((x < first + 1) × (init x a ⊎ (x ≡ a)) × set y))
@@ -20,7 +20,7 @@ module _ (init cur : ℕ → ℕ → Type 0) (a first : ℕ) (set : ℕ → Type
   pub led_skip : ((cur first a ⊎ (first ≡ a)) → ⊥) → (x y : ℕ) → cur x y ↔ (init x y ⊎ ((x < first + 1) × (init x a ⊎ (x ≡ a)) × set y))
   led_skip not_here x y = grind (arith, so_far)
 
--- one more event leads to this one, or passes
+-- one more event leads to this one, or is skipped
 module _ (init cur : ℕ → ℕ → Type 0) (i w : ℕ) (Leads : ℕ → ℕ → Type 0) (so_far : (e v : ℕ) → cur e v ↔ (init e v ⊎ ((e < i) × (v ≡ w) × Leads e v))) where
   pub put_led_more : (new : ℕ → ℕ → Type 0) → ((e v : ℕ) → new e v ↔ (cur e v ⊎ ((e ≡ i) × (v ≡ w)))) → Leads i w
       → (e v : ℕ) → new e v ↔ (init e v ⊎ ((e < i + 1) × (v ≡ w) × Leads e v))
@@ -29,7 +29,7 @@ module _ (init cur : ℕ → ℕ → Type 0) (i w : ℕ) (Leads : ℕ → ℕ �
   pub put_led_skip : ¬ Leads i w → (e v : ℕ) → cur e v ↔ (init e v ⊎ ((e < i + 1) × (v ≡ w) × Leads e v))
   put_led_skip not_here e v = grind (arith, so_far)
 
--- one more event is turned round
+-- the converse gets the pairs of one more event
 pub converse_more : (rows cur new : ℕ → ℕ → Type 0) (event : ℕ) (successors single : ℕ → Type 0) → ((d : ℕ) → successors d ↔ rows event d)
     → ((e : ℕ) → single e ↔ (e ≡ event)) → ((a d : ℕ) → cur d a ↔ ((a < event) × rows a d)) → ((d a : ℕ) → new d a ↔ (cur d a ⊎ (successors d × single a)))
     → (a d : ℕ) → new d a ↔ ((a < event + 1) × rows a d)

@@ -54,7 +54,7 @@ abbrev pub AreEmpty : List EventSet → Type 0
 AreEmpty [] = Unit {0}
 AreEmpty (s ∷ ss) = (s.bits ≡ 0) × AreEmpty ss
 
--- so many empty sets
+-- n empty sets
 pub AreEmpty-replicate : (n : ℕ) (s : EventSet) → s.bits ≡ 0 → AreEmpty (replicate n s)
 AreEmpty-replicate zero s none = tt
 AreEmpty-replicate (suc n) s none = (none, AreEmpty-replicate n s none)

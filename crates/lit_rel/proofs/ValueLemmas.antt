@@ -77,7 +77,7 @@ module _ (events : List Event) (r : ℕ) (bytes : List SourcedByte) (place : ℕ
           let power : 256 ^ suc (length rest) ≡ 256 * 256 ^ length rest = omega arith in
           record { is = omega arith; below = omega arith }
 
--- a front has no more bytes that pass than the whole
+-- a front has no more bytes of the read than the whole
 length-filter_drop : {X : Type 0} (test : X → Bool) (k : ℕ) (xs : List X) → length (filter test (drop k xs)) ≤ length (filter test xs)
 length-filter_drop test zero xs = omega arith
 length-filter_drop test (suc k) [] = omega arith

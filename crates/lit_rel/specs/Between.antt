@@ -1,16 +1,16 @@
--- Triples of events as sets for pairs (this project's own).
+-- Forbidden triples of events, stored as a set for each pair of a source and its read (this project's own).
 use Rattle.std.specs.Prelude.{◌≡◌, ℕ, ◌<◌, List, Some, slice_get}
 use Rattle.std.proofs.Common.{refl}
 use Rattle.std.specs.Coded.{Coded, code_by, coded×, coded_ℕ, coded_list}
 use Rattle.lit_rel.specs.declared.between.Pair.{Pair}
 use Rattle.lit_rel.specs.EventSet.{HasEvent}
 
--- of how many events it is, and the pairs with what may not stand between them
+-- the number of events, and the pairs, each with the events that may not stand between the two
 pub record BetweenModel : Type 0 where
   pub len : ℕ
   pub pairs : List Pair
 
--- codes, by which a proof tells two of them apart
+-- codes, by which a proof tells two values apart
 abbrev pub coded_pair : Coded Pair
 coded_pair =
     code_by (ℕ × (ℕ × ℕ)) (coded× coded_ℕ (coded× coded_ℕ coded_ℕ)) (λ p. (p.source, (p.read, p.others.bits)))

@@ -45,7 +45,7 @@ abbrev pub number_on : ℕ → Option ℕ → Option ℕ
 number_on first None = None
 number_on first (Some place) = Some (first + place)
 
--- some test of a path of a combination asks about this event, or about a register that was not written, and is false of the value
+-- some guard of a path of a combination asks about this event, or about a register that was not written, and is false of the value
 pub record HasFalseGuardOn (t : Litmus) (c : ℕ) (asked : Option ℕ) (value : ℕ) : Type 0 where
   pub agent : ℕ
   pub known : agent < length t.agents
@@ -55,7 +55,7 @@ pub record HasFalseGuardOn (t : Litmus) (c : ℕ) (asked : Option ℕ) (value : 
   pub asks : number_on (first_event t c agent) test.on ≡ asked
   pub is_false : compares test.equal value test.value ≡ false
 
--- a test is on a register that was not written and false of 0, or on a read all of whose bytes are given and false of
+-- a guard is on a register that was not written and false of 0, or on a read all of whose bytes are given and false of
 -- its value
 abbrev pub HasFalseGuard : PartModel → Type 0
 HasFalseGuard part =

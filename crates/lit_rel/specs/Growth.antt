@@ -1,4 +1,4 @@
--- What becomes of the relations, and of what is asked of reads, when more bytes are given a source (this project's own).
+-- How the relations, coherence and tear freedom change when more bytes are given a source (this project's own).
 use Rattle.std.specs.Prelude.{◌≡◌, ℕ, ◌<◌, Bool, IsTrue, List, ◌++◌, length, Some, slice_get}
 use Rattle.lit_paths.specs.declared.event.Event.{Event}
 use Rattle.lit_paths.specs.ByteReads.{byte_reads}

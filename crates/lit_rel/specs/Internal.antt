@@ -1,6 +1,6 @@
--- Notions of the contracts inside this crate: what a part has, and the steps that no source decides.
+-- Notions of private contracts: given bytes, prefix states, false guards, and the steps that no source decides.
 pub mod Forbidding
 pub mod Given
-pub mod Levels
-pub mod Refused
+pub mod PrefixStates
+pub mod FalseGuards
 pub mod Steps

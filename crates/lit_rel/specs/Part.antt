@@ -21,15 +21,15 @@ coded_part =
     code_by (Litmus × (ℕ × List ℕ)) (coded× coded_litmus (coded× coded_ℕ (coded_list coded_ℕ))) (λ p. (p.test, (p.combination, p.sources)))
     (λ x. record { test = x.0; combination = x.1.0; sources = x.1.1 }) (λ _. refl)
 
--- all events of its combination
+-- all events of the part's combination
 abbrev pub part_events : PartModel → List Event
 part_events part = events_in part.test part.combination
 
--- the same with these sources
+-- the part with these sources in place of its own
 abbrev pub with_sources : PartModel → List ℕ → PartModel
 with_sources part sources = record { test = part.test; combination = part.combination; sources = sources }
 
--- a byte read is left, and w is a candidate of it
+-- some byte read has no source yet, and w is a candidate of the first such one
 pub record IsNextSource (part : PartModel) (w : ℕ) : Type 0 where
   pub read : ℕ
   pub byte : ℕ

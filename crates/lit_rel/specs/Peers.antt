@@ -18,7 +18,7 @@ pub record IsPeer (events : List Event) (e v : ℕ) : Type 0 where
   pub write : IsSeqCstWrite events v
   pub same_range : HasSameRange (event_at events v) (event_at events e)
 
--- all of them
+-- exactly these writes, for each event
 pub record ArePeers (events : List Event) (peers : Rows) : Type 0 where
   pub len : rows_len peers ≡ length events
   pub pairs : (e v : ℕ) → Holds peers e v ↔ IsPeer events e v

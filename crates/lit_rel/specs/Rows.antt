@@ -3,7 +3,7 @@ use Rattle.std.specs.Prelude.{◌≡◌, ◌⊎◌, ℕ, ◌<◌, slice_index_or
 use Rattle.lit_rel.specs.declared.rows.Rows.{Rows}
 use Rattle.lit_rel.specs.EventSet.{HasEvent, no_events}
 
--- on how many events it is
+-- the number of events that the relation is on
 abbrev pub rows_len : Rows → ℕ
 rows_len rows = rows.len
 
@@ -13,11 +13,11 @@ pub record Holds (rows : Rows) (a d : ℕ) : Type 0 where
   pub second_known : d < rows_len rows
   pub marked : HasEvent (slice_index_or rows.sets a no_events) d
 
--- what leads through an event leads on
+-- the relation is transitive
 abbrev pub IsTransitive : (ℕ → ℕ → Type 0) → Type 0
 IsTransitive before = (x y z : ℕ) → before x y → before y z → before x z
 
--- each transitive relation that has the pairs of one and a pair more has those of the other
+-- the second relation is within each transitive relation that has the first one and the pair
 abbrev pub IsLeastWith : (ℕ → ℕ → Type 0) → ℕ → ℕ → (ℕ → ℕ → Type 0) → Type 0
 IsLeastWith before a d closed =
     (other : Rows) → IsTransitive (Holds other) → ((x y : ℕ) → before x y → Holds other x y) → Holds other a d → (x y : ℕ) → closed x y

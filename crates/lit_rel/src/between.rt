@@ -1,4 +1,4 @@
-//! What is forbidden between a source and its read.
+//! Forbidden triples: which events may not stand between a source and its read.
 
 ghost use Rattle.std.specs.Prelude.{◌≡◌, ◌⊎◌, ◌↔◌, ℕ, ◌+◌, ◌<◌, ◌≤◌, [], Some, IsTrue, MatchOption, length, slice_get};
 ghost use Rattle.lit_paths.specs.declared.limits.TheConstants.{BYTE_READ_LIMIT, EVENT_LIMIT};
@@ -10,7 +10,7 @@ use arrayvec::ArrayVec;
 use lit_paths::{BYTE_READ_LIMIT, EVENT_LIMIT};
 use std::marker::Model;
 
-/// A source, a read of it, and what may not stand between them.
+/// A source, a read of it, and the events that may not stand between them.
 #[derive(Clone, Copy, Debug, Default, PartialEq, Eq)]
 pub struct Pair {
     /// The number of the source.
@@ -60,7 +60,7 @@ fn place_of(pairs: &[Pair], source: usize, read: usize) -> Option<usize>
 impl Between {
     ghost use Rattle.lit_rel.specs.Between.{ArePairsOf, Forbids};
 
-    /// Nothing forbidden, between so many events, at most `EVENT_LIMIT`.
+    /// No forbidden triple, on `len` events, at most `EVENT_LIMIT`.
     pub fn new(len: usize) -> Self
         requires { len ≤ EVENT_LIMIT }
         ensures { result ≡ record { len = len; pairs = [] } }
@@ -88,7 +88,7 @@ impl Between {
         self.len
     }
 
-    /// The pairs, each source and read once, both numbers below `len()`. Between others nothing is forbidden.
+    /// The pairs, each source and read once, both numbers below `len()`. Between all others nothing is forbidden.
     pub fn pairs(&self) -> &[Pair]
         ensures value { result.now ≡ self.now.pairs }
         ensures once { ArePairsOf self.now.len self.now.pairs }
@@ -97,8 +97,8 @@ impl Between {
         self.pairs.as_slice()
     }
 
-    /// Forbids these events, those below `len()`, after w and before r, both numbers below `len()`, beside those that
-    /// are forbidden there. There is room for `BYTE_READ_LIMIT` pairs.
+    /// Forbids further events to stand after w and before r, both numbers below `len()`: those of a set that are below
+    /// `len()`. There is room for `BYTE_READ_LIMIT` pairs.
     pub fn forbid(&mut self, w: u8, r: u8, others: EventSet)
         requires source { w < self.old.len }
         requires read { r < self.old.len }

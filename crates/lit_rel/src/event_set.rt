@@ -40,7 +40,7 @@ impl EventSet {
         (self.bits >> event) & 1 == 1
     }
 
-    /// The set with an event put in.
+    /// The set with an event added.
     pub fn with(self, event: usize) -> Self
         requires { event < EVENT_LIMIT }
         ensures { (e : ℕ) → HasEvent result e ↔ (HasEvent self e ⊎ (e ≡ event)) }

@@ -1,9 +1,9 @@
 //! A combination of paths, with sources for its first byte reads.
 
+pub(crate) mod false_guards;
 pub(crate) mod fixed_steps;
 pub(crate) mod guarded_bytes;
-pub(crate) mod level;
-pub(crate) mod refused;
+pub(crate) mod prefix_state;
 
 ghost use Rattle.std.specs.Prelude.{◌≡◌, ◌↔◌, ℕ, ◌-◌, ◌<◌, ◌≤◌, IsTrue, [], ◌∷◌, ◌++◌, length, take};
 ghost use Rattle.lit_paths.specs.ByteReads.{byte_reads};
@@ -26,7 +26,7 @@ use crate::given::peers::peers_of;
 use crate::given::relations::order_with;
 use crate::given::{Given, SourcedByte, SourcedBytes};
 use crate::part::fixed_steps::unsourced_order;
-use crate::part::level::Level;
+use crate::part::prefix_state::PrefixState;
 use crate::rows::Rows;
 use arrayvec::ArrayVec;
 use lit_paths::{BYTE_READ_LIMIT, Combination, Plan};
@@ -39,16 +39,17 @@ pub struct Part<'p> {
     combination: Combination<'p>,
     /// The byte reads that have a source.
     bytes: SourcedBytes,
-    /// What was known with each lesser number of sources, from none on.
-    earlier: ArrayVec<Level, BYTE_READ_LIMIT>,
-    /// What is known with all of them.
-    level: Level,
+    /// The state of each shorter prefix of the sources, from the empty one on: saved, so that `pop` computes nothing again
+    /// (decision 15).
+    earlier: ArrayVec<PrefixState, BYTE_READ_LIMIT>,
+    /// The state of all given sources.
+    prefix_state: PrefixState,
 }
 
 impl<'p> Model for Part<'p> {
     ghost use Rattle.lit_rel.specs.Part.{PartModel, coded_part};
     ghost use Rattle.lit_rel.specs.Internal.Given.{part_of};
-    ghost use Rattle.lit_rel.specs.Internal.Levels.{IsKept};
+    ghost use Rattle.lit_rel.specs.Internal.PrefixStates.{HasPrefixStates};
 
     ghost Value = { PartModel };
 
@@ -56,7 +57,7 @@ impl<'p> Model for Part<'p> {
 
     ghost view = { λ p. part_of p.combination.0 p.combination.1 p.bytes.items };
 
-    ghost invariant = { λ p. IsKept p.combination.0 p.combination.1 p.bytes.items p.earlier.items p.level };
+    ghost invariant = { λ p. HasPrefixStates p.combination.0 p.combination.1 p.bytes.items p.earlier.items p.prefix_state };
 }
 
 impl<'p> Part<'p> {
@@ -72,12 +73,12 @@ impl<'p> Part<'p> {
         let combination = plan.enter(combination);
         let bytes = SourcedBytes::new();
         let before = unsourced_order(combination.events());
-        let level = Level::new(&combination, bytes.as_slice(), before);
+        let prefix_state = PrefixState::new(&combination, bytes.as_slice(), before);
         Part {
             combination,
             bytes,
             earlier: ArrayVec::new(),
-            level,
+            prefix_state,
         }
     }
 
@@ -88,7 +89,7 @@ impl<'p> Part<'p> {
         &self.combination
     }
 
-    /// Gives the next byte read its source, by event number: a candidate of it. A byte read is left.
+    /// Gives the next byte read its source, by event number: a candidate of it. Some byte read has no source yet.
     pub fn push(&mut self, source: u8)
         requires { IsNextSource self.old source }
         ensures { self.new ≡ with_sources self.old (self.old.sources ++ source ∷ []) }
@@ -99,10 +100,10 @@ impl<'p> Part<'p> {
             byte: next.byte,
             source,
         };
-        let before = order_with(self.combination.events(), byte, &self.level.before);
+        let before = order_with(self.combination.events(), byte, &self.prefix_state.before);
         self.bytes.push(byte);
-        self.earlier.push(self.level);
-        self.level = Level::new(&self.combination, self.bytes.as_slice(), before);
+        self.earlier.push(self.prefix_state);
+        self.prefix_state = PrefixState::new(&self.combination, self.bytes.as_slice(), before);
     }
 
     /// Takes the last source back. There is one.
@@ -110,18 +111,18 @@ impl<'p> Part<'p> {
         requires { 0 < length self.old.sources }
         ensures { self.new ≡ with_sources self.old (take (length self.old.sources - 1) self.old.sources) }
     {
-        self.level = self.earlier[self.bytes.len() - 1];
+        self.prefix_state = self.earlier[self.bytes.len() - 1];
         self.earlier.pop();
         self.bytes.pop();
     }
 
     /// Whether no complete choice that begins with its paths and sources belongs to a valid execution, as far as these
-    /// show: some event happens before itself, a byte is not coherent, two bytes tear their read, or a test of a path
+    /// show: some event happens before itself, a byte is not coherent, two bytes tear their read, or a guard of a path
     /// is false, of 0 in a register that was not written or of a read all of whose bytes have a source.
     pub fn broken(&self) -> bool
         ensures { IsTrue result ↔ IsBroken self.now }
     {
-        self.level.broken
+        self.prefix_state.broken
     }
 
     /// How many sources are given. Each is a candidate of its byte read, so where each byte read has one they are sources of them all.
@@ -174,14 +175,14 @@ impl<'p> Part<'p> {
         ensures len { rows_len result ≡ length (part_events self.now) }
         ensures pairs { (e d : ℕ) → Holds result e d ↔ HappensBefore (part_events self.now) self.now.sources e d }
     {
-        self.level.before.rows
+        self.prefix_state.before.rows
     }
 
     /// Whether the reads are coherent (29.7.2), as far as sources are given.
     pub fn coherent(&self) -> bool
         ensures { IsTrue result ↔ HasCoherentReads (part_events self.now) self.now.sources }
     {
-        !self.given().has_incoherent_byte(&self.level.before)
+        !self.given().has_incoherent_byte(&self.prefix_state.before)
     }
 
     /// Whether the reads are tear free (29.7.3), as far as sources are given.
@@ -197,14 +198,14 @@ impl<'p> Part<'p> {
         ensures triples { (w r v : ℕ) → Forbids result w r v ↔ IsForbidden (part_events self.now) self.now.sources w r v }
     {
         let given = self.given();
-        given.between(&self.level.before, &peers_of(given.events))
+        given.between(&self.prefix_state.before, &peers_of(given.events))
     }
 
     /// Whether two events are in a data race (29.9), by the sources given.
     pub fn race(&self) -> bool
         ensures { IsTrue result ↔ HasDataRace (part_events self.now) self.now.sources }
     {
-        self.given().has_data_race(&self.level.before.rows)
+        self.given().has_data_race(&self.prefix_state.before.rows)
     }
 
     /// The value of a read (29.5.4 and 29.5.5), by its event number, from the bytes that have a source.

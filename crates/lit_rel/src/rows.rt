@@ -14,7 +14,7 @@ use lit_paths::EVENT_LIMIT;
 #[derive(Clone, Copy)]
 pub struct Rows {
     len: usize,
-    /// For each event the set of those that it leads to.
+    /// For each event the set of the events that it leads to.
     sets: [EventSet; EVENT_LIMIT],
     ghost in_limit: { len ≤ EVENT_LIMIT },
     ghost within: { AreWithin len sets },
@@ -24,7 +24,7 @@ impl Rows {
     ghost use Rattle.lit_rel.specs.EventSet.{HasEvent};
     ghost use Rattle.lit_rel.specs.Rows.{Holds, IsLeastWith, IsTransitive, WithPair, rows_len};
 
-    /// The empty relation on so many events, at most `EVENT_LIMIT`.
+    /// The empty relation on `len` events, at most `EVENT_LIMIT`.
     pub fn new(len: usize) -> Self
         requires { len ≤ EVENT_LIMIT }
         ensures len { rows_len result ≡ len }
@@ -70,7 +70,7 @@ impl Rows {
         self.sets[a] = self.sets[a].union(set);
     }
 
-    /// Puts a pair in, both numbers below `len()`.
+    /// Adds a pair, both numbers below `len()`.
     pub fn put(&mut self, a: usize, d: usize)
         requires first { a < rows_len self.old }
         requires second { d < rows_len self.old }
@@ -111,8 +111,8 @@ impl Rows {
         }
     }
 
-    /// Puts a pair in, both numbers below `len()`, and with it what it leads through: from a, and from all that lead to a, to d, and to
-    /// all that d leads to. A transitive relation becomes the least transitive one that has it and the pair.
+    /// Adds a pair, both numbers below `len()`, and closes over it: adds the pairs from a, and from each event that leads to a, to d, and
+    /// to each event that d leads to. A transitive relation becomes the least transitive one that has it and the pair.
     pub fn close_with(&mut self, a: usize, d: usize)
         requires first { a < rows_len self.old }
         requires second { d < rows_len self.old }

@@ -66,7 +66,7 @@ fn has_order<F: OrderFinder>(finder: &F, part: &Part<'_>, wanted: &[u8]) -> bool
     }
 }
 
-/// With the sources of choices 3 and 8 both agents read what their paths ask for, with those of 2 and 6 A alone does. No
+/// With the sources of choices 3 and 8 the guards of both agents are true, with those of 2 and 6 those of A alone. No
 /// access is atomic, so the events by number are an order of each choice.
 #[test]
 fn load_buffering_parts_and_orders(rt: HostRuntime) -> Result<(), Fail> {

@@ -1,4 +1,4 @@
-//! `lit_order`: orders that keep pairs and triples, or that there is none.
+//! `lit_order`: orders that respect pairs and avoid triples, and cases without any order.
 
 ghost use Rattle.std.specs.Prelude.{◌≡◌};
 ghost use Rattle.lit_rel.specs.Rows.{rows_len};
@@ -7,7 +7,7 @@ use lit_order::{Forced, ForcedFinder, OrderFinder, PlainFinder, forced_precedenc
 use lit_rel::{Between, EventSet, Rows};
 use std::process::Abort;
 
-/// The finder's order is this one, or none is there.
+/// Asserts that the finder's order is this one, or that there is none.
 fn assert_order<F: OrderFinder>(
     rt: &impl Abort,
     finder: &F,
@@ -105,7 +105,7 @@ fn store_buffering_of_init_has_no_order(rt: HostRuntime) {
     assert_order(&rt, &PlainFinder, &before, &between, None);
 }
 
-/// Whether an order keeps what is given.
+/// Asserts whether some order satisfies the precedences and avoids the triples given.
 fn assert_extendable(rt: &impl Abort, forced: Option<Forced<'_>>, wanted: bool) {
     match forced {
         Some(forced) => assert!(rt; forced.extendable() == wanted),

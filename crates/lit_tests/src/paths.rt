@@ -5,8 +5,8 @@ use lit_read::read;
 use lit_texts::STORE_BUFFERING;
 use std::test::Fail;
 
-mod asked;
 mod choices;
+mod guards;
 mod makers;
 mod numbers;
 mod refusals;

@@ -11,7 +11,7 @@ mod language;
 mod line_numbers;
 mod long_canonical;
 
-/// That a text is refused with this kind at this line.
+/// Asserts that a text is refused with this kind at this line.
 fn refused(rt: &(impl Abort + AllocGlobal), text: &[u8], kind: ReadKind, line: usize) {
     match read(rt.alloc(), text) {
         Ok(_) => panic!(rt; "the text was taken"),
@@ -30,7 +30,7 @@ fn framed(alloc: Global, fourth: &[u8]) -> Result<Vec<u8>, Fail> {
     Ok(text)
 }
 
-/// That the small text with this fourth line is refused there.
+/// Asserts that the small text with this fourth line is refused there.
 fn refused_fourth(
     rt: &(impl Abort + AllocGlobal),
     fourth: &[u8],
@@ -87,7 +87,7 @@ fn store_buffering(rt: HostRuntime) {
     }
 }
 
-/// That a statement is this load of a `Uint8Array`.
+/// Asserts that a statement is this load of a `Uint8Array`.
 fn is_load(rt: &impl Abort, stmt: &Stmt, in_reg: u8, at: u8, is_atomic: bool) {
     match stmt {
         Stmt::Load {
@@ -105,7 +105,7 @@ fn is_load(rt: &impl Abort, stmt: &Stmt, in_reg: u8, at: u8, is_atomic: bool) {
     }
 }
 
-/// That a statement is this store to a `Uint8Array`.
+/// Asserts that a statement is this store to a `Uint8Array`.
 fn is_store(rt: &impl Abort, stmt: &Stmt, at: u8, of: u32, is_atomic: bool) {
     match stmt {
         Stmt::Store {
@@ -285,7 +285,7 @@ fn misplaced_forms(rt: HostRuntime) {
     );
 }
 
-/// A text with a block of so many bytes, of which the last is loaded.
+/// A text with a block of `bytes` bytes, of which the last is loaded.
 fn with_block(alloc: Global, bytes: usize) -> Result<Vec<u8>, Fail> {
     let last = bytes.saturating_sub(1);
     let text = format!(in alloc;
@@ -306,7 +306,7 @@ fn sizes_of_blocks(rt: HostRuntime) -> Result<(), Fail> {
     Ok(())
 }
 
-/// The beginning of a text with the agents `A0`, `A1` and so on, so many.
+/// The beginning of a text with this number of agents: `A0`, `A1` and so on.
 fn with_agents(alloc: Global, agents: usize) -> Result<Vec<u8>, Fail> {
     let mut text = Vec::from_slice(alloc, b"test t\nbytes 1\n")?;
     for agent in 0..agents {

@@ -1,4 +1,4 @@
--- What is kept of the paths of a test's agents.
+-- The invariant of the saved paths of a test's agents.
 use Rattle.std.specs.Prelude.{◌≡◌, map}
 use Rattle.lit_paths.specs.declared.planning.agent_paths.AgentPaths.TheInside.{Inside}
 use Rattle.lit_paths.specs.Internal.Walks.{IsInLimits}

@@ -1,10 +1,10 @@
--- Going through statements again by what a path asks, one test for each decision in order.
+-- The makers of a path's events, computed from its guards: one for each decision, in order.
 use Rattle.std.specs.Prelude.{ℕ, ◌+◌, Bool, true, false, not, if◌then◌else◌, List, [], ◌∷◌, ◌++◌}
 use Rattle.lit_read.specs.Syntax.{Statement, Statements, Load, Store, Exchange, CompareExchange, If, End, Then}
 use Rattle.lit_read.specs.StatementOrder.{count_with_parts, statement_count}
 use Rattle.lit_paths.specs.declared.path.Tested.{Tested}
 
--- whether the next test is that the value equals, and the tests after it
+-- whether the first guard asks that the value equals the number, and the guards after it
 abbrev pub asks_equal : List Tested → Bool
 asks_equal [] = false
 asks_equal (test ∷ tests) = test.equal
@@ -13,12 +13,12 @@ abbrev pub guards_behind : List Tested → List Tested
 guards_behind [] = []
 guards_behind (test ∷ tests) = tests
 
--- whether the comparison of an `if` holds where its value is to equal the number, or to differ from it
+-- whether the comparison of an `if` holds where its guard asks that the value equals the number, or that it differs
 abbrev pub holds_where : (equal asked : Bool) → Bool
 holds_where true asked = asked
 holds_where false asked = not asked
 
--- the numbers of the statements that make the events on the way, and the tests that are left
+-- the numbers of the statements that make the events on the way, and the guards after those of these statements
 abbrev mutual
   pub statement_makers : ℕ → Statement → List Tested → List ℕ × List Tested
   statement_makers n (Load reg window index atomic) tests = (n ∷ [], tests)

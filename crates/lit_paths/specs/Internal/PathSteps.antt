@@ -1,4 +1,4 @@
--- A path as it is walked, one step more at a time.
+-- A path as it is built, one step after another.
 use Rattle.std.specs.Prelude.{ℕ, Some, None, List, [], ◌∷◌, ◌++◌, length, replicate, slice_set, slice_index_or}
 use Rattle.lit_read.specs.declared.limits.TheConstants.{REGISTERS}
 use Rattle.lit_paths.specs.declared.event.Event.{Event}
@@ -11,20 +11,20 @@ use Rattle.lit_paths.specs.PathModel.{PathModel, asked}
 abbrev pub empty_path : PathModel
 empty_path = record { events = []; tests = []; last = replicate REGISTERS None }
 
--- an access more
+-- one more access
 abbrev pub with_access : PathModel → Event → PathModel
 with_access path e = record { events = path.events ++ e ∷ []; tests = path.tests; last = path.last }
 
--- an access more, whose value goes into a register
+-- one more access, whose value goes into a register
 abbrev pub with_read : PathModel → ℕ → Event → PathModel
 with_read path reg e =
     record { events = path.events ++ e ∷ []; tests = path.tests; last = slice_set path.last reg (Some (length path.events)) }
 
--- a test more
+-- one more guard
 abbrev pub with_guard : PathModel → Tested → PathModel
 with_guard path test = record { events = path.events; tests = path.tests ++ test ∷ []; last = path.last }
 
--- a step more
+-- one more step
 abbrev pub with_step : ℕ → PathModel → Step → PathModel
 with_step owner path (LoadMet reg window index atomic) = with_read path reg (read_event owner (length path.events) window index atomic)
 with_step owner path (StoreMet window index value atomic) =

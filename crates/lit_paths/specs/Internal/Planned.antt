@@ -1,4 +1,4 @@
--- What a plan keeps of a test.
+-- The invariant of a plan.
 use Rattle.std.specs.Prelude.{◌≡◌, ◌≤◌, length}
 use Rattle.lit_paths.specs.declared.limits.TheConstants.{CHOICE_LIMIT}
 use Rattle.lit_paths.specs.declared.planning.Plan.TheInside.{Inside}

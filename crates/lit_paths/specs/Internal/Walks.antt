@@ -1,4 +1,4 @@
--- How many accesses a walk has at the most, and how far is counted.
+-- The number of walks, the length of the longest walk, and the limits at which counting stops.
 use Rattle.std.specs.Prelude.{ℕ, ◌+◌, ◌≤◌, ◌*◌, max, IsTrue, length, List, [], ◌∷◌, slice_index_or}
 use Rattle.lit_read.specs.declared.limits.TheConstants.{BLOCK_LIMIT}
 use Rattle.lit_read.specs.Syntax.{Window, is_in_block, IsStatementIn, AreStatementsIn, Litmus, IsLitmus, Agent}

@@ -9,7 +9,8 @@ ghost use Rattle.lit_paths.specs.Internal.Walks.{longest, statement_longest, man
 use crate::limits::{ACCESS_LIMIT, COMBINATION_LIMIT};
 use lit_read::Stmt;
 
-/// How many walks lead through statements, as far as one more than there may be combinations.
+/// How many walks lead through statements, capped at one more than there may be combinations: a count of all could wrap
+/// (decision 10).
 #[cycle(walk_counts)]
 pub(crate) fn walk_count(body: &[Stmt]) -> usize
     ensures { result ≡ min (length (walks_of (statements_of body.now))) many_walks }
@@ -21,7 +22,7 @@ pub(crate) fn walk_count(body: &[Stmt]) -> usize
     count
 }
 
-/// How many walks lead through a statement, as far.
+/// How many walks lead through a statement, capped likewise.
 #[cycle(walk_counts)]
 pub(crate) fn statement_walk_count(statement: &Stmt) -> usize
     ensures { result ≡ min (length (statement_walks (statement_of statement.now))) many_walks }
@@ -35,7 +36,7 @@ pub(crate) fn statement_walk_count(statement: &Stmt) -> usize
     }
 }
 
-/// How many accesses the longest walk through statements has, as far as one more than there may be.
+/// How many accesses the longest walk through statements has, capped at one more than there may be.
 #[cycle(longest_walks)]
 pub(crate) fn longest_walk(body: &[Stmt]) -> usize
     ensures { result ≡ min (longest (statements_of body.now)) many_accesses }
@@ -47,7 +48,7 @@ pub(crate) fn longest_walk(body: &[Stmt]) -> usize
     count
 }
 
-/// How many accesses the longest walk through a statement has, as far.
+/// How many accesses the longest walk through a statement has, capped likewise.
 #[cycle(longest_walks)]
 fn longest_statement_walk(statement: &Stmt) -> usize
     ensures { result ≡ min (statement_longest (statement_of statement.now)) many_accesses }

@@ -17,7 +17,7 @@ use lit_read::{Stmt, count_with_parts, statement_count};
 /// else-part.
 pub type Makers = ArrayVec<usize, ACCESS_LIMIT>;
 
-/// Whether the next test is that the value equals the number; false where no test is left.
+/// Whether the first guard asks that the value equals the number; false where there is no guard.
 fn asks_equal(tests: &[Tested]) -> bool
     ensures { result ≡ asks_equal tests.now }
 {
@@ -27,7 +27,7 @@ fn asks_equal(tests: &[Tested]) -> bool
     }
 }
 
-/// The tests after the next one.
+/// The guards after the first one.
 fn guards_behind(tests: &[Tested]) -> &[Tested]
     ensures { result.now ≡ guards_behind tests.now }
 {
@@ -37,16 +37,16 @@ fn guards_behind(tests: &[Tested]) -> &[Tested]
     }
 }
 
-/// Whether the comparison of an `if` holds where its value is to equal the number, or to differ from it.
+/// Whether the comparison of an `if` holds where its guard asks that the value equals the number, or that it differs.
 fn holds_where(equal: bool, asked: bool) -> bool
     ensures { result ≡ holds_where equal asked }
 {
     if equal { asked } else { !asked }
 }
 
-/// Adds the makers of the events on the way through statements, the first of which has number `first`, and leads to the
-/// tests that are left.
-#[cycle(making)]
+/// Adds the makers of the events on the way through statements, the first of which has number `first`, by the guards of a
+/// path, and returns the guards after those of these statements.
+#[cycle(finding)]
 pub(crate) fn find_makers<'t>(
     makers: &mut Makers,
     first: usize,
@@ -67,8 +67,9 @@ pub(crate) fn find_makers<'t>(
     left
 }
 
-/// Adds the makers of the events on the way through the statement with a number, and leads to the tests that are left.
-#[cycle(making)]
+/// Adds the makers of the events on the way through the statement with a number, by the guards of a path, and returns the
+/// guards after those of this statement.
+#[cycle(finding)]
 fn find_makers_at<'t>(
     makers: &mut Makers,
     number: usize,

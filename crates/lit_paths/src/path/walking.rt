@@ -72,6 +72,7 @@ fn compare_exchange(
         (CompareExchangeMet reg (window_of access.view) access.index expected value succeeds)) }
 {
     let place = next_place(path);
+    // A compareExchange that fails only reads.
     let met = if succeeds {
         event_of(access, place, Kind::Modify, true, value)
     } else {
@@ -81,7 +82,7 @@ fn compare_exchange(
     path.add_guard(Some(place), succeeds, expected)
 }
 
-/// Walks on through statements, by the walk with this number, from 0.
+/// Extends a path through statements, by the walk with this number, from 0.
 #[cycle(walks)]
 pub(crate) fn walk(
     path: &mut Path,
@@ -106,7 +107,7 @@ pub(crate) fn walk(
     Ok(())
 }
 
-/// Walks on through a statement, by the walk with this number.
+/// Extends a path through a statement, by the walk with this number.
 #[cycle(walks)]
 fn meet(path: &mut Path, owner: u8, statement: &Stmt, number: usize) -> Result<(), AllocError>
     requires said { IsSaid (statement_of statement.now) }
@@ -171,6 +172,7 @@ fn meet(path: &mut Path, owner: u8, statement: &Stmt, number: usize) -> Result<(
                 view: *view,
                 index: *index,
             };
+            // Walks are numbered by rising decisions, and success is decision 0.
             compare_exchange(path, access, *reg, *expected, *value, number == 0)
         }
         Stmt::If {
@@ -181,6 +183,7 @@ fn meet(path: &mut Path, owner: u8, statement: &Stmt, number: usize) -> Result<(
             other,
         } => {
             let on = path.last(*reg);
+            // The walks through the then-part have the lower numbers.
             let first_else = walk_count(body);
             if number < first_else {
                 path.add_guard(on, *equal, *value)?;

@@ -1,4 +1,4 @@
--- The token at the front of a line, computed. Private contracts alone cite this: `Tokens` says what is meant.
+-- The token at the front of a line, as it is computed. Private contracts alone cite this: `Tokens` has the definition.
 use Rattle.std.specs.Prelude.{ℕ, ◌==◌, ◌&&◌, ◌||◌, nat_lt, if◌then◌else◌, List, [], ◌∷◌, take, drop, Option, Some, None, not}
 use Rattle.std.specs.Option.{option_map}
 use Rattle.std.specs.List.{prefix_len}

@@ -1,4 +1,4 @@
--- The form that tokens spell, computed. Private contracts alone cite this: `Forms` says what is meant.
+-- The form that tokens spell, as it is computed. Private contracts alone cite this: `Forms` has the definition.
 use Rattle.std.specs.Prelude.{ℕ, ◌-◌, ◌==◌, ◌&&◌, nat_lt, nat_le, Bool, true, false, if◌then◌else◌}
 use Rattle.std.specs.Prelude.{List, [], ◌∷◌, Option, Some, None, codes}
 use Rattle.std.specs.Option.{option_map}

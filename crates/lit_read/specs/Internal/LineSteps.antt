@@ -1,4 +1,4 @@
--- What one line more makes of a draft. Private contracts alone cite this: `Spelling` and `Faults` say what is meant.
+-- The step that one more line makes. Private contracts alone cite this: `Spelling` and `Faults` have the definitions.
 use Rattle.std.specs.Prelude.{◌≡◌, ℕ, true, false, List, Result, Err, ◌⊎◌}
 use Rattle.std.specs.List.{list_all}
 use Rattle.lit_read.specs.declared.fault.ReadKind.{ReadKind}

@@ -1,4 +1,4 @@
--- The parts of a condition, one after the other.
+-- The marks of a condition, one after the other: its operators, parentheses and comparisons.
 use Rattle.std.specs.Prelude.{◌≡◌, ℕ, zero, suc, ◌<◌, nat_le, Bool, true, false, List, [], ◌∷◌, ◌++◌, Option, Some, None}
 use Rattle.std.specs.Option.{option_map}
 use Rattle.std.specs.List.{AllByRecursion}
@@ -59,7 +59,7 @@ abbrev pub one_less : ℕ → Option (Bool × ℕ)
 one_less zero = None
 one_less (suc n) = Some (true, n)
 
--- Whether an operand stands behind a mark, and how many parentheses are open there, if the mark can follow.
+-- The state after one more mark, if that can follow: whether an operand stands last, and how many parentheses are open.
 unfoldable pub follow : Bool → ℕ → Mark → Option (Bool × ℕ)
 follow false n Bang = Some (false, n)
 follow false n Opens = Some (false, suc n)

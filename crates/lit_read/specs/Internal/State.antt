@@ -1,4 +1,4 @@
--- What the lines so far say, and what one form more makes of it.
+-- The state of the reader: what the lines read so far say, and the step that each form makes.
 use Rattle.std.specs.Prelude.{◌≢◌, ℕ, ◌+◌, ◌≤◌, ◌<◌, ◌==◌, ◌||◌, nat_lt, nat_le, Bool, true, if◌then◌else◌}
 use Rattle.std.specs.Prelude.{List, [], ◌∷◌, ◌++◌, length, Option, Some, None, Result, Ok, Err, IfSome}
 use Rattle.std.specs.List.{list_any, list_all, AllByRecursion}
@@ -16,7 +16,7 @@ use Rattle.lit_read.specs.Spelling.{written_value}
 use Rattle.lit_read.specs.Internal.Marks.{Mark, Compares}
 
 -- An open `if`: its line, the statements before it, and the then-part once the else line has come.
-pub record Level : Type 0 where
+pub record OpenIf : Type 0 where
   pub reg : ℕ
   pub equal : Bool
   pub value : ℕ
@@ -27,7 +27,7 @@ pub data State : Type 0 where
   Empty : State
   Named : (name : List ℕ) → State
   Sized : (name : List ℕ) → (bytes : ℕ) → State
-  Open : (name : List ℕ) → (bytes : ℕ) → (agents : List Agent) → (agent : List ℕ) → (levels : List Level) → (body : Statements) → State
+  Open : (name : List ℕ) → (bytes : ℕ) → (agents : List Agent) → (agent : List ℕ) → (ifs : List OpenIf) → (body : Statements) → State
   Whole : Litmus → State
 
 -- statements with one more at the end
@@ -37,7 +37,7 @@ followed_by (Then t ts) s = Then t (followed_by ts s)
 
 -- a draft with one statement more in its open part
 abbrev pub with_statement : State → Statement → State
-with_statement (Open name bytes agents agent levels body) s = Open name bytes agents agent levels (followed_by body s)
+with_statement (Open name bytes agents agent ifs body) s = Open name bytes agents agent ifs (followed_by body s)
 with_statement t s = t
 
 -- agents with one more at the end
@@ -80,9 +80,9 @@ agent_step (Open name bytes agents agent [] body) next = next_step name bytes ag
 agent_step _ agent = Err Misplaced
 
 unfoldable pub statement_step : State → Statement → Result State ReadKind
-statement_step (Open name bytes agents agent levels body) s =
+statement_step (Open name bytes agents agent ifs body) s =
     if has_fitting_literals s
-    then (if stays_in_block bytes s then Ok (Open name bytes agents agent levels (followed_by body s)) else Err OutOfBlock)
+    then (if stays_in_block bytes s then Ok (Open name bytes agents agent ifs (followed_by body s)) else Err OutOfBlock)
     else Err LiteralRange
 statement_step _ s = Err Misplaced
 
@@ -94,33 +94,33 @@ checked_statement bytes s =
     else Err LiteralRange
 
 unfoldable pub if_step : State → ℕ → Bool → ℕ → Result State ReadKind
-if_step (Open name bytes agents agent levels body) reg equal value =
+if_step (Open name bytes agents agent ifs body) reg equal value =
     if nat_lt COMPARED_LIMIT value then Err LiteralRange
-    else (if nat_le IF_LIMIT (length levels) then Err TooDeep
+    else (if nat_le IF_LIMIT (length ifs) then Err TooDeep
     else Ok (Open name bytes agents agent
-    (record { reg = reg; equal = equal; value = value; before = body; then_part = None } ∷ levels) End))
+    (record { reg = reg; equal = equal; value = value; before = body; then_part = None } ∷ ifs) End))
 if_step _ reg equal value = Err Misplaced
 
--- the level behind its else line
-abbrev pub else_level : Level → Statements → Level
-else_level l body = record { reg = l.reg; equal = l.equal; value = l.value; before = l.before; then_part = Some body }
+-- the open `if` after its else line
+abbrev pub else_open_if : OpenIf → Statements → OpenIf
+else_open_if l body = record { reg = l.reg; equal = l.equal; value = l.value; before = l.before; then_part = Some body }
 
-abbrev pub else_from : List ℕ → ℕ → List Agent → List ℕ → Level → List Level → Statements → Option Statements → Result State ReadKind
-else_from name bytes agents agent l levels body None = Ok (Open name bytes agents agent (else_level l body ∷ levels) End)
-else_from name bytes agents agent l levels body (Some part) = Err Misplaced
+abbrev pub else_from : List ℕ → ℕ → List Agent → List ℕ → OpenIf → List OpenIf → Statements → Option Statements → Result State ReadKind
+else_from name bytes agents agent l ifs body None = Ok (Open name bytes agents agent (else_open_if l body ∷ ifs) End)
+else_from name bytes agents agent l ifs body (Some part) = Err Misplaced
 
 unfoldable pub else_step : State → Result State ReadKind
-else_step (Open name bytes agents agent (l ∷ levels) body) = else_from name bytes agents agent l levels body l.then_part
+else_step (Open name bytes agents agent (l ∷ ifs) body) = else_from name bytes agents agent l ifs body l.then_part
 else_step _ = Err Misplaced
 
--- the `if` whose part this is the last of
-abbrev pub ended_if : Level → Statements → Option Statements → Statement
+-- the whole `if`, whose last part has these statements
+abbrev pub ended_if : OpenIf → Statements → Option Statements → Statement
 ended_if l body None = If l.reg l.equal l.value body End
 ended_if l body (Some part) = If l.reg l.equal l.value part body
 
 unfoldable pub end_step : State → Result State ReadKind
-end_step (Open name bytes agents agent (l ∷ levels) body) =
-    Ok (Open name bytes agents agent levels (followed_by l.before (ended_if l body l.then_part)))
+end_step (Open name bytes agents agent (l ∷ ifs) body) =
+    Ok (Open name bytes agents agent ifs (followed_by l.before (ended_if l body l.then_part)))
 end_step _ = Err Misplaced
 
 unfoldable pub test_of : List ℕ → ℕ → List Agent → Written → Result Litmus ReadKind
@@ -141,7 +141,7 @@ unfoldable pub check_step : State → Written → Result State ReadKind
 check_step (Open name bytes agents agent [] body) w = whole (test_of name bytes (with_agent agents agent body) w)
 check_step _ w = Err Misplaced
 
--- what the lines so far and one more form say
+-- the state after one more form
 unfoldable pub step : State → Form → Result State ReadKind
 step s Blank = Ok s
 step s (TestLine name) = test_step s name
@@ -158,11 +158,11 @@ abbrev pub AreDistinct : List Agent → Type 0
 AreDistinct [] = Unit {0}
 AreDistinct (a ∷ others) = AllByRecursion (λ b. a.name ≢ b.name) others × AreDistinct others
 
--- what statements inside so many `if`s can be, over a block of so many bytes
+-- what the statements of a part inside `outside` open `if`s can be, over a block of `bytes` bytes
 abbrev pub IsPart : ℕ → ℕ → Statements → Type 0
 IsPart bytes outside body = AreStatementsIn bytes body × (nesting body + outside ≤ IF_LIMIT)
 
--- what agents over a block of so many bytes can be
+-- what agents over a block of `bytes` bytes can be
 pub record AreAgentsIn (bytes : ℕ) (agents : List Agent) : Type 0 where
   pub some_byte : 1 ≤ bytes
   pub block : bytes ≤ BLOCK_LIMIT
@@ -171,23 +171,23 @@ pub record AreAgentsIn (bytes : ℕ) (agents : List Agent) : Type 0 where
   pub distinct : AreDistinct agents
   pub bodies : AllByRecursion (λ a. IsPart bytes 0 a.body) agents
 
-pub record IsLevel (bytes outside : ℕ) (l : Level) : Type 0 where
+pub record IsOpenIf (bytes outside : ℕ) (l : OpenIf) : Type 0 where
   pub room : outside < IF_LIMIT
   pub register : l.reg < REGISTERS
   pub small : l.value ≤ COMPARED_LIMIT
   pub before : IsPart bytes outside l.before
   pub then_part : IfSome l.then_part (λ part. IsPart bytes (outside + 1) part)
 
-abbrev pub AreLevels : ℕ → List Level → Type 0
-AreLevels bytes [] = Unit {0}
-AreLevels bytes (l ∷ levels) = IsLevel bytes (length levels) l × AreLevels bytes levels
+abbrev pub AreOpenIfs : ℕ → List OpenIf → Type 0
+AreOpenIfs bytes [] = Unit {0}
+AreOpenIfs bytes (l ∷ ifs) = IsOpenIf bytes (length ifs) l × AreOpenIfs bytes ifs
 
--- what lines without a fault can say
+-- the invariant of the state: what lines without a fault can say
 unfoldable pub IsState : State → Type 0
 IsState (Named name) = IsWord name
 IsState (Sized name bytes) = IsWord name × (1 ≤ bytes) × (bytes ≤ BLOCK_LIMIT)
-IsState (Open name bytes agents agent levels body) =
-    IsWord name × AreAgentsIn bytes (with_agent agents agent End) × AreLevels bytes levels × IsPart bytes (length levels) body
+IsState (Open name bytes agents agent ifs body) =
+    IsWord name × AreAgentsIn bytes (with_agent agents agent End) × AreOpenIfs bytes ifs × IsPart bytes (length ifs) body
 IsState Empty = Unit {0}
 IsState (Whole t) = IsLitmus t
 

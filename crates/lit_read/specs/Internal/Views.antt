@@ -1,4 +1,4 @@
--- What the values of the reader stand for.
+-- What the values of the reader represent.
 use Rattle.std.specs.Prelude.{◌≡◌, ℕ, List, [], ◌∷◌, map, reverse, Option, Some, None, Result, Ok, Err, string_bytes, String}
 use Rattle.std.specs.Global.{Vec, Global}
 use Rattle.lit_read.specs.declared.fault.ReadKind.{ReadKind}
@@ -16,9 +16,9 @@ use Rattle.lit_read.specs.declared.forms.Line.TheVariants as line
 use Rattle.lit_read.specs.declared.forms.marks.Comparison as raw
 use Rattle.lit_read.specs.declared.forms.marks.Mark as marks
 use Rattle.lit_read.specs.declared.forms.marks.Mark.TheVariants as mark
-use Rattle.lit_read.specs.declared.draft.conditions.Frame as frames
-use Rattle.lit_read.specs.declared.draft.conditions.Frames as building
-use Rattle.lit_read.specs.declared.draft.Level as levels
+use Rattle.lit_read.specs.declared.draft.conditions.Group as groups
+use Rattle.lit_read.specs.declared.draft.conditions.Groups as building
+use Rattle.lit_read.specs.declared.draft.OpenIf as ifs
 use Rattle.lit_read.specs.declared.draft.Open as opens
 use Rattle.lit_read.specs.declared.draft.Draft as drafts
 use Rattle.lit_read.specs.declared.draft.Draft.TheVariants as draft
@@ -28,8 +28,8 @@ use Rattle.lit_read.specs.Tokens.{Token, Word, Number, Sign}
 use Rattle.lit_read.specs.Written.{Comparison, Written}
 use Rattle.lit_read.specs.Forms.{Form, Blank, TestLine, BytesLine, AgentLine, StatementLine, IfLine, ElseLine, EndLine, CheckLine}
 use Rattle.lit_read.specs.Internal.Marks.{Mark, Bang, Opens, Closes, Joins, Parts, Compares, written_marks}
-use Rattle.lit_read.specs.Internal.Built.{Frame, Frames}
-use Rattle.lit_read.specs.Internal.State.{State, Empty, Named, Sized, Open, Whole, Level}
+use Rattle.lit_read.specs.Internal.Built.{Group, Groups}
+use Rattle.lit_read.specs.Internal.State.{State, Empty, Named, Sized, Open, Whole, OpenIf}
 
 abbrev pub token_view : code.Token → Token
 token_view (token.Word word) = Word word.now
@@ -88,23 +88,23 @@ agent_view name body = record { name = name; body = statements_of body }
 abbrev pub agents_view : List (String Global × Vec Stmt) → List Agent
 agents_view entries = map (λ e. agent_view (string_bytes e.0) e.1.items) entries
 
-abbrev pub frame_view : frames.Frame → Frame
-frame_view f = record { depth = f.depth; nots = f.nots; any = conditions_view f.any.items; all = conditions_view f.all.items }
+abbrev pub group_view : groups.Group → Group
+group_view f = record { depth = f.depth; nots = f.nots; any = conditions_view f.any.items; all = conditions_view f.all.items }
 
-abbrev pub frames_view : building.Frames → Frames
-frames_view s = record { inner = frame_view s.inner; outer = map frame_view (reverse s.outer.items) }
+abbrev pub groups_view : building.Groups → Groups
+groups_view s = record { inner = group_view s.inner; outer = map group_view (reverse s.outer.items) }
 
 abbrev pub part_view : Option (Vec Stmt) → Option Statements
 part_view None = None
 part_view (Some part) = Some (statements_of part.items)
 
-abbrev pub level_view : levels.Level → Level
-level_view l =
+abbrev pub open_if_view : ifs.OpenIf → OpenIf
+open_if_view l =
     record { reg = l.reg; equal = l.equal; value = l.value; before = statements_of l.before.items; then_part = part_view l.then_part }
 
 abbrev pub open_view : opens.Open → State
 open_view o =
-    Open (string_bytes o.name) o.bytes (agents_view o.agents.entries) (string_bytes o.agent) (map level_view (reverse o.levels.items))
+    Open (string_bytes o.name) o.bytes (agents_view o.agents.entries) (string_bytes o.agent) (map open_if_view (reverse o.ifs.items))
     (statements_of o.body.items)
 
 abbrev pub state_view : drafts.Draft → State

@@ -1,4 +1,4 @@
-//! Accesses as statements: literals that fit, and indices in the block.
+//! Checks accesses and makes statements of them: literals that fit, and indices in the block.
 
 ghost use Rattle.std.specs.Prelude.{◌≡◌, Ok, Err, if◌then◌else◌};
 ghost use Rattle.lit_read.specs.Syntax.{fits_window, is_in_block};

@@ -1,4 +1,4 @@
-//! Whether a condition asks what it may.
+//! Checks a condition: the numbers that it compares with, and the registers that it names.
 
 ghost use Rattle.std.specs.Prelude.{◌≡◌, IfSome, IfNone};
 ghost use Rattle.std.specs.List.{list_all};

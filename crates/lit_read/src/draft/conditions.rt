@@ -1,13 +1,13 @@
-//! The condition of a test, from the marks of its `check` line.
+//! Parses the condition of a test from the marks of its `check` line, with a stack of open groups.
 
 ghost use Rattle.std.specs.Prelude.{◌≡◌, ◌+◌, ◌≤◌, nat_le, IfOk, length, string_bytes, true};
 ghost use Rattle.std.specs.List.{list_all};
 ghost use Rattle.lit_read.specs.Litmus.{condition_of};
 ghost use Rattle.lit_read.specs.Spelling.{place_of};
-ghost use Rattle.lit_read.specs.Internal.Built.{negated, all_of, any_of, with_operand, parted, asked};
+ghost use Rattle.lit_read.specs.Internal.Built.{negated, all_of, any_of, with_operand, after_or, asked};
 ghost use Rattle.lit_read.specs.Internal.Built.{build_step, build, begun, HasSmallNumber};
 ghost use Rattle.lit_read.specs.Internal.Marks.{is_small};
-ghost use Rattle.lit_read.specs.Internal.Views.{Returns, conditions_view, frame_view, frames_view, mark_view, mark_views, agents_view};
+ghost use Rattle.lit_read.specs.Internal.Views.{Returns, conditions_view, group_view, groups_view, mark_view, mark_views, agents_view};
 
 use crate::fault::ReadKind;
 use crate::forms::marks::Mark;
@@ -16,24 +16,24 @@ use crate::syntax::{Cond, Stmt};
 use indexmap::IndexMap;
 use std::alloc::{AllocError, Global};
 
-/// What stands in a parenthesis so far: how many `!` and `(` are around it, the `!` before the next operand, the
-/// conjunctions before the last `||`, and the operands behind it.
+/// The part of a parenthesized condition that is read so far: how many `!` and `(` are around it, the `!` before the next
+/// operand, the conjunctions before the last `||`, and the operands behind it.
 #[derive(Drop)]
-pub struct Frame {
+pub struct Group {
     depth: usize,
     nots: usize,
     any: Vec<Cond>,
     all: Vec<Cond>,
 }
 
-/// A frame, and those around it, the outermost first.
+/// The innermost open group, and the groups around it, the outermost first.
 #[derive(Drop)]
-pub struct Frames {
-    inner: Frame,
-    outer: Vec<Frame>,
+pub struct Groups {
+    inner: Group,
+    outer: Vec<Group>,
 }
 
-/// The condition under so many `!`.
+/// The condition under `nots` times `!`.
 fn negated(alloc: Global, cond: Cond, nots: usize) -> Result<Cond, AllocError>
     ensures { IfOk result (λ c. condition_of c ≡ negated nots (condition_of cond)) }
 {
@@ -83,13 +83,13 @@ fn place_of(agents: &IndexMap<String, Vec<Stmt>>, name: &str) -> usize
     }
 }
 
-impl Frame {
-    ghost use Rattle.lit_read.specs.Internal.Built.{empty_frame};
+impl Group {
+    ghost use Rattle.lit_read.specs.Internal.Built.{empty_group};
 
-    fn new(alloc: Global, depth: usize) -> Frame
-        ensures { frame_view result ≡ empty_frame depth }
+    fn new(alloc: Global, depth: usize) -> Group
+        ensures { group_view result ≡ empty_group depth }
     {
-        Frame {
+        Group {
             depth,
             nots: 0,
             any: Vec::new(alloc),
@@ -105,13 +105,13 @@ impl Frame {
     }
 
     /// With one operand more.
-    #[tactic(auto, using(crate::proofs::FrameLemmas::views_pushed))]
-    fn with_operand(self, alloc: Global, cond: Cond) -> Result<Frame, AllocError>
-        ensures { IfOk result (λ f. frame_view f ≡ with_operand (frame_view self) (condition_of cond)) }
+    #[tactic(auto, using(crate::proofs::GroupLemmas::views_pushed))]
+    fn with_operand(self, alloc: Global, cond: Cond) -> Result<Group, AllocError>
+        ensures { IfOk result (λ f. group_view f ≡ with_operand (group_view self) (condition_of cond)) }
     {
         let mut all = self.all;
         all.push(negated(alloc, cond, self.nots)?)?;
-        Ok(Frame {
+        Ok(Group {
             depth: self.depth,
             nots: 0,
             any: self.any,
@@ -119,14 +119,14 @@ impl Frame {
         })
     }
 
-    /// Behind `||`.
-    #[tactic(auto, using(crate::proofs::FrameLemmas::views_pushed))]
-    fn parted(self, alloc: Global) -> Result<Frame, AllocError>
-        ensures { IfOk result (λ f. frame_view f ≡ parted (frame_view self)) }
+    /// The group after `||`: its operands so far become a conjunction.
+    #[tactic(auto, using(crate::proofs::GroupLemmas::views_pushed))]
+    fn after_or(self, alloc: Global) -> Result<Group, AllocError>
+        ensures { IfOk result (λ f. group_view f ≡ after_or (group_view self)) }
     {
         let mut any = self.any;
         any.push(all_of(self.all))?;
-        Ok(Frame {
+        Ok(Group {
             depth: self.depth,
             nots: self.nots,
             any,
@@ -134,10 +134,10 @@ impl Frame {
         })
     }
 
-    /// What it asks.
-    #[tactic(auto, using(crate::proofs::FrameLemmas::views_pushed))]
+    /// The condition of the whole group.
+    #[tactic(auto, using(crate::proofs::GroupLemmas::views_pushed))]
     fn asked(self) -> Result<Cond, AllocError>
-        ensures { IfOk result (λ c. condition_of c ≡ asked (frame_view self)) }
+        ensures { IfOk result (λ c. condition_of c ≡ asked (group_view self)) }
     {
         let mut any = self.any;
         any.push(all_of(self.all))?;
@@ -145,7 +145,7 @@ impl Frame {
     }
 }
 
-impl Frames {
+impl Groups {
     /// With one mark more.
     #[tactic(auto, unfolding(crate::specs::Internal::Built::build_step))]
     fn with_mark(
@@ -153,10 +153,10 @@ impl Frames {
         alloc: Global,
         agents: &IndexMap<String, Vec<Stmt>>,
         mark: Mark<'_>,
-    ) -> Result<Frames, ReadKind>
+    ) -> Result<Groups, ReadKind>
         requires few { length agents.now.entries ≤ AGENT_LIMIT }
         requires small { HasSmallNumber (mark_view mark) }
-        ensures { Returns frames_view result (build_step (agents_view agents.now.entries) (frames_view self) (mark_view mark.entry)) }
+        ensures { Returns groups_view result (build_step (agents_view agents.now.entries) (groups_view self) (mark_view mark.entry)) }
     {
         let mut inner = self.inner;
         let mut outer = self.outer;
@@ -173,7 +173,7 @@ impl Frames {
                 }
                 let depth = inner.depth + inner.nots + 1;
                 outer.push(inner)?;
-                inner = Frame::new(alloc, depth);
+                inner = Group::new(alloc, depth);
             }
             Mark::Close => {
                 let Some(around) = outer.pop() else {
@@ -182,7 +182,7 @@ impl Frames {
                 inner = around.with_operand(alloc, inner.asked()?)?;
             }
             Mark::And => {}
-            Mark::Or => inner = inner.parted(alloc)?,
+            Mark::Or => inner = inner.after_or(alloc)?,
             Mark::Is(comparison) => {
                 let asked = Cond::Is {
                     agent: place_of(agents, comparison.agent) as u8,
@@ -193,11 +193,11 @@ impl Frames {
                 inner = inner.with_operand(alloc, asked)?;
             }
         }
-        Ok(Frames { inner, outer })
+        Ok(Groups { inner, outer })
     }
 }
 
-/// The condition that the marks ask.
+/// The condition that the marks spell.
 pub fn condition(
     alloc: Global,
     agents: &IndexMap<String, Vec<Stmt>>,
@@ -207,12 +207,12 @@ pub fn condition(
     requires small { list_all (λ m. is_small (mark_view m)) marks.now ≡ true }
     ensures { Returns condition_of result (build (agents_view agents.now.entries) begun (mark_views marks.now)) }
 {
-    let mut frames = Frames {
-        inner: Frame::new(alloc, 0),
+    let mut groups = Groups {
+        inner: Group::new(alloc, 0),
         outer: Vec::new(alloc),
     };
     for mark in marks {
-        frames = frames.with_mark(alloc, agents, *mark)?;
+        groups = groups.with_mark(alloc, agents, *mark)?;
     }
-    Ok(frames.inner.asked()?)
+    Ok(groups.inner.asked()?)
 }

@@ -1,4 +1,4 @@
-//! The parts that accesses are made of.
+//! Parsers for the parts that several accesses share (decision 9).
 
 ghost use Rattle.std.specs.Prelude.{◌≡◌, option_map};
 ghost use Rattle.lit_read.specs.Litmus.{window_of};

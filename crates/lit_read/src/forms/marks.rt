@@ -1,4 +1,4 @@
-//! The condition of a `check` line, mark by mark.
+//! The marks of the condition of a `check` line: its operators, parentheses and comparisons.
 
 ghost use Rattle.std.specs.Prelude.{◌≡◌, ◌<◌, ◌≤◌, ◌+◌, ◌^◌, length, drop, option_map, IfSome, IfNone, IfOk};
 ghost use Rattle.lit_read.specs.Internal.FormOfTokens.{comparison_of};
@@ -73,8 +73,7 @@ fn mark_of<'t, 'a>(tokens: &'t [Token<'a>]) -> Option<(Mark<'a>, &'t [Token<'a>]
     Some((Mark::Is(comparison), rest))
 }
 
-/// Whether an operand stands behind a mark and how many parentheses are open there, if the mark can follow one or none
-/// and so many.
+/// The state after one more mark, if that can follow: whether an operand stands last, and how many parentheses are open.
 #[tactic(auto, unfolding(crate::specs::Internal::Marks::follow))]
 fn follow(behind: bool, opened: usize, mark: Mark<'_>) -> Option<(bool, usize)>
     requires { opened + 1 < 2 ^ 64 }

@@ -1,4 +1,4 @@
-//! What stands at the front of a list of tokens.
+//! Parsers for the front of a list of tokens.
 
 ghost use Rattle.std.specs.Prelude.{◌≡◌, option_map};
 ghost use Rattle.lit_read.specs.Litmus.{window_of};

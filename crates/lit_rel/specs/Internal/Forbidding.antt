@@ -1,4 +1,4 @@
--- What a byte forbids.
+-- The triples that the source of one byte forbids.
 use Rattle.std.specs.Prelude.{◌≡◌, ℕ, ◌<◌, List, length}
 use Rattle.lit_paths.specs.declared.event.Event.{Event}
 use Rattle.lit_rel.specs.declared.given.SourcedByte.{SourcedByte}

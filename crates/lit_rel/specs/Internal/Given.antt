@@ -10,11 +10,11 @@ use Rattle.lit_rel.specs.Part.{PartModel}
 use Rattle.lit_rel.specs.Racing.{AreApart}
 use Rattle.lit_rel.specs.TearFree.{CanReadWhole}
 
--- the read and the byte
+-- the byte read of a byte with its source: the read and the byte
 abbrev pub read_of : SourcedByte → ℕ × ℕ
 read_of p = (p.read, p.byte)
 
--- the source of each
+-- the source of each byte
 abbrev pub sources_of : List SourcedByte → List ℕ
 sources_of bytes = map (λ p. p.source) bytes
 
@@ -22,11 +22,11 @@ sources_of bytes = map (λ p. p.source) bytes
 abbrev pub part_of : Litmus → ℕ → List SourcedByte → PartModel
 part_of t c bytes = record { test = t; combination = c; sources = sources_of bytes }
 
--- they are the first byte reads of these events
+-- the bytes are the first byte reads of these events
 abbrev pub AreFirstReads : List Event → List SourcedByte → Type 0
 AreFirstReads events bytes = map read_of bytes ≡ take (length bytes) (byte_reads events)
 
--- the read and the source are numbers of events
+-- the byte's read and its source are numbers of events
 abbrev pub IsKnown : ℕ → SourcedByte → Type 0
 IsKnown n p = (p.read < n) × (p.source < n)
 
@@ -40,7 +40,7 @@ pub record Tears (events : List Event) (p q : SourcedByte) : Type 0 where
   pub first_whole : CanReadWhole (event_at events p.read) (event_at events p.source)
   pub second_whole : CanReadWhole (event_at events q.read) (event_at events q.source)
 
--- one of these bytes is so
+-- one of these bytes has the property
 pub record HasByteSo (bytes : List SourcedByte) (IsSo : SourcedByte → Type 0) : Type 0 where
   pub place : ℕ
   pub byte : SourcedByte
@@ -51,7 +51,7 @@ pub record HasByteSo (bytes : List SourcedByte) (IsSo : SourcedByte → Type 0) 
 abbrev pub IsIncoherent : List Event → (ℕ → ℕ → Type 0) → SourcedByte → Type 0
 IsIncoherent events before p = ¬ IsCoherentRead events before p.read p.byte p.source
 
--- its read and its source are in a data race by this relation
+-- the byte's read and its source are in a data race by this relation
 abbrev pub IsRacing : List Event → (ℕ → ℕ → Type 0) → SourcedByte → Type 0
 IsRacing events before p = AreApart events before p.read p.source
 

@@ -1,4 +1,4 @@
-//! What valid executions ask of reads (ECMA-262, 2024, 29.7).
+//! Coherent reads and tear free reads (ECMA-262, 2024, 29.7.2 and 29.7.3), for the sources given.
 
 ghost use Rattle.std.specs.Prelude.{◌≡◌, ◌↔◌, ◌<◌, IsTrue, length};
 ghost use Rattle.lit_paths.specs.Event.{HasByte, does_write, event_at};

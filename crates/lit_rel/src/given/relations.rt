@@ -4,7 +4,7 @@ ghost use Rattle.std.specs.Prelude.{◌≡◌, ◌⊎◌, ◌↔◌, ℕ, IsTrue
 ghost use Rattle.lit_paths.specs.ByteReads.{byte_reads};
 ghost use Rattle.lit_paths.specs.Event.{event_at as event_of};
 ghost use Rattle.lit_rel.specs.Internal.Given.{IsKnown, read_of, sources_of};
-ghost use Rattle.lit_rel.specs.Internal.Levels.{IsOrder};
+ghost use Rattle.lit_rel.specs.Internal.PrefixStates.{IsOrder};
 ghost use Rattle.lit_rel.specs.ReadsFrom.{ReadsFrom};
 ghost use Rattle.lit_rel.specs.Rows.{Holds, rows_len};
 ghost use Rattle.lit_rel.specs.SynchronizesWith.{CanSynchronize, Synchronizes};
@@ -61,7 +61,7 @@ impl Given<'_> {
         rows
     }
 
-    /// Puts the source and the read of a byte in, where they synchronize.
+    /// Adds the pair of a byte's source and read, where they synchronize.
     fn put_synchronizing(&self, rows: &mut Rows, byte: SourcedByte)
         requires known { IsKnown (length self.now.events.now) byte }
         requires len { rows_len rows.old ≡ length self.now.events.now }

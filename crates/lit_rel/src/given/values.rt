@@ -30,9 +30,11 @@ impl Given<'_> {
         ensures { result ≡ value_of self.now.events.now (sources_of self.now.bytes.now) read }
     {
         let mut value: u32 = 0;
+        // The last byte comes first, since it is the most significant one.
         for place in (0..self.bytes.len()).rev() {
             let byte = self.bytes[place];
             let reader = usize::from(byte.read);
+            // Byte reads rise by their reads, so no earlier byte is of this read.
             if reader < read {
                 return value;
             }

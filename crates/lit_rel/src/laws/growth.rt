@@ -1,4 +1,4 @@
-//! What becomes of relations with more bytes given. The functions do nothing: their contracts are theorems.
+//! How the relations grow when more bytes are given a source. The functions do nothing: their contracts are theorems.
 
 ghost use Rattle.lit_rel.specs.Broken.{BytesStayBroken, StaysBroken};
 ghost use Rattle.lit_rel.specs.Growth.{GivenValuesAgree, GrowWithBytes, ValuesStay};

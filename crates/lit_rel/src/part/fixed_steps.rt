@@ -22,7 +22,7 @@ pub fn unsourced_order(events: &[Event]) -> TwoWayRows
     TwoWayRows::closed(&fixed_steps(events))
 }
 
-/// All of them.
+/// The steps of happens-before that no source decides, as a relation.
 fn fixed_steps(events: &[Event]) -> Rows
     requires { length events.now ≤ EVENT_LIMIT }
     ensures len { rows_len result ≡ length events.now }

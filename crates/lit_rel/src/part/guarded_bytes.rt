@@ -1,16 +1,16 @@
-//! Tests of paths that are false of a source of one byte, whatever its read takes for its other bytes.
+//! Guards of paths that refuse a source of one byte, whatever its read takes for its other bytes.
 
 ghost use Rattle.std.specs.Prelude.{◌↔◌, ◌<◌, IsTrue, length};
 ghost use Rattle.lit_paths.specs.Event.{event_at as event_of, payload_at as payload_of_event};
 ghost use Rattle.lit_paths.specs.Plan.{events_in};
-ghost use Rattle.lit_rel.specs.Internal.Refused.{HasFalseByte};
+ghost use Rattle.lit_rel.specs.Internal.FalseGuards.{HasFalseByte};
 ghost use Rattle.lit_rel.specs.GuardedBytes.{HasFalseByteOn, IsFalseOfByte};
 
 use crate::given::values::{byte_from, payload_at};
-use crate::part::refused::number_on;
+use crate::part::false_guards::number_on;
 use lit_paths::{ByteRead, Combination, Event, Tested, event_at};
 
-/// Whether a test is false of whatever an event reads, if this byte of it has this value.
+/// Whether a guard is false of whatever an event reads, if this byte of it has this value.
 fn is_false_of_byte(test: Tested, event: &Event, byte: u8, value: u8) -> bool
     ensures { IsTrue result ↔ IsFalseOfByte event.now byte value test }
 {
@@ -21,7 +21,7 @@ fn is_false_of_byte(test: Tested, event: &Event, byte: u8, value: u8) -> bool
     }
 }
 
-/// Whether some test asks about a read, and is false of whatever the read takes, if this byte of it has this value. The
+/// Whether some guard asks about a read, and is false of whatever the read takes, if this byte of it has this value. The
 /// event is that of the read.
 fn has_false_byte(tests: &[Tested], first: u8, event: &Event, at: ByteRead, value: u8) -> bool
     ensures { IsTrue result ↔ HasFalseByte tests.now first at.read event.now at.byte value }
@@ -35,7 +35,7 @@ fn has_false_byte(tests: &[Tested], first: u8, event: &Event, at: ByteRead, valu
     false
 }
 
-/// Whether some test of a path of the combination is false of whatever a read takes, if this byte of it has this source. Both
+/// Whether some guard of a path of the combination is false of whatever a read takes, if this byte of it has this source. Both
 /// are by event number.
 pub fn is_source_refused(combination: &Combination<'_>, at: ByteRead, source: u8) -> bool
     requires read { at.read < length (events_in combination.now.0 combination.now.1) }

@@ -1,4 +1,4 @@
-//! Relations closed under chains.
+//! The transitive closure of a relation.
 
 ghost use Rattle.std.specs.Prelude.{◌≡◌, ◌⊎◌, ◌↔◌, ℕ, ◌<◌, List};
 ghost use Rattle.lit_rel.specs.HappensBefore.{Chain};
@@ -6,7 +6,7 @@ ghost use Rattle.lit_rel.specs.Rows.{Holds, rows_len};
 
 use crate::rows::Rows;
 
-/// Makes a relation the least transitive one that contains it.
+/// Makes a relation the least transitive one that contains it, by Warshall's algorithm (decision 17).
 pub fn close(rows: &mut Rows)
     ensures len { rows_len rows.new ≡ rows_len rows.old }
     ensures pairs { (e d : ℕ) → Holds rows.new e d ↔ ((middles : List ℕ) × Chain (Holds rows.old) e middles d) }
@@ -16,7 +16,7 @@ pub fn close(rows: &mut Rows)
     }
 }
 
-/// Lets each event that leads to the middle one lead to all that the middle one leads to.
+/// Lets each event that leads to the middle one lead to all events that the middle one leads to.
 fn lead_through(rows: &mut Rows, middle: usize)
     requires { middle < rows_len rows.old }
     ensures len { rows_len rows.new ≡ rows_len rows.old }

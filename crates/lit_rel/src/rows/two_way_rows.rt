@@ -1,4 +1,4 @@
-//! Relations with what comes before each event at hand.
+//! A relation stored with its converse, so that the events before an event are at hand.
 
 ghost use Rattle.std.specs.Prelude.{◌≡◌, ◌⊎◌, ◌↔◌, ℕ, ◌<◌};
 ghost use Rattle.lit_rel.specs.EventSet.{HasEvent};
@@ -47,7 +47,7 @@ pub struct TwoWayRows {
 }
 
 impl Default for TwoWayRows {
-    /// Of the empty relation on no events.
+    /// The empty relation on no events, with its converse.
     fn default() -> Self
         ensures len { rows_len result.rows ≡ 0 }
         ensures empty { (a d : ℕ) → ¬ Holds result.rows a d }
@@ -64,7 +64,7 @@ impl TwoWayRows {
     ghost use Rattle.lit_rel.specs.HappensBefore.{Chain};
     ghost use Rattle.lit_rel.specs.Rows.{IsTransitive, WithPair};
 
-    /// Of the least transitive relation that has this one.
+    /// The least transitive relation that contains this one, with its converse.
     pub fn closed(before: &Rows) -> Self
         ensures len { rows_len result.rows ≡ rows_len before.now }
         ensures pairs { (a d : ℕ) → Holds result.rows a d ↔ ((middles : List ℕ) × Chain (Holds before.now) a middles d) }
@@ -75,7 +75,7 @@ impl TwoWayRows {
         TwoWayRows { rows, converse }
     }
 
-    /// Puts a pair in, both numbers below the length, and with it what it leads through, as `Rows::close_with` does.
+    /// Adds a pair, both numbers below the length, and closes over it as `Rows::close_with` does.
     pub fn close_with(&mut self, a: usize, d: usize)
         requires first { a < rows_len self.old.rows }
         requires second { d < rows_len self.old.rows }

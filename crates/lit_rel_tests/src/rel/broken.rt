@@ -61,7 +61,7 @@ fn a_test_or_a_cycle_breaks(rt: HostRuntime) -> Result<(), Fail> {
     Ok(())
 }
 
-/// Combination 0 is the then-part, which asks that a register that holds 0 be 1.
+/// Combination 0 is the then-part, whose guard asks that a register that holds 0 be 1.
 #[test]
 fn an_unwritten_register_breaks_at_once(rt: HostRuntime) -> Result<(), Fail> {
     let test = read(rt.alloc(), UNWRITTEN.as_bytes())?;
@@ -82,8 +82,8 @@ const BREAKS: [(&str, &[u8], bool); 11] = [
     // Two stores tear, a store and init do not.
     (TYPED_READ, &[2, 3], true),
     (TYPED_READ, &[2, 1], false),
-    // The load of two bytes is 2, the store 4. Its first byte alone is 0, which is not 256; but a read is tested when it
-    // is whole.
+    // The load of two bytes is 2, the store 4. Its first byte alone is 0, which is not 256; but a guard is checked once all
+    // bytes of its read have a source.
     (WIDE, &[0], false),
     (WIDE, &[0, 1], true),
     (WIDE, &[0, 4], false),

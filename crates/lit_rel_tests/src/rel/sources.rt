@@ -43,7 +43,7 @@ fn a_store_may_not_stand_after_init(rt: HostRuntime) -> Result<(), Fail> {
     Ok(())
 }
 
-/// A's store stands behind a test for 1, which B stores (5), and which init (0) is not.
+/// A's store stands behind a guard for 1, which B stores (5), and which init (0) is not.
 #[test]
 fn a_test_refuses_init(rt: HostRuntime) -> Result<(), Fail> {
     let test = read(rt.alloc(), LOAD_BUFFERING_ATOMIC.as_bytes())?;

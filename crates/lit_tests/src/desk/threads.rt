@@ -11,7 +11,7 @@ use std::thread::{Threads, join_mut};
 
 const PIECES: usize = 1000;
 
-/// A place, and what its caller kept: the numbers drawn, and what each look gave in each class.
+/// A place, and what its caller recorded: the numbers drawn, and what each look gave in each class.
 #[derive(Drop)]
 struct Caller {
     place: Place,

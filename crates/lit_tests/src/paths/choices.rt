@@ -8,14 +8,14 @@ use std::process::Abort;
 use std::test::Fail;
 
 /// A choice by its number, the combination that it is of, and its sources.
-type Row = (u64, usize, &'static [u8]);
+type Expected = (u64, usize, &'static [u8]);
 
-/// That a test has so many choices, and these among them.
+/// Asserts that a test has this number of choices, and these among them.
 fn assert_choices(
     rt: &(impl Abort + AllocGlobal),
     text: &str,
     total: u64,
-    rows: &[Row],
+    rows: &[Expected],
 ) -> Result<(), Fail> {
     let test = read(rt.alloc(), text.as_bytes())?;
     let plan = plan(rt.alloc(), &test)?;
@@ -31,14 +31,14 @@ fn assert_choices(
 
 #[test]
 fn choices_of_one_combination(rt: HostRuntime) -> Result<(), Fail> {
-    let rows: [Row; 4] = [
+    let rows: [Expected; 4] = [
         (0, 0, &[1, 0]),
         (1, 0, &[1, 2]),
         (2, 0, &[4, 0]),
         (3, 0, &[4, 2]),
     ];
     assert_choices(&rt, STORE_BUFFERING, 4, &rows)?;
-    let rows: [Row; 5] = [
+    let rows: [Expected; 5] = [
         (0, 0, &[0, 1]),
         (2, 0, &[0, 3]),
         (3, 0, &[2, 1]),
@@ -50,9 +50,9 @@ fn choices_of_one_combination(rt: HostRuntime) -> Result<(), Fail> {
 
 #[test]
 fn choices_of_several_combinations(rt: HostRuntime) -> Result<(), Fail> {
-    let rows: [Row; 2] = [(3, 0, &[5, 3]), (8, 3, &[0, 1])];
+    let rows: [Expected; 2] = [(3, 0, &[5, 3]), (8, 3, &[0, 1])];
     assert_choices(&rt, LOAD_BUFFERING, 9, &rows)?;
-    let rows: [Row; 2] = [(5, 1, &[0, 1]), (7, 2, &[2, 0])];
+    let rows: [Expected; 2] = [(5, 1, &[0, 1]), (7, 2, &[2, 0])];
     assert_choices(&rt, BOTH_EXCHANGE_FOR_ONE, 9, &rows)
 }
 
@@ -76,6 +76,6 @@ r6 = U8[0]
 r7 = U8[0]
 check B.r0 == 4
 ";
-    let last: Row = (390_624, 0, &[4; 8]);
+    let last: Expected = (390_624, 0, &[4; 8]);
     assert_choices(&rt, text, 390_625, &[last])
 }

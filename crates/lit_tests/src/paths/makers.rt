@@ -8,7 +8,7 @@ use std::alloc::AllocGlobal;
 use std::process::Abort;
 use std::test::Fail;
 
-/// That these statements make the events of an agent in a combination, by the numbers of both.
+/// Asserts that these statements make the events of an agent in a combination, by the numbers of both.
 fn are_made(
     rt: &(impl Abort + AllocGlobal),
     text: &str,

@@ -8,14 +8,14 @@ use std::process::Abort;
 use std::test::Fail;
 
 /// The byte read of a combination at a place: its candidates, and how many choices each of them leads to.
-type Row = (usize, usize, &'static [u8], u64);
+type Expected = (usize, usize, &'static [u8], u64);
 
-/// That a test has so many combinations, and these byte reads.
+/// Asserts that a test has this number of combinations, and these byte reads.
 fn assert_reads(
     rt: &(impl Abort + AllocGlobal),
     text: &str,
     combinations: usize,
-    rows: &[Row],
+    rows: &[Expected],
 ) -> Result<(), Fail> {
     let test = read(rt.alloc(), text.as_bytes())?;
     let plan = plan(rt.alloc(), &test)?;
@@ -30,7 +30,7 @@ fn assert_reads(
     Ok(())
 }
 
-const LOAD_BUFFERING_READS: [Row; 8] = [
+const LOAD_BUFFERING_READS: [Expected; 8] = [
     (0, 0, &[0, 5], 2),
     (0, 1, &[1, 3], 1),
     (1, 0, &[0], 2),
@@ -41,7 +41,7 @@ const LOAD_BUFFERING_READS: [Row; 8] = [
     (3, 1, &[1], 1),
 ];
 
-const EXCHANGES_READS: [Row; 8] = [
+const EXCHANGES_READS: [Expected; 8] = [
     (0, 0, &[0, 2], 2),
     (0, 1, &[0, 1], 1),
     (1, 0, &[0], 2),
@@ -56,7 +56,7 @@ const EXCHANGES_READS: [Row; 8] = [
 fn candidates_with_their_choices(rt: HostRuntime) -> Result<(), Fail> {
     assert_reads(&rt, LOAD_BUFFERING, 4, &LOAD_BUFFERING_READS)?;
     assert_reads(&rt, BOTH_EXCHANGE_FOR_ONE, 4, &EXCHANGES_READS)?;
-    let typed: [Row; 2] = [(0, 0, &[0, 2, 3], 3), (0, 1, &[1, 2, 3], 1)];
+    let typed: [Expected; 2] = [(0, 0, &[0, 2, 3], 3), (0, 1, &[1, 2, 3], 1)];
     assert_reads(&rt, TYPED_READ, 1, &typed)
 }
 

@@ -1,4 +1,4 @@
-//! Tests that have too much.
+//! Tests that a plan refuses, and tests at the limits.
 
 use lit_paths::{ACCESS_LIMIT, CHOICE_LIMIT, COMBINATION_LIMIT, PlanFault, plan};
 use lit_read::read;
@@ -6,7 +6,7 @@ use std::alloc::{AllocError, AllocGlobal, Global};
 use std::process::Abort;
 use std::test::Fail;
 
-/// A text with a beginning, a line repeated so often, and an end.
+/// A text with a beginning, a line repeated `count` times, and an end.
 fn repeated(
     alloc: Global,
     head: &[u8],
@@ -23,7 +23,7 @@ fn repeated(
     Ok(text)
 }
 
-/// That a text's test has so many combinations and choices, or is refused so.
+/// Asserts that a text's test has this number of combinations and choices, or this refusal.
 fn assert_planned(
     rt: &(impl Abort + AllocGlobal),
     text: &[u8],

@@ -49,7 +49,7 @@ check B.r0 == 0
     TWELVE_BRANCHES,
 ];
 
-/// A text of each form, with blanks, comments and empty parts that can be left out.
+/// A text of each form, with blanks, comments and empty parts that can be omitted.
 const UNTIDY: &str = "
 \ttest whole // a name
 
@@ -149,7 +149,7 @@ const CONDITIONS: [(&str, &str); 10] = [
     ),
 ];
 
-/// That two tests say the same.
+/// Asserts that two tests say the same.
 fn are_same(rt: &(impl Abort + AllocGlobal), test: &Test, other: &Test) -> Result<(), Fail> {
     assert!(rt; test.name() == other.name());
     assert!(rt; test.bytes() == other.bytes());
@@ -166,7 +166,7 @@ fn are_same(rt: &(impl Abort + AllocGlobal), test: &Test, other: &Test) -> Resul
     Ok(())
 }
 
-/// That a text's test is shown so, and that the text shown is one of the same test.
+/// Asserts that a text's test has this canonical text, and that reading this text gives the same test.
 fn is_shown(rt: &(impl Abort + AllocGlobal), text: &[u8], canonical: &[u8]) -> Result<(), Fail> {
     let test = read(rt.alloc(), text).expect(rt, "a test");
     let shown = show(rt.alloc(), &test).expect(rt, "its text");
@@ -176,7 +176,7 @@ fn is_shown(rt: &(impl Abort + AllocGlobal), text: &[u8], canonical: &[u8]) -> R
 }
 
 /// The small text with this condition.
-fn asking(alloc: Global, condition: &str) -> Result<String, AllocError> {
+fn text_with_condition(alloc: Global, condition: &str) -> Result<String, AllocError> {
     format!(in alloc;
         "test t
 bytes 2
@@ -204,8 +204,8 @@ fn untidy_text(rt: HostRuntime) -> Result<(), Fail> {
 #[test]
 fn conditions(rt: HostRuntime) -> Result<(), Fail> {
     for (written, canonical) in CONDITIONS {
-        let text = asking(rt.alloc(), written)?;
-        let wanted = asking(rt.alloc(), canonical)?;
+        let text = text_with_condition(rt.alloc(), written)?;
+        let wanted = text_with_condition(rt.alloc(), canonical)?;
         is_shown(&rt, text.as_bytes(), wanted.as_bytes())?;
     }
     Ok(())

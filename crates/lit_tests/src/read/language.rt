@@ -39,7 +39,7 @@ if r0 == 0 {
 check !(A.r0 == 1 && A.r1 != 2) || (A.r2 == 3 || !!A.r3 == 4) && A.r4 == 5
 ";
 
-/// That a statement is an access, told by what it has: register, view, index, expected, value, atomic.
+/// Asserts that a statement is an access with these fields: register, view, index, expected, value, atomic.
 fn has(
     rt: &impl Abort,
     stmt: &Stmt,
@@ -185,7 +185,7 @@ fn condition(rt: HostRuntime) {
     }
 }
 
-/// That the small text with this fourth line is a test.
+/// Asserts that the small text with this fourth line is a test.
 fn taken_fourth(rt: &(impl Abort + AllocGlobal), fourth: &[u8]) -> Result<(), Fail> {
     assert!(rt; read(rt.alloc(), &framed(rt.alloc(), fourth)?).is_ok());
     Ok(())
@@ -272,7 +272,7 @@ fn misplaced_parts(rt: HostRuntime) {
     );
 }
 
-/// A text with so many `if` lines, one inside the other, and then these bytes.
+/// A text with `count` `if` lines, one inside the other, and then these bytes.
 fn nested(alloc: Global, count: usize, back: &[u8]) -> Result<Vec<u8>, Fail> {
     let mut text = Vec::from_slice(alloc, b"test t\nbytes 1\nagent A\n")?;
     for _ in 0..count {

@@ -6,7 +6,7 @@ use std::alloc::AllocGlobal;
 use std::process::Abort;
 use std::test::Fail;
 
-/// That the statements of a text begin on these lines and no others.
+/// Asserts that the statements of a text begin on these lines and no others.
 fn begin_on(rt: &(impl Abort + AllocGlobal), text: &[u8], lines: &[usize]) -> Result<(), Fail> {
     let found = statement_lines(rt.alloc(), text)?;
     assert!(rt; found.as_slice() == lines);

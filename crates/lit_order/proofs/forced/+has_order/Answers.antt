@@ -10,7 +10,7 @@ use Rattle.lit_order.proofs.ExtendLemmas.{no_order-from_cycle, order_of_forced, 
 use Rattle.lit_order.proofs.ForcedLemmas.{AreTriplesBelow}
 use Rattle.lit_order.proofs.ForcingLemmas.{Forbids-below}
 use Rattle.lit_order.proofs.LinearLemmas.{lined_up}
-use Rattle.lit_order.proofs.NarrowLemmas.{IsOrderOf-fewer}
+use Rattle.lit_order.proofs.RestrictionLemmas.{IsOrderOf-fewer}
 use Rattle.lit_order.proofs.RowsLemmas.{pairs_missing, pairs_missing-le, pairs_missing-lt}
 use Rattle.lit_order.proofs.forced.+has_order.Goals as goal
 
@@ -39,10 +39,10 @@ module _ (before : Rows) (between : BetweenModel) (forced : Rows) (same : rows_l
       → ¬ HasOrder (rows_len after) (Holds after) (Forbids between) → HasOrder (rows_len before) (Holds before) (Forbids between) → HasOrder (rows_len earlier) (Holds earlier) (Forbids between)
   to_more after earlier w r v refused open_triple after_len earlier_len after_pairs earlier_pairs none o =
       let n = rows_len before in
-      let kept = order_of_forced n (Holds before) (Forbids between) triples (Holds forced) pairs o.0 o.1 in
+      let forced_order = order_of_forced n (Holds before) (Forbids between) triples (Holds forced) pairs o.0 o.1 in
       elim (one_side n (Holds before) (Forbids between) triples o.0 o.1 w r v refused open_triple.not_source open_triple.not_read) [
-        | inl r_first ↦ absurd (none (o.0, simp (after_len, len) (order_with n (Holds forced) (Holds after) (Forbids between) r v after_pairs o.0 kept r_first)))
-        | inr v_first ↦ (o.0, simp (earlier_len, len) (order_with n (Holds forced) (Holds earlier) (Forbids between) v w earlier_pairs o.0 kept v_first))
+        | inl r_first ↦ absurd (none (o.0, simp (after_len, len) (order_with n (Holds forced) (Holds after) (Forbids between) r v after_pairs o.0 forced_order r_first)))
+        | inr v_first ↦ (o.0, simp (earlier_len, len) (order_with n (Holds forced) (Holds earlier) (Forbids between) v w earlier_pairs o.0 forced_order v_first))
       ]
 
   -- where nothing is undecided, there is an order

@@ -8,6 +8,6 @@ decreases-complete l = constrained_len l.constraints.now - array_vec_len l.order
 
 abbrev pub invariant-loop-event : goal.invariant-loop-event
 invariant-loop-event l = record {
-  kept : l.order.items ≡ l.fn.order.items;
+  unchanged : l.order.items ≡ l.fn.order.items;
   none : (e : ℕ) → e < l.event → BeginsNone l.constraints (l.fn.order.items ++ e ∷ []);
 }

@@ -5,9 +5,9 @@ use Rattle.lit_rel.specs.Rows.{Holds, rows_len}
 use Rattle.lit_order.specs.declared.constraints.Constraints.{Constraints}
 use Rattle.lit_rel.specs.declared.rows.two_way_rows.TwoWayRows.{TwoWayRows}
 use Rattle.lit_order.specs.Internal.Constrained.{BeginsNone, ComesBefore, IsLeastOf, MayNotStand, constrained_len}
-use Rattle.lit_order.specs.Internal.Narrowed.{IsNarrowed}
+use Rattle.lit_order.specs.Internal.Restricted.{IsRestricted}
 use Rattle.lit_order.specs.MemoryOrder.{IsLeastOrderOf, IsOrderOf}
-use Rattle.lit_order.proofs.NarrowLemmas.{IsNarrowed-nil}
+use Rattle.lit_order.proofs.RestrictionLemmas.{IsRestricted-nil}
 use Rattle.lit_order.proofs.OrderLemmas.{IsLeastOrderOf-from_nothing}
 use Rattle.lit_order.proofs.SameOrders.{both, IsLeastOrderOf-same, order_back}
 use Rattle.lit_order.proofs.forced_finder.least_of.Goals as goal
@@ -27,18 +27,18 @@ module _ (forced : TwoWayRows) (between : BetweenModel) (it : Constraints) (len 
       subst (λ (xs : List ℕ). BeginsNone it xs) empty from_start order
       (order_back (constrained_len it) (rows_len forced.rows) (ComesBefore it) (Holds forced.rows) (MayNotStand it) (Forbids between) (len ∙ forced.same.len) are_pairs triples order o)
 
-pub returns-then-walk-clause-found : goal.returns-then-walk-clause-found
-returns-then-walk-clause-found c =
+pub returns-then-extend_greedily-clause-found : goal.returns-then-extend_greedily-clause-found
+returns-then-extend_greedily-clause-found c =
     let it = c.new-constraints.result in
-    least c.args.forced.now c.args.between.now it c.new-constraints.ensures.len c.new-constraints.ensures.pairs c.new-constraints.ensures.triples c.new-walked.result.items c.walk.new.order.items c.new-walked.ensures (c.if-walk.ensures refl)
+    least c.args.forced.now c.args.between.now it c.new-constraints.ensures.len c.new-constraints.ensures.pairs c.new-constraints.ensures.triples c.new-greedy.result.items c.extend_greedily.new.order.items c.new-greedy.ensures (c.if-extend_greedily.ensures refl)
 
-pub complete-requires-clause-narrowed : goal.complete-requires-clause-narrowed
-complete-requires-clause-narrowed c =
+pub complete-requires-clause-restricted : goal.complete-requires-clause-restricted
+complete-requires-clause-restricted c =
     let it = c.new-constraints.result in
     let pairs = are_pairs c.args.forced.now c.args.between.now it c.new-constraints.ensures.len c.new-constraints.ensures.pairs c.new-constraints.ensures.triples in
     let rows = Holds c.args.forced.now.rows in
-    subst (λ (xs : List ℕ). IsNarrowed (constrained_len it) (ComesBefore it) (MayNotStand it) rows xs) (sym c.new-order.ensures)
-    (IsNarrowed-nil (constrained_len it) (ComesBefore it) (MayNotStand it) rows (λ a d. ((pairs a d).1, (pairs a d).0)))
+    subst (λ (xs : List ℕ). IsRestricted (constrained_len it) (ComesBefore it) (MayNotStand it) rows xs) (sym c.new-order.ensures)
+    (IsRestricted-nil (constrained_len it) (ComesBefore it) (MayNotStand it) rows (λ a d. ((pairs a d).1, (pairs a d).0)))
 
 pub returns-then-complete-clause-found : goal.returns-then-complete-clause-found
 returns-then-complete-clause-found c =

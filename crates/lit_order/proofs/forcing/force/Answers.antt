@@ -33,14 +33,14 @@ forcing-preserved c =
     let rows = Holds c.forcing.forced.rows in
     let first = c.in-Some.next.first in
     let second = c.in-Some.next.second in
-    let kept = c.forcing.invariant in
-    let forced = next_is_forced before forbidden rows kept.sound first second c.in-Some.ensures in
+    let so_far = c.forcing.invariant in
+    let forced = next_is_forced before forbidden rows so_far.sound first second c.in-Some.ensures in
     record {
-      len = c.close_with.ensures.len ∙ kept.len;
-      given = λ a d h. (c.close_with.ensures.pairs a d).1 (inl (kept.given a d h));
-      sound = λ a d h. with_pair_forced before forbidden rows kept.sound first second forced a d ((c.close_with.ensures.pairs a d).0 h);
-      transitive = c.close_with.ensures.transitive kept.transitive;
-      no_cycle = λ e h. with_pair_no_cycle rows kept.transitive kept.no_cycle first second (next_apart rows forbidden first second c.in-Some.ensures)
+      len = c.close_with.ensures.len ∙ so_far.len;
+      given = λ a d h. (c.close_with.ensures.pairs a d).1 (inl (so_far.given a d h));
+      sound = λ a d h. with_pair_forced before forbidden rows so_far.sound first second forced a d ((c.close_with.ensures.pairs a d).0 h);
+      transitive = c.close_with.ensures.transitive so_far.transitive;
+      no_cycle = λ e h. with_pair_no_cycle rows so_far.transitive so_far.no_cycle first second (next_apart rows forbidden first second c.in-Some.ensures)
           (λ back. false≢true (c.if-holds.ensures.1 back)) e ((c.close_with.ensures.pairs e e).0 h);
     }
 
@@ -55,10 +55,10 @@ pub returns : goal.returns
 returns c =
     let before = Holds c.args.forced.now.rows in
     let forbidden = Forbids c.args.between.now in
-    let kept = c.forcing.invariant in
-    let within = forced_within before forbidden (Holds c.forcing.forced.rows) kept.given kept.transitive c.in_default.ensures in
+    let so_far = c.forcing.invariant in
+    let within = forced_within before forbidden (Holds c.forcing.forced.rows) so_far.given so_far.transitive c.in_default.ensures in
     record {
-      cycle = ((λ h. absurd (h refl)), (λ cycle. absurd (kept.no_cycle cycle.0 (within cycle.0 cycle.0 cycle.1))));
-      len = kept.len;
-      pairs = λ _ a d. (kept.sound a d, within a d);
+      cycle = ((λ h. absurd (h refl)), (λ cycle. absurd (so_far.no_cycle cycle.0 (within cycle.0 cycle.0 cycle.1))));
+      len = so_far.len;
+      pairs = λ _ a d. (so_far.sound a d, within a d);
     }

@@ -17,13 +17,13 @@ extend-requires t c =
     let it = c.args.constraints.now in
     let n = constrained_len it in
     let order = c.args.order.now.items in
-    let same_length : length c.loop-event.order.items ≡ length order = ap length c.loop-event.invariant.kept in
+    let same_length : length c.loop-event.order.items ≡ length order = ap length c.loop-event.invariant.unchanged in
     let shorter : n - length c.push.new.self.items < n - length order = omega arith in (
       search rules,
       (
         omega arith,
         IsPlaced-next n (ComesBefore it) (MayNotStand it) (HasEvent c.args.placed) order _ c.requires.begun (HasEvent c.with.result) c.loop-event.order.items c.push.new.self.items
-            c.loop-event.invariant.kept c.push.ensures.items (omega arith) (c.if-can_stand_next.ensures.0 refl) c.with.ensures,
+            c.loop-event.invariant.unchanged c.push.ensures.items (omega arith) (c.if-can_stand_next.ensures.0 refl) c.with.ensures,
       ),
     )
 
@@ -32,7 +32,7 @@ returns-then-extend-clause-found t c _ =
     let it = c.args.constraints.now in
     let order = c.args.order.now.items in
     let event = c.loop-event.event in
-    let least : IsLeastOf it (order ++ event ∷ []) c.extend.new.order.items = rw (c.push.ensures.items, c.loop-event.invariant.kept) at (c.if-extend.ensures.found refl) in
+    let least : IsLeastOf it (order ++ event ∷ []) c.extend.new.order.items = rw (c.push.ensures.items, c.loop-event.invariant.unchanged) at (c.if-extend.ensures.found refl) in
     IsLeastFrom-push (constrained_len it) (ComesBefore it) (MayNotStand it) order event c.extend.new.order.items (omega arith) c.loop-event.invariant.none least
 
 pub loop-event-preserved : goal.loop-event-preserved
@@ -40,19 +40,19 @@ loop-event-preserved t c =
     let it = c.args.constraints.now in
     let order = c.args.order.now.items in
     let event = c.loop-event.event in
-    let kept = c.loop-event.invariant.kept in
+    let unchanged = c.loop-event.invariant.unchanged in
     let NoneAt : ℕ → Type 0 = λ e. BeginsNone it (order ++ e ∷ []) in
     elim c.if-can_stand_next.branch [
       | then-can_stand_next+else-extend w ↦
-          let none : NoneAt event = rw (w.push.ensures.items, kept) at (w.if-extend.ensures.none false≢true) in
+          let none : NoneAt event = rw (w.push.ensures.items, unchanged) at (w.if-extend.ensures.none false≢true) in
           record {
-            kept = ap (λ v. v.items) w.order-is ∙ popped_is order c.loop-event.order.items w.push.new.self.items w.extend.new.order.items w.pop.new.self.items event
-                kept w.push.ensures.items (w.if-extend.ensures.kept false≢true) w.pop.ensures.rest;
+            unchanged = ap (λ v. v.items) w.order-is ∙ popped_is order c.loop-event.order.items w.push.new.self.items w.extend.new.order.items w.pop.new.self.items event
+                unchanged w.push.ensures.items (w.if-extend.ensures.unchanged false≢true) w.pop.ensures.rest;
             none = below_more NoneAt event c.loop-event.invariant.none none;
           }
       | else-can_stand_next w ↦
           record {
-            kept = ap (λ v. v.items) w.order-is ∙ kept;
+            unchanged = ap (λ v. v.items) w.order-is ∙ unchanged;
             none = below_more NoneAt event c.loop-event.invariant.none
                 (HasNoOrder-cannot (constrained_len it) (ComesBefore it) (MayNotStand it) (HasEvent c.args.placed) order event c.requires.begun (λ x r v f. f.read_known) (λ can. false≢true (w.if-can_stand_next.ensures.1 can)));
           }

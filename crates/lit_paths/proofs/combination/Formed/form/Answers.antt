@@ -22,8 +22,8 @@ find_ways-requires-clause-whole c =
       arith,
       c.requires.whole,
       before_more c.args.paths.now c.args.number c.requires.known,
-      ap (λ es. length (sources_of es)) c.join.ensures.joined.events,
-      ap (λ ws. length ws) (candidate_lists-known c.join.new.joined.events.items c.find_byte_reads.new.reads.items reads),
+      ap (λ es. length (sources_of es)) c.join.ensures.combination_paths.events,
+      ap (λ ws. length ws) (candidate_lists-known c.join.new.combination_paths.events.items c.find_byte_reads.new.reads.items reads),
       ap₂ (λ es rs. length (product (candidate_lists es rs))) c.as_slice-events.ensures.value c.as_slice.ensures.value,
     )
 
@@ -33,8 +33,8 @@ find_ways-requires-clause-some c =
       arith,
       c.requires.whole,
       before_more c.args.paths.now c.args.number c.requires.known,
-      ap (λ es. length (sources_of es)) c.join.ensures.joined.events,
-      some_choice c.args.paths.now.bytes c.join.new.joined.events.items c.join.ensures.sound,
+      ap (λ es. length (sources_of es)) c.join.ensures.combination_paths.events,
+      some_choice c.args.paths.now.bytes c.join.new.combination_paths.events.items c.join.ensures.sound,
     )
 
 pub returns : goal.returns
@@ -42,7 +42,7 @@ returns c =
     let reads = c.find_byte_reads.ensures ∙ ap byte_reads c.as_slice-events.ensures.value in
     let same = ap₂ candidate_lists c.as_slice-events.ensures.value c.as_slice.ensures.value in
     record {
-      joined = c.join.ensures.joined;
+      combination_paths = c.join.ensures.combination_paths;
       sound = c.join.ensures.sound;
       all_reads = reads;
       all_candidates = c.find_ways.ensures.candidates ∙ same;
@@ -51,7 +51,7 @@ returns c =
         arith,
         c.requires.whole,
         before_more c.args.paths.now c.args.number c.requires.known,
-        ap (λ es. length (sources_of es)) c.join.ensures.joined.events,
-        ap (λ ws. length ws) (candidate_lists-known c.join.new.joined.events.items c.find_byte_reads.new.reads.items reads),
+        ap (λ es. length (sources_of es)) c.join.ensures.combination_paths.events,
+        ap (λ ws. length ws) (candidate_lists-known c.join.new.combination_paths.events.items c.find_byte_reads.new.reads.items reads),
       );
     }

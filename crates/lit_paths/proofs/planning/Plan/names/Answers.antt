@@ -1,7 +1,7 @@
 use Rattle.std.proofs.Common.{ℕ, List, length, sym, ap, subst, ◌∙◌}
 use Rattle.std.specs.Prelude.{All}
 use Rattle.lit_paths.specs.Outcome.{names_of}
-use Rattle.lit_paths.proofs.NameSteps.{IsWithin, names_from-within}
+use Rattle.lit_paths.proofs.OutcomeRegisterSteps.{IsWithin, names_from-within}
 use Rattle.lit_paths.proofs.planning.Plan.names.Goals as goal
 
 pub returns-clause-known : goal.returns-clause-known

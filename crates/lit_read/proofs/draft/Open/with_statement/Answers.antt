@@ -10,5 +10,5 @@ use Rattle.lit_read.proofs.draft.Open.with_statement.Goals as goal
 
 pub returns : goal.returns
 returns c =
-    ap (λ (body : Statements). Ok (Open (string_bytes c.args.self.name) c.args.self.bytes (agents_view c.args.self.agents.entries) (string_bytes c.args.self.agent) (views c.args.self.levels.items) body))
+    ap (λ (body : Statements). Ok (Open (string_bytes c.args.self.name) c.args.self.bytes (agents_view c.args.self.agents.entries) (string_bytes c.args.self.agent) (views c.args.self.ifs.items) body))
     (sym (ap statements_of c.in_ok-push.ensures.items ∙ statements_pushed c.args.self.body.items c.args.stmt))

@@ -1,5 +1,5 @@
 use Rattle.std.proofs.Common.{arith}
-use Rattle.lit_read.proofs.FrameLemmas.{any_several}
+use Rattle.lit_read.proofs.GroupLemmas.{any_several}
 use Rattle.lit_read.proofs.draft.conditions.any_of.Goals as goal
 
 pub returns-then-len-ne1 : goal.returns-then-len-ne1

@@ -13,9 +13,9 @@ returns-in-Some-clause-triples c x y v =
     let found = c.in-Some.ensures in
     let there : slice_get items place ≡ Some found.0 = rw c.as_slice.ensures.value at found.1 in
     let read_here = get_or_from_slice_get c.deref.result.now place found.0 no_pair (rw c.deref.ensures.0 there) in
-    let kept : Pair = get_or c.deref_mut.result.now place no_pair in
-    let written_here : kept ≡ found.0 = get_or_from_slice_get c.deref_mut.result.now place found.0 no_pair (rw c.deref_mut.ensures.value there) in
-    let new : Pair = record { source = kept.source; read = kept.read; others = c.union.result } in
+    let stored : Pair = get_or c.deref_mut.result.now place no_pair in
+    let written_here : stored ≡ found.0 = get_or_from_slice_get c.deref_mut.result.now place found.0 no_pair (rw c.deref_mut.ensures.value there) in
+    let new : Pair = record { source = stored.source; read = stored.read; others = c.union.result } in
     Forbids-set c.self.inside.len c.args.w c.args.r items _ c.args.others c.args.self.now c.self.view_is c.requires.source c.requires.read x y v place found.0 new there
     (record { source = found.2.source ∙ c.from.ensures; read = found.2.read ∙ c.from-2.ensures })
     (ap (λ (p : Pair). p.source) written_here) (ap (λ (p : Pair). p.read) written_here)

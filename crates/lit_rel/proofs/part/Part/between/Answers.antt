@@ -13,5 +13,5 @@ returns-clause-triples c w r v =
     let events = part_events part in
     let order = given_order _ part _ c.self.view_is c.self.invariant.at_all events part.sources refl refl in
     let by = rw (c.given-given.ensures.events, c.given-given.ensures.sources) at (c.between.ensures.triples w r v) in
-    let same = IsForbiddenTriple-same events (ReadsByteFrom events part.sources) (Holds c.self.inside.level.before.rows) (HappensBefore events part.sources) order.pairs w r v in
+    let same = IsForbiddenTriple-same events (ReadsByteFrom events part.sources) (Holds c.self.inside.prefix_state.before.rows) (HappensBefore events part.sources) order.pairs w r v in
     (λ h. same.0 (by.0 h), λ f. by.1 (same.1 f))

@@ -10,8 +10,8 @@ use Rattle.lit_rel.specs.declared.part.Part.TheInside.{Inside}
 use Rattle.lit_rel.specs.declared.rows.two_way_rows.TwoWayRows.{TwoWayRows}
 use Rattle.lit_rel.specs.Part.{IsNextSource, PartModel}
 use Rattle.lit_rel.specs.Internal.Given.{IsKnown, part_of, read_of, sources_of}
-use Rattle.lit_rel.specs.Internal.Levels.{IsKept, IsLevel, IsOrder}
-use Rattle.lit_rel.proofs.PartLemmas.{few_bytes, first_more, IsKept-push, IsNextByte, IsNextByte-from, known_more, left_of, next_known, sources_more}
+use Rattle.lit_rel.specs.Internal.PrefixStates.{HasPrefixStates, IsPrefixState, IsOrder}
+use Rattle.lit_rel.proofs.PartLemmas.{few_bytes, first_more, HasPrefixStates-push, IsNextByte, IsNextByte-from, known_more, left_of, next_known, sources_more}
 use Rattle.lit_rel.proofs.part.Part.push.Goals as goal
 
 -- the byte that is pushed, as the code has it
@@ -25,14 +25,14 @@ next_byte inside reads n source value view next are count =
     IsNextByte-from (part_of inside.combination.0 inside.combination.1 inside.bytes.items) inside.bytes.items source refl (subst (λ (p : PartModel). IsNextSource p source) (sym view) next) reads are n count (record { read = 0; byte = 0 })
 
 -- what happens before with it
-module _ (inside : Inside) (byte : SourcedByte) (kept : IsKept inside.combination.0 inside.combination.1 inside.bytes.items inside.earlier.items inside.level) (new : IsNextByte (part_of inside.combination.0 inside.combination.1 inside.bytes.items) inside.bytes.items byte) where
+module _ (inside : Inside) (byte : SourcedByte) (so_far : HasPrefixStates inside.combination.0 inside.combination.1 inside.bytes.items inside.earlier.items inside.prefix_state) (new : IsNextByte (part_of inside.combination.0 inside.combination.1 inside.bytes.items) inside.bytes.items byte) where
   next_order : (events : List Event) (order : TwoWayRows) (more : List SourcedByte) → events ≡ events_in inside.combination.0 inside.combination.1 → more ≡ inside.bytes.items ++ byte ∷ []
-      → ((sources : List ℕ) → slice_get (byte_reads events) (length sources) ≡ Some (read_of byte) → IsOrder events sources inside.level.before.rows → IsOrder events (sources ++ byte.source ∷ []) order.rows)
+      → ((sources : List ℕ) → slice_get (byte_reads events) (length sources) ≡ Some (read_of byte) → IsOrder events sources inside.prefix_state.before.rows → IsOrder events (sources ++ byte.source ∷ []) order.rows)
       → IsOrder (events_in inside.combination.0 inside.combination.1) (sources_of more) order.rows
   next_order events order more same pushed with =
-      let left = left_of inside.combination.0 inside.combination.1 inside.bytes.items inside.earlier.items inside.level byte kept new in
-      let sources = sources_more inside.combination.0 inside.combination.1 inside.bytes.items inside.earlier.items inside.level byte kept new more pushed in
-      rw sources (rw same at (with (sources_of inside.bytes.items) (rw same left) (rw same kept.at_all.before)))
+      let left = left_of inside.combination.0 inside.combination.1 inside.bytes.items inside.earlier.items inside.prefix_state byte so_far new in
+      let sources = sources_more inside.combination.0 inside.combination.1 inside.bytes.items inside.earlier.items inside.prefix_state byte so_far new more pushed in
+      rw sources (rw same at (with (sources_of inside.bytes.items) (rw same left) (rw same so_far.at_all.before)))
 
 pub order_with-before-requires-clause-known : goal.order_with-before-requires-clause-known
 order_with-before-requires-clause-known c =
@@ -71,5 +71,5 @@ pub invariant_of-self : goal.invariant_of-self
 invariant_of-self c =
     let inside = c.self.inside in
     let new = next_byte inside c.byte_reads.result.now c.len.result c.args.source c.args.self.now c.self.view_is c.requires c.byte_reads.ensures c.len.ensures.value in
-    IsKept-push _ _ _ _ _ _ c.self.invariant new c.push.new.self.items c.push-2.new.self.items c.new-self-inside.result c.push.ensures.items c.push-2.ensures.items
-    (subst (λ (xs : List SourcedByte). IsLevel (part_of inside.combination.0 inside.combination.1 xs) c.new-self-inside.result) c.as_slice.ensures.value c.new-self-inside.ensures)
+    HasPrefixStates-push _ _ _ _ _ _ c.self.invariant new c.push.new.self.items c.push-2.new.self.items c.new-self-inside.result c.push.ensures.items c.push-2.ensures.items
+    (subst (λ (xs : List SourcedByte). IsPrefixState (part_of inside.combination.0 inside.combination.1 xs) c.new-self-inside.result) c.as_slice.ensures.value c.new-self-inside.ensures)

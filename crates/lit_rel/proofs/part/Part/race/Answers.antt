@@ -11,7 +11,7 @@ pub returns : goal.returns
 returns c =
     let part = c.args.self.now in
     let events = part_events part in
-    let rows = Holds c.self.inside.level.before.rows in
+    let rows = Holds c.self.inside.prefix_state.before.rows in
     let before = HappensBefore events part.sources in
     let reads = ReadsFrom events part.sources in
     let order = given_order _ part _ c.self.view_is c.self.invariant.at_all events part.sources refl refl in

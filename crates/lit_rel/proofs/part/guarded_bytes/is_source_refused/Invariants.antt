@@ -1,7 +1,7 @@
 use Rattle.std.proofs.Common.{ℕ, ◌<◌}
 use Rattle.lit_paths.specs.Event.{event_at, payload_at}
 use Rattle.lit_paths.specs.Plan.{events_in, first_event, path_in}
-use Rattle.lit_rel.specs.Internal.Refused.{HasFalseByte}
+use Rattle.lit_rel.specs.Internal.FalseGuards.{HasFalseByte}
 use Rattle.lit_rel.proofs.part.guarded_bytes.is_source_refused.Given as goal
 
 abbrev pub invariant-loop-agent : goal.invariant-loop-agent

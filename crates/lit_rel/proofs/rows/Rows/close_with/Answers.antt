@@ -5,7 +5,7 @@ use Rattle.lit_rel.proofs.rows.Rows.close_with.Goals as goal
 
 pub returns-clause-transitive : goal.returns-clause-transitive
 returns-clause-transitive c through =
-    let kept = WithPair-transitive (Holds c.args.self.now) c.args.a c.args.d through in grind (arith, kept)
+    let still_transitive = WithPair-transitive (Holds c.args.self.now) c.args.a c.args.d through in grind (arith, still_transitive)
 
 pub returns-clause-least : goal.returns-clause-least
 returns-clause-least c other through has pair x y held =

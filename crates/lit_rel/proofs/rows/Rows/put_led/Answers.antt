@@ -10,14 +10,14 @@ pub loop-first-preserved : goal.loop-first-preserved
 loop-first-preserved c =
     let init = Holds c.args.self.now in
     let cur = Holds c.loop-first.self in
-    let kept = c.loop-first.invariant in
+    let so_far = c.loop-first.invariant in
     elim c.if-leads.branch [
       | then-leads w ↦ rw w.self-is record {
-        len = w.put_all.ensures.len ∙ kept.len;
-        pairs = led_more init cur c.args.a c.loop-first.first (HasEvent c.args.set) kept.pairs (Holds w.put_all.new.self) (w.if-leads.ensures.0 refl) w.put_all.ensures.pairs;
+        len = w.put_all.ensures.len ∙ so_far.len;
+        pairs = led_more init cur c.args.a c.loop-first.first (HasEvent c.args.set) so_far.pairs (Holds w.put_all.new.self) (w.if-leads.ensures.0 refl) w.put_all.ensures.pairs;
       }
       | else-leads w ↦ rw w.self-is record {
-        len = kept.len;
-        pairs = led_skip init cur c.args.a c.loop-first.first (HasEvent c.args.set) kept.pairs (λ h. false≢true (w.if-leads.ensures.1 h));
+        len = so_far.len;
+        pairs = led_skip init cur c.args.a c.loop-first.first (HasEvent c.args.set) so_far.pairs (λ h. false≢true (w.if-leads.ensures.1 h));
       }
     ]

@@ -1,0 +1,148 @@
+//! The guards of paths, and which reads their registers hold at the end.
+
+use lit_paths::{Tested, plan};
+use lit_read::read;
+use lit_texts::{BOTH_EXCHANGE_FOR_ONE, LOAD_BUFFERING, STORE_BUFFERING};
+use std::alloc::AllocGlobal;
+use std::process::Abort;
+use std::test::Fail;
+
+/// Asserts that a test has this number of combinations, that the path of an agent in one of them, by the numbers of both,
+/// has this number of events and exactly these guards, and that each of these registers holds the read at this place at the end.
+fn assert_guards(
+    rt: &(impl Abort + AllocGlobal),
+    text: &str,
+    combinations: usize,
+    (combination, agent): (usize, usize),
+    events: usize,
+    guards: &[Tested],
+    observed: &[(u8, Option<u8>)],
+) -> Result<(), Fail> {
+    let test = read(rt.alloc(), text.as_bytes())?;
+    let plan = plan(rt.alloc(), &test)?;
+    assert_eq!(rt; plan.combinations(), combinations);
+    assert!(rt; combination < combinations && agent < plan.test().agents());
+    let path = plan.path(combination, agent);
+    assert_eq!(rt; path.events().len(), events);
+    assert!(rt; path.tests() == guards);
+    for (register, place) in observed {
+        assert!(rt; *register < 8 && path.last(*register) == *place);
+    }
+    Ok(())
+}
+
+/// A guard on the value read at a place.
+fn of_place(place: u8, equal: bool, value: u32) -> Tested {
+    Tested {
+        on: Some(place),
+        equal,
+        value,
+    }
+}
+
+#[test]
+fn no_branch(rt: HostRuntime) -> Result<(), Fail> {
+    let observed = [(0, Some(1)), (1, None)];
+    assert_guards(&rt, STORE_BUFFERING, 1, (0, 1), 2, &[], &observed)
+}
+
+#[test]
+fn one_branch(rt: HostRuntime) -> Result<(), Fail> {
+    let observed = [(0, Some(0)), (1, None)];
+    let stores = [of_place(0, true, 1)];
+    assert_guards(&rt, LOAD_BUFFERING, 4, (1, 0), 2, &stores, &observed)?;
+    let skips = [of_place(0, false, 1)];
+    assert_guards(&rt, LOAD_BUFFERING, 4, (1, 1), 1, &skips, &observed)
+}
+
+#[test]
+fn two_ifs_of_one_register(rt: HostRuntime) -> Result<(), Fail> {
+    let text = "test two
+bytes 1
+agent A
+r0 = U8[0]
+if r0 == 1 {
+}
+if r0 == 2 {
+}
+check A.r0 == 0
+";
+    let both = [of_place(0, true, 1), of_place(0, true, 2)];
+    assert_guards(&rt, text, 4, (0, 0), 1, &both, &[(0, Some(0)), (1, None)])?;
+    let second = [of_place(0, false, 1), of_place(0, true, 2)];
+    assert_guards(&rt, text, 4, (2, 0), 1, &second, &[])
+}
+
+#[test]
+fn exchange_that_expects_zero(rt: HostRuntime) -> Result<(), Fail> {
+    let text = "test zero
+bytes 2
+agent A
+r1 = U8[1]
+r0 = Atomics.compareExchange(U8, 0, 0, 1)
+check A.r0 == 0
+";
+    let observed = [(0, Some(1)), (1, Some(0))];
+    assert_guards(&rt, text, 2, (0, 0), 2, &[of_place(1, true, 0)], &observed)?;
+    assert_guards(&rt, text, 2, (1, 0), 2, &[of_place(1, false, 0)], &observed)
+}
+
+#[test]
+fn one_if_twice(rt: HostRuntime) -> Result<(), Fail> {
+    let text = "test again
+bytes 1
+agent A
+r0 = U8[0]
+if r0 == 1 {
+}
+if r0 == 1 {
+}
+check A.r0 == 0
+";
+    let twice = [of_place(0, true, 1), of_place(0, true, 1)];
+    assert_guards(&rt, text, 4, (0, 0), 1, &twice, &[])
+}
+
+#[test]
+fn register_of_an_else_part(rt: HostRuntime) -> Result<(), Fail> {
+    let text = "test other
+bytes 2
+agent A
+r0 = U8[0]
+if r0 == 1 {
+} else {
+r1 = U8[1]
+}
+if r1 != 2 {
+}
+check A.r0 == 0
+";
+    let of_nothing = Tested {
+        on: None,
+        equal: false,
+        value: 2,
+    };
+    let then_part = [of_place(0, true, 1), of_nothing];
+    assert_guards(&rt, text, 4, (0, 0), 1, &then_part, &[(1, None)])?;
+    let else_part = [of_place(0, false, 1), of_place(1, true, 2)];
+    assert_guards(&rt, text, 4, (3, 0), 2, &else_part, &[(1, Some(1))])
+}
+
+#[test]
+fn two_exchanges(rt: HostRuntime) -> Result<(), Fail> {
+    let (text, observed) = (BOTH_EXCHANGE_FOR_ONE, [(0, Some(0))]);
+    assert_guards(&rt, text, 4, (1, 0), 1, &[of_place(0, true, 0)], &observed)?;
+    assert_guards(&rt, text, 4, (1, 1), 1, &[of_place(0, false, 0)], &observed)
+}
+
+#[test]
+fn paths_of_a_combination(rt: HostRuntime) -> Result<(), Fail> {
+    let test = read(rt.alloc(), BOTH_EXCHANGE_FOR_ONE.as_bytes())?;
+    let plan = plan(rt.alloc(), &test)?;
+    assert!(rt; plan.combinations() == 4);
+    let combination = plan.enter(1);
+    assert!(rt; combination.test().agents() == 2);
+    assert!(rt; combination.path(1).tests() == [of_place(0, false, 0)].as_slice());
+    assert!(rt; combination.first_event(0) == 1 && combination.first_event(1) == 2);
+    Ok(())
+}
