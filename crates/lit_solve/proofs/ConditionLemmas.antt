@@ -3,8 +3,8 @@ use Rattle.lit_solve.proofs.Words.{◌<◌, Bool, Cond, Condition, condition_of,
 use Rattle.lit_solve.proofs.Words.{length, List, list_all, list_all_at, list_any, list_any_at, names_of, subst, true, Vec, zip, ℕ, ◌∙◌, ◌≡◌}
 use Rattle.lit_read.specs.declared.syntax.Cond as code
 use Rattle.lit_paths.proofs.Conditions.{member_holds, holds-All, holds-Any}
-use Rattle.lit_solve.specs.declared.deciding.Decided.{Decided}
-use Rattle.lit_solve.specs.declared.deciding.Decided.TheVariants.{Comes, Hangs}
+use Rattle.lit_solve.specs.declared.condition_values.Decided.{Decided}
+use Rattle.lit_solve.specs.declared.condition_values.Decided.TheVariants.{Comes, Hangs}
 use Rattle.lit_solve.specs.Box.{Box}
 use Rattle.lit_solve.specs.Fill.{AreSourcesIn}
 use Rattle.lit_solve.specs.Prospect.{IsUndecidedAt, outcome_by}

@@ -1,7 +1,7 @@
 -- How lists between two ends lie in the boxes of these.
 use Rattle.lit_solve.proofs.Words.{◌*◌, ◌+◌, ◌-◌, ◌<◌, arith, cases_lt, cases_order, IfSome, length, List, None, Option, refl, Some, subst}
 use Rattle.lit_solve.proofs.Words.{sym, ℕ, ◌≡◌, ◌≤◌, ⊎_elim}
-use Rattle.lit_solve.specs.Internal.Cut.{IsCut, IsGreaterAt}
+use Rattle.lit_solve.specs.Internal.Cut.{IsRangeCut, IsGreaterAt}
 
 -- what goes with l for longer than h does is below h where h leaves l
 pub below_as_low : (l h s : List ℕ) (p k : ℕ) → length l ≡ length s → IsGreaterAt l p h → IsGreaterAt l k s → p < k → IsGreaterAt s p h
@@ -72,14 +72,14 @@ module _ (len shared lows highs : ℕ) (s : List ℕ) (long : length s ≡ len) 
         },
       )
 
-  found_from_low : (l : List ℕ) → IsCut len (Some l) None shared lows highs → (k : ℕ) → k ≤ len → Up l k → IsFound (Some l) None
+  found_from_low : (l : List ℕ) → IsRangeCut len (Some l) None shared lows highs → (k : ℕ) → k ≤ len → Up l k → IsFound (Some l) None
   found_from_low l cut k inside up =
       ⊎_elim
       (λ late. found_before l None k up late (omega (arith, inside, cut.before.count)))
       (λ not_late. found_middle (Some l) None (let same : k ≡ shared = omega (arith, not_late, cut.behind.fits) in subst (λ (j : ℕ). Up l j) same up) tt)
       (cases_lt shared k)
 
-  found_from_high : (h : List ℕ) → IsCut len None (Some h) shared lows highs → (k : ℕ) → k ≤ len → Down h k → IsFound None (Some h)
+  found_from_high : (h : List ℕ) → IsRangeCut len None (Some h) shared lows highs → (k : ℕ) → k ≤ len → Down h k → IsFound None (Some h)
   found_from_high h cut k inside down =
       ⊎_elim
       (λ late. found_behind None h k down late (omega (arith, inside, cut.behind.count)))
@@ -87,7 +87,7 @@ module _ (len shared lows highs : ℕ) (s : List ℕ) (long : length s ≡ len) 
       (cases_lt shared k)
 
   -- k is where the list leaves the low end, and e where it leaves the high one
-  found_from_both : (l h : List ℕ) → IsCut len (Some l) (Some h) shared lows highs → (k : ℕ) → k ≤ len → Up l k → (e : ℕ) → e ≤ len → Down h e
+  found_from_both : (l h : List ℕ) → IsRangeCut len (Some l) (Some h) shared lows highs → (k : ℕ) → k ≤ len → Up l k → (e : ℕ) → e ≤ len → Down h e
       → IsFound (Some l) (Some h)
   found_from_both l h cut k k_in up e e_in down =
       let part : IsGreaterAt l shared h = cut.parting l h refl refl in
@@ -110,14 +110,14 @@ module _ (len shared lows highs : ℕ) (s : List ℕ) (long : length s ≡ len) 
       apart)
       (cases_order k e)
 
-  pub found : (low high : Option (List ℕ)) → IsCut len low high shared lows highs → IsBetween len low high s → IsFound low high
+  pub found : (low high : Option (List ℕ)) → IsRangeCut len low high shared lows highs → IsBetween len low high s → IsFound low high
   found None None cut is = found_middle None None tt tt
   found None (Some h) cut is = found_from_high h cut is.below.0 is.below.1 is.below.2
   found (Some l) None cut is = found_from_low l cut is.above.0 is.above.1 is.above.2
   found (Some l) (Some h) cut is = found_from_both l h cut is.above.0 is.above.1 is.above.2 is.below.0 is.below.1 is.below.2
 
   -- ---- back from a box
-  between_both : (l h : List ℕ) → IsCut len (Some l) (Some h) shared lows highs → (i : ℕ) → i < lows + 1 + highs
+  between_both : (l h : List ℕ) → IsRangeCut len (Some l) (Some h) shared lows highs → (i : ℕ) → i < lows + 1 + highs
       → IsInCut (Some l) (Some h) shared lows i s → IsBetween len (Some l) (Some h) s
   between_both l h cut i inside is =
       let part : IsGreaterAt l shared h = cut.parting l h refl refl in
@@ -142,7 +142,7 @@ module _ (len shared lows highs : ℕ) (s : List ℕ) (long : length s ≡ len) 
       apart)
       (cases_order i lows)
 
-  pub between : (low high : Option (List ℕ)) → IsCut len low high shared lows highs → (i : ℕ) → i < lows + 1 + highs
+  pub between : (low high : Option (List ℕ)) → IsRangeCut len low high shared lows highs → (i : ℕ) → i < lows + 1 + highs
       → IsInCut low high shared lows i s → IsBetween len low high s
   between low high cut i inside is = grind (arith, between_both)
 
@@ -152,17 +152,17 @@ module _ (len shared lows highs : ℕ) (s u : List ℕ) (long : length s ≡ len
   IsLess = (k : ℕ) × (k < len) × IsGreaterAt s k u
 
   -- both before the middle box or there
-  rises_before : (l : List ℕ) (high : Option (List ℕ)) → IsCut len (Some l) high shared lows highs → j ≤ lows
+  rises_before : (l : List ℕ) (high : Option (List ℕ)) → IsRangeCut len (Some l) high shared lows highs → j ≤ lows
       → IsInCut (Some l) high shared lows i s → IsInCut (Some l) high shared lows j u → IsLess
   rises_before l high cut low first second = grind arith
 
   -- both behind it or there
-  rises_behind : (low : Option (List ℕ)) (h : List ℕ) → IsCut len low (Some h) shared lows highs → lows ≤ i
+  rises_behind : (low : Option (List ℕ)) (h : List ℕ) → IsRangeCut len low (Some h) shared lows highs → lows ≤ i
       → IsInCut low (Some h) shared lows i s → IsInCut low (Some h) shared lows j u → IsLess
   rises_behind low h cut high first second = grind arith
 
   -- one before it and one behind
-  rises_across : (l h : List ℕ) → IsCut len (Some l) (Some h) shared lows highs → i < lows → lows < j
+  rises_across : (l h : List ℕ) → IsRangeCut len (Some l) (Some h) shared lows highs → i < lows → lows < j
       → IsInCut (Some l) (Some h) shared lows i s → IsInCut (Some l) (Some h) shared lows j u → IsLess
   rises_across l h cut before behind first second =
       let low_long : length l ≡ len = cut.before.long in
@@ -176,9 +176,9 @@ module _ (len shared lows highs : ℕ) (s u : List ℕ) (long : length s ≡ len
             (omega (arith, behind)),
       )
 
-  pub rises : (low high : Option (List ℕ)) → IsCut len low high shared lows highs → IsInCut low high shared lows i s → IsInCut low high shared lows j u → IsLess
+  pub rises : (low high : Option (List ℕ)) → IsRangeCut len low high shared lows highs → IsInCut low high shared lows i s → IsInCut low high shared lows j u → IsLess
   rises low high cut first second = grind (arith, cases_lt, rises_across, rises_before, rises_behind)
 
 -- there are few boxes
-pub few_boxes : (len shared lows highs : ℕ) (low high : Option (List ℕ)) → IsCut len low high shared lows highs → lows + 1 + highs ≤ 2 * len + 1
+pub few_boxes : (len shared lows highs : ℕ) (low high : Option (List ℕ)) → IsRangeCut len low high shared lows highs → lows + 1 + highs ≤ 2 * len + 1
 few_boxes len shared lows highs low high cut = grind arith

@@ -8,14 +8,14 @@ use Rattle.lit_solve.specs.Box.{Box, HasEmptyDomain, HasSource, IsBox, IsWithin,
 use Rattle.lit_solve.specs.Completion.{IsCompletion}
 use Rattle.lit_solve.specs.Prunable.{IsPrunable}
 use Rattle.lit_solve.specs.Internal.Frames.{IsContained}
-use Rattle.lit_solve.specs.Internal.Narrowing.{HasNoCompletion, Narrows, size_of}
+use Rattle.lit_solve.specs.Internal.Pruning.{HasNoCompletion, Prunes, size_of}
 use Rattle.lit_solve.proofs.BoxLemmas.{before_grows, forced_grows}
 use Rattle.lit_solve.proofs.CompletionLemmas.{sourced}
-use Rattle.lit_solve.proofs.NarrowingLemmas.{read_here}
+use Rattle.lit_solve.proofs.PruningLemmas.{read_here}
 
 -- the box with this domain for the byte read at a place
-abbrev pub narrowed_at : Box → ℕ → EventSet → Box
-narrowed_at box place left = record { test = box.test; combination = box.combination; domains = slice_set box.domains place left }
+abbrev pub pruned_at : Box → ℕ → EventSet → Box
+pruned_at box place left = record { test = box.test; combination = box.combination; domains = slice_set box.domains place left }
 
 -- the frame too
 abbrev pub frame_at : Frame → ℕ → EventSet → Frame
@@ -34,28 +34,28 @@ module _ (box : Box) (place : ℕ) (left : EventSet) (room : place < length box.
   domain_other k other = get_or-set_other box.domains place k left no_events other
 
   -- an event is in a domain of the new box exactly where it is in that of the old one, and in what is left at the place
-  pub source_here : (w : ℕ) → HasEvent left w → HasSource (narrowed_at box place left) place w
+  pub source_here : (w : ℕ) → HasEvent left w → HasSource (pruned_at box place left) place w
   source_here w there = subst (λ (set : EventSet). HasEvent set w) (sym domain_here) there
 
-  pub source_other : (k w : ℕ) → k ≢ place → HasSource box k w → HasSource (narrowed_at box place left) k w
+  pub source_other : (k w : ℕ) → k ≢ place → HasSource box k w → HasSource (pruned_at box place left) k w
   source_other k w other there = subst (λ (set : EventSet). HasEvent set w) (sym (domain_other k other)) there
 
   -- no domain is empty, where something is left
-  pub none_empty_at : ¬ HasEmptyDomain box → (w : ℕ) × HasEvent left w → ¬ HasEmptyDomain (narrowed_at box place left)
+  pub none_empty_at : ¬ HasEmptyDomain box → (w : ℕ) × HasEvent left w → ¬ HasEmptyDomain (pruned_at box place left)
   none_empty_at some_each some (k, inside, none) = elim (cases_eq k place) [
-    | inl at ↦ none some.0 (subst (λ (j : ℕ). HasSource (narrowed_at box place left) j some.0) (sym at) (source_here some.0 some.1))
+    | inl at ↦ none some.0 (subst (λ (j : ℕ). HasSource (pruned_at box place left) j some.0) (sym at) (source_here some.0 some.1))
     | inr other ↦ some_each (k, inside, λ w there. none w (source_other k w other there))
   ]
 
   module _ (within : (w : ℕ) → HasEvent left w → HasSource box place w) where
-    source_before : (k w : ℕ) → HasSource (narrowed_at box place left) k w → HasSource box k w
+    source_before : (k w : ℕ) → HasSource (pruned_at box place left) k w → HasSource box k w
     source_before k w there = grind (arith, cases_eq, domain_here, domain_other)
 
-    pub narrowed_within : IsWithin (narrowed_at box place left) box
-    narrowed_within = record { test = refl; combination = refl; domains = source_before }
+    pub pruned_within : IsWithin (pruned_at box place left) box
+    pruned_within = record { test = refl; combination = refl; domains = source_before }
 
-    pub narrowed_is_box : IsBox box → IsBox (narrowed_at box place left)
-    narrowed_is_box is = record { litmus = is.litmus; known = is.known; candidates = λ k r b w at there. is.candidates k r b w at (source_before k w there) }
+    pub pruned_is_box : IsBox box → IsBox (pruned_at box place left)
+    pruned_is_box is = record { litmus = is.litmus; known = is.known; candidates = λ k r b w at there. is.candidates k r b w at (source_before k w there) }
 
     -- less is left, where something was taken out
     pub size_less : ¬ ((w : ℕ) → HasSource box place w → HasEvent left w) → size_of (slice_set box.domains place left) < size_of box.domains
@@ -63,12 +63,12 @@ module _ (box : Box) (place : ℕ) (left : EventSet) (room : place < length box.
 
     -- what a frame has is so of the new box, where something is left
     module _ (frame : Frame) (is : IsContained box frame) (some : (w : ℕ) × HasEvent left w) where
-      none_empty : ¬ HasEmptyDomain (narrowed_at box place left)
+      none_empty : ¬ HasEmptyDomain (pruned_at box place left)
       none_empty = none_empty_at is.some some
 
-      pub narrowed_contained : IsContained (narrowed_at box place left) (frame_at frame place left)
-      narrowed_contained = record {
-        is_box = narrowed_is_box is.is_box;
+      pub pruned_contained : IsContained (pruned_at box place left) (frame_at frame place left)
+      pruned_contained = record {
+        is_box = pruned_is_box is.is_box;
         some = none_empty;
         before_len = is.before_len;
         forced_len = is.forced_len;
@@ -76,13 +76,13 @@ module _ (box : Box) (place : ℕ) (left : EventSet) (room : place < length box.
         forced_closed = is.forced_closed;
         unsourced = is.unsourced;
         both = is.both;
-        before_in = λ a d h. before_grows (narrowed_at box place left) box narrowed_within none_empty a d (is.before_in a d h);
-        forced_in = λ a d h. forced_grows (narrowed_at box place left) box narrowed_within none_empty a d (is.forced_in a d h);
+        before_in = λ a d h. before_grows (pruned_at box place left) box pruned_within none_empty a d (is.before_in a d h);
+        forced_in = λ a d h. forced_grows (pruned_at box place left) box pruned_within none_empty a d (is.forced_in a d h);
       }
 
   -- a completion whose source at the place is left is one of the new box
   pub completion_at : (x : Execution) → IsCompletion box x → ((w : ℕ) → slice_get x.sources place ≡ Some w → HasEvent left w)
-      → IsCompletion (narrowed_at box place left) x
+      → IsCompletion (pruned_at box place left) x
   completion_at x is source_left = grind (arith, cases_eq, source_here, source_other)
 
   -- there is none where nothing is left
@@ -107,9 +107,9 @@ module _ (box : Box) (place : ℕ) (left : EventSet) (room : place < length box.
     pub none_if_empty : ((w : ℕ) → ¬ HasEvent left w) → HasNoCompletion box
     none_if_empty none x is = none_at inside x is (source_left x is) none
 
-    pub narrows : ((w : ℕ) → HasEvent left w → HasSource box place w) → Narrows box (narrowed_at box place left)
-    narrows within = record { within = narrowed_within within; kept = λ x is. completion_at x is (source_left x is) }
+    pub prunes : ((w : ℕ) → HasEvent left w → HasSource box place w) → Prunes box (pruned_at box place left)
+    prunes within = record { within = pruned_within within; retained = λ x is. completion_at x is (source_left x is) }
 
 -- narrowed, and narrowed on
-pub narrows_on : (first was now : Box) → Narrows first was → Narrows was now → Narrows first now
-narrows_on first was now to on = grind arith
+pub prunes_on : (first was now : Box) → Prunes first was → Prunes was now → Prunes first now
+prunes_on first was now to on = grind arith

@@ -31,11 +31,11 @@ module _ (box : Box) (frame : Frame) (settled : IsSettled box frame) where
       coherent_read_by (box_events box) (Holds frame.happens_before.rows) (HappensBeforeIn box) settled.exact.before r b w (settled.coherent k r b w at there)
 
   pub no_cycle : (e : ℕ) → ¬ HappensBeforeIn box e e
-  no_cycle e h = settled.calm e (Given h)
+  no_cycle e h = settled.acyclic e (Given h)
 
-  module _ (quiet : IsLeaf box) (law : IsFilledReadByRead box) where
+  module _ (leaf : IsLeaf box) (law : IsFilledReadByRead box) where
     by_law : (sources : List ℕ) → AreSourcesIn box sources → ((x : Execution) × IsCompletion box x × (x.sources ≡ sources)) ↔ AreFilling box sources
-    by_law sources lie = law sources settled.exact.contained.is_box quiet coherent_sources no_cycle lie
+    by_law sources lie = law sources settled.exact.contained.is_box leaf coherent_sources no_cycle lie
 
     -- sources that fill each read are those of a completion
     pub completion_found : ¬ HasFalseGuardOn box.test box.combination None 0

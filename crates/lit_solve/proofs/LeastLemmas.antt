@@ -8,7 +8,7 @@ use Rattle.lit_solve.specs.Box.{Box, HasSource, IsBox, LiesIn, box_events}
 use Rattle.lit_solve.specs.Completion.{HasSolution, IsCompletion, IsLeastSolution, IsSolution}
 use Rattle.lit_solve.specs.Fill.{IsLeaf}
 use Rattle.lit_solve.specs.Given.{HappensBeforeIn, IsForbiddenIn}
-use Rattle.lit_solve.specs.Internal.Narrowing.{Narrows}
+use Rattle.lit_solve.specs.Internal.Pruning.{Prunes}
 use Rattle.lit_solve.specs.Internal.Descending.{AreAloneBelow, IsLowest}
 use Rattle.lit_solve.proofs.BoxLemmas.{same_events}
 use Rattle.lit_solve.proofs.CompletionLemmas.{events_same, sourced}
@@ -68,7 +68,7 @@ module _ (old new : Box) (goal : Goal) (lowest : IsLowest old goal new) (alone :
   least_found order o = grind (arith, least_ordered, not_less, same, same_events, solution_out)
 
 -- ---- a box that was narrowed has the solutions of what it was
-pub least_told : {A : Type 0} (old new : Box) (goal : Goal) → Narrows old new → (found : Option A) (sources order : A → List ℕ)
+pub least_told : {A : Type 0} (old new : Box) (goal : Goal) → Prunes old new → (found : Option A) (sources order : A → List ℕ)
     → MatchOption found (¬ HasSolution new goal) (λ one. IsLeastSolution new goal (sources one) (order one))
     → MatchOption found (¬ HasSolution old goal) (λ one. IsLeastSolution old goal (sources one) (order one))
-least_told old new goal narrows found sources order none = grind arith
+least_told old new goal prunes found sources order none = grind arith

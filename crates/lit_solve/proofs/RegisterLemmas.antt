@@ -13,8 +13,8 @@ use Rattle.std.proofs.Common.{zip}
 use Rattle.lit_paths.proofs.NameSteps.{names_from-within}
 use Rattle.lit_paths.proofs.Products.{product-known}
 use Rattle.lit_valid.proofs.CompletionLemmas.{its_outcome}
-use Rattle.lit_solve.specs.declared.deciding.Decided.{Decided}
-use Rattle.lit_solve.specs.declared.deciding.Decided.TheVariants.{Comes, Hangs}
+use Rattle.lit_solve.specs.declared.condition_values.Decided.{Decided}
+use Rattle.lit_solve.specs.declared.condition_values.Decided.TheVariants.{Comes, Hangs}
 use Rattle.lit_solve.specs.Box.{Box, IsBox}
 use Rattle.lit_solve.specs.Completion.{IsCompletion}
 use Rattle.lit_valid.specs.declared.class.Class.{Class}
@@ -23,7 +23,7 @@ use Rattle.lit_solve.specs.declared.goal.Goal.TheVariants.{OfClass}
 use Rattle.lit_solve.specs.declared.prospect.Prospect.{Prospect}
 use Rattle.lit_solve.specs.declared.prospect.Prospect.TheVariants.{Each, Nothing, Open}
 use Rattle.lit_solve.specs.Prospect.{IsOutcomeProspect, outcome_by}
-use Rattle.lit_solve.specs.Internal.Deciding.{IsDecided, IsProspect, IsReadDecided}
+use Rattle.lit_solve.specs.Internal.ConditionValues.{IsDecided, IsProspect, IsReadDecided}
 use Rattle.lit_solve.proofs.CompletionLemmas.{completes, part_of}
 use Rattle.lit_solve.proofs.FillLemmas.{sources_lie}
 
@@ -186,15 +186,15 @@ observed_reads t c agent reg k walk known at =
 pub register_observed : (laws : Laws) (box : Box) → IsBox box → (sources : List ℕ) (agent reg : ℕ)
     → value_in (zip (names_of box.test) (outcome_by box sources)) agent reg ≡ observed_value (part_of box sources)
     (observed_read box.test box.combination (agent, reg))
-register_observed laws box entered sources agent reg = value_named held names agent reg ∙ by (list_any (is_name agent reg) names) refl
+register_observed laws box entered sources agent reg = value_named observed_is names agent reg ∙ by (list_any (is_name agent reg) names) refl
   where
     names : List (ℕ × ℕ)
     names = names_of box.test
 
-    held : ℕ × ℕ → ℕ
-    held name = observed_value (part_of box sources) (observed_read box.test box.combination name)
+    observed_is : ℕ × ℕ → ℕ
+    observed_is name = observed_value (part_of box sources) (observed_read box.test box.combination name)
 
-    by : (b : Bool) → list_any (is_name agent reg) names ≡ b → cond b (held (agent, reg)) 0 ≡ held (agent, reg)
+    by : (b : Bool) → list_any (is_name agent reg) names ≡ b → cond b (observed_is (agent, reg)) 0 ≡ observed_is (agent, reg)
     by true is_named = refl
     by false unnamed =
         sym (ap (λ (last : Option ℕ). observed_value (part_of box sources) (number_on (first_event box.test box.combination agent) last))
@@ -215,26 +215,26 @@ register_value laws box x entered is agent reg =
     ∙ register_observed laws box entered x.sources agent reg
 
 -- what is foreseen of outcomes by sources is so of completions
-pub foreseen : (laws : Laws) (box : Box) → IsBox box → (class : Class) (prospect : Prospect) → IsOutcomeProspect box class prospect
+pub prospect_of_completions : (laws : Laws) (box : Box) → IsBox box → (class : Class) (prospect : Prospect) → IsOutcomeProspect box class prospect
     → IsProspect box (OfClass class) prospect
-foreseen laws box entered class Nothing none = λ x is meets.
+prospect_of_completions laws box entered class Nothing none = λ x is meets.
     none x.sources (sources_lie box x is) (subst (λ (o : List ℕ). IsTrue (is_of_class box.test class o)) (outcome_given laws box x entered is) meets)
-foreseen laws box entered class Each each = λ x is.
+prospect_of_completions laws box entered class Each each = λ x is.
     subst (λ (o : List ℕ). IsTrue (is_of_class box.test class o)) (sym (outcome_given laws box x entered is)) (each x.sources (sources_lie box x is))
-foreseen laws box entered class (Open k) hangs = hangs
+prospect_of_completions laws box entered class (Open k) hangs = hangs
 
 -- ---- what is decided of a register
 module _ (laws : Laws) (box : Box) (entered : IsBox box) (agent reg number : ℕ) where
   pub decided_by_read : (r : ℕ) (decided : Decided) → observed_read box.test box.combination (agent, reg) ≡ Some r → IsReadDecided box r number decided
       → IsDecided box (Is agent reg true number) decided
-  decided_by_read r (Comes value) held each = λ sources lie.
-      ap (λ (n : ℕ). n == number) (register_observed laws box entered sources agent reg ∙ ap (observed_value (part_of box sources)) held)
+  decided_by_read r (Comes value) observed_is each = λ sources lie.
+      ap (λ (n : ℕ). n == number) (register_observed laws box entered sources agent reg ∙ ap (observed_value (part_of box sources)) observed_is)
       ∙ each sources lie
-  decided_by_read r (Hangs k) held hangs = hangs
+  decided_by_read r (Hangs k) observed_is hangs = hangs
 
   pub decided_unwritten : observed_read box.test box.combination (agent, reg) ≡ None → IsDecided box (Is agent reg true number) (Comes (number == 0))
-  decided_unwritten held sources lie =
-      ap (λ (n : ℕ). n == number) (register_observed laws box entered sources agent reg ∙ ap (observed_value (part_of box sources)) held)
+  decided_unwritten observed_is sources lie =
+      ap (λ (n : ℕ). n == number) (register_observed laws box entered sources agent reg ∙ ap (observed_value (part_of box sources)) observed_is)
       ∙ turned (cases_eq number 0)
     where
       turned : (number ≡ 0) ⊎ (number ≢ 0) → (0 == number) ≡ (number == 0)

@@ -9,7 +9,7 @@ use Rattle.lit_solve.specs.Completion.{IsSolution}
 use Rattle.lit_solve.specs.Internal.Searching.{GoesWith, IsBranch}
 use Rattle.lit_solve.specs.Internal.Settled.{IsCut, TakesFrom}
 use Rattle.lit_solve.proofs.CompletionLemmas.{sourced}
-use Rattle.lit_solve.proofs.NarrowingLemmas.{read_here}
+use Rattle.lit_solve.proofs.PruningLemmas.{read_here}
 
 -- a solution of a box within another is one of that
 pub solution_out : (inner outer : Box) (goal : Goal) → IsWithin inner outer → (x : Execution) → IsSolution inner goal x → IsSolution outer goal x

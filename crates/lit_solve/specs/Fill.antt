@@ -42,7 +42,7 @@ AreCoherentSources box =
 pub record IsFilled (box : Box) (r : ℕ) (sources : List ℕ) : Type 0 where
   pub tear_free : (w v : ℕ) → ReadsWholeBy (box_events box) (ReadsByteFrom (box_events box) sources) r w
       → ReadsWholeBy (box_events box) (ReadsByteFrom (box_events box) sources) r v → v ≡ w
-  pub tests : ¬ HasFalseGuardOn box.test box.combination (Some r) (value_of (box_events box) sources r)
+  pub guards : ¬ HasFalseGuardOn box.test box.combination (Some r) (value_of (box_events box) sources r)
 
 -- sources of all byte reads that lie in the box
 pub record AreSourcesIn (box : Box) (sources : List ℕ) : Type 0 where

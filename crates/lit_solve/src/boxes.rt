@@ -45,7 +45,7 @@ pub struct Boxes<'a, 'p> {
 impl<'a, 'p> Model for Boxes<'a, 'p> {
     ghost use Rattle.lit_solve.specs.Boxes.{BoxesModel, coded_boxes};
     ghost use Rattle.lit_solve.specs.Internal.Cut.{end_sources};
-    ghost use Rattle.lit_solve.specs.Internal.Parted.{AreParted};
+    ghost use Rattle.lit_solve.specs.Internal.SoundRange.{IsSoundInside};
 
     ghost Value = { BoxesModel };
 
@@ -61,7 +61,7 @@ impl<'a, 'p> Model for Boxes<'a, 'p> {
       highs = b.highs;
     } };
 
-    ghost invariant = { AreParted };
+    ghost invariant = { IsSoundInside };
 }
 
 impl<'a, 'p> Boxes<'a, 'p> {

@@ -53,7 +53,7 @@ impl Problem<'_> {
         requires place { place < length (byte_reads (events_on self.now)) }
         requires contained { IsContained (box_of self.now frame.now) frame.now }
         ensures open { IsTrue result → (w : ℕ) → ¬ HasAlone (box_of self.now frame.now) place w }
-        ensures quiet { IsFalse result → ((w : ℕ) × HasAlone (box_of self.now frame.now) place w)
+        ensures leaf { IsFalse result → ((w : ℕ) × HasAlone (box_of self.now frame.now) place w)
             ⊎ IsIdle (box_of self.now frame.now) place }
     {
         let _reads = self.reads();
@@ -76,7 +76,7 @@ impl Problem<'_> {
         requires { IsContained (box_of self.now frame.now) frame.now }
         ensures known { IfSome result (λ place. place < length (byte_reads (events_on self.now))) }
         ensures open { IfSome result (λ place. (w : ℕ) → ¬ HasAlone (box_of self.now frame.now) place w) }
-        ensures quiet { IfNone result (IsLeaf (box_of self.now frame.now)) }
+        ensures leaf { IfNone result (IsLeaf (box_of self.now frame.now)) }
     {
         let mut best = None;
         for place in 0..self.reads() {

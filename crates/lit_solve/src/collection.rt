@@ -10,7 +10,7 @@ ghost use Rattle.lit_solve.specs.Completion.{IsCompletion, IsLeastSolution};
 ghost use Rattle.lit_solve.specs.Fill.{IsLeaf};
 ghost use Rattle.lit_solve.specs.Prospect.{IsUndecidedAt};
 ghost use Rattle.lit_solve.specs.Internal.Frames.{box_of};
-ghost use Rattle.lit_solve.specs.Internal.Narrowing.{HasNoCompletion};
+ghost use Rattle.lit_solve.specs.Internal.Pruning.{HasNoCompletion};
 ghost use Rattle.lit_solve.specs.Internal.Observation.{AreFirstValues, IsObservation, IsObservedAt};
 ghost use Rattle.lit_solve.specs.Internal.Settled.{IsSettled};
 ghost use Rattle.lit_solve.specs.Outcomes.{AddsEntries, HasEachOutcome};
@@ -20,7 +20,7 @@ use crate::frame::Frame;
 use crate::goal::Goal;
 use crate::heartbeat::Heartbeat;
 use crate::laws::{leaves_are_filled_read_by_read, reads_are_filled_together};
-use crate::leading::Least;
+use crate::least_search::Least;
 use crate::numbering::number_of;
 use crate::observation::Values;
 use crate::problem::Problem;
@@ -122,7 +122,7 @@ impl Problem<'_> {
     }
 
     /// Records the outcomes of a quiet frame's completions that a table lacks, of which these are the first values.
-    fn quiet_outcomes<T: OutcomeTable, H: Heartbeat>(
+    fn leaf_outcomes<T: OutcomeTable, H: Heartbeat>(
         &self,
         frame: &Frame,
         values: &Values,
@@ -131,7 +131,7 @@ impl Problem<'_> {
         heartbeat: &H,
     ) -> Result<(), AllocError>
         requires settled { IsSettled (box_of self.now frame.now) frame.now }
-        requires quiet { IsLeaf (box_of self.now frame.now) }
+        requires leaf { IsLeaf (box_of self.now frame.now) }
         requires first { AreFirstValues (box_of self.now frame.now) values.now.items }
         ensures added { AddsEntries (box_of self.now frame.now) (T.entries table.old) (T.entries table.new) }
         ensures whole { OnOk result (HasEachOutcome (box_of self.now frame.now) (T.entries table.new)) }
@@ -182,13 +182,13 @@ impl Problem<'_> {
             return self.record(frame, values.as_slice(), table, doubt);
         };
         let Some(_branch) = self.branch(frame) else {
-            return self.quiet_outcomes(frame, &values, table, doubt, heartbeat);
+            return self.leaf_outcomes(frame, &values, table, doubt, heartbeat);
         };
         let _events = self.events();
         let all = self.sources_left(frame, place);
         let mut left = all;
         while let Some((source, _others)) = left.split_first() {
-            let group = self.storing_alike(all, place, source);
+            let group = self.storing_same(all, place, source);
             let mut next = *frame;
             // An outcome without a completion is dear to find out, and its neighbours mostly have none either.
             if self.cut(&mut next, place, group) && self.may_complete(&next, *doubt) {

@@ -27,7 +27,7 @@ impl Problem<'_> {
         }
         match self.step(frame, goal) {
             Step::Refuted => false,
-            Step::Leaf | Step::Parted(_) => true,
+            Step::Leaf | Step::Branched(_) => true,
         }
     }
 

@@ -47,15 +47,15 @@ pub(crate) fn storing(events: &[Event], among: EventSet, byte: u8, stored: u8) -
     requires known { (v : ℕ) → HasEvent among v → v < length events.now }
     ensures { (v : ℕ) → HasEvent result v ↔ (HasEvent among v × (payload_of (event_of events.now v) byte ≡ stored)) }
 {
-    let mut alike = EventSet::new();
+    let mut matching = EventSet::new();
     let mut left = among;
     while let Some((event, others)) = left.split_first() {
         if payload_at(event_at(events, event), byte) == stored {
-            alike = alike.with(event);
+            matching = matching.with(event);
         }
         left = others;
     }
-    alike
+    matching
 }
 
 impl Problem<'_> {
@@ -162,7 +162,7 @@ impl Problem<'_> {
     }
 
     /// The events of a set that store what a source does for the byte read at a place.
-    pub(crate) fn storing_alike(&self, among: EventSet, place: usize, source: usize) -> EventSet
+    pub(crate) fn storing_same(&self, among: EventSet, place: usize, source: usize) -> EventSet
         requires place { place < length (byte_reads (events_on self.now)) }
         requires source { source < length (events_on self.now) }
         requires known { (v : ℕ) → HasEvent among v → v < length (events_on self.now) }
@@ -189,14 +189,14 @@ impl Problem<'_> {
         requires source { source < length (events_on self.now) }
         requires known { (v : ℕ) → HasEvent others v → v < length (events_on self.now) }
         ensures within { (v : ℕ) → HasEvent result v → HasEvent others v }
-        ensures left_out { (v : ℕ) → HasEvent others v → ¬ HasEvent result v → ((u : ℕ) → HasEvent next.whole u → HasEvent taken.whole u)
+        ensures dominated { (v : ℕ) → HasEvent others v → ¬ HasEvent result v → ((u : ℕ) → HasEvent next.whole u → HasEvent taken.whole u)
             × (payload_of (event_of (events_on self.now) v) (byte_read_at (events_on self.now) place).1
             ≡ payload_of (event_of (events_on self.now) source) (byte_read_at (events_on self.now) place).1) }
     {
         if !next.whole.is_within(taken.whole) {
             return others;
         }
-        others.difference(self.storing_alike(others, place, source))
+        others.difference(self.storing_same(others, place, source))
     }
 
     /// Whether a read can be filled on from the byte read at a place, beside what it takes for its bytes before: by some

@@ -135,7 +135,7 @@ impl Problem<'_> {
         requires contained { IsContained (box_of self.now frame.old) frame.old }
         ensures domains { frame.new.domains ≡ frame.old.domains }
         ensures exact { IsTrue result → IsExact (box_of self.now frame.new) frame.new }
-        ensures calm { IsTrue result → (e : ℕ) → ¬ IsForcedIn (box_of self.now frame.new) e e }
+        ensures acyclic { IsTrue result → (e : ℕ) → ¬ IsForcedIn (box_of self.now frame.new) e e }
         ensures cycle { IsFalse result → HasForcedCycle (HappensBeforeIn (box_of self.now frame.old))
             (IsForbiddenIn (box_of self.now frame.old)) }
     {

@@ -11,7 +11,7 @@ ghost use Rattle.lit_solve.specs.declared.goal.Goal.TheVariants.{Any};
 ghost use Rattle.lit_solve.specs.Given.{HasAlone};
 ghost use Rattle.lit_solve.specs.Internal.Descending.{IsLowestAt};
 ghost use Rattle.lit_solve.specs.Internal.Independent.{HasLeastOrderIn, IsIndependent};
-ghost use Rattle.lit_solve.specs.Internal.Narrowing.{size_of};
+ghost use Rattle.lit_solve.specs.Internal.Pruning.{size_of};
 ghost use Rattle.lit_solve.specs.Internal.Observation.{AreFirstValues};
 ghost use Rattle.lit_solve.specs.Internal.Settled.{IsCut, TakesFrom};
 ghost use Rattle.lit_solve.specs.Outcomes.{AddsEntries, HasEachOutcome};
@@ -21,7 +21,7 @@ use crate::heartbeat::Heartbeat;
 use crate::laws::{
     completions_fill_each_read, leaves_are_filled_read_by_read, leaves_have_one_order,
 };
-use crate::leading::Least;
+use crate::least_search::Least;
 use crate::observation::Values;
 use crate::problem::Problem;
 use crate::table::OutcomeTable;
@@ -148,7 +148,7 @@ impl Problem<'_> {
         let all = domains[place];
         let mut left = all;
         while let Some((source, _others)) = left.split_first() {
-            let group = self.storing_alike(all, place, source);
+            let group = self.storing_same(all, place, source);
             let mut part = *domains;
             if self.cut_independent(&mut part, place, group) {
                 self.independent_outcomes(&part, &values, order, table, heartbeat)?;

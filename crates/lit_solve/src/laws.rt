@@ -31,7 +31,7 @@ pub fn relations_grow_as_domains_shrink()
 {}
 
 /// Each memory-order of a completion keeps what the box forces.
-pub fn completions_keep_what_is_forced()
+pub fn completions_respect_what_is_forced()
     ensures { (box : Box) (x : Execution) (order : List ℕ) → IsBox box → IsCompletion box x
         → IsMemoryOrder (execution_events box.test x) x.sources order → (a d : ℕ) → IsForcedIn box a d → StandsBefore order a d }
 {
@@ -92,7 +92,7 @@ pub fn reads_are_filled_together()
 
 /// A data race of a completion is one by what the box gives, where a read may read from each source with which it can be
 /// filled, and so where it may read from each in the domains of its bytes.
-pub fn boxes_foresee_races()
+pub fn boxes_bound_races()
     ensures filled { (box : Box) (x : Execution) → IsBox box → IsCompletion box x
         → HasDataRace (execution_events box.test x) x.sources → CanRaceIn box }
     ensures may { (box : Box) → CanRaceIn box → MayRaceIn box }

@@ -38,7 +38,7 @@ impl Problem<'_> {
     /// Its reads are filled one by one there, and all orders of what is given are orders of it.
     pub(crate) fn has_completion(&self, frame: &Frame) -> bool
         requires settled { IsSettled (box_of self.now frame.now) frame.now }
-        requires quiet { IsLeaf (box_of self.now frame.now) }
+        requires leaf { IsLeaf (box_of self.now frame.now) }
         ensures { IsTrue result ↔ HasSolution (box_of self.now frame.now) Any }
     {
         reads_are_filled_together();

@@ -4,7 +4,7 @@ ghost use Rattle.std.specs.Prelude.{◌≡◌, ℕ, ◌<◌, MatchBool, length};
 ghost use Rattle.lit_paths.specs.ByteReads.{byte_reads};
 ghost use Rattle.lit_solve.specs.Box.{HasEmptyDomain, HasSource, IsBox, box_with, events_on};
 ghost use Rattle.lit_solve.specs.Prospect.{IsUndecidedAt, IsValueOf};
-ghost use Rattle.lit_solve.specs.Internal.Deciding.{stored_for};
+ghost use Rattle.lit_solve.specs.Internal.ConditionValues.{stored_for};
 ghost use Rattle.lit_solve.specs.Internal.Observation.{AreFirstValues, IsObservation, IsValueObserved};
 
 use crate::domains::Domains;
@@ -37,8 +37,8 @@ impl Problem<'_> {
             → stored_for (box_with self.now domains.now) place w ≡ stored_for (box_with self.now domains.now) place source) }
     {
         let _events = self.events();
-        let alike = self.storing_alike(domains[place], place, source);
-        match domains[place].difference(alike).split_first() {
+        let matching = self.storing_same(domains[place], place, source);
+        match domains[place].difference(matching).split_first() {
             Some(_other) => true,
             None => false,
         }

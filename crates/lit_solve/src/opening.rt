@@ -7,7 +7,7 @@ ghost use Rattle.lit_rel.specs.EventSet.{HasEvent};
 ghost use Rattle.lit_solve.specs.Box.{HasEmptyDomain, HasSource, IsBox, box_with, events_on};
 ghost use Rattle.lit_solve.specs.Completion.{IsCompletion};
 ghost use Rattle.lit_solve.specs.Internal.Frames.{IsContained, box_of};
-ghost use Rattle.lit_solve.specs.Internal.Narrowing.{HasNoCompletion, Narrows, size_of};
+ghost use Rattle.lit_solve.specs.Internal.Pruning.{HasNoCompletion, Prunes, size_of};
 ghost use Rattle.lit_solve.specs.Internal.Settled.{IsCut, IsSettled, TakesFrom};
 
 use crate::domains::Domains;
@@ -51,7 +51,7 @@ impl Problem<'_> {
     fn consistent(&self, domains: &Domains) -> Domains
         requires { IsBox (box_with self.now domains.now) }
         ensures is_box { IsBox (box_with self.now result) }
-        ensures narrows { Narrows (box_with self.now domains.now) (box_with self.now result) }
+        ensures prunes { Prunes (box_with self.now domains.now) (box_with self.now result) }
     {
         completions_have_no_prunable_source();
         let mut left = *domains;
@@ -65,7 +65,7 @@ impl Problem<'_> {
     pub(crate) fn settle(&self, domains: &Domains) -> Option<Frame>
         requires { IsBox (box_with self.now domains.now) }
         ensures settled { IfSome result (λ frame. IsSettled (box_of self.now frame) frame) }
-        ensures narrows { IfSome result (λ frame. Narrows (box_with self.now domains.now) (box_of self.now frame)) }
+        ensures prunes { IfSome result (λ frame. Prunes (box_with self.now domains.now) (box_of self.now frame)) }
         ensures none { IfNone result (HasNoCompletion (box_with self.now domains.now)) }
     {
         refuted_boxes_have_no_completion();

@@ -9,7 +9,7 @@ ghost use Rattle.lit_solve.specs.Box.{events_on};
 
 use crate::boxes::candidates::candidates_of;
 use crate::domains::Domains;
-use crate::testing::refused_among;
+use crate::node_consistency::refused_among;
 use lit_paths::{BYTE_READ_LIMIT, ByteRead, Combination, Event, Plan};
 use lit_rel::laws::byte_reads_are_of_events;
 use lit_rel::{EventSet, Rows, peers_of};

@@ -4,7 +4,7 @@ ghost use Rattle.std.specs.Prelude.{◌↔◌, IsTrue};
 ghost use Rattle.lit_paths.specs.Execution.{Execution};
 ghost use Rattle.lit_solve.specs.Completion.{HasSolution, IsCompletion};
 ghost use Rattle.lit_solve.specs.Fill.{IsLeaf};
-ghost use Rattle.lit_solve.specs.Internal.Deciding.{MeetsByOutcome};
+ghost use Rattle.lit_solve.specs.Internal.ConditionValues.{MeetsByOutcome};
 ghost use Rattle.lit_solve.specs.Internal.Frames.{box_of};
 ghost use Rattle.lit_solve.specs.Internal.Settled.{IsSettled};
 
@@ -19,7 +19,7 @@ impl Problem<'_> {
     /// far as its outcome goes.
     fn is_met(&self, frame: &Frame, goal: Goal) -> bool
         requires settled { IsSettled (box_of self.now frame.now) frame.now }
-        requires quiet { IsLeaf (box_of self.now frame.now) }
+        requires leaf { IsLeaf (box_of self.now frame.now) }
         requires each { (x : Execution) → IsCompletion (box_of self.now frame.now) x
             → MeetsByOutcome (box_of self.now frame.now).test goal x }
         ensures { IsTrue result ↔ HasSolution (box_of self.now frame.now) goal }
@@ -39,7 +39,7 @@ impl Problem<'_> {
         let branch = match self.step(frame, goal) {
             Step::Refuted => return false,
             Step::Leaf => return self.is_met(frame, goal),
-            Step::Parted(branch) => branch,
+            Step::Branched(branch) => branch,
         };
         let mut left = self.sources_left(frame, branch.place);
         while let Some((source, _others)) = left.split_first() {

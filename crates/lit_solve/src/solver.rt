@@ -8,7 +8,7 @@ ghost use Rattle.lit_solve.specs.Outcomes.{AddsEntries, HasEachOutcome};
 use crate::domains::Domains;
 use crate::goal::Goal;
 use crate::heartbeat::Heartbeat;
-use crate::leading::Least;
+use crate::least_search::Least;
 use crate::observation::Values;
 use crate::problem::Problem;
 use crate::table::OutcomeTable;

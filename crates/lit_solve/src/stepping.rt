@@ -3,7 +3,7 @@
 ghost use Rattle.std.specs.Prelude.{◌<◌, ℕ, [], length};
 ghost use Rattle.lit_paths.specs.ByteReads.{byte_reads};
 ghost use Rattle.lit_rel.specs.EventSet.{HasEvent};
-ghost use Rattle.lit_solve.specs.Internal.Deciding.{IsProspect};
+ghost use Rattle.lit_solve.specs.Internal.ConditionValues.{IsProspect};
 ghost use Rattle.lit_solve.specs.Box.{box_with, events_on};
 ghost use Rattle.lit_solve.specs.Internal.Frames.{box_of};
 ghost use Rattle.lit_solve.specs.Internal.Searching.{GoesWith, IsStep};
@@ -12,7 +12,7 @@ ghost use Rattle.lit_solve.specs.Internal.Settled.{IsSettled};
 use crate::domains::set_of;
 use crate::frame::Frame;
 use crate::goal::Goal;
-use crate::laws::boxes_foresee_races;
+use crate::laws::boxes_bound_races;
 use crate::problem::Problem;
 use crate::prospect::Prospect;
 use lit_rel::EventSet;
@@ -35,7 +35,7 @@ pub(crate) enum Step {
     /// No open byte read can force anything, and the outcome of each completion is what is looked for.
     Leaf,
     /// The domain of a byte read is parted.
-    Parted(Branch),
+    Branched(Branch),
 }
 
 impl Problem<'_> {
@@ -45,7 +45,7 @@ impl Problem<'_> {
         ensures { IsProspect (box_of self.now frame.now) goal result }
     {
         laws_below();
-        boxes_foresee_races();
+        boxes_bound_races();
         match goal {
             Goal::Any => Prospect::Each,
             Goal::OfClass(class) => self.prospect_of(&frame.domains, class),
@@ -66,12 +66,12 @@ impl Problem<'_> {
     {
         match self.prospect(frame, goal) {
             Prospect::Nothing => Step::Refuted,
-            Prospect::Open(place) => Step::Parted(Branch {
+            Prospect::Open(place) => Step::Branched(Branch {
                 place,
                 by_value: true,
             }),
             Prospect::Each => match self.branch(frame) {
-                Some(place) => Step::Parted(Branch {
+                Some(place) => Step::Branched(Branch {
                     place,
                     by_value: false,
                 }),
@@ -90,7 +90,7 @@ impl Problem<'_> {
         ensures apart { (w : ℕ) → HasEvent result w → GoesWith (box_with self.now []) branch source w }
     {
         if branch.by_value {
-            self.storing_alike(among, branch.place, source)
+            self.storing_same(among, branch.place, source)
         } else {
             let _events = self.events();
             set_of(source)

@@ -50,7 +50,7 @@ pub record IsSide (len : ℕ) (end : Option (List ℕ)) (shared boxes : ℕ) : T
   pub fits : MatchOption end (shared ≡ 0) (λ _. shared ≤ len)
   pub count : MatchOption end (boxes ≡ 0) (λ _. shared + boxes ≡ len)
 
-pub record IsCut (len : ℕ) (low high : Option (List ℕ)) (shared lows highs : ℕ) : Type 0 where
+pub record IsRangeCut (len : ℕ) (low high : Option (List ℕ)) (shared lows highs : ℕ) : Type 0 where
   pub before : IsSide len low shared lows
   pub behind : IsSide len high shared highs
   pub parting : (a b : List ℕ) → low ≡ Some a → high ≡ Some b → IsGreaterAt a shared b

@@ -15,7 +15,7 @@ abbrev pub AreAloneBelow : Box → ℕ → Type 0
 AreAloneBelow box n = (k : ℕ) → k < n → (w : ℕ) × HasAlone box k w
 
 -- the solution has a greater source for the k-th byte read than the one that is alone there
-pub record IsPassedAt (box : Box) (k : ℕ) (x : Execution) : Type 0 where
+pub record IsNotLeastAt (box : Box) (k : ℕ) (x : Execution) : Type 0 where
   pub source : ℕ
   pub taken : ℕ
   pub alone : HasAlone box k source
@@ -25,10 +25,10 @@ pub record IsPassedAt (box : Box) (k : ℕ) (x : Execution) : Type 0 where
 -- a box within another, that has each solution of that, but for those passed at the k-th byte read
 pub record IsLowestAt (old : Box) (goal : Goal) (k : ℕ) (new : Box) : Type 0 where
   pub within : IsWithin new old
-  pub passed : (x : Execution) → IsSolution old goal x → IsCompletion new x ⊎ IsPassedAt new k x
+  pub not_least : (x : Execution) → IsSolution old goal x → IsCompletion new x ⊎ IsNotLeastAt new k x
 
 -- a box within another, that has each solution of that whose sources are not greater than all that lie in it
 pub record IsLowest (old : Box) (goal : Goal) (new : Box) : Type 0 where
   pub within : IsWithin new old
-  pub passed : (x : Execution) → IsSolution old goal x → IsCompletion new x
+  pub not_least : (x : Execution) → IsSolution old goal x → IsCompletion new x
       ⊎ ((sources : List ℕ) → AreSourcesIn new sources → slice_cmp nat_cmp sources x.sources ≡ Less)

@@ -38,7 +38,7 @@ bytes_taken events reads sources r = map (λ p. payload_at (event_at events p.1)
 pub record FillsBytes (box : Box) (r : ℕ) (reads : List (ℕ × ℕ)) (whole : ℕ → Type 0) (value bytes : ℕ) (sources : List ℕ) : Type 0 where
   pub tear_free : (w v : ℕ) → TakesWhole (box_events box) reads sources r w
       → whole v ⊎ TakesWhole (box_events box) reads sources r v → v ≡ w
-  pub tests : ¬ HasFalseGuardOn box.test box.combination (Some r)
+  pub guards : ¬ HasFalseGuardOn box.test box.combination (Some r)
       (value + 256 ^ bytes * composed (bytes_taken (box_events box) reads sources r))
 
 -- there are such sources of the byte reads from the k-th on

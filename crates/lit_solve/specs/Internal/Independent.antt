@@ -17,9 +17,9 @@ pub record FillsAll (box : Box) : Type 0 where
 pub record IsIndependent (box : Box) : Type 0 where
   pub is_box : IsBox box
   pub some : ¬ HasEmptyDomain box
-  pub quiet : IsLeaf box
+  pub leaf : IsLeaf box
   pub coherent : AreCoherentSources box
-  pub calm : (e : ℕ) → ¬ HappensBeforeIn box e e
+  pub acyclic : (e : ℕ) → ¬ HappensBeforeIn box e e
   pub unwritten : ¬ HasFalseGuardOn box.test box.combination None 0
   pub ordered : HasOrder (length (box_events box)) (HappensBeforeIn box) (IsForbiddenIn box)
   pub filled : FillsAll box

@@ -5,14 +5,14 @@ use Rattle.lit_paths.specs.Execution.{Execution}
 use Rattle.lit_solve.specs.declared.goal.Goal.{Goal}
 use Rattle.lit_solve.specs.declared.stepping.Branch.{Branch}
 use Rattle.lit_solve.specs.declared.stepping.Step.{Step}
-use Rattle.lit_solve.specs.declared.stepping.Step.TheVariants.{Leaf, Parted, Refuted}
+use Rattle.lit_solve.specs.declared.stepping.Step.TheVariants.{Leaf, Branched, Refuted}
 use Rattle.lit_solve.specs.Box.{Box, box_events}
 use Rattle.lit_solve.specs.Completion.{IsCompletion}
 use Rattle.lit_solve.specs.Fill.{IsLeaf}
 use Rattle.lit_solve.specs.Given.{HasAlone}
 use Rattle.lit_solve.specs.Goal.{Meets}
 use Rattle.lit_solve.specs.Prospect.{IsUndecidedAt}
-use Rattle.lit_solve.specs.Internal.Deciding.{MeetsByOutcome, stored_for}
+use Rattle.lit_solve.specs.Internal.ConditionValues.{MeetsByOutcome, stored_for}
 
 -- the domain of a byte read can be parted: by what its sources store, or by the sources
 pub record IsBranch (box : Box) (branch : Branch) : Type 0 where
@@ -28,4 +28,4 @@ GoesWith box branch source w = MatchBool branch.by_value (stored_for box branch.
 abbrev pub IsStep : Box → Goal → Step → Type 0
 IsStep box goal Refuted = (x : Execution) → IsCompletion box x → ¬ Meets box.test goal x
 IsStep box goal Leaf = IsLeaf box × ((x : Execution) → IsCompletion box x → MeetsByOutcome box.test goal x)
-IsStep box goal (Parted branch) = IsBranch box branch
+IsStep box goal (Branched branch) = IsBranch box branch

@@ -12,7 +12,7 @@ use Rattle.lit_solve.specs.Internal.Frames.{AreCoherentAt, IsExact}
 -- The frame's relations are those of its box, no event is forced before itself, and each source in a domain is coherent there.
 pub record IsSettled (box : Box) (frame : Frame) : Type 0 where
   pub exact : IsExact box frame
-  pub calm : (e : ℕ) → ¬ IsForcedIn box e e
+  pub acyclic : (e : ℕ) → ¬ IsForcedIn box e e
   pub coherent : AreCoherentAt box frame
 
 -- the execution has a source of a set for the k-th byte read
@@ -23,4 +23,4 @@ TakesFrom x k set = (w : ℕ) → slice_get x.sources k ≡ Some w → HasEvent 
 pub record IsCut (old : Box) (k : ℕ) (set : EventSet) (new : Box) : Type 0 where
   pub within : IsWithin new old
   pub inside : (w : ℕ) → HasSource new k w → HasEvent set w
-  pub kept : (x : Execution) → IsCompletion old x → TakesFrom x k set → IsCompletion new x
+  pub retained : (x : Execution) → IsCompletion old x → TakesFrom x k set → IsCompletion new x

@@ -3,11 +3,11 @@ use Rattle.lit_rel.proofs.SetLemmas.{split_less}
 use Rattle.lit_solve.specs.Box.{HasSource, events_on}
 use Rattle.lit_solve.specs.Prunable.{IsPrunable}
 use Rattle.lit_solve.specs.Internal.Frames.{box_of}
-use Rattle.lit_solve.proofs.NarrowingLemmas.{source_known}
+use Rattle.lit_solve.proofs.PruningLemmas.{source_known}
 use Rattle.lit_solve.proofs.problem.Problem.left.Goals as goal
 
-pub is_out-requires-clause-source : goal.is_out-requires-clause-source
-is_out-requires-clause-source c =
+pub is_prunable-requires-clause-source : goal.is_prunable-requires-clause-source
+is_prunable-requires-clause-source c =
     source_known (box_of c.args.self.now c.args.frame.now) c.requires.contained.is_box c.args.place c.in-Some.source c.requires.place
     (c.loop-source.invariant.rest c.in-Some.source c.in-Some.ensures.there)
 
@@ -18,14 +18,14 @@ with-left-requires c =
     (c.loop-source.invariant.rest c.in-Some.source c.in-Some.ensures.there) in
     omega arith
 
-pub loop-source-smaller-then-not-is_out : goal.loop-source-smaller-then-not-is_out
-loop-source-smaller-then-not-is_out c = split_less c.loop-source.rest c.in-Some.source c.in-Some.others c.in-Some.ensures
+pub loop-source-smaller-then-not-is_prunable : goal.loop-source-smaller-then-not-is_prunable
+loop-source-smaller-then-not-is_prunable c = split_less c.loop-source.rest c.in-Some.source c.in-Some.others c.in-Some.ensures
 
 pub loop-source-smaller : goal.loop-source-smaller
 loop-source-smaller c = split_less c.loop-source.rest c.in-Some.source c.in-Some.others c.in-Some.ensures
 
-pub loop-source-preserved-then-not-is_out : goal.loop-source-preserved-then-not-is_out
-loop-source-preserved-then-not-is_out c =
+pub loop-source-preserved-then-not-is_prunable : goal.loop-source-preserved-then-not-is_prunable
+loop-source-preserved-then-not-is_prunable c =
     let box = box_of c.args.self.now c.args.frame.now in
     let events = events_on c.args.self.now in
     let read = byte_read_at events c.args.place in
@@ -47,7 +47,7 @@ loop-source-preserved-then-not-is_out c =
       coherent = λ w h. elim ((c.with-left.ensures w).0 h) [
         | inl old ↦ was.coherent w old
         | inr is ↦ subst (λ (v : ℕ). IsCoherentRead events (Holds c.args.frame.now.happens_before.rows) read.0 read.1 v) (sym is)
-            (c.is_out.ensures.coherent c.if-not-is_out.true)
+            (c.is_prunable.ensures.coherent c.if-not-is_prunable.true)
       ];
     }
 
@@ -60,7 +60,7 @@ loop-source-preserved c =
       rest = λ w h. was.rest w ((c.in-Some.ensures.rest w).0 h).0;
       within = was.within;
       out = λ w h gone lost. elim (cases_eq w source) [
-        | inl is ↦ subst (λ (v : ℕ). IsPrunable box read.0 read.1 v) (sym is) (c.is_out.ensures.out c.if-not-is_out.false)
+        | inl is ↦ subst (λ (v : ℕ). IsPrunable box read.0 read.1 v) (sym is) (c.is_prunable.ensures.out c.if-not-is_prunable.false)
         | inr other ↦ was.out w h (λ there. gone ((c.in-Some.ensures.rest w).1 (there, other))) lost
       ];
       coherent = was.coherent;

@@ -6,9 +6,9 @@ use Rattle.lit_solve.specs.Box.{Box, IsWithin}
 use Rattle.lit_solve.specs.Completion.{IsCompletion}
 
 -- a box within another, with all completions of that
-pub record Narrows (old new : Box) : Type 0 where
+pub record Prunes (old new : Box) : Type 0 where
   pub within : IsWithin new old
-  pub kept : (x : Execution) → IsCompletion old x → IsCompletion new x
+  pub retained : (x : Execution) → IsCompletion old x → IsCompletion new x
 
 -- it has no completion
 abbrev pub HasNoCompletion : Box → Type 0

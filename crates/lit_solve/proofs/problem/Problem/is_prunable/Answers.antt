@@ -2,9 +2,9 @@ use Rattle.lit_solve.proofs.Words.{ap, byte_read_at, CanReadWhole, event_at, fal
 use Rattle.lit_solve.specs.Prunable.{IsPrunable}
 use Rattle.lit_solve.specs.Box.{events_on}
 use Rattle.lit_solve.specs.Internal.Frames.{box_of}
-use Rattle.lit_solve.proofs.NarrowingLemmas.{between_out, incoherent_out, later_out, tear_out}
-use Rattle.lit_solve.proofs.problem.Problem.is_out.Goals as goal
-use Rattle.lit_solve.proofs.problem.Problem.is_out.Goals.{then-not-is_coherent, else-not-is_coherent, then-is_forced_later, else-is_forced_later}
+use Rattle.lit_solve.proofs.PruningLemmas.{between_out, incoherent_out, later_out, tear_out}
+use Rattle.lit_solve.proofs.problem.Problem.is_prunable.Goals as goal
+use Rattle.lit_solve.proofs.problem.Problem.is_prunable.Goals.{then-not-is_coherent, else-not-is_coherent, then-is_forced_later, else-is_forced_later}
 
 pub returns-then-is_forced_between-clause-out : goal.returns-then-is_forced_between-clause-out
 returns-then-is_forced_between-clause-out c found =

@@ -3,11 +3,11 @@
 ghost use Rattle.std.specs.Prelude.{◌≤◌, ℕ, IsFalse, IsTrue};
 ghost use Rattle.lit_solve.specs.Given.{IsForcedIn};
 ghost use Rattle.lit_solve.specs.Internal.Frames.{AreCoherentAt, IsContained, IsExact, box_of};
-ghost use Rattle.lit_solve.specs.Internal.Narrowing.{HasNoCompletion, Narrows, size_of};
+ghost use Rattle.lit_solve.specs.Internal.Pruning.{HasNoCompletion, Prunes, size_of};
 
 use crate::frame::Frame;
 use crate::laws::refuted_boxes_have_no_completion;
-use crate::narrowing::Narrowed;
+use crate::pruning::Pruned;
 use crate::problem::Problem;
 
 impl Problem<'_> {
@@ -15,19 +15,19 @@ impl Problem<'_> {
     /// changes. Says no where it finds that there is no completion.
     pub(crate) fn propagate(&self, frame: &mut Frame) -> bool
         requires { IsContained (box_of self.now frame.old) frame.old }
-        ensures narrows { IsTrue result → Narrows (box_of self.now frame.old) (box_of self.now frame.new) }
+        ensures prunes { IsTrue result → Prunes (box_of self.now frame.old) (box_of self.now frame.new) }
         ensures exact { IsTrue result → IsExact (box_of self.now frame.new) frame.new }
-        ensures calm { IsTrue result → (e : ℕ) → ¬ IsForcedIn (box_of self.now frame.new) e e }
+        ensures acyclic { IsTrue result → (e : ℕ) → ¬ IsForcedIn (box_of self.now frame.new) e e }
         ensures coherent { IsTrue result → AreCoherentAt (box_of self.now frame.new) frame.new }
         ensures size { IsTrue result → size_of frame.new.domains ≤ size_of frame.old.domains }
         ensures none { IsFalse result → HasNoCompletion (box_of self.now frame.old) }
     {
         refuted_boxes_have_no_completion();
-        'propagating: while self.force(frame) {
-            match self.narrow(frame) {
-                Narrowed::Same => return true,
-                Narrowed::Less => {}
-                Narrowed::Empty => return false,
+        'propagation: while self.force(frame) {
+            match self.prune(frame) {
+                Pruned::Same => return true,
+                Pruned::Less => {}
+                Pruned::Empty => return false,
             }
         }
         false

@@ -9,7 +9,7 @@ ghost use Rattle.lit_rel.specs.EventSet.{HasEvent};
 ghost use Rattle.lit_valid.specs.PartOutcome.{observed_read as read_of};
 ghost use Rattle.lit_solve.specs.Box.{HasSource, IsBox, box_with, events_on};
 ghost use Rattle.lit_solve.specs.Prospect.{IsOutcomeProspect};
-ghost use Rattle.lit_solve.specs.Internal.Deciding.{IsByteDecided, IsDecided, IsReadDecided, opposite_of, stored_for};
+ghost use Rattle.lit_solve.specs.Internal.ConditionValues.{IsByteDecided, IsDecided, IsReadDecided, opposite_of, stored_for};
 
 use crate::domains::Domains;
 use crate::filling::storing;

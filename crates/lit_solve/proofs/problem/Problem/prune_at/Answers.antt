@@ -1,8 +1,8 @@
 use Rattle.lit_solve.proofs.Words.{◌<◌, ap, arith, false≢true, length, not, sym, ◌∙◌}
 use Rattle.lit_solve.specs.Internal.Frames.{box_of}
-use Rattle.lit_solve.proofs.DomainLemmas.{narrowed_contained, narrows, none_if_empty, size_less}
-use Rattle.lit_solve.proofs.NarrowingLemmas.{some_exactly}
-use Rattle.lit_solve.proofs.problem.Problem.narrow_at.Goals as goal
+use Rattle.lit_solve.proofs.DomainLemmas.{pruned_contained, prunes, none_if_empty, size_less}
+use Rattle.lit_solve.proofs.PruningLemmas.{some_exactly}
+use Rattle.lit_solve.proofs.problem.Problem.prune_at.Goals as goal
 
 pub returns-then-is_empty-clause-empty : goal.returns-then-is_empty-clause-empty
 returns-then-is_empty-clause-empty c _ =
@@ -21,13 +21,13 @@ returns-clause-contained c _ =
     let box = box_of c.args.self.now c.args.frame.now in
     let room : c.args.place < length box.domains = omega arith in
     let some = (some_exactly c.left-left.result c.is_empty.result c.is_empty.ensures).0 (ap not c.if-is_empty.false) in
-    narrowed_contained box c.args.place c.left-left.result room c.left-left.ensures.within c.args.frame.now c.requires.contained some
+    pruned_contained box c.args.place c.left-left.result room c.left-left.ensures.within c.args.frame.now c.requires.contained some
 
-pub returns-clause-narrows : goal.returns-clause-narrows
-returns-clause-narrows c _ =
+pub returns-clause-prunes : goal.returns-clause-prunes
+returns-clause-prunes c _ =
     let box = box_of c.args.self.now c.args.frame.now in
     let room : c.args.place < length box.domains = omega arith in
-    narrows box c.args.place c.left-left.result room c.requires.contained.is_box c.events-events.ensures.sound
+    prunes box c.args.place c.left-left.result room c.requires.contained.is_box c.events-events.ensures.sound
     (c.completions_have_no_prunable_source.ensures box)
     c.requires.place c.left-left.ensures.out c.left-left.ensures.within
 

@@ -43,7 +43,7 @@ impl Problem<'_> {
 
     /// Goes down to a frame that leaves one source to each byte read, those of the least completion that is looked for. Says
     /// whether there is one.
-    fn lead(&self, frame: &mut Frame, goal: Goal) -> bool
+    fn find_least(&self, frame: &mut Frame, goal: Goal) -> bool
         requires { IsSettled (box_of self.now frame.old) frame.old }
         ensures settled { IsTrue result → IsSettled (box_of self.now frame.new) frame.new }
         ensures alone { IsTrue result → AreAloneBelow (box_of self.now frame.new) (length (byte_reads (events_on self.now))) }
@@ -68,7 +68,7 @@ impl Problem<'_> {
     {
         leaves_have_one_order();
         let mut down = *frame;
-        if !self.lead(&mut down, goal) {
+        if !self.find_least(&mut down, goal) {
             return None;
         }
         match self.least_order(&down) {

@@ -5,8 +5,8 @@ use Rattle.lit_solve.proofs.Words.{length, List, ListsChoices, Litmus, MatchOpti
 use Rattle.lit_solve.proofs.Words.{slice_get_within, slice_index, Some, subst, ℕ, ◌≡◌, ◌≤◌}
 use Rattle.lit_solve.specs.Box.{IsBox, box_with}
 use Rattle.lit_solve.specs.Boxes.{AreDomainsIn, BoxesModel, boxes_events, boxes_len}
-use Rattle.lit_solve.specs.Internal.Cut.{AreEndSources, AreShared, IsCut, IsGreaterAt, IsHighEnd, IsLowEnd, IsSame, IsSide}
-use Rattle.lit_solve.specs.Internal.Parted.{IsParted}
+use Rattle.lit_solve.specs.Internal.Cut.{AreEndSources, AreShared, IsRangeCut, IsGreaterAt, IsHighEnd, IsLowEnd, IsSame, IsSide}
+use Rattle.lit_solve.specs.Internal.SoundRange.{IsSoundRange}
 use Rattle.lit_solve.proofs.CutLemmas.{few_boxes}
 use Rattle.lit_solve.proofs.RangeLemmas.{reaches}
 
@@ -20,7 +20,7 @@ source_fits bytes events (Some l) place sound are inside =
     are.each place (byte_read_at events place).0 (byte_read_at events place).1 (slice_index l place) (slice_get-get_or (byte_reads events) place (0, 0) inside) (slice_get-get_or l place 0 within) in
     (within, omega (arith, candidate.known, sound.few))
 
-module _ (boxes : BoxesModel) (is : IsParted boxes) where
+module _ (boxes : BoxesModel) (is : IsSoundRange boxes) where
   pub low_fits : (place : ℕ) → place < length (byte_reads (boxes_events boxes)) → IfSome boxes.low (λ l. (place < length l) × (slice_index l place < EVENT_LIMIT))
   low_fits place inside = source_fits boxes.test.bytes (boxes_events boxes) boxes.low place is.sound is.low_sources inside
 
@@ -68,16 +68,16 @@ module _ (t : Litmus) (c from to : ℕ) (lists : ListsChoices t) (of : (n : ℕ)
   high_side : (low high : Option (List ℕ)) (shared : ℕ) → AreShared low high shared → shared ≤ len → MatchOption high (shared ≡ 0) (λ _. shared ≤ len)
   high_side low high shared are inside = grind arith
 
-  parted : (low high : Option (List ℕ)) (shared : ℕ) → IsLowEnd t c from low → IsHighEnd t c to high → AreShared low high shared
+  ends_differ : (low high : Option (List ℕ)) (shared : ℕ) → IsLowEnd t c from low → IsHighEnd t c to high → AreShared low high shared
       → (a b : List ℕ) → low ≡ Some a → high ≡ Some b → IsGreaterAt a shared b
-  parted None high shared low_is high_is are a b low_at high_at = cc
-  parted (Some l) None shared low_is high_is are a b low_at high_at = cc
-  parted (Some l) (Some h) shared low_is high_is are a b low_at high_at =
+  ends_differ None high shared low_is high_is are a b low_at high_at = cc
+  ends_differ (Some l) None shared low_is high_is are a b low_at high_at = cc
+  ends_differ (Some l) (Some h) shared low_is high_is are a b low_at high_at =
       let at = reaches t c from (to - 1) l h lists (of from low_is.low low_is.high) (of (to - 1) high_is.low high_is.high) low_is.has high_is.has (omega (arith, some)) in
       let both : IsGreaterAt l shared h = parts_at_shared l h at.0 shared (omega (arith, at.1, low_is.sourced.one_each)) (are.same l h refl refl) at.2 in
       subst (λ (x : List ℕ). IsGreaterAt x shared b) (same_Some l a low_at) (subst (λ (x : List ℕ). IsGreaterAt l shared x) (same_Some h b high_at) both)
 
   pub cut_of_range : (low high : Option (List ℕ)) (shared lows highs : ℕ) → IsLowEnd t c from low → IsHighEnd t c to high → AreShared low high shared
-      → IsCounted len low shared lows → IsCounted len high shared highs → IsCut len low high shared lows highs
+      → IsCounted len low shared lows → IsCounted len high shared highs → IsRangeCut len low high shared lows highs
   cut_of_range low high shared lows highs low_is high_is are before behind =
-      grind (arith, high_side, high_sourced, low_side, low_sourced, parted, shared_fits, side)
+      grind (arith, high_side, high_sourced, low_side, low_sourced, ends_differ, shared_fits, side)

@@ -75,7 +75,7 @@ source_known box is k w inside there = (is.candidates k (byte_read_at (box_event
 module _ (events : List Event) (rows : Rows) (len : rows_len rows ≡ length events) (r b w : ℕ) (shared : EventSet)
     (both : (v : ℕ) → HasEvent shared v ↔ (IsCandidate events r b v × Holds rows w v × Holds rows v r)) where
   pub coherent_if_none : ((e : ℕ) → ¬ Holds rows e e) → ¬ Holds rows r w → ((v : ℕ) → ¬ HasEvent shared v) → IsCoherentRead events (Holds rows) r b w
-  coherent_if_none calm not_later none = grind arith
+  coherent_if_none acyclic not_later none = grind arith
 
   pub none_if_coherent : IsCoherentRead events (Holds rows) r b w → (v : ℕ) → ¬ HasEvent shared v
   none_if_coherent coherent v there = grind arith

@@ -5,19 +5,19 @@ use Rattle.lit_paths.specs.Choice.{combinations_of}
 use Rattle.lit_paths.specs.Plan.{AreEventsIn}
 use Rattle.lit_solve.specs.declared.boxes.Boxes.TheInside.{Inside}
 use Rattle.lit_solve.specs.Boxes.{BoxesModel, boxes_events}
-use Rattle.lit_solve.specs.Internal.Cut.{AreEndSources, IsCut, end_sources}
+use Rattle.lit_solve.specs.Internal.Cut.{AreEndSources, IsRangeCut, end_sources}
 
 -- a combination of a test, sources at the ends, and the boxes between these
-pub record IsParted (boxes : BoxesModel) : Type 0 where
+pub record IsSoundRange (boxes : BoxesModel) : Type 0 where
   pub known : boxes.combination < length (combinations_of boxes.test)
   pub sound : AreEventsIn boxes.test.bytes (boxes_events boxes)
   pub low_sources : AreEndSources (boxes_events boxes) boxes.low
   pub high_sources : AreEndSources (boxes_events boxes) boxes.high
-  pub cut : IsCut (length (byte_reads (boxes_events boxes))) boxes.low boxes.high boxes.shared boxes.lows boxes.highs
+  pub cut : IsRangeCut (length (byte_reads (boxes_events boxes))) boxes.low boxes.high boxes.shared boxes.lows boxes.highs
 
-abbrev pub AreParted : Inside → Type 0
-AreParted x =
-    IsParted (record {
+abbrev pub IsSoundInside : Inside → Type 0
+IsSoundInside x =
+    IsSoundRange (record {
       test = x.combination.now.0;
       combination = x.combination.now.1;
       low = end_sources x.low;

@@ -8,12 +8,12 @@ use Rattle.lit_solve.proofs.Words.{suc, sym, to_le_bytes, true, value_of, w32, �
 use Rattle.std.proofs.Common.{zip}
 use Rattle.lit_rel.proofs.OwnByteLemmas.{only, only_its}
 use Rattle.lit_rel.proofs.GuardedByteLemmas.{false_of}
-use Rattle.lit_solve.specs.declared.deciding.Decided.{Decided}
-use Rattle.lit_solve.specs.declared.deciding.Decided.TheVariants.{Comes, Hangs}
+use Rattle.lit_solve.specs.declared.condition_values.Decided.{Decided}
+use Rattle.lit_solve.specs.declared.condition_values.Decided.TheVariants.{Comes, Hangs}
 use Rattle.lit_solve.specs.Box.{Box, HasSource, box_events}
 use Rattle.lit_solve.specs.Fill.{AreSourcesIn}
 use Rattle.lit_solve.specs.Prospect.{IsUndecidedAt}
-use Rattle.lit_solve.specs.Internal.Deciding.{IsByteDecided, IsReadDecided, stored_for}
+use Rattle.lit_solve.specs.Internal.ConditionValues.{IsByteDecided, IsReadDecided, stored_for}
 
 -- two sources that store different bytes
 pub undecided_by : (box : Box) (k some other : ℕ) → k < length (byte_reads (box_events box)) → HasSource box k some → HasSource box k other

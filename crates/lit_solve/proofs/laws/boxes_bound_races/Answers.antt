@@ -1,5 +1,5 @@
 use Rattle.lit_solve.proofs.DataRaceLemmas.{can_race_may, race_given}
-use Rattle.lit_solve.proofs.laws.boxes_foresee_races.Goals as goal
+use Rattle.lit_solve.proofs.laws.boxes_bound_races.Goals as goal
 
 pub returns : goal.returns
 returns c = record {

@@ -2,9 +2,9 @@ use Rattle.lit_solve.proofs.Words.{arith, byte_read_at, ByteRead, common_steps, 
 use Rattle.lit_rel.proofs.SetLemmas.{split_less}
 use Rattle.lit_solve.specs.Box.{events_on}
 use Rattle.lit_solve.specs.Prunable.{IsRefusedOn}
-use Rattle.lit_solve.proofs.NarrowingLemmas.{read_known, read_listed, read_there}
-use Rattle.lit_solve.proofs.ReadByteLemmas.{alike_more, alike_same}
-use Rattle.lit_solve.proofs.testing.refused_among.Goals as goal
+use Rattle.lit_solve.proofs.PruningLemmas.{read_known, read_listed, read_there}
+use Rattle.lit_solve.proofs.ReadByteLemmas.{matching_more, matching_same}
+use Rattle.lit_solve.proofs.node_consistency.refused_among.Goals as goal
 
 abbrev no_read : ByteRead
 no_read = record { read = 0; byte = 0 }
@@ -34,7 +34,7 @@ loop-source-preserved-then-is_source_refused c =
     let same = read_there events c.args.place (get_or reads c.args.place no_read) listed in
     let Refused : ℕ × ℕ → Type 0 = λ p. IsRefusedOn c.args.combination.now p.0 p.1 c.in-Some.source in record {
       left = λ v h. c.loop-source.invariant.left v ((c.in-Some.ensures.rest v).0 h).0;
-      refused = alike_more c.args.among c.loop-source.left c.in-Some.others c.loop-source.refused
+      refused = matching_more c.args.among c.loop-source.left c.in-Some.others c.loop-source.refused
           (λ v. IsRefusedOn c.args.combination.now (byte_read_at events c.args.place).0 (byte_read_at events c.args.place).1 v)
           c.in-Some.source c.in-Some.ensures c.loop-source.invariant.refused c.with-refused.result
           (c.loop-source.invariant.left c.in-Some.source c.in-Some.ensures.there)
@@ -49,7 +49,7 @@ loop-source-preserved c =
     let same = read_there events c.args.place (get_or reads c.args.place no_read) listed in
     let Refused : ℕ × ℕ → Type 0 = λ p. IsRefusedOn c.args.combination.now p.0 p.1 c.in-Some.source in record {
       left = λ v h. c.loop-source.invariant.left v ((c.in-Some.ensures.rest v).0 h).0;
-      refused = alike_same c.args.among c.loop-source.left c.in-Some.others c.loop-source.refused
+      refused = matching_same c.args.among c.loop-source.left c.in-Some.others c.loop-source.refused
           (λ v. IsRefusedOn c.args.combination.now (byte_read_at events c.args.place).0 (byte_read_at events c.args.place).1 v)
           c.in-Some.source c.in-Some.ensures c.loop-source.invariant.refused
           (λ is. false≢true (sym c.if-is_source_refused.false ∙ c.is_source_refused.ensures.1 (subst Refused (sym same) is)));

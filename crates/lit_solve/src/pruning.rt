@@ -13,8 +13,8 @@ ghost use Rattle.lit_solve.specs.Box.{HasSource, events_on};
 ghost use Rattle.lit_solve.specs.Given.{GivenIn, HasAlone};
 ghost use Rattle.lit_solve.specs.Prunable.{IsPrunable};
 ghost use Rattle.lit_solve.specs.Internal.Frames.{AreCoherentAt, IsContained, box_of};
-ghost use Rattle.lit_solve.specs.Internal.Narrowing.{HasNoCompletion, Narrows, size_of};
-ghost use Rattle.lit_solve.specs.declared.narrowing.Narrowed.TheVariants.{Empty, Less, Same};
+ghost use Rattle.lit_solve.specs.Internal.Pruning.{HasNoCompletion, Prunes, size_of};
+ghost use Rattle.lit_solve.specs.declared.pruning.Pruned.TheVariants.{Empty, Less, Same};
 
 use crate::domains::only_one;
 use crate::frame::Frame;
@@ -25,7 +25,7 @@ use lit_rel::{EventSet, can_read_whole, can_synchronize, others_between};
 
 /// What narrowing comes to.
 #[derive(Clone, Copy, Debug, PartialEq, Eq)]
-pub(crate) enum Narrowed {
+pub(crate) enum Pruned {
     /// Nothing was taken out.
     Same,
     /// Some sources were, and each domain has some left.
@@ -41,7 +41,7 @@ impl Problem<'_> {
         requires place { place < length (byte_reads (events_on self.now)) }
         requires contained { IsContained (box_of self.now frame.now) frame.now }
         requires source { source < length (events_on self.now) }
-        requires calm { (e : ℕ) → ¬ Holds frame.now.happens_before.rows e e }
+        requires acyclic { (e : ℕ) → ¬ Holds frame.now.happens_before.rows e e }
         ensures { IsTrue result ↔ IsCoherentRead (events_on self.now) (Holds frame.now.happens_before.rows)
             (byte_read_at (events_on self.now) place).0 (byte_read_at (events_on self.now) place).1 source }
     {
@@ -144,11 +144,11 @@ impl Problem<'_> {
 
     /// Whether no completion has a source for the byte read at a place, by what the frame has. `whole` are events from which
     /// its read is given a byte, whole each. No event happens before itself.
-    fn is_out(&self, frame: &Frame, place: usize, source: usize, whole: EventSet) -> bool
+    fn is_prunable(&self, frame: &Frame, place: usize, source: usize, whole: EventSet) -> bool
         requires place { place < length (byte_reads (events_on self.now)) }
         requires source { source < length (events_on self.now) }
         requires contained { IsContained (box_of self.now frame.now) frame.now }
-        requires calm { (e : ℕ) → ¬ Holds frame.now.happens_before.rows e e }
+        requires acyclic { (e : ℕ) → ¬ Holds frame.now.happens_before.rows e e }
         requires whole { (u : ℕ) → HasEvent whole u → ReadsWholeBy (events_on self.now) (GivenIn (box_of self.now frame.now))
             (byte_read_at (events_on self.now) place).0 u }
         ensures out { IsTrue result → IsPrunable (box_of self.now frame.now) (byte_read_at (events_on self.now) place).0
@@ -167,7 +167,7 @@ impl Problem<'_> {
     fn left(&self, frame: &Frame, place: usize) -> EventSet
         requires place { place < length (byte_reads (events_on self.now)) }
         requires contained { IsContained (box_of self.now frame.now) frame.now }
-        requires calm { (e : ℕ) → ¬ Holds frame.now.happens_before.rows e e }
+        requires acyclic { (e : ℕ) → ¬ Holds frame.now.happens_before.rows e e }
         ensures within { (w : ℕ) → HasEvent result w → HasSource (box_of self.now frame.now) place w }
         ensures out { (w : ℕ) → HasSource (box_of self.now frame.now) place w → ¬ HasEvent result w
             → IsPrunable (box_of self.now frame.now) (byte_read_at (events_on self.now) place).0 (byte_read_at (events_on self.now) place).1 w }
@@ -179,7 +179,7 @@ impl Problem<'_> {
         let mut left = EventSet::new();
         let mut rest = frame.domains[place];
         while let Some((source, others)) = rest.split_first() {
-            if !self.is_out(frame, place, source, whole) {
+            if !self.is_prunable(frame, place, source, whole) {
                 left = left.with(source);
             }
             rest = others;
@@ -188,13 +188,13 @@ impl Problem<'_> {
     }
 
     /// Takes out of the domain of the byte read at a place the sources that the frame leaves out. No event happens before itself.
-    fn narrow_at(&self, frame: &mut Frame, place: usize) -> Narrowed
+    fn prune_at(&self, frame: &mut Frame, place: usize) -> Pruned
         requires place { place < length (byte_reads (events_on self.now)) }
         requires contained { IsContained (box_of self.now frame.old) frame.old }
-        requires calm { (e : ℕ) → ¬ Holds frame.old.happens_before.rows e e }
+        requires acyclic { (e : ℕ) → ¬ Holds frame.old.happens_before.rows e e }
         ensures before { frame.new.happens_before ≡ frame.old.happens_before }
         ensures contained { result ≢ Empty → IsContained (box_of self.now frame.new) frame.new }
-        ensures narrows { result ≢ Empty → Narrows (box_of self.now frame.old) (box_of self.now frame.new) }
+        ensures prunes { result ≢ Empty → Prunes (box_of self.now frame.old) (box_of self.now frame.new) }
         ensures same { result ≡ Same → frame.new ≡ frame.old }
         ensures coherent { result ≡ Same → (w : ℕ) → HasSource (box_of self.now frame.old) place w
             → IsCoherentRead (events_on self.now) (Holds frame.old.happens_before.rows)
@@ -206,34 +206,34 @@ impl Problem<'_> {
         let _events = self.events();
         let left = self.left(&*frame, place);
         if left.is_empty() {
-            return Narrowed::Empty;
+            return Pruned::Empty;
         }
         if frame.domains[place].is_within(left) {
-            return Narrowed::Same;
+            return Pruned::Same;
         }
         frame.domains[place] = left;
-        Narrowed::Less
+        Pruned::Less
     }
 
     /// Takes out of each domain the sources that the frame leaves out. No event happens before itself.
-    pub(crate) fn narrow(&self, frame: &mut Frame) -> Narrowed
+    pub(crate) fn prune(&self, frame: &mut Frame) -> Pruned
         requires contained { IsContained (box_of self.now frame.old) frame.old }
-        requires calm { (e : ℕ) → ¬ Holds frame.old.happens_before.rows e e }
+        requires acyclic { (e : ℕ) → ¬ Holds frame.old.happens_before.rows e e }
         ensures contained { result ≢ Empty → IsContained (box_of self.now frame.new) frame.new }
-        ensures narrows { result ≢ Empty → Narrows (box_of self.now frame.old) (box_of self.now frame.new) }
+        ensures prunes { result ≢ Empty → Prunes (box_of self.now frame.old) (box_of self.now frame.new) }
         ensures same { result ≡ Same → frame.new ≡ frame.old }
         ensures coherent { result ≡ Same → AreCoherentAt (box_of self.now frame.old) frame.old }
         ensures less { result ≡ Less → size_of frame.new.domains < size_of frame.old.domains }
         ensures empty { result ≡ Empty → HasNoCompletion (box_of self.now frame.old) }
     {
-        let mut narrowed = Narrowed::Same;
+        let mut pruned = Pruned::Same;
         for place in 0..self.reads() {
-            match self.narrow_at(frame, place) {
-                Narrowed::Same => {}
-                Narrowed::Less => narrowed = Narrowed::Less,
-                Narrowed::Empty => return Narrowed::Empty,
+            match self.prune_at(frame, place) {
+                Pruned::Same => {}
+                Pruned::Less => pruned = Pruned::Less,
+                Pruned::Empty => return Pruned::Empty,
             }
         }
-        narrowed
+        pruned
     }
 }

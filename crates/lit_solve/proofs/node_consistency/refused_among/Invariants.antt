@@ -1,7 +1,7 @@
 use Rattle.lit_solve.proofs.Words.{byte_read_at, HasEvent, ℕ, ◌↔◌}
 use Rattle.lit_solve.specs.Box.{events_on}
 use Rattle.lit_solve.specs.Prunable.{IsRefusedOn}
-use Rattle.lit_solve.proofs.testing.refused_among.Given as goal
+use Rattle.lit_solve.proofs.node_consistency.refused_among.Given as goal
 
 abbrev pub invariant-loop-source : goal.invariant-loop-source
 invariant-loop-source l = record {
