@@ -7,7 +7,7 @@ use crate::class::Class2;
 use crate::fault::DeskFault;
 use crate::limits::{MOST_PIECES, MOST_SEATS};
 use crate::place::Place;
-use crate::rule::{Board, DeskSeat, Draws, Gathers, Leaves, Looks, Sits, Tells, Terms};
+use crate::rule::{Board, DeskSeat, Draws, Gathers, GivesPlace, Looks, Sits, Tells, Terms};
 use crate::words::{MET_WORD, NONE_TOLD, TICKET_WORD, UNMET_WORD, number_in_word, word_of_class};
 use atomic_table::Table;
 use std::alloc::Global;
@@ -59,7 +59,7 @@ impl Desk {
         let mut places = Vec::with_capacity(alloc, seats)?;
         let (table, mut seat) = Table::of_words(alloc, &[0, NONE_TOLD, NONE_TOLD], &terms)?;
         for _ in 1..seats {
-            let other = table.shared.split_seat::<Leaves>(&mut seat);
+            let other = table.shared.split_seat::<GivesPlace>(&mut seat);
             places.push_reserved(Place::new(other, terms));
         }
         places.push_reserved(Place::new(seat, terms));

@@ -60,9 +60,9 @@ impl<S> Play<S, Account> for Sits {
 }
 
 /// A seat where nothing was done yet leaves one of its places to a seat of its own.
-pub(crate) struct Leaves;
+pub(crate) struct GivesPlace;
 
-impl Split<Account> for Leaves {
+impl Split<Account> for GivesPlace {
     ghost use Rattle.std.specs.Prelude.{◌-◌};
     ghost use Rattle.lit_desk.specs.Accounts.{new_account};
 
@@ -76,9 +76,9 @@ pub(crate) struct Gathers;
 
 impl Join<Account> for Gathers {
     ghost use Rattle.lit_desk.specs.Accounts.{new_account};
-    ghost use Rattle.lit_desk.specs.Internal.Gathered.{joined_accounts};
+    ghost use Rattle.lit_desk.specs.Internal.Gathered.{merged_accounts};
 
-    ghost both = { λ v w. joined_accounts w v };
+    ghost both = { λ v w. merged_accounts w v };
 
     ghost spent = { new_account 0 };
 }

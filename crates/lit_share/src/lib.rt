@@ -6,23 +6,23 @@
 //! definitions stand in `specs/`: `Pieces`, `Drawn`, `Hunted` and `Quick`.
 #![tactic(auto)]
 
-mod asking;
+mod quick_search;
 mod fault;
 mod gate;
-mod hunting;
+mod quick_worker;
 pub mod laws;
 mod limits;
 mod pieces;
 mod quick_answer;
-mod searching;
+mod full_search;
 mod worker;
-mod working;
+mod search_worker;
 
-pub use asking::quick;
+pub use quick_search::quick;
 pub use fault::ShareFault;
 pub use gate::{Gate, OpenGate};
-pub use hunting::hunt;
+pub use quick_worker::hunt;
 pub use limits::{CUT_LIMIT, WORKER_LIMIT};
 pub use quick_answer::Quick;
-pub use searching::search;
-pub use working::work;
+pub use full_search::search;
+pub use search_worker::work;

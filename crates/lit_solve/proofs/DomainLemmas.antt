@@ -94,14 +94,14 @@ module _ (box : Box) (place : ℕ) (left : EventSet) (room : place < length box.
 
   -- the sources of completions are left
   module _ (is_box : IsBox box) (sound : AreEventsIn box.test.bytes (box_events box)) (law : PrunesSoundly box) (inside : place < length (byte_reads (box_events box)))
-      (out : (w : ℕ) → HasSource box place w → ¬ HasEvent left w
+      (prunable : (w : ℕ) → HasSource box place w → ¬ HasEvent left w
       → IsPrunable box (byte_read_at (box_events box) place).0 (byte_read_at (box_events box) place).1 w) where
     source_left : (x : Execution) → IsCompletion box x → (w : ℕ) → slice_get x.sources place ≡ Some w → HasEvent left w
     source_left x is w source = elim (event_or_not left w) [
       | inl there ↦ there
       | inr lost ↦
           absurd (law x place (byte_read_at (box_events box) place).0 (byte_read_at (box_events box) place).1 w is_box sound is
-          (read_here (box_events box) place inside) source (out w (is.within place w source) lost))
+          (read_here (box_events box) place inside) source (prunable w (is.within place w source) lost))
     ]
 
     pub none_if_empty : ((w : ℕ) → ¬ HasEvent left w) → HasNoCompletion box

@@ -151,7 +151,7 @@ impl Problem<'_> {
         requires acyclic { (e : ℕ) → ¬ Holds frame.now.happens_before.rows e e }
         requires whole { (u : ℕ) → HasEvent whole u → ReadsWholeBy (events_on self.now) (GivenIn (box_of self.now frame.now))
             (byte_read_at (events_on self.now) place).0 u }
-        ensures out { IsTrue result → IsPrunable (box_of self.now frame.now) (byte_read_at (events_on self.now) place).0
+        ensures prunable { IsTrue result → IsPrunable (box_of self.now frame.now) (byte_read_at (events_on self.now) place).0
             (byte_read_at (events_on self.now) place).1 source }
         ensures coherent { IsFalse result → IsCoherentRead (events_on self.now) (Holds frame.now.happens_before.rows)
             (byte_read_at (events_on self.now) place).0 (byte_read_at (events_on self.now) place).1 source }
@@ -169,7 +169,7 @@ impl Problem<'_> {
         requires contained { IsContained (box_of self.now frame.now) frame.now }
         requires acyclic { (e : ℕ) → ¬ Holds frame.now.happens_before.rows e e }
         ensures within { (w : ℕ) → HasEvent result w → HasSource (box_of self.now frame.now) place w }
-        ensures out { (w : ℕ) → HasSource (box_of self.now frame.now) place w → ¬ HasEvent result w
+        ensures prunable { (w : ℕ) → HasSource (box_of self.now frame.now) place w → ¬ HasEvent result w
             → IsPrunable (box_of self.now frame.now) (byte_read_at (events_on self.now) place).0 (byte_read_at (events_on self.now) place).1 w }
         ensures coherent { (w : ℕ) → HasEvent result w → IsCoherentRead (events_on self.now) (Holds frame.now.happens_before.rows)
             (byte_read_at (events_on self.now) place).0 (byte_read_at (events_on self.now) place).1 w }

@@ -29,7 +29,7 @@ use Rattle.lit_valid.specs.ValidExecution.{IsValidExecution, read_numbers}
 use Rattle.lit_valid.specs.Internal.GivenRuns.{AreGivenRuns, HasGivenRun, IsGivenRun}
 use Rattle.lit_valid.specs.Laws.{ChooseForEachRead, Laws}
 use Rattle.lit_valid.specs.PartOutcome.{part_outcome, observed_value}
-use Rattle.lit_valid.proofs.ObservedLemmas.{held_by_run, holds, run_where_true, true_of_run}
+use Rattle.lit_valid.proofs.ObservedLemmas.{observed_by_run, holds, run_where_true, true_of_run}
 use Rattle.lit_valid.proofs.RunLemmas.{given_apart, given_together, made, no_path, no_run}
 use Rattle.lit_valid.proofs.Takings.{gathered}
 
@@ -56,9 +56,9 @@ module _ (part : PartModel) (x : Execution) (is : Completes part x) where
       (subst (λ (es : List Event). flat_map (λ run. run.values) x.runs ≡ map (value_of es x.sources) (read_numbers es)) its_events is.valid.chosen_reads)
 
   -- its memory-orders keep what the part has
-  pub order_kept : GrowWithBytes → (order : List ℕ) → IsMemoryOrder (execution_events part.test x) x.sources order
+  pub order_respected : GrowWithBytes → (order : List ℕ) → IsMemoryOrder (execution_events part.test x) x.sources order
       → IsMemoryOrder (part_events part) part.sources order
-  order_kept grow order o =
+  order_respected grow order o =
       let grows = grow.lists (part_events part) part.sources is.rest in
       let here : IsMemoryOrder (part_events part) (part.sources ++ is.rest) order = carried (λ es ws. IsMemoryOrder es ws order) o in
       record {
@@ -128,7 +128,7 @@ module _ (part : PartModel) (x : Execution) (is : Completes part x) where
       let there : name.0 < length x.runs = omega (arith, runs.one_each, known) in
       let run = get_or x.runs name.0 no_run in
       ap (λ (rs : List ℕ). slice_index rs name.1) (get_or-map (λ (q : Run). q.registers) x.runs name.0 no_run [] there)
-      ∙ held_by_run part.test part.combination name.0 x.sources (laws.walked part.test part.combination name.0 entered.litmus entered.known known)
+      ∙ observed_by_run part.test part.combination name.0 x.sources (laws.walked part.test part.combination name.0 entered.litmus entered.known known)
       (tells_of laws part.test part.combination name.0 entered.litmus entered.known known) run name.1
       (runs.each name.0 run (slice_get-get_or x.runs name.0 no_run there)))
     where

@@ -150,8 +150,8 @@ module _ (t : Litmus) (c agent : ℕ) (sources : List ℕ) (walk : IsWalkIn t c 
       every p (test ∷ ts) each = ap (λ (b : Bool). b && list_all p ts) (each 0 test refl) ∙ every p ts (λ k other at. each (suc k) other at)
 
   -- what a register holds at the end of such a run
-  pub held_by_run : (run : Run) (reg : ℕ) → IsGivenRun t c sources agent run → slice_index run.registers reg ≡ observed_value (record { test = t; combination = c; sources = sources }) (observed_read t c (agent, reg))
-  held_by_run run reg given =
+  pub observed_by_run : (run : Run) (reg : ℕ) → IsGivenRun t c sources agent run → slice_index run.registers reg ≡ observed_value (record { test = t; combination = c; sources = sources }) (observed_read t c (agent, reg))
+  observed_by_run run reg given =
       let lasts : List (Option ℕ) = (path_in t c agent).last in
       ap (λ (rs : List ℕ). slice_index rs reg) (tells.held run given.is_run (on_walk run given) ∙ ap (λ (vs : List (ℕ × ℕ)). map (value_on vs) lasts) (chosen_of run given))
       ∙ index-map (value_on chosen) refl lasts reg

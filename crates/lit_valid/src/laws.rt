@@ -51,7 +51,7 @@ pub fn broken_parts_have_no_completion()
 
 /// Each memory-order of a valid execution that goes on from a part keeps the part's happens-before, and no event that
 /// the part forbids between a source and its read stands there.
-pub fn orders_of_completions_keep_parts()
+pub fn orders_of_completions_respect_parts()
     ensures { (part : PartModel) (x : Execution) (order : List ℕ) → Completes part x
         → IsMemoryOrder (execution_events part.test x) x.sources order → IsMemoryOrder (part_events part) part.sources order }
 {

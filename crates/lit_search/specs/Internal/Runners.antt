@@ -50,6 +50,6 @@ pub record IsNextAccess (registers : List ℕ) (before : Statements) (s : Statem
   pub said : (bytes : ℕ) → AreStatementsIn bytes before → IsStatementIn bytes s × AreStatementsIn bytes left
 
 -- that, or there is none
-abbrev pub IsNext : List ℕ → Statements → Option (Bor Stmt) → Statements → Type 0
-IsNext registers before None left = (from_access registers before ≡ End) × (left ≡ End)
-IsNext registers before (Some access) left = IsNextAccess registers before (statement_of access.now) left
+abbrev pub IsNextAccessOrNone : List ℕ → Statements → Option (Bor Stmt) → Statements → Type 0
+IsNextAccessOrNone registers before None left = (from_access registers before ≡ End) × (left ≡ End)
+IsNextAccessOrNone registers before (Some access) left = IsNextAccess registers before (statement_of access.now) left

@@ -29,15 +29,15 @@ impl<'t> Model for Runner<'t> {
 
 impl<'t> Runner<'t> {
     ghost use Rattle.std.specs.Prelude.{◌≡◌, ℕ, ◌<◌, IfOk, true, replicate, length, slice_index};
-    ghost use Rattle.lit_read.specs.declared.limits.TheConstants.{REGISTERS as HELD};
+    ghost use Rattle.lit_read.specs.declared.limits.TheConstants.{REGISTERS as REGISTER_COUNT};
     ghost use Rattle.lit_read.specs.Litmus.{statement_of, statements_of};
     ghost use Rattle.lit_read.specs.Syntax.{AreStatementsIn, IsStatementIn, End};
     ghost use Rattle.lit_search.specs.Interleaving.{accessed, after, after_statement, from_access};
-    ghost use Rattle.lit_search.specs.Internal.Runners.{IsNext, is_access};
+    ghost use Rattle.lit_search.specs.Internal.Runners.{IsNextAccessOrNone, is_access};
 
     /// An agent before its first statement.
     pub(crate) fn new(alloc: Global, body: &'t [Stmt]) -> Result<Self, AllocError>
-        ensures { IfOk result (λ runner. runner ≡ record { left = statements_of body.now; registers = replicate HELD 0 }) }
+        ensures { IfOk result (λ runner. runner ≡ record { left = statements_of body.now; registers = replicate REGISTER_COUNT 0 }) }
     {
         let mut left = Vec::new(alloc);
         left.push(body)?;
@@ -49,7 +49,7 @@ impl<'t> Runner<'t> {
 
     /// What a register holds.
     pub(crate) fn register(&self, reg: u8) -> u32
-        requires { reg < HELD }
+        requires { reg < REGISTER_COUNT }
         ensures { result ≡ slice_index self.now.registers reg }
     {
         self.registers[usize::from(reg)]
@@ -59,7 +59,7 @@ impl<'t> Runner<'t> {
     fn next(&mut self) -> Result<Option<&'t Stmt>, AllocError>
         requires { (bytes : ℕ) × AreStatementsIn bytes self.old.left }
         ensures registers { self.new.registers ≡ self.old.registers }
-        ensures next { IfOk result (λ next. IsNext self.old.registers self.old.left next self.new.left) }
+        ensures next { IfOk result (λ next. IsNextAccessOrNone self.old.registers self.old.left next self.new.left) }
     {
         next_access(&mut self.left, &self.registers)
     }

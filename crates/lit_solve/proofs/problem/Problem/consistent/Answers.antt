@@ -24,12 +24,12 @@ loop-place-preserved c =
     let room : place < length box.domains = omega (arith, was.len, c.reads-place-end.ensures.few, c.loop-place-test.true) in
     let inside : place < length (byte_reads events) = omega (arith, c.reads-place-end.ensures.value, c.loop-place-test.true) in
     let read = byte_read_at events place in
-    let out : (w : ℕ) → HasSource box place w → ¬ HasEvent less w → IsPrunable box read.0 read.1 w = λ w there lost. elim (event_or_not _ w) [
+    let prunable : (w : ℕ) → HasSource box place w → ¬ HasEvent less w → IsPrunable box read.0 read.1 w = λ w there lost. elim (event_or_not _ w) [
       | inl refused ↦ inl ((is.by_guards place read.0 read.1 w (read_here events place inside)).0 refused).1
       | inr is_refused ↦ absurd (lost ((c.difference.ensures w).1 (there, is_refused)))
     ] in
     let within : (w : ℕ) → HasEvent less w → HasSource box place w = λ w there. ((c.difference.ensures w).0 there).0 in
-    let step = prunes box place less room was.is_box is.sound (c.completions_have_no_prunable_source.ensures box) inside out within in record {
+    let step = prunes box place less room was.is_box is.sound (c.completions_have_no_prunable_source.ensures box) inside prunable within in record {
       len = length-set c.loop-place.left place less ∙ was.len;
       is_box = pruned_is_box box place less room within was.is_box;
       prunes = prunes_on first box (pruned_at box place less) was.prunes step;

@@ -6,8 +6,8 @@ use Rattle.lit_solve.proofs.PruningLemmas.{between_out, incoherent_out, later_ou
 use Rattle.lit_solve.proofs.problem.Problem.is_prunable.Goals as goal
 use Rattle.lit_solve.proofs.problem.Problem.is_prunable.Goals.{then-not-is_coherent, else-not-is_coherent, then-is_forced_later, else-is_forced_later}
 
-pub returns-then-is_forced_between-clause-out : goal.returns-then-is_forced_between-clause-out
-returns-then-is_forced_between-clause-out c found =
+pub returns-then-is_forced_between-clause-prunable : goal.returns-then-is_forced_between-clause-prunable
+returns-then-is_forced_between-clause-prunable c found =
     let events = events_on c.args.self.now in
     let box = box_of c.args.self.now c.args.frame.now in
     let is = c.requires.contained in
@@ -31,8 +31,8 @@ returns-then-is_forced_between-clause-out c found =
           (between_out box c.args.frame.now is c.from-read.result byte c.args.source between.0 between.1 between.2 between.3)
     ]
 
-pub returns-else-is_forced_between-clause-out : goal.returns-else-is_forced_between-clause-out
-returns-else-is_forced_between-clause-out c found =
+pub returns-else-is_forced_between-clause-prunable : goal.returns-else-is_forced_between-clause-prunable
+returns-else-is_forced_between-clause-prunable c found =
     let events = events_on c.args.self.now in
     let box = box_of c.args.self.now c.args.frame.now in
     let read = (byte_read_at events c.args.place).0 in

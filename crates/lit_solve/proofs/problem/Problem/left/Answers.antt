@@ -36,8 +36,8 @@ loop-source-preserved-then-not-is_prunable c =
         | inl old ↦ was.within w old
         | inr is ↦ subst (λ (v : ℕ). HasSource box c.args.place v) (sym is) (was.rest source c.in-Some.ensures.there)
       ];
-      out = λ w h gone lost.
-          was.out w h
+      prunable = λ w h gone lost.
+          was.prunable w h
           (λ there. elim (cases_eq w source) [
             | inl is ↦ lost ((c.with-left.ensures w).1 (inr is))
             | inr other ↦ gone
@@ -59,12 +59,12 @@ loop-source-preserved c =
     let source = c.in-Some.source in record {
       rest = λ w h. was.rest w ((c.in-Some.ensures.rest w).0 h).0;
       within = was.within;
-      out = λ w h gone lost. elim (cases_eq w source) [
-        | inl is ↦ subst (λ (v : ℕ). IsPrunable box read.0 read.1 v) (sym is) (c.is_prunable.ensures.out c.if-not-is_prunable.false)
-        | inr other ↦ was.out w h (λ there. gone ((c.in-Some.ensures.rest w).1 (there, other))) lost
+      prunable = λ w h gone lost. elim (cases_eq w source) [
+        | inl is ↦ subst (λ (v : ℕ). IsPrunable box read.0 read.1 v) (sym is) (c.is_prunable.ensures.prunable c.if-not-is_prunable.false)
+        | inr other ↦ was.prunable w h (λ there. gone ((c.in-Some.ensures.rest w).1 (there, other))) lost
       ];
       coherent = was.coherent;
     }
 
-pub returns-clause-out : goal.returns-clause-out
-returns-clause-out c w h lost = c.loop-source.invariant.out w h (c.in_default.ensures w) lost
+pub returns-clause-prunable : goal.returns-clause-prunable
+returns-clause-prunable c w h lost = c.loop-source.invariant.prunable w h (c.in_default.ensures w) lost

@@ -10,7 +10,7 @@ returns-then-is_empty-clause-empty c _ =
     let room : c.args.place < length box.domains = omega arith in
     none_if_empty box c.args.place c.left-left.result room c.requires.contained.is_box c.events-events.ensures.sound
     (c.completions_have_no_prunable_source.ensures box)
-    c.requires.place c.left-left.ensures.out
+    c.requires.place c.left-left.ensures.prunable
     (c.is_empty.ensures.0 c.if-is_empty.true)
 
 pub returns-then-is_within-clause-coherent : goal.returns-then-is_within-clause-coherent
@@ -29,7 +29,7 @@ returns-clause-prunes c _ =
     let room : c.args.place < length box.domains = omega arith in
     prunes box c.args.place c.left-left.result room c.requires.contained.is_box c.events-events.ensures.sound
     (c.completions_have_no_prunable_source.ensures box)
-    c.requires.place c.left-left.ensures.out c.left-left.ensures.within
+    c.requires.place c.left-left.ensures.prunable c.left-left.ensures.within
 
 pub returns-clause-less : goal.returns-clause-less
 returns-clause-less c _ =
