@@ -96,7 +96,7 @@ check A.r0 != 0 && A.r0 == 0 && A.r1 == 0 && A.r2 == 0 && A.r3 == 0 && A.r4 == 0
 
 /// A goal that valid choices meet exactly where one of these events is a source, or, if not `some`, where none is.
 #[derive(Clone, Copy)]
-struct Asked {
+struct Query {
     goal: Goal,
     events: EventSet,
     some: bool,
@@ -104,23 +104,23 @@ struct Asked {
 
 /// All that is asked of the boxes of a test, where a choice meets the condition unless one of the events `against` is a source,
 /// and has a data race exactly where one of those `apart` is.
-fn questions(against: EventSet, apart: EventSet) -> [Asked; 4] {
-    let any = Asked {
+fn queries_on(against: EventSet, apart: EventSet) -> [Query; 4] {
+    let any = Query {
         goal: Goal::Any,
         events: EventSet::below(EVENT_LIMIT),
         some: true,
     };
-    let met = Asked {
+    let met = Query {
         goal: Goal::OfClass(Class::Met),
         events: against,
         some: false,
     };
-    let unmet = Asked {
+    let unmet = Query {
         goal: Goal::OfClass(Class::Unmet),
         events: against,
         some: true,
     };
-    let race = Asked {
+    let race = Query {
         goal: Goal::Race,
         events: apart,
         some: true,
@@ -130,7 +130,7 @@ fn questions(against: EventSet, apart: EventSet) -> [Asked; 4] {
 
 /// The least sources in domains that meet a goal: the least of each domain; but if one of some events is wanted, and none of
 /// these is, the last byte read that can have one has it.
-fn wanted(domains: &Domains, reads: usize, asked: Asked) -> Option<[u8; BYTE_READ_LIMIT]>
+fn wanted(domains: &Domains, reads: usize, query: Query) -> Option<[u8; BYTE_READ_LIMIT]>
     requires { reads ≤ BYTE_READ_LIMIT }
 {
     let mut sources = [0u8; BYTE_READ_LIMIT];
@@ -138,18 +138,18 @@ fn wanted(domains: &Domains, reads: usize, asked: Asked) -> Option<[u8; BYTE_REA
     for place in 0..reads {
         let (source, _others) = domains[place].split_first()?;
         sources[place] = u8::try_from(source).ok()?;
-        if let Some((event, _others)) = domains[place].intersection(asked.events).split_first() {
+        if let Some((event, _others)) = domains[place].intersection(query.events).split_first() {
             some = some || event == source;
         }
     }
-    if some == asked.some {
+    if some == query.some {
         return Some(sources);
     }
     if some {
         return None;
     }
     for place in (0..reads).rev() {
-        if let Some((source, _others)) = domains[place].intersection(asked.events).split_first() {
+        if let Some((source, _others)) = domains[place].intersection(query.events).split_first() {
             sources[place] = u8::try_from(source).ok()?;
             return Some(sources);
         }
@@ -158,7 +158,7 @@ fn wanted(domains: &Domains, reads: usize, asked: Asked) -> Option<[u8; BYTE_REA
 }
 
 /// Whether a box has what is wanted.
-fn is_answered(problem: &Problem<'_>, domains: &Domains, asked: Asked) -> bool
+fn is_answered(problem: &Problem<'_>, domains: &Domains, query: Query) -> bool
     requires { IsBox (box_with problem.now domains.now) }
 {
     let reads = problem
@@ -166,11 +166,11 @@ fn is_answered(problem: &Problem<'_>, domains: &Domains, asked: Asked) -> bool
         .byte_reads()
         .len()
         .min(BYTE_READ_LIMIT);
-    let found = least(problem, domains, asked.goal);
-    if exists(problem, domains, asked.goal) != found.is_some() {
+    let found = least(problem, domains, query.goal);
+    if exists(problem, domains, query.goal) != found.is_some() {
         return false;
     }
-    match (found, wanted(domains, reads, asked)) {
+    match (found, wanted(domains, reads, query)) {
         (Some(one), Some(sources)) => one.sources.as_slice() == &sources[..reads],
         (None, None) => true,
         _ => false,
@@ -178,7 +178,7 @@ fn is_answered(problem: &Problem<'_>, domains: &Domains, asked: Asked) -> bool
 }
 
 /// How many boxes a range of choices on the first combination has, if each has what is wanted.
-fn answered(plan: &Plan<'_>, (from, to): (u64, u64), asked: &[Asked]) -> Option<usize> {
+fn answered(plan: &Plan<'_>, (from, to): (u64, u64), queries: &[Query]) -> Option<usize> {
     let _test = plan.test();
     let _combinations = plan.combinations();
     let problem = Problem::open(plan, 0);
@@ -190,8 +190,8 @@ fn answered(plan: &Plan<'_>, (from, to): (u64, u64), asked: &[Asked]) -> Option<
     for i in 0..boxes.len() {
         let mut domains: Domains = [EventSet::new(); BYTE_READ_LIMIT];
         boxes.put(i, &mut domains);
-        for one in asked {
-            if !is_answered(&problem, &domains, *one) {
+        for query in queries {
+            if !is_answered(&problem, &domains, *query) {
                 return None;
             }
         }
@@ -204,12 +204,12 @@ fn assert_answered(
     rt: &(impl Abort + AllocGlobal + Threads),
     text: &str,
     range: (u64, u64),
-    asked: &[Asked],
+    queries: &[Query],
     wanted: usize,
 ) -> Result<(), Fail> {
     let test = read(rt.alloc(), text.as_bytes())?;
     let plan = plan(rt.alloc(), &test)?;
-    let (boxes, ()) = join_mut(rt, &mut || answered(&plan, range, asked), &mut || ());
+    let (boxes, ()) = join_mut(rt, &mut || answered(&plan, range, queries), &mut || ());
     assert_eq!(rt; boxes, Some(wanted));
     Ok(())
 }
@@ -219,22 +219,22 @@ fn assert_answered(
 #[test]
 fn sixty_cuts_of_thirty_bytes(rt: HostRuntime) -> Result<(), Fail> {
     let ones = EventSet::new().with(13);
-    let asked = questions(ones, ones.with(12));
+    let queries = queries_on(ones, ones.with(12));
     let total = 3u64.pow(30);
-    assert_answered(&rt, THREE_SOURCES, (0, total), &asked, 1)?;
-    assert_answered(&rt, THREE_SOURCES, (1, total - 1), &asked, 61)
+    assert_answered(&rt, THREE_SOURCES, (0, total), &queries, 1)?;
+    assert_answered(&rt, THREE_SOURCES, (1, total - 1), &queries, 61)
 }
 
 #[test]
-fn thirty_six_bytes_parted_by_source(rt: HostRuntime) -> Result<(), Fail> {
+fn thirty_six_bytes_branched_by_source(rt: HostRuntime) -> Result<(), Fail> {
     let ones = EventSet::new().with(11);
-    let asked = questions(ones, ones.with(10));
+    let queries = queries_on(ones, ones.with(10));
     let total = 3u64.pow(20) * 2u64.pow(16);
-    assert_answered(&rt, MIXED_SOURCES, (0, total), &asked, 1)
+    assert_answered(&rt, MIXED_SOURCES, (0, total), &queries, 1)
 }
 
 #[test]
-fn forty_eight_bytes_parted_by_value(rt: HostRuntime) -> Result<(), Fail> {
-    let asked = questions(EventSet::below(EVENT_LIMIT), EventSet::new().with(16));
-    assert_answered(&rt, TWO_SOURCES, (0, 1 << 48), &asked, 1)
+fn forty_eight_bytes_branched_by_value(rt: HostRuntime) -> Result<(), Fail> {
+    let queries = queries_on(EventSet::below(EVENT_LIMIT), EventSet::new().with(16));
+    assert_answered(&rt, TWO_SOURCES, (0, 1 << 48), &queries, 1)
 }
