@@ -1,5 +1,5 @@
--- Notions of the contracts inside this crate: frames, and narrowing them; filling reads; what domains say of outcomes; how a
--- range is cut into boxes.
+-- Notions of the contracts inside this crate: frames, and pruning them; filling reads; what domains say of outcomes; the cut of a
+-- range into boxes.
 pub mod Frames
 pub mod Pruning
 pub mod Filling

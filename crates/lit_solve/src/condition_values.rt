@@ -1,4 +1,4 @@
-//! What a condition comes to, by what the domains of a box leave of each register's value.
+//! The value of a condition in three-valued logic, by the domains of a box: true, false, or open.
 
 ghost use Rattle.std.specs.Prelude.{◌≡◌, ◌⊎◌, ◌↔◌, ℕ, ◌^◌, ◌<◌, IfSome, IsTrue, length, true};
 ghost use Rattle.lit_read.specs.Litmus.{condition_of};
@@ -21,17 +21,17 @@ use lit_rel::EventSet;
 use lit_valid::Class;
 use lit_valid::laws::laws_below;
 
-/// What a condition comes to.
+/// The value of a condition.
 #[derive(Clone, Copy, Debug, PartialEq, Eq)]
 pub(crate) enum Decided {
-    /// This, with the outcome by any sources in the domains.
+    /// It has this value by any sources in the domains.
     Comes(bool),
-    /// It hangs on what the byte read at a place is read as.
+    /// It is open: it depends on the byte that the byte read at a place reads.
     Hangs(usize),
 }
 
 impl Decided {
-    /// What the opposite of a condition comes to.
+    /// The value of the negated condition.
     fn opposite(self) -> Self
         ensures { result ≡ opposite_of self }
     {
@@ -66,12 +66,13 @@ impl Problem<'_> {
         storing(self.events(), domains[place], byte, value)
     }
 
-    /// Whether the byte read at a place is read as this byte, by the sources in its domain.
+    /// Whether the byte read at a place reads this byte, by the sources in its domain.
     fn byte_is(&self, domains: &Domains, place: usize, value: u8) -> Decided
         requires place { place < length (byte_reads (events_on self.now)) }
         requires is_box { IsBox (box_with self.now domains.now) }
         ensures { IsByteDecided (box_with self.now domains.now) place value result }
     {
+        // For the prover: the domain has events of the combination alone.
         let _events = self.events();
         let storing = self.storing(domains, place, value);
         let Some(_some) = storing.split_first() else {
@@ -92,6 +93,7 @@ impl Problem<'_> {
     {
         laws_below();
         let event = event_at(self.events(), read);
+        // A number with more bytes than the read is never its value, whatever its low bytes are.
         if !fits(value, event.size) {
             return Decided::Comes(false);
         }
@@ -102,6 +104,7 @@ impl Problem<'_> {
             if usize::from(at.read) == read {
                 match self.byte_is(domains, place, bytes[usize::from(at.byte - event.first)]) {
                     Decided::Comes(true) => {}
+                    // One byte that can't be that of the number decides, even if others are open (decision 29).
                     Decided::Comes(false) => return Decided::Comes(false),
                     Decided::Hangs(open) => decided = Decided::Hangs(open),
                 }
@@ -110,7 +113,7 @@ impl Problem<'_> {
         decided
     }
 
-    /// The read that a register of an agent holds at the end of the agent's path, by number; `None` where it was not written.
+    /// The number of the read that a register of an agent observes at the end of the agent's path; `None` if it was not written.
     pub(crate) fn observed_read(&self, agent: u8, reg: u8) -> Option<usize>
         ensures value { result ≡ read_of self.now.0 self.now.1 (agent, reg) }
         ensures reads { IfSome result (λ r. (r < length (events_on self.now))
@@ -136,7 +139,7 @@ impl Problem<'_> {
         }
     }
 
-    /// What a condition comes to, by the domains of the bytes that its registers hold.
+    /// The value of a condition, by the domains of the byte reads that its registers observe (decision 28).
     pub(crate) fn decide(&self, domains: &Domains, condition: &Cond) -> Decided
         requires { IsBox (box_with self.now domains.now) }
         ensures { IsDecided (box_with self.now domains.now) (condition_of condition.now) result }
@@ -177,8 +180,7 @@ impl Problem<'_> {
         }
     }
 
-    /// What the domains of a box say of outcomes in a class: of those that sources in them give, whether some execution with
-    /// these is valid or not.
+    /// What the domains of a box say of outcomes in a class, by all sources in them, whether an execution with these is valid or not.
     pub fn prospect_of(&self, domains: &Domains, class: Class) -> Prospect
         requires { IsBox (box_with self.now domains.now) }
         ensures { IsOutcomeProspect (box_with self.now domains.now) class result }

@@ -1,4 +1,4 @@
-//! The least completion that is looked for: down by least sources, and again, surely, where that did not end at one.
+//! The least solution of a frame: by greedy descent, and by a complete search where the descent ends at none.
 
 ghost use Rattle.std.specs.Prelude.{◌≡◌, IsFalse, IsTrue, MatchOption, length};
 ghost use Rattle.lit_paths.specs.ByteReads.{byte_reads};
@@ -16,7 +16,7 @@ use crate::problem::Problem;
 use lit_order::Order;
 use lit_paths::Sources;
 
-/// The least completion that is looked for: its sources, in the order of the byte reads, and its least memory-order.
+/// The least solution: its sources, in the order of the byte reads, and its least memory-order.
 #[derive(Drop)]
 pub struct Least {
     pub sources: Sources,
@@ -24,7 +24,7 @@ pub struct Least {
 }
 
 impl Problem<'_> {
-    /// The one source that is left of each byte read.
+    /// The source of each byte read, where each domain has one.
     pub(crate) fn sources_of(&self, domains: &Domains) -> Sources
         requires is_box { IsBox (box_with self.now domains.now) }
         requires alone { AreAloneBelow (box_with self.now domains.now) (length (byte_reads (events_on self.now))) }
@@ -41,8 +41,7 @@ impl Problem<'_> {
         sources
     }
 
-    /// Goes down to a frame that leaves one source to each byte read, those of the least completion that is looked for. Says
-    /// whether there is one.
+    /// Descends to the frame of the least solution, in which each domain has one source. Answers whether there is a solution.
     fn find_least(&self, frame: &mut Frame, goal: Goal) -> bool
         requires { IsSettled (box_of self.now frame.old) frame.old }
         ensures settled { IsTrue result → IsSettled (box_of self.now frame.new) frame.new }
@@ -51,16 +50,17 @@ impl Problem<'_> {
         ensures found { IsTrue result → HasSolution (box_of self.now frame.new) goal }
         ensures none { IsFalse result → ¬ HasSolution (box_of self.now frame.old) goal }
     {
+        // The descent changes a copy: if it fails, the complete search starts from the frame.
         let mut down = *frame;
         if self.descend(&mut down, goal, false) && self.exists(&down, goal) {
             *frame = down;
             return true;
         }
-        // A source that is not refuted may still have no completion with it.
+        // A source that is not refuted may still be in no solution, so that a failed descent proves nothing.
         self.exists(&*frame, goal) && self.descend(frame, goal, true)
     }
 
-    /// The least completion of a frame that is what is looked for, or `None` exactly where there is none.
+    /// The least solution of a frame, or `None` exactly if there is none.
     pub(crate) fn least(&self, frame: &Frame, goal: Goal) -> Option<Least>
         requires { IsSettled (box_of self.now frame.now) frame.now }
         ensures { MatchOption result (¬ HasSolution (box_of self.now frame.now) goal)

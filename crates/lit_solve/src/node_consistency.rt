@@ -1,4 +1,4 @@
-//! Tests of paths that refuse a source of a byte, whatever its read takes for its other bytes: the node consistency of a problem.
+//! Node consistency: a guard of a path refuses some sources of a byte read, whatever the read takes for its other bytes (decision 34).
 
 ghost use Rattle.std.specs.Prelude.{◌↔◌, ℕ, ◌<◌, length};
 ghost use Rattle.lit_paths.specs.ByteReads.{byte_read_at, byte_reads};
@@ -11,7 +11,7 @@ use lit_paths::Combination;
 use lit_rel::laws::byte_reads_are_of_events;
 use lit_rel::{EventSet, is_source_refused};
 
-/// The events of a set that some test refuses as the source of a byte read, by its place among the combination's byte reads.
+/// The events of a set that some guard refuses as the source of a byte read, by its place among the combination's byte reads.
 pub(crate) fn refused_among(
     combination: &Combination<'_>,
     place: usize,
@@ -24,7 +24,7 @@ pub(crate) fn refused_among(
         (byte_read_at (events_on combination.now) place).0 (byte_read_at (events_on combination.now) place).1 w) }
 {
     byte_reads_are_of_events();
-    // A set has room for each event of a combination.
+    // For the prover: a set has room for each event of a combination.
     let _events = combination.events();
     let at = combination.byte_reads()[place];
     let mut refused = EventSet::new();

@@ -1,4 +1,4 @@
-//! Propagation: what is given forces pairs of events, and these leave sources out, until nothing changes.
+//! Propagation to a fixed point: given sources force pairs of events, and these prune the domains, until nothing changes.
 
 ghost use Rattle.std.specs.Prelude.{◌≤◌, ℕ, IsFalse, IsTrue};
 ghost use Rattle.lit_solve.specs.Given.{IsForcedIn};
@@ -7,12 +7,12 @@ ghost use Rattle.lit_solve.specs.Internal.Pruning.{HasNoCompletion, Prunes, size
 
 use crate::frame::Frame;
 use crate::laws::refuted_boxes_have_no_completion;
-use crate::pruning::Pruned;
 use crate::problem::Problem;
+use crate::pruning::Pruned;
 
 impl Problem<'_> {
-    /// Makes the relations of a frame those of its box, and takes out of its domains what they leave out, until nothing
-    /// changes. Says no where it finds that there is no completion.
+    /// Derives the relations of a frame from its domains, and prunes the domains by them, until nothing changes. Answers `false` if that
+    /// refutes the box.
     pub(crate) fn propagate(&self, frame: &mut Frame) -> bool
         requires { IsContained (box_of self.now frame.old) frame.old }
         ensures prunes { IsTrue result → Prunes (box_of self.now frame.old) (box_of self.now frame.new) }

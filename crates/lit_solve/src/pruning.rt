@@ -1,4 +1,4 @@
-//! Narrowing: candidates that what a frame has leaves out are taken out of the domains.
+//! Pruning: sources that no completion has, by the relations of a frame, are removed from its domains.
 
 ghost use Rattle.std.specs.Prelude.{◌≡◌, ◌≢◌, ◌↔◌, ℕ, ◌<◌, IsFalse, IsTrue, length};
 ghost use Rattle.lit_paths.specs.ByteReads.{byte_read_at, byte_reads};
@@ -23,20 +23,19 @@ use crate::problem::Problem;
 use lit_paths::event_at;
 use lit_rel::{EventSet, can_read_whole, can_synchronize, others_between};
 
-/// What narrowing comes to.
+/// What a pass of pruning did to the domains.
 #[derive(Clone, Copy, Debug, PartialEq, Eq)]
 pub(crate) enum Pruned {
-    /// Nothing was taken out.
+    /// It removed nothing.
     Same,
-    /// Some sources were, and each domain has some left.
+    /// It removed some sources, and no domain is empty.
     Less,
-    /// All sources of some byte read were.
+    /// A domain is empty.
     Empty,
 }
 
 impl Problem<'_> {
-    /// Whether the byte read at a place is coherent (29.7.2) with a source, by happens-before of what is given, in which no
-    /// event comes before itself.
+    /// Whether the byte read at a place is coherent (29.7.2) with a source, by a frame's happens-before, which is acyclic.
     fn is_coherent(&self, frame: &Frame, place: usize, source: usize) -> bool
         requires place { place < length (byte_reads (events_on self.now)) }
         requires contained { IsContained (box_of self.now frame.now) frame.now }
@@ -67,7 +66,7 @@ impl Problem<'_> {
             && frame.forced.rows.holds(read, source)
     }
 
-    /// Whether an event is forced between a source and a read that may not stand there if the read has that source.
+    /// Whether an event is forced between a source and a read though it may not stand there if the read has that source.
     fn is_forced_between(&self, frame: &Frame, read: usize, source: usize) -> bool
         requires contained { IsContained (box_of self.now frame.now) frame.now }
         requires read { read < length (events_on self.now) }
@@ -80,6 +79,7 @@ impl Problem<'_> {
             .rows
             .successors(source)
             .intersection(frame.forced.converse.successors(read));
+        // Where nothing is forced between the two, the forbidden events need not be computed.
         if between.is_empty() {
             return false;
         }
@@ -89,7 +89,7 @@ impl Problem<'_> {
         !others.intersection(between).is_empty()
     }
 
-    /// The only source of a byte read, where it has one from which its read can read whole.
+    /// The given source of a byte read, if its read can read whole from it; else no event.
     fn whole_source(&self, frame: &Frame, place: usize) -> EventSet
         requires place { place < length (byte_reads (events_on self.now)) }
         requires contained { IsContained (box_of self.now frame.now) frame.now }
@@ -108,8 +108,8 @@ impl Problem<'_> {
         }
     }
 
-    /// The events from which a read is given a byte, and from which it can read whole, by one of its byte reads. Of a read
-    /// of one byte there is no need to ask.
+    /// The given sources of a read from which it can read whole. The read is that of one of its byte reads. For a read of one byte the
+    /// set is empty, since such a read can't be torn.
     fn whole_sources(&self, frame: &Frame, place: usize) -> EventSet
         requires place { place < length (byte_reads (events_on self.now)) }
         requires contained { IsContained (box_of self.now frame.now) frame.now }
@@ -129,8 +129,8 @@ impl Problem<'_> {
         whole
     }
 
-    /// Whether a source would tear a read that is given bytes from these, whole each: it can read whole from the source too,
-    /// and one of these is another.
+    /// Whether a source would tear a read that reads whole from each event of `whole`: it could read whole from the source too, and
+    /// `whole` has another event.
     fn would_tear(&self, read: usize, source: usize, whole: EventSet) -> bool
         requires read { read < length (events_on self.now) }
         requires source { source < length (events_on self.now) }
@@ -142,8 +142,8 @@ impl Problem<'_> {
         !others.is_empty() && can_read_whole(event_at(events, read), event_at(events, source))
     }
 
-    /// Whether no completion has a source for the byte read at a place, by what the frame has. `whole` are events from which
-    /// its read is given a byte, whole each. No event happens before itself.
+    /// Whether the frame shows that no completion has this source for the byte read at a place. `whole` are given sources of the read
+    /// from which it reads whole. The frame's happens-before is acyclic.
     fn is_prunable(&self, frame: &Frame, place: usize, source: usize, whole: EventSet) -> bool
         requires place { place < length (byte_reads (events_on self.now)) }
         requires source { source < length (events_on self.now) }
@@ -163,7 +163,7 @@ impl Problem<'_> {
             || self.would_tear(read, source, whole)
     }
 
-    /// The sources in the domain of the byte read at a place that the frame does not leave out. No event happens before itself.
+    /// The sources in the domain of the byte read at a place that can't be pruned. The frame's happens-before is acyclic.
     fn left(&self, frame: &Frame, place: usize) -> EventSet
         requires place { place < length (byte_reads (events_on self.now)) }
         requires contained { IsContained (box_of self.now frame.now) frame.now }
@@ -187,7 +187,7 @@ impl Problem<'_> {
         left
     }
 
-    /// Takes out of the domain of the byte read at a place the sources that the frame leaves out. No event happens before itself.
+    /// Prunes the domain of the byte read at a place. The frame's happens-before is acyclic.
     fn prune_at(&self, frame: &mut Frame, place: usize) -> Pruned
         requires place { place < length (byte_reads (events_on self.now)) }
         requires contained { IsContained (box_of self.now frame.old) frame.old }
@@ -215,7 +215,7 @@ impl Problem<'_> {
         Pruned::Less
     }
 
-    /// Takes out of each domain the sources that the frame leaves out. No event happens before itself.
+    /// Prunes each domain once. The frame's happens-before is acyclic.
     pub(crate) fn prune(&self, frame: &mut Frame) -> Pruned
         requires contained { IsContained (box_of self.now frame.old) frame.old }
         requires acyclic { (e : ℕ) → ¬ Holds frame.old.happens_before.rows e e }

@@ -1,4 +1,4 @@
-//! Whether a box has a completion that is looked for: a search by propagation and branching.
+//! Whether a box has a solution: a backtracking search by propagation and branching.
 
 ghost use Rattle.std.specs.Prelude.{◌↔◌, IsTrue};
 ghost use Rattle.lit_paths.specs.Execution.{Execution};
@@ -15,8 +15,7 @@ use crate::problem::Problem;
 use crate::stepping::Step;
 
 impl Problem<'_> {
-    /// Whether a frame in which no open byte read can force anything has a completion that is what is looked for. Each is, as
-    /// far as its outcome goes.
+    /// Whether a leaf has a solution. Each completion is one, as far as its outcome goes.
     fn is_met(&self, frame: &Frame, goal: Goal) -> bool
         requires settled { IsSettled (box_of self.now frame.now) frame.now }
         requires leaf { IsLeaf (box_of self.now frame.now) }
@@ -31,7 +30,7 @@ impl Problem<'_> {
         }
     }
 
-    /// Whether a frame has a completion that is what is looked for.
+    /// Whether a frame has a solution.
     pub(crate) fn exists(&self, frame: &Frame, goal: Goal) -> bool
         requires { IsSettled (box_of self.now frame.now) frame.now }
         ensures { IsTrue result ↔ HasSolution (box_of self.now frame.now) goal }

@@ -1,4 +1,4 @@
--- What the domains of a box say of the outcomes of its completions.
+-- The values of conditions in three-valued logic, by the domains of a box: true, false, or open because of a byte read.
 use Rattle.std.specs.Prelude.{◌≡◌, ℕ, ◌==◌, List, not, ⊤}
 use Rattle.std.specs.List.{zip}
 use Rattle.lit_read.specs.Syntax.{Condition, Litmus}
@@ -23,35 +23,38 @@ use Rattle.lit_solve.specs.Prospect.{IsUndecidedAt, outcome_by}
 abbrev pub stored_for : Box → (k w : ℕ) → ℕ
 stored_for box k w = payload_at (event_at (box_events box) w) (byte_read_at (box_events box) k).1
 
--- each source in the domain of the k-th byte read stores this byte for it, or none does; or that hangs on which
+-- each source in the domain of the k-th byte read stores this byte for it, or none does; or two sources store different bytes
 abbrev pub IsByteDecided : Box → (k byte : ℕ) → Decided → Type 0
 IsByteDecided box k byte (Comes value) = (w : ℕ) → HasSource box k w → (stored_for box k w == byte) ≡ value
 IsByteDecided box k byte (Hangs at) = (at ≡ k) × IsUndecidedAt box k
 
--- read r has this number by any sources that lie in the box, or by none; or that hangs on what a byte is read as
+-- read r has this number by any sources that lie in the box, or by none; or that depends on a byte read whose sources store several
+-- bytes
 abbrev pub IsReadDecided : Box → (r number : ℕ) → Decided → Type 0
 IsReadDecided box r number (Comes value) =
     (sources : List ℕ) → AreSourcesIn box sources → (value_of (box_events box) sources r == number) ≡ value
 IsReadDecided box r number (Hangs k) = IsUndecidedAt box k
 
--- the condition comes to a value with the outcome by any sources that lie in the box, or it hangs on what a byte is read as
+-- the condition has a value with the outcome by any sources that lie in the box, or it depends on a byte read whose sources store
+-- several bytes
 abbrev pub IsDecided : Box → Condition → Decided → Type 0
 IsDecided box condition (Comes value) =
     (sources : List ℕ) → AreSourcesIn box sources → holds (zip (names_of box.test) (outcome_by box sources)) condition ≡ value
 IsDecided box condition (Hangs k) = IsUndecidedAt box k
 
--- the execution is what is looked for, as far as its outcome goes: of data races that says nothing
+-- the execution meets the goal as far as its outcome goes; this says nothing of data races
 abbrev pub MeetsByOutcome : Litmus → Goal → Execution → Type 0
 MeetsByOutcome t Any x = Meets t Any x
 MeetsByOutcome t (OfClass class) x = Meets t (OfClass class) x
 MeetsByOutcome t Race x = ⊤
 
--- what the opposite of a condition comes to
+-- the value of the negated condition
 abbrev pub opposite_of : Decided → Decided
 opposite_of (Comes value) = Comes (not value)
 opposite_of (Hangs k) = Hangs k
 
--- no completion is what is looked for; each is, as far as its outcome goes; or that hangs on what a byte is read as
+-- no completion meets the goal; each meets it as far as its outcome goes; or that depends on a byte read whose sources store several
+-- bytes
 abbrev pub IsProspect : Box → Goal → Prospect → Type 0
 IsProspect box goal Nothing = (x : Execution) → IsCompletion box x → ¬ Meets box.test goal x
 IsProspect box goal Each = (x : Execution) → IsCompletion box x → MeetsByOutcome box.test goal x

@@ -1,4 +1,4 @@
--- What the boxes of a range keep of it.
+-- The invariant of `Boxes`.
 use Rattle.std.specs.Prelude.{◌<◌, length}
 use Rattle.lit_paths.specs.ByteReads.{byte_reads}
 use Rattle.lit_paths.specs.Choice.{combinations_of}
@@ -7,7 +7,7 @@ use Rattle.lit_solve.specs.declared.boxes.Boxes.TheInside.{Inside}
 use Rattle.lit_solve.specs.Boxes.{BoxesModel, boxes_events}
 use Rattle.lit_solve.specs.Internal.Cut.{AreEndSources, IsRangeCut, end_sources}
 
--- a combination of a test, sources at the ends, and the boxes between these
+-- the combination is one of the test, the ends have sources of it, and the counts of boxes are those of the cut
 pub record IsSoundRange (boxes : BoxesModel) : Type 0 where
   pub known : boxes.combination < length (combinations_of boxes.test)
   pub sound : AreEventsIn boxes.test.bytes (boxes_events boxes)
