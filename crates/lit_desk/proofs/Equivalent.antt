@@ -1,4 +1,4 @@
--- Two lists with the same elements, also where each element is a list and these are joined end to end.
+-- Equivalent lists: permutations of each other, also where each element is mapped to a list and these are concatenated.
 use Rattle.std.proofs.Common.{◌≡◌, ◌≢◌, ℕ, zero, suc, List, [], ◌∷◌, ◌++◌, set, refl, sym, ap, subst, append_assoc}
 use Rattle.std.specs.List.{flat_map}
 use Rattle.std.specs.List.Sorted.{IsPermutation}
@@ -27,7 +27,7 @@ module _ {X : Type 0} where
   pub equivalent_swap : (x y : X) (xs : List X) → AreEquivalent (x ∷ y ∷ xs) (y ∷ x ∷ xs)
   equivalent_swap x y xs = record { moved = IsPermutation-middle (x ∷ []) y xs; joined = λ f. swapped_parts (f x) (f y) (flat_map f xs) }
 
-  -- the list with one element left out
+  -- the list without one element
   abbrev pub without : List X → ℕ → List X
   without [] i = []
   without (x ∷ xs) zero = xs
@@ -49,7 +49,7 @@ module _ {X : Type 0} where
   last_equivalent x [] = equivalent_refl (x ∷ [])
   last_equivalent x (y ∷ ys) = equivalent_trans (x ∷ y ∷ ys) (y ∷ x ∷ ys) (y ∷ (ys ++ x ∷ [])) (equivalent_swap x y ys) (equivalent_cons y (x ∷ ys) (ys ++ x ∷ []) (last_equivalent x ys))
 
-  -- another element's place once one is left out
+  -- another element's place once one is removed
   pub other_place : (l : List X) (i j : ℕ) (v u : X) → j ≢ i → get_elem? l i ≡ some v → get_elem? l j ≡ some u
       → (k : ℕ) × (get_elem? (without l j) k ≡ some v) × ((w : X) → without (set l i w) j ≡ set (without l j) k w)
   other_place [] i j v u apart e d = absurd (some-ne-none v (sym e))

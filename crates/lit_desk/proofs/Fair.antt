@@ -1,4 +1,4 @@
--- The rule of a desk holds of the accounts in any order, and each step of the seat at the front keeps it.
+-- The rule of a desk holds of the accounts in any order, and each step of the seat at the front preserves it.
 use Rattle.std.proofs.Common.{◌≡◌, ℕ, suc, ◌+◌, ◌<◌, ◌≤◌, Bool, true, false, cond, leb, min, Some, List, [], ◌∷◌, ◌++◌, length, filter, ⊎_elim, refl, sym, ap, ◌∙◌, subst, append_assoc, length-append, arith}
 use Rattle.std.specs.Prelude.{All}
 use Rattle.std.specs.List.Sorted.{IsPermutation}
@@ -99,7 +99,7 @@ fair_saw_met t n m u v vs told some h = changed t n m u m u v (saw Met v m) vs r
 pub fair_saw_unmet : (t : Terms) (n m u : ℕ) (v : Account) (vs : List Account) → number_in u ≡ Some u → 0 < v.places → AreFair t n m u (v ∷ vs) → AreFair t n m u (saw Unmet v u ∷ vs)
 fair_saw_unmet t n m u v vs told some h = changed t n m u m u v (saw Unmet v u) vs refl refl some h.met_least (least_told_after_look u (all_told_in Unmet (v ∷ vs)) v.unmet.seen (all_seen_in Unmet vs) told h.unmet_least) h
 
--- a seat where nothing was done leaves one of its places to another
+-- a seat where nothing was done gives one of its places to another
 pub fair_given : (t : Terms) (n m u k : ℕ) (vs : List Account) → AreFair t n m u (new_account (suc k) ∷ vs) → AreFair t n m u (new_account 1 ∷ new_account k ∷ vs)
 fair_given t n m u k vs h =
     let Late : Account → Type 0 = λ x. length (late_of t.pieces x) ≤ x.places in
@@ -114,7 +114,7 @@ fair_given t n m u k vs h =
       spent = All-cons Spent (new_account 1) (new_account k ∷ vs) (λ e. absurd (omega arith)) (first_changed Spent (new_account (suc k)) (new_account k) vs (λ e. ap new_account e) h.spent);
     }
 
--- the numbers of a class, where two seats' lists become one's
+-- the numbers of a class, where the lists of two seats become those of one
 least_told_merged : (w : ℕ) (rs bs ts cs ds ss : List ℕ) → IsLeastTold w (rs ++ (bs ++ ts)) (cs ++ (ds ++ ss)) → IsLeastTold w ((rs ++ bs) ++ ts) ((cs ++ ds) ++ ss)
 least_told_merged w rs bs ts cs ds ss h = subst (λ l. IsLeastTold w l ((cs ++ ds) ++ ss)) (sym (append_assoc rs bs ts)) (subst (λ l. IsLeastTold w (rs ++ (bs ++ ts)) l) (sym (append_assoc cs ds ss)) h)
 

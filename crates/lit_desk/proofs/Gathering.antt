@@ -26,7 +26,7 @@ use Rattle.lit_desk.proofs.Lists.{contains_cases, contains_none, filter_retains,
 use Rattle.lit_desk.proofs.Fair.{fair_equivalent}
 use Rattle.lit_desk.proofs.Moves.{Holds}
 
--- where no place is left to a seat, it has done nothing
+-- a seat that stands for no place has done nothing
 none_left : (vs : List Account) → sum_by (λ (v : Account). v.places) vs ≡ 0 → All (λ v. v.places ≡ 0 → v ≡ new_account 0) vs → All (λ v. v ≡ new_account 0) vs
 none_left [] e h = All-nil (λ v. v ≡ new_account 0)
 none_left (v ∷ vs) e h =

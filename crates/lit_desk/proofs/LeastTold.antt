@@ -1,4 +1,4 @@
--- What is kept of one class: its word, and the numbers told and seen.
+-- The least number told in a class: its word, and the numbers told and seen.
 use Rattle.std.proofs.Common.{◌≡◌, ◌≢◌, ℕ, ◌<◌, ◌≤◌, ◌⊎◌, true, false, cond, eqb, min, Option, Some, None, List, [], ◌∷◌, ◌++◌, length, refl, sym, ap, ◌∙◌, subst, ⊎_elim, inl, inr, append_assoc, arith}
 use Rattle.std.specs.Prelude.{All, Contains, MatchOption}
 use Rattle.std.specs.List.Sorted.{IsPermutation}

@@ -1,4 +1,4 @@
--- Lists: what is contained, what is apart, and sums.
+-- Lists: members, distinct members, and sums.
 use Rattle.std.proofs.Common.{◌≡◌, ◌≢◌, ℕ, zero, suc, ◌<◌, ◌≤◌, ◌⊎◌, Bool, true, false, true≢false, cond, eqb, List, [], ◌∷◌, get_or, filter, sum_by, inl, inr, ⊎_elim, refl, sym, ap, ◌∙◌, subst, arith}
 use Rattle.std.specs.Prelude.{All, AllPairs, Contains}
 use Rattle.std.specs.List.{AllByRecursion, IsDistinct}

@@ -1,4 +1,4 @@
--- Each step of a desk keeps the rule.
+-- Each step of a desk preserves the rule.
 use Rattle.std.proofs.Common.{◌≡◌, ◌≢◌, ℕ, suc, ◌+◌, ◌-◌, ◌%◌, ◌^◌, ◌<◌, ◌≤◌, min, Option, Some, None, List, [], ◌∷◌, ◌++◌, length, set, ⊎_elim, refl, sym, ap, ◌∙◌, subst, add-one, arith}
 use Rattle.std.specs.Prelude.{All, slice_index, MatchOption}
 use Rattle.std.proofs.Math.Nat.{mod-eq_of_lt}

@@ -1,4 +1,4 @@
--- What is still to come of an interleaving: the accesses, and the course of each agent.
+-- The rest of an interleaving from a moment on: the accesses still to come, and each agent's steps.
 use Rattle.std.proofs.Common.{◌≡◌, ◌≢◌, inl, inr, ℕ, zero, suc, ◌+◌, ◌<◌, ◌≤◌, ◌==◌, true, false, Option, Some, List, [], ◌∷◌, ◌++◌, length, map, refl, sym, ap, ap₂, subst, ◌∙◌, arith, zero-add, append_assoc, append-nil}
 use Rattle.std.specs.Prelude.{All, if◌then◌else◌, filter, replicate, slice_index, slice_set}
 use Rattle.std.proofs.lemmas.Bool.Decides.{nat_tests}
@@ -24,7 +24,7 @@ abbrev pub own_events : ℕ → List Event → List Event
 own_events agent es = filter (λ (e : Event). is_owned_by agent e.owner) es
 
 -- The steps that an agent walks from here on, of which the first access gets this place, with the numbers that it finds
--- on the block, where all agents together make these events. Its registers hold the last numbers in the end.
+-- on the block, where all agents together make these events. In the end its registers have the last numbers.
 pub record Course (agent place : ℕ) (block : List ℕ) (acts : List Event) (p : Progress) (last : List ℕ) : Type 0 where
   pub steps : List Step
   pub walked : IsWalk p.left steps
@@ -138,7 +138,7 @@ mutual
         | Then x more ↦ λ p. p
       ]) (begins_in registers s)
 
--- ---- a turn, and all that is left
+-- ---- a turn, and all remaining statements
 turn_future : (m end : Moment) (makers : List ℕ) (agent : ℕ) → agent < length m.agents → HasFuture (after_turn m agent) end makers → HasFuture m end (made_in_turn m agent ++ makers)
 turn_future m end makers agent inside later =
     let p = progress_of m agent in
@@ -154,7 +154,7 @@ set_again [] i p q = refl
 set_again (r ∷ ps) zero p q = refl
 set_again (r ∷ ps) (suc i) p q = ap (λ (xs : List Progress). r ∷ xs) (set_again ps i p q)
 
--- all that is left, after the next access
+-- all remaining statements, after the next access
 end_later : (m : Moment) (agent : ℕ) (s : Statement) (more : Statements) → agent < length m.agents → from_access (progress_of m agent).registers (progress_of m agent).left ≡ Then s more
     → after_end (left_behind m agent more (after_statement s (found_by m agent))) agent ≡ after_end m agent
 end_later m agent s more inside is =
@@ -196,7 +196,7 @@ each_future step made preserves_count one (a ∷ agents) m end makers known late
     (one m end (rest ++ makers) a (known 0 a (omega arith))
     (each_future step made preserves_count one agents (step m a) end makers (λ k d lt. omega (arith, known (suc k) d (omega (arith, lt)), preserves_count m a)) later))
 
--- ---- the end, where no agent has anything left
+-- ---- the end, where no agent has a statement left
 pub no_future : (m : Moment) → ((agent : ℕ) → (progress_of m agent).left ≡ End) → HasFuture m m []
 no_future m none places = record {
   acts = [];

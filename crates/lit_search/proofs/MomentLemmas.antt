@@ -1,4 +1,4 @@
--- What accesses keep, and turns.
+-- What accesses and turns preserve.
 use Rattle.std.proofs.Common.{◌≡◌, inl, inr, arith, ℕ, zero, suc, true, false, List, [], ◌∷◌, ◌++◌, length, map, take, drop, refl, sym, ap, subst, ◌∙◌, append-nil, ◌≤◌, ◌==◌, append_assoc}
 use Rattle.std.specs.Prelude.{if◌then◌else◌, replicate, slice_index, slice_index_or, slice_set, IsTrue}
 use Rattle.std.proofs.lemmas.Bool.{cases_lt}
@@ -37,8 +37,8 @@ access_preserves (CompareExchange reg window index expected value) c is said =
     ]
 access_preserves (If reg equal value body other) c is said = absurd (let e : false ≡ true = is in cc)
 
--- ---- what turns keep, from moment to moment
--- ---- what statements keep
+-- ---- what turns preserve, from moment to moment
+-- ---- what statements preserve
 mutual
   preserves_in : (s : Statement) (c : Contents) (n : ℕ) → length c.block ≡ n → IsStatementIn n s → length (after_statement s c).block ≡ n
   preserves_in (If reg equal value body other) c n long said =
@@ -57,7 +57,7 @@ accessed_preserves End c n long said = (tt, long)
 accessed_preserves (Then s ss) c n long said = (said.1, preserves_in s c n long said.0)
 
 -- ---- moments
--- The block is as long as the test says, each agent of the test has a progress, and what each has left lies in the block.
+-- The block is as long as the test says, each agent of the test has a progress, and the remaining statements of each lie in the block.
 pub record IsSound (t : Litmus) (m : Moment) : Type 0 where
   pub long : length m.block ≡ t.bytes
   pub one_each : length m.agents ≡ length t.agents
@@ -112,7 +112,7 @@ pub after_each-more : (step : Moment → ℕ → Moment) (m : Moment) (agents : 
 after_each-more step m [] agent = refl
 after_each-more step m (a ∷ agents) agent = after_each-more step (step m a) agents agent
 
--- ---- a turn, or all that is left, of one agent of a moment
+-- ---- a turn, or all remaining statements, of one agent of a moment
 pub stepped : (F : Progress → List ℕ → Statements × Contents) (m : Moment) (agent : ℕ) (p new : Progress) (found now whole : List ℕ)
     → p ≡ progress_of m agent → found ≡ m.block → new.left ≡ (F p found).0
     → record { block = now; registers = new.registers } ≡ (F p found).1

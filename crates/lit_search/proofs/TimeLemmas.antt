@@ -107,7 +107,7 @@ pub record IsAct (bytes : ℕ) (events : List Event) (number : ℕ) (e : Event) 
   pub place : ℕ
   pub access : IsAccessOf bytes owner place e
 
--- The acts, in the order of time, are all events but those that make the block. Those of an agent keep its order.
+-- The acts, in the order of time, are all events but those that make the block. Those of an agent are in its order.
 pub record IsTimeline (bytes : ℕ) (events acts : List Event) (number : Event → ℕ) : Type 0 where
   pub whole : bytes ≤ length events
   pub made : (b : ℕ) → b < bytes → event_at events b ≡ init_event b
@@ -194,7 +194,7 @@ module _ (bytes : ℕ) (events acts : List Event) (number : Event → ℕ) (is :
   pub act_earlier : (k l : ℕ) (e d : Event) → slice_get acts k ≡ Some e → slice_get acts l ≡ Some d → k < l → StandsBefore order (number e) (number d)
   act_earlier k l e d at there lt = record { first = bytes + k; second = bytes + l; earlier = omega (arith, lt); first_is = act_place k e at; second_is = act_place l d there }
 
-  -- ---- it keeps agent-order, and what makes a byte stands before the rest
+  -- ---- it respects agent-order, and the event that makes a byte stands before all others on that byte
   pub respects_agents : (e d : ℕ) → IsAgentOrdered events e d → StandsBefore order e d
   respects_agents e d ordered = elim (event_of e ordered.first_known) [
     | inl a ↦ elim (event_of d ordered.second_known) [
@@ -257,8 +257,8 @@ module _ (bytes : ℕ) (events acts : List Event) (number : Event → ℕ) (is :
       ∙ ap₂ (λ (xs ys : List (Option ℕ)). xs ++ ys) (nobody_first 0 bytes (omega arith)) (maps number owner_at acts ∙ owners_same acts (λ k e at. (is.each k e at).is))
 
 -- ---- the numbers of accesses that are given in the order of their turns: agent after agent, each agent's by place
--- ---- members that pass a test
--- a member has the place of those before it that pass
+-- ---- members that a filter retains
+-- a retained member comes behind the retained ones before it
 pub retained_at : {X : Type 0} (p : X → Bool) (xs : List X) (k : ℕ) (x : X) → slice_get xs k ≡ Some x → p x ≡ true → slice_get (filter p xs) (length (filter p (take k xs))) ≡ Some x
 retained_at p [] k x at passes = absurd (none-some x at)
 retained_at p (y ∷ xs) zero x at passes =

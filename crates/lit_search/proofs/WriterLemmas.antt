@@ -1,4 +1,4 @@
--- The last writer of each byte that is read, in the order of turns, and what the block holds in their course.
+-- The last writer of each byte that is read, in the order of turns, and the block's bytes in the course of the turns.
 use Rattle.std.proofs.Common.{◌≡◌, ◌≢◌, ◌⊎◌, inl, inr, ℕ, zero, suc, ◌+◌, ◌<◌, ◌≤◌, ◌==◌, Bool, true, false, Some, None, List, [], ◌∷◌, length, map, take, drop, ◌-◌, refl, sym, ap, subst, ◌∙◌, arith, ◌++◌, zip, filter, append_assoc, length-drop}
 use Rattle.std.specs.Prelude.{◌&&◌, IsTrue, if◌then◌else◌, nat_le, nat_lt, slice_get, replicate, slice_index}
 use Rattle.std.proofs.lemmas.Bool.{and_from, and_parts, eq-eqb, false≢true, le-leb, leb-true, lt-ltb, ltb-true, cases_lt, lt-leb}
@@ -327,7 +327,7 @@ bytes_from block first size h inside are =
     ∙ sym (get_or-map-range_with_len h 0 size k k d few (let e : 0 + k ≡ k = omega arith in e)))
 
 module _ (bytes : ℕ) (events acts : List Event) (number : Event → ℕ) (is : IsTimeline bytes events acts number) where
-  -- ---- what the block holds
+  -- ---- the block's bytes
   -- each byte of the block is what its writer stores there
   pub record IsWrittenBy (block : List ℕ) (writer : ℕ → ℕ) : Type 0 where
     pub long : length block ≡ bytes

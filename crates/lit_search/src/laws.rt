@@ -1,4 +1,4 @@
-//! What holds of reports, of valid executions and of schedules. The functions do nothing: their contracts are theorems.
+//! Laws of reports, of valid executions and of schedules. The functions do nothing: their contracts are theorems.
 
 mod schedules;
 mod sequential;

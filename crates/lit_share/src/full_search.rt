@@ -1,4 +1,4 @@
-//! The report of all choices, by workers.
+//! A search for all outcomes by several workers.
 
 ghost use Rattle.std.specs.Prelude.{◌≡◌, ◌<◌, ◌≤◌, length, All, IfOk};
 ghost use Rattle.std.specs.Thread.{IsSync};
@@ -12,8 +12,8 @@ ghost use Rattle.lit_share.specs.Internal.Workers.{IsReady, HasSearched};
 use crate::fault::ShareFault;
 use crate::gate::Gate;
 use crate::limits::CUT_LIMIT;
-use crate::worker::{Worker, workers_at};
 use crate::search_worker::work;
+use crate::worker::{Worker, workers_at};
 use lit_desk::{Desk, Place};
 use lit_paths::Plan;
 use lit_search::{Collector, Found, merge};
@@ -21,10 +21,10 @@ use std::alloc::Global;
 use std::mem;
 use std::thread::{Threads, join_mut};
 
-/// A worker of a search. It answers what `work` does.
+/// A worker of a search, with the answer of `work`.
 type Searcher<P> = Worker<P, Result<Found, ShareFault>>;
 
-/// Makes a worker's call.
+/// Makes one worker's call of `work`.
 fn search_one<P: Send + Drop, G: Gate<Pass = P>>(
     alloc: &Global,
     plan: &Plan<'_>,
@@ -44,7 +44,8 @@ fn search_one<P: Send + Drop, G: Gate<Pass = P>>(
     }
 }
 
-/// Makes the calls of all workers, each on a thread of its own if there are threads.
+/// Makes the calls of all workers, each on a thread of its own if there are threads. It splits the list in halves: `join_mut` joins
+/// two calls (decision 52).
 fn search_all<R: Threads + Sync, P: Send + Drop, G: Gate<Pass = P>>(
     rt: &R,
     alloc: &Global,
@@ -82,7 +83,7 @@ fn search_all<R: Threads + Sync, P: Send + Drop, G: Gate<Pass = P>>(
     );
 }
 
-/// The places of all workers, and their answers merged.
+/// The places of all workers, and their answers merged (decision 53).
 fn merged<P: Drop>(
     alloc: Global,
     plan: &Plan<'_>,

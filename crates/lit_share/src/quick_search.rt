@@ -1,4 +1,4 @@
-//! The quick answer, by workers.
+//! A quick search by several workers.
 
 ghost use Rattle.std.specs.Prelude.{◌≡◌, ◌<◌, ◌≤◌, List, ℕ, length, All, IfOk, MatchOption};
 ghost use Rattle.std.specs.Thread.{IsSync};
@@ -15,9 +15,9 @@ ghost use Rattle.lit_share.specs.Internal.Workers.{IsReady, HasHunted, IsHuntedO
 
 use crate::fault::ShareFault;
 use crate::gate::Gate;
-use crate::quick_worker::hunt;
 use crate::limits::CUT_LIMIT;
 use crate::quick_answer::Quick;
+use crate::quick_worker::hunt;
 use crate::worker::{Worker, workers_at};
 use lit_desk::{Desk, Place};
 use lit_paths::Plan;
@@ -26,10 +26,10 @@ use std::alloc::Global;
 use std::mem;
 use std::thread::{Threads, join_mut};
 
-/// A worker of a quick search. It answers nothing: what it found it tells the desk.
+/// A worker of a quick search. It has no answer of its own: it tells the desk what it finds.
 type Hunter<P> = Worker<P, ()>;
 
-/// Makes a worker's call.
+/// Makes one worker's call of `hunt`.
 fn hunt_one<P: Send + Drop, G: Gate<Pass = P>>(
     plan: &Plan<'_>,
     cut: &u64,
@@ -48,7 +48,8 @@ fn hunt_one<P: Send + Drop, G: Gate<Pass = P>>(
     }
 }
 
-/// Makes the calls of all workers, each on a thread of its own if there are threads.
+/// Makes the calls of all workers, each on a thread of its own if there are threads. It splits the list in halves: `join_mut` joins
+/// two calls.
 fn hunt_all<R: Threads + Sync, P: Send + Drop, G: Gate<Pass = P>>(
     rt: &R,
     plan: &Plan<'_>,

@@ -24,7 +24,7 @@ fn desk_class(class: Class) -> Class2
     }
 }
 
-/// Tells the first choice of a class in a piece, if there is one. Skips a piece that begins above a number told already.
+/// Tells the desk the first choice of a class in a piece, if there is one. Skips a piece that begins above a number told already.
 fn hunt_in(plan: &Plan<'_>, cut: u64, desk: &Desk, place: &mut Place, class: Class, number: u64)
     requires cut { (0 < cut) × (cut ≤ CUT_LIMIT) }
     requires known { number < pieces_of (length (choices_of plan.now)) cut }

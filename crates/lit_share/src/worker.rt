@@ -1,4 +1,4 @@
-//! Workers, each with a place at the desk and a pass.
+//! The state of a worker: before, during and after its call.
 
 ghost use Rattle.std.specs.Prelude.{◌≡◌, length, All, IfOk};
 ghost use Rattle.lit_desk.specs.Desk.{new_place};

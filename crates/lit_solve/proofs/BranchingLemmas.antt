@@ -1,4 +1,4 @@
--- Byte reads whose sources can force nothing.
+-- Variable ordering: the best byte read so far, and byte reads whose sources can force nothing.
 use Rattle.lit_solve.proofs.Words.{◌+◌, ◌<◌, arith, byte_reads, IfNone, IfSome, inl, inr, length, None, Option, same_Some, slice_get, Some}
 use Rattle.lit_solve.proofs.Words.{subst, sym, ℕ, ◌≡◌, ◌≤◌, ◌⊎◌}
 use Rattle.lit_solve.specs.Box.{Box, HasSource, box_events}
@@ -23,7 +23,7 @@ module _ (box : Box) (best : Option ℕ) (n : ℕ) (is : IsBestBelow box best n)
       → IsBestBelow box (Some k) (n + 1)
   best_more below several k which = grind arith
 
-  -- one more that is quiet
+  -- one more that can force nothing
   pub best_stays : ((w : ℕ) × HasAlone box n w) ⊎ IsIdle box n → IsBestBelow box best (n + 1)
   best_stays idle_there = record { known = is.known; several = is.several; leaf = by best is.leaf }
     where

@@ -1,4 +1,4 @@
--- Completions of a box take what it gives, keep what it forces, and have nothing that it leaves out.
+-- Completions of a box take what it gives, respect what it forces, and have no source that it prunes.
 use Rattle.lit_solve.proofs.Words.{◌<◌, [], ap, AreEventsIn, AreOfEvents, AreSources, arith, byte_reads, Completes, Event, Execution}
 use Rattle.lit_solve.proofs.Words.{execution_events, get_or, Given, Grows, HappensBefore, HasCoherentReads, HasTearFreeReads, inl, inr}
 use Rattle.lit_solve.proofs.Words.{IsBroken, IsForbidden, IsGivenWhole, IsMemoryOrder, Laws, length, List, PartModel, ReadsByteFrom}
@@ -61,7 +61,7 @@ module _ (box : Box) (x : Execution) (is : IsCompletion box x) where
   pub order_here : (order : List ℕ) → IsMemoryOrder (execution_events box.test x) x.sources order → IsMemoryOrder events x.sources order
   order_here order o = subst (λ (es : List Event). IsMemoryOrder es x.sources order) events_same o
 
-  -- its memory-orders keep what is forced
+  -- its memory-orders respect what is forced
   pub forced_respected : AreOfEvents events → (order : List ℕ) → IsMemoryOrder events x.sources order → (a d : ℕ) → IsForcedIn box a d → StandsBefore order a d
   forced_respected of_events order o a d f =
       keeps_forced (length events) (HappensBefore events x.sources) (IsForbidden events x.sources)
@@ -88,7 +88,7 @@ module _ (box : Box) (x : Execution) (is : IsCompletion box x) where
     pub whole : ¬ IsBroken (part_of box x.sources)
     whole = not_broken (part_of box x.sources) x completes laws laws.grow laws.stay (record { litmus = entered.litmus; known = entered.known })
 
-    -- it has no source that is out
+    -- it has no source that can be pruned
     pub not_prunable : RefusedBytesMakeFalse → AreEventsIn box.test.bytes events → (k r b w : ℕ) → slice_get (byte_reads events) k ≡ Some (r, b)
         → slice_get x.sources k ≡ Some w → IsPrunable box r b w → ⊥
     not_prunable false_of sound k r b w is_read source (inl refused) =

@@ -1,9 +1,9 @@
--- How lists between two ends lie in the boxes of these.
+-- Lists between two ends lie in the boxes of a range's cut, one after the other.
 use Rattle.lit_solve.proofs.Words.{◌*◌, ◌+◌, ◌-◌, ◌<◌, arith, cases_lt, cases_order, IfSome, length, List, None, Option, refl, Some, subst}
 use Rattle.lit_solve.proofs.Words.{sym, ℕ, ◌≡◌, ◌≤◌, ⊎_elim}
 use Rattle.lit_solve.specs.Internal.Cut.{IsRangeCut, IsGreaterAt}
 
--- what goes with l for longer than h does is below h where h leaves l
+-- a list that shares a longer prefix with l than h does is below h where h differs from l
 pub below_as_low : (l h s : List ℕ) (p k : ℕ) → length l ≡ length s → IsGreaterAt l p h → IsGreaterAt l k s → p < k → IsGreaterAt s p h
 below_as_low l h s p k long part is less = grind arith
 
@@ -13,7 +13,7 @@ above_as_high l h s p k part is less = grind arith
 one_parting : (l h : List ℕ) (p q : ℕ) → IsGreaterAt l p h → IsGreaterAt l q h → p ≤ length l → q ≤ length l → p ≡ q
 one_parting l h p q first second p_in q_in = grind (arith, cases_order)
 
--- of what is above l and below h, l and h part where the first of both is left
+-- a list above l and below h: l and h differ where the list first differs from one of them
 parts_low : (l h s : List ℕ) (k e : ℕ) → IsGreaterAt l k s → IsGreaterAt s e h → k < e → IsGreaterAt l k h
 parts_low l h s k e up down less = grind arith
 
@@ -23,7 +23,7 @@ parts_high l h s k e long up down less = grind arith
 parts_both : (l h s : List ℕ) (k : ℕ) → length l ≡ length s → IsGreaterAt l k s → IsGreaterAt s k h → IsGreaterAt l k h
 parts_both l h s k long up down = grind arith
 
--- where the i-th box parts
+-- the place at which the i-th box differs from an end
 abbrev pub parting : (shared lows i : ℕ) → ℕ
 parting shared lows i = shared + ((lows - i) + (i - lows))
 
@@ -41,7 +41,7 @@ module _ (len shared lows highs : ℕ) (s : List ℕ) (long : length s ≡ len) 
   abbrev pub IsFound : Option (List ℕ) → Option (List ℕ) → Type 0
   IsFound low high = (i : ℕ) × (i < lows + 1 + highs) × IsInCut low high shared lows i s
 
-  -- at its place an end is left in some box
+  -- for each place at which a list differs from an end there is a box
   abbrev Up : List ℕ → ℕ → Type 0
   Up l k = IsGreaterAt l k s
 
@@ -86,7 +86,7 @@ module _ (len shared lows highs : ℕ) (s : List ℕ) (long : length s ≡ len) 
       (λ not_late. found_middle None (Some h) tt (let same : k ≡ shared = omega (arith, not_late, cut.before.fits) in subst (λ (j : ℕ). Down h j) same down))
       (cases_lt shared k)
 
-  -- k is where the list leaves the low end, and e where it leaves the high one
+  -- k is where the list differs from the low end, and e where it differs from the high one
   found_from_both : (l h : List ℕ) → IsRangeCut len (Some l) (Some h) shared lows highs → (k : ℕ) → k ≤ len → Up l k → (e : ℕ) → e ≤ len → Down h e
       → IsFound (Some l) (Some h)
   found_from_both l h cut k k_in up e e_in down =

@@ -40,7 +40,7 @@ module _ (box : Box) (laws : Laws) (entered : IsBox box) where
       })
       (subst (λ (es : List Event). HasDataRace es x.sources) (events_same box x is) race)
 
-  -- ---- in a quiet box that has a completion
+  -- ---- in a leaf that has a completion
   module _ (leaf : IsLeaf box) (coherent : AreCoherentSources box) (x : Execution) (is : IsCompletion box x) where
     -- another takes the sources of one read from elsewhere
     module _ (r : ℕ) (others : List ℕ) (lie : AreSourcesIn box others) (filled : IsFilled box r others) where

@@ -1,4 +1,4 @@
--- What is passed over on the way down.
+-- Greedy descent: the solutions that it leaves behind are not the least.
 use Rattle.lit_solve.proofs.Words.{◌+◌, ◌<◌, arith, byte_reads, cases_eq, cases_lt, EventSet, Execution, get_or, get_or_from_slice_get}
 use Rattle.lit_solve.proofs.Words.{HasEvent, inl, inr, IsSplit, length, Less, List, nat_cmp, slice_cmp, slice_get, slice_get-get_or, Some}
 use Rattle.lit_solve.proofs.Words.{subst, sym, ℕ, ◌↔◌, ◌∙◌, ◌≡◌, ◌≢◌, ◌≤◌, ◌⊎◌}
@@ -23,7 +23,7 @@ cut_alone old new k source set one cut inside some = record { there = there (has
     there (inl h) = h
     there (inr absent) = absurd (some (k, inside, λ w h. absent (subst (λ (v : ℕ). HasSource new k v) (one w (cut.inside w h)) h)))
 
--- the least source that is left, where no solution takes another that is not
+-- the least source in `left`, where no solution takes a source that is not in `left`
 module _ (old new : Box) (goal : Goal) (k : ℕ) (inside : k < length (byte_reads (box_events old))) (left others set : EventSet) (source : ℕ) (split : IsSplit left source others)
     (taken : (x : Execution) → IsSolution old goal x → (w : ℕ) → slice_get x.sources k ≡ Some w → HasEvent left w) (one : (w : ℕ) → HasEvent set w ↔ (w ≡ source)) (cut : IsCut old k set new) (alone : HasAlone new k source) where
   remains_or_not_least : (x : Execution) → IsSolution old goal x → IsCompletion new x ⊎ IsNotLeastAt new k x
@@ -43,7 +43,7 @@ module _ (old new : Box) (goal : Goal) (k : ℕ) (inside : k < length (byte_read
   pub lowest_at : IsLowestAt old goal k new
   lowest_at = record { within = cut.within; not_least = remains_or_not_least }
 
--- ---- the way down
+-- ---- the descent
 -- what is alone stays so in a box within, no domain of which is empty
 pub alone_stays : (now was : Box) → IsWithin now was → ¬ HasEmptyDomain now → (k w : ℕ) → k < length (byte_reads (box_events now)) → HasAlone was k w → HasAlone now k w
 alone_stays now was within some k w inside alone = record { there = there (has_source now k w); alone = λ v h. alone.alone v (within.domains k v h) }
@@ -63,7 +63,7 @@ module _ (first was now : Box) (goal : Goal) (k : ℕ) (to : IsLowest first goal
   lie_out : (sources : List ℕ) → AreSourcesIn now sources → AreSourcesIn was sources
   lie_out sources lie = grind (arith, sourced)
 
-  -- where a solution is passed at the place, all sources that lie in the box are less than its own
+  -- if a solution has a greater source at the place, all sources that lie in the box are less than its own
   sources_are_less : (x : Execution) → IsCompletion was x → IsNotLeastAt now k x → (sources : List ℕ) → AreSourcesIn now sources → slice_cmp nat_cmp sources x.sources ≡ Less
   sources_are_less x is not_least sources lie =
       less_from_place sources x.sources k long within record { same = same; greater = λ _. greater }

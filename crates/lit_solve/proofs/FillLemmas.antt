@@ -1,5 +1,5 @@
--- Quiet boxes: the relations of sources that lie in one are those of what it gives, so that sources are a completion's exactly
--- where they fill each read and there is an order of what is given.
+-- Leaves: any sources that lie in one have the relations of what it gives. So they are those of a completion exactly if they fill each
+-- read and there is an order of what is given.
 use Rattle.lit_solve.proofs.Words.{◌+◌, ◌<◌, arith, byte_reads, CanSynchronize, does_write, Event, event_at, Execution, first_event, Grows}
 use Rattle.lit_solve.proofs.Words.{HappensBefore, HasFalseGuardOn, HasOrder, HasTearFreeReads, inl, inr, IsBroken, IsOnCombination, IsForbidden}
 use Rattle.lit_solve.proofs.Words.{IsForbiddenBetween, IsMemoryOrder, IsOrderOf, IsTrue, IsWalkIn, Laws, length, List, None, none-some}
@@ -43,7 +43,7 @@ module _ (box : Box) (sources : List ℕ) (lie : AreSourcesIn box sources) where
       IsOrderOf-same (length events) (length events) (HappensBefore events sources) (HappensBeforeIn box) (IsForbidden events sources)
       (IsForbiddenIn box) refl grows_in.happens_before grows_in.forbidden order o
 
-  -- ---- in a quiet box they add nothing
+  -- ---- in a leaf they add nothing
   module _ (leaf : IsLeaf box) where
     -- a source is given, or has no effect
     given_or_idle : (r b w : ℕ) → from r b w → GivenIn box r b w ⊎ ¬ HasEffect events w r
@@ -82,7 +82,7 @@ module _ (box : Box) (sources : List ℕ) (lie : AreSourcesIn box sources) where
       read_known : (r b w : ℕ) → from r b w → r < length events
       read_known r b w f = (laws.of_events events).known f.0 r b f.1
 
-      -- a test asks about an event of the combination
+      -- a guard is on an event of the combination
       guarded_known : (r value : ℕ) → HasFalseGuardOn box.test box.combination (Some r) value → r < length events
       guarded_known r value bad = by bad.test.on refl bad.asks
         where

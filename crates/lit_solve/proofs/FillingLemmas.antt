@@ -230,8 +230,8 @@ module _ (box : Box) (r : ℕ) where
             ),
           )
 
-      -- Of two sources that store the same byte, of which the one leaves the read whole from no others than before, the other
-      -- fills it no better.
+      -- Of two sources that store the same byte, one dominates the other if the read reads whole from no further event because of it: the
+      -- other fills the read no better.
       pub filled_no_better : (w v : ℕ) → WouldNotTear (box_events box) r whole w → ((u : ℕ) → WholeWith (box_events box) r whole w u → whole u)
           → payload_at (event_at (box_events box) v) b ≡ payload_at (event_at (box_events box) w) b
           → CanFillWith box r k b whole value bytes v → CanFillWith box r k b whole value bytes w
@@ -280,7 +280,7 @@ module _ (box : Box) (r : ℕ) where
         (taken.value + 256 ^ taken.bytes * payload_at (event_at (box_events box) w) b) (taken.bytes + 1) next.value next.bytes
         (λ v. (takes.whole v).0) takes.value takes.bytes can
 
-    -- in vain after it: what stores the same, where it left the read whole from no others than before
+    -- it dominates the sources that store the same byte, if the read reads whole from no further event because of it
     pub dominated_in_vain : (at : slice_get reads k ≡ Some (r, b)) (v : ℕ) → ¬ CanFillOn box r (k + 1) (HasEvent next.whole) next.value next.bytes
         → ((u : ℕ) → HasEvent next.whole u → HasEvent taken.whole u) → payload_at (event_at (box_events box) v) b ≡ payload_at (event_at (box_events box) w) b
         → ¬ CanFillWith box r k b (HasEvent taken.whole) taken.value taken.bytes v
@@ -289,7 +289,7 @@ module _ (box : Box) (r : ℕ) where
         (filled_no_better k (HasEvent taken.whole) taken.value taken.bytes b at w v takes.free (λ u h. within u ((takes.whole u).1 h)) same can))
 
   module _ (is_box : IsBox box) (some : ¬ HasEmptyDomain box) where
-    -- where no byte of the read is left its tests decide
+    -- behind the last byte of the read its guards decide
     pub filled_at_end : (k : ℕ) (whole : ℕ → Type 0) (value bytes : ℕ) → k ≤ length reads → ((j b : ℕ) → k ≤ j → slice_get reads j ≢ Some (r, b))
         → CanFillOn box r k whole value bytes ↔ ¬ HasFalseGuardOn box.test box.combination (Some r) value
     filled_at_end k whole value bytes within none = (

@@ -1,5 +1,5 @@
--- A part of a box whose reads are independent: with one domain narrowed, what is given gives the same relations, so reads stay
--- independent there as long as the narrowed one can be filled.
+-- A box with independent reads and one domain restricted: the relations stay the same, so its reads stay independent as long as the
+-- restricted one can be filled.
 use Rattle.lit_solve.proofs.Words.{◌<◌, ◌==◌, ap, AreOfEvents, arith, Bool, byte_read_at, byte_reads, cases_eq, cond, Event, EventSet}
 use Rattle.lit_solve.proofs.Words.{false, HasEvent, inl, inr, length, List, nat_tests, refl, rules, slice_get, Some, subst, sym, true, ℕ}
 use Rattle.lit_solve.proofs.Words.{◌∙◌, ◌≡◌}
@@ -68,7 +68,7 @@ module _ (box : Box) (of_events : AreOfEvents (box_events box)) (is : IsIndepend
   coherent_part k q b w at there =
       coherent_read_by events (HappensBeforeIn box) (HappensBeforeIn part) before_out q b w (is.coherent k q b w at (inner.domains k w there))
 
-  -- ---- sources that fill each read of the part: for its narrowed read those that fill it there, and for the others those of the box
+  -- ---- sources that fill each read of the part: for its restricted read those that fill it there, and for the others those of the box
   abbrev picked : ℕ → List ℕ
   picked q = cond (q == r) fills.0 is.filled.sources
 

@@ -28,7 +28,7 @@ module _ (t : Litmus) (c : ℕ) (numbers : NumbersChoices t c) where
 
   module _ (given : List ℕ) (low i w : ℕ) (begun : BeginAt t c given low) (left : length given < length (byte_reads (events_in t c)))
       (here : slice_get (candidates_of (events_in t c) (byte_read_at (events_in t c) (length given))) i ≡ Some w) where
-    -- what comes before the choices with the candidate, among those with the sources given, and these
+    -- the choices with the candidate, and those with an earlier candidate, are among the choices with the sources given
     pub earlier_fit : i * ways_from (events_in t c) (length given + 1) + ways_from (events_in t c) (length given + 1) ≤ ways_from (events_in t c) (length given)
     earlier_fit = grind (arith, mul-le-mul_right, slice_get_within, ways_split)
 

@@ -1,5 +1,4 @@
--- What registers observe: the value of a read from bytes that are decided one after the other, and the outcomes of the parts of a
--- box.
+-- Observed values: the value of a read from bytes that are decided one after the other, and the outcomes of the parts of a box.
 use Rattle.lit_solve.proofs.Words.{◌*◌, ◌+◌, ◌++◌, ◌<◌, [], ◌^◌, ap, ap₂, arith, byte_read_at, byte_reads, composed, drop, Event, Execution}
 use Rattle.lit_solve.proofs.Words.{execution_outcome, get_or, get_or-map, Laws, length, length-map, List, map, names_of, observed_read, refl}
 use Rattle.lit_solve.proofs.Words.{slice_get, slice_get-get_or, Some, suc, sym, take, take_all, take_more, observed_value, value_of, zero, ℕ}
@@ -22,7 +21,7 @@ use Rattle.lit_solve.proofs.FillLemmas.{sources_lie}
 use Rattle.lit_solve.proofs.FillingLemmas.{no_more, same_number, taken_other}
 use Rattle.lit_solve.proofs.ReadByteLemmas.{drop_at, read_there}
 
--- what is left of a read from a byte read on, by its sources, goes with what was taken before to its value
+-- the bytes of a read from a byte read on compose, with those taken before, its value
 abbrev pub IsComposedOn : Box → (r k : ℕ) → Taken → Type 0
 IsComposedOn box r k taken =
     (sources : List ℕ) → AreSourcesIn box sources
@@ -58,7 +57,7 @@ module _ (box : Box) (r : ℕ) where
       → taken.value ≡ 0 → taken.bytes ≡ 0 → IsComposedOn box r k taken
   composed_first k taken within before value bytes sources lie = grind (arith, none_before)
 
-  -- one more byte, which each source stores alike
+  -- one more byte: all sources store the same
   pub composed_next : (k w : ℕ) (taken next : Taken) → k < length reads → (byte_read_at events k).0 ≡ r
       → ((v : ℕ) → HasSource box k v → stored_for box k v ≡ stored_for box k w)
       → next.value ≡ taken.value + 256 ^ taken.bytes * stored_for box k w → next.bytes ≡ taken.bytes + 1
@@ -87,7 +86,7 @@ module _ (box : Box) (r : ℕ) where
       (λ i b at. none (k + i) b (omega arith) (sym (slice_get-drop k i reads) ∙ at))
 
 -- ---- registers
--- a register that holds a read has its value
+-- a register that observes a read has its value
 pub observed_by_read : (box : Box) (name : ℕ × ℕ) (r : ℕ) (value : ReadValue) → Some r ≡ observed_read box.test box.combination name → IsValueOf box r value
     → IsValueObserved box name value
 observed_by_read box name r value holds is = grind arith

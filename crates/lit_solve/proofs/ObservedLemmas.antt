@@ -1,5 +1,5 @@
--- Completions with one outcome take sources that store the same for a byte read that a register observes. So what is least in a
--- part of a box by that byte is least in the box.
+-- Completions with the same outcome take sources that store the same byte for an observed byte read. So the least completion with an
+-- outcome in a part of a box, by that byte, is the least in the box.
 use Rattle.lit_solve.proofs.Words.{◌<◌, ap, AreEventsIn, arith, byte_read_at, byte_reads, cases_eq, Entry, eq-eqb, Event, EventSet}
 use Rattle.lit_solve.proofs.Words.{Execution, execution_outcome, false≢true, HasEvent, HasOutcome, inl, inr, Laws, length, List, names_of}
 use Rattle.lit_solve.proofs.Words.{refl, same_Some, slice_get, Some, subst, sym, true, observed_value, value_in, value_of, zip, ℕ, ◌↔◌, ◌∙◌}
@@ -38,7 +38,7 @@ pub first_within : (box : Box) (domains : List EventSet) (values : List ℕ) →
     → AreFirstValues box values → AreFirstValues (box_with (box.test, box.combination) domains) values
 first_within box domains values within first = grind arith
 
--- what is least in a box that was narrowed is least in what it was
+-- a least entry of a pruned box is a least entry of the box before
 pub least_pruned : (box : Box) (domains : List EventSet) → Prunes box (box_with (box.test, box.combination) domains) → (entry : Entry)
     → IsLeastEntry (box_with (box.test, box.combination) domains) entry → IsLeastEntry box entry
 least_pruned box domains prunes entry is = grind arith

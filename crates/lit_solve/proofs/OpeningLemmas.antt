@@ -1,4 +1,4 @@
--- Frames before anything follows from them, and boxes cut.
+-- Frames before any propagation, and boxes with a cut domain.
 use Rattle.lit_solve.proofs.Words.{◌<◌, [], arith, common_steps, EventSet, Execution, Given, HappensBefore, HasEvent, Holds, IsTransitive}
 use Rattle.lit_solve.proofs.Words.{length, ReadsByteFrom, rows_len, slice_get, Some, TwoWayRows, ℕ, ◌↔◌, ◌≡◌}
 use Rattle.lit_rel.proofs.ChainLemmas.{Chain-append}
@@ -36,7 +36,7 @@ module _ (box : Box) (order : TwoWayRows) (len : rows_len order.rows ≡ length 
     forced_in = λ a d h. Given (before_in a d h);
   }
 
--- ---- a domain cut down to a set
+-- ---- a domain restricted to a set
 module _ (box : Box) (place : ℕ) (set left : EventSet) (room : place < length box.domains) (left_is : (w : ℕ) → HasEvent left w ↔ (HasSource box place w × HasEvent set w)) where
   pub left_within : (w : ℕ) → HasEvent left w → HasSource box place w
   left_within w there = ((left_is w).0 there).0
@@ -47,6 +47,6 @@ module _ (box : Box) (place : ℕ) (set left : EventSet) (room : place < length 
   pub completion_taken : (x : Execution) → IsCompletion box x → TakesFrom x place set → IsCompletion (pruned_at box place left) x
   completion_taken x is takes = completion_at box place left room x is (source_taken x is takes)
 
-  -- narrowed further it is the cut
+  -- pruned further it is the cut
   pub cut_on : (now : Box) → Prunes (pruned_at box place left) now → IsCut box place set now
   cut_on now on = grind (arith, common_steps, completion_taken, domain_here, left_within, pruned_within)

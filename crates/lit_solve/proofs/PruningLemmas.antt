@@ -1,4 +1,4 @@
--- What the tests of narrowing find, and what becomes of a box where a domain is narrowed.
+-- What the checks of pruning find, and what becomes of a box with a pruned domain.
 use Rattle.lit_solve.proofs.Words.{◌+◌, ◌<◌, ◌^◌, AreOfEvents, arith, bit_at, bit_at_above, Bool, byte_read_at, byte_reads, ByteRead}
 use Rattle.lit_solve.proofs.Words.{CanReadWhole, CanSynchronize, cases_eq, cases_lt, Event, event_at, EventSet, false, false≢true, get_or}
 use Rattle.lit_solve.proofs.Words.{get_or_from_slice_get, HasEvent, Holds, inl, inr, IsCandidate, IsCoherentRead, IsForbiddenBetween}
@@ -39,7 +39,7 @@ none_or_some set = by (some_below set set.bits)
           | inr above ↦ (let zero_there : bit_at set.bits e ≡ 0 = bit_at_above set.bits set.bits e (below_power set.bits) above in absurd (omega (arith, zero_there, there)))
         ])
 
--- what is not found to have no event has some
+-- a set that is not empty has some event
 pub some_exactly : (set : EventSet) (empty : Bool) → IsTrue empty ↔ ((e : ℕ) → ¬ HasEvent set e) → IsTrue (not empty) ↔ ((e : ℕ) × HasEvent set e)
 some_exactly set true tells = ((λ h. absurd (false≢true h)), (λ (e, there). absurd (tells.0 refl e there)))
 some_exactly set false tells = ((λ _. elim (none_or_some set) [ inl none ↦ absurd (false≢true (tells.1 none)) | inr found ↦ found ]), (λ _. refl))
@@ -80,7 +80,7 @@ module _ (events : List Event) (rows : Rows) (len : rows_len rows ≡ length eve
   pub none_if_coherent : IsCoherentRead events (Holds rows) r b w → (v : ℕ) → ¬ HasEvent shared v
   none_if_coherent coherent v there = grind arith
 
--- ---- sources that are out
+-- ---- sources that can be pruned
 -- what is so of the frame's relations is so of those of its box
 module _ (box : Box) (frame : Frame) (is : IsContained box frame) (r b w : ℕ) where
   pub incoherent_out : ¬ IsCoherentRead (box_events box) (Holds frame.happens_before.rows) r b w → IsPrunable box r b w

@@ -1,4 +1,4 @@
--- Data races that a frame foresees, place by place of the byte reads; a read filled with one source of a byte.
+-- Possible data races of a frame, byte read by byte read; and a read filled with one source of a byte.
 use Rattle.lit_solve.proofs.Words.{◌<◌, ap, arith, Bool, byte_read_at, byte_reads, ByteRead, cases_eq, Event, EventSet, false, get_or}
 use Rattle.lit_solve.proofs.Words.{get_or-set_other, HasApartPair, HasDataRaceOf, HasEvent, Holds, inl, inr, length, List, pair_of, refl}
 use Rattle.lit_solve.proofs.Words.{same_Some, slice_get, slice_get-get_or, slice_get_within, Some, subst, sym, true, WritesWith, ℕ, ◌↔◌}

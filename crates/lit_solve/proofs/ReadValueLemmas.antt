@@ -1,4 +1,4 @@
--- What the sources in a box's domains say of the value of a read, and of what is asked about it.
+-- The value of a read, and whether it is a given number, by the domains of a box: three-valued logic.
 use Rattle.lit_solve.proofs.Words.{◌*◌, ◌+◌, ◌-◌, ◌<◌, ◌==◌, [], ◌^◌, ap, ap₂, AreEventsIn, arith, Bool, byte_read_at, byte_reads, cases_eq}
 use Rattle.lit_solve.proofs.Words.{cases_lt, common_steps, composed, cond, does_read, eq-eqb, Event, event_at, false, false≢true, filter}
 use Rattle.lit_solve.proofs.Words.{get_or, get_or_from_slice_get, get_or_past, if◌then◌else◌, inl, inr, length, length-map}
@@ -104,7 +104,7 @@ module _ (box : Box) (r number : ℕ) where
   abbrev pub StoresIt : (b w : ℕ) → Type 0
   StoresIt b w = payload_at (event_at events w) b ≡ byte_for b
 
-  -- of the byte reads before a place, each of the read's is read as this number's byte; or one hangs
+  -- of the byte reads before a place, each one of the read reads this number's byte; or one is open
   abbrev pub IsDecidedBelow : (place : ℕ) → Decided → Type 0
   IsDecidedBelow place (Comes true) = (k b w : ℕ) → k < place → slice_get (byte_reads events) k ≡ Some (r, b) → HasSource box k w → StoresIt b w
   IsDecidedBelow place (Comes false) = ⊥

@@ -1,4 +1,4 @@
--- What becomes of solutions as a box is parted.
+-- Solutions of a box and of its branches.
 use Rattle.lit_solve.proofs.Words.{◌<◌, arith, byte_reads, EventSet, Execution, get_or, HasEvent, length, same_Some, slice_get}
 use Rattle.lit_solve.proofs.Words.{slice_get-get_or, Some, ℕ, ◌↔◌, ◌≡◌}
 use Rattle.lit_rel.proofs.SetLemmas.{event_or_not}
@@ -20,7 +20,7 @@ pub solution_in : (old new : Box) (goal : Goal) (k : ℕ) (set : EventSet) → I
     → TakesFrom x k set → IsSolution new goal x
 solution_in old new goal k set cut x is takes = grind arith
 
--- no part that goes with one source has all
+-- the part of one source doesn't have all sources
 module _ (box : Box) (branch : Branch) (is : IsBranch box branch) (source : ℕ) (there : HasSource box branch.place source) (part : EventSet) where
   pub not_all : ((w : ℕ) → HasEvent part w → GoesWith box branch source w) → ¬ ((w : ℕ) → HasSource box branch.place w → HasEvent part w)
   not_all goes all = grind (arith, read_here, same_Some)

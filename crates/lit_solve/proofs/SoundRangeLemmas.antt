@@ -1,4 +1,4 @@
--- What the boxes of a range keep, and what follows for a box.
+-- The invariant of `Boxes`, and what follows for a box.
 use Rattle.lit_solve.proofs.Words.{◌*◌, ◌+◌, ◌-◌, ◌<◌, AreEventsIn, arith, byte_read_at, BYTE_READ_LIMIT, byte_reads, cases_order}
 use Rattle.lit_solve.proofs.Words.{choices_before, Event, EVENT_LIMIT, events_in, EventSet, IfSome, IsCandidate, IsLitmus, IsOfCombination}
 use Rattle.lit_solve.proofs.Words.{length, List, ListsChoices, Litmus, MatchOption, None, Option, refl, same_Some, slice_get-get_or}
@@ -35,11 +35,11 @@ module _ (boxes : BoxesModel) (is : IsSoundRange boxes) where
   box_of_domains i domains exact litmus = grind (arith, same_Some, slice_get-get_or, slice_get_within)
 
 -- ---- a range cut
--- of two lists of which the one is no greater, the places that are the same in both end where they part
+-- of two lists of which one is no greater, the common prefix ends where it is less
 parts_at_shared : (a b : List ℕ) (k shared : ℕ) → k ≤ length a → IsSame a b shared → IsGreaterAt a k b → IsGreaterAt a shared b
 parts_at_shared a b k shared inside same is = grind (arith, cases_order)
 
--- as many boxes as places are left on the side of an end, and none where there is none
+-- as many boxes on the side of an end as there are places behind the common prefix, and none where there is no end
 abbrev pub IsCounted : (len : ℕ) → Option (List ℕ) → (shared count : ℕ) → Type 0
 IsCounted len end shared count = MatchOption end (count ≡ 0) (λ _. count ≡ len - shared)
 

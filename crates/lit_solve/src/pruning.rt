@@ -170,10 +170,12 @@ impl Problem<'_> {
         requires acyclic { (e : ℕ) → ¬ Holds frame.now.happens_before.rows e e }
         ensures within { (w : ℕ) → HasEvent result w → HasSource (box_of self.now frame.now) place w }
         ensures prunable { (w : ℕ) → HasSource (box_of self.now frame.now) place w → ¬ HasEvent result w
-            → IsPrunable (box_of self.now frame.now) (byte_read_at (events_on self.now) place).0 (byte_read_at (events_on self.now) place).1 w }
+            → IsPrunable (box_of self.now frame.now) (byte_read_at (events_on self.now) place).0
+            (byte_read_at (events_on self.now) place).1 w }
         ensures coherent { (w : ℕ) → HasEvent result w → IsCoherentRead (events_on self.now) (Holds frame.now.happens_before.rows)
             (byte_read_at (events_on self.now) place).0 (byte_read_at (events_on self.now) place).1 w }
     {
+        // For the prover: a set has room for each event of a combination.
         let _events = self.events();
         let whole = self.whole_sources(frame, place);
         let mut left = EventSet::new();
@@ -203,6 +205,7 @@ impl Problem<'_> {
         ensures empty { result ≡ Empty → HasNoCompletion (box_of self.now frame.old) }
     {
         completions_have_no_prunable_source();
+        // For the prover: the events lie in the test's block, as the law requires.
         let _events = self.events();
         let left = self.left(&*frame, place);
         if left.is_empty() {

@@ -62,7 +62,7 @@ impl OutcomeTable for Listed {
     }
 }
 
-/// How often a search came down one step more.
+/// How many steps down a search made.
 #[derive(Drop)]
 pub(super) struct Beats {
     pub count: AtomicU64,

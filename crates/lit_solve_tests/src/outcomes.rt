@@ -26,7 +26,7 @@ check B.r0 == 2
 /// An outcome, the number of its choice, and its least memory-order.
 type Wanted<'a> = (&'a [u32], u64, &'a [u8]);
 
-/// Records all outcomes of the first combination, which has several choices. Gives how many steps down that took.
+/// Records all outcomes of the first combination, which has several choices. Answers how many steps down that took.
 fn record_all(rt: &impl Abort, plan: &Plan<'_>, table: &mut Listed) -> Result<u64, AllocError> {
     let _test = plan.test();
     let _combinations = plan.combinations();

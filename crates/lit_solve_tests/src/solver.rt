@@ -1,4 +1,4 @@
-//! `lit_solve`: what the boxes of a range of choices have, and the least of it.
+//! `lit_solve`: least solutions of the boxes of a range of choices, and the numbers of choices.
 
 use lit_paths::{BYTE_READ_LIMIT, Plan, plan};
 use lit_read::read;
@@ -24,7 +24,7 @@ check A.r0 == 1 && B.r0 == 1
 /// The sources of a completion, and its least memory-order.
 type Told<'a> = (&'a [u8], &'a [u8]);
 
-/// That these are the least of the boxes that have any, in the order of the boxes, on the first combination.
+/// That these are the least solutions of the boxes that have one, in the order of the boxes, on the first combination.
 fn assert_told(
     rt: &impl Abort,
     plan: &Plan<'_>,

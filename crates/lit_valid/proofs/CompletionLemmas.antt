@@ -1,4 +1,4 @@
--- Valid executions that go on from a part: what is true of the part is true of them, and when there is one.
+-- Completions of a part: what is true of the part is true of them, and when there is one.
 use Rattle.std.proofs.Common.{◌≡◌, ◌≢◌, ◌⊎◌, inl, inr, ℕ, zero, suc, ◌+◌, ◌<◌, Bool, true, false, Option, Some, None, List, [], ◌∷◌, ◌++◌, length, map, get_or, refl, sym, ap, subst, ◌∙◌, arith, append-nil}
 use Rattle.std.specs.Prelude.{All, slice_get, slice_index}
 use Rattle.std.specs.List.{flat_map}
@@ -55,7 +55,7 @@ module _ (part : PartModel) (x : Execution) (is : Completes part x) where
       given_apart part.test part.combination x.runs is.on_paths x.sources choose is.valid.candidate.one_each is.valid.candidate.each
       (subst (λ (es : List Event). flat_map (λ run. run.values) x.runs ≡ map (value_of es x.sources) (read_numbers es)) its_events is.valid.chosen_reads)
 
-  -- its memory-orders keep what the part has
+  -- its memory-orders respect what the part has
   pub order_respected : GrowWithBytes → (order : List ℕ) → IsMemoryOrder (execution_events part.test x) x.sources order
       → IsMemoryOrder (part_events part) part.sources order
   order_respected grow order o =
@@ -79,7 +79,7 @@ module _ (part : PartModel) (x : Execution) (is : Completes part x) where
       let grows = grow.lists (part_events part) part.sources is.rest in
       torn.two_sources (grows.tear_free (carried HasTearFreeReads is.valid.tear_free_reads) torn.read torn.source torn.other torn.first torn.second)
 
-  -- each test is true of its sources
+  -- each guard is true of its sources
   its_guards : Laws → IsLitmus part.test → part.combination < length (combinations_of part.test)
       → (agent k : ℕ) (test : Tested) → agent < length part.test.agents
       → slice_get (path_in part.test part.combination agent).tests k ≡ Some test → holds part.test part.combination agent x.sources test ≡ true
@@ -116,7 +116,7 @@ module _ (part : PartModel) (x : Execution) (is : Completes part x) where
   not_broken laws grow stay entered (inl bad) = relations_whole grow bad
   not_broken laws grow stay entered (inr bad) = guards_true laws stay entered bad
 
-  -- its outcome is what the registers hold by its sources
+  -- its outcome has the values that registers observe by its sources
   pub its_outcome : Laws → IsOnCombination part → All (λ name. (name.0 < length part.test.agents) × (name.1 < REGISTERS)) (names_of part.test)
       → execution_outcome part.test x ≡ part_outcome (with_sources part x.sources)
   its_outcome laws entered named =

@@ -1,4 +1,4 @@
--- Accounts of several places as one.
+-- The accounts of several places, merged to one.
 use Rattle.std.specs.Prelude.{◌+◌, List, [], ◌∷◌, ◌++◌}
 use Rattle.lit_desk.specs.declared.account.Account.{Account}
 use Rattle.lit_desk.specs.declared.account.Numbers.{Numbers}
@@ -8,7 +8,7 @@ use Rattle.lit_desk.specs.Desk.{PlaceLists}
 abbrev pub merged_numbers : Numbers → Numbers → Numbers
 merged_numbers xs ys = numbers (xs.told ++ ys.told) (xs.seen ++ ys.seen)
 
--- what both did, the first one's lists before the other's
+-- what both did: the first one's lists before the other's
 abbrev pub merged_accounts : Account → Account → Account
 merged_accounts a b =
     record { tickets = a.tickets ++ b.tickets; met = merged_numbers a.met b.met; unmet = merged_numbers a.unmet b.unmet; places = a.places + b.places }

@@ -1,4 +1,4 @@
--- What holds of the words of a desk and of the accounts of all its seats, between any two steps.
+-- The rule of a desk: an invariant of its words and of the accounts of all its seats, between any two steps.
 use Rattle.std.specs.Prelude.{◌≡◌, ◌≤◌, ℕ, zero, suc, ◌+◌, List, [], ◌∷◌, length, All, Contains, filter, sum_by, nat_le}
 use Rattle.std.specs.List.{flat_map}
 use Rattle.std.specs.List.Sorted.{IsPermutation}

@@ -1,4 +1,4 @@
-//! Outcomes packed into numbers that rise as they do, so that few of them are compared value by value.
+//! Order-preserving packing of outcomes into numbers, so that few outcomes are compared value by value.
 
 ghost use Rattle.std.specs.Prelude.{◌≡◌, ◌+◌, ◌^◌, ◌≤◌};
 ghost use Rattle.lit_search.specs.Internal.Packed.{packed as packed_of};

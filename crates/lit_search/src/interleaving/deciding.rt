@@ -1,4 +1,4 @@
-//! The next access of an agent, after the `if`s that its registers decide.
+//! The next access of an agent, behind the `if`s that its registers decide.
 
 ghost use Rattle.std.specs.Prelude.{◌≡◌, ℕ, ◌<◌, true, IfOk, MatchOption, length, slice_index};
 ghost use Rattle.lit_paths.specs.Run.{compares};
@@ -10,7 +10,7 @@ ghost use Rattle.lit_search.specs.Internal.Runners.{ChoosesPart, IsNextAccessOrN
 use lit_read::Stmt;
 use std::alloc::AllocError;
 
-/// How a comparison of a register with a value comes out.
+/// Whether a comparison of a register with a value is true.
 fn comes_out(registers: &[u32], reg: u8, equal: bool, value: u32) -> bool
     requires { reg < length registers.now }
     ensures { result ≡ compares equal (slice_index registers.now reg) value }

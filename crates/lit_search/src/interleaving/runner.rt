@@ -1,4 +1,4 @@
-//! An agent that carries out its statements, in turns.
+//! The state of one agent in an interleaving, which carries out its statements in turns.
 
 ghost use Rattle.std.specs.Prelude.{◌≡◌};
 
@@ -11,7 +11,7 @@ use std::marker::Model;
 /// How far an agent has come. A clause sees it as a `Progress`.
 #[derive(Drop)]
 pub(crate) struct Runner<'t> {
-    /// What is left of the lists of statements that it is in, the innermost last.
+    /// The remaining statements of each nested list that the agent is in, the innermost last.
     left: Vec<&'t [Stmt]>,
     registers: [u32; REGISTERS],
 }
@@ -47,7 +47,7 @@ impl<'t> Runner<'t> {
         })
     }
 
-    /// What a register holds.
+    /// The value of a register.
     pub(crate) fn register(&self, reg: u8) -> u32
         requires { reg < REGISTER_COUNT }
         ensures { result ≡ slice_index self.now.registers reg }
@@ -127,7 +127,7 @@ impl<'t> Runner<'t> {
         Ok(())
     }
 
-    /// All that is left, on the block.
+    /// Carries out all remaining statements, on the block.
     pub(crate) fn finish(&mut self, block: &mut [u8]) -> Result<(), AllocError>
         requires { AreStatementsIn (length block.old) self.old.left }
         ensures left { IfOk result (λ _. self.new.left ≡ End) }

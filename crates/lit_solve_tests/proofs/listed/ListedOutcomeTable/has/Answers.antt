@@ -9,11 +9,11 @@ use Rattle.lit_valid.specs.Entry.{Entry}
 use Rattle.lit_solve_tests.specs.declared.listed.Recorded.{Recorded}
 use Rattle.lit_solve_tests.proofs.listed.ListedOutcomeTable.has.Goals as goal
 
--- the entry of a row
+-- the entry of a recorded outcome
 abbrev entry_of : Recorded → Entry
 entry_of row = record { outcome = row.outcome.items; choice = row.choice; order = row.order.items }
 
--- the row that is looked at stands at its place
+-- the row of the loop is the one at its place
 here : (rows : List Recorded) (i : ℕ) (row : Recorded) → i < length rows → row ≡ slice_index_or rows i row → slice_get rows i ≡ Some row
 here rows i row within is = slice_get-get_or rows i row within ∙ ap Some (sym is)
 
