@@ -47,6 +47,7 @@ fn first_on(problem: &Problem<'_>, class: Class, from: u64, to: u64) -> Option<u
     requires ends { to ≤ choices_before problem.now.0 (problem.now.1 + 1) }
     ensures { MatchOption result (HasNoneOf problem.now.0 class (in_range from to)) (IsFirstOf problem.now.0 class (in_range from to)) }
 {
+    // For the prover: the executions of the test have choices, and these have numbers.
     laws_below();
     let boxes = boxes_of(problem, from, to);
     let mut domains = [EventSet::new(); BYTE_READ_LIMIT];
@@ -106,6 +107,7 @@ fn record_on<H: Heartbeat>(
     ensures goes_on { GoesOn table.old table.new }
     ensures gains { IfOk result (Gains problem.now.0 (λ n. IsTrue (in_range from to n)) table.old table.new mark) }
 {
+    // For the prover: the executions of the test have choices, and these have numbers.
     laws_below();
     let boxes = boxes_of(problem, from, to);
     let mut domains = [EventSet::new(); BYTE_READ_LIMIT];

@@ -91,6 +91,7 @@ impl Problem<'_> {
         requires is_box { IsBox (box_with self.now domains.now) }
         ensures { IsReadDecided (box_with self.now domains.now) read value result }
     {
+        // For the prover: a byte read is a byte in the range of its read.
         laws_below();
         let event = event_at(self.events(), read);
         // A number with more bytes than the read is never its value, whatever its low bytes are.
@@ -132,6 +133,7 @@ impl Problem<'_> {
         requires { IsBox (box_with self.now domains.now) }
         ensures { IsDecided (box_with self.now domains.now) (Is agent reg true value) result }
     {
+        // For the prover: an execution's outcome follows from its sources.
         laws_below();
         match self.observed_read(agent, reg) {
             Some(read) => self.read_is(domains, read, value),

@@ -45,6 +45,7 @@ impl Problem<'_> {
             → size_of domains.new < size_of domains.old }
         ensures none { IsFalse result → (x : Execution) → IsCompletion (box_with self.now domains.old) x → ¬ TakesFrom x place set }
     {
+        // For the prover: a byte read is a byte in the range of its read.
         laws_below();
         completions_fill_each_read();
         // For the prover: the place is one of the array of domains.
@@ -139,6 +140,7 @@ impl Problem<'_> {
         ensures added { AddsEntries (box_with self.now domains.now) (T.entries table.old) (T.entries table.new) }
         ensures whole { OnOk result (HasEachOutcome (box_with self.now domains.now) (T.entries table.new)) }
     {
+        // For the prover: an execution's outcome follows from its sources.
         laws_below();
         heartbeat.beat();
         let mut values = values.clone()?;

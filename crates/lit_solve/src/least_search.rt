@@ -31,6 +31,7 @@ impl Problem<'_> {
         ensures one_each { length result.items ≡ length (byte_reads (events_on self.now)) }
         ensures within { LiesIn (box_with self.now domains.now) result.items }
     {
+        // For the prover: event numbers are small.
         let _events = self.events();
         let mut sources = Sources::new();
         for place in 0..self.reads() {

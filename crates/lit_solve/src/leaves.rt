@@ -103,6 +103,7 @@ impl Problem<'_> {
         ensures { IsTrue result ↔ RacesAt (box_of self.now frame.now) (Holds frame.now.happens_before.rows)
             (MayHave (box_of self.now frame.now) filling) place }
     {
+        // For the prover: the place is one of the array of domains.
         let _reads = self.reads();
         let read = usize::from(self.byte_read(place).read);
         let mut left = frame.domains[place];

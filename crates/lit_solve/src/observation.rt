@@ -92,6 +92,7 @@ impl Problem<'_> {
         ensures first { AreFirstValues (box_with self.now domains.now) values.new.items }
         ensures observed { IsObservation (box_with self.now domains.now) values.new.items result }
     {
+        // For the prover: an execution's outcome follows from its sources.
         laws_below();
         for i in values.len()..self.names.len() {
             match self.register_value(domains, self.names[i]) {

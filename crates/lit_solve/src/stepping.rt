@@ -44,6 +44,7 @@ impl Problem<'_> {
         requires { IsSettled (box_of self.now frame.now) frame.now }
         ensures { IsProspect (box_of self.now frame.now) goal result }
     {
+        // For the prover: an execution's outcome follows from its sources.
         laws_below();
         boxes_bound_races();
         match goal {

@@ -179,6 +179,7 @@ fn is_answered(problem: &Problem<'_>, domains: &Domains, query: Query) -> bool
 
 /// How many boxes a range of choices on the first combination has, if each answers all queries as wanted.
 fn answered(plan: &Plan<'_>, (from, to): (u64, u64), queries: &[Query]) -> Option<usize> {
+    // For the prover: the plan's test is one that a text can say, and has a combination 0.
     let _test = plan.test();
     let _combinations = plan.combinations();
     let problem = Problem::open(plan, 0);

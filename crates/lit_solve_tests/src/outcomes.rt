@@ -28,6 +28,7 @@ type Wanted<'a> = (&'a [u32], u64, &'a [u8]);
 
 /// Records all outcomes of the first combination, which has several choices. Answers how many steps down that took.
 fn record_all(rt: &impl Abort, plan: &Plan<'_>, table: &mut Listed) -> Result<u64, AllocError> {
+    // For the prover: the plan's test is one that a text can say, and has a combination 0.
     let _test = plan.test();
     let _combinations = plan.combinations();
     let problem = Problem::open(plan, 0);

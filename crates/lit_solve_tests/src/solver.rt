@@ -32,6 +32,7 @@ fn assert_told(
     goal: Goal,
     wanted: &[Told<'_>],
 ) {
+    // For the prover: the plan's test is one that a text can say, and has a combination 0.
     let _test = plan.test();
     let _combinations = plan.combinations();
     let problem = Problem::open(plan, 0);
@@ -59,7 +60,7 @@ fn assert_told(
     assert_eq!(rt; told, wanted.len());
 }
 
-/// That, of a test in its canonical form.
+/// The same, for a test given as a text in canonical form.
 fn assert_all(
     rt: &(impl Abort + AllocGlobal),
     text: &str,
@@ -75,6 +76,7 @@ fn assert_all(
 
 /// That the choices of the first combination have these sources, and their numbers by them.
 fn assert_numbers(rt: &impl Abort, plan: &Plan<'_>, wanted: &[&[u8]]) {
+    // For the prover: the plan has a combination 0.
     let _combinations = plan.combinations();
     let combination = plan.enter(0);
     assert_eq!(rt; combination.end(), wanted.len() as u64);

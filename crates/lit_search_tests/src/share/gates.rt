@@ -14,7 +14,7 @@ use std::thread::Threads;
 /// Turns that a worker waits at the most.
 const TURNS: u64 = 10_000_000;
 
-/// Holds one piece until others were entered.
+/// A gate that delays the worker of one piece until others were entered.
 #[derive(Drop)]
 struct Holding {
     held: u64,
@@ -40,8 +40,7 @@ impl Holding {
         }
     }
 
-    /// Whether these pieces were entered, each once, each worker came with its own pass, and the piece held did not
-    /// have to be let go.
+    /// Whether these pieces were entered, each once, each worker came with its own pass, and the delay did not run out of turns.
     fn let_all_in(&self, pieces: u64) -> bool {
         self.entered.load(Ordering::SeqCst) == pieces
             && self.calls.load(Ordering::SeqCst) == u64::from(pieces.count_ones())
