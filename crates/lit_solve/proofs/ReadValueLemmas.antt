@@ -9,7 +9,7 @@ use Rattle.std.proofs.Common.{zip}
 use Rattle.lit_rel.proofs.OwnByteLemmas.{only, only_its}
 use Rattle.lit_rel.proofs.GuardedByteLemmas.{false_of}
 use Rattle.lit_solve.specs.declared.condition_values.Decided.{Decided}
-use Rattle.lit_solve.specs.declared.condition_values.Decided.TheVariants.{Comes, Hangs}
+use Rattle.lit_solve.specs.declared.condition_values.Decided.TheVariants.{Known, Undecided}
 use Rattle.lit_solve.specs.Box.{Box, HasSource, box_events}
 use Rattle.lit_solve.specs.Fill.{AreSourcesIn}
 use Rattle.lit_solve.specs.Prospect.{IsUndecidedAt}
@@ -104,11 +104,11 @@ module _ (box : Box) (r number : ℕ) where
   abbrev pub StoresIt : (b w : ℕ) → Type 0
   StoresIt b w = payload_at (event_at events w) b ≡ byte_for b
 
-  -- of the byte reads before a place, each one of the read reads this number's byte; or one is open
+  -- of the byte reads before a place, each one of the read reads this number's byte; or one is undecided
   abbrev pub IsDecidedBelow : (place : ℕ) → Decided → Type 0
-  IsDecidedBelow place (Comes true) = (k b w : ℕ) → k < place → slice_get (byte_reads events) k ≡ Some (r, b) → HasSource box k w → StoresIt b w
-  IsDecidedBelow place (Comes false) = ⊥
-  IsDecidedBelow place (Hangs k) = IsUndecidedAt box k
+  IsDecidedBelow place (Known true) = (k b w : ℕ) → k < place → slice_get (byte_reads events) k ≡ Some (r, b) → HasSource box k w → StoresIt b w
+  IsDecidedBelow place (Known false) = ⊥
+  IsDecidedBelow place (Undecided k) = IsUndecidedAt box k
 
   module _ (sound : AreEventsIn box.test.bytes (box_events box)) (known : r < length (box_events box)) (reads : does_read (event_at (box_events box) r).kind ≡ true) where
     payload_small : (w b : ℕ) → payload_at (event_at events w) b < 256
@@ -145,12 +145,12 @@ module _ (box : Box) (r number : ℕ) where
 
     -- ---- what is decided
     -- a number that does not fit
-    pub too_large : 256 ^ e.size ≤ number → IsReadDecided box r number (Comes false)
+    pub too_large : 256 ^ e.size ≤ number → IsReadDecided box r number (Known false)
     too_large large sources lie = grind (arith, ne_eqb, value_below)
 
     -- another byte at one place
-    pub other_byte : (k b : ℕ) → slice_get (byte_reads events) k ≡ Some (r, b) → IsByteDecided box k (byte_for b) (Comes false)
-        → IsReadDecided box r number (Comes false)
+    pub other_byte : (k b : ℕ) → slice_get (byte_reads events) k ≡ Some (r, b) → IsByteDecided box k (byte_for b) (Known false)
+        → IsReadDecided box r number (Known false)
     other_byte k b at none sources lie =
         let inside : k < length sources = omega (arith, slice_get_within (byte_reads events) k (r, b) at, lie.sourced.one_each) in
         let w = get_or sources k 0 in
@@ -164,5 +164,5 @@ module _ (box : Box) (r number : ℕ) where
 
     -- one place more, of another read or of a byte that is the number's
     pub decided_next : (place : ℕ) (q : ℕ × ℕ) (decided : Decided) → slice_get (byte_reads events) place ≡ Some q
-        → (q.0 ≢ r) ⊎ IsByteDecided box place (byte_for q.1) (Comes true) → IsDecidedBelow place decided → IsDecidedBelow (place + 1) decided
+        → (q.0 ≢ r) ⊎ IsByteDecided box place (byte_for q.1) (Known true) → IsDecidedBelow place decided → IsDecidedBelow (place + 1) decided
     decided_next place q decided at same each = grind (arith, cases_eq, cases_lt, get_or_from_slice_get, same_Some)

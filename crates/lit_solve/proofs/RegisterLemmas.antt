@@ -14,7 +14,7 @@ use Rattle.lit_paths.proofs.NameSteps.{names_from-within}
 use Rattle.lit_paths.proofs.Products.{product-known}
 use Rattle.lit_valid.proofs.CompletionLemmas.{its_outcome}
 use Rattle.lit_solve.specs.declared.condition_values.Decided.{Decided}
-use Rattle.lit_solve.specs.declared.condition_values.Decided.TheVariants.{Comes, Hangs}
+use Rattle.lit_solve.specs.declared.condition_values.Decided.TheVariants.{Known, Undecided}
 use Rattle.lit_solve.specs.Box.{Box, IsBox}
 use Rattle.lit_solve.specs.Completion.{IsCompletion}
 use Rattle.lit_valid.specs.declared.class.Class.{Class}
@@ -221,18 +221,18 @@ prospect_of_completions laws box entered class Nothing none = λ x is meets.
     none x.sources (sources_lie box x is) (subst (λ (o : List ℕ). IsTrue (is_of_class box.test class o)) (outcome_given laws box x entered is) meets)
 prospect_of_completions laws box entered class Each each = λ x is.
     subst (λ (o : List ℕ). IsTrue (is_of_class box.test class o)) (sym (outcome_given laws box x entered is)) (each x.sources (sources_lie box x is))
-prospect_of_completions laws box entered class (Open k) hangs = hangs
+prospect_of_completions laws box entered class (Open k) is_undecided = is_undecided
 
 -- ---- what is decided of a register
 module _ (laws : Laws) (box : Box) (entered : IsBox box) (agent reg number : ℕ) where
   pub decided_by_read : (r : ℕ) (decided : Decided) → observed_read box.test box.combination (agent, reg) ≡ Some r → IsReadDecided box r number decided
       → IsDecided box (Is agent reg true number) decided
-  decided_by_read r (Comes value) observed_is each = λ sources lie.
+  decided_by_read r (Known value) observed_is each = λ sources lie.
       ap (λ (n : ℕ). n == number) (register_observed laws box entered sources agent reg ∙ ap (observed_value (part_of box sources)) observed_is)
       ∙ each sources lie
-  decided_by_read r (Hangs k) observed_is hangs = hangs
+  decided_by_read r (Undecided k) observed_is is_undecided = is_undecided
 
-  pub decided_unwritten : observed_read box.test box.combination (agent, reg) ≡ None → IsDecided box (Is agent reg true number) (Comes (number == 0))
+  pub decided_unwritten : observed_read box.test box.combination (agent, reg) ≡ None → IsDecided box (Is agent reg true number) (Known (number == 0))
   decided_unwritten observed_is sources lie =
       ap (λ (n : ℕ). n == number) (register_observed laws box entered sources agent reg ∙ ap (observed_value (part_of box sources)) observed_is)
       ∙ turned (cases_eq number 0)

@@ -1,4 +1,4 @@
-//! The value of a condition in three-valued logic, by the domains of a box: true, false, or open.
+//! The value of a condition in three-valued logic, by the domains of a box: true, false, or undecided.
 
 ghost use Rattle.std.specs.Prelude.{◌≡◌, ◌⊎◌, ◌↔◌, ℕ, ◌^◌, ◌<◌, IfSome, IsTrue, length, true};
 ghost use Rattle.lit_read.specs.Litmus.{condition_of};
@@ -25,9 +25,9 @@ use lit_valid::laws::laws_below;
 #[derive(Clone, Copy, Debug, PartialEq, Eq)]
 pub(crate) enum Decided {
     /// It has this value by any sources in the domains.
-    Comes(bool),
-    /// It is open: it depends on the byte that the byte read at a place reads.
-    Hangs(usize),
+    Known(bool),
+    /// It depends on the byte that the byte read at this place reads.
+    Undecided(usize),
 }
 
 impl Decided {
@@ -36,8 +36,8 @@ impl Decided {
         ensures { result ≡ opposite_of self }
     {
         match self {
-            Decided::Comes(value) => Decided::Comes(!value),
-            Decided::Hangs(place) => Decided::Hangs(place),
+            Decided::Known(value) => Decided::Known(!value),
+            Decided::Undecided(place) => Decided::Undecided(place),
         }
     }
 }
@@ -76,12 +76,12 @@ impl Problem<'_> {
         let _events = self.events();
         let storing = self.storing(domains, place, value);
         let Some(_some) = storing.split_first() else {
-            return Decided::Comes(false);
+            return Decided::Known(false);
         };
         let Some(_other) = domains[place].difference(storing).split_first() else {
-            return Decided::Comes(true);
+            return Decided::Known(true);
         };
-        Decided::Hangs(place)
+        Decided::Undecided(place)
     }
 
     /// Whether a read has a value, by the sources in the domains of its bytes.
@@ -96,18 +96,18 @@ impl Problem<'_> {
         let event = event_at(self.events(), read);
         // A number with more bytes than the read is never its value, whatever its low bytes are.
         if !fits(value, event.size) {
-            return Decided::Comes(false);
+            return Decided::Known(false);
         }
         let bytes = value.to_le_bytes();
-        let mut decided = Decided::Comes(true);
+        let mut decided = Decided::Known(true);
         for place in 0..self.reads() {
             let at = self.byte_read(place);
             if usize::from(at.read) == read {
                 match self.byte_is(domains, place, bytes[usize::from(at.byte - event.first)]) {
-                    Decided::Comes(true) => {}
-                    // One byte that can't be that of the number decides, even if others are open (decision 29).
-                    Decided::Comes(false) => return Decided::Comes(false),
-                    Decided::Hangs(open) => decided = Decided::Hangs(open),
+                    Decided::Known(true) => {}
+                    // One byte that can't be that of the number decides, even if others are undecided (decision 29).
+                    Decided::Known(false) => return Decided::Known(false),
+                    Decided::Undecided(open) => decided = Decided::Undecided(open),
                 }
             }
         }
@@ -137,7 +137,7 @@ impl Problem<'_> {
         laws_below();
         match self.observed_read(agent, reg) {
             Some(read) => self.read_is(domains, read, value),
-            None => Decided::Comes(value == 0),
+            None => Decided::Known(value == 0),
         }
     }
 
@@ -148,23 +148,23 @@ impl Problem<'_> {
     {
         match condition {
             Cond::Any(members) => {
-                let mut decided = Decided::Comes(false);
+                let mut decided = Decided::Known(false);
                 'any: for member in members {
                     match self.decide(domains, member) {
-                        Decided::Comes(true) => return Decided::Comes(true),
-                        Decided::Comes(false) => {}
-                        Decided::Hangs(place) => decided = Decided::Hangs(place),
+                        Decided::Known(true) => return Decided::Known(true),
+                        Decided::Known(false) => {}
+                        Decided::Undecided(place) => decided = Decided::Undecided(place),
                     }
                 }
                 decided
             }
             Cond::All(members) => {
-                let mut decided = Decided::Comes(true);
+                let mut decided = Decided::Known(true);
                 'all: for member in members {
                     match self.decide(domains, member) {
-                        Decided::Comes(false) => return Decided::Comes(false),
-                        Decided::Comes(true) => {}
-                        Decided::Hangs(place) => decided = Decided::Hangs(place),
+                        Decided::Known(false) => return Decided::Known(false),
+                        Decided::Known(true) => {}
+                        Decided::Undecided(place) => decided = Decided::Undecided(place),
                     }
                 }
                 decided
@@ -188,8 +188,8 @@ impl Problem<'_> {
         ensures { IsOutcomeProspect (box_with self.now domains.now) class result }
     {
         match self.decide(domains, self.combination.test().check()) {
-            Decided::Hangs(place) => Prospect::Open(place),
-            Decided::Comes(met) => {
+            Decided::Undecided(place) => Prospect::Open(place),
+            Decided::Known(met) => {
                 if met == (class == Class::Met) {
                     Prospect::Each
                 } else {

@@ -164,7 +164,7 @@ impl Problem<'_> {
     }
 
     /// The sources in the domain of the byte read at a place that can't be pruned. The frame's happens-before is acyclic.
-    fn left(&self, frame: &Frame, place: usize) -> EventSet
+    fn unpruned(&self, frame: &Frame, place: usize) -> EventSet
         requires place { place < length (byte_reads (events_on self.now)) }
         requires contained { IsContained (box_of self.now frame.now) frame.now }
         requires acyclic { (e : ℕ) → ¬ Holds frame.now.happens_before.rows e e }
@@ -207,7 +207,7 @@ impl Problem<'_> {
         completions_have_no_prunable_source();
         // For the prover: the events lie in the test's block, as the law requires.
         let _events = self.events();
-        let left = self.left(&*frame, place);
+        let left = self.unpruned(&*frame, place);
         if left.is_empty() {
             return Pruned::Empty;
         }

@@ -2,7 +2,7 @@ use Rattle.lit_solve.proofs.Words.{byte_read_at, HasEvent, Holds, IsCoherentRead
 use Rattle.lit_solve.specs.Box.{HasSource, events_on}
 use Rattle.lit_solve.specs.Prunable.{IsPrunable}
 use Rattle.lit_solve.specs.Internal.Frames.{box_of}
-use Rattle.lit_solve.proofs.problem.Problem.left.Given as goal
+use Rattle.lit_solve.proofs.problem.Problem.unpruned.Given as goal
 
 abbrev pub invariant-loop-source : goal.invariant-loop-source
 invariant-loop-source l = record {

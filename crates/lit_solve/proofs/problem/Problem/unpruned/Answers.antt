@@ -4,7 +4,7 @@ use Rattle.lit_solve.specs.Box.{HasSource, events_on}
 use Rattle.lit_solve.specs.Prunable.{IsPrunable}
 use Rattle.lit_solve.specs.Internal.Frames.{box_of}
 use Rattle.lit_solve.proofs.PruningLemmas.{source_known}
-use Rattle.lit_solve.proofs.problem.Problem.left.Goals as goal
+use Rattle.lit_solve.proofs.problem.Problem.unpruned.Goals as goal
 
 pub is_prunable-requires-clause-source : goal.is_prunable-requires-clause-source
 is_prunable-requires-clause-source c =
