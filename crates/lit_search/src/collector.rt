@@ -96,6 +96,7 @@ impl<'p> Collector<'p> {
                 Ok(())
             }
             Err(fault) => {
+                // Takes back what the refused call recorded (decision 46).
                 self.table.truncate(count);
                 Err(fault.into())
             }

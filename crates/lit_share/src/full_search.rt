@@ -100,6 +100,7 @@ fn merged<P: Drop>(
     ensures reported { IfOk result (λ r. IsReport plan.now (in_pieces (length (choices_of plan.now)) _cut (all_draws r.0.items)) r.1) }
 {
     let mut places = Vec::with_capacity(alloc, workers.len())?;
+    // The merge starts from the report of no choices.
     let mut found = Collector::new(alloc, &*plan).into_found()?;
     while let Some(worker) = workers.pop() {
         let Worker::Ended(place, answer) = worker else {

@@ -118,6 +118,7 @@ fn example_of(alloc: Global, plan: &Plan<'_>, choice: u64) -> Result<Example, Sh
     ensures choice { IfOk result (λ example. example.choice ≡ choice) }
     ensures order { IfOk result (λ example. HasLeastOrder plan.now choice example.order.items) }
 {
+    // The desk has only the choice's number: a search of this one choice finds its memory-order.
     let found = search_range(alloc, plan, choice, choice + 1)?;
     let order = found.example(0).order.clone()?;
     Ok(Example { choice, order })

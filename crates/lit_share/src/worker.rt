@@ -35,6 +35,7 @@ pub(crate) fn workers_at<P: Drop, A: Drop>(
         let Some(pass) = passes.pop() else {
             unreachable!()
         };
+        // Places are taken from the back, so their number afterwards is the worker's own.
         workers.push(Worker::Ready(places.len(), place, pass))?;
     }
     Ok(workers)

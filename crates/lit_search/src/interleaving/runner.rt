@@ -121,6 +121,7 @@ impl<'t> Runner<'t> {
         ensures done { IfOk result (λ _. record { block = block.new; registers = self.new.registers }
             ≡ (accessed (from_access self.old.registers self.old.left) (record { block = block.old; registers = self.old.registers })).1) }
     {
+        // Where no access is left, `next` still takes the remaining `if`s (decision 47).
         if let Some(access) = self.next()? {
             self.carry_out(access, block);
         }
