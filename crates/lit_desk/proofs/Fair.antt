@@ -1,4 +1,4 @@
--- The rule of a desk holds of the accounts in any order, and each step of the seat at the front keeps it.
+-- The rule of a desk holds of the accounts in any order, and each step of the seat at the front preserves it.
 use Rattle.std.proofs.Common.{◌≡◌, ℕ, suc, ◌+◌, ◌<◌, ◌≤◌, Bool, true, false, cond, leb, min, Some, List, [], ◌∷◌, ◌++◌, length, filter, ⊎_elim, refl, sym, ap, ◌∙◌, subst, append_assoc, length-append, arith}
 use Rattle.std.specs.Prelude.{All}
 use Rattle.std.specs.List.Sorted.{IsPermutation}
@@ -11,21 +11,21 @@ use Rattle.lit_desk.specs.declared.class.Class2.TheVariants.{Met, Unmet}
 use Rattle.lit_desk.specs.declared.rule.Terms.{Terms}
 use Rattle.lit_desk.specs.declared.words.TheConstants.{NONE_TOLD}
 use Rattle.lit_desk.specs.Accounts.{new_account, took, told, saw}
-use Rattle.lit_desk.specs.Internal.Gathered.{joined_accounts}
+use Rattle.lit_desk.specs.Internal.Gathered.{merged_accounts}
 use Rattle.lit_desk.specs.Internal.Words.{number_in}
-use Rattle.lit_desk.specs.Internal.Rule.{numbers_below, all_tickets, late_of, all_told_in, all_seen_in, IsKept, AreFair}
-use Rattle.lit_desk.proofs.Alike.{AreAlike}
+use Rattle.lit_desk.specs.Internal.Rule.{numbers_below, all_tickets, late_of, all_told_in, all_seen_in, IsLeastTold, AreFair}
+use Rattle.lit_desk.proofs.Equivalent.{AreEquivalent}
 use Rattle.lit_desk.proofs.Lists.{sum_at_most, first_changed, below_all}
-use Rattle.lit_desk.proofs.Kept.{All-front, more_moved, kept_moved, kept_told, kept_seen}
+use Rattle.lit_desk.proofs.LeastTold.{All-front, more_moved, least_told_permuted, least_told_after_tell, least_told_after_look}
 
-pub fair_alike : (t : Terms) (n m u : ℕ) (xs ys : List Account) → AreAlike xs ys → AreFair t n m u xs → AreFair t n m u ys
-fair_alike t n m u xs ys a h = record {
+pub fair_equivalent : (t : Terms) (n m u : ℕ) (xs ys : List Account) → AreEquivalent xs ys → AreFair t n m u xs → AreFair t n m u ys
+fair_equivalent t n m u xs ys a h = record {
   tickets = IsPermutation-trans (all_tickets ys) (all_tickets xs) (numbers_below n) (IsPermutation-sym (all_tickets xs) (all_tickets ys) (a.joined (λ v. v.tickets))) h.tickets;
   late = All-permutation (λ v. length (late_of t.pieces v) ≤ v.places) xs ys a.moved h.late;
   places = sum_by-IsPermutation (λ v. v.places) xs ys a.moved ∙ h.places;
   reached = omega (arith, h.reached, sum_by-IsPermutation (λ v. length (late_of t.pieces v)) xs ys a.moved);
-  met_kept = kept_moved m (all_told_in Met xs) (all_told_in Met ys) (all_seen_in Met xs) (all_seen_in Met ys) (a.joined (λ v. v.met.told)) (a.joined (λ v. v.met.seen)) h.met_kept;
-  unmet_kept = kept_moved u (all_told_in Unmet xs) (all_told_in Unmet ys) (all_seen_in Unmet xs) (all_seen_in Unmet ys) (a.joined (λ v. v.unmet.told)) (a.joined (λ v. v.unmet.seen)) h.unmet_kept;
+  met_least = least_told_permuted m (all_told_in Met xs) (all_told_in Met ys) (all_seen_in Met xs) (all_seen_in Met ys) (a.joined (λ v. v.met.told)) (a.joined (λ v. v.met.seen)) h.met_least;
+  unmet_least = least_told_permuted u (all_told_in Unmet xs) (all_told_in Unmet ys) (all_seen_in Unmet xs) (all_seen_in Unmet ys) (a.joined (λ v. v.unmet.told)) (a.joined (λ v. v.unmet.seen)) h.unmet_least;
   spent = All-permutation (λ v. v.places ≡ 0 → v ≡ new_account 0) xs ys a.moved h.spent;
 }
 
@@ -57,8 +57,8 @@ fair_took t n m u v vs none some h =
           (λ (c : (leb t.pieces n ≡ true) × (t.pieces ≤ n)). let now : length (late_of t.pieces (took v n)) ≡ length (late_of t.pieces v) + 1 = one ∙ ap (λ b. length (late_of t.pieces v) + cond b 1 0) c.0 in omega (arith, h.reached, sum_by-cons LateOf v vs, sum_by-cons LateOf (took v n) vs))
           (λ (c : (leb t.pieces n ≡ false) × (n < t.pieces)). omega arith)
           (leb_tells t.pieces n);
-      met_kept = h.met_kept;
-      unmet_kept = h.unmet_kept;
+      met_least = h.met_least;
+      unmet_least = h.unmet_least;
       spent = first_changed (λ x. x.places ≡ 0 → x ≡ new_account 0) v (took v n) vs (λ e. absurd (omega arith)) h.spent;
     }
   where
@@ -72,7 +72,7 @@ fair_above t n m u v vs h = All-front (λ k. k < n) v.tickets (all_tickets vs) (
 
 -- a seat that stands for a place changes its numbers, and a word goes with them
 changed : (t : Terms) (n m u m' u' : ℕ) (v w : Account) (vs : List Account) → w.tickets ≡ v.tickets → w.places ≡ v.places → 0 < v.places
-    → IsKept m' (all_told_in Met (w ∷ vs)) (all_seen_in Met (w ∷ vs)) → IsKept u' (all_told_in Unmet (w ∷ vs)) (all_seen_in Unmet (w ∷ vs))
+    → IsLeastTold m' (all_told_in Met (w ∷ vs)) (all_seen_in Met (w ∷ vs)) → IsLeastTold u' (all_told_in Unmet (w ∷ vs)) (all_seen_in Unmet (w ∷ vs))
     → AreFair t n m u (v ∷ vs) → AreFair t n m' u' (w ∷ vs)
 changed t n m u m' u' v w vs tickets places some met unmet h =
     let LateOf : Account → ℕ = λ x. length (late_of t.pieces x) in
@@ -82,26 +82,26 @@ changed t n m u m' u' v w vs tickets places some met unmet h =
       late = first_changed (λ x. length (late_of t.pieces x) ≤ x.places) v w vs (omega arith) h.late;
       places = omega (arith, h.places, sum_by-cons (λ (x : Account). x.places) v vs, sum_by-cons (λ (x : Account). x.places) w vs);
       reached = omega (arith, h.reached, sum_by-cons LateOf v vs, sum_by-cons LateOf w vs);
-      met_kept = met;
-      unmet_kept = unmet;
+      met_least = met;
+      unmet_least = unmet;
       spent = first_changed (λ x. x.places ≡ 0 → x ≡ new_account 0) v w vs (λ e. absurd (omega arith)) h.spent;
     }
 
 pub fair_told_met : (t : Terms) (n m u k : ℕ) (v : Account) (vs : List Account) → k < NONE_TOLD → 0 < v.places → AreFair t n m u (v ∷ vs) → AreFair t n (min m k) u (told Met v k ∷ vs)
-fair_told_met t n m u k v vs small some h = changed t n m u (min m k) u v (told Met v k) vs refl refl some (kept_told m k v.met.told (all_told_in Met vs) (all_seen_in Met (v ∷ vs)) small h.met_kept) h.unmet_kept h
+fair_told_met t n m u k v vs small some h = changed t n m u (min m k) u v (told Met v k) vs refl refl some (least_told_after_tell m k v.met.told (all_told_in Met vs) (all_seen_in Met (v ∷ vs)) small h.met_least) h.unmet_least h
 
 pub fair_told_unmet : (t : Terms) (n m u k : ℕ) (v : Account) (vs : List Account) → k < NONE_TOLD → 0 < v.places → AreFair t n m u (v ∷ vs) → AreFair t n m (min u k) (told Unmet v k ∷ vs)
-fair_told_unmet t n m u k v vs small some h = changed t n m u m (min u k) v (told Unmet v k) vs refl refl some h.met_kept (kept_told u k v.unmet.told (all_told_in Unmet vs) (all_seen_in Unmet (v ∷ vs)) small h.unmet_kept) h
+fair_told_unmet t n m u k v vs small some h = changed t n m u m (min u k) v (told Unmet v k) vs refl refl some h.met_least (least_told_after_tell u k v.unmet.told (all_told_in Unmet vs) (all_seen_in Unmet (v ∷ vs)) small h.unmet_least) h
 
 pub fair_saw_met : (t : Terms) (n m u : ℕ) (v : Account) (vs : List Account) → number_in m ≡ Some m → 0 < v.places → AreFair t n m u (v ∷ vs) → AreFair t n m u (saw Met v m ∷ vs)
-fair_saw_met t n m u v vs told some h = changed t n m u m u v (saw Met v m) vs refl refl some (kept_seen m (all_told_in Met (v ∷ vs)) v.met.seen (all_seen_in Met vs) told h.met_kept) h.unmet_kept h
+fair_saw_met t n m u v vs told some h = changed t n m u m u v (saw Met v m) vs refl refl some (least_told_after_look m (all_told_in Met (v ∷ vs)) v.met.seen (all_seen_in Met vs) told h.met_least) h.unmet_least h
 
 pub fair_saw_unmet : (t : Terms) (n m u : ℕ) (v : Account) (vs : List Account) → number_in u ≡ Some u → 0 < v.places → AreFair t n m u (v ∷ vs) → AreFair t n m u (saw Unmet v u ∷ vs)
-fair_saw_unmet t n m u v vs told some h = changed t n m u m u v (saw Unmet v u) vs refl refl some h.met_kept (kept_seen u (all_told_in Unmet (v ∷ vs)) v.unmet.seen (all_seen_in Unmet vs) told h.unmet_kept) h
+fair_saw_unmet t n m u v vs told some h = changed t n m u m u v (saw Unmet v u) vs refl refl some h.met_least (least_told_after_look u (all_told_in Unmet (v ∷ vs)) v.unmet.seen (all_seen_in Unmet vs) told h.unmet_least) h
 
--- a seat where nothing was done leaves one of its places to another
-pub fair_left : (t : Terms) (n m u k : ℕ) (vs : List Account) → AreFair t n m u (new_account (suc k) ∷ vs) → AreFair t n m u (new_account 1 ∷ new_account k ∷ vs)
-fair_left t n m u k vs h =
+-- a seat where nothing was done gives one of its places to another
+pub fair_given : (t : Terms) (n m u k : ℕ) (vs : List Account) → AreFair t n m u (new_account (suc k) ∷ vs) → AreFair t n m u (new_account 1 ∷ new_account k ∷ vs)
+fair_given t n m u k vs h =
     let Late : Account → Type 0 = λ x. length (late_of t.pieces x) ≤ x.places in
     let Spent : Account → Type 0 = λ x. x.places ≡ 0 → x ≡ new_account 0 in
     let Places : Account → ℕ = λ x. x.places in record {
@@ -109,17 +109,17 @@ fair_left t n m u k vs h =
       late = All-cons Late (new_account 1) (new_account k ∷ vs) (omega arith) (first_changed Late (new_account (suc k)) (new_account k) vs (omega arith) h.late);
       places = omega (arith, h.places, sum_by-cons Places (new_account 1) (new_account k ∷ vs), sum_by-cons Places (new_account k) vs, sum_by-cons Places (new_account (suc k)) vs);
       reached = h.reached;
-      met_kept = h.met_kept;
-      unmet_kept = h.unmet_kept;
+      met_least = h.met_least;
+      unmet_least = h.unmet_least;
       spent = All-cons Spent (new_account 1) (new_account k ∷ vs) (λ e. absurd (omega arith)) (first_changed Spent (new_account (suc k)) (new_account k) vs (λ e. ap new_account e) h.spent);
     }
 
--- the numbers of a class, where two seats' lists become one's
-kept_joined : (w : ℕ) (rs bs ts cs ds ss : List ℕ) → IsKept w (rs ++ (bs ++ ts)) (cs ++ (ds ++ ss)) → IsKept w ((rs ++ bs) ++ ts) ((cs ++ ds) ++ ss)
-kept_joined w rs bs ts cs ds ss h = subst (λ l. IsKept w l ((cs ++ ds) ++ ss)) (sym (append_assoc rs bs ts)) (subst (λ l. IsKept w (rs ++ (bs ++ ts)) l) (sym (append_assoc cs ds ss)) h)
+-- the numbers of a class, where the lists of two seats become those of one
+least_told_merged : (w : ℕ) (rs bs ts cs ds ss : List ℕ) → IsLeastTold w (rs ++ (bs ++ ts)) (cs ++ (ds ++ ss)) → IsLeastTold w ((rs ++ bs) ++ ts) ((cs ++ ds) ++ ss)
+least_told_merged w rs bs ts cs ds ss h = subst (λ l. IsLeastTold w l ((cs ++ ds) ++ ss)) (sym (append_assoc rs bs ts)) (subst (λ l. IsLeastTold w (rs ++ (bs ++ ts)) l) (sym (append_assoc cs ds ss)) h)
 
 -- a seat takes in another, which is spent
-pub fair_joined : (t : Terms) (n m u : ℕ) (v w : Account) (vs : List Account) → AreFair t n m u (w ∷ v ∷ vs) → AreFair t n m u (new_account 0 ∷ joined_accounts w v ∷ vs)
+pub fair_joined : (t : Terms) (n m u : ℕ) (v w : Account) (vs : List Account) → AreFair t n m u (w ∷ v ∷ vs) → AreFair t n m u (new_account 0 ∷ merged_accounts w v ∷ vs)
 fair_joined t n m u v w vs h =
     let LateOf : Account → ℕ = λ x. length (late_of t.pieces x) in
     let Late : Account → Type 0 = λ x. length (late_of t.pieces x) ≤ x.places in
@@ -129,20 +129,20 @@ fair_joined t n m u v w vs h =
     let late_vs = All-tail Late w (v ∷ vs) h.late in
     let late_v = All-head Late v vs late_vs in
     let spent_vs = All-tail Spent w (v ∷ vs) h.spent in
-    let both : length (late_of t.pieces (joined_accounts w v)) ≡ length (late_of t.pieces w) + length (late_of t.pieces v) = ap length (filter-append (λ k. leb t.pieces k) w.tickets v.tickets) ∙ length-append (late_of t.pieces w) (late_of t.pieces v) in record {
+    let both : length (late_of t.pieces (merged_accounts w v)) ≡ length (late_of t.pieces w) + length (late_of t.pieces v) = ap length (filter-append (λ k. leb t.pieces k) w.tickets v.tickets) ∙ length-append (late_of t.pieces w) (late_of t.pieces v) in record {
       tickets = subst (λ l. IsPermutation l (numbers_below n)) (sym (append_assoc w.tickets v.tickets (all_tickets vs))) h.tickets;
-      late = All-cons Late (new_account 0) (joined_accounts w v ∷ vs) (omega arith) (first_changed Late v (joined_accounts w v) vs (omega arith) late_vs);
-      places = omega (arith, h.places, sum_by-cons Places w (v ∷ vs), sum_by-cons Places v vs, sum_by-cons Places (new_account 0) (joined_accounts w v ∷ vs), sum_by-cons Places (joined_accounts w v) vs);
-      reached = omega (arith, h.reached, sum_by-cons LateOf w (v ∷ vs), sum_by-cons LateOf v vs, sum_by-cons LateOf (new_account 0) (joined_accounts w v ∷ vs), sum_by-cons LateOf (joined_accounts w v) vs);
-      met_kept = kept_joined m w.met.told v.met.told (all_told_in Met vs) w.met.seen v.met.seen (all_seen_in Met vs) h.met_kept;
-      unmet_kept = kept_joined u w.unmet.told v.unmet.told (all_told_in Unmet vs) w.unmet.seen v.unmet.seen (all_seen_in Unmet vs) h.unmet_kept;
+      late = All-cons Late (new_account 0) (merged_accounts w v ∷ vs) (omega arith) (first_changed Late v (merged_accounts w v) vs (omega arith) late_vs);
+      places = omega (arith, h.places, sum_by-cons Places w (v ∷ vs), sum_by-cons Places v vs, sum_by-cons Places (new_account 0) (merged_accounts w v ∷ vs), sum_by-cons Places (merged_accounts w v) vs);
+      reached = omega (arith, h.reached, sum_by-cons LateOf w (v ∷ vs), sum_by-cons LateOf v vs, sum_by-cons LateOf (new_account 0) (merged_accounts w v ∷ vs), sum_by-cons LateOf (merged_accounts w v) vs);
+      met_least = least_told_merged m w.met.told v.met.told (all_told_in Met vs) w.met.seen v.met.seen (all_seen_in Met vs) h.met_least;
+      unmet_least = least_told_merged u w.unmet.told v.unmet.told (all_told_in Unmet vs) w.unmet.seen v.unmet.seen (all_seen_in Unmet vs) h.unmet_least;
       spent =
-          All-cons Spent (new_account 0) (joined_accounts w v ∷ vs) (λ _. refl)
-          (first_changed Spent v (joined_accounts w v) vs
+          All-cons Spent (new_account 0) (merged_accounts w v ∷ vs) (λ _. refl)
+          (first_changed Spent v (merged_accounts w v) vs
           (λ e.
           let w_none : w.places ≡ 0 = omega arith in
           let v_none : v.places ≡ 0 = omega arith in
-          ap (λ (x : Account). joined_accounts x v) (All-head Spent w (v ∷ vs) h.spent w_none) ∙ ap (λ (x : Account). joined_accounts (new_account 0) x) (All-head Spent v vs spent_vs v_none))
+          ap (λ (x : Account). merged_accounts x v) (All-head Spent w (v ∷ vs) h.spent w_none) ∙ ap (λ (x : Account). merged_accounts (new_account 0) x) (All-head Spent v vs spent_vs v_none))
           spent_vs);
     }
 
@@ -157,7 +157,7 @@ fair_sat t n m u vs h =
       late = All-cons Late (new_account 0) vs (omega arith) h.late;
       places = omega (arith, h.places, sum_by-cons Places (new_account 0) vs);
       reached = omega (arith, h.reached, sum_by-cons LateOf (new_account 0) vs);
-      met_kept = h.met_kept;
-      unmet_kept = h.unmet_kept;
+      met_least = h.met_least;
+      unmet_least = h.unmet_least;
       spent = All-cons Spent (new_account 0) vs (λ _. refl) h.spent;
     }

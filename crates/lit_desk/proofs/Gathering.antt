@@ -20,13 +20,13 @@ use Rattle.lit_desk.specs.Accounts.{new_account, numbers_in}
 use Rattle.lit_desk.specs.Desk.{DeskName, PlaceLists, IsPlaceOf, IsDone, IsLeastOf, draws_of, all_draws, all_told, all_seen}
 use Rattle.lit_desk.specs.Internal.Gathered.{gathered_account}
 use Rattle.lit_desk.specs.Internal.Words.{number_in}
-use Rattle.lit_desk.specs.Internal.Rule.{numbers_below, all_told_in, IsKept, AreFair}
-use Rattle.lit_desk.proofs.Alike.{without, front_alike}
-use Rattle.lit_desk.proofs.Lists.{contains_cases, contains_none, filter_keeps, filter_kept, distinct_filter, distinct_apart, below_all, below_contains, below_distinct}
-use Rattle.lit_desk.proofs.Fair.{fair_alike}
+use Rattle.lit_desk.specs.Internal.Rule.{numbers_below, all_told_in, IsLeastTold, AreFair}
+use Rattle.lit_desk.proofs.Equivalent.{without, front_equivalent}
+use Rattle.lit_desk.proofs.Lists.{contains_cases, contains_none, filter_retains, filter_retained, distinct_filter, distinct_apart, below_all, below_contains, below_distinct}
+use Rattle.lit_desk.proofs.Fair.{fair_equivalent}
 use Rattle.lit_desk.proofs.Moves.{Holds}
 
--- where no place is left to a seat, it has done nothing
+-- a seat that stands for no place has done nothing
 none_left : (vs : List Account) → sum_by (λ (v : Account). v.places) vs ≡ 0 → All (λ v. v.places ≡ 0 → v ≡ new_account 0) vs → All (λ v. v ≡ new_account 0) vs
 none_left [] e h = All-nil (λ v. v ≡ new_account 0)
 none_left (v ∷ vs) e h =
@@ -41,8 +41,8 @@ nothing_in f none (v ∷ vs) h = ap (λ l. l ++ flat_map f vs) (ap f (All-head (
 -- what the rule says of a seat that stands for all places
 pub record IsWhole (n m u : ℕ) (v : Account) : Type 0 where
   pub tickets : IsPermutation v.tickets (numbers_below n)
-  pub met_kept : IsKept m v.met.told v.met.seen
-  pub unmet_kept : IsKept u v.unmet.told v.unmet.seen
+  pub met_least : IsLeastTold m v.met.told v.met.seen
+  pub unmet_least : IsLeastTold u v.unmet.told v.unmet.seen
 
 alone : (f : Account → List ℕ) → f (new_account 0) ≡ [] → (v : Account) (vs : List Account) → All (λ x. x ≡ new_account 0) vs → flat_map f (v ∷ vs) ≡ f v
 alone f none v vs h = ap (λ l. f v ++ l) (nothing_in f none vs h) ∙ append-nil (f v)
@@ -53,8 +53,8 @@ whole t n m u v vs all h =
     let places = h.places in
     let none = none_left vs (omega arith) (All-tail (λ x. x.places ≡ 0 → x ≡ new_account 0) v vs h.spent) in record {
       tickets = subst (λ l. IsPermutation l (numbers_below n)) (alone (λ x. x.tickets) refl v vs none) h.tickets;
-      met_kept = subst (λ l. IsKept m l v.met.seen) (alone (λ x. x.met.told) refl v vs none) (subst (λ l. IsKept m (all_told_in Met (v ∷ vs)) l) (alone (λ x. x.met.seen) refl v vs none) h.met_kept);
-      unmet_kept = subst (λ l. IsKept u l v.unmet.seen) (alone (λ x. x.unmet.told) refl v vs none) (subst (λ l. IsKept u (all_told_in Unmet (v ∷ vs)) l) (alone (λ x. x.unmet.seen) refl v vs none) h.unmet_kept);
+      met_least = subst (λ l. IsLeastTold m l v.met.seen) (alone (λ x. x.met.told) refl v vs none) (subst (λ l. IsLeastTold m (all_told_in Met (v ∷ vs)) l) (alone (λ x. x.met.seen) refl v vs none) h.met_least);
+      unmet_least = subst (λ l. IsLeastTold u l v.unmet.seen) (alone (λ x. x.unmet.told) refl v vs none) (subst (λ l. IsLeastTold u (all_told_in Unmet (v ∷ vs)) l) (alone (λ x. x.unmet.seen) refl v vs none) h.unmet_least);
     }
 
 gathered_told : (class : Class2) (ps : List PlaceLists) → (numbers_in class (gathered_account ps)).told ≡ all_told class ps
@@ -96,14 +96,14 @@ ticket_below ts n x h there = All-contains (λ k. k < n) (numbers_below n) x (be
 
 below_drawn : (ts : List ℕ) (n pieces x : ℕ) → IsPermutation ts (numbers_below n) → Contains (filter (λ k. ltb k pieces) ts) x → x < min n pieces
 below_drawn ts n pieces x h there =
-    let (ticket, small) = filter_kept (λ k. ltb k pieces) ts x there in
+    let (ticket, small) = filter_retained (λ k. ltb k pieces) ts x there in
     let below = ticket_below ts n x h ticket in
     ⊎_elim (λ (t : (leb (suc x) pieces ≡ true) × (suc x ≤ pieces)). omega arith) (λ (t : (leb (suc x) pieces ≡ false) × (pieces < suc x)). absurd (cc (small, t.0))) (leb_tells (suc x) pieces)
 
 drawn_below : (ts : List ℕ) (n pieces x : ℕ) → IsPermutation ts (numbers_below n) → x < min n pieces → Contains (filter (λ k. ltb k pieces) ts) x
 drawn_below ts n pieces x h less =
     let ticket = Contains-permutation (numbers_below n) ts x (IsPermutation-sym ts (numbers_below n) h) (below_contains n x (omega arith)) in
-    filter_keeps (λ k. ltb k pieces) ts x ticket (⊎_elim (λ (t : (leb (suc x) pieces ≡ true) × (suc x ≤ pieces)). t.0) (λ (t : (leb (suc x) pieces ≡ false) × (pieces < suc x)). absurd (omega arith)) (leb_tells (suc x) pieces))
+    filter_retains (λ k. ltb k pieces) ts x ticket (⊎_elim (λ (t : (leb (suc x) pieces ≡ true) × (suc x ≤ pieces)). t.0) (λ (t : (leb (suc x) pieces ≡ false) × (pieces < suc x)). absurd (omega arith)) (leb_tells (suc x) pieces))
 
 -- what `close` says, where the words are these
 pub record Closes (desk : DeskName) (places : List PlaceLists) (n m u : ℕ) : Type 0 where
@@ -114,7 +114,7 @@ pub record Closes (desk : DeskName) (places : List PlaceLists) (n m u : ℕ) : T
   pub unmet : IsLeastOf (all_told Unmet places) (number_in u)
   pub seen : (class : Class2) → All (Contains (all_told class places)) (all_seen class places)
 
-seen_were_told : (w : ℕ) (ts ss us rs : List ℕ) → ts ≡ us → ss ≡ rs → IsKept w ts ss → All (Contains us) rs
+seen_were_told : (w : ℕ) (ts ss us rs : List ℕ) → ts ≡ us → ss ≡ rs → IsLeastTold w ts ss → All (Contains us) rs
 seen_were_told w ts ss us rs e f h = subst (λ l. All (Contains l) rs) e (subst (λ l. All (Contains ts) l) f (All-weaker (λ k. Contains ts k × (w ≤ k)) (Contains ts) (λ k x. x.0) ss h.all_seen))
 
 whole_closes : (d : DeskName) (ps : List PlaceLists) (n m u : ℕ) → All (IsPlaceOf d) ps → IsWhole n m u (gathered_account ps) → Closes d ps n m u
@@ -131,14 +131,14 @@ whole_closes d ps n m u own h =
           let own_pieces = ap (λ (e : DeskName). e.pieces) (All-contains (IsPlaceOf d) ps p own (k, within, at)) in
           let below = ticket_below ts n x h.tickets (ticket_gathered ps p x (k, within, at) (j, inside, here)) in
           omega arith;
-      met = subst (λ l. IsLeastOf l (number_in m)) (gathered_told Met ps) h.met_kept.least;
-      unmet = subst (λ l. IsLeastOf l (number_in u)) (gathered_told Unmet ps) h.unmet_kept.least;
+      met = subst (λ l. IsLeastOf l (number_in m)) (gathered_told Met ps) h.met_least.least;
+      unmet = subst (λ l. IsLeastOf l (number_in u)) (gathered_told Unmet ps) h.unmet_least.least;
       seen = λ class. seen_in class ps n m u h;
     }
   where
     seen_in : (class : Class2) (qs : List PlaceLists) (n m u : ℕ) → IsWhole n m u (gathered_account qs) → All (Contains (all_told class qs)) (all_seen class qs)
-    seen_in Met qs n m u w = seen_were_told m (gathered_account qs).met.told (gathered_account qs).met.seen (all_told Met qs) (all_seen Met qs) (gathered_told Met qs) (gathered_seen Met qs) w.met_kept
-    seen_in Unmet qs n m u w = seen_were_told u (gathered_account qs).unmet.told (gathered_account qs).unmet.seen (all_told Unmet qs) (all_seen Unmet qs) (gathered_told Unmet qs) (gathered_seen Unmet qs) w.unmet_kept
+    seen_in Met qs n m u w = seen_were_told m (gathered_account qs).met.told (gathered_account qs).met.seen (all_told Met qs) (all_seen Met qs) (gathered_told Met qs) (gathered_seen Met qs) w.met_least
+    seen_in Unmet qs n m u w = seen_were_told u (gathered_account qs).unmet.told (gathered_account qs).unmet.seen (all_told Unmet qs) (all_seen Unmet qs) (gathered_told Unmet qs) (gathered_seen Unmet qs) w.unmet_least
 
 -- from the last state of the table, which has the words and the account of all places
 pub closes : (t : Terms) (d : DeskName) (ps : List PlaceLists) (words : List ℕ) (homes : List (Unit {0})) (id : ℕ) (v : Account) (n m u : ℕ)
@@ -151,6 +151,6 @@ closes t d ps words homes id v n m u last at_ticket at_met at_unmet is all own =
     let n_is : n' ≡ n = some-injective n' n (sym (ap (λ ws. get_elem? ws TICKET_WORD) these) ∙ at_ticket) in
     let m_is : m' ≡ m = some-injective m' m (sym (ap (λ ws. get_elem? ws MET_WORD) these) ∙ at_met) in
     let u_is : u' ≡ u = some-injective u' u (sym (ap (λ ws. get_elem? ws UNMET_WORD) these) ∙ at_unmet) in
-    let front = fair_alike t n' m' u' s.views (v ∷ without s.views id) (front_alike s.views id v at) fair in
+    let front = fair_equivalent t n' m' u' s.views (v ∷ without s.views id) (front_equivalent s.views id v at) fair in
     let whole_of = subst (λ (a : Account). IsWhole n' m' u' a) is (whole t n' m' u' v (without s.views id) all front) in
     subst (λ k. Closes d ps k m u) n_is (subst (λ k. Closes d ps n' k u) m_is (subst (λ k. Closes d ps n' m' k) u_is (whole_closes d ps n' m' u' own whole_of)))

@@ -1,6 +1,6 @@
-pub mod Alike
+pub mod Equivalent
 pub mod Lists
-pub mod Kept
+pub mod LeastTold
 pub mod Fair
 pub mod Moves
 pub mod Places

@@ -1,4 +1,4 @@
--- Lists: what is contained, what is apart, and sums.
+-- Lists: members, distinct members, and sums.
 use Rattle.std.proofs.Common.{◌≡◌, ◌≢◌, ℕ, zero, suc, ◌<◌, ◌≤◌, ◌⊎◌, Bool, true, false, true≢false, cond, eqb, List, [], ◌∷◌, get_or, filter, sum_by, inl, inr, ⊎_elim, refl, sym, ap, ◌∙◌, subst, arith}
 use Rattle.std.specs.Prelude.{All, AllPairs, Contains}
 use Rattle.std.specs.List.{AllByRecursion, IsDistinct}
@@ -23,27 +23,27 @@ module _ {X : Type 0} where
   pub contains_none : (x : X) → Contains [] x → ⊥
   contains_none x (k, h, e) = omega arith
 
-  kept_beside : (b : Bool) (x n : X) (xs : List X) → Contains xs n → Contains (cond b (x ∷ xs) xs) n
-  kept_beside true x n xs h = contains_later x xs n h
-  kept_beside false x n xs h = h
+  retained_beside : (b : Bool) (x n : X) (xs : List X) → Contains xs n → Contains (cond b (x ∷ xs) xs) n
+  retained_beside true x n xs h = contains_later x xs n h
+  retained_beside false x n xs h = h
 
-  pub filter_keeps : (p : X → Bool) (xs : List X) (n : X) → Contains xs n → p n ≡ true → Contains (filter p xs) n
-  filter_keeps p [] n h passes = absurd (contains_none n h)
-  filter_keeps p (x ∷ xs) n h passes = ⊎_elim
+  pub filter_retains : (p : X → Bool) (xs : List X) (n : X) → Contains xs n → p n ≡ true → Contains (filter p xs) n
+  filter_retains p [] n h passes = absurd (contains_none n h)
+  filter_retains p (x ∷ xs) n h passes = ⊎_elim
       (λ (e : x ≡ n). subst (λ b. Contains (cond b (x ∷ filter p xs) (filter p xs)) n) (sym (ap p e ∙ passes)) (subst (λ y. Contains (x ∷ filter p xs) y) e (contains_here x (filter p xs))))
-      (λ (t : Contains xs n). kept_beside (p x) x n (filter p xs) (filter_keeps p xs n t passes))
+      (λ (t : Contains xs n). retained_beside (p x) x n (filter p xs) (filter_retains p xs n t passes))
       (contains_cases x xs n h)
 
-  kept_from : (p : X → Bool) (b : Bool) (x n : X) (xs : List X) → p x ≡ b → (Contains (filter p xs) n → Contains xs n × (p n ≡ true)) → Contains (cond b (x ∷ filter p xs) (filter p xs)) n → Contains (x ∷ xs) n × (p n ≡ true)
-  kept_from p true x n xs is later h = ⊎_elim
+  retained_from : (p : X → Bool) (b : Bool) (x n : X) (xs : List X) → p x ≡ b → (Contains (filter p xs) n → Contains xs n × (p n ≡ true)) → Contains (cond b (x ∷ filter p xs) (filter p xs)) n → Contains (x ∷ xs) n × (p n ≡ true)
+  retained_from p true x n xs is later h = ⊎_elim
       (λ (e : x ≡ n). (subst (λ y. Contains (x ∷ xs) y) e (contains_here x xs), subst (λ y. p y ≡ true) e is))
       (λ (t : Contains (filter p xs) n). let (there, passes) = later t in (contains_later x xs n there, passes))
       (contains_cases x (filter p xs) n h)
-  kept_from p false x n xs is later h = let (there, passes) = later h in (contains_later x xs n there, passes)
+  retained_from p false x n xs is later h = let (there, passes) = later h in (contains_later x xs n there, passes)
 
-  pub filter_kept : (p : X → Bool) (xs : List X) (n : X) → Contains (filter p xs) n → Contains xs n × (p n ≡ true)
-  filter_kept p [] n h = absurd (contains_none n h)
-  filter_kept p (x ∷ xs) n h = kept_from p (p x) x n xs refl (λ t. filter_kept p xs n t) h
+  pub filter_retained : (p : X → Bool) (xs : List X) (n : X) → Contains (filter p xs) n → Contains xs n × (p n ≡ true)
+  filter_retained p [] n h = absurd (contains_none n h)
+  filter_retained p (x ∷ xs) n h = retained_from p (p x) x n xs refl (λ t. filter_retained p xs n t) h
 
   pub filter_none : (p : X → Bool) (xs : List X) → All (λ x. p x ≡ false) xs → filter p xs ≡ []
   filter_none p [] h = refl

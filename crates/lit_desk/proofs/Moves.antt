@@ -1,4 +1,4 @@
--- Each step of a desk keeps the rule.
+-- Each step of a desk preserves the rule.
 use Rattle.std.proofs.Common.{◌≡◌, ◌≢◌, ℕ, suc, ◌+◌, ◌-◌, ◌%◌, ◌^◌, ◌<◌, ◌≤◌, min, Option, Some, None, List, [], ◌∷◌, ◌++◌, length, set, ⊎_elim, refl, sym, ap, ◌∙◌, subst, add-one, arith}
 use Rattle.std.specs.Prelude.{All, slice_index, MatchOption}
 use Rattle.std.proofs.Math.Nat.{mod-eq_of_lt}
@@ -12,13 +12,13 @@ use Rattle.lit_desk.specs.declared.class.Class2.TheVariants.{Met, Unmet}
 use Rattle.lit_desk.specs.declared.rule.Terms.{Terms}
 use Rattle.lit_desk.specs.declared.words.TheConstants.{NONE_TOLD, TICKET_WORD, MET_WORD, UNMET_WORD}
 use Rattle.lit_desk.specs.Accounts.{new_account, numbers_in, took, told, saw}
-use Rattle.lit_desk.specs.Internal.Gathered.{joined_accounts}
+use Rattle.lit_desk.specs.Internal.Gathered.{merged_accounts}
 use Rattle.lit_desk.specs.Internal.Words.{number_in, word_of}
 use Rattle.lit_desk.specs.Internal.Rule.{late_of, all_told_in, all_seen_in, AreFair, IsFair}
 use Rattle.lit_desk.specs.Internal.Steps.{Takes, Tells, Sees, SeesIn}
-use Rattle.lit_desk.proofs.Alike.{AreAlike, alike_then, alike_below, without, front_alike, set_alike, last_alike, other_place}
-use Rattle.lit_desk.proofs.Kept.{kept_own, number_cases}
-use Rattle.lit_desk.proofs.Fair.{fair_alike, fair_bound, fair_took, fair_above, fair_told_met, fair_told_unmet, fair_saw_met, fair_saw_unmet, fair_left, fair_joined, fair_sat}
+use Rattle.lit_desk.proofs.Equivalent.{AreEquivalent, equivalent_trans, equivalent_cons, without, front_equivalent, set_equivalent, last_equivalent, other_place}
+use Rattle.lit_desk.proofs.LeastTold.{own_numbers_at_least, number_cases}
+use Rattle.lit_desk.proofs.Fair.{fair_equivalent, fair_bound, fair_took, fair_above, fair_told_met, fair_told_unmet, fair_saw_met, fair_saw_unmet, fair_given, fair_joined, fair_sat}
 
 -- the rule, as the table states it
 abbrev pub Holds : Terms → State (Unit {0}) Account → Type 0
@@ -26,10 +26,10 @@ Holds t s = IsFair t s.words s.views
 
 -- a seat's account put in front, and another one put in its place
 fair_front : (t : Terms) (n m u : ℕ) (views : List Account) (id : ℕ) (v : Account) → get_elem? views id ≡ some v → AreFair t n m u views → AreFair t n m u (v ∷ without views id)
-fair_front t n m u views id v at h = fair_alike t n m u views (v ∷ without views id) (front_alike views id v at) h
+fair_front t n m u views id v at h = fair_equivalent t n m u views (v ∷ without views id) (front_equivalent views id v at) h
 
 fair_set : (t : Terms) (n m u : ℕ) (views : List Account) (id : ℕ) (v w : Account) → get_elem? views id ≡ some v → AreFair t n m u (w ∷ without views id) → AreFair t n m u (set views id w)
-fair_set t n m u views id v w at h = fair_alike t n m u (w ∷ without views id) (set views id w) (set_alike views id v w at) h
+fair_set t n m u views id v w at h = fair_equivalent t n m u (w ∷ without views id) (set views id w) (set_equivalent views id v w at) h
 
 pub draws : (t : Terms) (slots id : ℕ) (v : Account) → t.pieces + t.seats + 1 < 2 ^ 64 → length (late_of t.pieces v) ≡ 0 → 0 < v.places
     → Allows (Holds t) slots id (v, []) TICKET_WORD (λ n. (n + 1) % 2 ^ 64) (λ found now. Takes v found now.0 × (now.1 ≡ []))
@@ -97,7 +97,7 @@ looks t slots id v Met stands s h homes at below =
     let rest = without s.views id in
     let front = fair_front t n m u s.views id v at fair in
     let words : set s.words MET_WORD (slice_index s.words MET_WORD) ≡ n ∷ m ∷ u ∷ [] = ap (λ ws. set ws MET_WORD (slice_index ws MET_WORD)) is in
-    let own = kept_own m v.met.told (all_told_in Met rest) v.met.seen (all_seen_in Met rest) front.met_kept in
+    let own = own_numbers_at_least m v.met.told (all_told_in Met rest) v.met.seen (all_seen_in Met rest) front.met_least in
     let (x, keeps_rule, learned) =
     looks_at t (set s.words MET_WORD (slice_index s.words MET_WORD)) s.views id (slice_index s.words MET_WORD) m v Met (ap (λ ws. slice_index ws MET_WORD) is) own (n, m, u, words, fair_set t n m u s.views id v v at front)
     (λ told. (n, m, u, words, fair_set t n m u s.views id v (saw Met v m) at (fair_saw_met t n m u v rest told stands front))) in
@@ -107,40 +107,40 @@ looks t slots id v Unmet stands s h homes at below =
     let rest = without s.views id in
     let front = fair_front t n m u s.views id v at fair in
     let words : set s.words UNMET_WORD (slice_index s.words UNMET_WORD) ≡ n ∷ m ∷ u ∷ [] = ap (λ ws. set ws UNMET_WORD (slice_index ws UNMET_WORD)) is in
-    let own = kept_own u v.unmet.told (all_told_in Unmet rest) v.unmet.seen (all_seen_in Unmet rest) front.unmet_kept in
+    let own = own_numbers_at_least u v.unmet.told (all_told_in Unmet rest) v.unmet.seen (all_seen_in Unmet rest) front.unmet_least in
     let (x, keeps_rule, learned) =
     looks_at t (set s.words UNMET_WORD (slice_index s.words UNMET_WORD)) s.views id (slice_index s.words UNMET_WORD) u v Unmet (ap (λ ws. slice_index ws UNMET_WORD) is) own (n, m, u, words, fair_set t n m u s.views id v v at front)
     (λ told. (n, m, u, words, fair_set t n m u s.views id v (saw Unmet v u) at (fair_saw_unmet t n m u v rest told stands front))) in
     (x, keeps, tt, keeps_rule, (learned, refl))
 
-pub leaves : (t : Terms) (id k : ℕ) → Splits (Holds t) id (new_account (suc k)) (new_account k) (new_account 1)
-leaves t id k s h at =
+pub gives_place : (t : Terms) (id k : ℕ) → Splits (Holds t) id (new_account (suc k)) (new_account k) (new_account 1)
+gives_place t id k s h at =
     let (n, m, u, is, fair) = h in
     let R = without s.views id in
-    let now = fair_left t n m u k R (fair_front t n m u s.views id (new_account (suc k)) at fair) in
+    let now = fair_given t n m u k R (fair_front t n m u s.views id (new_account (suc k)) at fair) in
     let seats = set s.views id (new_account k) in
-    let there = alike_then (new_account 1 ∷ new_account k ∷ R) (new_account 1 ∷ seats) (seats ++ new_account 1 ∷ []) (alike_below (new_account 1) (new_account k ∷ R) seats (set_alike s.views id (new_account (suc k)) (new_account k) at)) (last_alike (new_account 1) seats) in
-    (n, m, u, is, fair_alike t n m u (new_account 1 ∷ new_account k ∷ R) (seats ++ new_account 1 ∷ []) there now)
+    let there = equivalent_trans (new_account 1 ∷ new_account k ∷ R) (new_account 1 ∷ seats) (seats ++ new_account 1 ∷ []) (equivalent_cons (new_account 1) (new_account k ∷ R) seats (set_equivalent s.views id (new_account (suc k)) (new_account k) at)) (last_equivalent (new_account 1) seats) in
+    (n, m, u, is, fair_equivalent t n m u (new_account 1 ∷ new_account k ∷ R) (seats ++ new_account 1 ∷ []) there now)
 
-pub gathers : (t : Terms) (id : ℕ) (v : Account) (other : ℕ) (w : Account) → Joins (Holds t) id v other w (joined_accounts w v) (new_account 0)
+pub gathers : (t : Terms) (id : ℕ) (v : Account) (other : ℕ) (w : Account) → Joins (Holds t) id v other w (merged_accounts w v) (new_account 0)
 gathers t id v other w s h at apart there =
     let (n, m, u, is, fair) = h in
-    let both = joined_accounts w v in
+    let both = merged_accounts w v in
     let was : get_elem? s.views other ≡ some w = ⊎_elim (λ (x : (other ≡ id) × (both ≡ w)). absurd (apart x.0)) (λ (x : (other ≢ id) × (get_elem? s.views other ≡ some w)). x.1) (at_set s.views id other both w there) in
     let (k, found, moved) = other_place s.views id other v w apart at was in
     let R = without s.views other in
     let rest = without R k in
-    let before = alike_then s.views (w ∷ R) (w ∷ v ∷ rest) (front_alike s.views other w was) (alike_below w R (v ∷ rest) (front_alike R k v found)) in
+    let before = equivalent_trans s.views (w ∷ R) (w ∷ v ∷ rest) (front_equivalent s.views other w was) (equivalent_cons w R (v ∷ rest) (front_equivalent R k v found)) in
     let seats = set s.views id both in
-    let taken = set_alike seats other w (new_account 0) there in
-    let after = alike_then (new_account 0 ∷ both ∷ rest) (new_account 0 ∷ without seats other) (set seats other (new_account 0))
-    (subst (λ l. AreAlike (new_account 0 ∷ both ∷ rest) (new_account 0 ∷ l)) (sym (moved both)) (alike_below (new_account 0) (both ∷ rest) (set R k both) (set_alike R k v both found))) taken in
-    (n, m, u, is, fair_alike t n m u (new_account 0 ∷ both ∷ rest) (set seats other (new_account 0)) after (fair_joined t n m u v w rest (fair_alike t n m u s.views (w ∷ v ∷ rest) before fair)))
+    let taken = set_equivalent seats other w (new_account 0) there in
+    let after = equivalent_trans (new_account 0 ∷ both ∷ rest) (new_account 0 ∷ without seats other) (set seats other (new_account 0))
+    (subst (λ l. AreEquivalent (new_account 0 ∷ both ∷ rest) (new_account 0 ∷ l)) (sym (moved both)) (equivalent_cons (new_account 0) (both ∷ rest) (set R k both) (set_equivalent R k v both found))) taken in
+    (n, m, u, is, fair_equivalent t n m u (new_account 0 ∷ both ∷ rest) (set seats other (new_account 0)) after (fair_joined t n m u v w rest (fair_equivalent t n m u s.views (w ∷ v ∷ rest) before fair)))
 
 pub sits : (t : Terms) (slots i : ℕ) → Enters (Holds t) slots i (λ _ w. w ≡ new_account 0)
 sits t slots i s h homes below =
     let (n, m, u, is, fair) = h in
-    (new_account 0, (n, m, u, is, fair_alike t n m u (new_account 0 ∷ s.views) (s.views ++ new_account 0 ∷ []) (last_alike (new_account 0) s.views) (fair_sat t n m u s.views fair)), refl)
+    (new_account 0, (n, m, u, is, fair_equivalent t n m u (new_account 0 ∷ s.views) (s.views ++ new_account 0 ∷ []) (last_equivalent (new_account 0) s.views) (fair_sat t n m u s.views fair)), refl)
 
 -- the same of a seat that holds no slot
 empty_handed : (me : Me (Unit {0}) Account) → me.1 ≡ [] → (me.0, []) ≡ me
@@ -163,8 +163,8 @@ looks_as t slots id me class word is none stands =
     subst (λ w. Allows (Holds t) slots id me w (λ n. n) (λ found now. Sees w me.0 found now.0 × (now.1 ≡ me.1))) (sym is)
     (subst (λ (x : Me (Unit {0}) Account). Allows (Holds t) slots id x (word_of class) (λ n. n) (λ found now. Sees (word_of class) x.0 found now.0 × (now.1 ≡ x.1))) (empty_handed me none) (looks t slots id me.0 class stands))
 
-pub leaves_as : (t : Terms) (id : ℕ) (v : Account) (k : ℕ) → v ≡ new_account (suc k) → Splits (Holds t) id v (new_account (v.places - 1)) (new_account 1)
-leaves_as t id v k is = subst (λ (x : Account). Splits (Holds t) id x (new_account (x.places - 1)) (new_account 1)) (sym is) (subst (λ j. Splits (Holds t) id (new_account (suc k)) (new_account j) (new_account 1)) (sym (less_one k)) (leaves t id k))
+pub gives_place_as : (t : Terms) (id : ℕ) (v : Account) (k : ℕ) → v ≡ new_account (suc k) → Splits (Holds t) id v (new_account (v.places - 1)) (new_account 1)
+gives_place_as t id v k is = subst (λ (x : Account). Splits (Holds t) id x (new_account (x.places - 1)) (new_account 1)) (sym is) (subst (λ j. Splits (Holds t) id (new_account (suc k)) (new_account j) (new_account 1)) (sym (less_one k)) (gives_place t id k))
   where
     less_one : (j : ℕ) → suc j - 1 ≡ j
     less_one j = omega arith

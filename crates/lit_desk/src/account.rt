@@ -1,4 +1,4 @@
-//! What one place did. Contracts and the desk's rule speak of it; no value of it is made.
+//! Accounts: what one place did. Only contracts and the desk's rule use them; the program makes no value of them.
 
 use std::collections::LinkedList;
 
@@ -8,7 +8,7 @@ pub struct Numbers {
     pub seen: LinkedList<u64>,
 }
 
-/// The tickets that a place took, its numbers in each class, and how many places it stands for.
+/// The tickets that a seat took, its numbers in each class, and how many places it stands for.
 pub struct Account {
     pub tickets: LinkedList<u64>,
     pub met: Numbers,

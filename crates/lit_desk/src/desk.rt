@@ -1,4 +1,4 @@
-//! The desk.
+//! The desk: a shared counter that gives out numbers, and a shared minimum for each class.
 
 ghost use Rattle.std.specs.Prelude.{◌≡◌, ◌≢◌, ◌<◌, ◌≤◌, ◌↔◌, ◌⊎◌, ℕ, [], ◌∷◌, ◌++◌, length, All, AllPairs};
 ghost use Rattle.std.specs.Prelude.{Any, Contains, IfSome, IfNone, IfOk, None, replicate};
@@ -7,7 +7,7 @@ use crate::class::Class2;
 use crate::fault::DeskFault;
 use crate::limits::{MOST_PIECES, MOST_SEATS};
 use crate::place::Place;
-use crate::rule::{Board, DeskSeat, Draws, Gathers, Leaves, Looks, Sits, Tells, Terms};
+use crate::rule::{Board, DeskSeat, Draws, Gathers, GivesPlace, Looks, Sits, Tells, Terms};
 use crate::words::{MET_WORD, NONE_TOLD, TICKET_WORD, UNMET_WORD, number_in_word, word_of_class};
 use atomic_table::Table;
 use std::alloc::Global;
@@ -46,7 +46,7 @@ impl Desk {
     ghost use Rattle.lit_desk.specs.Desk.{with_ticket, with_told, with_seen, all_draws, all_told, all_seen};
     ghost use Rattle.lit_desk.specs.Internal.Gathered.{gathered_account};
 
-    /// Opens a desk of `pieces` numbers with `seats` places.
+    /// Opens a desk of `pieces` numbers with `seats` places. Each place gets its seat by a split of the first one.
     pub fn open(alloc: Global, pieces: u64, seats: usize) -> Result<(Desk, Vec<Place>), DeskFault>
         requires pieces { pieces ≤ MOST_PIECES }
         requires seats { (0 < seats) × (seats ≤ MOST_SEATS) }
@@ -59,7 +59,7 @@ impl Desk {
         let mut places = Vec::with_capacity(alloc, seats)?;
         let (table, mut seat) = Table::of_words(alloc, &[0, NONE_TOLD, NONE_TOLD], &terms)?;
         for _ in 1..seats {
-            let other = table.shared.split_seat::<Leaves>(&mut seat);
+            let other = table.shared.split_seat::<GivesPlace>(&mut seat);
             places.push_reserved(Place::new(other, terms));
         }
         places.push_reserved(Place::new(seat, terms));
@@ -78,6 +78,7 @@ impl Desk {
         ensures stays { IsDone place.old → (result ≡ None) × (place.new ≡ place.old) }
         ensures place { IsPlaceOf self.now place.new }
     {
+        // A place takes at most one ticket past the last piece, so that the counter never overflows.
         if place.is_done {
             return None;
         }
@@ -104,8 +105,8 @@ impl Desk {
             .fetch_min::<Tells>(&mut place.seat, word_of_class(class), number);
     }
 
-    /// A number that some place told in a class, no higher than any that this place told or saw there; `None` only where
-    /// this place has told and seen none there. That some place told it is said by `close`.
+    /// A number that some place told in a class, no higher than any that this place told or saw there; `None` only if this place told
+    /// and saw none there. That some place told it is a clause of `close`.
     pub fn look(&self, place: &mut Place, class: Class2) -> Option<u64>
         requires { IsPlaceOf self.now place.old }
         ensures seen { IfSome result (λ n. place.new ≡ with_seen class place.old n) }
@@ -135,6 +136,7 @@ impl Desk {
         let Desk { table, terms } = self;
         let closed = table.close_with(seat);
         let totals = Totals {
+            // A place may take one ticket past the last piece, which is no draw.
             drawn: closed.word(TICKET_WORD).min(terms.pieces),
             met: number_in_word(closed.word(MET_WORD)),
             unmet: number_in_word(closed.word(UNMET_WORD)),
@@ -143,7 +145,7 @@ impl Desk {
         totals
     }
 
-    /// A seat that stands for all these places, with all that they did.
+    /// A seat that stands for all these places, with all that they did. It begins with a seat that stands for none (decision 19).
     fn gather(&self, mut places: Vec<Place>) -> DeskSeat
         requires { All (IsPlaceOf self.now) places.items }
         ensures table { result.table_id ≡ self.now.table }

@@ -1,4 +1,4 @@
-//! A desk where threads claim numbers and tell each other the least that they found.
+//! A desk: a work queue on atomic words, where threads claim numbers and share the least that they found.
 //!
 //! A `Desk` gives the numbers below its count of pieces out to its places, each number to one place. Each place tells
 //! numbers in two classes and looks at what was told, no higher than what it told or saw itself. `Desk::close` says what all places did:

@@ -1,7 +1,7 @@
-//! What a desk may have at the most.
+//! Limits of a desk.
 
 /// Places of a desk.
 pub const MOST_SEATS: usize = 16;
 
-/// Pieces of a desk: half of the numbers of a word, so that the one that counts draws never runs over.
+/// Pieces of a desk: half of the numbers of a word, so that the word that counts draws never overflows (decision 21).
 pub const MOST_PIECES: u64 = 1 << 63;

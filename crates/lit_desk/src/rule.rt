@@ -1,4 +1,4 @@
-//! The rule of a desk's table, and the names of its steps.
+//! The invariant of a desk's table, called its rule, and the steps that preserve it.
 
 use crate::account::Account;
 use atomic_table::{Join, Play, Seat, Split, Table, TableRule};
@@ -11,6 +11,7 @@ pub struct Terms {
     pub seats: usize,
 }
 
+/// The rule of a desk.
 pub(crate) struct Fair;
 
 impl<S> TableRule<S, Account, Terms> for Fair {
@@ -22,6 +23,7 @@ impl<S> TableRule<S, Account, Terms> for Fair {
     ghost first = { λ terms. new_account terms.seats };
 }
 
+/// A step that takes a ticket.
 pub(crate) struct Draws;
 
 impl<S> Play<S, Account> for Draws {
@@ -31,6 +33,7 @@ impl<S> Play<S, Account> for Draws {
     ghost then = { λ step old found new. Takes old.0 found new.0 × (new.1 ≡ old.1) };
 }
 
+/// A step that tells a number in a class.
 pub(crate) struct Tells;
 
 impl<S> Play<S, Account> for Tells {
@@ -40,6 +43,7 @@ impl<S> Play<S, Account> for Tells {
     ghost then = { λ step old found new. Tells step.word old.0 step.first new.0 × (new.1 ≡ old.1) };
 }
 
+/// A step that looks at the least number told in a class.
 pub(crate) struct Looks;
 
 impl<S> Play<S, Account> for Looks {
@@ -59,10 +63,10 @@ impl<S> Play<S, Account> for Sits {
     ghost then = { λ step old found new. new.0 ≡ new_account 0 };
 }
 
-/// A seat where nothing was done yet leaves one of its places to a seat of its own.
-pub(crate) struct Leaves;
+/// A seat where nothing was done yet gives one of its places to a new seat.
+pub(crate) struct GivesPlace;
 
-impl Split<Account> for Leaves {
+impl Split<Account> for GivesPlace {
     ghost use Rattle.std.specs.Prelude.{◌-◌};
     ghost use Rattle.lit_desk.specs.Accounts.{new_account};
 
@@ -71,14 +75,14 @@ impl Split<Account> for Leaves {
     ghost right = { λ _. new_account 1 };
 }
 
-/// A seat takes in what another did before it, and stands for its places too.
+/// A seat takes over what another did, and stands for its places too.
 pub(crate) struct Gathers;
 
 impl Join<Account> for Gathers {
     ghost use Rattle.lit_desk.specs.Accounts.{new_account};
-    ghost use Rattle.lit_desk.specs.Internal.Gathered.{joined_accounts};
+    ghost use Rattle.lit_desk.specs.Internal.Gathered.{merged_accounts};
 
-    ghost both = { λ v w. joined_accounts w v };
+    ghost both = { λ v w. merged_accounts w v };
 
     ghost spent = { new_account 0 };
 }

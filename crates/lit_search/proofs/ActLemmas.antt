@@ -135,7 +135,7 @@ pub record AreDecided (registers : List ℕ) (ifs : List Step) : Type 0 where
 none_decided : (registers : List ℕ) → AreDecided registers []
 none_decided registers = record { agrees = λ steps values last a. a; events = λ owner place steps. refl }
 
--- `if`s lead to a walk of what is left from the next access on
+-- `if`s lead to a walk of the remaining statements from the next access on
 pub record LeadsTo (registers : List ℕ) (walk : List Step → Type 0) (steps : List Step) : Type 0 where
   pub ifs : List Step
   pub decided : AreDecided registers ifs

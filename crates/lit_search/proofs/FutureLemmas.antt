@@ -1,4 +1,4 @@
--- What is still to come of an interleaving: the accesses, and the course of each agent.
+-- The rest of an interleaving from a moment on: the accesses still to come, and each agent's steps.
 use Rattle.std.proofs.Common.{◌≡◌, ◌≢◌, inl, inr, ℕ, zero, suc, ◌+◌, ◌<◌, ◌≤◌, ◌==◌, true, false, Option, Some, List, [], ◌∷◌, ◌++◌, length, map, refl, sym, ap, ap₂, subst, ◌∙◌, arith, zero-add, append_assoc, append-nil}
 use Rattle.std.specs.Prelude.{All, if◌then◌else◌, filter, replicate, slice_index, slice_set}
 use Rattle.std.proofs.lemmas.Bool.Decides.{nat_tests}
@@ -24,7 +24,7 @@ abbrev pub own_events : ℕ → List Event → List Event
 own_events agent es = filter (λ (e : Event). is_owned_by agent e.owner) es
 
 -- The steps that an agent walks from here on, of which the first access gets this place, with the numbers that it finds
--- on the block, where all agents together make these events. Its registers hold the last numbers in the end.
+-- on the block, where all agents together make these events. In the end its registers have the last numbers.
 pub record Course (agent place : ℕ) (block : List ℕ) (acts : List Event) (p : Progress) (last : List ℕ) : Type 0 where
   pub steps : List Step
   pub walked : IsWalk p.left steps
@@ -138,7 +138,7 @@ mutual
         | Then x more ↦ λ p. p
       ]) (begins_in registers s)
 
--- ---- a turn, and all that is left
+-- ---- a turn, and all remaining statements
 turn_future : (m end : Moment) (makers : List ℕ) (agent : ℕ) → agent < length m.agents → HasFuture (after_turn m agent) end makers → HasFuture m end (made_in_turn m agent ++ makers)
 turn_future m end makers agent inside later =
     let p = progress_of m agent in
@@ -154,7 +154,7 @@ set_again [] i p q = refl
 set_again (r ∷ ps) zero p q = refl
 set_again (r ∷ ps) (suc i) p q = ap (λ (xs : List Progress). r ∷ xs) (set_again ps i p q)
 
--- all that is left, after the next access
+-- all remaining statements, after the next access
 end_later : (m : Moment) (agent : ℕ) (s : Statement) (more : Statements) → agent < length m.agents → from_access (progress_of m agent).registers (progress_of m agent).left ≡ Then s more
     → after_end (left_behind m agent more (after_statement s (found_by m agent))) agent ≡ after_end m agent
 end_later m agent s more inside is =
@@ -189,14 +189,14 @@ each_future : (step : Moment → ℕ → Moment) (made : Moment → ℕ → List
     → ((m end : Moment) (makers : List ℕ) (agent : ℕ) → agent < length m.agents → HasFuture (step m agent) end makers → HasFuture m end (made m agent ++ makers))
     → (agents : List ℕ) (m end : Moment) (makers : List ℕ) → All (λ agent. agent < length m.agents) agents → HasFuture (after_each step m agents) end makers
     → HasFuture m end (made_by_each step made m agents ++ makers)
-each_future step made keeps_all one [] m end makers known later = later
-each_future step made keeps_all one (a ∷ agents) m end makers known later =
+each_future step made preserves_count one [] m end makers known later = later
+each_future step made preserves_count one (a ∷ agents) m end makers known later =
     let rest = made_by_each step made (step m a) agents in
     subst (HasFuture m end) (sym (append_assoc (made m a) rest makers))
     (one m end (rest ++ makers) a (known 0 a (omega arith))
-    (each_future step made keeps_all one agents (step m a) end makers (λ k d lt. omega (arith, known (suc k) d (omega (arith, lt)), keeps_all m a)) later))
+    (each_future step made preserves_count one agents (step m a) end makers (λ k d lt. omega (arith, known (suc k) d (omega (arith, lt)), preserves_count m a)) later))
 
--- ---- the end, where no agent has anything left
+-- ---- the end, where no agent has a statement left
 pub no_future : (m : Moment) → ((agent : ℕ) → (progress_of m agent).left ≡ End) → HasFuture m m []
 no_future m none places = record {
   acts = [];
@@ -210,16 +210,16 @@ no_future m none places = record {
 }
 
 -- ---- a whole interleaving
-kept_all : (m : Moment) (agents : List ℕ) → length (after_each after_end m agents).agents ≡ length m.agents
-kept_all m [] = refl
-kept_all m (a ∷ agents) = kept_all (after_end m a) agents ∙ length-slice_set m.agents a _
+ends_preserve_count : (m : Moment) (agents : List ℕ) → length (after_each after_end m agents).agents ≡ length m.agents
+ends_preserve_count m [] = refl
+ends_preserve_count m (a ∷ agents) = ends_preserve_count (after_end m a) agents ∙ length-slice_set m.agents a _
 
-kept_turns : (m : Moment) (agents : List ℕ) → length (after_each after_turn m agents).agents ≡ length m.agents
-kept_turns m [] = refl
-kept_turns m (a ∷ agents) = kept_turns (after_turn m a) agents ∙ length-slice_set m.agents a _
+turns_preserve_count : (m : Moment) (agents : List ℕ) → length (after_each after_turn m agents).agents ≡ length m.agents
+turns_preserve_count m [] = refl
+turns_preserve_count m (a ∷ agents) = turns_preserve_count (after_turn m a) agents ∙ length-slice_set m.agents a _
 
 pub ending_agents : (t : Litmus) (schedule : List ℕ) → length (ending t schedule).agents ≡ length t.agents
-ending_agents t schedule = kept_all (after_each after_turn (beginning t) schedule) (range_with_len 0 (length t.agents)) ∙ kept_turns (beginning t) schedule ∙ length-map t.agents at_first
+ending_agents t schedule = ends_preserve_count (after_each after_turn (beginning t) schedule) (range_with_len 0 (length t.agents)) ∙ turns_preserve_count (beginning t) schedule ∙ length-map t.agents at_first
 
 all_ended : (m : Moment) (k j : ℕ) → k ≤ length m.agents → j < k → (progress_of (after_each after_end m (range_with_len 0 k)) j).left ≡ End
 all_ended m zero j within lt = absurd (omega (arith, lt))
@@ -232,7 +232,7 @@ all_ended m (suc k) j within lt =
     rw is (elim (cases_eq j k) [
       | inl same ↦ rw (
         same,
-        own_progress before k End (after (progress_of before k).left (found_by before k)) (omega (arith, kept_all m (range_with_len 0 k))),
+        own_progress before k End (after (progress_of before k).left (found_by before k)) (omega (arith, ends_preserve_count m (range_with_len 0 k))),
       ) refl
       | inr other ↦ rw (other_progress before k j End (after (progress_of before k).left (found_by before k)) other)
           (all_ended m k j (omega (arith, within)) (omega (arith, other)))
@@ -243,7 +243,7 @@ interleaving_future t schedule known =
     let begun = after_each after_turn (beginning t) schedule in
     let n = length t.agents in
     let all : length (beginning t).agents ≡ n = length-map t.agents at_first in
-    let long : length begun.agents ≡ n = kept_turns (beginning t) schedule ∙ all in
+    let long : length begun.agents ≡ n = turns_preserve_count (beginning t) schedule ∙ all in
     let last = made_by_each after_end made_at_end begun (range_with_len 0 n) in
     each_future after_turn made_in_turn (λ m agent. length-slice_set m.agents agent _) turn_future schedule (beginning t)
     (ending t schedule) last (λ k d lt. omega (arith, known k d lt, all))
@@ -255,5 +255,5 @@ interleaving_future t schedule known =
     (no_future (ending t schedule) (λ j. elim (cases_lt j n) [
       | inl lt ↦ all_ended begun n j (omega (arith, long)) lt
       | inr past ↦ ap (λ (p : Progress). p.left) (get_or_past (ending t schedule).agents j no_progress
-          (omega (arith, past, long, kept_all begun (range_with_len 0 n))))
+          (omega (arith, past, long, ends_preserve_count begun (range_with_len 0 n))))
     ]))))

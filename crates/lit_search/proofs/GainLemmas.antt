@@ -13,7 +13,7 @@ use Rattle.lit_search.specs.Internal.Gained.{Gains, GoesOn}
 use Rattle.lit_search.specs.Internal.Ranks.{are_same}
 use Rattle.lit_search.specs.Internal.Risen.{risen}
 use Rattle.lit_search.proofs.NumberSets.{before_end, either_cases, not_below, within}
-use Rattle.lit_search.proofs.RisenEntries.{kept_from, kept_to, risen_from, risen_to, rises}
+use Rattle.lit_search.proofs.RisenEntries.{retained_from, retained_to, risen_from, risen_to, rises}
 
 -- ---- lists that go on
 in_one : (xs ys : List Entry) (i : ℕ) (e : Entry) → slice_get (xs ++ ys) i ≡ Some e → HasEntry xs e ⊎ HasEntry ys e
@@ -110,7 +110,7 @@ module _ (t : Litmus) where
     lacked = λ e there o. absurd (let f = o.is in cc);
     whole = λ n outcome p gives.
         let w = h.listed.whole n outcome p gives in
-        kept_from es outcome (record { place = w.0; entry = w.1; is = w.2; same = w.3 });
+        retained_from es outcome (record { place = w.0; entry = w.1; is = w.2; same = w.3 });
     race = (λ p. inr (h.marked.0 p), λ one. h.marked.1 (elim one [ inl p ↦ absurd (false≢true p) | inr q ↦ q ]));
   }
 
@@ -123,7 +123,7 @@ module _ (t : Litmus) where
           let s = risen_from es e (i, is) in
           let k = g.each e (s.0, subst (λ (xs : List Entry). slice_get xs s.0 ≡ Some e) g.goes_on.is s.1) in
           record { among = k.among; gives = k.gives; least_choice = k.least_choice; least_order = k.least_order };
-      whole = λ n outcome p gives. let k = kept_to es outcome (g.whole n outcome p gives) in (k.place, k.entry, k.is, k.same);
+      whole = λ n outcome p gives. let k = retained_to es outcome (g.whole n outcome p gives) in (k.place, k.entry, k.is, k.same);
     };
     marked = (λ p. elim (g.race.0 p) [ inl q ↦ absurd (false≢true q) | inr one ↦ one ], λ one. g.race.1 (inr one));
   }

@@ -1,4 +1,4 @@
--- What accesses keep, and turns.
+-- What accesses and turns preserve.
 use Rattle.std.proofs.Common.{◌≡◌, inl, inr, arith, ℕ, zero, suc, true, false, List, [], ◌∷◌, ◌++◌, length, map, take, drop, refl, sym, ap, subst, ◌∙◌, append-nil, ◌≤◌, ◌==◌, append_assoc}
 use Rattle.std.specs.Prelude.{if◌then◌else◌, replicate, slice_index, slice_index_or, slice_set, IsTrue}
 use Rattle.std.proofs.lemmas.Bool.{cases_lt}
@@ -19,45 +19,45 @@ few_bytes Uint16 = omega arith
 few_bytes Uint32 = omega arith
 few_bytes window = omega arith
 
--- the block keeps its length
-pub number_keeps : (block : List ℕ) (window : Window) (index value : ℕ) → IsTrue (is_in_block (length block) window index) → length (with_number block window index value) ≡ length block
-number_keeps block window index value h = rw (← append_assoc)
+-- the block preserves its length
+pub number_preserves : (block : List ℕ) (window : Window) (index value : ℕ) → IsTrue (is_in_block (length block) window index) → length (with_number block window index value) ≡ length block
+number_preserves block window index value h = rw (← append_assoc)
     (length-paste block (first_byte window index) (payload_of value) (window_size window) (window-in_block (length block) index window h)
     (few_bytes window))
 
-pub access_keeps : (s : Statement) (c : Contents) → is_access s ≡ true → IsStatementIn (length c.block) s → length (after_statement s c).block ≡ length c.block
-access_keeps (Load reg window index atomic) c is said = refl
-access_keeps (Store window index value atomic) c is said = number_keeps c.block window index value said.0
-access_keeps (Exchange reg window index value) c is said = number_keeps c.block window index value said.1
-access_keeps (CompareExchange reg window index expected value) c is said =
+pub access_preserves : (s : Statement) (c : Contents) → is_access s ≡ true → IsStatementIn (length c.block) s → length (after_statement s c).block ≡ length c.block
+access_preserves (Load reg window index atomic) c is said = refl
+access_preserves (Store window index value atomic) c is said = number_preserves c.block window index value said.0
+access_preserves (Exchange reg window index value) c is said = number_preserves c.block window index value said.1
+access_preserves (CompareExchange reg window index expected value) c is said =
     elim (number_in c.block window index == expected) as (λ b. length (if b then with_number c.block window index value else c.block)
     ≡ length c.block) [
-      | true ↦ number_keeps c.block window index value said.1
+      | true ↦ number_preserves c.block window index value said.1
       | false ↦ refl
     ]
-access_keeps (If reg equal value body other) c is said = absurd (let e : false ≡ true = is in cc)
+access_preserves (If reg equal value body other) c is said = absurd (let e : false ≡ true = is in cc)
 
--- ---- what turns keep, from moment to moment
--- ---- what statements keep
+-- ---- what turns preserve, from moment to moment
+-- ---- what statements preserve
 mutual
-  keeps_in : (s : Statement) (c : Contents) (n : ℕ) → length c.block ≡ n → IsStatementIn n s → length (after_statement s c).block ≡ n
-  keeps_in (If reg equal value body other) c n long said =
+  preserves_in : (s : Statement) (c : Contents) (n : ℕ) → length c.block ≡ n → IsStatementIn n s → length (after_statement s c).block ≡ n
+  preserves_in (If reg equal value body other) c n long said =
       elim (compares equal (slice_index c.registers reg) value) as (λ b. length (if b then after body c else after other c).block ≡ n) [
-        | true ↦ keeps body c n long said.2
-        | false ↦ keeps other c n long said.3
+        | true ↦ preserves body c n long said.2
+        | false ↦ preserves other c n long said.3
       ]
-  keeps_in s c n long said = access_keeps s c refl (subst (λ (k : ℕ). IsStatementIn k s) (sym long) said) ∙ long
+  preserves_in s c n long said = access_preserves s c refl (subst (λ (k : ℕ). IsStatementIn k s) (sym long) said) ∙ long
 
-  pub keeps : (ss : Statements) (c : Contents) (n : ℕ) → length c.block ≡ n → AreStatementsIn n ss → length (after ss c).block ≡ n
-  keeps End c n long said = long
-  keeps (Then s ss) c n long said = keeps ss (after_statement s c) n (keeps_in s c n long said.0) said.1
+  pub preserves : (ss : Statements) (c : Contents) (n : ℕ) → length c.block ≡ n → AreStatementsIn n ss → length (after ss c).block ≡ n
+  preserves End c n long said = long
+  preserves (Then s ss) c n long said = preserves ss (after_statement s c) n (preserves_in s c n long said.0) said.1
 
-keeps_accessed : (ss : Statements) (c : Contents) (n : ℕ) → length c.block ≡ n → AreStatementsIn n ss → (AreStatementsIn n (accessed ss c).0) × (length (accessed ss c).1.block ≡ n)
-keeps_accessed End c n long said = (tt, long)
-keeps_accessed (Then s ss) c n long said = (said.1, keeps_in s c n long said.0)
+accessed_preserves : (ss : Statements) (c : Contents) (n : ℕ) → length c.block ≡ n → AreStatementsIn n ss → (AreStatementsIn n (accessed ss c).0) × (length (accessed ss c).1.block ≡ n)
+accessed_preserves End c n long said = (tt, long)
+accessed_preserves (Then s ss) c n long said = (said.1, preserves_in s c n long said.0)
 
 -- ---- moments
--- The block is as long as the test says, each agent of the test has a progress, and what each has left lies in the block.
+-- The block is as long as the test says, each agent of the test has a progress, and the remaining statements of each lie in the block.
 pub record IsSound (t : Litmus) (m : Moment) : Type 0 where
   pub long : length m.block ≡ t.bytes
   pub one_each : length m.agents ≡ length t.agents
@@ -80,12 +80,12 @@ sound_behind t m agent left c s said long = record {
 pub sound_turn : (t : Litmus) (m : Moment) (agent : ℕ) → IsSound t m → IsSound t (after_turn m agent)
 sound_turn t m agent s =
     let p = progress_of m agent in
-    let kept = keeps_accessed (from_access p.registers p.left) (found_by m agent) t.bytes s.long (said_from t.bytes p.registers p.left (s.said agent)) in
-    sound_behind t m agent (accessed (from_access p.registers p.left) (found_by m agent)).0 (accessed (from_access p.registers p.left) (found_by m agent)).1 s kept.0 kept.1
+    let preserved = accessed_preserves (from_access p.registers p.left) (found_by m agent) t.bytes s.long (said_from t.bytes p.registers p.left (s.said agent)) in
+    sound_behind t m agent (accessed (from_access p.registers p.left) (found_by m agent)).0 (accessed (from_access p.registers p.left) (found_by m agent)).1 s preserved.0 preserved.1
 
 pub sound_end : (t : Litmus) (m : Moment) (agent : ℕ) → IsSound t m → IsSound t (after_end m agent)
 sound_end t m agent s =
-    sound_behind t m agent End (after (progress_of m agent).left (found_by m agent)) s tt (keeps (progress_of m agent).left (found_by m agent) t.bytes s.long (s.said agent))
+    sound_behind t m agent End (after (progress_of m agent).left (found_by m agent)) s tt (preserves (progress_of m agent).left (found_by m agent) t.bytes s.long (s.said agent))
 
 pub sound_each : (t : Litmus) (step : Moment → ℕ → Moment) → ((m : Moment) (agent : ℕ) → IsSound t m → IsSound t (step m agent)) → (m : Moment) (agents : List ℕ) → IsSound t m → IsSound t (after_each step m agents)
 sound_each t step one m [] s = s
@@ -112,7 +112,7 @@ pub after_each-more : (step : Moment → ℕ → Moment) (m : Moment) (agents : 
 after_each-more step m [] agent = refl
 after_each-more step m (a ∷ agents) agent = after_each-more step (step m a) agents agent
 
--- ---- a turn, or all that is left, of one agent of a moment
+-- ---- a turn, or all remaining statements, of one agent of a moment
 pub stepped : (F : Progress → List ℕ → Statements × Contents) (m : Moment) (agent : ℕ) (p new : Progress) (found now whole : List ℕ)
     → p ≡ progress_of m agent → found ≡ m.block → new.left ≡ (F p found).0
     → record { block = now; registers = new.registers } ≡ (F p found).1

@@ -1,4 +1,4 @@
--- What is left from the next access on, where an `if` is decided, and how much that is.
+-- The remaining statements from the next access on, where an `if` is decided, and how many they are.
 use Rattle.std.proofs.Common.{◌≡◌, ℕ, ◌+◌, ◌<◌, ◌≤◌, true, false, List, [], ◌∷◌, ◌++◌, length, refl, sym, ap, subst, ◌∙◌, arith, suc}
 use Rattle.std.specs.Prelude.{if◌then◌else◌, slice_index}
 use Rattle.std.specs.Borrow.{Bor}
@@ -61,7 +61,7 @@ said-part bytes registers s part c said =
       | false ↦ h.3
     ])
 
--- ---- how much is left
+-- ---- how many statements remain
 abbrev mutual
   pub statement_size : Statement → ℕ
   statement_size (If reg equal value body other) = size_of body + size_of other + 2
@@ -102,7 +102,7 @@ some_size : (s : Statement) → 1 ≤ statement_size s
 some_size (If reg equal value body other) = omega arith
 some_size s = omega arith
 
--- less is left behind the next access
+-- fewer remain behind the next access
 pub size_less : (registers : List ℕ) (ss : Statements) (s : Statement) (more : Statements) → from_access registers ss ≡ Then s more → size_of more < size_of ss
 size_less registers ss s more is = omega (arith, size_from registers ss, ap size_of is, some_size s)
 
@@ -133,7 +133,7 @@ pub none_left : (xs : List Stmt) → length xs ≡ 0 → statements_of xs ≡ En
 none_left [] none = refl
 none_left (x ∷ xs) none = absurd (omega (arith, none))
 
--- ---- what is said of what is left
+-- ---- what is said of the remaining statements
 mutual
   said_in : (bytes : ℕ) (registers : List ℕ) (s : Statement) → IsStatementIn bytes s → AreStatementsIn bytes (from_access_in registers s)
   said_in bytes registers (If reg equal value body other) said =
@@ -152,7 +152,7 @@ mutual
         | Then x more ↦ λ p. (p.0, said-joined bytes more ss p.1 said.1)
       ]) (said_in bytes registers s said.0)
 
--- ---- all that is left
+-- ---- all remaining statements
 pub after-joined : (a b : Statements) (c : Contents) → after (joined_statements a b) c ≡ after b (after a c)
 after-joined End b c = refl
 after-joined (Then s ss) b c = after-joined ss b (after_statement s c)
@@ -176,14 +176,14 @@ mutual
         | Then x more ↦ λ is. after-joined more ss (after_statement x c) ∙ ap (after ss) is
       ]) (after_in s c)
 
--- the next access carried out, and then all that is left behind it
+-- the next access carried out, and then all statements behind it
 pub after_next : (p : Progress) (block : List ℕ) (s : Statement) (left : Statements) (now : Contents) → from_access p.registers p.left ≡ Then s left
     → now ≡ after_statement s (record { block = block; registers = p.registers }) → after left now ≡ after p.left (record { block = block; registers = p.registers })
 after_next p block s left now is done =
     let c : Contents = record { block = block; registers = p.registers } in
     ap (after left) done ∙ ap (λ (ss : Statements). after ss c) (sym is) ∙ after_from p.left c
 
--- ---- how many accesses statements make: as many as what is left of them from the next access on
+-- ---- how many accesses statements make: as many as those that remain from the next access on
 accesses-joined : (a b : Statements) (c : Contents) → accesses (joined_statements a b) c ≡ accesses a c + accesses b (after a c)
 accesses-joined End b c = omega arith
 accesses-joined (Then s ss) b c = omega (arith, accesses-joined ss b (after_statement s c))

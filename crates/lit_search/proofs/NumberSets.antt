@@ -1,4 +1,4 @@
--- Sets of numbers as tests: ranges, and sets joined. For this crate and those above it.
+-- Sets of numbers as predicates: ranges, and unions. For this crate and those above it.
 use Rattle.std.proofs.Common.{◌≡◌, ◌⊎◌, inl, inr, ℕ, ◌<◌, ◌≤◌, Bool, true, false, ◌||◌, refl, sym}
 use Rattle.std.specs.Prelude.{IsTrue, nat_le, nat_lt}
 use Rattle.std.proofs.lemmas.Bool.{and_from, and_parts, le-leb, leb-true, lt-ltb, ltb-true}
@@ -17,7 +17,7 @@ not_below from to n h = leb-true from n (and_parts (nat_le from n) (nat_lt n to)
 pub before_end : (from to n : ℕ) → IsTrue (in_range from to n) → n < to
 before_end from to n h = ltb-true n to (and_parts (nat_le from n) (nat_lt n to) h).1
 
--- two tests that imply each other
+-- two predicates that imply each other
 pub same_test : (a b : Bool) → (IsTrue a → IsTrue b) → (IsTrue b → IsTrue a) → a ≡ b
 same_test true b f g = sym (f refl)
 same_test false true f g = absurd (let e = g refl in cc)

@@ -1,4 +1,4 @@
--- Packed lists, which compare as the lists do as far as they are not equal, and ranks of entries.
+-- Packed lists: where they differ, they compare as the lists do. And ranks of entries.
 use Rattle.std.proofs.Common.{◌≡◌, ◌≢◌, inl, inr, ℕ, zero, suc, ◌+◌, ◌<◌, ◌≤◌, List, [], ◌∷◌, ◌++◌, map, take, Some, length, refl, sym, ap, ap₂, subst, ◌∙◌, arith, ◌-◌, ◌*◌, ◌^◌, drop, get_or}
 use Rattle.std.specs.Prelude.{None, slice_get, slice_index_or}
 use Rattle.std.specs.Cmp.Lexicographic.{slice_cmp, nat_list_cmp_total}
@@ -113,7 +113,7 @@ room top count place some few fits =
 digit : (top v weight number : ℕ) → v < top → number < weight → v * weight + number < (top + 1) * weight
 digit top v weight number below fits = omega (arith, fits, suc-mul v weight, suc-mul top weight, mul-le-mul_right {m = suc v} {n = top} weight (omega (arith, below)))
 
--- a digit more keeps below
+-- one more digit preserves the bound
 pub digit_fits : (top count place v weight number : ℕ) (xs : List ℕ) → 0 < place → place ≤ count
     → (top + 1) ^ count ≤ 170141183460469231731687303715884105728 → weight ≡ (top + 1) ^ (count - place)
     → number ≡ packed top (count - place) (drop place xs) → v < top → v * weight + number < 170141183460469231731687303715884105728
@@ -241,7 +241,7 @@ module _ (es more : List Entry) where
   map_behind [] = refl
   map_behind (r ∷ rs) = ap₂ (λ (e : Entry) (xs : List Entry). e ∷ xs) (behind r) (map_behind rs)
 
--- what is found in two sets, with the parts of both
+-- the reports of two sets, with the parts of both
 module _ (x y : Inside) (first : IsRanked x) (second : IsRanked y) (parts : List (List Entry)) (others : List Rank) (both : parts ≡ x.parts.items ++ y.parts.items) (behind : others ≡ map (moved x.count) y.ranks.items) where
   abbrev es : List Entry
   es = joined_entries x.parts.items

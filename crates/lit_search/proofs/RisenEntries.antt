@@ -86,18 +86,18 @@ risen_is : (es zs : List Entry) → IsDistinct are_same es → AreRising zs → 
 risen_is es zs apart up into back = same_rising zs (risen es) up (rises es) (λ w s. risen_to es apart w (back w s)) (λ w s. into w (risen_from es w s))
 
 -- ---- which outcomes there are
-pub kept_from : (es : List Entry) (outcome : List ℕ) → HasOutcome (risen es) outcome → HasOutcome es outcome
-kept_from es outcome o = let s = risen_from es o.entry (o.place, o.is) in record { place = s.0; entry = o.entry; is = s.1; same = o.same }
+pub retained_from : (es : List Entry) (outcome : List ℕ) → HasOutcome (risen es) outcome → HasOutcome es outcome
+retained_from es outcome o = let s = risen_from es o.entry (o.place, o.is) in record { place = s.0; entry = o.entry; is = s.1; same = o.same }
 
-pub kept_to : (es : List Entry) (outcome : List ℕ) → HasOutcome es outcome → HasOutcome (risen es) outcome
-kept_to [] outcome o = o
-kept_to (x ∷ xs) outcome o =
+pub retained_to : (es : List Entry) (outcome : List ℕ) → HasOutcome es outcome → HasOutcome (risen es) outcome
+retained_to [] outcome o = o
+retained_to (x ∷ xs) outcome o =
     let there : (v : Entry) → HasInEither (risen xs) (x ∷ []) v → v.outcome ≡ outcome → HasOutcome (merged (risen xs) (x ∷ [])) outcome =
     λ v h is. let m = (with_one (risen xs) x (rises xs)).whole v h in record { place = m.1.0; entry = m.0; is = m.1.1; same = m.2 ∙ is } in
     elim (stands_cases x o.entry xs (o.place, o.is)) [
       | inl is ↦ there x (inr (0, refl)) (sym (ap (λ (v : Entry). v.outcome) is) ∙ o.same)
       | inr t ↦
-          let k = kept_to xs outcome (record { place = t.0; entry = o.entry; is = t.1; same = o.same }) in
+          let k = retained_to xs outcome (record { place = t.0; entry = o.entry; is = t.1; same = o.same }) in
           there k.entry (inl (k.place, k.is)) k.same
     ]
 
@@ -139,36 +139,36 @@ module _ {A : Type 0} (f : A → Entry) where
       (stands_moved (map f xs) es (IsPermutation-sym es (map f xs) moved))
 
 module _ {K X : Type 0} (key : K → List ℕ) (choice : X → ℕ) (order : X → List ℕ) where
-  abbrev pub kept : K × X → Entry
-  kept p = record { outcome = key p.0; choice = choice p.1; order = order p.1 }
+  abbrev pub entry_of_pair : K × X → Entry
+  entry_of_pair p = record { outcome = key p.0; choice = choice p.1; order = order p.1 }
 
   abbrev key_eq : K → K → Bool
   key_eq a b = pointwise nat_eq (key a) (key b)
 
-  all_keys : (k : K) (x : X) (es : List (K × X)) → AllByRecursion (λ q. key_eq k q ≡ false) (keys_of es) → AllByRecursion (λ y. are_same (kept (k, x)) y ≡ false) (map kept es)
+  all_keys : (k : K) (x : X) (es : List (K × X)) → AllByRecursion (λ q. key_eq k q ≡ false) (keys_of es) → AllByRecursion (λ y. are_same (entry_of_pair (k, x)) y ≡ false) (map entry_of_pair es)
   all_keys k x [] h = tt
   all_keys k x (p ∷ es) h = (h.0, all_keys k x es h.1)
 
-  pub IsDistinct-kept : (es : List (K × X)) → IsDistinct key_eq (keys_of es) → IsDistinct are_same (map kept es)
+  pub IsDistinct-entry_of_pair : (es : List (K × X)) → IsDistinct key_eq (keys_of es) → IsDistinct are_same (map entry_of_pair es)
   unfolding IsDistinct
-  IsDistinct-kept [] h = tt
-  IsDistinct-kept (p ∷ es) h = (all_keys p.0 p.1 es h.0, IsDistinct-kept es h.1)
+  IsDistinct-entry_of_pair [] h = tt
+  IsDistinct-entry_of_pair (p ∷ es) h = (all_keys p.0 p.1 es h.0, IsDistinct-entry_of_pair es h.1)
 
   -- what a look-up of an outcome says
-  found_from : (outcome : List ℕ) (es : List (K × X)) → IsTrue (is_some (lookup (λ k. pointwise nat_eq outcome (key k)) es)) → HasOutcome (map kept es) outcome
+  found_from : (outcome : List ℕ) (es : List (K × X)) → IsTrue (is_some (lookup (λ k. pointwise nat_eq outcome (key k)) es)) → HasOutcome (map entry_of_pair es) outcome
   found_from outcome [] h = absurd (let e : false ≡ true = h in cc)
   found_from outcome (p ∷ es) h =
       let rest = lookup (λ k. pointwise nat_eq outcome (key k)) es in
       (elim (pointwise nat_eq outcome (key p.0)) as (λ b. pointwise nat_eq outcome (key p.0) ≡ b → IsTrue (is_some (cond b (Some p.1) rest))
-      → HasOutcome (kept p ∷ map kept es) outcome) [
-        | true ↦ λ e k. record { place = 0; entry = kept p; is = refl; same = sym (same_text outcome (key p.0) (sym e)) }
+      → HasOutcome (entry_of_pair p ∷ map entry_of_pair es) outcome) [
+        | true ↦ λ e k. record { place = 0; entry = entry_of_pair p; is = refl; same = sym (same_text outcome (key p.0) (sym e)) }
         | false ↦ λ e k. let o = found_from outcome es k in record { place = suc o.place; entry = o.entry; is = o.is; same = o.same }
       ]) refl h
 
-  found_to : (outcome : List ℕ) (es : List (K × X)) (i : ℕ) (entry : Entry) → slice_get (map kept es) i ≡ Some entry → entry.outcome ≡ outcome → IsTrue (is_some (lookup (λ k. pointwise nat_eq outcome (key k)) es))
+  found_to : (outcome : List ℕ) (es : List (K × X)) (i : ℕ) (entry : Entry) → slice_get (map entry_of_pair es) i ≡ Some entry → entry.outcome ≡ outcome → IsTrue (is_some (lookup (λ k. pointwise nat_eq outcome (key k)) es))
   found_to outcome [] i entry is same = absurd (let e = is in cc)
   found_to outcome (p ∷ es) zero entry is same =
-      let equal : key p.0 ≡ outcome = ap (λ (e : Entry). e.outcome) (same_Some (kept p) entry is) ∙ same in
+      let equal : key p.0 ≡ outcome = ap (λ (e : Entry). e.outcome) (same_Some (entry_of_pair p) entry is) ∙ same in
       rw (subst (λ o. pointwise nat_eq outcome o ≡ true) (sym equal) (nat_list_eq_equiv.refl outcome)) refl
   found_to outcome (p ∷ es) (suc i) entry is same =
       elim (pointwise nat_eq outcome (key p.0)) as (λ b. IsTrue
@@ -177,16 +177,16 @@ module _ {K X : Type 0} (key : K → List ℕ) (choice : X → ℕ) (order : X �
         | false ↦ found_to outcome es i entry is same
       ]
 
-  pub has_kept : (outcome : List ℕ) (es : List (K × X)) → IsTrue (is_some (lookup (λ k. pointwise nat_eq outcome (key k)) es)) ↔ HasOutcome (map kept es) outcome
-  has_kept outcome es = (found_from outcome es, λ o. found_to outcome es o.place o.entry o.is o.same)
+  pub lookup_finds : (outcome : List ℕ) (es : List (K × X)) → IsTrue (is_some (lookup (λ k. pointwise nat_eq outcome (key k)) es)) ↔ HasOutcome (map entry_of_pair es) outcome
+  lookup_finds outcome es = (found_from outcome es, λ o. found_to outcome es o.place o.entry o.is o.same)
 
   -- a new outcome is put behind the others
-  pub put_new : (es : List (K × X)) (k : K) (x : X) → ¬ HasOutcome (map kept es) (key k) → map kept (insert_entry key_eq es k x) ≡ map kept es ++ kept (k, x) ∷ []
+  pub put_new : (es : List (K × X)) (k : K) (x : X) → ¬ HasOutcome (map entry_of_pair es) (key k) → map entry_of_pair (insert_entry key_eq es k x) ≡ map entry_of_pair es ++ entry_of_pair (k, x) ∷ []
   put_new [] k x new = refl
   put_new (p ∷ es) k x new =
       (elim (key_eq k p.0) as (λ b. key_eq k p.0 ≡ b
-      → map kept (cond b ((p.0, x) ∷ es) (p ∷ insert_entry key_eq es k x)) ≡ kept p ∷ (map kept es ++ kept (k, x) ∷ [])) [
-        | true ↦ λ e. absurd (new (record { place = 0; entry = kept p; is = refl; same = sym (same_text (key k) (key p.0) (sym e)) }))
-        | false ↦ λ e. ap (λ (ys : List Entry). kept p ∷ ys)
+      → map entry_of_pair (cond b ((p.0, x) ∷ es) (p ∷ insert_entry key_eq es k x)) ≡ entry_of_pair p ∷ (map entry_of_pair es ++ entry_of_pair (k, x) ∷ [])) [
+        | true ↦ λ e. absurd (new (record { place = 0; entry = entry_of_pair p; is = refl; same = sym (same_text (key k) (key p.0) (sym e)) }))
+        | false ↦ λ e. ap (λ (ys : List Entry). entry_of_pair p ∷ ys)
             (put_new es k x (λ o. new (record { place = suc o.place; entry = o.entry; is = o.is; same = o.same })))
       ]) refl

@@ -29,7 +29,7 @@ use Rattle.lit_search.proofs.FutureLemmas.{Future, ending_agents, no_progress, o
 use Rattle.lit_search.proofs.MomentLemmas.{at_first}
 use Rattle.lit_valid.proofs.RunLemmas.{maps, no_run}
 use Rattle.lit_valid.proofs.Takings.{read_numbers-accesses, taken_each, taken_together}
-use Rattle.lit_search.proofs.TimeLemmas.{IsTimeline, order_in_turn, owners_in_turn, AreAccessesOf, accesses_of, kept_at, number_in_lists, own_at, owner_is, start_in, timeline}
+use Rattle.lit_search.proofs.TimeLemmas.{IsTimeline, order_in_turn, owners_in_turn, AreAccessesOf, accesses_of, retained_at, number_in_lists, own_at, owner_is, start_in, timeline}
 use Rattle.lit_search.proofs.WriterLemmas.{are_sources, sequential, sources_in_turn, block_after, value_found}
 use Rattle.lit_order.specs.MemoryOrder.{IsMemoryOrder}
 use Rattle.lit_search.specs.Report.{IsReport, Report, in_range}
@@ -117,7 +117,7 @@ module _ (t : Litmus) (schedule : List ℕ) (litmus : IsLitmus t) (future : Futu
       elim (cases_lt i count) [
         | inl lt ↦ (i, omega (arith, all_lists), sym maker.2)
         | inr past ↦
-            let there = kept_at (λ (x : Event). is_owned_by i x.owner) acts k e at (ap (is_owned_by i) (sym maker.2) ∙ same_agent i) in
+            let there = retained_at (λ (x : Event). is_owned_by i x.owner) acts k e at (ap (is_owned_by i) (sym maker.2) ∙ same_agent i) in
             let inside = slice_get_within (own_events i acts) (length (own_events i (take k acts))) e there in
             absurd (omega (arith, inside, ap (λ (es : List Event). length es) (no_more i past)))
       ]

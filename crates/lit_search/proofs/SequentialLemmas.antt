@@ -108,14 +108,14 @@ pub valid_in_order : ((events : List Event) → AreOfEvents events) → (t : Lit
     → IsSequential (execution_events t x) x.sources order → IsValidExecution t x × IsMemoryOrder (execution_events t x) x.sources order
 valid_in_order of t x order candidate chosen is =
     let events = execution_events t x in
-    let kept : IsMemoryOrder events x.sources order = ordered events x.sources order candidate.sourced (of events) is in (
+    let is_memory_order : IsMemoryOrder events x.sources order = ordered events x.sources order candidate.sourced (of events) is in (
       record {
         candidate = candidate;
         no_cycle = no_cycle events x.sources order candidate.sourced (of events) is;
         chosen_reads = chosen;
         coherent_reads = coherent events x.sources order candidate.sourced (of events) is;
         tear_free_reads = tear_free events x.sources order candidate.sourced (of events) is;
-        ordered = (order, kept);
+        ordered = (order, is_memory_order);
       },
-      kept,
+      is_memory_order,
     )

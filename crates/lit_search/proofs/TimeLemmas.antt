@@ -107,7 +107,7 @@ pub record IsAct (bytes : ℕ) (events : List Event) (number : ℕ) (e : Event) 
   pub place : ℕ
   pub access : IsAccessOf bytes owner place e
 
--- The acts, in the order of time, are all events but those that make the block. Those of an agent keep its order.
+-- The acts, in the order of time, are all events but those that make the block. Those of an agent are in its order.
 pub record IsTimeline (bytes : ℕ) (events acts : List Event) (number : Event → ℕ) : Type 0 where
   pub whole : bytes ≤ length events
   pub made : (b : ℕ) → b < bytes → event_at events b ≡ init_event b
@@ -194,9 +194,9 @@ module _ (bytes : ℕ) (events acts : List Event) (number : Event → ℕ) (is :
   pub act_earlier : (k l : ℕ) (e d : Event) → slice_get acts k ≡ Some e → slice_get acts l ≡ Some d → k < l → StandsBefore order (number e) (number d)
   act_earlier k l e d at there lt = record { first = bytes + k; second = bytes + l; earlier = omega (arith, lt); first_is = act_place k e at; second_is = act_place l d there }
 
-  -- ---- it keeps agent-order, and what makes a byte stands before the rest
-  pub keeps_agents : (e d : ℕ) → IsAgentOrdered events e d → StandsBefore order e d
-  keeps_agents e d ordered = elim (event_of e ordered.first_known) [
+  -- ---- it respects agent-order, and the event that makes a byte stands before all others on that byte
+  pub respects_agents : (e d : ℕ) → IsAgentOrdered events e d → StandsBefore order e d
+  respects_agents e d ordered = elim (event_of e ordered.first_known) [
     | inl a ↦ elim (event_of d ordered.second_known) [
       | inl b ↦ record {
         first = e;
@@ -217,8 +217,8 @@ module _ (bytes : ℕ) (events acts : List Event) (number : Event → ℕ) (is :
     ]
   ]
 
-  pub keeps_making : (e d : ℕ) → IsMadeBefore events e d → StandsBefore order e d
-  keeps_making e d makes = elim (event_of e makes.first_known) [
+  pub respects_making : (e d : ℕ) → IsMadeBefore events e d → StandsBefore order e d
+  respects_making e d makes = elim (event_of e makes.first_known) [
     | inl a ↦ elim (event_of d makes.second_known) [
       | inl b ↦
           let s = makes.shares in
@@ -247,46 +247,46 @@ module _ (bytes : ℕ) (events acts : List Event) (number : Event → ℕ) (is :
   nobody_first low (suc count) within =
       ap₂ (λ (o : Option ℕ) (os : List (Option ℕ)). o ∷ os) (ap (λ (x : Event). x.owner) (is.made low (omega (arith, within)))) (nobody_first (low + 1) count (omega (arith, within)))
 
-  owners_kept : (es : List Event) → ((k : ℕ) (e : Event) → slice_get es k ≡ Some e → event_at events (number e) ≡ e) → map (λ (e : Event). owner_at (number e)) es ≡ map (λ (e : Event). e.owner) es
-  owners_kept [] each = refl
-  owners_kept (e ∷ es) each = ap₂ (λ (o : Option ℕ) (os : List (Option ℕ)). o ∷ os) (ap (λ (x : Event). x.owner) (each 0 e refl)) (owners_kept es (λ k d at. each (suc k) d at))
+  owners_same : (es : List Event) → ((k : ℕ) (e : Event) → slice_get es k ≡ Some e → event_at events (number e) ≡ e) → map (λ (e : Event). owner_at (number e)) es ≡ map (λ (e : Event). e.owner) es
+  owners_same [] each = refl
+  owners_same (e ∷ es) each = ap₂ (λ (o : Option ℕ) (os : List (Option ℕ)). o ∷ os) (ap (λ (x : Event). x.owner) (each 0 e refl)) (owners_same es (λ k d at. each (suc k) d at))
 
   pub owners_in_turn : map owner_at order ≡ replicate bytes None ++ map (λ (e : Event). e.owner) acts
   owners_in_turn =
       map-append owner_at (range_with_len 0 bytes) (map number acts)
-      ∙ ap₂ (λ (xs ys : List (Option ℕ)). xs ++ ys) (nobody_first 0 bytes (omega arith)) (maps number owner_at acts ∙ owners_kept acts (λ k e at. (is.each k e at).is))
+      ∙ ap₂ (λ (xs ys : List (Option ℕ)). xs ++ ys) (nobody_first 0 bytes (omega arith)) (maps number owner_at acts ∙ owners_same acts (λ k e at. (is.each k e at).is))
 
 -- ---- the numbers of accesses that are given in the order of their turns: agent after agent, each agent's by place
--- ---- members that pass a test
--- a member has the place of those before it that pass
-pub kept_at : {X : Type 0} (p : X → Bool) (xs : List X) (k : ℕ) (x : X) → slice_get xs k ≡ Some x → p x ≡ true → slice_get (filter p xs) (length (filter p (take k xs))) ≡ Some x
-kept_at p [] k x at passes = absurd (none-some x at)
-kept_at p (y ∷ xs) zero x at passes =
+-- ---- members that a filter retains
+-- a retained member comes behind the retained ones before it
+pub retained_at : {X : Type 0} (p : X → Bool) (xs : List X) (k : ℕ) (x : X) → slice_get xs k ≡ Some x → p x ≡ true → slice_get (filter p xs) (length (filter p (take k xs))) ≡ Some x
+retained_at p [] k x at passes = absurd (none-some x at)
+retained_at p (y ∷ xs) zero x at passes =
     let same : y ≡ x = cc in
     rw (ap p same ∙ passes) at
-kept_at p (y ∷ xs) (suc k) x at passes =
+retained_at p (y ∷ xs) (suc k) x at passes =
     elim (p y) as (λ t. slice_get (cond t (y ∷ filter p xs) (filter p xs))
     (length (cond t (y ∷ filter p (take k xs)) (filter p (take k xs)))) ≡ Some x) [
-      | true ↦ kept_at p xs k x at passes
-      | false ↦ kept_at p xs k x at passes
+      | true ↦ retained_at p xs k x at passes
+      | false ↦ retained_at p xs k x at passes
     ]
 
-kept_less : {X : Type 0} (p : X → Bool) (xs : List X) (k l : ℕ) (x : X) → k < l → slice_get xs k ≡ Some x → p x ≡ true → length (filter p (take k xs)) < length (filter p (take l xs))
-kept_less p xs k zero x lt at passes = absurd (omega (arith, lt))
-kept_less p [] k (suc l) x lt at passes = absurd (none-some x at)
-kept_less p (y ∷ xs) zero (suc l) x lt at passes =
+retained_less : {X : Type 0} (p : X → Bool) (xs : List X) (k l : ℕ) (x : X) → k < l → slice_get xs k ≡ Some x → p x ≡ true → length (filter p (take k xs)) < length (filter p (take l xs))
+retained_less p xs k zero x lt at passes = absurd (omega (arith, lt))
+retained_less p [] k (suc l) x lt at passes = absurd (none-some x at)
+retained_less p (y ∷ xs) zero (suc l) x lt at passes =
     let same : y ≡ x = cc in
     rw (ap p same ∙ passes) (omega arith)
-kept_less p (y ∷ xs) (suc k) (suc l) x lt at passes =
+retained_less p (y ∷ xs) (suc k) (suc l) x lt at passes =
     elim (p y) as (λ t. length (cond t (y ∷ filter p (take k xs)) (filter p (take k xs))) < length
     (cond t (y ∷ filter p (take l xs)) (filter p (take l xs)))) [
-      | true ↦ omega (arith, kept_less p xs k l x (omega (arith, lt)) at passes)
-      | false ↦ kept_less p xs k l x (omega (arith, lt)) at passes
+      | true ↦ omega (arith, retained_less p xs k l x (omega (arith, lt)) at passes)
+      | false ↦ retained_less p xs k l x (omega (arith, lt)) at passes
     ]
 
-kept_from : {X : Type 0} (p : X → Bool) (xs : List X) (m : ℕ) (x : X) → slice_get (filter p xs) m ≡ Some x → (k : ℕ) × (slice_get xs k ≡ Some x) × (p x ≡ true)
-kept_from p [] m x at = absurd (none-some x at)
-kept_from {X} p (y ∷ xs) m x at = by (p y) refl m at (λ n there. kept_from p xs n x there)
+retained_from : {X : Type 0} (p : X → Bool) (xs : List X) (m : ℕ) (x : X) → slice_get (filter p xs) m ≡ Some x → (k : ℕ) × (slice_get xs k ≡ Some x) × (p x ≡ true)
+retained_from p [] m x at = absurd (none-some x at)
+retained_from {X} p (y ∷ xs) m x at = by (p y) refl m at (λ n there. retained_from p xs n x there)
   where
     by : (t : Bool) → p y ≡ t → (m : ℕ) → slice_get (cond t (y ∷ filter p xs) (filter p xs)) m ≡ Some x → ((n : ℕ) → slice_get (filter p xs) n ≡ Some x → (k : ℕ) × (slice_get xs k ≡ Some x) × (p x ≡ true))
         → (k : ℕ) × (slice_get (y ∷ xs) k ≡ Some x) × (p x ≡ true)
@@ -354,7 +354,7 @@ module _ (bytes : ℕ) (acts : List Event) (lists : List (List Event)) (own : (i
   pub own_at : (k : ℕ) (e : Event) (i : ℕ) → i < length lists → slice_get acts k ≡ Some e → e.owner ≡ Some i → IsOwn k e i
   own_at k e i known at is =
       let m = length (own_events i (take k acts)) in
-      let there : slice_get (own_events i acts) m ≡ Some e = kept_at (λ (x : Event). is_owned_by i x.owner) acts k e at (ap (is_owned_by i) is ∙ same_agent i) in
+      let there : slice_get (own_events i acts) m ≡ Some e = retained_at (λ (x : Event). is_owned_by i x.owner) acts k e at (ap (is_owned_by i) is ∙ same_agent i) in
       let access : IsAccessOf bytes i m e = subst (λ (p : ℕ). IsAccessOf bytes i p e) (let s : 0 + m ≡ m = omega arith in s) (access_at bytes i 0 (own_events i acts) m e (made i known) there) in
       record {
         there = there;
@@ -391,7 +391,7 @@ module _ (bytes : ℕ) (acts : List Event) (lists : List (List Event)) (own : (i
       let i = of.0 in
       let first = own_at k e i of.1 at of.2 in
       let second = own_at l d i of.1 there (sym same ∙ of.2) in
-      omega (arith, first.access.placed, second.access.placed, kept_less (λ (x : Event). is_owned_by i x.owner) acts k l e lt at (ap (is_owned_by i) of.2 ∙ same_agent i))
+      omega (arith, first.access.placed, second.access.placed, retained_less (λ (x : Event). is_owned_by i x.owner) acts k l e lt at (ap (is_owned_by i) of.2 ∙ same_agent i))
 
   same_act : (k l : ℕ) (e d : Event) → slice_get acts k ≡ Some e → slice_get acts l ≡ Some d → e ≡ d → k ≡ l
   same_act k l e d at there same = elim (cases_order k l) [
@@ -420,7 +420,7 @@ module _ (bytes : ℕ) (acts : List Event) (lists : List (List Event)) (own : (i
         ) in
         let e = get_or (own_events i acts) m no_event in
         let there : slice_get (own_events i acts) m ≡ Some e = slice_get-get_or (own_events i acts) m no_event within in
-        let from = kept_from (λ (x : Event). is_owned_by i x.owner) acts m e there in
+        let from = retained_from (λ (x : Event). is_owned_by i x.owner) acts m e there in
         let access = access_at bytes i 0 (own_events i acts) m e (made i found.known) there in
         let numbered : number e ≡ (bytes + start_in lists i) + e.place =
         ap (λ (o : Option ℕ). (bytes + start_in lists (agent_in o)) + e.place) (owner_is i e.owner from.2) in

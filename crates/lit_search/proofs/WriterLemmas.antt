@@ -1,4 +1,4 @@
--- The last writer of each byte that is read, in the order of turns, and what the block holds in their course.
+-- The last writer of each byte that is read, in the order of turns, and the block's bytes in the course of the turns.
 use Rattle.std.proofs.Common.{◌≡◌, ◌≢◌, ◌⊎◌, inl, inr, ℕ, zero, suc, ◌+◌, ◌<◌, ◌≤◌, ◌==◌, Bool, true, false, Some, None, List, [], ◌∷◌, length, map, take, drop, ◌-◌, refl, sym, ap, subst, ◌∙◌, arith, ◌++◌, zip, filter, append_assoc, length-drop}
 use Rattle.std.specs.Prelude.{◌&&◌, IsTrue, if◌then◌else◌, nat_le, nat_lt, slice_get, replicate, slice_index}
 use Rattle.std.proofs.lemmas.Bool.{and_from, and_parts, eq-eqb, false≢true, le-leb, leb-true, lt-ltb, ltb-true, cases_lt, lt-leb}
@@ -15,7 +15,7 @@ use Rattle.lit_rel.specs.InitReads.{AreOfEvents}
 use Rattle.lit_order.specs.MemoryOrder.{StandsBefore}
 use Rattle.lit_search.specs.Sequential.{IsLastWrite, IsSequential}
 use Rattle.lit_search.proofs.SequentialLemmas.{not_itself}
-use Rattle.lit_search.proofs.TimeLemmas.{IsTimeline, act_earlier, act_place, complete, event_of, init_earlier, keeps_agents, keeps_making, order_in_turn, place_of, IsAct}
+use Rattle.lit_search.proofs.TimeLemmas.{IsTimeline, act_earlier, act_place, complete, event_of, init_earlier, respects_agents, respects_making, order_in_turn, place_of, IsAct}
 use Rattle.std.specs.List.{range_with_len}
 use Rattle.std.proofs.lemmas.List.Edits.{length-paste}
 use Rattle.std.proofs.lemmas.List.FromFn.{get_or-map-range_with_len, length-map-range_with_len}
@@ -251,8 +251,8 @@ module _ (bytes : ℕ) (events acts : List Event) (number : Event → ℕ) (is :
   pub sequential : IsSequential events sources order
   sequential = record {
     complete = complete bytes events acts number is;
-    agents = keeps_agents bytes events acts number is;
-    makes = keeps_making bytes events acts number is;
+    agents = respects_agents bytes events acts number is;
+    makes = respects_making bytes events acts number is;
     reads = λ r b w reads. (written_last r b w (read_at reads.0 r b w reads.1 reads.2)).last;
   }
 
@@ -327,22 +327,22 @@ bytes_from block first size h inside are =
     ∙ sym (get_or-map-range_with_len h 0 size k k d few (let e : 0 + k ≡ k = omega arith in e)))
 
 module _ (bytes : ℕ) (events acts : List Event) (number : Event → ℕ) (is : IsTimeline bytes events acts number) where
-  -- ---- what the block holds
+  -- ---- the block's bytes
   -- each byte of the block is what its writer stores there
-  pub record IsHeld (block : List ℕ) (writer : ℕ → ℕ) : Type 0 where
+  pub record IsWrittenBy (block : List ℕ) (writer : ℕ → ℕ) : Type 0 where
     pub long : length block ≡ bytes
     pub stored : (b : ℕ) → b < bytes → slice_index block b ≡ payload_at (event_at events (writer b)) b
 
-  held_after : (es : List Event) (block : List ℕ) (writer : ℕ → ℕ) → ((k : ℕ) (e : Event) → slice_get es k ≡ Some e → IsAct bytes events (number e) e) → IsHeld block writer
-      → IsHeld (block_after block es) (λ b. written number b (writer b) es)
-  held_after [] block writer acted held = held
-  held_after (e ∷ es) block writer acted held = held_after es (after_event e block) (λ b. if writes_byte b e then number e else writer b) (λ k d at. acted (suc k) d at) (record {
-    long = length_after e block inside first.access.stored ∙ held.long;
+  written_after : (es : List Event) (block : List ℕ) (writer : ℕ → ℕ) → ((k : ℕ) (e : Event) → slice_get es k ≡ Some e → IsAct bytes events (number e) e) → IsWrittenBy block writer
+      → IsWrittenBy (block_after block es) (λ b. written number b (writer b) es)
+  written_after [] block writer acted is_written = is_written
+  written_after (e ∷ es) block writer acted is_written = written_after es (after_event e block) (λ b. if writes_byte b e then number e else writer b) (λ k d at. acted (suc k) d at) (record {
+    long = length_after e block inside first.access.stored ∙ is_written.long;
     stored = λ b lt. byte_after e block b inside first.access.stored
         ∙ elim (writes_byte b e) as (λ t. (if t then payload_at e b else slice_index block b)
         ≡ payload_at (event_at events (if t then number e else writer b)) b) [
           | true ↦ ap (λ (x : Event). payload_at x b) (sym first.is)
-          | false ↦ held.stored b lt
+          | false ↦ is_written.stored b lt
         ];
   })
     where
@@ -350,13 +350,13 @@ module _ (bytes : ℕ) (events acts : List Event) (number : Event → ℕ) (is :
       first = acted 0 e refl
 
       inside : e.first + e.size ≤ length block
-      inside = omega (arith, first.access.in_block, held.long)
+      inside = omega (arith, first.access.in_block, is_written.long)
 
   abbrev pub block_before : ℕ → List ℕ
   block_before k = block_after (replicate bytes 0) (take k acts)
 
-  pub held_before : (k : ℕ) → IsHeld (block_before k) (λ b. written number b b (take k acts))
-  held_before k = held_after (take k acts) (replicate bytes 0) (λ b. b) (λ j e at. let there = in_front acts k j e at in is.each j e there.1) (record {
+  pub written_before : (k : ℕ) → IsWrittenBy (block_before k) (λ b. written number b b (take k acts))
+  written_before k = written_after (take k acts) (replicate bytes 0) (λ b. b) (λ j e at. let there = in_front acts k j e at in is.each j e there.1) (record {
     long = length-replicate bytes 0;
     stored = λ b lt.
         get_or-replicate bytes b 0 0 lt ∙ ap (slice_index (0 ∷ 0 ∷ 0 ∷ 0 ∷ [])) (let e : 0 ≡ b - b = omega arith in e)
@@ -368,7 +368,7 @@ module _ (bytes : ℕ) (events acts : List Event) (number : Event → ℕ) (is :
       → value_of events (sources_in_turn bytes events acts number is) (number e) ≡ found_at e (block_before k)
   value_found k e at reads =
       let act = is.each k e at in
-      let held = held_before k in
+      let is_written = written_before k in
       let r = number e in
       let f = source_of number acts in
       let g : (ℕ × ℕ) × ℕ → ℕ = λ p. payload_at (event_at events p.1) p.0.1 in
@@ -377,6 +377,6 @@ module _ (bytes : ℕ) (events acts : List Event) (number : Event → ℕ) (is :
       ∙ ap (λ (t : Bool). map (λ (q : ℕ × ℕ). g (q, f q)) (if t then map (λ k. (r, e.first + k)) (range_with_len 0 e.size) else [])) reads
       ∙ maps (λ (k : ℕ). (r, e.first + k)) (λ (q : ℕ × ℕ). g (q, f q)) (range_with_len 0 e.size)
       ∙ sym (bytes_from (block_before k) e.first e.size (λ j. g ((r, e.first + j), f (r, e.first + j)))
-      (omega (arith, act.access.in_block, held.long)) (λ j lt.
-      held.stored (e.first + j) (omega (arith, act.access.in_block, lt))
+      (omega (arith, act.access.in_block, is_written.long)) (λ j lt.
+      is_written.stored (e.first + j) (omega (arith, act.access.in_block, lt))
       ∙ ap (λ (w : ℕ). payload_at (event_at events w) (e.first + j)) (sym (source_at bytes events acts number is k e (e.first + j) at)))))

@@ -1,4 +1,4 @@
--- What a collector holds (this project's own).
+-- A collector as contracts see it (this project's own).
 use Rattle.std.specs.Prelude.{ℕ, ◌<◌, Bool, IsTrue, List}
 use Rattle.std.proofs.Common.{refl}
 use Rattle.std.specs.Coded.{Coded, code_by, coded×, coded_ℕ, coded_bool, coded_list}

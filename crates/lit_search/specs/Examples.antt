@@ -1,4 +1,4 @@
--- The entries that a value of the program's type `Examples` stands for, in the order in which they were put there.
+-- The entries of a value of the program's type `Examples`, in the order of recording.
 use Rattle.std.specs.Prelude.{List, map}
 use Rattle.std.specs.Box.{boxed_slice_items}
 use Rattle.lit_search.specs.declared.found.examples.Examples.TheInside.{Inside}

@@ -4,11 +4,11 @@ use Rattle.lit_read.specs.Syntax.{Litmus}
 use Rattle.lit_valid.specs.declared.class.Class.{Class}
 use Rattle.lit_valid.specs.Class.{GivesClass}
 
--- none of these numbers is such a choice's
+-- none of these numbers is that of a choice that gives the class
 abbrev pub HasNoneOf : Litmus → Class → (ℕ → Bool) → Type 0
 HasNoneOf t class numbers = (n : ℕ) → IsTrue (numbers n) → ¬ GivesClass t class n
 
--- of these numbers, the least that is such a choice's
+-- of these numbers, the least of a choice that gives the class
 pub record IsFirstOf (t : Litmus) (class : Class) (numbers : ℕ → Bool) (n : ℕ) : Type 0 where
   pub among : IsTrue (numbers n)
   pub gives : GivesClass t class n

@@ -1,4 +1,4 @@
--- The report that a value of the program's type `Found` stands for.
+-- The report of a value of the program's type `Found`.
 use Rattle.std.specs.Prelude.{map}
 use Rattle.lit_search.specs.declared.found.Found.TheInside.{Inside}
 use Rattle.lit_search.specs.Ranked.{joined_entries, ranked_entry}

@@ -53,7 +53,7 @@ makers_of t schedule =
     made_by_each after_turn made_in_turn (beginning t) schedule
     ++ made_by_each after_end made_at_end (after_each after_turn (beginning t) schedule) (range_with_len 0 (length t.agents))
 
--- ---- its execution
+-- ---- the execution of a schedule
 -- A valid execution with the outcome of the schedule. Each read takes what was written last before it in a list of all
 -- events, which is a memory-order: the events that make the block, and then the accesses in the order of their turns.
 pub record IsOfSchedule (t : Litmus) (schedule : List ℕ) (x : Execution) (order : List ℕ) : Type 0 where
@@ -64,7 +64,7 @@ pub record IsOfSchedule (t : Litmus) (schedule : List ℕ) (x : Execution) (orde
   pub in_turn : map (λ e. (event_at (execution_events t x) e).owner) order
       ≡ replicate t.bytes None ++ map (λ agent. Some agent) (makers_of t schedule)
 
--- there is one
+-- the schedule has such an execution
 abbrev pub HasExecution : Litmus → List ℕ → Type 0
 HasExecution t schedule = (x : Execution) × (order : List ℕ) × IsOfSchedule t schedule x order
 

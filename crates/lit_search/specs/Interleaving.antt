@@ -23,7 +23,7 @@ with_number block window index value =
     ++ (take (window_size window) (payload_of value) ++ drop (first_byte window index + window_size window) block)
 
 -- ---- what a statement does
--- the block's bytes, and what the registers of an agent hold
+-- the block's bytes, and the values of an agent's registers
 pub record Contents : Type 0 where
   pub block : List ℕ
   pub registers : List ℕ
@@ -59,8 +59,8 @@ abbrev pub access_or : Statements → (others instead : Statements) → Statemen
 access_or End others instead = instead
 access_or (Then s ss) others instead = Then s (joined_statements ss others)
 
--- What is left from the next access on, where the registers hold these: an `if` before it is decided by them, and its
--- part takes its place. Where no access follows, nothing is left.
+-- The remaining statements from the next access on, by the values of registers: these decide each `if` before it, and the part chosen
+-- takes its place. Where no access follows, none remain.
 abbrev mutual
   pub from_access_in : List ℕ → Statement → Statements
   from_access_in registers (Load reg window index atomic) = Then (Load reg window index atomic) End
@@ -75,7 +75,7 @@ abbrev mutual
   from_access registers (Then s ss) = access_or (from_access_in registers s) ss (from_access registers ss)
 
 -- ---- turns
--- how far an agent has come: the statements that it has left, and what its registers hold
+-- how far an agent has come: its remaining statements, and the values of its registers
 pub record Progress : Type 0 where
   pub left : Statements
   pub registers : List ℕ
@@ -93,7 +93,7 @@ progress_of m agent = slice_index_or m.agents agent (record { left = End; regist
 abbrev pub found_by : Moment → ℕ → Contents
 found_by m agent = record { block = m.block; registers = (progress_of m agent).registers }
 
--- an agent has left these contents behind, and has these statements left
+-- after an agent made these contents, and has these statements left
 abbrev pub left_behind : Moment → ℕ → Statements → Contents → Moment
 left_behind m agent left c = record { block = c.block; agents = slice_set m.agents agent (record { left = left; registers = c.registers }) }
 

@@ -1,10 +1,10 @@
--- The entries that ranks stand for, by their places in lists of entries, one behind the other.
+-- The entries of ranks, by their places in the concatenated lists of entries.
 use Rattle.std.specs.Prelude.{List, [], slice_index_or}
 use Rattle.std.specs.List.{flat_map}
 use Rattle.lit_search.specs.declared.found.ranking.Rank.{Rank}
 use Rattle.lit_search.specs.Report.{Entry}
 
--- the lists, one behind the other
+-- the lists, concatenated
 abbrev pub joined_entries : List (List Entry) → List Entry
 joined_entries parts = flat_map (λ part. part) parts
 

@@ -1,5 +1,5 @@
 -- The report of a set of choices (this project's own): the outcomes of the valid executions, each with its example, and
--- whether one of these has a data race. A set of choices is a test on their numbers.
+-- whether one of these has a data race. A set of choices is a predicate on their numbers.
 use Rattle.std.specs.Prelude.{◌≡◌, ◌↔◌, ℕ, ◌<◌, Bool, false, ◌&&◌, ◌||◌, nat_le, nat_lt}
 use Rattle.std.specs.Prelude.{IsTrue, List, [], Some, slice_get, slice_index_or}
 use Rattle.std.specs.Cmp.Lexicographic.{slice_cmp}
@@ -41,7 +41,7 @@ abbrev pub in_either : (ℕ → Bool) → (ℕ → Bool) → ℕ → Bool
 in_either some others n = some n || others n
 
 -- ---- reports
--- one of these numbers is such a choice's
+-- one of these numbers is that of a choice with a data race
 abbrev pub HasRaceIn : Litmus → (ℕ → Bool) → Type 0
 HasRaceIn t numbers = (n : ℕ) × IsTrue (numbers n) × GivesRace t n
 

@@ -1,4 +1,4 @@
--- Executions in one order (this project's own): each read takes what was written last before it.
+-- Sequential executions (this project's own): each read takes what was written last before it in one order.
 use Rattle.std.specs.Prelude.{ℕ, IsTrue, List, length}
 use Rattle.lit_paths.specs.declared.event.Event.{Event}
 use Rattle.lit_paths.specs.Event.{HasByte, does_write, event_at}
@@ -13,7 +13,7 @@ pub record IsLastWrite (events : List Event) (order : List ℕ) (r b w : ℕ) : 
   pub last : (v : ℕ) → IsTrue (does_write (event_at events v).kind) → HasByte (event_at events v) b → StandsBefore order w v
       → StandsBefore order v r → ⊥
 
--- A list of all events that keeps agent-order, and in which each byte is made before all else that is done to it, and is
+-- A list of all events that respects agent-order, and in which each byte is made before all else that is done to it, and is
 -- read from what wrote it last.
 pub record IsSequential (events : List Event) (sources order : List ℕ) : Type 0 where
   pub complete : IsListOfAll (length events) order

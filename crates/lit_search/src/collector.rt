@@ -1,4 +1,4 @@
-//! What is found while ranges of choices are taken, one after the other.
+//! The collector of a report: it takes ranges of choices, one after the other.
 
 ghost use Rattle.std.specs.Prelude.{◌≡◌, ℕ, ◌≤◌, Bool, length, IfOk, OnErr, OnOk};
 ghost use Rattle.lit_paths.specs.Choice.{choices_of};
@@ -18,7 +18,7 @@ use std::marker::Model;
 pub struct Collector<'p> {
     alloc: Global,
     plan: &'p Plan<'p>,
-    /// Each outcome, with the example that came first.
+    /// Each outcome, with the example that was recorded first.
     table: Examples,
     /// Whether a choice taken has a data race.
     race: bool,
@@ -96,6 +96,7 @@ impl<'p> Collector<'p> {
                 Ok(())
             }
             Err(fault) => {
+                // Takes back what the refused call recorded (decision 46).
                 self.table.truncate(count);
                 Err(fault.into())
             }

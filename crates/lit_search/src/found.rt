@@ -1,4 +1,4 @@
-//! The outcomes found, each with its example.
+//! The report of a search: outcomes, each with its example, and the mark of data races.
 
 pub(crate) mod examples;
 pub(crate) mod merging;
@@ -30,9 +30,9 @@ pub struct Example {
 #[derive(Drop)]
 pub struct Found {
     parts: Vec<Examples>,
-    /// Which outcome of the parts comes when.
+    /// The order of the outcomes in the parts.
     ranks: Vec<Rank>,
-    /// How many outcomes stand in the parts: more than there are ranks, where some stand in several.
+    /// How many outcomes the parts have. These are more than the ranks, if an outcome is in several parts (decision 43).
     count: usize,
     race: bool,
 }

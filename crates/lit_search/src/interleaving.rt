@@ -25,7 +25,7 @@ fn runners_of<'t>(alloc: Global, test: &'t Test) -> Result<Vec<Runner<'t>>, Allo
     Ok(runners)
 }
 
-/// What the registers of an outcome hold.
+/// The values of an outcome's registers.
 fn outcome_of(alloc: Global, test: &Test, runners: &[Runner<'_>]) -> Result<Vec<u32>, SearchFault>
     requires { length runners.now ≡ length test.now.agents }
     ensures { IfOk result (λ outcome. outcome.items ≡ outcome_of test.now (map (λ runner. runner.registers) runners.now)) }

@@ -1,4 +1,4 @@
-//! What holds of reports, of valid executions and of schedules. The functions do nothing: their contracts are theorems.
+//! Laws of reports, of valid executions and of schedules. The functions do nothing: their contracts are theorems.
 
 mod schedules;
 mod sequential;
@@ -9,7 +9,7 @@ ghost use Rattle.lit_paths.specs.Choice.{choices_of};
 ghost use Rattle.lit_search.specs.Report.{Report, IsReport};
 
 pub use lit_valid::laws::{
-    broken_parts_have_no_completion, choices_have_one_outcome, orders_of_completions_keep_parts,
+    broken_parts_have_no_completion, choices_have_one_outcome, orders_of_completions_respect_parts,
     whole_parts_are_decided_by_orders,
 };
 pub use schedules::{interleavings_are_reported, interleavings_are_valid, reports_have_an_entry};

@@ -1,4 +1,4 @@
-//! The outcomes of a litmus test: which choices of it belong to valid executions, and what is read in them.
+//! The search for a litmus test's outcomes: which choices belong to valid executions, and with which outcomes.
 //!
 //! `search_range` gives the report of a range of a plan's choices: the outcomes of the valid executions, each with its
 //! least example. `interleave` gives the outcome of a schedule, step by step. The definitions stand in `specs/`:

@@ -1,4 +1,4 @@
-//! Searching a range of choices, one combination after the other and box by box.
+//! The search of a range of choices, combination by combination and box by box.
 
 ghost use Rattle.std.specs.Prelude.{◌↔◌, ◌⊎◌, ◌+◌, ◌<◌, ◌≤◌, IsTrue, length, IfOk, MatchOption};
 ghost use Rattle.lit_read.specs.Syntax.{IsLitmus};
@@ -33,7 +33,7 @@ fn boxes_of<'a, 'p>(problem: &'a Problem<'p>, from: u64, to: u64) -> Boxes<'a, '
     ensures { AreOfRange problem.now from to result }
 {
     let combination = problem.combination();
-    // That the combination is one of the test is known of its first choice.
+    // For the prover: that the combination is one of the test.
     let _first = combination.first();
     Boxes::of_range(combination, from, to)
 }
@@ -47,6 +47,7 @@ fn first_on(problem: &Problem<'_>, class: Class, from: u64, to: u64) -> Option<u
     requires ends { to ≤ choices_before problem.now.0 (problem.now.1 + 1) }
     ensures { MatchOption result (HasNoneOf problem.now.0 class (in_range from to)) (IsFirstOf problem.now.0 class (in_range from to)) }
 {
+    // For the prover: the executions of the test have choices, and these have numbers.
     laws_below();
     let boxes = boxes_of(problem, from, to);
     let mut domains = [EventSet::new(); BYTE_READ_LIMIT];
@@ -59,13 +60,14 @@ fn first_on(problem: &Problem<'_>, class: Class, from: u64, to: u64) -> Option<u
     None
 }
 
-/// Of the choices with numbers from `from` up to and without `to`, the first that a valid execution with an outcome in
-/// the class has; `None` where there is none. `from` is at most `to`, and `to` at most `plan.total()`. Takes no memory.
+/// Of the choices with numbers from `from` up to and without `to`, the first one of a valid execution with an outcome in
+/// the class; `None` if there is none. `from` is at most `to`, and `to` at most `plan.total()`. Takes no memory.
 pub fn first_in(plan: &Plan<'_>, class: Class, from: u64, to: u64) -> Option<u64>
     requires order { from ≤ to }
     requires known { to ≤ length (choices_of plan.now) }
     ensures { MatchOption result (HasNoneOf plan.now class (in_range from to)) (IsFirstOf plan.now class (in_range from to)) }
 {
+    // For the prover: the plan's test is one that a text can say.
     let _test = plan.test();
     let mut next = from;
     while next < to {
@@ -79,16 +81,17 @@ pub fn first_in(plan: &Plan<'_>, class: Class, from: u64, to: u64) -> Option<u64
     None
 }
 
-/// Whether it was marked, or a box of the problem's combination has a completion with a data race.
+/// Answers `true` if `mark` is, or if a box of the problem's combination has a completion with a data race.
 fn is_marked_with(problem: &Problem<'_>, domains: &Domains, mark: bool) -> bool
     requires { IsBox (box_with problem.now domains.now) }
     ensures { IsTrue result ↔ (IsTrue mark ⊎ HasSolution (box_with problem.now domains.now) Race) }
 {
+    // Once marked, no further box is searched for a data race.
     mark || exists(problem, domains, Goal::Race)
 }
 
 /// Records the outcomes of the choices with numbers from `from` up to and without `to`, all of the problem's combination,
-/// that a table lacks. Whether it was marked, or one of these choices has a data race.
+/// that the table lacks. Answers `true` if `mark` is, or if one of these choices has a data race (decision 45).
 fn record_on<H: Heartbeat>(
     problem: &Problem<'_>,
     table: &mut Examples,
@@ -104,6 +107,7 @@ fn record_on<H: Heartbeat>(
     ensures goes_on { GoesOn table.old table.new }
     ensures gains { IfOk result (Gains problem.now.0 (λ n. IsTrue (in_range from to n)) table.old table.new mark) }
 {
+    // For the prover: the executions of the test have choices, and these have numbers.
     laws_below();
     let boxes = boxes_of(problem, from, to);
     let mut domains = [EventSet::new(); BYTE_READ_LIMIT];
@@ -116,8 +120,8 @@ fn record_on<H: Heartbeat>(
     Ok(race)
 }
 
-/// Records the outcomes of the choices with numbers from `from` up to and without `to` that a table lacks. Whether it was
-/// marked, or one of these choices has a data race.
+/// Records the outcomes of the choices with numbers from `from` up to and without `to` that the table lacks. Answers `true` if
+/// `mark` is, or if one of these choices has a data race.
 pub(crate) fn record<H: Heartbeat>(
     plan: &Plan<'_>,
     table: &mut Examples,
@@ -131,6 +135,7 @@ pub(crate) fn record<H: Heartbeat>(
     ensures goes_on { GoesOn table.old table.new }
     ensures gains { IfOk result (Gains plan.now (λ n. IsTrue (in_range from to n)) table.old table.new mark) }
 {
+    // For the prover: the plan's test is one that a text can say.
     let _test = plan.test();
     let mut race = mark;
     let mut next = from;

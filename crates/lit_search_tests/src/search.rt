@@ -140,8 +140,8 @@ fn known<'a>(choice: u64, outcome: &'a [u32], order: &'a [u8]) -> Valid<'a> {
     }
 }
 
-/// Some ranges begin and end inside a part that is broken. A reads 0 where its path asks for 1 in choices 0 and 1, and in 4
-/// and 5: [1, 5) begins in the one and ends in the other.
+/// Some ranges begin and end inside a broken part. In choices 0 and 1, and in 4 and 5, A reads 0 though its guard asks for 1: [1, 5)
+/// begins in the first of these parts and ends in the second.
 fn assert_load_buffering(rt: &(impl Abort + AllocGlobal)) -> Result<(), Fail> {
     let valid = [
         known(8, &[0, 0], &[0, 1, 2, 3]),

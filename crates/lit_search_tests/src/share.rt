@@ -26,7 +26,7 @@ fn found_by_three(
 }
 
 /// The answer of a quick search by three workers, seven choices a piece.
-fn asked_by_three(
+fn quick_by_three(
     rt: &(impl Threads + Sync + AllocGlobal),
     plan: &Plan<'_>,
 ) -> Result<Quick, Fail> {
@@ -42,7 +42,7 @@ fn independent_reads_by_three_workers(rt: HostRuntime) -> Result<(), Fail> {
     let found = found_by_three(&rt, &plan)?;
     assert_eq!(rt; found.len(), 15);
     assert_eq!(rt; found.outcome(0), [0, 0, 0, 0].as_slice());
-    let quick = asked_by_three(&rt, &plan)?;
+    let quick = quick_by_three(&rt, &plan)?;
     assert!(rt; quick.met.is_none());
     let Some(unmet) = quick.unmet else {
         panic!(rt; "an outcome does not meet the condition")

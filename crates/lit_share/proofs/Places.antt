@@ -1,4 +1,4 @@
--- What a step of a place at the desk leaves as it was, and what a place tells and keeps.
+-- What a step of a place at the desk preserves, and what a place tells and retains.
 use Rattle.std.proofs.Common.{◌≡◌, ◌≤◌, ◌⊎◌, inl, inr, ℕ, List, [], ◌∷◌, ◌++◌, Option, Some, None, refl, sym, ap, subst, ◌∙◌}
 use Rattle.std.specs.Prelude.{All, Contains, IfSome, IfNone}
 use Rattle.std.proofs.Math.Seq.{drop-append_seam}

@@ -1,21 +1,21 @@
--- What a place at a desk did since an earlier moment (this project's own).
+-- What a place at a desk drew and told since an earlier moment (this project's own).
 use Rattle.std.specs.Prelude.{◌≡◌, ℕ, List, ◌++◌, length, drop}
 use Rattle.lit_desk.specs.declared.class.Class2.{Class2}
 use Rattle.lit_desk.specs.Desk.{PlaceLists, draws_of, told_by, seen_by}
 
--- what stands in a list behind an earlier one
+-- what a list has behind an earlier state of it
 abbrev pub since : List ℕ → List ℕ → List ℕ
 since before after = drop (length before) after
 
--- its draws without those that it had then
+-- the draws since then
 abbrev pub drawn_since : PlaceLists → PlaceLists → List ℕ
 drawn_since before after = since (draws_of before) (draws_of after)
 
--- it drew on: the draws that it had then stand before those since
+-- the earlier draws are a prefix of the later ones
 abbrev pub DrewOn : PlaceLists → PlaceLists → Type 0
 DrewOn before after = draws_of after ≡ draws_of before ++ drawn_since before after
 
--- it told nothing and saw nothing
+-- since then it told nothing and saw nothing
 pub record OnlyDrew (before after : PlaceLists) : Type 0 where
   pub told : (class : Class2) → told_by class after ≡ told_by class before
   pub seen : (class : Class2) → seen_by class after ≡ seen_by class before

@@ -28,7 +28,7 @@ IsHunted t cut class place piece =
     ((n : ℕ) × IsFirstOf t class (in_piece (length (choices_of t)) cut piece) n × Contains (told_by (desk_class class) place) n)
     ⊎ (HasNoneOf t class (in_piece (length (choices_of t)) cut piece) ⊎ ((n : ℕ) × (n < piece_start cut piece) × Knows class place n))
 
--- Since an earlier moment the place told choices of the class alone, and keeps what it told and saw before.
+-- Since an earlier moment the place told choices of the class alone, and retains what it told and saw before.
 pub record HasTold (t : Litmus) (class : Class) (before after : PlaceLists) : Type 0 where
   pub told : told_by (desk_class class) after
       ≡ told_by (desk_class class) before ++ since (told_by (desk_class class) before) (told_by (desk_class class) after)

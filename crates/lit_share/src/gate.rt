@@ -1,18 +1,17 @@
-//! What each worker passes on entering a piece.
+//! Gates: what each worker calls on entering a piece.
 
 use lit_search::Heartbeat;
 
-/// What each worker passes on entering each of its pieces. Workers on threads of their own share a gate by reference, so
-/// it sees the pieces as they are entered, and may hold a worker up or tell of its progress. The answer of a search does
-/// not depend on it.
+/// What each worker calls on entering each of its pieces. Workers on threads of their own share a gate by reference. So it sees the
+/// pieces as they are entered, and may delay a worker or report its progress. The answer of a search does not depend on it.
 pub trait Gate: Sync {
-    /// What one worker carries from piece to piece. It is let go with the worker.
+    /// What one worker carries from piece to piece. It is dropped with the worker.
     type Pass: Send + Drop;
 
     /// The worker with this number, from 0, enters the piece with this number.
     fn at(&self, pass: &mut Self::Pass, worker: usize, piece: u64);
 
-    /// A worker that searches for all outcomes still goes on: it calls this at each step down, mostly thousands of times a second.
+    /// A worker that searches for all outcomes calls this at each step down, mostly thousands of times a second, to show that it runs.
     fn alive(&self) {}
 }
 

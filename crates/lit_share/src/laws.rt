@@ -1,4 +1,4 @@
-//! The law of pieces.
+//! The law of pieces. The function does nothing: its contract is a theorem.
 
 ghost use Rattle.std.specs.Prelude.{◌≡◌, ℕ, ◌<◌, IsTrue};
 ghost use Rattle.lit_share.specs.Pieces.{pieces_of, in_piece};

@@ -1,4 +1,4 @@
-//! How the choices may be cut, and how many may search them.
+//! Limits of a search by workers.
 
 use lit_desk::MOST_SEATS;
 use lit_paths::CHOICE_LIMIT;

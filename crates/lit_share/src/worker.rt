@@ -1,4 +1,4 @@
-//! Workers, each with a place at the desk and a pass.
+//! The state of a worker: before, during and after its call.
 
 ghost use Rattle.std.specs.Prelude.{◌≡◌, length, All, IfOk};
 ghost use Rattle.lit_desk.specs.Desk.{new_place};
@@ -35,6 +35,7 @@ pub(crate) fn workers_at<P: Drop, A: Drop>(
         let Some(pass) = passes.pop() else {
             unreachable!()
         };
+        // Places are taken from the back, so their number afterwards is the worker's own.
         workers.push(Worker::Ready(places.len(), place, pass))?;
     }
     Ok(workers)

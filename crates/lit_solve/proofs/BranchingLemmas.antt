@@ -1,4 +1,4 @@
--- Byte reads whose sources can force nothing.
+-- Variable ordering: the best byte read so far, and byte reads whose sources can force nothing.
 use Rattle.lit_solve.proofs.Words.{◌+◌, ◌<◌, arith, byte_reads, IfNone, IfSome, inl, inr, length, None, Option, same_Some, slice_get, Some}
 use Rattle.lit_solve.proofs.Words.{subst, sym, ℕ, ◌≡◌, ◌≤◌, ◌⊎◌}
 use Rattle.lit_solve.specs.Box.{Box, HasSource, box_events}
@@ -15,7 +15,7 @@ idle_at box k r b is_read none q c w is_read_too there effect = grind (arith, sa
 pub record IsBestBelow (box : Box) (best : Option ℕ) (n : ℕ) : Type 0 where
   pub known : IfSome best (λ k. k < length (byte_reads (box_events box)))
   pub several : IfSome best (λ k. (w : ℕ) → ¬ HasAlone box k w)
-  pub quiet : IfNone best ((k : ℕ) → k < n → ((w : ℕ) × HasAlone box k w) ⊎ IsIdle box k)
+  pub leaf : IfNone best ((k : ℕ) → k < n → ((w : ℕ) × HasAlone box k w) ⊎ IsIdle box k)
 
 module _ (box : Box) (best : Option ℕ) (n : ℕ) (is : IsBestBelow box best n) where
   -- one more that has several sources, one of which can force something
@@ -23,9 +23,9 @@ module _ (box : Box) (best : Option ℕ) (n : ℕ) (is : IsBestBelow box best n)
       → IsBestBelow box (Some k) (n + 1)
   best_more below several k which = grind arith
 
-  -- one more that is quiet
-  pub best_kept : ((w : ℕ) × HasAlone box n w) ⊎ IsIdle box n → IsBestBelow box best (n + 1)
-  best_kept quiet_there = record { known = is.known; several = is.several; quiet = by best is.quiet }
+  -- one more that can force nothing
+  pub best_stays : ((w : ℕ) × HasAlone box n w) ⊎ IsIdle box n → IsBestBelow box best (n + 1)
+  best_stays idle_there = record { known = is.known; several = is.several; leaf = by best is.leaf }
     where
       by : (b : Option ℕ) → IfNone b ((k : ℕ) → k < n → ((w : ℕ) × HasAlone box k w) ⊎ IsIdle box k)
           → IfNone b ((k : ℕ) → k < n + 1 → ((w : ℕ) × HasAlone box k w) ⊎ IsIdle box k)
@@ -34,11 +34,11 @@ module _ (box : Box) (best : Option ℕ) (n : ℕ) (is : IsBestBelow box best n)
         where
           at : (k : ℕ) → (k < n) ⊎ (k ≡ n) → ((w : ℕ) × HasAlone box k w) ⊎ IsIdle box k
           at k (inl less) = earlier k less
-          at k (inr last) = subst (λ (j : ℕ). ((w : ℕ) × HasAlone box j w) ⊎ IsIdle box j) (sym last) quiet_there
+          at k (inr last) = subst (λ (j : ℕ). ((w : ℕ) × HasAlone box j w) ⊎ IsIdle box j) (sym last) idle_there
 
 -- where all are looked at
-pub all_quiet : (box : Box) (best : Option ℕ) (n : ℕ) → IsBestBelow box best n → length (byte_reads (box_events box)) ≤ n → IfNone best (IsLeaf box)
-all_quiet box best n is all = by best is.quiet
+pub none_is_leaf : (box : Box) (best : Option ℕ) (n : ℕ) → IsBestBelow box best n → length (byte_reads (box_events box)) ≤ n → IfNone best (IsLeaf box)
+none_is_leaf box best n is all = by best is.leaf
   where
     by : (b : Option ℕ) → IfNone b ((k : ℕ) → k < n → ((w : ℕ) × HasAlone box k w) ⊎ IsIdle box k) → IfNone b (IsLeaf box)
     by (Some k) earlier = tt

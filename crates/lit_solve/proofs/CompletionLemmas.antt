@@ -1,4 +1,4 @@
--- Completions of a box take what it gives, keep what it forces, and have nothing that it leaves out.
+-- Completions of a box take what it gives, respect what it forces, and have no source that it prunes.
 use Rattle.lit_solve.proofs.Words.{◌<◌, [], ap, AreEventsIn, AreOfEvents, AreSources, arith, byte_reads, Completes, Event, Execution}
 use Rattle.lit_solve.proofs.Words.{execution_events, get_or, Given, Grows, HappensBefore, HasCoherentReads, HasTearFreeReads, inl, inr}
 use Rattle.lit_solve.proofs.Words.{IsBroken, IsForbidden, IsGivenWhole, IsMemoryOrder, Laws, length, List, PartModel, ReadsByteFrom}
@@ -61,9 +61,9 @@ module _ (box : Box) (x : Execution) (is : IsCompletion box x) where
   pub order_here : (order : List ℕ) → IsMemoryOrder (execution_events box.test x) x.sources order → IsMemoryOrder events x.sources order
   order_here order o = subst (λ (es : List Event). IsMemoryOrder es x.sources order) events_same o
 
-  -- its memory-orders keep what is forced
-  pub forced_kept : AreOfEvents events → (order : List ℕ) → IsMemoryOrder events x.sources order → (a d : ℕ) → IsForcedIn box a d → StandsBefore order a d
-  forced_kept of_events order o a d f =
+  -- its memory-orders respect what is forced
+  pub forced_respected : AreOfEvents events → (order : List ℕ) → IsMemoryOrder events x.sources order → (a d : ℕ) → IsForcedIn box a d → StandsBefore order a d
+  forced_respected of_events order o a d f =
       keeps_forced (length events) (HappensBefore events x.sources) (IsForbidden events x.sources)
       (triples_below (part_of box x.sources) sourced.each of_events) order o a d
       (IsForced-grow (HappensBeforeIn box) (HappensBefore events x.sources) (IsForbiddenIn box) (IsForbidden events x.sources)
@@ -83,30 +83,30 @@ module _ (box : Box) (x : Execution) (is : IsCompletion box x) where
     ordered = order_here its_order is.valid.ordered.1
 
     stands : (a d : ℕ) → IsForcedIn box a d → StandsBefore its_order a d
-    stands = forced_kept (laws.of_events events) its_order ordered
+    stands = forced_respected (laws.of_events events) its_order ordered
 
     pub whole : ¬ IsBroken (part_of box x.sources)
     whole = not_broken (part_of box x.sources) x completes laws laws.grow laws.stay (record { litmus = entered.litmus; known = entered.known })
 
-    -- it has no source that is out
-    pub not_out : RefusedBytesMakeFalse → AreEventsIn box.test.bytes events → (k r b w : ℕ) → slice_get (byte_reads events) k ≡ Some (r, b)
+    -- it has no source that can be pruned
+    pub not_prunable : RefusedBytesMakeFalse → AreEventsIn box.test.bytes events → (k r b w : ℕ) → slice_get (byte_reads events) k ≡ Some (r, b)
         → slice_get x.sources k ≡ Some w → IsPrunable box r b w → ⊥
-    not_out false_of sound k r b w is_read source (inl refused) =
+    not_prunable false_of sound k r b w is_read source (inl refused) =
         whole (inr (false_of (part_of box x.sources) r b w sound sourced.one_each (k, is_read, source) refused))
-    not_out false_of sound k r b w is_read source (inr (inl incoherent)) =
+    not_prunable false_of sound k r b w is_read source (inr (inl incoherent)) =
         incoherent (coherent_read_by events (HappensBefore events x.sources) (HappensBeforeIn box) grows.happens_before r b w
         (coherent r b w (k, is_read, source)))
-    not_out false_of sound k r b w is_read source (inr (inr (inl later))) =
+    not_prunable false_of sound k r b w is_read source (inr (inr (inl later))) =
         let synchronized : HappensBefore events x.sources w
         r = record { middles = []; chain = inr (inl record { reads = (b, (k, is_read, source)); can = later.can }) } in
         never_before_itself its_order ordered.complete.once w
         (StandsBefore-through its_order ordered.complete.once w r w (ordered.keeps w r synchronized) (stands r w later.later))
-    not_out false_of sound k r b w is_read source (inr (inr (inr (inl (v, between))))) =
+    not_prunable false_of sound k r b w is_read source (inr (inr (inr (inl (v, between))))) =
         ordered.avoids w r v record {
           reads = (b, (k, is_read, source));
           between = between_by events (HappensBeforeIn box) (HappensBefore events x.sources) grows.happens_before w r v between.between;
         } (stands w v between.after_source) (stands v r between.before_read)
-    not_out false_of sound k r b w is_read source (inr (inr (inr (inr tears)))) =
+    not_prunable false_of sound k r b w is_read source (inr (inr (inr (inr tears)))) =
         tears.other (tear_free r w tears.source (record { reads = (b, (k, is_read, source)); can = tears.can })
         (record { reads = (tears.byte, given_taken r tears.byte tears.source tears.is_given); can = tears.can_other }))
 

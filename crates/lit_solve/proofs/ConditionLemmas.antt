@@ -1,10 +1,10 @@
--- What a condition comes to by its members, one after the other.
+-- The value of a condition from the values of its members, one after the other.
 use Rattle.lit_solve.proofs.Words.{◌<◌, Bool, Cond, Condition, condition_of, false, get_or, Global, holds}
 use Rattle.lit_solve.proofs.Words.{length, List, list_all, list_all_at, list_any, list_any_at, names_of, subst, true, Vec, zip, ℕ, ◌∙◌, ◌≡◌}
 use Rattle.lit_read.specs.declared.syntax.Cond as code
 use Rattle.lit_paths.proofs.Conditions.{member_holds, holds-All, holds-Any}
-use Rattle.lit_solve.specs.declared.deciding.Decided.{Decided}
-use Rattle.lit_solve.specs.declared.deciding.Decided.TheVariants.{Comes, Hangs}
+use Rattle.lit_solve.specs.declared.condition_values.Decided.{Decided}
+use Rattle.lit_solve.specs.declared.condition_values.Decided.TheVariants.{Known, Undecided}
 use Rattle.lit_solve.specs.Box.{Box}
 use Rattle.lit_solve.specs.Fill.{AreSourcesIn}
 use Rattle.lit_solve.specs.Prospect.{IsUndecidedAt, outcome_by}
@@ -13,17 +13,17 @@ use Rattle.lit_solve.specs.Prospect.{IsUndecidedAt, outcome_by}
 abbrev pub values_of : Box → List ℕ → List ((ℕ × ℕ) × ℕ)
 values_of box sources = zip (names_of box.test) (outcome_by box sources)
 
--- of an Any, with these members left: none of those before is met, or it hangs
+-- of an Any, before these members: none of the earlier ones is true, or the value is undecided
 abbrev pub IsAnyLeft : Box → Condition → List Cond → Decided → Type 0
-IsAnyLeft box condition left (Comes false) = (sources : List ℕ) → AreSourcesIn box sources → holds (values_of box sources) condition ≡ list_any (member_holds (values_of box sources)) left
-IsAnyLeft box condition left (Comes true) = ⊥
-IsAnyLeft box condition left (Hangs k) = IsUndecidedAt box k
+IsAnyLeft box condition left (Known false) = (sources : List ℕ) → AreSourcesIn box sources → holds (values_of box sources) condition ≡ list_any (member_holds (values_of box sources)) left
+IsAnyLeft box condition left (Known true) = ⊥
+IsAnyLeft box condition left (Undecided k) = IsUndecidedAt box k
 
--- of an All: each of those before is met, or it hangs
+-- of an All: each of the earlier ones is true, or the value is undecided
 abbrev pub IsAllLeft : Box → Condition → List Cond → Decided → Type 0
-IsAllLeft box condition left (Comes true) = (sources : List ℕ) → AreSourcesIn box sources → holds (values_of box sources) condition ≡ list_all (member_holds (values_of box sources)) left
-IsAllLeft box condition left (Comes false) = ⊥
-IsAllLeft box condition left (Hangs k) = IsUndecidedAt box k
+IsAllLeft box condition left (Known true) = (sources : List ℕ) → AreSourcesIn box sources → holds (values_of box sources) condition ≡ list_all (member_holds (values_of box sources)) left
+IsAllLeft box condition left (Known false) = ⊥
+IsAllLeft box condition left (Undecided k) = IsUndecidedAt box k
 
 -- ---- members that decide alone
 module _ (values : List ((ℕ × ℕ) × ℕ)) (members : Vec Cond Global) (items : List Cond) (is : items ≡ members.items) (i : ℕ) (member : Cond) (inside : i < length items) (at : member ≡ get_or items i member) where

@@ -1,9 +1,9 @@
--- How lists between two ends lie in the boxes of these.
+-- Lists between two ends lie in the boxes of a range's cut, one after the other.
 use Rattle.lit_solve.proofs.Words.{◌*◌, ◌+◌, ◌-◌, ◌<◌, arith, cases_lt, cases_order, IfSome, length, List, None, Option, refl, Some, subst}
 use Rattle.lit_solve.proofs.Words.{sym, ℕ, ◌≡◌, ◌≤◌, ⊎_elim}
-use Rattle.lit_solve.specs.Internal.Cut.{IsCut, IsGreaterAt}
+use Rattle.lit_solve.specs.Internal.Cut.{IsRangeCut, IsGreaterAt}
 
--- what goes with l for longer than h does is below h where h leaves l
+-- a list that shares a longer prefix with l than h does is below h where h differs from l
 pub below_as_low : (l h s : List ℕ) (p k : ℕ) → length l ≡ length s → IsGreaterAt l p h → IsGreaterAt l k s → p < k → IsGreaterAt s p h
 below_as_low l h s p k long part is less = grind arith
 
@@ -13,7 +13,7 @@ above_as_high l h s p k part is less = grind arith
 one_parting : (l h : List ℕ) (p q : ℕ) → IsGreaterAt l p h → IsGreaterAt l q h → p ≤ length l → q ≤ length l → p ≡ q
 one_parting l h p q first second p_in q_in = grind (arith, cases_order)
 
--- of what is above l and below h, l and h part where the first of both is left
+-- a list above l and below h: l and h differ where the list first differs from one of them
 parts_low : (l h s : List ℕ) (k e : ℕ) → IsGreaterAt l k s → IsGreaterAt s e h → k < e → IsGreaterAt l k h
 parts_low l h s k e up down less = grind arith
 
@@ -23,7 +23,7 @@ parts_high l h s k e long up down less = grind arith
 parts_both : (l h s : List ℕ) (k : ℕ) → length l ≡ length s → IsGreaterAt l k s → IsGreaterAt s k h → IsGreaterAt l k h
 parts_both l h s k long up down = grind arith
 
--- where the i-th box parts
+-- the place at which the i-th box differs from an end
 abbrev pub parting : (shared lows i : ℕ) → ℕ
 parting shared lows i = shared + ((lows - i) + (i - lows))
 
@@ -41,7 +41,7 @@ module _ (len shared lows highs : ℕ) (s : List ℕ) (long : length s ≡ len) 
   abbrev pub IsFound : Option (List ℕ) → Option (List ℕ) → Type 0
   IsFound low high = (i : ℕ) × (i < lows + 1 + highs) × IsInCut low high shared lows i s
 
-  -- at its place an end is left in some box
+  -- for each place at which a list differs from an end there is a box
   abbrev Up : List ℕ → ℕ → Type 0
   Up l k = IsGreaterAt l k s
 
@@ -72,22 +72,22 @@ module _ (len shared lows highs : ℕ) (s : List ℕ) (long : length s ≡ len) 
         },
       )
 
-  found_from_low : (l : List ℕ) → IsCut len (Some l) None shared lows highs → (k : ℕ) → k ≤ len → Up l k → IsFound (Some l) None
+  found_from_low : (l : List ℕ) → IsRangeCut len (Some l) None shared lows highs → (k : ℕ) → k ≤ len → Up l k → IsFound (Some l) None
   found_from_low l cut k inside up =
       ⊎_elim
       (λ late. found_before l None k up late (omega (arith, inside, cut.before.count)))
       (λ not_late. found_middle (Some l) None (let same : k ≡ shared = omega (arith, not_late, cut.behind.fits) in subst (λ (j : ℕ). Up l j) same up) tt)
       (cases_lt shared k)
 
-  found_from_high : (h : List ℕ) → IsCut len None (Some h) shared lows highs → (k : ℕ) → k ≤ len → Down h k → IsFound None (Some h)
+  found_from_high : (h : List ℕ) → IsRangeCut len None (Some h) shared lows highs → (k : ℕ) → k ≤ len → Down h k → IsFound None (Some h)
   found_from_high h cut k inside down =
       ⊎_elim
       (λ late. found_behind None h k down late (omega (arith, inside, cut.behind.count)))
       (λ not_late. found_middle None (Some h) tt (let same : k ≡ shared = omega (arith, not_late, cut.before.fits) in subst (λ (j : ℕ). Down h j) same down))
       (cases_lt shared k)
 
-  -- k is where the list leaves the low end, and e where it leaves the high one
-  found_from_both : (l h : List ℕ) → IsCut len (Some l) (Some h) shared lows highs → (k : ℕ) → k ≤ len → Up l k → (e : ℕ) → e ≤ len → Down h e
+  -- k is where the list differs from the low end, and e where it differs from the high one
+  found_from_both : (l h : List ℕ) → IsRangeCut len (Some l) (Some h) shared lows highs → (k : ℕ) → k ≤ len → Up l k → (e : ℕ) → e ≤ len → Down h e
       → IsFound (Some l) (Some h)
   found_from_both l h cut k k_in up e e_in down =
       let part : IsGreaterAt l shared h = cut.parting l h refl refl in
@@ -110,14 +110,14 @@ module _ (len shared lows highs : ℕ) (s : List ℕ) (long : length s ≡ len) 
       apart)
       (cases_order k e)
 
-  pub found : (low high : Option (List ℕ)) → IsCut len low high shared lows highs → IsBetween len low high s → IsFound low high
+  pub found : (low high : Option (List ℕ)) → IsRangeCut len low high shared lows highs → IsBetween len low high s → IsFound low high
   found None None cut is = found_middle None None tt tt
   found None (Some h) cut is = found_from_high h cut is.below.0 is.below.1 is.below.2
   found (Some l) None cut is = found_from_low l cut is.above.0 is.above.1 is.above.2
   found (Some l) (Some h) cut is = found_from_both l h cut is.above.0 is.above.1 is.above.2 is.below.0 is.below.1 is.below.2
 
   -- ---- back from a box
-  between_both : (l h : List ℕ) → IsCut len (Some l) (Some h) shared lows highs → (i : ℕ) → i < lows + 1 + highs
+  between_both : (l h : List ℕ) → IsRangeCut len (Some l) (Some h) shared lows highs → (i : ℕ) → i < lows + 1 + highs
       → IsInCut (Some l) (Some h) shared lows i s → IsBetween len (Some l) (Some h) s
   between_both l h cut i inside is =
       let part : IsGreaterAt l shared h = cut.parting l h refl refl in
@@ -142,7 +142,7 @@ module _ (len shared lows highs : ℕ) (s : List ℕ) (long : length s ≡ len) 
       apart)
       (cases_order i lows)
 
-  pub between : (low high : Option (List ℕ)) → IsCut len low high shared lows highs → (i : ℕ) → i < lows + 1 + highs
+  pub between : (low high : Option (List ℕ)) → IsRangeCut len low high shared lows highs → (i : ℕ) → i < lows + 1 + highs
       → IsInCut low high shared lows i s → IsBetween len low high s
   between low high cut i inside is = grind (arith, between_both)
 
@@ -152,17 +152,17 @@ module _ (len shared lows highs : ℕ) (s u : List ℕ) (long : length s ≡ len
   IsLess = (k : ℕ) × (k < len) × IsGreaterAt s k u
 
   -- both before the middle box or there
-  rises_before : (l : List ℕ) (high : Option (List ℕ)) → IsCut len (Some l) high shared lows highs → j ≤ lows
+  rises_before : (l : List ℕ) (high : Option (List ℕ)) → IsRangeCut len (Some l) high shared lows highs → j ≤ lows
       → IsInCut (Some l) high shared lows i s → IsInCut (Some l) high shared lows j u → IsLess
   rises_before l high cut low first second = grind arith
 
   -- both behind it or there
-  rises_behind : (low : Option (List ℕ)) (h : List ℕ) → IsCut len low (Some h) shared lows highs → lows ≤ i
+  rises_behind : (low : Option (List ℕ)) (h : List ℕ) → IsRangeCut len low (Some h) shared lows highs → lows ≤ i
       → IsInCut low (Some h) shared lows i s → IsInCut low (Some h) shared lows j u → IsLess
   rises_behind low h cut high first second = grind arith
 
   -- one before it and one behind
-  rises_across : (l h : List ℕ) → IsCut len (Some l) (Some h) shared lows highs → i < lows → lows < j
+  rises_across : (l h : List ℕ) → IsRangeCut len (Some l) (Some h) shared lows highs → i < lows → lows < j
       → IsInCut (Some l) (Some h) shared lows i s → IsInCut (Some l) (Some h) shared lows j u → IsLess
   rises_across l h cut before behind first second =
       let low_long : length l ≡ len = cut.before.long in
@@ -176,9 +176,9 @@ module _ (len shared lows highs : ℕ) (s u : List ℕ) (long : length s ≡ len
             (omega (arith, behind)),
       )
 
-  pub rises : (low high : Option (List ℕ)) → IsCut len low high shared lows highs → IsInCut low high shared lows i s → IsInCut low high shared lows j u → IsLess
+  pub rises : (low high : Option (List ℕ)) → IsRangeCut len low high shared lows highs → IsInCut low high shared lows i s → IsInCut low high shared lows j u → IsLess
   rises low high cut first second = grind (arith, cases_lt, rises_across, rises_before, rises_behind)
 
 -- there are few boxes
-pub few_boxes : (len shared lows highs : ℕ) (low high : Option (List ℕ)) → IsCut len low high shared lows highs → lows + 1 + highs ≤ 2 * len + 1
+pub few_boxes : (len shared lows highs : ℕ) (low high : Option (List ℕ)) → IsRangeCut len low high shared lows highs → lows + 1 + highs ≤ 2 * len + 1
 few_boxes len shared lows highs low high cut = grind arith

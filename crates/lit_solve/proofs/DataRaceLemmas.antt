@@ -40,8 +40,8 @@ module _ (box : Box) (laws : Laws) (entered : IsBox box) where
       })
       (subst (λ (es : List Event). HasDataRace es x.sources) (events_same box x is) race)
 
-  -- ---- in a quiet box that has a completion
-  module _ (quiet : IsLeaf box) (coherent : AreCoherentSources box) (x : Execution) (is : IsCompletion box x) where
+  -- ---- in a leaf that has a completion
+  module _ (leaf : IsLeaf box) (coherent : AreCoherentSources box) (x : Execution) (is : IsCompletion box x) where
     -- another takes the sources of one read from elsewhere
     module _ (r : ℕ) (others : List ℕ) (lie : AreSourcesIn box others) (filled : IsFilled box r others) where
       abbrev picked : ℕ → List ℕ
@@ -62,7 +62,7 @@ module _ (box : Box) (laws : Laws) (entered : IsBox box) where
 
       with_fill : (y : Execution) × IsCompletion box y × (y.sources ≡ together box picked)
       with_fill =
-          completion_of_filled box (together box picked) (together_lies box picked (laws.of_events events) picked_lies) quiet laws entered
+          completion_of_filled box (together box picked) (together_lies box picked (laws.of_events events) picked_lies) leaf laws entered
           coherent (no_cycle_given box x is) (together_fills box picked (laws.of_events events) picked_lies picked_fills)
           (unwritten_true box x is laws entered) (order_given box x is)
 
@@ -87,8 +87,8 @@ module _ (box : Box) (laws : Laws) (entered : IsBox box) where
               first_known = race.first_known;
               second_known = race.second_known;
               distinct = race.distinct;
-              not_before = λ b. race.not_before (before_back box y.sources (sources_lie box y it) quiet h.first h.second b);
-              not_after = λ b. race.not_after (before_back box y.sources (sources_lie box y it) quiet h.second h.first b);
+              not_before = λ b. race.not_before (before_back box y.sources (sources_lie box y it) leaf h.first h.second b);
+              not_after = λ b. race.not_after (before_back box y.sources (sources_lie box y it) leaf h.second h.first b);
               conflict = conflict;
             };
             unguarded = h.is_race.unguarded;

@@ -1,4 +1,4 @@
--- What is passed over on the way down.
+-- Greedy descent: the solutions that it leaves behind are not the least.
 use Rattle.lit_solve.proofs.Words.{◌+◌, ◌<◌, arith, byte_reads, cases_eq, cases_lt, EventSet, Execution, get_or, get_or_from_slice_get}
 use Rattle.lit_solve.proofs.Words.{HasEvent, inl, inr, IsSplit, length, Less, List, nat_cmp, slice_cmp, slice_get, slice_get-get_or, Some}
 use Rattle.lit_solve.proofs.Words.{subst, sym, ℕ, ◌↔◌, ◌∙◌, ◌≡◌, ◌≢◌, ◌≤◌, ◌⊎◌}
@@ -7,7 +7,7 @@ use Rattle.lit_solve.specs.Box.{Box, HasEmptyDomain, HasSource, IsWithin, box_ev
 use Rattle.lit_solve.specs.Completion.{IsCompletion, IsSolution}
 use Rattle.lit_solve.specs.Given.{HasAlone}
 use Rattle.lit_solve.specs.Fill.{AreSourcesIn}
-use Rattle.lit_solve.specs.Internal.Descending.{AreAloneBelow, IsLowest, IsLowestAt, IsPassedAt}
+use Rattle.lit_solve.specs.Internal.Descending.{AreAloneBelow, IsLowest, IsLowestAt, IsNotLeastAt}
 use Rattle.lit_solve.specs.Internal.Settled.{IsCut}
 use Rattle.lit_solve.proofs.BoxLemmas.{has_source}
 use Rattle.lit_solve.proofs.CompletionLemmas.{sourced}
@@ -23,17 +23,17 @@ cut_alone old new k source set one cut inside some = record { there = there (has
     there (inl h) = h
     there (inr absent) = absurd (some (k, inside, λ w h. absent (subst (λ (v : ℕ). HasSource new k v) (one w (cut.inside w h)) h)))
 
--- the least source that is left, where no solution takes another that is not
+-- the least source in `left`, where no solution takes a source that is not in `left`
 module _ (old new : Box) (goal : Goal) (k : ℕ) (inside : k < length (byte_reads (box_events old))) (left others set : EventSet) (source : ℕ) (split : IsSplit left source others)
     (taken : (x : Execution) → IsSolution old goal x → (w : ℕ) → slice_get x.sources k ≡ Some w → HasEvent left w) (one : (w : ℕ) → HasEvent set w ↔ (w ≡ source)) (cut : IsCut old k set new) (alone : HasAlone new k source) where
-  passed_or_kept : (x : Execution) → IsSolution old goal x → IsCompletion new x ⊎ IsPassedAt new k x
-  passed_or_kept x is = by (cases_eq some.0 source)
+  remains_or_not_least : (x : Execution) → IsSolution old goal x → IsCompletion new x ⊎ IsNotLeastAt new k x
+  remains_or_not_least x is = by (cases_eq some.0 source)
     where
       some : (w : ℕ) × (slice_get x.sources k ≡ Some w)
       some = takes_some old goal k inside x is
 
-      by : (some.0 ≡ source) ⊎ (some.0 ≢ source) → IsCompletion new x ⊎ IsPassedAt new k x
-      by (inl same) = inl (cut.kept x is.completes (λ v at. (one v).1 ((let e : Some v ≡ Some some.0 = sym at ∙ some.1 in let f : v ≡ some.0 = cc in f) ∙ same)))
+      by : (some.0 ≡ source) ⊎ (some.0 ≢ source) → IsCompletion new x ⊎ IsNotLeastAt new k x
+      by (inl same) = inl (cut.retained x is.completes (λ v at. (one v).1 ((let e : Some v ≡ Some some.0 = sym at ∙ some.1 in let f : v ≡ some.0 = cc in f) ∙ same)))
       by (inr other) = inr record { source = source; taken = some.0; alone = alone; takes = some.1; greater = greater (cases_lt source some.0) }
         where
           greater : (source < some.0) ⊎ (some.0 ≤ source) → source < some.0
@@ -41,9 +41,9 @@ module _ (old new : Box) (goal : Goal) (k : ℕ) (inside : k < length (byte_read
           greater (inr most) = absurd (split.least some.0 (omega (arith, most, other)) (taken x is some.0 some.1))
 
   pub lowest_at : IsLowestAt old goal k new
-  lowest_at = record { within = cut.within; passed = passed_or_kept }
+  lowest_at = record { within = cut.within; not_least = remains_or_not_least }
 
--- ---- the way down
+-- ---- the descent
 -- what is alone stays so in a box within, no domain of which is empty
 pub alone_stays : (now was : Box) → IsWithin now was → ¬ HasEmptyDomain now → (k w : ℕ) → k < length (byte_reads (box_events now)) → HasAlone was k w → HasAlone now k w
 alone_stays now was within some k w inside alone = record { there = there (has_source now k w); alone = λ v h. alone.alone v (within.domains k v h) }
@@ -52,8 +52,8 @@ alone_stays now was within some k w inside alone = record { there = there (has_s
     there (inl h) = h
     there (inr absent) = absurd (some (k, inside, λ v h. absent (subst (λ (u : ℕ). HasSource now k u) (alone.alone v (within.domains k v h)) h)))
 
-pub alone_kept : (now was : Box) (n : ℕ) → IsWithin now was → ¬ HasEmptyDomain now → n ≤ length (byte_reads (box_events now)) → AreAloneBelow was n → AreAloneBelow now n
-alone_kept now was n within some few alone k below = let one = alone k below in (one.0, alone_stays now was within some k one.0 (omega (arith, below, few)) one.1)
+pub alone_below_stays : (now was : Box) (n : ℕ) → IsWithin now was → ¬ HasEmptyDomain now → n ≤ length (byte_reads (box_events now)) → AreAloneBelow was n → AreAloneBelow now n
+alone_below_stays now was n within some few alone k below = let one = alone k below in (one.0, alone_stays now was within some k one.0 (omega (arith, below, few)) one.1)
 
 pub alone_more : (box : Box) (n : ℕ) → AreAloneBelow box n → (w : ℕ) × HasAlone box n w → AreAloneBelow box (n + 1)
 alone_more box n alone one k below = elim (below_or_last k n below) [ inl less ↦ alone k less | inr last ↦ subst (λ (j : ℕ). (w : ℕ) × HasAlone box j w) (sym last) one ]
@@ -63,9 +63,9 @@ module _ (first was now : Box) (goal : Goal) (k : ℕ) (to : IsLowest first goal
   lie_out : (sources : List ℕ) → AreSourcesIn now sources → AreSourcesIn was sources
   lie_out sources lie = grind (arith, sourced)
 
-  -- where a solution is passed at the place, all sources that lie in the box are less than its own
-  less_than_passed : (x : Execution) → IsCompletion was x → IsPassedAt now k x → (sources : List ℕ) → AreSourcesIn now sources → slice_cmp nat_cmp sources x.sources ≡ Less
-  less_than_passed x is passed sources lie =
+  -- if a solution has a greater source at the place, all sources that lie in the box are less than its own
+  sources_are_less : (x : Execution) → IsCompletion was x → IsNotLeastAt now k x → (sources : List ℕ) → AreSourcesIn now sources → slice_cmp nat_cmp sources x.sources ≡ Less
+  sources_are_less x is not_least sources lie =
       less_from_place sources x.sources k long within record { same = same; greater = λ _. greater }
     where
       long : length sources ≡ length x.sources
@@ -84,10 +84,10 @@ module _ (first was now : Box) (goal : Goal) (k : ℕ) (to : IsLowest first goal
 
       greater : get_or sources k 0 < get_or x.sources k 0
       greater =
-          let least : get_or sources k 0 ≡ passed.source = passed.alone.alone (get_or sources k 0) (lie.within k (get_or sources k 0) (slice_get-get_or sources k 0 within)) in
-          let other : get_or x.sources k 0 ≡ passed.taken = get_or_from_slice_get x.sources k passed.taken 0 passed.takes in
-          let less = passed.greater in
+          let least : get_or sources k 0 ≡ not_least.source = not_least.alone.alone (get_or sources k 0) (lie.within k (get_or sources k 0) (slice_get-get_or sources k 0 within)) in
+          let other : get_or x.sources k 0 ≡ not_least.taken = get_or_from_slice_get x.sources k not_least.taken 0 not_least.takes in
+          let less = not_least.greater in
           omega (arith, least, other, less)
 
   pub lowest_on : IsLowest first goal now
-  lowest_on = grind (arith, less_than_passed, lie_out)
+  lowest_on = grind (arith, sources_are_less, lie_out)

@@ -1,5 +1,5 @@
--- Quiet boxes: the relations of sources that lie in one are those of what it gives, so that sources are a completion's exactly
--- where they fill each read and there is an order of what is given.
+-- Leaves: any sources that lie in one have the relations of what it gives. So they are those of a completion exactly if they fill each
+-- read and there is an order of what is given.
 use Rattle.lit_solve.proofs.Words.{◌+◌, ◌<◌, arith, byte_reads, CanSynchronize, does_write, Event, event_at, Execution, first_event, Grows}
 use Rattle.lit_solve.proofs.Words.{HappensBefore, HasFalseGuardOn, HasOrder, HasTearFreeReads, inl, inr, IsBroken, IsOnCombination, IsForbidden}
 use Rattle.lit_solve.proofs.Words.{IsForbiddenBetween, IsMemoryOrder, IsOrderOf, IsTrue, IsWalkIn, Laws, length, List, None, none-some}
@@ -43,11 +43,11 @@ module _ (box : Box) (sources : List ℕ) (lie : AreSourcesIn box sources) where
       IsOrderOf-same (length events) (length events) (HappensBefore events sources) (HappensBeforeIn box) (IsForbidden events sources)
       (IsForbiddenIn box) refl grows_in.happens_before grows_in.forbidden order o
 
-  -- ---- in a quiet box they add nothing
-  module _ (quiet : IsLeaf box) where
+  -- ---- in a leaf they add nothing
+  module _ (leaf : IsLeaf box) where
     -- a source is given, or has no effect
     given_or_idle : (r b w : ℕ) → from r b w → GivenIn box r b w ⊎ ¬ HasEffect events w r
-    given_or_idle r b w f = by (quiet f.0 (slice_get_within (byte_reads events) f.0 (r, b) f.1))
+    given_or_idle r b w f = by (leaf f.0 (slice_get_within (byte_reads events) f.0 (r, b) f.1))
       where
         there : HasSource box f.0 w
         there = lie.within f.0 w f.2
@@ -82,9 +82,9 @@ module _ (box : Box) (sources : List ℕ) (lie : AreSourcesIn box sources) where
       read_known : (r b w : ℕ) → from r b w → r < length events
       read_known r b w f = (laws.of_events events).known f.0 r b f.1
 
-      -- a test asks about an event of the combination
-      asked_known : (r value : ℕ) → HasFalseGuardOn box.test box.combination (Some r) value → r < length events
-      asked_known r value bad = by bad.test.on refl bad.asks
+      -- a guard is on an event of the combination
+      guarded_known : (r value : ℕ) → HasFalseGuardOn box.test box.combination (Some r) value → r < length events
+      guarded_known r value bad = by bad.test.on refl bad.asks
         where
           walk : IsWalkIn box.test box.combination bad.agent (walk_in box.test box.combination bad.agent)
           walk = laws.walked box.test box.combination bad.agent entered.litmus entered.known bad.known
@@ -105,7 +105,7 @@ module _ (box : Box) (sources : List ℕ) (lie : AreSourcesIn box sources) where
           torn.two_sources ((filled torn.read (read_known torn.read torn.first.reads.0 torn.source torn.first.reads.1)).tear_free torn.source
           torn.other torn.first torn.second)
       not_broken_in (inr (inl bad)) = unwritten bad
-      not_broken_in (inr (inr (r, given, bad))) = (filled r (asked_known r _ bad)).tests bad
+      not_broken_in (inr (inr (r, given, bad))) = (filled r (guarded_known r _ bad)).guards bad
 
       pub completion_of_filled : HasOrder (length events) (HappensBeforeIn box) (IsForbiddenIn box)
           → (x : Execution) × IsCompletion box x × (x.sources ≡ sources)
@@ -144,7 +144,7 @@ module _ (box : Box) (x : Execution) (is : IsCompletion box x) where
       tear_free =
           λ w v first second. subst (λ (es : List Event). HasTearFreeReads es x.sources) (events_same box x is) is.valid.tear_free_reads r w v first
           second;
-      tests = λ bad. whole box x is laws entered (inr (inr (r, all_given box x is r, bad)));
+      guards = λ bad. whole box x is laws entered (inr (inr (r, all_given box x is r, bad)));
     }
 
     pub unwritten_true : ¬ HasFalseGuardOn box.test box.combination None 0

@@ -46,7 +46,7 @@ module _ (box : Box) (r : ℕ) where
       → FillsBytes box r reads more value bytes sources → FillsBytes box r reads less value bytes sources
   FillsBytes-less reads less more value bytes sources within f = record {
     tear_free = λ w v t other. f.tear_free w v t (elim other [ inl h ↦ inl (within v h) | inr h ↦ inr h ]);
-    tests = f.tests;
+    guards = f.guards;
   }
 
   module _ (p : ℕ × ℕ) (reads : List (ℕ × ℕ)) (whole : ℕ → Type 0) (value bytes w : ℕ) (sources : List ℕ) where
@@ -54,7 +54,7 @@ module _ (box : Box) (r : ℕ) where
     fills_past : p.0 ≢ r → FillsBytes box r reads whole value bytes sources → FillsBytes box r (p ∷ reads) whole value bytes (w ∷ sources)
     fills_past other f = record {
       tear_free = λ x v t h. f.tear_free x v (later x t) (elim h [ inl given ↦ inl given | inr u ↦ inr (later v u) ]);
-      tests = subst (λ (bs : List ℕ). ¬ has_false (value + 256 ^ bytes * composed bs)) (sym (taken_other events p reads w sources r other)) f.tests;
+      guards = subst (λ (bs : List ℕ). ¬ has_false (value + 256 ^ bytes * composed bs)) (sym (taken_other events p reads w sources r other)) f.guards;
     }
       where
         later : (x : ℕ) → TakesWhole events (p ∷ reads) (w ∷ sources) r x → TakesWhole events reads sources r x
@@ -65,7 +65,7 @@ module _ (box : Box) (r : ℕ) where
       tear_free =
           λ x v t h. f.tear_free x v (whole_later events p reads w sources r x t)
           (elim h [ inl given ↦ inl given | inr u ↦ inr (whole_later events p reads w sources r v u) ]);
-      tests = subst (λ (bs : List ℕ). ¬ has_false (value + 256 ^ bytes * composed bs)) (taken_other events p reads w sources r other) f.tests;
+      guards = subst (λ (bs : List ℕ). ¬ has_false (value + 256 ^ bytes * composed bs)) (taken_other events p reads w sources r other) f.guards;
     }
 
     -- a byte of the read
@@ -86,7 +86,7 @@ module _ (box : Box) (r : ℕ) where
         tear_free =
             λ x v t h. by x v (whole_split events p reads w sources r x t)
             (elim h [ inl given ↦ inl given | inr u ↦ inr (whole_split events p reads w sources r v u) ]);
-        tests = subst (λ (n : ℕ). ¬ has_false n) same_number f.tests;
+        guards = subst (λ (n : ℕ). ¬ has_false n) same_number f.guards;
       }
         where
           by : (x v : ℕ) → TakesHere events p w r x ⊎ TakesWhole events reads sources r x
@@ -111,7 +111,7 @@ module _ (box : Box) (r : ℕ) where
           ]
           | inr u ↦ inr (whole_later events p reads w sources r v u)
         ]);
-        tests = subst (λ (n : ℕ). ¬ has_false n) (sym same_number) f.tests;
+        guards = subst (λ (n : ℕ). ¬ has_false n) (sym same_number) f.guards;
       }
 
   -- no byte of the read
@@ -127,10 +127,10 @@ module _ (box : Box) (r : ℕ) where
     no_more = grind (arith, taken_none)
 
     fills_none : ¬ has_false value → FillsBytes box r reads whole value bytes sources
-    fills_none tests = grind (arith, no_more)
+    fills_none guards = grind (arith, no_more)
 
     fills_none_back : FillsBytes box r reads whole value bytes sources → ¬ has_false value
-    fills_none_back f = subst (λ (n : ℕ). ¬ has_false n) no_more f.tests
+    fills_none_back f = subst (λ (n : ℕ). ¬ has_false n) no_more f.guards
 
 -- ---- sources of the byte reads from one on
 module _ (box : Box) where
@@ -230,8 +230,8 @@ module _ (box : Box) (r : ℕ) where
             ),
           )
 
-      -- Of two sources that store the same byte, of which the one leaves the read whole from no others than before, the other
-      -- fills it no better.
+      -- Of two sources that store the same byte, one dominates the other if the read reads whole from no further event because of it: the
+      -- other fills the read no better.
       pub filled_no_better : (w v : ℕ) → WouldNotTear (box_events box) r whole w → ((u : ℕ) → WholeWith (box_events box) r whole w u → whole u)
           → payload_at (event_at (box_events box) v) b ≡ payload_at (event_at (box_events box) w) b
           → CanFillWith box r k b whole value bytes v → CanFillWith box r k b whole value bytes w
@@ -280,23 +280,23 @@ module _ (box : Box) (r : ℕ) where
         (taken.value + 256 ^ taken.bytes * payload_at (event_at (box_events box) w) b) (taken.bytes + 1) next.value next.bytes
         (λ v. (takes.whole v).0) takes.value takes.bytes can
 
-    -- in vain after it: what stores the same, where it left the read whole from no others than before
-    pub left_out_in_vain : (at : slice_get reads k ≡ Some (r, b)) (v : ℕ) → ¬ CanFillOn box r (k + 1) (HasEvent next.whole) next.value next.bytes
+    -- it dominates the sources that store the same byte, if the read reads whole from no further event because of it
+    pub dominated_in_vain : (at : slice_get reads k ≡ Some (r, b)) (v : ℕ) → ¬ CanFillOn box r (k + 1) (HasEvent next.whole) next.value next.bytes
         → ((u : ℕ) → HasEvent next.whole u → HasEvent taken.whole u) → payload_at (event_at (box_events box) v) b ≡ payload_at (event_at (box_events box) w) b
         → ¬ CanFillWith box r k b (HasEvent taken.whole) taken.value taken.bytes v
-    left_out_in_vain at v in_vain within same can =
+    dominated_in_vain at v in_vain within same can =
         in_vain (next_filled_back
         (filled_no_better k (HasEvent taken.whole) taken.value taken.bytes b at w v takes.free (λ u h. within u ((takes.whole u).1 h)) same can))
 
   module _ (is_box : IsBox box) (some : ¬ HasEmptyDomain box) where
-    -- where no byte of the read is left its tests decide
+    -- behind the last byte of the read its guards decide
     pub filled_at_end : (k : ℕ) (whole : ℕ → Type 0) (value bytes : ℕ) → k ≤ length reads → ((j b : ℕ) → k ≤ j → slice_get reads j ≢ Some (r, b))
         → CanFillOn box r k whole value bytes ↔ ¬ HasFalseGuardOn box.test box.combination (Some r) value
     filled_at_end k whole value bytes within none = (
       (λ can. fills_none_back box r (reads_on (box_events box) k) whole value bytes can.0 none_left can.2),
-      (λ tests.
+      (λ guards.
           let rest = some_from box is_box some (length reads - k) k (omega (arith, within)) in
-          (rest.0, rest.1, fills_none box r (reads_on (box_events box) k) whole value bytes rest.0 none_left tests)),
+          (rest.0, rest.1, fills_none box r (reads_on (box_events box) k) whole value bytes rest.0 none_left guards)),
     )
       where
         none_left : (i b : ℕ) → slice_get (reads_on (box_events box) k) i ≢ Some (r, b)
@@ -317,7 +317,7 @@ module _ (box : Box) (r : ℕ) where
         },
         record {
           tear_free = λ w v t h. elim h [ inl given ↦ absurd (not_yet v given) | inr u ↦ filled.tear_free w v (read_whole w t) (read_whole v u) ];
-          tests = subst (λ (n : ℕ). ¬ HasFalseGuardOn box.test box.combination (Some r) n) (sym (same_value sources)) filled.tests;
+          guards = subst (λ (n : ℕ). ¬ HasFalseGuardOn box.test box.combination (Some r) n) (sym (same_value sources)) filled.guards;
         },
       )
         where
@@ -336,7 +336,7 @@ module _ (box : Box) (r : ℕ) where
         },
         record {
           tear_free = λ w v t u. f.tear_free w v (takes_whole w t) (inr (takes_whole v u));
-          tests = subst (λ (n : ℕ). ¬ HasFalseGuardOn box.test box.combination (Some r) n) (same_value sources) f.tests;
+          guards = subst (λ (n : ℕ). ¬ HasFalseGuardOn box.test box.combination (Some r) n) (same_value sources) f.guards;
         },
       )
         where

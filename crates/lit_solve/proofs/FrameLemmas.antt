@@ -45,9 +45,9 @@ module _ (box : Box) (before : ℕ → ℕ → Type 0) (k r b w : ℕ) (is_read 
   pub synchronized_at : before w r → IsSynchronizedAt box before k
   synchronized_at there q c v is_read_too alone_too can = grind arith
 
-pub synchronized_kept : (box other : Box) (before more : ℕ → ℕ → Type 0) (k : ℕ) → box ≡ other → ((a d : ℕ) → before a d → more a d)
+pub synchronized_stays : (box other : Box) (before more : ℕ → ℕ → Type 0) (k : ℕ) → box ≡ other → ((a d : ℕ) → before a d → more a d)
     → IsSynchronizedAt box before k → IsSynchronizedAt other more k
-synchronized_kept box other before more k same grows is = grind arith
+synchronized_stays box other before more k same grows is = grind arith
 
 -- what is so below a number, and at it
 pub one_more : (P : ℕ → Type 0) (n : ℕ) (Old New : Type 0) → Old ↔ ((k : ℕ) × (k < n) × P k) → New ↔ (Old ⊎ P n) → New ↔ ((k : ℕ) × (k < n + 1) × P k)

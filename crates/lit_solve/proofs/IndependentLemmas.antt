@@ -1,5 +1,5 @@
--- A part of a box whose reads are independent: with one domain narrowed, what is given gives the same relations, so reads stay
--- independent there as long as the narrowed one can be filled.
+-- A box with independent reads and one domain restricted: the relations stay the same, so its reads stay independent as long as the
+-- restricted one can be filled.
 use Rattle.lit_solve.proofs.Words.{◌<◌, ◌==◌, ap, AreOfEvents, arith, Bool, byte_read_at, byte_reads, cases_eq, cond, Event, EventSet}
 use Rattle.lit_solve.proofs.Words.{false, HasEvent, inl, inr, length, List, nat_tests, refl, rules, slice_get, Some, subst, sym, true, ℕ}
 use Rattle.lit_solve.proofs.Words.{◌∙◌, ◌≡◌}
@@ -13,10 +13,10 @@ use Rattle.lit_solve.specs.Given.{HappensBeforeIn, IsForbiddenIn}
 use Rattle.lit_solve.specs.Internal.Independent.{FillsAll, HasLeastOrderIn, IsIndependent}
 use Rattle.lit_solve.proofs.BoxLemmas.{before_grows, forbidden_grows}
 use Rattle.lit_solve.proofs.DescendingLemmas.{alone_stays}
-use Rattle.lit_solve.proofs.DomainLemmas.{narrowed_at, narrowed_is_box, narrowed_within, none_empty_at, source_other}
+use Rattle.lit_solve.proofs.DomainLemmas.{pruned_at, pruned_is_box, pruned_within, none_empty_at, source_other}
 use Rattle.lit_solve.proofs.FillLemmas.{before_back, forbidden_back, grows_in}
 use Rattle.lit_solve.proofs.LeafLemmas.{IsFilledReadByRead}
-use Rattle.lit_solve.proofs.NarrowingLemmas.{read_here}
+use Rattle.lit_solve.proofs.PruningLemmas.{read_here}
 use Rattle.lit_solve.proofs.TogetherLemmas.{together, together_agrees, together_fills, together_lies}
 
 -- there is a completion
@@ -25,9 +25,9 @@ independent_solution box is law = grind arith
 
 module _ (box : Box) (of_events : AreOfEvents (box_events box)) (is : IsIndependent box) (place : ℕ) (left : EventSet) (room : place < length box.domains)
     (inside : place < length (byte_reads (box_events box))) (within : (w : ℕ) → HasEvent left w → HasSource box place w)
-    (some : (w : ℕ) × HasEvent left w) (fills : CanFill (narrowed_at box place left) (byte_read_at (box_events box) place).0) where
+    (some : (w : ℕ) × HasEvent left w) (fills : CanFill (pruned_at box place left) (byte_read_at (box_events box) place).0) where
   abbrev part : Box
-  part = narrowed_at box place left
+  part = pruned_at box place left
 
   abbrev events : List Event
   events = box_events box
@@ -35,10 +35,10 @@ module _ (box : Box) (of_events : AreOfEvents (box_events box)) (is : IsIndepend
   abbrev r : ℕ
   r = (byte_read_at events place).0
 
-  inner : IsWithin (narrowed_at box place left) box
-  inner = narrowed_within box place left room within
+  inner : IsWithin (pruned_at box place left) box
+  inner = pruned_within box place left room within
 
-  part_some : ¬ HasEmptyDomain (narrowed_at box place left)
+  part_some : ¬ HasEmptyDomain (pruned_at box place left)
   part_some = none_empty_at box place left room is.some some
 
   -- ---- the relations are the same
@@ -47,10 +47,10 @@ module _ (box : Box) (of_events : AreOfEvents (box_events box)) (is : IsIndepend
   lie_out sources lie = record { sourced = lie.sourced; within = λ k w at. inner.domains k w (lie.within k w at) }
 
   before_out : (a d : ℕ) → HappensBeforeIn part a d → HappensBeforeIn box a d
-  before_out a d h = before_back box fills.0 (lie_out fills.0 fills.1) is.quiet a d ((grows_in part fills.0 fills.1).happens_before a d h)
+  before_out a d h = before_back box fills.0 (lie_out fills.0 fills.1) is.leaf a d ((grows_in part fills.0 fills.1).happens_before a d h)
 
   forbidden_out : (w q v : ℕ) → IsForbiddenIn part w q v → IsForbiddenIn box w q v
-  forbidden_out w q v f = forbidden_back box fills.0 (lie_out fills.0 fills.1) is.quiet w q v ((grows_in part fills.0 fills.1).forbidden w q v f)
+  forbidden_out w q v f = forbidden_back box fills.0 (lie_out fills.0 fills.1) is.leaf w q v ((grows_in part fills.0 fills.1).forbidden w q v f)
 
   before_in : (a d : ℕ) → HappensBeforeIn box a d → HappensBeforeIn part a d
   before_in = before_grows part box inner part_some
@@ -58,8 +58,8 @@ module _ (box : Box) (of_events : AreOfEvents (box_events box)) (is : IsIndepend
   forbidden_in : (w q v : ℕ) → IsForbiddenIn box w q v → IsForbiddenIn part w q v
   forbidden_in = forbidden_grows part box inner part_some
 
-  quiet_part : IsLeaf part
-  quiet_part k below = elim (is.quiet k below) [
+  leaf_part : IsLeaf part
+  leaf_part k below = elim (is.leaf k below) [
     | inl one ↦ inl (one.0, alone_stays part box inner part_some k one.0 below one.1)
     | inr idle ↦ inr (λ q b w at there. idle q b w at (inner.domains k w there))
   ]
@@ -68,7 +68,7 @@ module _ (box : Box) (of_events : AreOfEvents (box_events box)) (is : IsIndepend
   coherent_part k q b w at there =
       coherent_read_by events (HappensBeforeIn box) (HappensBeforeIn part) before_out q b w (is.coherent k q b w at (inner.domains k w there))
 
-  -- ---- sources that fill each read of the part: for its narrowed read those that fill it there, and for the others those of the box
+  -- ---- sources that fill each read of the part: for its restricted read those that fill it there, and for the others those of the box
   abbrev picked : ℕ → List ℕ
   picked q = cond (q == r) fills.0 is.filled.sources
 
@@ -81,7 +81,7 @@ module _ (box : Box) (of_events : AreOfEvents (box_events box)) (is : IsIndepend
       by : (here : Bool) → (q == r) ≡ here → IsFilled box q (cond here fills.0 is.filled.sources)
       by true same =
           let equal : q ≡ r = grind (arith, nat_tests) in
-          subst (λ (p : ℕ). IsFilled box p fills.0) (sym equal) (record { tear_free = fills.2.tear_free; tests = fills.2.tests })
+          subst (λ (p : ℕ). IsFilled box p fills.0) (sym equal) (record { tear_free = fills.2.tear_free; guards = fills.2.guards })
       by false other = is.filled.each q known
 
   picked_here : picked r ≡ fills.0
@@ -111,16 +111,16 @@ module _ (box : Box) (of_events : AreOfEvents (box_events box)) (is : IsIndepend
     lie = part_lies;
     each = λ q known.
         let filled = together_fills box picked of_events lies picked_fills q known in
-        record { tear_free = filled.tear_free; tests = filled.tests };
+        record { tear_free = filled.tear_free; guards = filled.guards };
   }
 
   pub independent_part : IsIndependent part
   independent_part = record {
-    is_box = narrowed_is_box box place left room within is.is_box;
+    is_box = pruned_is_box box place left room within is.is_box;
     some = part_some;
-    quiet = quiet_part;
+    leaf = leaf_part;
     coherent = coherent_part;
-    calm = λ e h. is.calm e (before_out e e h);
+    acyclic = λ e h. is.acyclic e (before_out e e h);
     unwritten = is.unwritten;
     ordered = (
       is.ordered.0,

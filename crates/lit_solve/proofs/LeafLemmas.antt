@@ -1,4 +1,4 @@
--- Leaves: what a settled and quiet frame has completions by.
+-- Leaves: when a settled frame in which no open byte read can force anything has a completion.
 use Rattle.lit_solve.proofs.Words.{◌<◌, arith, Execution, false≢true, Given, HasFalseGuardOn, HasOrder, Holds, IfNone, IfSome, is_some}
 use Rattle.lit_solve.proofs.Words.{IsLeastOrderOf, IsOrderOf, IsTrue, length, List, None, Option, refl, ℕ, ◌↔◌, ◌≡◌}
 use Rattle.lit_rel.proofs.SameRelations.{coherent_read_by}
@@ -31,11 +31,11 @@ module _ (box : Box) (frame : Frame) (settled : IsSettled box frame) where
       coherent_read_by (box_events box) (Holds frame.happens_before.rows) (HappensBeforeIn box) settled.exact.before r b w (settled.coherent k r b w at there)
 
   pub no_cycle : (e : ℕ) → ¬ HappensBeforeIn box e e
-  no_cycle e h = settled.calm e (Given h)
+  no_cycle e h = settled.acyclic e (Given h)
 
-  module _ (quiet : IsLeaf box) (law : IsFilledReadByRead box) where
+  module _ (leaf : IsLeaf box) (law : IsFilledReadByRead box) where
     by_law : (sources : List ℕ) → AreSourcesIn box sources → ((x : Execution) × IsCompletion box x × (x.sources ≡ sources)) ↔ AreFilling box sources
-    by_law sources lie = law sources settled.exact.contained.is_box quiet coherent_sources no_cycle lie
+    by_law sources lie = law sources settled.exact.contained.is_box leaf coherent_sources no_cycle lie
 
     -- sources that fill each read are those of a completion
     pub completion_found : ¬ HasFalseGuardOn box.test box.combination None 0
@@ -43,7 +43,7 @@ module _ (box : Box) (frame : Frame) (settled : IsSettled box frame) where
         → HasOrder (length (box_events box)) (HappensBeforeIn box) (IsForbiddenIn box) → HasSolution box Any
     completion_found unwritten fills ordered = grind (arith, by_law)
 
-    -- what a completion tells
+    -- what follows from a completion
     module _ (h : HasSolution box Any) where
       parts : AreFilling box h.0.sources
       parts = (by_law h.0.sources (sources_lie box h.0 h.1.completes)).0 (h.0, h.1.completes, refl)
@@ -57,7 +57,7 @@ module _ (box : Box) (frame : Frame) (settled : IsSettled box frame) where
       pub has_order : HasOrder (length (box_events box)) (HappensBeforeIn box) (IsForbiddenIn box)
       has_order = parts.2
 
--- where a least order is given if there is any, there is one exactly where it is given
+-- a call that answers the least order if there is any: there is one exactly if it answers one
 pub order_is_some : {A : Type 0} (found : Option A) (items : A → List ℕ) (n : ℕ) (before : ℕ → ℕ → Type 0) (forbidden : ℕ → ℕ → ℕ → Type 0)
     → IfSome found (λ order. IsLeastOrderOf n before forbidden (items order)) → IfNone found ((order : List ℕ) → ¬ IsOrderOf n before forbidden order)
     → IsTrue (is_some found) ↔ HasOrder n before forbidden

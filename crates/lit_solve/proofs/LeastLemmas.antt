@@ -1,4 +1,4 @@
--- The least completion: where each byte read has one source left, they are the sources of each completion there is.
+-- The least solution: if each domain has one source, these are the sources of each completion.
 use Rattle.lit_solve.proofs.Words.{◌++◌, ◌<◌, [], arith, byte_reads, Event, Execution, execution_events, get_or, inl, IsLeastMemoryOrder}
 use Rattle.lit_solve.proofs.Words.{IsLeastOrderOf, IsMemoryOrder, IsOrderOf, length, Less, List, MatchOption, nat_cmp, Option}
 use Rattle.lit_solve.proofs.Words.{same_number_lists, slice_cmp, slice_get-get_or, subst, sym, ℕ, ◌↔◌, ◌∙◌, ◌∷◌, ◌≡◌, ◌≢◌}
@@ -8,7 +8,7 @@ use Rattle.lit_solve.specs.Box.{Box, HasSource, IsBox, LiesIn, box_events}
 use Rattle.lit_solve.specs.Completion.{HasSolution, IsCompletion, IsLeastSolution, IsSolution}
 use Rattle.lit_solve.specs.Fill.{IsLeaf}
 use Rattle.lit_solve.specs.Given.{HappensBeforeIn, IsForbiddenIn}
-use Rattle.lit_solve.specs.Internal.Narrowing.{Narrows}
+use Rattle.lit_solve.specs.Internal.Pruning.{Prunes}
 use Rattle.lit_solve.specs.Internal.Descending.{AreAloneBelow, IsLowest}
 use Rattle.lit_solve.proofs.BoxLemmas.{same_events}
 use Rattle.lit_solve.proofs.CompletionLemmas.{events_same, sourced}
@@ -16,7 +16,7 @@ use Rattle.lit_solve.proofs.FillLemmas.{sources_lie}
 use Rattle.lit_solve.proofs.LexLemmas.{never_both_less}
 use Rattle.lit_solve.proofs.SearchingLemmas.{solution_out}
 
--- one more source, that is left of the next byte read
+-- one more source: the only one of the next byte read
 pub lies_more : (box : Box) (sources : List ℕ) (w : ℕ) → LiesIn box sources → HasSource box (length sources) w → LiesIn box (sources ++ w ∷ [])
 lies_more box sources w lies there k v at = grind (arith, place-push)
 
@@ -54,7 +54,7 @@ module _ (box : Box) (alone : AreAloneBelow box (length (byte_reads (box_events 
         → IsLeastMemoryOrder (box_events box) sources order
     least_ordered order o = grind (arith, one_order)
 
--- it is the least of a box, where the way down went from it to one in which each byte read has one source left
+-- it is the least of a box from which the descent leads to one where each domain has one source
 module _ (old new : Box) (goal : Goal) (lowest : IsLowest old goal new) (alone : AreAloneBelow new (length (byte_reads (box_events new)))) (is_box : IsBox new) (law : HasOneOrder new) (found : HasSolution new goal)
     (sources : List ℕ) (long : length sources ≡ length (byte_reads (box_events new))) (lies : LiesIn new sources) where
   same : found.0.sources ≡ sources
@@ -67,8 +67,8 @@ module _ (old new : Box) (goal : Goal) (lowest : IsLowest old goal new) (alone :
       → IsLeastSolution old goal sources order
   least_found order o = grind (arith, least_ordered, not_less, same, same_events, solution_out)
 
--- ---- a box that was narrowed has the solutions of what it was
-pub least_told : {A : Type 0} (old new : Box) (goal : Goal) → Narrows old new → (found : Option A) (sources order : A → List ℕ)
+-- ---- a pruned box has the solutions of the box before
+pub least_told : {A : Type 0} (old new : Box) (goal : Goal) → Prunes old new → (found : Option A) (sources order : A → List ℕ)
     → MatchOption found (¬ HasSolution new goal) (λ one. IsLeastSolution new goal (sources one) (order one))
     → MatchOption found (¬ HasSolution old goal) (λ one. IsLeastSolution old goal (sources one) (order one))
-least_told old new goal narrows found sources order none = grind arith
+least_told old new goal prunes found sources order none = grind arith

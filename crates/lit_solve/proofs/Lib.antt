@@ -7,7 +7,7 @@ pub mod TogetherLemmas
 pub mod DataRaceLemmas
 pub mod ReadByteLemmas
 pub mod FillingLemmas
-pub mod NarrowingLemmas
+pub mod PruningLemmas
 pub mod EffectLemmas
 pub mod OpeningLemmas
 pub mod BranchingLemmas
@@ -19,10 +19,10 @@ pub mod RangeLemmas
 pub mod NumberLemmas
 pub mod CandidateLemmas
 pub mod BoxesLemmas
-pub mod PartedLemmas
+pub mod SoundRangeLemmas
 pub mod DomainLemmas
 pub mod RegisterLemmas
-pub mod DecidingLemmas
+pub mod ReadValueLemmas
 pub mod ConditionLemmas
 pub mod LeafLemmas
 pub mod RacingLemmas

@@ -28,9 +28,9 @@ module _ (t : Litmus) (c : ℕ) (numbers : NumbersChoices t c) where
 
   module _ (given : List ℕ) (low i w : ℕ) (begun : BeginAt t c given low) (left : length given < length (byte_reads (events_in t c)))
       (here : slice_get (candidates_of (events_in t c) (byte_read_at (events_in t c) (length given))) i ≡ Some w) where
-    -- what comes before the choices with the candidate, among those with the sources given, and these
-    pub passed_fits : i * ways_from (events_in t c) (length given + 1) + ways_from (events_in t c) (length given + 1) ≤ ways_from (events_in t c) (length given)
-    passed_fits = grind (arith, mul-le-mul_right, slice_get_within, ways_split)
+    -- the choices with the candidate, and those with an earlier candidate, are among the choices with the sources given
+    pub earlier_fit : i * ways_from (events_in t c) (length given + 1) + ways_from (events_in t c) (length given + 1) ≤ ways_from (events_in t c) (length given)
+    earlier_fit = grind (arith, mul-le-mul_right, slice_get_within, ways_split)
 
     pub begin_more : BeginAt t c (given ++ w ∷ []) (low + i * ways_from (events_in t c) (length given + 1))
     begin_more =
@@ -41,7 +41,7 @@ module _ (t : Litmus) (c : ℕ) (numbers : NumbersChoices t c) where
               (ways_from (events_in t c) k)) long
               (numbers.next given low i w begun.numbered left here);
           first = omega (arith, begun.first);
-          end = omega (arith, begun.end, passed_fits, ap (ways_from (events_in t c)) long);
+          end = omega (arith, begun.end, earlier_fit, ap (ways_from (events_in t c)) long);
         }
 
   -- with a source for each byte read it is one choice

@@ -1,5 +1,4 @@
--- What registers observe: the value of a read from bytes that are decided one after the other, and the outcomes of the parts of a
--- box.
+-- Observed values: the value of a read from bytes that are decided one after the other, and the outcomes of the parts of a box.
 use Rattle.lit_solve.proofs.Words.{◌*◌, ◌+◌, ◌++◌, ◌<◌, [], ◌^◌, ap, ap₂, arith, byte_read_at, byte_reads, composed, drop, Event, Execution}
 use Rattle.lit_solve.proofs.Words.{execution_outcome, get_or, get_or-map, Laws, length, length-map, List, map, names_of, observed_read, refl}
 use Rattle.lit_solve.proofs.Words.{slice_get, slice_get-get_or, Some, suc, sym, take, take_all, take_more, observed_value, value_of, zero, ℕ}
@@ -13,7 +12,7 @@ use Rattle.lit_solve.specs.declared.observation.ReadValue.TheVariants.{One}
 use Rattle.lit_solve.specs.Box.{Box, HasSource, IsBox, box_events}
 use Rattle.lit_solve.specs.Completion.{IsCompletion}
 use Rattle.lit_solve.specs.Fill.{AreSourcesIn}
-use Rattle.lit_solve.specs.Internal.Deciding.{stored_for}
+use Rattle.lit_solve.specs.Internal.ConditionValues.{stored_for}
 use Rattle.lit_solve.specs.Internal.Filling.{bytes_taken, reads_on}
 use Rattle.lit_solve.specs.Prospect.{IsValueOf}
 use Rattle.lit_solve.specs.Internal.Observation.{IsValueObserved, part_with}
@@ -22,7 +21,7 @@ use Rattle.lit_solve.proofs.FillLemmas.{sources_lie}
 use Rattle.lit_solve.proofs.FillingLemmas.{no_more, same_number, taken_other}
 use Rattle.lit_solve.proofs.ReadByteLemmas.{drop_at, read_there}
 
--- what is left of a read from a byte read on, by its sources, goes with what was taken before to its value
+-- the bytes of a read from a byte read on compose, with those taken before, its value
 abbrev pub IsComposedOn : Box → (r k : ℕ) → Taken → Type 0
 IsComposedOn box r k taken =
     (sources : List ℕ) → AreSourcesIn box sources
@@ -37,18 +36,18 @@ module _ (box : Box) (r : ℕ) where
   reads = byte_reads events
 
   -- the byte reads before the first of the read have none of it
-  passed : (k : ℕ) (sources : List ℕ) → k ≤ length reads → length sources ≡ length reads
+  none_before : (k : ℕ) (sources : List ℕ) → k ≤ length reads → length sources ≡ length reads
       → ((j q b : ℕ) → j < k → slice_get reads j ≡ Some (q, b) → q < r)
       → bytes_taken events reads sources r ≡ bytes_taken events (drop k reads) (drop k sources) r
-  passed zero sources within long before = refl
-  passed (suc k) sources within long before =
+  none_before zero sources within long before = refl
+  none_before (suc k) sources within long before =
       let p = byte_read_at events k in
       let at : slice_get reads k ≡ Some p = slice_get-get_or reads k (0, 0) (omega (arith, within)) in
       let w = get_or sources k 0 in
       let source : slice_get sources k ≡ Some w = slice_get-get_or sources k 0 (omega (arith, within, long)) in
       let other : p.0 ≢ r = λ same. omega (arith, before k p.0 p.1 (omega arith) at, same) in
       let next : k + 1 ≡ suc k = omega arith in
-      passed k sources (omega (arith, within)) long (λ j q b less there. before j q b (omega (arith, less)) there)
+      none_before k sources (omega (arith, within)) long (λ j q b less there. before j q b (omega (arith, less)) there)
       ∙ ap (λ (ps : List (ℕ × ℕ)). bytes_taken events ps (drop k sources) r) (drop_at reads k p at)
       ∙ ap (λ (ws : List ℕ). bytes_taken events (p ∷ drop (k + 1) reads) ws r) (drop_at sources k w source)
       ∙ taken_other events p (drop (k + 1) reads) w (drop (k + 1) sources) r other
@@ -56,14 +55,14 @@ module _ (box : Box) (r : ℕ) where
 
   pub composed_first : (k : ℕ) (taken : Taken) → k ≤ length reads → ((j q b : ℕ) → j < k → slice_get reads j ≡ Some (q, b) → q < r)
       → taken.value ≡ 0 → taken.bytes ≡ 0 → IsComposedOn box r k taken
-  composed_first k taken within before value bytes sources lie = grind (arith, passed)
+  composed_first k taken within before value bytes sources lie = grind (arith, none_before)
 
-  -- one more byte, which each source stores alike
+  -- one more byte: all sources store the same
   pub composed_next : (k w : ℕ) (taken next : Taken) → k < length reads → (byte_read_at events k).0 ≡ r
       → ((v : ℕ) → HasSource box k v → stored_for box k v ≡ stored_for box k w)
       → next.value ≡ taken.value + 256 ^ taken.bytes * stored_for box k w → next.bytes ≡ taken.bytes + 1
       → IsComposedOn box r k taken → IsComposedOn box r (k + 1) next
-  composed_next k w taken next within is alike value bytes so_far sources lie =
+  composed_next k w taken next within is matching value bytes so_far sources lie =
       let b = (byte_read_at events k).1 in
       let at : slice_get reads k ≡ Some (r, b) = read_there events k r within is in
       let v = get_or sources k 0 in
@@ -74,7 +73,7 @@ module _ (box : Box) (r : ℕ) where
       ∙ ap (λ (ws : List ℕ). taken.value + 256 ^ taken.bytes * composed (bytes_taken events ((r, b) ∷ drop (k + 1) reads) ws r))
       (drop_at sources k v source)
       ∙ sym (same_number box r (r, b) (drop (k + 1) reads) (λ _. ⊥) taken.value taken.bytes v (drop (k + 1) sources) refl)
-      ∙ ap (λ (byte : ℕ). (taken.value + 256 ^ taken.bytes * byte) + 256 ^ (taken.bytes + 1) * rest) (alike v (lie.within k v source))
+      ∙ ap (λ (byte : ℕ). (taken.value + 256 ^ taken.bytes * byte) + 256 ^ (taken.bytes + 1) * rest) (matching v (lie.within k v source))
       ∙ ap (λ (n : ℕ). n + 256 ^ (taken.bytes + 1) * rest) (sym value)
       ∙ ap (λ (n : ℕ). next.value + 256 ^ n * rest) (sym bytes)
 
@@ -87,33 +86,33 @@ module _ (box : Box) (r : ℕ) where
       (λ i b at. none (k + i) b (omega arith) (sym (slice_get-drop k i reads) ∙ at))
 
 -- ---- registers
--- a register that holds a read has its value
+-- a register that observes a read has its value
 pub observed_by_read : (box : Box) (name : ℕ × ℕ) (r : ℕ) (value : ReadValue) → Some r ≡ observed_read box.test box.combination name → IsValueOf box r value
     → IsValueObserved box name value
 observed_by_read box name r value holds is = grind arith
 
 module _ (box : Box) (entered : IsBox box) (laws : Laws) (x : Execution) (is : IsCompletion box x) where
   -- what a register has at the end of the completion
-  abbrev pub held_in : ℕ × ℕ → ℕ
-  held_in name = observed_value (part_with box x.sources) (observed_read box.test box.combination name)
+  abbrev pub observed_in : ℕ × ℕ → ℕ
+  observed_in name = observed_value (part_with box x.sources) (observed_read box.test box.combination name)
 
-  pub outcome_is : execution_outcome box.test x ≡ map held_in (names_of box.test)
+  pub outcome_is : execution_outcome box.test x ≡ map observed_in (names_of box.test)
   outcome_is =
       its_outcome (part_of box x.sources) x (completes box x is) laws (record { litmus = entered.litmus; known = entered.known })
       (names_from-within box.test.agents)
 
   length_outcome : length (execution_outcome box.test x) ≡ length (names_of box.test)
-  length_outcome = ap (λ (vs : List ℕ). length vs) outcome_is ∙ length-map (names_of box.test) held_in
+  length_outcome = ap (λ (vs : List ℕ). length vs) outcome_is ∙ length-map (names_of box.test) observed_in
 
   -- one value more
   pub value_more : (values more : List ℕ) (name : ℕ × ℕ) (value : ℕ) → length values < length (names_of box.test)
       → name ≡ get_or (names_of box.test) (length values) (0, 0) → values ≡ take (length values) (execution_outcome box.test x)
       → IsValueObserved box name (One value) → more ≡ values ++ value ∷ [] → more ≡ take (length values + 1) (execution_outcome box.test x)
-  value_more values more name value inside at so_far held grown =
+  value_more values more name value inside at so_far observed_is grown =
       let outcome = execution_outcome box.test x in
       let within : length values < length outcome = omega (arith, inside, length_outcome) in
-      let is : value ≡ get_or outcome (length values) 0 = sym (held x.sources (sources_lie box x is)) ∙ ap held_in at
-      ∙ sym (get_or-map held_in (names_of box.test) (length values) (0, 0) 0 inside)
+      let is : value ≡ get_or outcome (length values) 0 = sym (observed_is x.sources (sources_lie box x is)) ∙ ap observed_in at
+      ∙ sym (get_or-map observed_in (names_of box.test) (length values) (0, 0) 0 inside)
       ∙ sym (ap (λ (vs : List ℕ). get_or vs (length values) 0) outcome_is) in
       grown ∙ ap₂ (λ (xs : List ℕ) (v : ℕ). xs ++ v ∷ []) so_far is ∙ sym (take_more outcome (length values) 0 within)
 

@@ -1,5 +1,5 @@
--- Completions with one outcome take sources that store the same for a byte read that a register observes. So what is least in a
--- part of a box by that byte is least in the box.
+-- Completions with the same outcome take sources that store the same byte for an observed byte read. So the least completion with an
+-- outcome in a part of a box, by that byte, is the least in the box.
 use Rattle.lit_solve.proofs.Words.{◌<◌, ap, AreEventsIn, arith, byte_read_at, byte_reads, cases_eq, Entry, eq-eqb, Event, EventSet}
 use Rattle.lit_solve.proofs.Words.{Execution, execution_outcome, false≢true, HasEvent, HasOutcome, inl, inr, Laws, length, List, names_of}
 use Rattle.lit_solve.proofs.Words.{refl, same_Some, slice_get, Some, subst, sym, true, observed_value, value_in, value_of, zip, ℕ, ◌↔◌, ◌∙◌}
@@ -11,15 +11,15 @@ use Rattle.lit_solve.specs.Box.{Box, HasSource, IsBox, IsWithin, box_events, box
 use Rattle.lit_solve.specs.Completion.{IsCompletion}
 use Rattle.lit_solve.specs.Outcomes.{AddsEntries, HasEachOutcome, IsLeastEntry}
 use Rattle.lit_solve.specs.Prospect.{IsUndecidedAt}
-use Rattle.lit_solve.specs.Internal.Deciding.{stored_for}
-use Rattle.lit_solve.specs.Internal.Narrowing.{Narrows}
+use Rattle.lit_solve.specs.Internal.ConditionValues.{stored_for}
+use Rattle.lit_solve.specs.Internal.Pruning.{Prunes}
 use Rattle.lit_solve.specs.Internal.Observation.{AreFirstValues, IsObservedAt}
 use Rattle.lit_solve.specs.Internal.Settled.{IsCut, TakesFrom}
 use Rattle.lit_solve.proofs.CompletionLemmas.{part_of}
-use Rattle.lit_solve.proofs.DecidingLemmas.{byte_for, other_number}
+use Rattle.lit_solve.proofs.ReadValueLemmas.{byte_for, other_number}
 use Rattle.lit_solve.proofs.EntryLemmas.{adds_more, adds_out, adds_stays}
 use Rattle.lit_solve.proofs.FillLemmas.{sources_lie}
-use Rattle.lit_solve.proofs.NarrowingLemmas.{read_here}
+use Rattle.lit_solve.proofs.PruningLemmas.{read_here}
 use Rattle.lit_solve.proofs.RegisterLemmas.{register_value}
 use Rattle.lit_solve.proofs.SearchingLemmas.{not_all, takes_some}
 
@@ -38,10 +38,10 @@ pub first_within : (box : Box) (domains : List EventSet) (values : List ℕ) →
     → AreFirstValues box values → AreFirstValues (box_with (box.test, box.combination) domains) values
 first_within box domains values within first = grind arith
 
--- what is least in a box that was narrowed is least in what it was
-pub least_narrowed : (box : Box) (domains : List EventSet) → Narrows box (box_with (box.test, box.combination) domains) → (entry : Entry)
+-- a least entry of a pruned box is a least entry of the box before
+pub least_pruned : (box : Box) (domains : List EventSet) → Prunes box (box_with (box.test, box.combination) domains) → (entry : Entry)
     → IsLeastEntry (box_with (box.test, box.combination) domains) entry → IsLeastEntry box entry
-least_narrowed box domains narrows entry is = grind arith
+least_pruned box domains prunes entry is = grind arith
 
 module _ (laws : Laws) (box : Box) (entered : IsBox box) (sound : AreEventsIn box.test.bytes (box_events box)) (k : ℕ)
     (inside : k < length (byte_reads (box_events box))) (observed : IsObservedAt box k) where
@@ -58,13 +58,13 @@ module _ (laws : Laws) (box : Box) (entered : IsBox box) (sound : AreEventsIn bo
   at = read_here events k inside
 
   -- what the register has at the end is the value of the read
-  held : (x : Execution) → IsCompletion box x
+  observed_is : (x : Execution) → IsCompletion box x
       → value_in (zip (names_of box.test) (execution_outcome box.test x)) observed.0.0 observed.0.1 ≡ value_of events x.sources r
-  held x is = register_value laws box x entered is observed.0.0 observed.0.1 ∙ ap (observed_value (part_of box x.sources)) observed.1
+  observed_is x is = register_value laws box x entered is observed.0.0 observed.0.1 ∙ ap (observed_value (part_of box x.sources)) observed.1
 
   same_value : (x y : Execution) → IsCompletion box x → IsCompletion box y → execution_outcome box.test x ≡ execution_outcome box.test y
       → value_of events x.sources r ≡ value_of events y.sources r
-  same_value x y is_x is_y same = grind (arith, held)
+  same_value x y is_x is_y same = grind (arith, observed_is)
 
   -- a source stores the byte that the value has there
   stores : (number : ℕ) (x : Execution) → IsCompletion box x → (w : ℕ) → slice_get x.sources k ≡ Some w → value_of events x.sources r ≡ number
@@ -86,7 +86,7 @@ module _ (laws : Laws) (box : Box) (entered : IsBox box) (sound : AreEventsIn bo
 
   -- ---- the part of a box by the sources that store the same as one
   module _ (source : ℕ) (group : EventSet)
-      (alike : (w : ℕ) → HasEvent group w ↔ (HasSource box k w × (stored_for box k w ≡ stored_for box k source))) where
+      (matching : (w : ℕ) → HasEvent group w ↔ (HasSource box k w × (stored_for box k w ≡ stored_for box k source))) where
     -- who takes one of them, with an outcome
     takes_too : (x y : Execution) → IsCompletion box x → IsCompletion box y → execution_outcome box.test x ≡ execution_outcome box.test y
         → (v : ℕ) → slice_get y.sources k ≡ Some v → HasEvent group v → TakesFrom x k group
@@ -107,7 +107,7 @@ module _ (laws : Laws) (box : Box) (entered : IsBox box) (sound : AreEventsIn bo
         from = is.from;
         to = is.to;
         chosen = is.chosen;
-        least = λ x completes its. is.least x (cut.kept x completes (takes x completes its)) its;
+        least = λ x completes its. is.least x (cut.retained x completes (takes x completes its)) its;
         ordered = is.ordered;
       }
         where
@@ -161,32 +161,32 @@ module _ (box : Box) (k : ℕ) where
 -- ---- one part more, by the sources that store the same as one
 module _ (laws : Laws) (box : Box) (entered : IsBox box) (sound : AreEventsIn box.test.bytes (box_events box)) (k : ℕ)
     (inside : k < length (byte_reads (box_events box))) (observed : IsObservedAt box k) (source : ℕ) (group : EventSet)
-    (alike : (w : ℕ) → HasEvent group w ↔ (HasSource box k w × (stored_for box k w ≡ stored_for box k source)))
+    (matching : (w : ℕ) → HasEvent group w ↔ (HasSource box k w × (stored_for box k w ≡ stored_for box k source)))
     (domains : List EventSet) (cut : IsCut box k group (box_with (box.test, box.combination) domains)) where
   pub part_adds : (mid new : List Entry) → AddsEntries (box_with (box.test, box.combination) domains) mid new → AddsEntries box mid new
   part_adds =
       adds_out (box_with (box.test, box.combination) domains) box
-      (least_out laws box entered sound k inside observed source group alike domains cut)
+      (least_out laws box entered sound k inside observed source group matching domains cut)
 
   pub seen_part : (old mid new : List Entry) (left rest : EventSet) → ((w : ℕ) → HasEvent rest w ↔ (HasEvent left w × ¬ HasEvent group w))
       → AddsEntries box old mid → IsSeen box k mid left → AddsEntries (box_with (box.test, box.combination) domains) mid new
       → HasEachOutcome (box_with (box.test, box.combination) domains) new → AddsEntries box old new × IsSeen box k new rest
   seen_part old mid new left rest rest_is added seen adds whole = (
     adds_more box old mid new added (part_adds mid new adds),
-    seen_more box k new left group rest rest_is inside (λ x is takes. whole x (cut.kept x is takes))
+    seen_more box k new left group rest rest_is inside (λ x is takes. whole x (cut.retained x is takes))
         (seen_stays box k mid new left (λ outcome. adds_stays box mid new outcome (part_adds mid new adds)) seen),
   )
 
 -- ---- the group of the sources that store the same as one
-pub alike_among : (box : Box) (k source : ℕ) (all group : EventSet) → ((w : ℕ) → HasEvent all w ↔ HasSource box k w)
+pub same_stores_among : (box : Box) (k source : ℕ) (all group : EventSet) → ((w : ℕ) → HasEvent all w ↔ HasSource box k w)
     → ((w : ℕ) → HasEvent group w ↔ (HasEvent all w × (stored_for box k w ≡ stored_for box k source)))
     → (w : ℕ) → HasEvent group w ↔ (HasSource box k w × (stored_for box k w ≡ stored_for box k source))
-alike_among box k source all group all_is group_is w = grind arith
+same_stores_among box k source all group all_is group_is w = grind arith
 
 -- it lacks some source of a byte read that is undecided
 pub some_differ : (box : Box) (k source : ℕ) (group : EventSet) → k < length (byte_reads (box_events box)) → IsUndecidedAt box k → HasSource box k source
     → ((w : ℕ) → HasEvent group w ↔ (HasSource box k w × (stored_for box k w ≡ stored_for box k source)))
     → ¬ ((w : ℕ) → HasSource box k w → HasEvent group w)
-some_differ box k source group inside undecided there alike =
+some_differ box k source group inside undecided there matching =
     let branch : Branch = record { place = k; by_value = true } in
-    not_all box branch (record { known = inside; several = undecided }) source there group (λ w h. ((alike w).0 h).1)
+    not_all box branch (record { known = inside; several = undecided }) source there group (λ w h. ((matching w).0 h).1)

@@ -1,4 +1,4 @@
--- Frames before anything follows from them, and boxes cut.
+-- Frames before any propagation, and boxes with a cut domain.
 use Rattle.lit_solve.proofs.Words.{◌<◌, [], arith, common_steps, EventSet, Execution, Given, HappensBefore, HasEvent, Holds, IsTransitive}
 use Rattle.lit_solve.proofs.Words.{length, ReadsByteFrom, rows_len, slice_get, Some, TwoWayRows, ℕ, ◌↔◌, ◌≡◌}
 use Rattle.lit_rel.proofs.ChainLemmas.{Chain-append}
@@ -7,9 +7,9 @@ use Rattle.lit_solve.specs.Box.{Box, HasEmptyDomain, HasSource, IsBox, box_event
 use Rattle.lit_solve.specs.Completion.{IsCompletion}
 use Rattle.lit_solve.specs.Given.{GivenIn, HappensBeforeIn}
 use Rattle.lit_solve.specs.Internal.Frames.{IsContained}
-use Rattle.lit_solve.specs.Internal.Narrowing.{Narrows}
+use Rattle.lit_solve.specs.Internal.Pruning.{Prunes}
 use Rattle.lit_solve.specs.Internal.Settled.{IsCut, TakesFrom}
-use Rattle.lit_solve.proofs.DomainLemmas.{completion_at, domain_here, narrowed_at, narrowed_within}
+use Rattle.lit_solve.proofs.DomainLemmas.{completion_at, domain_here, pruned_at, pruned_within}
 
 module _ (box : Box) (order : TwoWayRows) (len : rows_len order.rows ≡ length (box_events box)) (pairs : (e d : ℕ) → Holds order.rows e d ↔ HappensBefore (box_events box) [] e d) where
   no_byte : (r b w : ℕ) → ReadsByteFrom (box_events box) [] r b w → GivenIn box r b w
@@ -36,7 +36,7 @@ module _ (box : Box) (order : TwoWayRows) (len : rows_len order.rows ≡ length 
     forced_in = λ a d h. Given (before_in a d h);
   }
 
--- ---- a domain cut down to a set
+-- ---- a domain restricted to a set
 module _ (box : Box) (place : ℕ) (set left : EventSet) (room : place < length box.domains) (left_is : (w : ℕ) → HasEvent left w ↔ (HasSource box place w × HasEvent set w)) where
   pub left_within : (w : ℕ) → HasEvent left w → HasSource box place w
   left_within w there = ((left_is w).0 there).0
@@ -44,9 +44,9 @@ module _ (box : Box) (place : ℕ) (set left : EventSet) (room : place < length 
   pub source_taken : (x : Execution) → IsCompletion box x → TakesFrom x place set → (w : ℕ) → slice_get x.sources place ≡ Some w → HasEvent left w
   source_taken x is takes w source = (left_is w).1 (is.within place w source, takes w source)
 
-  pub completion_taken : (x : Execution) → IsCompletion box x → TakesFrom x place set → IsCompletion (narrowed_at box place left) x
+  pub completion_taken : (x : Execution) → IsCompletion box x → TakesFrom x place set → IsCompletion (pruned_at box place left) x
   completion_taken x is takes = completion_at box place left room x is (source_taken x is takes)
 
-  -- narrowed further it is the cut
-  pub cut_on : (now : Box) → Narrows (narrowed_at box place left) now → IsCut box place set now
-  cut_on now on = grind (arith, common_steps, completion_taken, domain_here, left_within, narrowed_within)
+  -- pruned further it is the cut
+  pub cut_on : (now : Box) → Prunes (pruned_at box place left) now → IsCut box place set now
+  cut_on now on = grind (arith, common_steps, completion_taken, domain_here, left_within, pruned_within)

@@ -1,4 +1,4 @@
--- Data races that a frame foresees, place by place of the byte reads; a read filled with one source of a byte.
+-- Possible data races of a frame, byte read by byte read; and a read filled with one source of a byte.
 use Rattle.lit_solve.proofs.Words.{◌<◌, ap, arith, Bool, byte_read_at, byte_reads, ByteRead, cases_eq, Event, EventSet, false, get_or}
 use Rattle.lit_solve.proofs.Words.{get_or-set_other, HasApartPair, HasDataRaceOf, HasEvent, Holds, inl, inr, length, List, pair_of, refl}
 use Rattle.lit_solve.proofs.Words.{same_Some, slice_get, slice_get-get_or, slice_get_within, Some, subst, sym, true, WritesWith, ℕ, ◌↔◌}
@@ -11,8 +11,8 @@ use Rattle.lit_solve.specs.Fill.{AreSourcesIn, CanFill, IsFilled}
 use Rattle.lit_solve.specs.Given.{HappensBeforeIn}
 use Rattle.lit_solve.specs.Internal.Frames.{IsExact}
 use Rattle.lit_solve.specs.Internal.Leaves.{CanFillAt, MayHave, RacesAt, RacesIn}
-use Rattle.lit_solve.proofs.DomainLemmas.{domain_here, narrowed_at, narrowed_within}
-use Rattle.lit_solve.proofs.NarrowingLemmas.{read_here, read_there}
+use Rattle.lit_solve.proofs.DomainLemmas.{domain_here, pruned_at, pruned_within}
+use Rattle.lit_solve.proofs.PruningLemmas.{read_here, read_there}
 
 -- the read at a place
 read_at : (box : Box) (k r b : ℕ) → slice_get (byte_reads (box_events box)) k ≡ Some (r, b) → r ≡ (byte_read_at (box_events box) k).0
@@ -125,11 +125,11 @@ module _ (box : Box) (place w : ℕ) (one : EventSet) (is_one : (v : ℕ) → Ha
   one_within there v h = subst (λ (u : ℕ). HasSource box place u) (sym ((is_one v).0 h)) there
 
   -- sources with it lie in the box where it is alone at the place
-  lie_alone : (sources : List ℕ) → AreSourcesIn box sources → slice_get sources place ≡ Some w → AreSourcesIn (narrowed_at box place one) sources
+  lie_alone : (sources : List ℕ) → AreSourcesIn box sources → slice_get sources place ≡ Some w → AreSourcesIn (pruned_at box place one) sources
   lie_alone sources lie takes = grind (arith, cases_eq, domain_here, get_or-set_other, same_Some)
 
   -- those that lie there have it
-  takes_alone : place < length (byte_reads (box_events box)) → (sources : List ℕ) → AreSourcesIn (narrowed_at box place one) sources
+  takes_alone : place < length (byte_reads (box_events box)) → (sources : List ℕ) → AreSourcesIn (pruned_at box place one) sources
       → slice_get sources place ≡ Some w
   takes_alone inside sources lie =
       let long : place < length sources = omega (arith, lie.sourced.one_each, inside) in
@@ -139,13 +139,13 @@ module _ (box : Box) (place w : ℕ) (one : EventSet) (is_one : (v : ℕ) → Ha
       at ∙ ap (λ (v : ℕ). Some v) ((is_one first).0 there)
 
   pub can_fill_alone : place < length (byte_reads (box_events box)) → HasSource box place w
-      → CanFill (narrowed_at box place one) (byte_read_at (box_events box) place).0 ↔ CanFillAt box place w
+      → CanFill (pruned_at box place one) (byte_read_at (box_events box) place).0 ↔ CanFillAt box place w
   can_fill_alone inside there = (
     (λ can. record {
       sources = can.0;
-      lie = record { sourced = can.1.sourced; within = λ k v at. (narrowed_within box place one room (one_within there)).domains k v (can.1.within k v at) };
+      lie = record { sourced = can.1.sourced; within = λ k v at. (pruned_within box place one room (one_within there)).domains k v (can.1.within k v at) };
       takes = takes_alone inside can.0 can.1;
-      filled = record { tear_free = can.2.tear_free; tests = can.2.tests };
+      filled = record { tear_free = can.2.tear_free; guards = can.2.guards };
     }),
-    (λ can. (can.sources, lie_alone can.sources can.lie can.takes, record { tear_free = can.filled.tear_free; tests = can.filled.tests })),
+    (λ can. (can.sources, lie_alone can.sources can.lie can.takes, record { tear_free = can.filled.tear_free; guards = can.filled.guards })),
   )

@@ -7,7 +7,7 @@ use Rattle.std.proofs.Common.{slice_get}
 use Rattle.lit_paths.proofs.Rising.{nat_cmp-same, slice_cmp-same}
 use Rattle.lit_paths.proofs.Totals.{before_all}
 use Rattle.lit_solve.specs.Boxes.{BoxesModel, CutsRange, IsAbove, IsBelow, LiesInBox, boxes_events, boxes_len, parting_in}
-use Rattle.lit_solve.specs.Internal.Cut.{IsCut, IsGreaterAt, IsHighEnd, IsLowEnd}
+use Rattle.lit_solve.specs.Internal.Cut.{IsRangeCut, IsGreaterAt, IsHighEnd, IsLowEnd}
 use Rattle.lit_solve.proofs.CutLemmas.{IsBetween, IsInCut, between, few_boxes, found, rises}
 use Rattle.lit_solve.proofs.LexLemmas.{less_from_place, place_of_less}
 
@@ -111,7 +111,7 @@ below_from high place s k w inside here is = grind arith
 low_long : (n : ℕ) (s : List ℕ) (low : Option (List ℕ)) → length s ≡ n → IfSome low (λ l. length l ≡ n) → IfSome low (λ l. length l ≡ length s)
 low_long n s low same is = grind arith
 
-module _ (boxes : BoxesModel) (cut : IsCut (length (byte_reads (boxes_events boxes))) boxes.low boxes.high boxes.shared boxes.lows boxes.highs)
+module _ (boxes : BoxesModel) (cut : IsRangeCut (length (byte_reads (boxes_events boxes))) boxes.low boxes.high boxes.shared boxes.lows boxes.highs)
     (s : List ℕ) (are : AreSources (boxes_events boxes) s) (i : ℕ) (inside : i < boxes_len boxes) where
   at_place : (k : ℕ) → k < length s → slice_get s k ≡ Some (slice_index s k)
   at_place k within = slice_get-get_or s k 0 within
@@ -145,7 +145,7 @@ module _ (boxes : BoxesModel) (cut : IsCut (length (byte_reads (boxes_events box
       }
 
 -- ---- the range
-module _ (boxes : BoxesModel) (cut : IsCut (length (byte_reads (boxes_events boxes))) boxes.low boxes.high boxes.shared boxes.lows boxes.highs) (from to : ℕ) (some : 0 < to)
+module _ (boxes : BoxesModel) (cut : IsRangeCut (length (byte_reads (boxes_events boxes))) boxes.low boxes.high boxes.shared boxes.lows boxes.highs) (from to : ℕ) (some : 0 < to)
     (low_is : IsLowEnd boxes.test boxes.combination from boxes.low) (high_is : IsHighEnd boxes.test boxes.combination to boxes.high)
     (lists : ListsChoices boxes.test)
     (of : (n : ℕ) → choices_before boxes.test boxes.combination ≤ n → n < choices_before boxes.test (boxes.combination + 1)

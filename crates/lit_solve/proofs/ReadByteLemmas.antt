@@ -1,4 +1,4 @@
--- The byte reads of one read, room for them in a number, and the events of a set one after the other.
+-- The byte reads of one read, room for them in a number, and the events of a set, one after the other.
 use Rattle.lit_solve.proofs.Words.{◌*◌, ◌+◌, ◌<◌, ◌==◌, [], ◌^◌, ap, AreFirstReads, arith, byte_read_at, byte_reads, cases_eq, cond, drop}
 use Rattle.lit_solve.proofs.Words.{drop-map, drop_more, eq-eqb, Event, event_at, EventSet, false, filter, get_or_from_slice_get, HasEvent}
 use Rattle.lit_solve.proofs.Words.{IsSplit, length, length-map, List, map, mul-le-mul_left, payload_at, pow-le-pow_right, pow_more, read_of}
@@ -10,7 +10,7 @@ use Rattle.lit_rel.proofs.SetLemmas.{event_or_not}
 use Rattle.lit_rel.proofs.ValueLemmas.{length-stored, sourced, stored}
 use Rattle.lit_solve.specs.declared.filling.Taken.{Taken}
 use Rattle.lit_solve.specs.Internal.Filling.{HasRoom, reads_on}
-use Rattle.lit_solve.proofs.NarrowingLemmas.{read_here}
+use Rattle.lit_solve.proofs.PruningLemmas.{read_here}
 
 pub drop_at : {X : Type 0} (xs : List X) (k : ℕ) (x : X) → slice_get xs k ≡ Some x → drop k xs ≡ x ∷ drop (k + 1) xs
 drop_at xs k x at =
@@ -21,24 +21,24 @@ pub read_there : (events : List Event) (k r : ℕ) → k < length (byte_reads ev
     → slice_get (byte_reads events) k ≡ Some (r, (byte_read_at events k).1)
 read_there events k r within same = read_here events k within ∙ ap (λ (q : ℕ). Some (q, (byte_read_at events k).1)) same
 
--- ---- events of a set that are like another, one after the other
-module _ (among left others alike : EventSet) (P : ℕ → Type 0) (event : ℕ) (split : IsSplit left event others)
-    (so_far : (v : ℕ) → HasEvent alike v ↔ (HasEvent among v × P v × ¬ HasEvent left v)) where
-  pub alike_more : (more : EventSet) → HasEvent among event → P event → ((v : ℕ) → HasEvent more v ↔ (HasEvent alike v ⊎ (v ≡ event)))
+-- ---- the events of a set that match a property, one after the other
+module _ (among left others matching : EventSet) (P : ℕ → Type 0) (event : ℕ) (split : IsSplit left event others)
+    (so_far : (v : ℕ) → HasEvent matching v ↔ (HasEvent among v × P v × ¬ HasEvent left v)) where
+  pub matching_more : (more : EventSet) → HasEvent among event → P event → ((v : ℕ) → HasEvent more v ↔ (HasEvent matching v ⊎ (v ≡ event)))
       → (v : ℕ) → HasEvent more v ↔ (HasEvent among v × P v × ¬ HasEvent others v)
-  alike_more more there is with_event v = grind (arith, cases_eq)
+  matching_more more there is with_event v = grind (arith, cases_eq)
 
-  pub alike_same : ¬ P event → (v : ℕ) → HasEvent alike v ↔ (HasEvent among v × P v × ¬ HasEvent others v)
-  alike_same not_like v = grind arith
+  pub matching_same : ¬ P event → (v : ℕ) → HasEvent matching v ↔ (HasEvent among v × P v × ¬ HasEvent others v)
+  matching_same not_like v = grind arith
 
--- what is in vain of the events of a domain that are left no more
+-- of a domain, the events that are no longer in the set failed
 pub vain_more : (left others less : EventSet) (event : ℕ) → IsSplit left event others → (Domain Vain : ℕ → Type 0)
     → ((w : ℕ) → Domain w → ¬ HasEvent left w → Vain w) → Vain event → ((w : ℕ) → Domain w → HasEvent others w → ¬ HasEvent less w → Vain w)
     → (w : ℕ) → Domain w → ¬ HasEvent less w → Vain w
-vain_more left others less event split Domain Vain so_far here left_out w there gone = grind (arith, cases_eq, event_or_not)
+vain_more left others less event split Domain Vain so_far here dominated w there gone = grind (arith, cases_eq, event_or_not)
 
 -- ---- the byte reads of a read
--- a byte read with a source, which says nothing
+-- a byte read with any source
 abbrev some_source : ℕ × ℕ → SourcedByte
 some_source p = record { read = p.0; byte = p.1; source = 0 }
 

@@ -1,4 +1,4 @@
--- What a register has in an outcome is the value of the read that it holds at the end of its agent's path.
+-- A register's value in an outcome is the value of the read that it observes at the end of its agent's path.
 use Rattle.lit_solve.proofs.Words.{◌&&◌, ◌+◌, ◌++◌, ◌<◌, ◌==◌, [], accesses_of, Agent, agent_of, ap, ap₂, arith, Bool, cases_eq, cases_lt}
 use Rattle.lit_solve.proofs.Words.{CompareExchange, cond, does_read, End, eq-eqb, Event, event_at, events_in, Exchange, Execution}
 use Rattle.lit_solve.proofs.Words.{execution_outcome, false, false≢true, filter, first_event, get_or-map-range_with_len, get_or_past, If}
@@ -13,8 +13,8 @@ use Rattle.std.proofs.Common.{zip}
 use Rattle.lit_paths.proofs.NameSteps.{names_from-within}
 use Rattle.lit_paths.proofs.Products.{product-known}
 use Rattle.lit_valid.proofs.CompletionLemmas.{its_outcome}
-use Rattle.lit_solve.specs.declared.deciding.Decided.{Decided}
-use Rattle.lit_solve.specs.declared.deciding.Decided.TheVariants.{Comes, Hangs}
+use Rattle.lit_solve.specs.declared.condition_values.Decided.{Decided}
+use Rattle.lit_solve.specs.declared.condition_values.Decided.TheVariants.{Known, Undecided}
 use Rattle.lit_solve.specs.Box.{Box, IsBox}
 use Rattle.lit_solve.specs.Completion.{IsCompletion}
 use Rattle.lit_valid.specs.declared.class.Class.{Class}
@@ -23,7 +23,7 @@ use Rattle.lit_solve.specs.declared.goal.Goal.TheVariants.{OfClass}
 use Rattle.lit_solve.specs.declared.prospect.Prospect.{Prospect}
 use Rattle.lit_solve.specs.declared.prospect.Prospect.TheVariants.{Each, Nothing, Open}
 use Rattle.lit_solve.specs.Prospect.{IsOutcomeProspect, outcome_by}
-use Rattle.lit_solve.specs.Internal.Deciding.{IsDecided, IsProspect, IsReadDecided}
+use Rattle.lit_solve.specs.Internal.ConditionValues.{IsDecided, IsProspect, IsReadDecided}
 use Rattle.lit_solve.proofs.CompletionLemmas.{completes, part_of}
 use Rattle.lit_solve.proofs.FillLemmas.{sources_lie}
 
@@ -92,7 +92,7 @@ either a b h = grind (arith, false≢true)
 itself : (agent reg : ℕ) → is_name agent reg (agent, reg) ≡ true
 itself agent reg = ap₂ (λ (x y : Bool). x && y) (eq-eqb agent agent refl) (eq-eqb reg reg refl)
 
--- a register that the test p picks is named
+-- a register that the predicate p picks is named
 named_in : (p : ℕ → Bool) (n reg low count : ℕ) → low ≤ reg → reg < low + count → p reg ≡ true
     → list_any (is_name n reg) (map (λ r. (n, r)) (filter p (range_with_len low count))) ≡ true
 named_in p n reg low zero least most picks = absurd (omega (arith, least, most))
@@ -133,12 +133,12 @@ named_from n (suc k) reg (x ∷ agents) a at known picks =
     ∙ either (list_any (is_name ((n + 1) + k) reg) (names_in n x)) (list_any (is_name ((n + 1) + k) reg) (names_from (n + 1) agents))
     (inr (named_from (n + 1) k reg agents a at known picks))
 
--- ---- what registers hold
+-- ---- what registers observe
 -- an agent that is not there has no walk
 pub walk_beyond : (t : Litmus) (c agent : ℕ) → length t.agents ≤ agent → walk_in t c agent ≡ []
 walk_beyond t c agent past = grind (arith, cases_lt, get_or_past, length-map, product-known, slice_get-get_or)
 
--- such a register holds nothing at the end of its agent's path
+-- such a register observes nothing at the end of its agent's path
 abbrev last_observed : (t : Litmus) (c agent reg : ℕ) → Option ℕ
 last_observed t c agent reg = slice_index_or (path_in t c agent).last reg None
 
@@ -154,7 +154,7 @@ none_unwritten t c agent reg walk known off =
     get_or-map-range_with_len (last_read (walk_in t c agent)) 0 REGISTERS reg reg None known (omega arith)
     ∙ last_none reg 0 (walk_in t c agent) (walk_none reg (agent_of t agent).body (walk_in t c agent) walk.walked off)
 
--- a register that is not named holds nothing
+-- a register that is not named observes nothing
 none_unnamed : (t : Litmus) (c agent reg : ℕ) → (agent < length t.agents → IsWalkIn t c agent (walk_in t c agent))
     → list_any (is_name agent reg) (names_of t) ≡ false → last_observed t c agent reg ≡ None
 none_unnamed t c agent reg walk unnamed = by (cases_lt agent (length t.agents)) (cases_lt reg REGISTERS)
@@ -172,7 +172,7 @@ none_unnamed t c agent reg walk unnamed = by (cases_lt agent (length t.agents)) 
             let same : 0 + agent ≡ agent = omega arith in
             absurd (false≢true (sym unnamed ∙ subst (λ (a : ℕ). list_any (is_name a reg) (names_of t) ≡ true) same named))
 
--- the read that a register holds is an event of the combination that reads
+-- the read that a register observes is an event of the combination that reads
 pub observed_reads : (t : Litmus) (c agent reg k : ℕ) → IsWalkIn t c agent (walk_in t c agent) → reg < REGISTERS → last_observed t c agent reg ≡ Some k
     → (first_event t c agent + k < length (events_in t c)) × IsTrue (does_read (event_at (events_in t c) (first_event t c agent + k)).kind)
 observed_reads t c agent reg k walk known at =
@@ -186,15 +186,15 @@ observed_reads t c agent reg k walk known at =
 pub register_observed : (laws : Laws) (box : Box) → IsBox box → (sources : List ℕ) (agent reg : ℕ)
     → value_in (zip (names_of box.test) (outcome_by box sources)) agent reg ≡ observed_value (part_of box sources)
     (observed_read box.test box.combination (agent, reg))
-register_observed laws box entered sources agent reg = value_named held names agent reg ∙ by (list_any (is_name agent reg) names) refl
+register_observed laws box entered sources agent reg = value_named observed_is names agent reg ∙ by (list_any (is_name agent reg) names) refl
   where
     names : List (ℕ × ℕ)
     names = names_of box.test
 
-    held : ℕ × ℕ → ℕ
-    held name = observed_value (part_of box sources) (observed_read box.test box.combination name)
+    observed_is : ℕ × ℕ → ℕ
+    observed_is name = observed_value (part_of box sources) (observed_read box.test box.combination name)
 
-    by : (b : Bool) → list_any (is_name agent reg) names ≡ b → cond b (held (agent, reg)) 0 ≡ held (agent, reg)
+    by : (b : Bool) → list_any (is_name agent reg) names ≡ b → cond b (observed_is (agent, reg)) 0 ≡ observed_is (agent, reg)
     by true is_named = refl
     by false unnamed =
         sym (ap (λ (last : Option ℕ). observed_value (part_of box sources) (number_on (first_event box.test box.combination agent) last))
@@ -214,27 +214,27 @@ register_value laws box x entered is agent reg =
     ap (λ (outcome : List ℕ). value_in (zip (names_of box.test) outcome) agent reg) (outcome_given laws box x entered is)
     ∙ register_observed laws box entered x.sources agent reg
 
--- what is foreseen of outcomes by sources is so of completions
-pub foreseen : (laws : Laws) (box : Box) → IsBox box → (class : Class) (prospect : Prospect) → IsOutcomeProspect box class prospect
+-- what the domains say of outcomes by sources holds of completions
+pub prospect_of_completions : (laws : Laws) (box : Box) → IsBox box → (class : Class) (prospect : Prospect) → IsOutcomeProspect box class prospect
     → IsProspect box (OfClass class) prospect
-foreseen laws box entered class Nothing none = λ x is meets.
+prospect_of_completions laws box entered class Nothing none = λ x is meets.
     none x.sources (sources_lie box x is) (subst (λ (o : List ℕ). IsTrue (is_of_class box.test class o)) (outcome_given laws box x entered is) meets)
-foreseen laws box entered class Each each = λ x is.
+prospect_of_completions laws box entered class Each each = λ x is.
     subst (λ (o : List ℕ). IsTrue (is_of_class box.test class o)) (sym (outcome_given laws box x entered is)) (each x.sources (sources_lie box x is))
-foreseen laws box entered class (Open k) hangs = hangs
+prospect_of_completions laws box entered class (Open k) is_undecided = is_undecided
 
 -- ---- what is decided of a register
 module _ (laws : Laws) (box : Box) (entered : IsBox box) (agent reg number : ℕ) where
   pub decided_by_read : (r : ℕ) (decided : Decided) → observed_read box.test box.combination (agent, reg) ≡ Some r → IsReadDecided box r number decided
       → IsDecided box (Is agent reg true number) decided
-  decided_by_read r (Comes value) held each = λ sources lie.
-      ap (λ (n : ℕ). n == number) (register_observed laws box entered sources agent reg ∙ ap (observed_value (part_of box sources)) held)
+  decided_by_read r (Known value) observed_is each = λ sources lie.
+      ap (λ (n : ℕ). n == number) (register_observed laws box entered sources agent reg ∙ ap (observed_value (part_of box sources)) observed_is)
       ∙ each sources lie
-  decided_by_read r (Hangs k) held hangs = hangs
+  decided_by_read r (Undecided k) observed_is is_undecided = is_undecided
 
-  pub decided_unwritten : observed_read box.test box.combination (agent, reg) ≡ None → IsDecided box (Is agent reg true number) (Comes (number == 0))
-  decided_unwritten held sources lie =
-      ap (λ (n : ℕ). n == number) (register_observed laws box entered sources agent reg ∙ ap (observed_value (part_of box sources)) held)
+  pub decided_unwritten : observed_read box.test box.combination (agent, reg) ≡ None → IsDecided box (Is agent reg true number) (Known (number == 0))
+  decided_unwritten observed_is sources lie =
+      ap (λ (n : ℕ). n == number) (register_observed laws box entered sources agent reg ∙ ap (observed_value (part_of box sources)) observed_is)
       ∙ turned (cases_eq number 0)
     where
       turned : (number ≡ 0) ⊎ (number ≢ 0) → (0 == number) ≡ (number == 0)

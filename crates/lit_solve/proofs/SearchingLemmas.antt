@@ -1,4 +1,4 @@
--- What becomes of solutions as a box is parted.
+-- Solutions of a box and of its branches.
 use Rattle.lit_solve.proofs.Words.{◌<◌, arith, byte_reads, EventSet, Execution, get_or, HasEvent, length, same_Some, slice_get}
 use Rattle.lit_solve.proofs.Words.{slice_get-get_or, Some, ℕ, ◌↔◌, ◌≡◌}
 use Rattle.lit_rel.proofs.SetLemmas.{event_or_not}
@@ -9,7 +9,7 @@ use Rattle.lit_solve.specs.Completion.{IsSolution}
 use Rattle.lit_solve.specs.Internal.Searching.{GoesWith, IsBranch}
 use Rattle.lit_solve.specs.Internal.Settled.{IsCut, TakesFrom}
 use Rattle.lit_solve.proofs.CompletionLemmas.{sourced}
-use Rattle.lit_solve.proofs.NarrowingLemmas.{read_here}
+use Rattle.lit_solve.proofs.PruningLemmas.{read_here}
 
 -- a solution of a box within another is one of that
 pub solution_out : (inner outer : Box) (goal : Goal) → IsWithin inner outer → (x : Execution) → IsSolution inner goal x → IsSolution outer goal x
@@ -20,7 +20,7 @@ pub solution_in : (old new : Box) (goal : Goal) (k : ℕ) (set : EventSet) → I
     → TakesFrom x k set → IsSolution new goal x
 solution_in old new goal k set cut x is takes = grind arith
 
--- no part that goes with one source has all
+-- the part of one source doesn't have all sources
 module _ (box : Box) (branch : Branch) (is : IsBranch box branch) (source : ℕ) (there : HasSource box branch.place source) (part : EventSet) where
   pub not_all : ((w : ℕ) → HasEvent part w → GoesWith box branch source w) → ¬ ((w : ℕ) → HasSource box branch.place w → HasEvent part w)
   not_all goes all = grind (arith, read_here, same_Some)

@@ -1,5 +1,5 @@
--- Boxes: a combination of paths with a set of candidates, the domain, for each byte read (this project's own). A finite-domain
--- solver calls the byte reads its variables.
+-- Boxes: the subproblems of a finite-domain solver (this project's own). A box is a combination of paths with a set of candidates,
+-- the domain, for each byte read. The byte reads are the variables.
 use Rattle.std.specs.Prelude.{◌≡◌, ℕ, ◌<◌, List, length, Some, slice_get, slice_index_or}
 use Rattle.lit_read.specs.Syntax.{IsLitmus, Litmus}
 use Rattle.lit_paths.specs.declared.event.Event.{Event}
@@ -9,8 +9,8 @@ use Rattle.lit_paths.specs.Plan.{events_in}
 use Rattle.lit_rel.specs.declared.event_set.EventSet.{EventSet}
 use Rattle.lit_rel.specs.EventSet.{HasEvent, no_events}
 
--- the test, the combination's number, and the domain of each byte read, in the order of `byte_reads`; what stands behind
--- them says nothing
+-- the test, the combination's number, and the domain of each byte read, in the order of `byte_reads`; entries behind these mean
+-- nothing
 pub record Box : Type 0 where
   pub test : Litmus
   pub combination : ℕ

@@ -56,8 +56,8 @@ boxes_events boxes = events_in boxes.test boxes.combination
 abbrev pub boxes_len : BoxesModel → ℕ
 boxes_len boxes = boxes.lows + 1 + boxes.highs
 
--- The place at which sources in the i-th box leave those of an end: in the middle box where the ends part, and one later for
--- each box that lies between the two.
+-- The first place at which sources in the i-th box differ from those of an end: in the middle box the first place at which the
+-- ends differ, and one place later for each box further from the middle.
 abbrev pub parting_in : BoxesModel → ℕ → ℕ
 parting_in boxes i = boxes.shared + ((boxes.lows - i) + (i - boxes.lows))
 

@@ -17,16 +17,16 @@ pub record IsCompletion (box : Box) (x : Execution) : Type 0 where
   pub on_paths : map run_path x.runs ≡ combination_at box.test box.combination
   pub within : LiesIn box x.sources
 
--- a completion that is what is looked for
+-- a solution: a completion that meets the goal
 pub record IsSolution (box : Box) (goal : Goal) (x : Execution) : Type 0 where
   pub completes : IsCompletion box x
   pub meets : Meets box.test goal x
 
--- there is one
+-- the box has a solution
 abbrev pub HasSolution : Box → Goal → Type 0
 HasSolution box goal = (x : Execution) × IsSolution box goal x
 
--- The sources of one, such that no other has lesser ones as a list, and the least memory-order with them.
+-- The sources of a solution, which are the least as a list, and the least memory-order with them.
 pub record IsLeastSolution (box : Box) (goal : Goal) (sources order : List ℕ) : Type 0 where
   pub execution : Execution
   pub solves : IsSolution box goal execution

@@ -1,5 +1,5 @@
--- Data races of a box's completions, foreseen by what the box gives (ECMA-262, 2024, 29.8 and 29.9; that a box tells of them is
--- this project's own).
+-- Possible data races of a box: they over-approximate the data races of its completions (ECMA-262, 2024, 29.8 and 29.9; the
+-- approximation is this project's own).
 use Rattle.std.specs.Prelude.{◌≡◌, ℕ, List, Some, slice_get}
 use Rattle.lit_paths.specs.ByteReads.{byte_reads}
 use Rattle.lit_rel.specs.DataRace.{HasDataRaceOf}
@@ -14,7 +14,7 @@ pub record HasSourceOf (box : Box) (r w : ℕ) : Type 0 where
   pub is_read : slice_get (byte_reads (box_events box)) place ≡ Some (r, byte)
   pub there : HasSource box place w
 
--- read r can be filled with w as the source of some byte: there are such sources that lie in the box
+-- read r can be filled with w as the source of some byte, by sources that lie in the box
 pub record CanFillFrom (box : Box) (r w : ℕ) : Type 0 where
   pub place : ℕ
   pub byte : ℕ
@@ -24,10 +24,10 @@ pub record CanFillFrom (box : Box) (r w : ℕ) : Type 0 where
   pub takes : slice_get sources place ≡ Some w
   pub filled : IsFilled box r sources
 
--- a data race, by happens-before of what is given, where a read may read from each source in the domains of its bytes
+-- a data race by happens-before of what is given, if a read may read from each source in the domains of its bytes
 abbrev pub MayRaceIn : Box → Type 0
 MayRaceIn box = HasDataRaceOf (box_events box) (HappensBeforeIn box) (HasSourceOf box)
 
--- the same, where a read may read from each source with which it can be filled
+-- a data race by happens-before of what is given, if a read may read from each source with which it can be filled
 abbrev pub CanRaceIn : Box → Type 0
 CanRaceIn box = HasDataRaceOf (box_events box) (HappensBeforeIn box) (CanFillFrom box)

@@ -1,5 +1,4 @@
--- Boxes in which no byte with several sources left can force anything, so that each read is filled by itself (this project's
--- own).
+-- Leaves: boxes in which no open byte read can force anything, so that each read is filled by itself (this project's own).
 use Rattle.std.specs.Prelude.{◌≡◌, ◌≢◌, ◌⊎◌, ℕ, ◌<◌, IsTrue, List, Some, length, slice_get}
 use Rattle.lit_paths.specs.declared.event.Event.{Event}
 use Rattle.lit_paths.specs.declared.event.Order3.TheVariants.{SeqCst}
@@ -28,27 +27,27 @@ pub record HasEffect (events : List Event) (w r : ℕ) : Type 0 where
 abbrev pub IsIdle : Box → ℕ → Type 0
 IsIdle box k = (r b w : ℕ) → slice_get (byte_reads (box_events box)) k ≡ Some (r, b) → HasSource box k w → ¬ HasEffect (box_events box) w r
 
--- each byte read has one source left, or only such without an effect
+-- a leaf: the domain of each byte read has one source, or only sources without an effect
 abbrev pub IsLeaf : Box → Type 0
 IsLeaf box = (k : ℕ) → k < length (byte_reads (box_events box)) → ((w : ℕ) × HasAlone box k w) ⊎ IsIdle box k
 
--- each source in a domain is coherent there, by what is given
+-- each source in a domain is coherent for its byte read, by what is given
 abbrev pub AreCoherentSources : Box → Type 0
 AreCoherentSources box =
     (k r b w : ℕ) → slice_get (byte_reads (box_events box)) k ≡ Some (r, b) → HasSource box k w
     → IsCoherentRead (box_events box) (HappensBeforeIn box) r b w
 
--- read r is tear free by these sources, and its tests are true of its value
+-- read r is tear free by these sources, and its guards are true of its value
 pub record IsFilled (box : Box) (r : ℕ) (sources : List ℕ) : Type 0 where
   pub tear_free : (w v : ℕ) → ReadsWholeBy (box_events box) (ReadsByteFrom (box_events box) sources) r w
       → ReadsWholeBy (box_events box) (ReadsByteFrom (box_events box) sources) r v → v ≡ w
-  pub tests : ¬ HasFalseGuardOn box.test box.combination (Some r) (value_of (box_events box) sources r)
+  pub guards : ¬ HasFalseGuardOn box.test box.combination (Some r) (value_of (box_events box) sources r)
 
 -- sources of all byte reads that lie in the box
 pub record AreSourcesIn (box : Box) (sources : List ℕ) : Type 0 where
   pub sourced : AreSources (box_events box) sources
   pub within : LiesIn box sources
 
--- the read can be filled: there are such sources
+-- the read can be filled by some sources that lie in the box
 abbrev pub CanFill : Box → ℕ → Type 0
 CanFill box r = (sources : List ℕ) × AreSourcesIn box sources × IsFilled box r sources

@@ -1,5 +1,5 @@
--- What a box gives, and what follows from it (this project's own): bytes with one source left are given it; the relations are
--- those of what is given (ECMA-262, 2024, 29.6.6 and 29.7.4), and what they force.
+-- What a box gives, and what follows from it (this project's own): a byte read whose domain has one source is given that source. The
+-- relations are those of the given sources (ECMA-262, 2024, 29.6.6 and 29.7.4), and the pairs that they force.
 use Rattle.std.specs.Prelude.{◌≡◌, ℕ, Some, slice_get}
 use Rattle.lit_paths.specs.ByteReads.{byte_reads}
 use Rattle.lit_rel.specs.Forbidden.{IsForbiddenBy}

@@ -1,4 +1,4 @@
--- What a search is for among valid executions (this project's own).
+-- The goal of a search: which valid executions meet it (this project's own).
 use Rattle.std.specs.Prelude.{IsTrue, ⊤}
 use Rattle.lit_read.specs.Syntax.{Litmus}
 use Rattle.lit_paths.specs.Execution.{Execution, execution_events, execution_outcome}
@@ -7,7 +7,7 @@ use Rattle.lit_valid.specs.Class.{is_of_class}
 use Rattle.lit_solve.specs.declared.goal.Goal.{Goal}
 use Rattle.lit_solve.specs.declared.goal.Goal.TheVariants.{Any, OfClass, Race}
 
--- the execution is what is looked for
+-- the execution meets the goal
 abbrev pub Meets : Litmus → Goal → Execution → Type 0
 Meets t Any x = ⊤
 Meets t (OfClass class) x = IsTrue (is_of_class t class (execution_outcome t x))

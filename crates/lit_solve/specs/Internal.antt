@@ -1,14 +1,14 @@
--- Notions of the contracts inside this crate: frames, and narrowing them; filling reads; what domains say of outcomes; how a
--- range is cut into boxes.
+-- Notions of the contracts inside this crate: frames, and pruning them; filling reads; what domains say of outcomes; the cut of a
+-- range into boxes.
 pub mod Frames
-pub mod Narrowing
+pub mod Pruning
 pub mod Filling
 pub mod Settled
 pub mod Leaves
-pub mod Deciding
+pub mod ConditionValues
 pub mod Searching
 pub mod Descending
 pub mod Cut
-pub mod Parted
+pub mod SoundRange
 pub mod Observation
 pub mod Independent

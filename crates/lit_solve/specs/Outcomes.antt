@@ -23,7 +23,7 @@ pub record IsLeastEntry (box : Box) (entry : Entry) : Type 0 where
       → slice_cmp nat_cmp x.sources execution.sources ≢ Less
   pub ordered : IsLeastMemoryOrder (box_events box) execution.sources entry.order
 
--- each in turn is such an entry, and its outcome has none before it, nor in an earlier list
+-- each of the entries is a least entry, and its outcome has no entry before it, neither in `old` nor in the new list
 abbrev pub AreNewEntries : Box → List Entry → List Entry → Type 0
 AreNewEntries box old [] = ⊤
 AreNewEntries box old (entry ∷ entries) =

@@ -1,4 +1,5 @@
--- What the domains of a box say of the values and outcomes that sources in it give, valid or not (this project's own).
+-- What the domains of a box say of values and outcomes before the search branches, by all sources in them, whether an execution with
+-- these is valid or not (this project's own).
 use Rattle.std.specs.Prelude.{◌≡◌, ◌≢◌, ℕ, ◌<◌, IsTrue, List, Some, length, slice_get}
 use Rattle.lit_paths.specs.ByteReads.{byte_read_at, byte_reads}
 use Rattle.lit_paths.specs.Event.{event_at, payload_at}
@@ -24,17 +25,18 @@ pub record IsUndecidedAt (box : Box) (k : ℕ) : Type 0 where
   pub other_there : HasSource box k other
   pub apart : payload_at (event_at (box_events box) some) byte ≢ payload_at (event_at (box_events box) other) byte
 
--- read r has this value by any sources that lie in the box; or a byte of it can be read as several bytes
+-- read r has this value by any sources that lie in the box; or the sources of one of its byte reads store several bytes
 abbrev pub IsValueOf : Box → ℕ → ReadValue → Type 0
 IsValueOf box r (One value) = (sources : List ℕ) → AreSourcesIn box sources → value_of (box_events box) sources r ≡ value
 IsValueOf box r (OpenAt k) =
     (k < length (byte_reads (box_events box))) × IsUndecidedAt box k × ((byte_read_at (box_events box) k).0 ≡ r)
 
--- what the registers hold at the end by these sources
+-- the outcome by these sources
 abbrev pub outcome_by : Box → List ℕ → List ℕ
 outcome_by box sources = part_outcome (record { test = box.test; combination = box.combination; sources = sources })
 
--- By no sources that lie in the box is the outcome in the class; by all of them it is; or that hangs on what a byte is read as.
+-- By no sources that lie in the box is the outcome in the class; by all of them it is; or that depends on a byte read whose sources
+-- store several bytes.
 abbrev pub IsOutcomeProspect : Box → Class → Prospect → Type 0
 IsOutcomeProspect box class Nothing = (sources : List ℕ) → AreSourcesIn box sources → ¬ IsTrue (is_of_class box.test class (outcome_by box sources))
 IsOutcomeProspect box class Each = (sources : List ℕ) → AreSourcesIn box sources → IsTrue (is_of_class box.test class (outcome_by box sources))

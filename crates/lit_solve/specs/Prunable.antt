@@ -1,4 +1,4 @@
--- When what a box gives leaves a source out, and when it leaves no completion (this project's own).
+-- Which sources a box prunes, and when it is refuted (this project's own).
 use Rattle.std.specs.Prelude.{◌≢◌, ◌⊎◌, ℕ, List, Some, None}
 use Rattle.lit_read.specs.Syntax.{Litmus}
 use Rattle.lit_paths.specs.Choice.{AreSources}
@@ -15,7 +15,7 @@ use Rattle.lit_order.specs.Forcing.{HasForcedCycle}
 use Rattle.lit_solve.specs.Box.{Box, HasEmptyDomain, LiesIn, box_events, events_on}
 use Rattle.lit_solve.specs.Given.{GivenIn, HappensBeforeIn, IsForbiddenIn, IsForcedIn}
 
--- a test of a combination is false whatever r reads, if byte b of it has the source w
+-- if byte b of read r has the source w, a guard of the combination is false, whatever r reads otherwise
 abbrev pub IsRefusedOn : Litmus × ℕ → ℕ → ℕ → ℕ → Type 0
 IsRefusedOn c r b w = HasFalseByteOn c.0 c.1 r b (payload_at (event_at (events_on c) w) b)
 
@@ -27,7 +27,7 @@ pub record IsForcedLater (box : Box) (w r : ℕ) : Type 0 where
   pub can : CanSynchronize (event_at (box_events box) w) (event_at (box_events box) r)
   pub later : IsForcedIn box r w
 
--- v may not stand between w and r, and is forced to
+-- v may not stand between w and r, but is forced between them
 pub record IsForcedBetween (box : Box) (w r v : ℕ) : Type 0 where
   pub between : IsForbiddenBetween (box_events box) (HappensBeforeIn box) w r v
   pub after_source : IsForcedIn box w v
@@ -51,8 +51,8 @@ IsPrunable box r b w =
     ⊎ ((v : ℕ) × IsForcedBetween box w r v)
     ⊎ WouldTear box r w
 
--- A test is false of a register that was not written, or of a read all of whose bytes are given: of its value by any sources
--- that lie in the box.
+-- A guard is false: one on a register that was not written, or one on a read all of whose bytes are given, by its value with any
+-- sources that lie in the box.
 abbrev pub HasFalseGuardIn : Box → Type 0
 HasFalseGuardIn box =
     HasFalseGuardOn box.test box.combination None 0
@@ -60,7 +60,7 @@ HasFalseGuardIn box =
     × ((sources : List ℕ) → AreSources (box_events box) sources → LiesIn box sources
     → HasFalseGuardOn box.test box.combination (Some r) (value_of (box_events box) sources r)))
 
--- there is no completion, by what is given
+-- what is given shows that the box is infeasible
 abbrev pub IsRefuted : Box → Type 0
 IsRefuted box =
     HasForcedCycle (HappensBeforeIn box) (IsForbiddenIn box)

@@ -1,9 +1,10 @@
-//! The boxes of a range of choices.
+//! A range of choices, cut into boxes.
 //!
-//! Choices of a combination are in the order of their sources, as of the digits of numbers. So those from one with the sources
-//! `low` to one with the sources `high` are those that begin as both do and then lie between the two; and before them,
-//! for each later place, those that are as `low` before it and greater there, the later the place the lesser; and after
-//! them the like for `high`. Each is a set of candidates for each byte read.
+//! Choices on a combination are in lexicographic order of their sources, like numbers by their digits. The choices from the sources
+//! `low` to the sources `high` share a common prefix. One box has the choices that lie strictly between `low` and `high` at the place
+//! behind the prefix. Each later place gives one box before it: as `low` up to that place, and greater there; the later the place, the
+//! earlier the box. In the same way each later place gives one box after it, as `high` up to that place and less there. The place behind
+//! the last gives `low` itself, and `high` itself.
 
 pub(crate) mod candidates;
 pub(crate) mod ends;
@@ -26,7 +27,7 @@ use lit_paths::{Combination, EVENT_LIMIT};
 use lit_rel::EventSet;
 use std::marker::Model;
 
-/// The boxes of a range of choices on a combination, in a rising list. It holds no box: each is made when it is asked for.
+/// The boxes of a range of choices on a combination, in a rising list. It stores no box: `put` makes each when it is needed.
 #[derive(Drop)]
 pub struct Boxes<'a, 'p> {
     combination: &'a Combination<'p>,
@@ -45,7 +46,7 @@ pub struct Boxes<'a, 'p> {
 impl<'a, 'p> Model for Boxes<'a, 'p> {
     ghost use Rattle.lit_solve.specs.Boxes.{BoxesModel, coded_boxes};
     ghost use Rattle.lit_solve.specs.Internal.Cut.{end_sources};
-    ghost use Rattle.lit_solve.specs.Internal.Parted.{AreParted};
+    ghost use Rattle.lit_solve.specs.Internal.SoundRange.{IsSoundInside};
 
     ghost Value = { BoxesModel };
 
@@ -61,7 +62,7 @@ impl<'a, 'p> Model for Boxes<'a, 'p> {
       highs = b.highs;
     } };
 
-    ghost invariant = { AreParted };
+    ghost invariant = { IsSoundInside };
 }
 
 impl<'a, 'p> Boxes<'a, 'p> {
@@ -75,7 +76,7 @@ impl<'a, 'p> Boxes<'a, 'p> {
         ensures cuts { CutsRange result from to }
     {
         choices_are_listed();
-        // That the combination is one of the test is known of its first choice, and that it has few byte reads of its events.
+        // For the prover: that the combination is one of the test, and that it has few byte reads.
         let _first = first_of(combination);
         let _events = combination.events();
         let low = End::low(combination, from);
@@ -102,7 +103,7 @@ impl<'a, 'p> Boxes<'a, 'p> {
         self.lows + 1 + self.highs
     }
 
-    /// What `low` leaves of the events for a byte read, by its place, in the i-th box.
+    /// The events that `low` allows for a byte read, by its place, in the i-th box.
     fn above(&self, i: usize, place: usize) -> EventSet
         requires known { i < boxes_len self.now }
         requires place { place < length (byte_reads (boxes_events self.now)) }
@@ -116,7 +117,7 @@ impl<'a, 'p> Boxes<'a, 'p> {
         }
     }
 
-    /// What `high` leaves of the events for a byte read, by its place, in the i-th box.
+    /// The events that `high` allows for a byte read, by its place, in the i-th box.
     fn below(&self, i: usize, place: usize) -> EventSet
         requires known { i < boxes_len self.now }
         requires place { place < length (byte_reads (boxes_events self.now)) }
@@ -142,7 +143,7 @@ impl<'a, 'p> Boxes<'a, 'p> {
             .intersection(self.below(i, place))
     }
 
-    /// Makes what is there the domains of the i-th box.
+    /// Overwrites `domains` with those of the i-th box.
     pub fn put(&self, i: usize, domains: &mut Domains)
         requires { i < boxes_len self.now }
         ensures is_box { IsLitmus self.now.test → IsBox (box_with (self.now.test, self.now.combination) domains.new) }

@@ -1,4 +1,4 @@
-//! Which byte read to branch on.
+//! Variable ordering: which byte read the search branches on.
 
 ghost use Rattle.std.specs.Prelude.{◌≡◌, ◌⊎◌, ◌↔◌, ℕ, ◌<◌, Some, IfNone, IfSome, IsFalse, IsTrue, length};
 ghost use Rattle.lit_paths.specs.ByteReads.{byte_reads};
@@ -24,7 +24,7 @@ fn count(set: EventSet) -> u32 {
     count
 }
 
-/// Of two byte reads, where there is another one, one with the fewest sources (decision 26).
+/// The byte read at a place, or the other one, where there is one and its domain is not larger (decision 26).
 fn with_fewest(frame: &Frame, other: Option<usize>, place: usize) -> usize
     requires other { IfSome other (λ k. k < BYTE_READ_LIMIT) }
     requires place { place < BYTE_READ_LIMIT }
@@ -39,7 +39,7 @@ fn with_fewest(frame: &Frame, other: Option<usize>, place: usize) -> usize
 }
 
 impl Problem<'_> {
-    /// Whether it can force anything that a read reads a byte from a source, both by event number.
+    /// Whether a source can force anything if a read reads a byte from it. Both are event numbers.
     fn has_effect(&self, source: usize, read: usize) -> bool
         requires source { source < length (events_on self.now) }
         requires read { read < length (events_on self.now) }
@@ -48,14 +48,15 @@ impl Problem<'_> {
         has_effect(self.events(), &self.peers, source, read)
     }
 
-    /// Whether the byte read at a place has several sources left, one of which can force something.
+    /// Whether the domain of the byte read at a place has several sources, one of which can force something.
     pub(crate) fn can_force(&self, frame: &Frame, place: usize) -> bool
         requires place { place < length (byte_reads (events_on self.now)) }
         requires contained { IsContained (box_of self.now frame.now) frame.now }
         ensures open { IsTrue result → (w : ℕ) → ¬ HasAlone (box_of self.now frame.now) place w }
-        ensures quiet { IsFalse result → ((w : ℕ) × HasAlone (box_of self.now frame.now) place w)
+        ensures leaf { IsFalse result → ((w : ℕ) × HasAlone (box_of self.now frame.now) place w)
             ⊎ IsIdle (box_of self.now frame.now) place }
     {
+        // For the prover: the place is one of the array of domains.
         let _reads = self.reads();
         if self.given(frame, place).is_some() {
             return false;
@@ -71,12 +72,13 @@ impl Problem<'_> {
         false
     }
 
-    /// A byte read with several sources left, one of which can force something: one with the fewest. `None` exactly where there is none.
+    /// A byte read with several sources, one of which can force something: of these one with the smallest domain, as decision 26 says.
+    /// If it is `None`, the frame is a leaf.
     pub(crate) fn branch(&self, frame: &Frame) -> Option<usize>
         requires { IsContained (box_of self.now frame.now) frame.now }
         ensures known { IfSome result (λ place. place < length (byte_reads (events_on self.now))) }
         ensures open { IfSome result (λ place. (w : ℕ) → ¬ HasAlone (box_of self.now frame.now) place w) }
-        ensures quiet { IfNone result (IsLeaf (box_of self.now frame.now)) }
+        ensures leaf { IfNone result (IsLeaf (box_of self.now frame.now)) }
     {
         let mut best = None;
         for place in 0..self.reads() {

@@ -1,4 +1,4 @@
-//! All outcomes of a frame: a search that branches on what registers observe.
+//! All outcomes of a frame, by a backtracking search that branches on observed byte reads.
 
 ghost use Rattle.std.specs.Prelude.{◌≡◌, ◌<◌, IfSome, IsFalse, OnOk, length};
 ghost use Rattle.lit_paths.specs.ByteReads.{byte_read_at, byte_reads};
@@ -10,7 +10,7 @@ ghost use Rattle.lit_solve.specs.Completion.{IsCompletion, IsLeastSolution};
 ghost use Rattle.lit_solve.specs.Fill.{IsLeaf};
 ghost use Rattle.lit_solve.specs.Prospect.{IsUndecidedAt};
 ghost use Rattle.lit_solve.specs.Internal.Frames.{box_of};
-ghost use Rattle.lit_solve.specs.Internal.Narrowing.{HasNoCompletion};
+ghost use Rattle.lit_solve.specs.Internal.Pruning.{HasNoCompletion};
 ghost use Rattle.lit_solve.specs.Internal.Observation.{AreFirstValues, IsObservation, IsObservedAt};
 ghost use Rattle.lit_solve.specs.Internal.Settled.{IsSettled};
 ghost use Rattle.lit_solve.specs.Outcomes.{AddsEntries, HasEachOutcome};
@@ -20,7 +20,7 @@ use crate::frame::Frame;
 use crate::goal::Goal;
 use crate::heartbeat::Heartbeat;
 use crate::laws::{leaves_are_filled_read_by_read, reads_are_filled_together};
-use crate::leading::Least;
+use crate::least_search::Least;
 use crate::numbering::number_of;
 use crate::observation::Values;
 use crate::problem::Problem;
@@ -29,7 +29,7 @@ use lit_valid::laws::laws_below;
 use std::alloc::AllocError;
 
 impl Problem<'_> {
-    /// A byte of a read that can force something and may be read as several bytes.
+    /// A byte read of a read that can force something and whose sources store several bytes.
     fn forcing_byte(&self, frame: &Frame, read: u8) -> Option<usize>
         requires read { read < length (events_on self.now) }
         requires settled { IsSettled (box_of self.now frame.now) frame.now }
@@ -49,12 +49,13 @@ impl Problem<'_> {
         None
     }
 
-    /// A byte that some register observes, that can force something and may be read as several bytes.
+    /// An observed byte read that can force something and whose sources store several bytes.
     fn forcing_observed(&self, frame: &Frame) -> Option<usize>
         requires { IsSettled (box_of self.now frame.now) frame.now }
         ensures { IfSome result (λ k. (k < length (byte_reads (events_on self.now))) × IsUndecidedAt (box_of self.now frame.now) k
             × IsObservedAt (box_of self.now frame.now) k) }
     {
+        // For the prover: a combination has few events.
         let _events = self.events();
         for name in self.names {
             if let Some(read) = self.observed_read(name.0, name.1) {
@@ -66,7 +67,7 @@ impl Problem<'_> {
         None
     }
 
-    /// What `observe` does, but of open byte reads one that can force something, if there is one: once none can, reads are independent.
+    /// As `observe`, but it prefers an observed byte read that can force something (decision 32).
     fn next_observed(&self, frame: &Frame, values: &mut Values) -> Option<usize>
         requires settled { IsSettled (box_of self.now frame.now) frame.now }
         requires first { AreFirstValues (box_of self.now frame.now) values.old.items }
@@ -77,7 +78,7 @@ impl Problem<'_> {
         Some(self.forcing_observed(frame).unwrap_or(open))
     }
 
-    /// Records an outcome that each completion of a box has, and that the table lacks, with the least completion.
+    /// Records the one outcome of a box, which the table lacks, with the box's least completion.
     pub(crate) fn put<T: OutcomeTable>(
         &self,
         _domains: &Domains,
@@ -96,8 +97,8 @@ impl Problem<'_> {
         Ok(())
     }
 
-    /// Records the outcome of a frame, which each completion has, if the table lacks it and there is a completion. What is in
-    /// doubt is then whether there was one.
+    /// Records the one outcome of a frame, if the table lacks it and the frame has a completion. Where the search for one fails, it sets
+    /// `doubt`.
     fn record<T: OutcomeTable>(
         &self,
         frame: &Frame,
@@ -121,8 +122,8 @@ impl Problem<'_> {
         self.put(&frame.domains, outcome, least, table)
     }
 
-    /// Records the outcomes of a quiet frame's completions that a table lacks, of which these are the first values.
-    fn quiet_outcomes<T: OutcomeTable, H: Heartbeat>(
+    /// Records the outcomes of a leaf that the table lacks. They begin with the given values.
+    fn leaf_outcomes<T: OutcomeTable, H: Heartbeat>(
         &self,
         frame: &Frame,
         values: &Values,
@@ -131,13 +132,14 @@ impl Problem<'_> {
         heartbeat: &H,
     ) -> Result<(), AllocError>
         requires settled { IsSettled (box_of self.now frame.now) frame.now }
-        requires quiet { IsLeaf (box_of self.now frame.now) }
+        requires leaf { IsLeaf (box_of self.now frame.now) }
         requires first { AreFirstValues (box_of self.now frame.now) values.now.items }
         ensures added { AddsEntries (box_of self.now frame.now) (T.entries table.old) (T.entries table.new) }
         ensures whole { OnOk result (HasEachOutcome (box_of self.now frame.now) (T.entries table.new)) }
     {
         reads_are_filled_together();
         leaves_are_filled_read_by_read();
+        // Each of the three checks may find that the leaf is infeasible: `doubt` stays set then.
         *doubt = true;
         if self.has_false_unwritten() {
             return Ok(());
@@ -152,7 +154,7 @@ impl Problem<'_> {
         self.independent_outcomes(&frame.domains, values, &order, table, heartbeat)
     }
 
-    /// Whether a frame may have a completion: where that is in doubt it is found out.
+    /// Whether a frame may have a completion. It searches for one only where there is doubt.
     fn may_complete(&self, frame: &Frame, doubt: bool) -> bool
         requires { IsSettled (box_of self.now frame.now) frame.now }
         ensures { IsFalse result → HasNoCompletion (box_of self.now frame.now) }
@@ -160,8 +162,8 @@ impl Problem<'_> {
         !doubt || self.exists(frame, Goal::Any)
     }
 
-    /// Records the outcomes of a frame's completions that a table lacks, of which these are the first values. Where an outcome
-    /// was without a completion, `doubt` is set, and before each further step down it is found out whether there is one.
+    /// Records the outcomes of a frame that the table lacks. They begin with the given values. An infeasible frame sets `doubt`; as long
+    /// as it is set, the search descends only into frames with a completion.
     pub(crate) fn outcomes<T: OutcomeTable, H: Heartbeat>(
         &self,
         frame: &Frame,
@@ -175,6 +177,7 @@ impl Problem<'_> {
         ensures added { AddsEntries (box_of self.now frame.now) (T.entries table.old) (T.entries table.new) }
         ensures whole { OnOk result (HasEachOutcome (box_of self.now frame.now) (T.entries table.new)) }
     {
+        // For the prover: an execution's outcome follows from its sources.
         laws_below();
         heartbeat.beat();
         let mut values = values.clone()?;
@@ -182,15 +185,16 @@ impl Problem<'_> {
             return self.record(frame, values.as_slice(), table, doubt);
         };
         let Some(_branch) = self.branch(frame) else {
-            return self.quiet_outcomes(frame, &values, table, doubt, heartbeat);
+            return self.leaf_outcomes(frame, &values, table, doubt, heartbeat);
         };
+        // For the prover: a combination has few events.
         let _events = self.events();
         let all = self.sources_left(frame, place);
         let mut left = all;
         while let Some((source, _others)) = left.split_first() {
-            let group = self.storing_alike(all, place, source);
+            let group = self.storing_same(all, place, source);
             let mut next = *frame;
-            // An outcome without a completion is dear to find out, and its neighbours mostly have none either.
+            // To refute an outcome takes long, and the next ones are mostly infeasible too: one search for any completion costs less.
             if self.cut(&mut next, place, group) && self.may_complete(&next, *doubt) {
                 self.outcomes(&next, &values, table, doubt, heartbeat)?;
             }

@@ -1,4 +1,4 @@
-//! Going down to the least completion that is looked for: each byte read in turn takes its least source that is not refuted.
+//! Greedy descent to the least solution: each byte read in turn takes its least source that is not refuted.
 
 ghost use Rattle.std.specs.Prelude.{ℕ, ◌<◌, IfNone, IfSome, IsTrue, length};
 ghost use Rattle.lit_paths.specs.ByteReads.{byte_reads};
@@ -16,7 +16,7 @@ use crate::problem::Problem;
 use crate::stepping::Step;
 
 impl Problem<'_> {
-    /// Whether a frame may have a completion that is what is looked for, as far as it shows; where `sure`, whether it has one.
+    /// Whether a frame may have a solution, as far as one step shows. If `sure`, whether it has one, by a search.
     fn is_promising(&self, frame: &Frame, goal: Goal, sure: bool) -> bool
         requires { IsSettled (box_of self.now frame.now) frame.now }
         ensures none { ¬ IsTrue result → ¬ HasSolution (box_of self.now frame.now) goal }
@@ -27,12 +27,12 @@ impl Problem<'_> {
         }
         match self.step(frame, goal) {
             Step::Refuted => false,
-            Step::Leaf | Step::Parted(_) => true,
+            Step::Leaf | Step::Branched(_) => true,
         }
     }
 
-    /// The frame with the least source of the byte read at a place that is not refuted, or, where `sure`, with which there is a
-    /// completion that is what is looked for. `None` where there is no such source.
+    /// The frame in which the byte read at a place has its least source that is not refuted, or, if `sure`, its least source with a
+    /// solution. `None` if there is no such source.
     fn with_least(&self, frame: &Frame, goal: Goal, sure: bool, place: usize) -> Option<Frame>
         requires place { place < length (byte_reads (events_on self.now)) }
         requires settled { IsSettled (box_of self.now frame.now) frame.now }
@@ -42,6 +42,7 @@ impl Problem<'_> {
         ensures sure { IfSome result (λ next. IsTrue sure → HasSolution (box_of self.now next) goal) }
         ensures none { IfNone result (¬ HasSolution (box_of self.now frame.now) goal) }
     {
+        // For the prover: a combination has few events.
         let _events = self.events();
         let mut left = self.sources_left(frame, place);
         while let Some((source, others)) = left.split_first() {
@@ -54,8 +55,8 @@ impl Problem<'_> {
         None
     }
 
-    /// Gives each byte read in turn its least source that is not refuted, or, where `sure`, with which there is a completion
-    /// that is what is looked for: there is one at first.
+    /// Gives each byte read in turn its least source that is not refuted, or, if `sure`, its least source with a solution; the frame
+    /// has one then. Answers whether each byte read got a source.
     pub(crate) fn descend(&self, frame: &mut Frame, goal: Goal, sure: bool) -> bool
         requires settled { IsSettled (box_of self.now frame.old) frame.old }
         requires sure { IsTrue sure → HasSolution (box_of self.now frame.old) goal }

@@ -7,10 +7,11 @@ ghost use Rattle.lit_rel.specs.EventSet.{HasEvent};
 use lit_paths::BYTE_READ_LIMIT;
 use lit_rel::EventSet;
 
-/// A set of candidates for each byte read of a combination, in the order of its byte reads. What stands behind them says nothing.
+/// A set of candidates for each byte read of a combination, in the order of its byte reads. Entries behind these mean nothing
+/// (decision 25).
 pub type Domains = [EventSet; BYTE_READ_LIMIT];
 
-/// The event of a set that has no other; `None` where it has none or several.
+/// The event of a set with one event; `None` if it has none or several.
 pub(crate) fn only_one(set: EventSet) -> Option<usize>
     ensures { MatchOption result ((w : ℕ) → HasEvent set w → ¬ ((v : ℕ) → HasEvent set v → v ≡ w))
         (λ w. HasEvent set w × ((v : ℕ) → HasEvent set v → v ≡ w)) }

@@ -12,8 +12,8 @@ use crate::domains::{has_some, set_of};
 use lit_paths::{Event, event_at};
 use lit_rel::{EventSet, Rows};
 
-/// Whether an event is sequentially consistent, and so is a write with its range that is none of a set. `peers` are the
-/// sequentially consistent writes that have the range of each event.
+/// Whether an event is sequentially consistent, and some sequentially consistent write of its range is not in the set `besides`.
+/// `peers` has the sequentially consistent writes of each event's range.
 fn has_peer_beside(events: &[Event], peers: &Rows, event: usize, besides: EventSet) -> bool
     requires peers { ArePeers events.now peers.now }
     requires event { event < length events.now }
@@ -23,8 +23,8 @@ fn has_peer_beside(events: &[Event], peers: &Rows, event: usize, besides: EventS
     event_at(events, event).is_seq_cst() && has_some(peers.successors(event).difference(besides))
 }
 
-/// Whether it can force anything that a read reads a byte from a source. Both are event numbers, and `peers` are the
-/// sequentially consistent writes that have the range of each event.
+/// Whether a source can force anything if a read reads a byte from it. Both are event numbers. `peers` has the sequentially
+/// consistent writes of each event's range.
 pub(crate) fn has_effect(events: &[Event], peers: &Rows, source: usize, read: usize) -> bool
     requires few { length events.now ≤ EVENT_LIMIT }
     requires peers { ArePeers events.now peers.now }

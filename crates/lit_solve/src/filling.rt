@@ -1,4 +1,4 @@
-//! Filling: whether a read has sources by itself, in the domains of its bytes.
+//! Filling: whether the domains of a read's bytes have sources with which the read, by itself, is tear free and its guards are true.
 
 ghost use Rattle.std.specs.Prelude.{◌≡◌, ◌↔◌, ℕ, ◌+◌, ◌*◌, ◌^◌, ◌<◌, ◌≤◌, IsTrue, MatchOption, length, slice_get, Some};
 ghost use Rattle.lit_paths.specs.ByteReads.{byte_read_at, byte_reads};
@@ -15,14 +15,14 @@ use crate::problem::Problem;
 use lit_paths::{Event, event_at};
 use lit_rel::{EventSet, can_read_whole, has_false_guard, payload_at};
 
-/// What a read takes from the sources that were chosen for its first bytes.
+/// What a read takes from the sources of its first bytes.
 #[derive(Clone, Copy)]
 pub(crate) struct Taken {
-    /// Those from which it can read whole.
+    /// Of these sources those from which it can read whole.
     whole: EventSet,
     /// The number that the bytes compose.
     pub(crate) value: u32,
-    /// How many bytes these are.
+    /// How many bytes were taken.
     bytes: u32,
 }
 
@@ -41,21 +41,21 @@ impl Taken {
     }
 }
 
-/// The events of a set that store this at a byte.
+/// The events of a set that store this value at a byte.
 pub(crate) fn storing(events: &[Event], among: EventSet, byte: u8, stored: u8) -> EventSet
     requires few { length events.now ≤ EVENT_LIMIT }
     requires known { (v : ℕ) → HasEvent among v → v < length events.now }
     ensures { (v : ℕ) → HasEvent result v ↔ (HasEvent among v × (payload_of (event_of events.now v) byte ≡ stored)) }
 {
-    let mut alike = EventSet::new();
+    let mut matching = EventSet::new();
     let mut left = among;
     while let Some((event, others)) = left.split_first() {
         if payload_at(event_at(events, event), byte) == stored {
-            alike = alike.with(event);
+            matching = matching.with(event);
         }
         left = others;
     }
-    alike
+    matching
 }
 
 impl Problem<'_> {
@@ -82,14 +82,14 @@ impl Problem<'_> {
         place < self.reads() && self.byte_read(place).read == read
     }
 
-    /// Whether each test on a read is true of a value.
+    /// Whether each guard on a read is true of a value.
     fn are_guards_true(&self, read: u8, value: u32) -> bool
         ensures { IsTrue result ↔ ¬ HasFalseGuardOn self.now.0 self.now.1 (Some read) value }
     {
         !has_false_guard(&self.combination, Some(usize::from(read)), value)
     }
 
-    /// Whether a test is false of a register that was not written.
+    /// Whether a guard on a register that was not written is false.
     pub(crate) fn has_false_unwritten(&self) -> bool
         ensures { IsTrue result ↔ HasFalseGuardOn self.now.0 self.now.1 None 0 }
     {
@@ -105,7 +105,7 @@ impl Problem<'_> {
         payload_at(event_at(self.events(), source), self.byte_read(place).byte)
     }
 
-    /// The events from which a read reads whole, once it takes a byte from this source too: `None` where that would tear it.
+    /// The events from which a read reads whole once it also takes a byte from this source. `None` if that would tear the read.
     fn whole_with(&self, read: u8, whole: EventSet, source: usize) -> Option<EventSet>
         requires read { read < length (events_on self.now) }
         requires source { source < length (events_on self.now) }
@@ -126,7 +126,7 @@ impl Problem<'_> {
         }
     }
 
-    /// What the bytes of a read compose once the byte read at a place, which is of it, has this source.
+    /// What the bytes of a read compose once its byte read at a place has this source.
     pub(crate) fn with_byte(&self, _read: u8, place: usize, taken: Taken, source: usize) -> Taken
         requires place { place < length (byte_reads (events_on self.now)) }
         requires read { (byte_read_at (events_on self.now) place).0 ≡ _read }
@@ -145,7 +145,7 @@ impl Problem<'_> {
         }
     }
 
-    /// What a read takes once the byte read at a place, which is of it, has this source: `None` where that would tear it.
+    /// What a read takes once its byte read at a place has this source. `None` if that would tear the read.
     fn take(&self, read: u8, place: usize, taken: Taken, source: usize) -> Option<Taken>
         requires place { place < length (byte_reads (events_on self.now)) }
         requires read { (byte_read_at (events_on self.now) place).0 ≡ read }
@@ -161,8 +161,8 @@ impl Problem<'_> {
         Some(Taken { whole, ..next })
     }
 
-    /// The events of a set that store what a source does for the byte read at a place.
-    pub(crate) fn storing_alike(&self, among: EventSet, place: usize, source: usize) -> EventSet
+    /// The events of a set that store the same byte as a source for the byte read at a place.
+    pub(crate) fn storing_same(&self, among: EventSet, place: usize, source: usize) -> EventSet
         requires place { place < length (byte_reads (events_on self.now)) }
         requires source { source < length (events_on self.now) }
         requires known { (v : ℕ) → HasEvent among v → v < length (events_on self.now) }
@@ -175,8 +175,8 @@ impl Problem<'_> {
         storing(self.events(), among, byte, stored)
     }
 
-    /// Of the other sources of the byte read at a place, those to try after one in vain, with which its read took `next`. What
-    /// stores the same would be in vain too, unless the one tried is a further one from which the read reads whole.
+    /// Of the other sources of the byte read at a place, those still worth trying after one failed, with which the read took `next`.
+    /// The failed source dominates those that store the same byte, unless it is a further one from which the read reads whole.
     fn worth_trying(
         &self,
         others: EventSet,
@@ -189,18 +189,18 @@ impl Problem<'_> {
         requires source { source < length (events_on self.now) }
         requires known { (v : ℕ) → HasEvent others v → v < length (events_on self.now) }
         ensures within { (v : ℕ) → HasEvent result v → HasEvent others v }
-        ensures left_out { (v : ℕ) → HasEvent others v → ¬ HasEvent result v → ((u : ℕ) → HasEvent next.whole u → HasEvent taken.whole u)
+        ensures dominated { (v : ℕ) → HasEvent others v → ¬ HasEvent result v → ((u : ℕ) → HasEvent next.whole u → HasEvent taken.whole u)
             × (payload_of (event_of (events_on self.now) v) (byte_read_at (events_on self.now) place).1
             ≡ payload_of (event_of (events_on self.now) source) (byte_read_at (events_on self.now) place).1) }
     {
         if !next.whole.is_within(taken.whole) {
             return others;
         }
-        others.difference(self.storing_alike(others, place, source))
+        others.difference(self.storing_same(others, place, source))
     }
 
-    /// Whether a read can be filled on from the byte read at a place, beside what it takes for its bytes before: by some
-    /// source in each domain, with which it is not torn and its tests are true.
+    /// Whether the byte reads of a read from a place on have sources in their domains with which the read, with what it took before, is
+    /// not torn and its guards are true.
     fn fills_on(&self, domains: &Domains, read: u8, place: usize, taken: Taken) -> bool
         requires is_box { IsBox (box_with self.now domains.now) }
         requires some { ¬ HasEmptyDomain (box_with self.now domains.now) }
@@ -223,14 +223,14 @@ impl Problem<'_> {
         false
     }
 
-    /// Whether a read can be filled: by sources in the domains of its bytes, with which it is tear free (29.7.3) and its tests are true.
+    /// Whether a read can be filled: by sources in the domains of its bytes with which it is tear free (29.7.3) and its guards are true.
     pub(crate) fn can_fill(&self, domains: &Domains, read: u8) -> bool
         requires is_box { IsBox (box_with self.now domains.now) }
         requires some { ¬ HasEmptyDomain (box_with self.now domains.now) }
         requires read { read < length (events_on self.now) }
         ensures { IsTrue result ↔ CanFill (box_with self.now domains.now) read }
     {
-        // None of a problem's events has more than four bytes.
+        // For the prover: no event has more than four bytes.
         let _events = self.events();
         self.fills_on(domains, read, self.first_place(read), Taken::nothing())
     }

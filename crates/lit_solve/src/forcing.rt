@@ -1,4 +1,4 @@
-//! What a frame's given bytes force: the least relation that each memory-order of each completion keeps.
+//! Forcing: the least relation that each memory-order of each completion respects, from the byte reads that have one source.
 
 ghost use Rattle.std.specs.Prelude.{◌≡◌, ◌⊎◌, ◌↔◌, ℕ, ◌+◌, ◌<◌, ◌≤◌, IsFalse, IsTrue, MatchOption, length};
 ghost use Rattle.lit_paths.specs.ByteReads.{byte_reads};
@@ -22,13 +22,14 @@ use lit_paths::event_at;
 use lit_rel::{Between, EventSet, can_synchronize, others_between};
 
 impl Problem<'_> {
-    /// The source that the byte read at a place has alone; `None` where it has several.
+    /// The only source in the domain of the byte read at a place; `None` if there are several.
     pub(crate) fn given(&self, frame: &Frame, place: usize) -> Option<usize>
         requires place { place < length (byte_reads (events_on self.now)) }
         requires contained { IsContained (box_of self.now frame.now) frame.now }
         ensures { MatchOption result ((w : ℕ) → ¬ HasAlone (box_of self.now frame.now) place w)
             (λ w. HasAlone (box_of self.now frame.now) place w × (w < length (events_on self.now)) × (w < EVENT_LIMIT)) }
     {
+        // For the prover: the source is an event of the combination, which has few.
         let _read = self.byte_read(place);
         let _events = self.events();
         match only_one(frame.domains[place]) {
@@ -37,7 +38,7 @@ impl Problem<'_> {
         }
     }
 
-    /// Whether one event synchronizes with another that reads from it, both by number.
+    /// Whether an event synchronizes with another that reads from it. Both are event numbers.
     fn can_synchronize(&self, source: usize, read: usize) -> bool
         requires source { source < length (events_on self.now) }
         requires read { read < length (events_on self.now) }
@@ -47,7 +48,7 @@ impl Problem<'_> {
         can_synchronize(event_at(events, source), event_at(events, read))
     }
 
-    /// Puts the only source of a byte read before its read, where it has one that synchronizes with that.
+    /// Adds to happens-before that the given source of a byte read comes before its read, if the two synchronize.
     fn put_synchronized(&self, frame: &mut Frame, place: usize)
         requires place { place < length (byte_reads (events_on self.now)) }
         requires contained { IsContained (box_of self.now frame.old) frame.old }
@@ -63,13 +64,14 @@ impl Problem<'_> {
         if !self.can_synchronize(source, read) {
             return;
         }
+        // To close a relation costs a pass over all rows: a pair that it has needs none.
         if !frame.happens_before.rows.holds(source, read) {
             frame.happens_before.close_with(source, read);
             frame.forced.close_with(source, read);
         }
     }
 
-    /// Makes happens-before that of the bytes given.
+    /// Makes a frame's happens-before that of its box.
     fn synchronize(&self, frame: &mut Frame)
         requires contained { IsContained (box_of self.now frame.old) frame.old }
         ensures domains { frame.new.domains ≡ frame.old.domains }
@@ -81,8 +83,8 @@ impl Problem<'_> {
         }
     }
 
-    /// What may not stand between a source and a read in the order of memory (29.7.4), if the read has that source, by a
-    /// frame's happens-before. Both are event numbers.
+    /// The events that may not stand between a source and a read in memory-order (29.7.4) if the read has that source, by a frame's
+    /// happens-before. Both are event numbers.
     pub(crate) fn others_between(&self, frame: &Frame, source: usize, read: usize) -> EventSet
         requires contained { IsContained (box_of self.now frame.now) frame.now }
         requires source { source < length (events_on self.now) }
@@ -95,7 +97,7 @@ impl Problem<'_> {
         others_between(events, source as u8, read as u8, before, peers)
     }
 
-    /// Forbids what may not stand between the only source of a byte read and its read, where it has one.
+    /// Adds the forbidden triples of the given source of a byte read, if it has one.
     fn forbid(&self, frame: &Frame, between: &mut Between, place: usize)
         requires place { place < length (byte_reads (events_on self.now)) }
         requires contained { IsContained (box_of self.now frame.now) frame.now }
@@ -117,7 +119,7 @@ impl Problem<'_> {
         }
     }
 
-    /// Makes what is there what may not stand between each given source and its read.
+    /// Overwrites `between` with the forbidden triples of all given sources.
     pub(crate) fn put_between(&self, frame: &Frame, between: &mut Between)
         requires contained { IsContained (box_of self.now frame.now) frame.now }
         requires exact { (a d : ℕ) → HappensBeforeIn (box_of self.now frame.now) a d → Holds frame.now.happens_before.rows a d }
@@ -130,12 +132,12 @@ impl Problem<'_> {
         }
     }
 
-    /// Makes the relations of a frame those of its box. Says no exactly where an event is forced before itself.
+    /// Makes the relations of a frame those of its box. Answers `false` if what is forced has a cycle.
     pub(crate) fn force(&self, frame: &mut Frame) -> bool
         requires contained { IsContained (box_of self.now frame.old) frame.old }
         ensures domains { frame.new.domains ≡ frame.old.domains }
         ensures exact { IsTrue result → IsExact (box_of self.now frame.new) frame.new }
-        ensures calm { IsTrue result → (e : ℕ) → ¬ IsForcedIn (box_of self.now frame.new) e e }
+        ensures acyclic { IsTrue result → (e : ℕ) → ¬ IsForcedIn (box_of self.now frame.new) e e }
         ensures cycle { IsFalse result → HasForcedCycle (HappensBeforeIn (box_of self.now frame.old))
             (IsForbiddenIn (box_of self.now frame.old)) }
     {

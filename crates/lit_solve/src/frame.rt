@@ -1,15 +1,15 @@
-//! Frames: a box on the way down, with what follows from it.
+//! Frames: the state of a backtracking search at one node, a box with the relations that follow from it.
 
 use crate::domains::Domains;
 use lit_rel::TwoWayRows;
 
-/// A box on the way down, with what follows from it. Going down copies a frame and narrows the copy, and going back drops it
-/// (decision 24).
+/// A box with the relations that follow from it. To descend, the search copies a frame and prunes the copy; to backtrack, it drops the
+/// copy (decision 24).
 #[derive(Clone, Copy)]
 pub(crate) struct Frame {
-    /// happens-before (ECMA-262, 2024, 29.6.6) of the bytes that have one source left.
+    /// happens-before (ECMA-262, 2024, 29.6.6) of the byte reads that have one source.
     pub happens_before: TwoWayRows,
-    /// What each memory-order of each completion keeps by that.
+    /// The pairs that each memory-order of each completion respects because of it.
     pub forced: TwoWayRows,
     pub domains: Domains,
 }

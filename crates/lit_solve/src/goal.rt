@@ -1,8 +1,8 @@
-//! What a search is for.
+//! The goal of a search.
 
 use lit_valid::Class;
 
-/// What is looked for among the completions of a box.
+/// Which completions of a box are solutions.
 #[derive(Clone, Copy, Debug, PartialEq, Eq)]
 pub enum Goal {
     /// Any of them.

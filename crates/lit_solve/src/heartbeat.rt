@@ -1,12 +1,12 @@
-//! A sign of life of a search that goes on for long.
+//! The heartbeat of a search: a sign that it still runs.
 
-/// What a search for outcomes calls at each step down, so that somebody can tell that it still goes on. No answer depends on it.
+/// What a search for outcomes calls at each step down, so that a caller can tell that it still runs. No answer depends on it.
 pub trait Heartbeat {
-    /// The search has gone down one step more.
+    /// The search has descended one step.
     fn beat(&self) {}
 }
 
-/// Nobody is told.
+/// A heartbeat that does nothing.
 #[derive(Clone, Copy, Debug, PartialEq, Eq)]
 pub struct NoHeartbeat;
 

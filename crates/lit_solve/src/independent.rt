@@ -1,5 +1,5 @@
-//! Boxes in which reads are independent of each other: nothing that is left can force anything, so each read takes its sources by
-//! itself, and all completions have one least memory-order. Nothing is propagated there.
+//! Boxes with independent reads: no open byte read can force anything. So each read takes its sources by itself, all completions have the
+//! same least memory-order, and there is nothing to propagate.
 
 ghost use Rattle.std.specs.Prelude.{◌≡◌, ℕ, ◌<◌, IsFalse, IsTrue, List, OnOk, length};
 ghost use Rattle.lit_paths.specs.ByteReads.{byte_reads};
@@ -11,7 +11,7 @@ ghost use Rattle.lit_solve.specs.declared.goal.Goal.TheVariants.{Any};
 ghost use Rattle.lit_solve.specs.Given.{HasAlone};
 ghost use Rattle.lit_solve.specs.Internal.Descending.{IsLowestAt};
 ghost use Rattle.lit_solve.specs.Internal.Independent.{HasLeastOrderIn, IsIndependent};
-ghost use Rattle.lit_solve.specs.Internal.Narrowing.{size_of};
+ghost use Rattle.lit_solve.specs.Internal.Pruning.{size_of};
 ghost use Rattle.lit_solve.specs.Internal.Observation.{AreFirstValues};
 ghost use Rattle.lit_solve.specs.Internal.Settled.{IsCut, TakesFrom};
 ghost use Rattle.lit_solve.specs.Outcomes.{AddsEntries, HasEachOutcome};
@@ -21,7 +21,7 @@ use crate::heartbeat::Heartbeat;
 use crate::laws::{
     completions_fill_each_read, leaves_are_filled_read_by_read, leaves_have_one_order,
 };
-use crate::leading::Least;
+use crate::least_search::Least;
 use crate::observation::Values;
 use crate::problem::Problem;
 use crate::table::OutcomeTable;
@@ -32,8 +32,8 @@ use lit_valid::laws::laws_below;
 use std::alloc::AllocError;
 
 impl Problem<'_> {
-    /// Cuts the domain of the byte read at a place down to a set. Says no where its read can't be filled then, so that no
-    /// completion has a source of the set there.
+    /// Restricts the domain of the byte read at a place to a set. Answers `false` if its read can't be filled then: no completion has a
+    /// source of the set there.
     fn cut_independent(&self, domains: &mut Domains, place: usize, set: EventSet) -> bool
         requires place { place < length (byte_reads (events_on self.now)) }
         requires independent { IsIndependent (box_with self.now domains.old) }
@@ -45,8 +45,10 @@ impl Problem<'_> {
             → size_of domains.new < size_of domains.old }
         ensures none { IsFalse result → (x : Execution) → IsCompletion (box_with self.now domains.old) x → ¬ TakesFrom x place set }
     {
+        // For the prover: a byte read is a byte in the range of its read.
         laws_below();
         completions_fill_each_read();
+        // For the prover: the place is one of the array of domains.
         let _reads = self.reads();
         let read = self.byte_read(place).read;
         let left = domains[place].intersection(set);
@@ -68,6 +70,7 @@ impl Problem<'_> {
         ensures lowest { IsLowestAt (box_with self.now domains.old) Any place (box_with self.now domains.new) }
     {
         leaves_are_filled_read_by_read();
+        // For the prover: a combination has few events and few byte reads.
         let _events = self.events();
         let _reads = self.reads();
         if let Some(_source) = only_one(domains[place]) {
@@ -100,7 +103,7 @@ impl Problem<'_> {
         self.sources_of(&down)
     }
 
-    /// Records an outcome that each completion has, if the table lacks it.
+    /// Records the one outcome of a box, if the table lacks it.
     fn record_independent<T: OutcomeTable>(
         &self,
         domains: &Domains,
@@ -122,7 +125,7 @@ impl Problem<'_> {
         self.put(domains, outcome, Least { sources, order }, table)
     }
 
-    /// Records the outcomes that a table lacks, of which these are the first values. `order` is the least memory-order.
+    /// Records the outcomes of a box that the table lacks. They begin with the given values. `order` is the least memory-order.
     pub(crate) fn independent_outcomes<T: OutcomeTable, H: Heartbeat>(
         &self,
         domains: &Domains,
@@ -137,18 +140,20 @@ impl Problem<'_> {
         ensures added { AddsEntries (box_with self.now domains.now) (T.entries table.old) (T.entries table.new) }
         ensures whole { OnOk result (HasEachOutcome (box_with self.now domains.now) (T.entries table.new)) }
     {
+        // For the prover: an execution's outcome follows from its sources.
         laws_below();
         heartbeat.beat();
         let mut values = values.clone()?;
         let Some(place) = self.observe(domains, &mut values) else {
             return self.record_independent(domains, values.as_slice(), order, table);
         };
+        // For the prover: a combination has few events and few byte reads.
         let _events = self.events();
         let _reads = self.reads();
         let all = domains[place];
         let mut left = all;
         while let Some((source, _others)) = left.split_first() {
-            let group = self.storing_alike(all, place, source);
+            let group = self.storing_same(all, place, source);
             let mut part = *domains;
             if self.cut_independent(&mut part, place, group) {
                 self.independent_outcomes(&part, &values, order, table, heartbeat)?;

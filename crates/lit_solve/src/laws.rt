@@ -18,7 +18,7 @@ ghost use Rattle.lit_solve.specs.Prunable.{IsPrunable, IsRefuted};
 use lit_rel::laws::{byte_reads_are_of_events, refused_bytes_make_guards_false};
 use lit_valid::laws::laws_below;
 
-/// What is given, the relations of it, and what they force grow where domains shrink, as long as none is empty.
+/// Propagation is monotonic: where domains shrink and none is empty, the given sources, their relations and the forced pairs grow.
 pub fn relations_grow_as_domains_shrink()
     ensures given { (inner outer : Box) → IsWithin inner outer → ¬ HasEmptyDomain inner → (r b w : ℕ) → GivenIn outer r b w
         → GivenIn inner r b w }
@@ -30,15 +30,15 @@ pub fn relations_grow_as_domains_shrink()
         → IsForcedIn inner a d }
 {}
 
-/// Each memory-order of a completion keeps what the box forces.
-pub fn completions_keep_what_is_forced()
+/// Each memory-order of a completion respects what the box forces.
+pub fn completions_respect_what_is_forced()
     ensures { (box : Box) (x : Execution) (order : List ℕ) → IsBox box → IsCompletion box x
         → IsMemoryOrder (execution_events box.test x) x.sources order → (a d : ℕ) → IsForcedIn box a d → StandsBefore order a d }
 {
     byte_reads_are_of_events();
 }
 
-/// No completion has a source that the box leaves out.
+/// Pruning is sound: no completion has a source that can be pruned.
 pub fn completions_have_no_prunable_source()
     ensures { (box : Box) (x : Execution) (k r b w : ℕ) → IsBox box → AreEventsIn box.test.bytes (box_events box) → IsCompletion box x
         → slice_get (byte_reads (box_events box)) k ≡ Some (r, b) → slice_get x.sources k ≡ Some w → ¬ IsPrunable box r b w }
@@ -47,23 +47,22 @@ pub fn completions_have_no_prunable_source()
     refused_bytes_make_guards_false();
 }
 
-/// A box that is refuted has no completion.
+/// A refuted box is infeasible.
 pub fn refuted_boxes_have_no_completion()
     ensures { (box : Box) (x : Execution) → IsBox box → IsRefuted box → ¬ IsCompletion box x }
 {
     laws_below();
 }
 
-/// Each completion fills each read: where one cannot be filled, there is none.
+/// A completion fills each read, so a box with a read that can't be filled is infeasible.
 pub fn completions_fill_each_read()
     ensures { (box : Box) (x : Execution) (r : ℕ) → IsBox box → IsCompletion box x → r < length (box_events box) → CanFill box r }
 {
     laws_below();
 }
 
-/// In a quiet box, whose sources are coherent and in which no event happens before itself, the sources that lie in it are
-/// those of a completion exactly where each read is filled by them, no test on a register that was not written is false,
-/// and there is an order of what is given.
+/// Take a leaf whose sources are coherent and whose happens-before is acyclic. Sources that lie in it are those of a completion exactly if
+/// they fill each read, no guard on a register that was not written is false, and there is an order of what is given.
 pub fn leaves_are_filled_read_by_read()
     ensures { (box : Box) (sources : List ℕ) → IsBox box → IsLeaf box → AreCoherentSources box → ((e : ℕ) → ¬ HappensBeforeIn box e e)
         → AreSourcesIn box sources → ((x : Execution) × IsCompletion box x × (x.sources ≡ sources))
@@ -73,7 +72,7 @@ pub fn leaves_are_filled_read_by_read()
     laws_below();
 }
 
-/// In a quiet box a completion has the memory-orders of what the box gives.
+/// The memory-orders of a completion of a leaf are the orders of what the leaf gives.
 pub fn leaves_have_one_order()
     ensures { (box : Box) (x : Execution) (order : List ℕ) → IsBox box → IsLeaf box → IsCompletion box x
         → IsMemoryOrder (execution_events box.test x) x.sources order
@@ -82,7 +81,7 @@ pub fn leaves_have_one_order()
     laws_below();
 }
 
-/// Where each read of a box can be filled, all can be by the same sources.
+/// If each read of a box can be filled, some sources fill all of them at once.
 pub fn reads_are_filled_together()
     ensures { (box : Box) → ((r : ℕ) → r < length (box_events box) → CanFill box r)
         → (sources : List ℕ) × AreSourcesIn box sources × ((r : ℕ) → r < length (box_events box) → IsFilled box r sources) }
@@ -90,9 +89,9 @@ pub fn reads_are_filled_together()
     laws_below();
 }
 
-/// A data race of a completion is one by what the box gives, where a read may read from each source with which it can be
-/// filled, and so where it may read from each in the domains of its bytes.
-pub fn boxes_foresee_races()
+/// The possible data races of a box over-approximate those of its completions: first where a read may read from each source with which it
+/// can be filled, and so also where it may read from each source in the domains of its bytes.
+pub fn boxes_bound_races()
     ensures filled { (box : Box) (x : Execution) → IsBox box → IsCompletion box x
         → HasDataRace (execution_events box.test x) x.sources → CanRaceIn box }
     ensures may { (box : Box) → CanRaceIn box → MayRaceIn box }
@@ -100,8 +99,8 @@ pub fn boxes_foresee_races()
     laws_below();
 }
 
-/// A quiet box whose sources are coherent, and that has a completion, has one with a data race exactly where there is one by
-/// what it gives: of two writes, or of a read and a source with which it can be filled.
+/// A leaf whose sources are coherent, and that has a completion, has one with a data race exactly if what it gives has one: of two writes,
+/// or of a read and a source with which it can be filled.
 pub fn leaves_race_as_reads_are_filled()
     ensures { (box : Box) → IsBox box → IsLeaf box → AreCoherentSources box → HasSolution box Any → HasSolution box Race ↔ CanRaceIn box }
 {

@@ -1,5 +1,5 @@
-//! Leaves of a search: whether a settled frame in which nothing that is left can force anything has a completion, and
-//! which data races (ECMA-262, 2024, 29.8 and 29.9) a frame foresees.
+//! Leaves of the search: whether a settled frame in which no open byte read can force anything has a completion. And possible data
+//! races of a frame (ECMA-262, 2024, 29.8 and 29.9).
 
 ghost use Rattle.std.specs.Prelude.{◌↔◌, ℕ, ◌<◌, IsTrue, length};
 ghost use Rattle.lit_paths.specs.ByteReads.{byte_reads};
@@ -34,11 +34,11 @@ impl Problem<'_> {
         true
     }
 
-    /// Whether there is a completion of a settled frame in which no source that is left beside others can force anything.
-    /// Its reads are filled one by one there, and all orders of what is given are orders of it.
+    /// Whether a leaf has a completion. Its reads are filled one by one, and each order of what is given is a memory-order of each
+    /// completion.
     pub(crate) fn has_completion(&self, frame: &Frame) -> bool
         requires settled { IsSettled (box_of self.now frame.now) frame.now }
-        requires quiet { IsLeaf (box_of self.now frame.now) }
+        requires leaf { IsLeaf (box_of self.now frame.now) }
         ensures { IsTrue result ↔ HasSolution (box_of self.now frame.now) Any }
     {
         reads_are_filled_together();
@@ -66,14 +66,14 @@ impl Problem<'_> {
         has_racing_writes(self.events(), &frame.happens_before.rows)
     }
 
-    /// Whether the read at a place can be filled with this source in the domain there: where it is alone in it.
+    /// Whether the read at a place can be filled if this source is the only one in the domain there.
     fn can_fill_from(&self, frame: &Frame, place: usize, source: usize) -> bool
         requires contained { IsContained (box_of self.now frame.now) frame.now }
         requires place { place < length (byte_reads (events_on self.now)) }
         requires there { HasSource (box_of self.now frame.now) place source }
         ensures { IsTrue result ↔ CanFillAt (box_of self.now frame.now) place source }
     {
-        // A set has room for each event of a combination.
+        // For the prover: a set has room for each event of a combination.
         let _events = self.events();
         let _reads = self.reads();
         let read = self.byte_read(place).read;
@@ -82,7 +82,7 @@ impl Problem<'_> {
         self.can_fill(&alone, read)
     }
 
-    /// Whether the read at a place may have this source in the domain there: it can be filled with it, where that is asked.
+    /// Whether the read at a place may have this source of the domain there. With `filling`, only if it can be filled with it.
     fn may_have(&self, frame: &Frame, place: usize, source: usize, filling: bool) -> bool
         requires contained { IsContained (box_of self.now frame.now) frame.now }
         requires place { place < length (byte_reads (events_on self.now)) }
@@ -96,13 +96,14 @@ impl Problem<'_> {
         }
     }
 
-    /// Whether the read at a place is in a data race with some source that it may have there.
+    /// Whether the read at a place is in a data race with a source that it may have there.
     fn races_at(&self, frame: &Frame, place: usize, filling: bool) -> bool
         requires place { place < length (byte_reads (events_on self.now)) }
         requires contained { IsContained (box_of self.now frame.now) frame.now }
         ensures { IsTrue result ↔ RacesAt (box_of self.now frame.now) (Holds frame.now.happens_before.rows)
             (MayHave (box_of self.now frame.now) filling) place }
     {
+        // For the prover: the place is one of the array of domains.
         let _reads = self.reads();
         let read = usize::from(self.byte_read(place).read);
         let mut left = frame.domains[place];
@@ -115,8 +116,8 @@ impl Problem<'_> {
         false
     }
 
-    /// Whether a data race may come of a frame: two writes are in one, or a read and a source in the domain of its byte are;
-    /// with `filling`, only a source with which the read can be filled there.
+    /// Whether a frame has a possible data race: of two writes, or of a read and a source in the domain of its byte. With `filling`, only
+    /// of a source with which the read can be filled there.
     pub(crate) fn races(&self, frame: &Frame, filling: bool) -> bool
         requires { IsExact (box_of self.now frame.now) frame.now }
         ensures { IsTrue result ↔ RacesIn (box_of self.now frame.now) filling }

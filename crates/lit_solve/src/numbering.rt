@@ -1,4 +1,4 @@
-//! From sources back to the number of their choice.
+//! The number of a choice, from its sources.
 
 ghost use Rattle.std.specs.Prelude.{◌≡◌, ℕ, ◌+◌, ◌<◌, ◌≤◌, Some, length, slice_get};
 ghost use Rattle.lit_paths.specs.Choice.{AreSources, combinations_of};
@@ -21,8 +21,8 @@ fn place_of(events: &[u8], event: u8) -> usize
     unreachable!()
 }
 
-/// The number of the first choice on a combination. There is one, so the combination is one of the test, its choices have
-/// numbers, and each number among them is that of a choice on it.
+/// The number of the first choice on a combination. The clauses are for the prover: the combination is one of the test, and its choices
+/// have the numbers from this one on.
 pub(crate) fn first_of(combination: &Combination<'_>) -> u64
     ensures value { result ≡ choices_before combination.now.0 combination.now.1 }
     ensures known { combination.now.1 < length (combinations_of combination.now.0) }
@@ -42,7 +42,7 @@ pub fn number_of(combination: &Combination<'_>, sources: &[u8]) -> u64
     ensures high { result < choices_before combination.now.0 (combination.now.1 + 1) }
     ensures has { HasSources combination.now.0 result sources.now }
 {
-    // That the numbers are small is known of the last one.
+    // For the prover: no sum overflows, since no choice has a number as high as this one.
     let _end = combination.end();
     let mut number = first_of(combination);
     for (place, source) in sources.iter().enumerate() {

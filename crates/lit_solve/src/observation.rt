@@ -1,10 +1,10 @@
-//! What registers observe at the end: the outcome that each completion of a box has, or a byte read on which that hangs.
+//! Observed values: the outcome that all completions of a box share, or a byte read on which it depends.
 
 ghost use Rattle.std.specs.Prelude.{◌≡◌, ℕ, ◌<◌, MatchBool, length};
 ghost use Rattle.lit_paths.specs.ByteReads.{byte_reads};
 ghost use Rattle.lit_solve.specs.Box.{HasEmptyDomain, HasSource, IsBox, box_with, events_on};
 ghost use Rattle.lit_solve.specs.Prospect.{IsUndecidedAt, IsValueOf};
-ghost use Rattle.lit_solve.specs.Internal.Deciding.{stored_for};
+ghost use Rattle.lit_solve.specs.Internal.ConditionValues.{stored_for};
 ghost use Rattle.lit_solve.specs.Internal.Observation.{AreFirstValues, IsObservation, IsValueObserved};
 
 use crate::domains::Domains;
@@ -17,17 +17,17 @@ use lit_valid::laws::laws_below;
 /// The last values of the first registers of an outcome, in the order of `Plan::names`.
 pub(crate) type Values = ArrayVec<u32, NAME_LIMIT>;
 
-/// What the sources in a box's domains say of a read.
+/// What the domains of a box say of the value of a read.
 #[derive(Clone, Copy, Debug, PartialEq, Eq)]
 pub enum ReadValue {
     /// It has this value by any of them.
     One(u32),
-    /// The byte read at a place, which is of it, may be read as several bytes.
+    /// The sources of the read's byte read at this place store several bytes.
     Open(usize),
 }
 
 impl Problem<'_> {
-    /// Whether some source in the domain of the byte read at a place stores another byte for it than this one there.
+    /// Whether some source in the domain of the byte read at a place stores another byte than this source.
     pub(crate) fn has_other_byte(&self, domains: &Domains, place: usize, source: usize) -> bool
         requires place { place < length (byte_reads (events_on self.now)) }
         requires is_box { IsBox (box_with self.now domains.now) }
@@ -36,22 +36,23 @@ impl Problem<'_> {
             ((w : ℕ) → HasSource (box_with self.now domains.now) place w
             → stored_for (box_with self.now domains.now) place w ≡ stored_for (box_with self.now domains.now) place source) }
     {
+        // For the prover: the domain has events of the combination alone.
         let _events = self.events();
-        let alike = self.storing_alike(domains[place], place, source);
-        match domains[place].difference(alike).split_first() {
+        let matching = self.storing_same(domains[place], place, source);
+        match domains[place].difference(matching).split_first() {
             Some(_other) => true,
             None => false,
         }
     }
 
-    /// What the sources in a box's domains, none of which is empty, say of the value of a read, by event number.
+    /// What the domains of a box, none of which is empty, say of the value of a read. The read is an event number.
     pub fn read_value(&self, domains: &Domains, read: u8) -> ReadValue
         requires read { read < length (events_on self.now) }
         requires is_box { IsBox (box_with self.now domains.now) }
         requires some { ¬ HasEmptyDomain (box_with self.now domains.now) }
         ensures { IsValueOf (box_with self.now domains.now) read result }
     {
-        // None of a problem's events has more than four bytes.
+        // For the prover: no event has more than four bytes.
         let _events = self.events();
         let mut taken = Taken::nothing();
         let mut place = self.first_place(read);
@@ -68,12 +69,13 @@ impl Problem<'_> {
         ReadValue::One(taken.value)
     }
 
-    /// What the sources in a box's domains say of the value that a register, named by agent and register, has at the end.
+    /// What the domains of a box say of the value that a register, named by agent and register, has at the end.
     fn register_value(&self, domains: &Domains, name: (u8, u8)) -> ReadValue
         requires is_box { IsBox (box_with self.now domains.now) }
         requires some { ¬ HasEmptyDomain (box_with self.now domains.now) }
         ensures { IsValueObserved (box_with self.now domains.now) name result }
     {
+        // For the prover: event numbers are small.
         let _events = self.events();
         match self.observed_read(name.0, name.1) {
             Some(read) => self.read_value(domains, read as u8),
@@ -81,8 +83,8 @@ impl Problem<'_> {
         }
     }
 
-    /// Adds to the first values of an outcome those of the registers after them, as long as the sources in a box's domains say the same of
-    /// each completion. Answers the place of a byte read on which the next one hangs, or `None` where there is none left.
+    /// Appends the values of the next registers to the first values of an outcome, as long as all completions share them (decision 31).
+    /// Answers the place of a byte read on which the next value depends, or `None` if the outcome is complete.
     pub(crate) fn observe(&self, domains: &Domains, values: &mut Values) -> Option<usize>
         requires is_box { IsBox (box_with self.now domains.now) }
         requires some { ¬ HasEmptyDomain (box_with self.now domains.now) }
@@ -90,6 +92,7 @@ impl Problem<'_> {
         ensures first { AreFirstValues (box_with self.now domains.now) values.new.items }
         ensures observed { IsObservation (box_with self.now domains.now) values.new.items result }
     {
+        // For the prover: an execution's outcome follows from its sources.
         laws_below();
         for i in values.len()..self.names.len() {
             match self.register_value(domains, self.names[i]) {

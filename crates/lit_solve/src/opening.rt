@@ -1,4 +1,4 @@
-//! Frames, opened and cut.
+//! How a search gets frames: it opens one for a box, and cuts a domain of one at each branch.
 
 ghost use Rattle.std.specs.Prelude.{◌≡◌, ◌↔◌, ℕ, ◌<◌, IfNone, IfSome, IsFalse, IsTrue, length};
 ghost use Rattle.lit_paths.specs.ByteReads.{byte_reads};
@@ -7,7 +7,7 @@ ghost use Rattle.lit_rel.specs.EventSet.{HasEvent};
 ghost use Rattle.lit_solve.specs.Box.{HasEmptyDomain, HasSource, IsBox, box_with, events_on};
 ghost use Rattle.lit_solve.specs.Completion.{IsCompletion};
 ghost use Rattle.lit_solve.specs.Internal.Frames.{IsContained, box_of};
-ghost use Rattle.lit_solve.specs.Internal.Narrowing.{HasNoCompletion, Narrows, size_of};
+ghost use Rattle.lit_solve.specs.Internal.Pruning.{HasNoCompletion, Prunes, size_of};
 ghost use Rattle.lit_solve.specs.Internal.Settled.{IsCut, IsSettled, TakesFrom};
 
 use crate::domains::Domains;
@@ -32,7 +32,7 @@ impl Problem<'_> {
         false
     }
 
-    /// A frame of a box, no domain of which is empty, before anything follows from it.
+    /// A frame of a box without empty domains, before any propagation.
     fn unsettled(&self, domains: &Domains) -> Frame
         requires is_box { IsBox (box_with self.now domains.now) }
         requires some { ¬ HasEmptyDomain (box_with self.now domains.now) }
@@ -47,11 +47,11 @@ impl Problem<'_> {
         }
     }
 
-    /// Domains without the sources that some test refuses: they are node consistent.
+    /// The domains without the sources that a guard refuses: they are node consistent.
     fn consistent(&self, domains: &Domains) -> Domains
         requires { IsBox (box_with self.now domains.now) }
         ensures is_box { IsBox (box_with self.now result) }
-        ensures narrows { Narrows (box_with self.now domains.now) (box_with self.now result) }
+        ensures prunes { Prunes (box_with self.now domains.now) (box_with self.now result) }
     {
         completions_have_no_prunable_source();
         let mut left = *domains;
@@ -61,11 +61,11 @@ impl Problem<'_> {
         left
     }
 
-    /// The frame of a box, from which nothing more follows. `None` where it is found that there is no completion.
+    /// The frame of a box, pruned and propagated until nothing changes. `None` if that refutes the box.
     pub(crate) fn settle(&self, domains: &Domains) -> Option<Frame>
         requires { IsBox (box_with self.now domains.now) }
         ensures settled { IfSome result (λ frame. IsSettled (box_of self.now frame) frame) }
-        ensures narrows { IfSome result (λ frame. Narrows (box_with self.now domains.now) (box_of self.now frame)) }
+        ensures prunes { IfSome result (λ frame. Prunes (box_with self.now domains.now) (box_of self.now frame)) }
         ensures none { IfNone result (HasNoCompletion (box_with self.now domains.now)) }
     {
         refuted_boxes_have_no_completion();
@@ -85,17 +85,18 @@ impl Problem<'_> {
         }
     }
 
-    /// The sources that a frame leaves to the byte read at a place.
+    /// The sources in the domain of the byte read at a place.
     pub(crate) fn sources_left(&self, frame: &Frame, place: usize) -> EventSet
         requires { place < length (byte_reads (events_on self.now)) }
         ensures { (w : ℕ) → HasEvent result w ↔ HasSource (box_of self.now frame.now) place w }
     {
+        // For the prover: the place is one of the array of domains.
         let _reads = self.reads();
         frame.domains[place]
     }
 
-    /// Cuts the domain of the byte read at a place down to a set, and lets what follows follow. Says no where no completion
-    /// has a source of the set there.
+    /// Restricts the domain of the byte read at a place to a set, and propagates. Answers `false` if that shows that no completion has a
+    /// source of the set there. Checks only this read for filling (decision 35).
     pub(crate) fn cut(&self, frame: &mut Frame, place: usize, set: EventSet) -> bool
         requires place { place < length (byte_reads (events_on self.now)) }
         requires settled { IsSettled (box_of self.now frame.old) frame.old }
@@ -106,6 +107,7 @@ impl Problem<'_> {
         ensures none { IsFalse result → (x : Execution) → IsCompletion (box_of self.now frame.old) x → ¬ TakesFrom x place set }
     {
         completions_fill_each_read();
+        // For the prover: the place is one of the array of domains.
         let _reads = self.reads();
         let read = self.byte_read(place).read;
         let left = frame.domains[place].intersection(set);

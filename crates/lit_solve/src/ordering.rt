@@ -1,4 +1,4 @@
-//! The least memory-order that a frame leaves.
+//! The least memory-order of a frame.
 
 ghost use Rattle.std.specs.Prelude.{ℕ, IfNone, IfSome, List, length};
 ghost use Rattle.lit_order.specs.MemoryOrder.{IsLeastOrderOf, IsOrderOf};
@@ -12,7 +12,7 @@ use lit_order::{Order, least_of};
 use lit_rel::Between;
 
 impl Problem<'_> {
-    /// The least memory-order of what a frame gives, or `None` exactly where there is none. Its relations are those of its box.
+    /// The least order of what a frame gives, or `None` exactly if there is none. The frame's relations are those of its box.
     pub(crate) fn least_order(&self, frame: &Frame) -> Option<Order>
         requires { IsExact (box_of self.now frame.now) frame.now }
         ensures found { IfSome result (λ order. IsLeastOrderOf (length (events_on self.now)) (HappensBeforeIn (box_of self.now frame.now))

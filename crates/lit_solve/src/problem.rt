@@ -1,4 +1,4 @@
-//! What the boxes of one combination share.
+//! A combination as a constraint satisfaction problem: what all its boxes share.
 
 ghost use Rattle.std.specs.Prelude.{◌≡◌, ℕ, ◌<◌, ◌≤◌, Some, length, slice_get};
 ghost use Rattle.lit_paths.specs.ByteReads.{byte_read_at, byte_reads, pair_of};
@@ -9,20 +9,20 @@ ghost use Rattle.lit_solve.specs.Box.{events_on};
 
 use crate::boxes::candidates::candidates_of;
 use crate::domains::Domains;
-use crate::testing::refused_among;
+use crate::node_consistency::refused_among;
 use lit_paths::{BYTE_READ_LIMIT, ByteRead, Combination, Event, Plan};
 use lit_rel::laws::byte_reads_are_of_events;
 use lit_rel::{EventSet, Rows, peers_of};
 use std::marker::Model;
 
-/// A combination of paths as a constraint problem: its byte reads are the variables. A clause sees it as the test's value and
-/// the combination's number.
+/// A combination of paths as a constraint satisfaction problem: its byte reads are the variables. A clause sees it as the test's value
+/// and the combination's number.
 #[derive(Drop)]
 pub struct Problem<'p> {
     pub(crate) combination: Combination<'p>,
     /// All candidates of each byte read.
     pub(crate) candidates: Domains,
-    /// Those of them that some test refuses.
+    /// The candidates that some guard refuses (decision 34).
     pub(crate) refused: Domains,
     /// The sequentially consistent writes that have the range of each event.
     pub(crate) peers: Rows,
@@ -52,6 +52,7 @@ impl<'p> Problem<'p> {
         requires { combination < length (combinations_of plan.now) }
         ensures { result ≡ (plan.now, combination) }
     {
+        // For the prover: the plan's test is one that a text can say.
         let _test = plan.test();
         let combination = plan.enter(combination);
         let peers = peers_of(combination.events());

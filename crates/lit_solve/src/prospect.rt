@@ -1,12 +1,12 @@
-//! What a box says of what is looked for.
+//! What a box says of a goal before the search branches.
 
-/// What the domains of a box say of what is looked for, as far as outcomes go.
+/// What the domains of a box say of a goal, as far as outcomes go.
 #[derive(Clone, Copy, Debug, PartialEq, Eq)]
 pub enum Prospect {
-    /// None is what is looked for.
+    /// No completion meets the goal.
     Nothing,
-    /// Each is.
+    /// Each completion meets it.
     Each,
-    /// It hangs on what the byte read at a place is read as: its sources store several bytes.
+    /// That depends on the byte read at this place, whose sources store several bytes.
     Open(usize),
 }

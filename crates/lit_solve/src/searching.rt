@@ -1,10 +1,10 @@
-//! Whether a box has a completion that is looked for: a search by propagation and branching.
+//! Whether a box has a solution: a backtracking search by propagation and branching.
 
 ghost use Rattle.std.specs.Prelude.{◌↔◌, IsTrue};
 ghost use Rattle.lit_paths.specs.Execution.{Execution};
 ghost use Rattle.lit_solve.specs.Completion.{HasSolution, IsCompletion};
 ghost use Rattle.lit_solve.specs.Fill.{IsLeaf};
-ghost use Rattle.lit_solve.specs.Internal.Deciding.{MeetsByOutcome};
+ghost use Rattle.lit_solve.specs.Internal.ConditionValues.{MeetsByOutcome};
 ghost use Rattle.lit_solve.specs.Internal.Frames.{box_of};
 ghost use Rattle.lit_solve.specs.Internal.Settled.{IsSettled};
 
@@ -15,11 +15,10 @@ use crate::problem::Problem;
 use crate::stepping::Step;
 
 impl Problem<'_> {
-    /// Whether a frame in which no open byte read can force anything has a completion that is what is looked for. Each is, as
-    /// far as its outcome goes.
+    /// Whether a leaf has a solution. Each completion is one, as far as its outcome goes.
     fn is_met(&self, frame: &Frame, goal: Goal) -> bool
         requires settled { IsSettled (box_of self.now frame.now) frame.now }
-        requires quiet { IsLeaf (box_of self.now frame.now) }
+        requires leaf { IsLeaf (box_of self.now frame.now) }
         requires each { (x : Execution) → IsCompletion (box_of self.now frame.now) x
             → MeetsByOutcome (box_of self.now frame.now).test goal x }
         ensures { IsTrue result ↔ HasSolution (box_of self.now frame.now) goal }
@@ -31,7 +30,7 @@ impl Problem<'_> {
         }
     }
 
-    /// Whether a frame has a completion that is what is looked for.
+    /// Whether a frame has a solution.
     pub(crate) fn exists(&self, frame: &Frame, goal: Goal) -> bool
         requires { IsSettled (box_of self.now frame.now) frame.now }
         ensures { IsTrue result ↔ HasSolution (box_of self.now frame.now) goal }
@@ -39,7 +38,7 @@ impl Problem<'_> {
         let branch = match self.step(frame, goal) {
             Step::Refuted => return false,
             Step::Leaf => return self.is_met(frame, goal),
-            Step::Parted(branch) => branch,
+            Step::Branched(branch) => branch,
         };
         let mut left = self.sources_left(frame, branch.place);
         while let Some((source, _others)) = left.split_first() {

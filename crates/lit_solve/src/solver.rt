@@ -1,4 +1,4 @@
-//! What is asked of a box: whether it has a completion that is looked for, the least of these, and all outcomes.
+//! The solver's calls: whether a box has a solution, its least solution, and all its outcomes.
 
 ghost use Rattle.std.specs.Prelude.{◌↔◌, IsTrue, MatchOption, OnOk};
 ghost use Rattle.lit_solve.specs.Box.{IsBox, box_with};
@@ -8,13 +8,13 @@ ghost use Rattle.lit_solve.specs.Outcomes.{AddsEntries, HasEachOutcome};
 use crate::domains::Domains;
 use crate::goal::Goal;
 use crate::heartbeat::Heartbeat;
-use crate::leading::Least;
+use crate::least_search::Least;
 use crate::observation::Values;
 use crate::problem::Problem;
 use crate::table::OutcomeTable;
 use std::alloc::AllocError;
 
-/// Whether a box of the problem's combination has a completion that is what is looked for.
+/// Whether a box of the problem's combination has a completion that meets the goal.
 pub fn exists(problem: &Problem<'_>, domains: &Domains, goal: Goal) -> bool
     requires { IsBox (box_with problem.now domains.now) }
     ensures { IsTrue result ↔ HasSolution (box_with problem.now domains.now) goal }
@@ -25,7 +25,7 @@ pub fn exists(problem: &Problem<'_>, domains: &Domains, goal: Goal) -> bool
     }
 }
 
-/// The least sources of such a completion, with their least memory-order, or `None` exactly where there is none.
+/// The least sources of a completion that meets the goal, with their least memory-order, or `None` exactly if there is none.
 pub fn least(problem: &Problem<'_>, domains: &Domains, goal: Goal) -> Option<Least>
     requires { IsBox (box_with problem.now domains.now) }
     ensures { MatchOption result (¬ HasSolution (box_with problem.now domains.now) goal)
@@ -37,9 +37,9 @@ pub fn least(problem: &Problem<'_>, domains: &Domains, goal: Goal) -> Option<Lea
     }
 }
 
-/// Records the outcomes of a box's completions that a table lacks, each with the choice of the least sources with which some
-/// completion has it, and their least memory-order. Answers `AllocError` where the table refused to record one; then some
-/// outcomes may not be recorded. The heartbeat is called at each step down.
+/// Records the outcomes of a box's completions that the table lacks. Each comes with the choice of the least sources of a completion that
+/// has it, and with their least memory-order. Answers `AllocError` if the table refuses to record one; some outcomes may be missing then.
+/// Calls the heartbeat at each step down.
 pub fn outcomes<T: OutcomeTable, H: Heartbeat>(
     problem: &Problem<'_>,
     domains: &Domains,

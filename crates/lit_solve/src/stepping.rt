@@ -1,9 +1,9 @@
-//! What a search does at a frame: the constraint solver's choice of a variable.
+//! The step of the search at a frame: refute it, treat it as a leaf, or branch on a variable.
 
 ghost use Rattle.std.specs.Prelude.{◌<◌, ℕ, [], length};
 ghost use Rattle.lit_paths.specs.ByteReads.{byte_reads};
 ghost use Rattle.lit_rel.specs.EventSet.{HasEvent};
-ghost use Rattle.lit_solve.specs.Internal.Deciding.{IsProspect};
+ghost use Rattle.lit_solve.specs.Internal.ConditionValues.{IsProspect};
 ghost use Rattle.lit_solve.specs.Box.{box_with, events_on};
 ghost use Rattle.lit_solve.specs.Internal.Frames.{box_of};
 ghost use Rattle.lit_solve.specs.Internal.Searching.{GoesWith, IsStep};
@@ -12,40 +12,41 @@ ghost use Rattle.lit_solve.specs.Internal.Settled.{IsSettled};
 use crate::domains::set_of;
 use crate::frame::Frame;
 use crate::goal::Goal;
-use crate::laws::boxes_foresee_races;
+use crate::laws::boxes_bound_races;
 use crate::problem::Problem;
 use crate::prospect::Prospect;
 use lit_rel::EventSet;
 use lit_valid::laws::laws_below;
 
-/// A byte read whose domain is parted.
+/// A byte read on whose domain the search branches.
 #[derive(Clone, Copy, Debug, PartialEq, Eq)]
 pub(crate) struct Branch {
     /// The byte read's place.
     pub place: usize,
-    /// Whether sources that store the same stay together.
+    /// Whether sources that store the same byte stay together in one part of the domain.
     pub by_value: bool,
 }
 
-/// What is to be done at a frame.
+/// What the search does at a frame.
 #[derive(Clone, Copy, Debug, PartialEq, Eq)]
 pub(crate) enum Step {
-    /// Nothing: no completion is what is looked for.
+    /// It backtracks: no completion meets the goal.
     Refuted,
-    /// No open byte read can force anything, and the outcome of each completion is what is looked for.
+    /// The frame is a leaf, and each completion meets the goal as far as its outcome goes.
     Leaf,
-    /// The domain of a byte read is parted.
-    Parted(Branch),
+    /// It branches on the domain of a byte read.
+    Branched(Branch),
 }
 
 impl Problem<'_> {
-    /// What a frame says of a goal.
+    /// What a frame says of a goal before the search branches.
     fn prospect(&self, frame: &Frame, goal: Goal) -> Prospect
         requires { IsSettled (box_of self.now frame.now) frame.now }
         ensures { IsProspect (box_of self.now frame.now) goal result }
     {
+        // For the prover: an execution's outcome follows from its sources.
         laws_below();
-        boxes_foresee_races();
+        boxes_bound_races();
         match goal {
             Goal::Any => Prospect::Each,
             Goal::OfClass(class) => self.prospect_of(&frame.domains, class),
@@ -59,19 +60,19 @@ impl Problem<'_> {
         }
     }
 
-    /// What is to be done at a frame.
+    /// The search's step at a frame. It branches first on what decides the goal (decision 27).
     pub(crate) fn step(&self, frame: &Frame, goal: Goal) -> Step
         requires { IsSettled (box_of self.now frame.now) frame.now }
         ensures { IsStep (box_of self.now frame.now) goal result }
     {
         match self.prospect(frame, goal) {
             Prospect::Nothing => Step::Refuted,
-            Prospect::Open(place) => Step::Parted(Branch {
+            Prospect::Open(place) => Step::Branched(Branch {
                 place,
                 by_value: true,
             }),
             Prospect::Each => match self.branch(frame) {
-                Some(place) => Step::Parted(Branch {
+                Some(place) => Step::Branched(Branch {
                     place,
                     by_value: false,
                 }),
@@ -80,7 +81,7 @@ impl Problem<'_> {
         }
     }
 
-    /// The part of a set of sources that goes with one of them.
+    /// The part of a set of sources that a branch searches together with one of them.
     pub(crate) fn part(&self, branch: Branch, among: EventSet, source: usize) -> EventSet
         requires place { branch.place < length (byte_reads (events_on self.now)) }
         requires known { (w : ℕ) → HasEvent among w → w < length (events_on self.now) }
@@ -90,8 +91,9 @@ impl Problem<'_> {
         ensures apart { (w : ℕ) → HasEvent result w → GoesWith (box_with self.now []) branch source w }
     {
         if branch.by_value {
-            self.storing_alike(among, branch.place, source)
+            self.storing_same(among, branch.place, source)
         } else {
+            // For the prover: a set has room for each event of a combination.
             let _events = self.events();
             set_of(source)
         }

@@ -1,4 +1,4 @@
-//! What records outcomes: a table that the caller of a search owns.
+//! The table of outcomes that a search fills. The search's caller owns it (decision 33).
 
 use lit_order::Order;
 use std::alloc::AllocError;

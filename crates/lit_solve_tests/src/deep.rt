@@ -1,4 +1,4 @@
-//! `lit_solve`: searches that go as deep as a plan lets them, each in a thread of its own.
+//! `lit_solve`: searches as deep as a plan allows, each on a thread of its own.
 
 ghost use Rattle.std.specs.Prelude.{◌≤◌};
 ghost use Rattle.lit_solve.specs.Box.{IsBox, box_with};
@@ -13,9 +13,9 @@ use std::process::Abort;
 use std::test::Fail;
 use std::thread::{Threads, join_mut};
 
-/// Thirty bytes are read, each from init, event 12 or event 13: of three sources no plan has more. Each of these two could force
-/// something, since the other one has its range too; but no load is ordered with them, so that each choice is valid. The
-/// condition parts each byte by what its sources store, and what stores 0 is parted by source then: sixty cuts.
+/// Thirty byte reads with three sources each, init, event 12 and event 13: no plan has more such byte reads. Each of the two events could
+/// force something, since the other one has its range too; but no load is ordered with them, so each choice is valid. The search branches
+/// on each byte read by the bytes that its sources store, and then source by source on those that store 0: sixty cuts.
 const THREE_SOURCES: &str = "test three
 bytes 4
 agent A
@@ -33,9 +33,9 @@ Atomics.store(U32, 0, 16843009)
 check A.r0 == 0 && A.r1 == 0 && A.r2 == 0 && A.r3 == 0 && A.r4 == 0 && A.r5 == 0 && A.r6 == 0 && A.r7 == 0
 ";
 
-/// Twenty such bytes, from init, event 10 or event 11, and sixteen that have init or event 28. Those loads and that store are
-/// sequentially consistent: the store comes after each load that reads 0, and before each that reads 1. Thirty-six cuts by
-/// source.
+/// Twenty such byte reads, with the sources init, event 10 and event 11, and sixteen with the sources init and event 28. The loads of the
+/// sixteen and event 28 are sequentially consistent: the store comes after each load that reads 0, and before each that reads 1.
+/// Thirty-six cuts, source by source.
 const MIXED_SOURCES: &str = "test mixed
 bytes 5
 agent A
@@ -69,9 +69,9 @@ Atomics.store(U8, 4, 1)
 check A.r0 == 0 && A.r1 == 0 && A.r2 == 0 && A.r3 == 0 && A.r4 == 0
 ";
 
-/// Forty-eight bytes are read, each from init or event 16, none of which can force anything: of two sources no plan has more.
-/// Each choice is valid, and none meets the condition, but that shows only at its end: it hangs on each byte in turn, as long as
-/// those parted before are read as 0. What it does not part is filled read by read.
+/// Forty-eight byte reads with two sources each, init and event 16, which can't force anything: no plan has more such byte reads. Each
+/// choice is valid, and none meets the condition, but that shows only at the end: the condition depends on each byte read in turn, as long
+/// as those before it read 0. Byte reads on which the search doesn't branch are filled read by read.
 const TWO_SOURCES: &str = "test two
 bytes 4
 agent A
@@ -94,33 +94,33 @@ check A.r0 != 0 && A.r0 == 0 && A.r1 == 0 && A.r2 == 0 && A.r3 == 0 && A.r4 == 0
     && A.r7 == 0 && B.r0 == 0 && B.r1 == 0 && B.r2 == 0 && B.r3 == 0
 ";
 
-/// A goal that valid choices meet exactly where one of these events is a source, or, if not `some`, where none is.
+/// A goal, and which valid choices meet it: those with one of these events as a source, or, if not `some`, those with none.
 #[derive(Clone, Copy)]
-struct Asked {
+struct Query {
     goal: Goal,
     events: EventSet,
     some: bool,
 }
 
-/// All that is asked of the boxes of a test, where a choice meets the condition unless one of the events `against` is a source,
-/// and has a data race exactly where one of those `apart` is.
-fn questions(against: EventSet, apart: EventSet) -> [Asked; 4] {
-    let any = Asked {
+/// The queries on the boxes of a test where a choice meets the condition unless one of the events `against` is a source, and has a data
+/// race exactly if one of the events `apart` is a source.
+fn queries_on(against: EventSet, apart: EventSet) -> [Query; 4] {
+    let any = Query {
         goal: Goal::Any,
         events: EventSet::below(EVENT_LIMIT),
         some: true,
     };
-    let met = Asked {
+    let met = Query {
         goal: Goal::OfClass(Class::Met),
         events: against,
         some: false,
     };
-    let unmet = Asked {
+    let unmet = Query {
         goal: Goal::OfClass(Class::Unmet),
         events: against,
         some: true,
     };
-    let race = Asked {
+    let race = Query {
         goal: Goal::Race,
         events: apart,
         some: true,
@@ -128,9 +128,9 @@ fn questions(against: EventSet, apart: EventSet) -> [Asked; 4] {
     [any, met, unmet, race]
 }
 
-/// The least sources in domains that meet a goal: the least of each domain; but if one of some events is wanted, and none of
-/// these is, the last byte read that can have one has it.
-fn wanted(domains: &Domains, reads: usize, asked: Asked) -> Option<[u8; BYTE_READ_LIMIT]>
+/// The least sources in domains that meet a query: the least of each domain. If one of the query's events is wanted and none of them is
+/// such a least source, the last byte read that can have one has it.
+fn wanted(domains: &Domains, reads: usize, query: Query) -> Option<[u8; BYTE_READ_LIMIT]>
     requires { reads ≤ BYTE_READ_LIMIT }
 {
     let mut sources = [0u8; BYTE_READ_LIMIT];
@@ -138,18 +138,18 @@ fn wanted(domains: &Domains, reads: usize, asked: Asked) -> Option<[u8; BYTE_REA
     for place in 0..reads {
         let (source, _others) = domains[place].split_first()?;
         sources[place] = u8::try_from(source).ok()?;
-        if let Some((event, _others)) = domains[place].intersection(asked.events).split_first() {
+        if let Some((event, _others)) = domains[place].intersection(query.events).split_first() {
             some = some || event == source;
         }
     }
-    if some == asked.some {
+    if some == query.some {
         return Some(sources);
     }
     if some {
         return None;
     }
     for place in (0..reads).rev() {
-        if let Some((source, _others)) = domains[place].intersection(asked.events).split_first() {
+        if let Some((source, _others)) = domains[place].intersection(query.events).split_first() {
             sources[place] = u8::try_from(source).ok()?;
             return Some(sources);
         }
@@ -157,8 +157,8 @@ fn wanted(domains: &Domains, reads: usize, asked: Asked) -> Option<[u8; BYTE_REA
     None
 }
 
-/// Whether a box has what is wanted.
-fn is_answered(problem: &Problem<'_>, domains: &Domains, asked: Asked) -> bool
+/// Whether a box answers a query as wanted.
+fn is_answered(problem: &Problem<'_>, domains: &Domains, query: Query) -> bool
     requires { IsBox (box_with problem.now domains.now) }
 {
     let reads = problem
@@ -166,19 +166,20 @@ fn is_answered(problem: &Problem<'_>, domains: &Domains, asked: Asked) -> bool
         .byte_reads()
         .len()
         .min(BYTE_READ_LIMIT);
-    let found = least(problem, domains, asked.goal);
-    if exists(problem, domains, asked.goal) != found.is_some() {
+    let found = least(problem, domains, query.goal);
+    if exists(problem, domains, query.goal) != found.is_some() {
         return false;
     }
-    match (found, wanted(domains, reads, asked)) {
+    match (found, wanted(domains, reads, query)) {
         (Some(one), Some(sources)) => one.sources.as_slice() == &sources[..reads],
         (None, None) => true,
         _ => false,
     }
 }
 
-/// How many boxes a range of choices on the first combination has, if each has what is wanted.
-fn answered(plan: &Plan<'_>, (from, to): (u64, u64), asked: &[Asked]) -> Option<usize> {
+/// How many boxes a range of choices on the first combination has, if each answers all queries as wanted.
+fn answered(plan: &Plan<'_>, (from, to): (u64, u64), queries: &[Query]) -> Option<usize> {
+    // For the prover: the plan's test is one that a text can say, and has a combination 0.
     let _test = plan.test();
     let _combinations = plan.combinations();
     let problem = Problem::open(plan, 0);
@@ -190,8 +191,8 @@ fn answered(plan: &Plan<'_>, (from, to): (u64, u64), asked: &[Asked]) -> Option<
     for i in 0..boxes.len() {
         let mut domains: Domains = [EventSet::new(); BYTE_READ_LIMIT];
         boxes.put(i, &mut domains);
-        for one in asked {
-            if !is_answered(&problem, &domains, *one) {
+        for query in queries {
+            if !is_answered(&problem, &domains, *query) {
                 return None;
             }
         }
@@ -199,42 +200,42 @@ fn answered(plan: &Plan<'_>, (from, to): (u64, u64), asked: &[Asked]) -> Option<
     Some(boxes.len())
 }
 
-/// That a range of choices of a test has so many boxes, each with what is wanted: a thread of its own asks.
+/// That a range of choices of a test has so many boxes, and each answers all queries as wanted. The search runs on its own thread.
 fn assert_answered(
     rt: &(impl Abort + AllocGlobal + Threads),
     text: &str,
     range: (u64, u64),
-    asked: &[Asked],
+    queries: &[Query],
     wanted: usize,
 ) -> Result<(), Fail> {
     let test = read(rt.alloc(), text.as_bytes())?;
     let plan = plan(rt.alloc(), &test)?;
-    let (boxes, ()) = join_mut(rt, &mut || answered(&plan, range, asked), &mut || ());
+    let (boxes, ()) = join_mut(rt, &mut || answered(&plan, range, queries), &mut || ());
     assert_eq!(rt; boxes, Some(wanted));
     Ok(())
 }
 
-/// Of all choices, and of all but the first and the last one. Those are cut on both sides: a box for each place where sources
-/// part from those of an end, one between both, and the ends.
+/// All choices, and all but the first and the last one. The latter range is cut on both sides: a box for each place where sources first
+/// differ from those of an end, one box between both, and the ends.
 #[test]
 fn sixty_cuts_of_thirty_bytes(rt: HostRuntime) -> Result<(), Fail> {
     let ones = EventSet::new().with(13);
-    let asked = questions(ones, ones.with(12));
+    let queries = queries_on(ones, ones.with(12));
     let total = 3u64.pow(30);
-    assert_answered(&rt, THREE_SOURCES, (0, total), &asked, 1)?;
-    assert_answered(&rt, THREE_SOURCES, (1, total - 1), &asked, 61)
+    assert_answered(&rt, THREE_SOURCES, (0, total), &queries, 1)?;
+    assert_answered(&rt, THREE_SOURCES, (1, total - 1), &queries, 61)
 }
 
 #[test]
-fn thirty_six_bytes_parted_by_source(rt: HostRuntime) -> Result<(), Fail> {
+fn thirty_six_bytes_branched_by_source(rt: HostRuntime) -> Result<(), Fail> {
     let ones = EventSet::new().with(11);
-    let asked = questions(ones, ones.with(10));
+    let queries = queries_on(ones, ones.with(10));
     let total = 3u64.pow(20) * 2u64.pow(16);
-    assert_answered(&rt, MIXED_SOURCES, (0, total), &asked, 1)
+    assert_answered(&rt, MIXED_SOURCES, (0, total), &queries, 1)
 }
 
 #[test]
-fn forty_eight_bytes_parted_by_value(rt: HostRuntime) -> Result<(), Fail> {
-    let asked = questions(EventSet::below(EVENT_LIMIT), EventSet::new().with(16));
-    assert_answered(&rt, TWO_SOURCES, (0, 1 << 48), &asked, 1)
+fn forty_eight_bytes_branched_by_value(rt: HostRuntime) -> Result<(), Fail> {
+    let queries = queries_on(EventSet::below(EVENT_LIMIT), EventSet::new().with(16));
+    assert_answered(&rt, TWO_SOURCES, (0, 1 << 48), &queries, 1)
 }

@@ -7,7 +7,7 @@ use std::sync::atomic::{AtomicU64, Ordering};
 
 /// An outcome with its example.
 #[derive(Drop)]
-pub(super) struct Row {
+pub(super) struct Recorded {
     pub outcome: Vec<u32>,
     pub choice: u64,
     pub order: Order,
@@ -17,7 +17,7 @@ pub(super) struct Row {
 #[derive(Drop)]
 pub(super) struct Listed {
     alloc: Global,
-    rows: Vec<Row>,
+    rows: Vec<Recorded>,
 }
 
 impl Listed {
@@ -30,7 +30,7 @@ impl Listed {
     }
 
     /// All that were recorded.
-    pub(super) fn rows(&self) -> &[Row] {
+    pub(super) fn rows(&self) -> &[Recorded] {
         self.rows.as_slice()
     }
 }
@@ -53,7 +53,7 @@ impl OutcomeTable for Listed {
     fn record(&mut self, outcome: &[u32], choice: u64, order: Order) -> Result<(), AllocError> {
         let mut values = Vec::new(self.alloc);
         values.extend_from_slice(outcome)?;
-        self.rows.push(Row {
+        self.rows.push(Recorded {
             outcome: values,
             choice,
             order,
@@ -62,7 +62,7 @@ impl OutcomeTable for Listed {
     }
 }
 
-/// How often a search came down one step more.
+/// How many steps down a search made.
 #[derive(Drop)]
 pub(super) struct Beats {
     pub count: AtomicU64,

@@ -1,6 +1,6 @@
 //! `lit_solve::outcomes`: what a table has afterwards.
 
-use crate::listed::{Beats, Listed, Row};
+use crate::listed::{Beats, Listed, Recorded};
 use lit_paths::{BYTE_READ_LIMIT, Plan, plan};
 use lit_read::read;
 use lit_rel::EventSet;
@@ -24,10 +24,11 @@ check B.r0 == 2
 ";
 
 /// An outcome, the number of its choice, and its least memory-order.
-type Recorded<'a> = (&'a [u32], u64, &'a [u8]);
+type Wanted<'a> = (&'a [u32], u64, &'a [u8]);
 
-/// Records all outcomes of the first combination, which has several choices. Gives how many steps down that took.
+/// Records all outcomes of the first combination, which has several choices. Answers how many steps down that took.
 fn record_all(rt: &impl Abort, plan: &Plan<'_>, table: &mut Listed) -> Result<u64, AllocError> {
+    // For the prover: the plan's test is one that a text can say, and has a combination 0.
     let _test = plan.test();
     let _combinations = plan.combinations();
     let problem = Problem::open(plan, 0);
@@ -46,7 +47,7 @@ fn record_all(rt: &impl Abort, plan: &Plan<'_>, table: &mut Listed) -> Result<u6
 }
 
 /// That one of the rows is this.
-fn assert_has(rt: &impl Abort, rows: &[Row], wanted: Recorded<'_>) {
+fn assert_has(rt: &impl Abort, rows: &[Recorded], wanted: Wanted<'_>) {
     let (outcome, choice, order) = wanted;
     for row in rows {
         if row.outcome.as_slice() == outcome {

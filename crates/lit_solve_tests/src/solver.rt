@@ -1,4 +1,4 @@
-//! `lit_solve`: what the boxes of a range of choices have, and the least of it.
+//! `lit_solve`: least solutions of the boxes of a range of choices, and the numbers of choices.
 
 use lit_paths::{BYTE_READ_LIMIT, Plan, plan};
 use lit_read::read;
@@ -24,7 +24,7 @@ check A.r0 == 1 && B.r0 == 1
 /// The sources of a completion, and its least memory-order.
 type Told<'a> = (&'a [u8], &'a [u8]);
 
-/// That these are the least of the boxes that have any, in the order of the boxes, on the first combination.
+/// That these are the least solutions of the boxes that have one, in the order of the boxes, on the first combination.
 fn assert_told(
     rt: &impl Abort,
     plan: &Plan<'_>,
@@ -32,6 +32,7 @@ fn assert_told(
     goal: Goal,
     wanted: &[Told<'_>],
 ) {
+    // For the prover: the plan's test is one that a text can say, and has a combination 0.
     let _test = plan.test();
     let _combinations = plan.combinations();
     let problem = Problem::open(plan, 0);
@@ -59,7 +60,7 @@ fn assert_told(
     assert_eq!(rt; told, wanted.len());
 }
 
-/// That, of a test in its canonical form.
+/// The same, for a test given as a text in canonical form.
 fn assert_all(
     rt: &(impl Abort + AllocGlobal),
     text: &str,
@@ -75,6 +76,7 @@ fn assert_all(
 
 /// That the choices of the first combination have these sources, and their numbers by them.
 fn assert_numbers(rt: &impl Abort, plan: &Plan<'_>, wanted: &[&[u8]]) {
+    // For the prover: the plan has a combination 0.
     let _combinations = plan.combinations();
     let combination = plan.enter(0);
     assert_eq!(rt; combination.end(), wanted.len() as u64);

@@ -1,4 +1,4 @@
--- Valid executions that go on from a part: what is true of the part is true of them, and when there is one.
+-- Completions of a part: what is true of the part is true of them, and when there is one.
 use Rattle.std.proofs.Common.{◌≡◌, ◌≢◌, ◌⊎◌, inl, inr, ℕ, zero, suc, ◌+◌, ◌<◌, Bool, true, false, Option, Some, None, List, [], ◌∷◌, ◌++◌, length, map, get_or, refl, sym, ap, subst, ◌∙◌, arith, append-nil}
 use Rattle.std.specs.Prelude.{All, slice_get, slice_index}
 use Rattle.std.specs.List.{flat_map}
@@ -29,7 +29,7 @@ use Rattle.lit_valid.specs.ValidExecution.{IsValidExecution, read_numbers}
 use Rattle.lit_valid.specs.Internal.GivenRuns.{AreGivenRuns, HasGivenRun, IsGivenRun}
 use Rattle.lit_valid.specs.Laws.{ChooseForEachRead, Laws}
 use Rattle.lit_valid.specs.PartOutcome.{part_outcome, observed_value}
-use Rattle.lit_valid.proofs.ObservedLemmas.{held_by_run, holds, run_where_true, true_of_run}
+use Rattle.lit_valid.proofs.ObservedLemmas.{observed_by_run, holds, run_where_true, true_of_run}
 use Rattle.lit_valid.proofs.RunLemmas.{given_apart, given_together, made, no_path, no_run}
 use Rattle.lit_valid.proofs.Takings.{gathered}
 
@@ -55,10 +55,10 @@ module _ (part : PartModel) (x : Execution) (is : Completes part x) where
       given_apart part.test part.combination x.runs is.on_paths x.sources choose is.valid.candidate.one_each is.valid.candidate.each
       (subst (λ (es : List Event). flat_map (λ run. run.values) x.runs ≡ map (value_of es x.sources) (read_numbers es)) its_events is.valid.chosen_reads)
 
-  -- its memory-orders keep what the part has
-  pub order_kept : GrowWithBytes → (order : List ℕ) → IsMemoryOrder (execution_events part.test x) x.sources order
+  -- its memory-orders respect what the part has
+  pub order_respected : GrowWithBytes → (order : List ℕ) → IsMemoryOrder (execution_events part.test x) x.sources order
       → IsMemoryOrder (part_events part) part.sources order
-  order_kept grow order o =
+  order_respected grow order o =
       let grows = grow.lists (part_events part) part.sources is.rest in
       let here : IsMemoryOrder (part_events part) (part.sources ++ is.rest) order = carried (λ es ws. IsMemoryOrder es ws order) o in
       record {
@@ -79,7 +79,7 @@ module _ (part : PartModel) (x : Execution) (is : Completes part x) where
       let grows = grow.lists (part_events part) part.sources is.rest in
       torn.two_sources (grows.tear_free (carried HasTearFreeReads is.valid.tear_free_reads) torn.read torn.source torn.other torn.first torn.second)
 
-  -- each test is true of its sources
+  -- each guard is true of its sources
   its_guards : Laws → IsLitmus part.test → part.combination < length (combinations_of part.test)
       → (agent k : ℕ) (test : Tested) → agent < length part.test.agents
       → slice_get (path_in part.test part.combination agent).tests k ≡ Some test → holds part.test part.combination agent x.sources test ≡ true
@@ -116,7 +116,7 @@ module _ (part : PartModel) (x : Execution) (is : Completes part x) where
   not_broken laws grow stay entered (inl bad) = relations_whole grow bad
   not_broken laws grow stay entered (inr bad) = guards_true laws stay entered bad
 
-  -- its outcome is what the registers hold by its sources
+  -- its outcome has the values that registers observe by its sources
   pub its_outcome : Laws → IsOnCombination part → All (λ name. (name.0 < length part.test.agents) × (name.1 < REGISTERS)) (names_of part.test)
       → execution_outcome part.test x ≡ part_outcome (with_sources part x.sources)
   its_outcome laws entered named =
@@ -128,7 +128,7 @@ module _ (part : PartModel) (x : Execution) (is : Completes part x) where
       let there : name.0 < length x.runs = omega (arith, runs.one_each, known) in
       let run = get_or x.runs name.0 no_run in
       ap (λ (rs : List ℕ). slice_index rs name.1) (get_or-map (λ (q : Run). q.registers) x.runs name.0 no_run [] there)
-      ∙ held_by_run part.test part.combination name.0 x.sources (laws.walked part.test part.combination name.0 entered.litmus entered.known known)
+      ∙ observed_by_run part.test part.combination name.0 x.sources (laws.walked part.test part.combination name.0 entered.litmus entered.known known)
       (tells_of laws part.test part.combination name.0 entered.litmus entered.known known) run name.1
       (runs.each name.0 run (slice_get-get_or x.runs name.0 no_run there)))
     where

@@ -1,4 +1,4 @@
--- What is asked on a path, and what its registers hold, from the values that its reads take.
+-- Guards of a path, and the values that its registers observe, from the values that its reads take.
 use Rattle.std.proofs.Common.{◌≡◌, ◌≢◌, ℕ, zero, suc, ◌+◌, ◌<◌, ◌==◌, ◌&&◌, Bool, true, false, cond, Option, Some, None, List, [], ◌∷◌, length, map, get_or, zip, refl, sym, ap, subst, ◌∙◌, arith, eq-eqb}
 use Rattle.std.specs.Prelude.{IsTrue, slice_get, slice_index, slice_index_or}
 use Rattle.std.specs.List.{list_all, range_with_len}
@@ -87,7 +87,7 @@ index-range f low zero k v at = absurd (let e = at in cc)
 index-range f low (suc count) zero v at = ap f (let e : low + 0 ≡ low = omega arith in e) ∙ at
 index-range f low (suc count) (suc k) v at = ap f (let e : low + suc k ≡ (low + 1) + k = omega arith in e) ∙ index-range f (low + 1) count k v at
 
--- whether a test is true of a run that is given what its reads take
+-- whether a guard is true of a run that is given what its reads take
 abbrev pub holds : Litmus → ℕ → ℕ → List ℕ → Tested → Bool
 holds t c agent sources test = compares test.equal (observed_value (record { test = t; combination = c; sources = sources }) (number_on (first_event t c agent) test.on)) test.value
 
@@ -121,7 +121,7 @@ module _ (t : Litmus) (c agent : ℕ) (sources : List ℕ) (walk : IsWalkIn t c 
   chosen_of : (run : Run) → IsGivenRun t c sources agent run → chosen_on (path_on agent steps).events run.values ≡ chosen
   chosen_of run given = ap (λ (p : Path). chosen_on p.events run.values) (sym (path_walked t c agent steps walk)) ∙ ap (λ (vs : List ℕ). chosen_on (path_at t c agent).events vs) given.given
 
-  -- of such a run each test is true
+  -- of such a run each guard is true
   pub true_of_run : (run : Run) → IsGivenRun t c sources agent run → (k : ℕ) (test : Tested) → slice_get (guards_on steps) k ≡ Some test → holds t c agent sources test ≡ true
   true_of_run run given k test at =
       let all : list_all (is_true_of chosen) (guards_on steps) ≡ true = ap (λ (vs : List (ℕ × ℕ)). list_all (is_true_of vs) (guards_on steps)) (sym (chosen_of run given)) ∙ tells.true_of run given.is_run (on_walk run given) in
@@ -134,7 +134,7 @@ module _ (t : Litmus) (c agent : ℕ) (sources : List ℕ) (walk : IsWalkIn t c 
           let here : is_true_of chosen (get_or (guards_on steps) k test) ≡ false = ap (is_true_of chosen) (get_or_from_slice_get (guards_on steps) k test test at) ∙ is in
           absurd (let e : true ≡ false = sym all ∙ list_all_at (is_true_of chosen) (guards_on steps) k test inside here in cc)
 
-  -- where each test is true, there is such a run
+  -- if each guard is true, there is such a run
   pub run_where_true : ((k : ℕ) (test : Tested) → slice_get (guards_on steps) k ≡ Some test → holds t c agent sources test ≡ true) → HasGivenRun t c sources agent
   run_where_true each =
       let es = (path_on agent steps).events in
@@ -149,9 +149,9 @@ module _ (t : Litmus) (c agent : ℕ) (sources : List ℕ) (walk : IsWalkIn t c 
       every p [] each = refl
       every p (test ∷ ts) each = ap (λ (b : Bool). b && list_all p ts) (each 0 test refl) ∙ every p ts (λ k other at. each (suc k) other at)
 
-  -- what a register holds at the end of such a run
-  pub held_by_run : (run : Run) (reg : ℕ) → IsGivenRun t c sources agent run → slice_index run.registers reg ≡ observed_value (record { test = t; combination = c; sources = sources }) (observed_read t c (agent, reg))
-  held_by_run run reg given =
+  -- what a register has at the end of such a run
+  pub observed_by_run : (run : Run) (reg : ℕ) → IsGivenRun t c sources agent run → slice_index run.registers reg ≡ observed_value (record { test = t; combination = c; sources = sources }) (observed_read t c (agent, reg))
+  observed_by_run run reg given =
       let lasts : List (Option ℕ) = (path_in t c agent).last in
       ap (λ (rs : List ℕ). slice_index rs reg) (tells.held run given.is_run (on_walk run given) ∙ ap (λ (vs : List (ℕ × ℕ)). map (value_on vs) lasts) (chosen_of run given))
       ∙ index-map (value_on chosen) refl lasts reg

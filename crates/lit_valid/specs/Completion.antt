@@ -1,4 +1,4 @@
--- Valid executions that go on from a part of a choice (this project's own).
+-- Completions of a part: the valid executions whose sources begin with its sources (this project's own).
 use Rattle.std.specs.Prelude.{◌≡◌, ℕ, ◌<◌, List, ◌++◌, length, map}
 use Rattle.lit_read.specs.Syntax.{IsLitmus}
 use Rattle.lit_paths.specs.Choice.{combinations_of}
@@ -8,7 +8,7 @@ use Rattle.lit_paths.specs.Run.{run_path}
 use Rattle.lit_rel.specs.Part.{PartModel}
 use Rattle.lit_valid.specs.ValidExecution.{IsValidExecution}
 
--- a part of a combination of a test that a text can say
+-- the part is of a combination of a test that a text can say
 pub record IsOnCombination (part : PartModel) : Type 0 where
   pub litmus : IsLitmus part.test
   pub known : part.combination < length (combinations_of part.test)
@@ -20,6 +20,6 @@ pub record Completes (part : PartModel) (x : Execution) : Type 0 where
   pub rest : List ℕ
   pub begun : x.sources ≡ part.sources ++ rest
 
--- there is one
+-- the part has a completion
 abbrev pub HasCompletion : PartModel → Type 0
 HasCompletion part = (x : Execution) × Completes part x

@@ -1,4 +1,4 @@
-//! Laws of valid executions, and of those that go on from a part. The functions do nothing: their contracts are theorems.
+//! Laws of valid executions, and of the completions of a part. The functions do nothing: their contracts are theorems.
 
 ghost use Rattle.std.specs.Prelude.{◌≡◌, ◌↔◌, ℕ, List};
 ghost use Rattle.lit_read.specs.Syntax.{IsLitmus, Litmus};
@@ -42,24 +42,24 @@ pub fn choices_have_one_outcome()
     laws_below();
 }
 
-/// No valid execution goes on from a part that is broken.
+/// A broken part has no completion.
 pub fn broken_parts_have_no_completion()
     ensures { (part : PartModel) (x : Execution) → IsOnCombination part → IsBroken part → ¬ Completes part x }
 {
     laws_below();
 }
 
-/// Each memory-order of a valid execution that goes on from a part keeps the part's happens-before, and no event that
-/// the part forbids between a source and its read stands there.
-pub fn orders_of_completions_keep_parts()
+/// Each memory-order of a completion is one of its part: it respects the part's happens-before, and no event stands between a source and
+/// its read that the part forbids there.
+pub fn orders_of_completions_respect_parts()
     ensures { (part : PartModel) (x : Execution) (order : List ℕ) → Completes part x
         → IsMemoryOrder (execution_events part.test x) x.sources order → IsMemoryOrder (part_events part) part.sources order }
 {
     laws_below();
 }
 
-/// Of a part that is not broken, and in which each byte read has a source, there is a valid execution exactly where an
-/// order keeps its happens-before and avoids what it forbids.
+/// A part that is not broken, and in which each byte read has a source, has a completion exactly if some order respects its happens-before
+/// and avoids what it forbids.
 pub fn whole_parts_are_decided_by_orders()
     ensures { (part : PartModel) → IsOnCombination part → AreSources (part_events part) part.sources → ¬ IsBroken part
         → HasCompletion part ↔ ((order : List ℕ) × IsMemoryOrder (part_events part) part.sources order) }

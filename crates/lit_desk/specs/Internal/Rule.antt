@@ -1,4 +1,4 @@
--- What holds of the words of a desk and of the accounts of all its seats, between any two steps.
+-- The rule of a desk: an invariant of its words and of the accounts of all its seats, between any two steps.
 use Rattle.std.specs.Prelude.{◌≡◌, ◌≤◌, ℕ, zero, suc, ◌+◌, List, [], ◌∷◌, length, All, Contains, filter, sum_by, nat_le}
 use Rattle.std.specs.List.{flat_map}
 use Rattle.std.specs.List.Sorted.{IsPermutation}
@@ -28,7 +28,7 @@ abbrev pub all_seen_in : Class2 → List Account → List ℕ
 all_seen_in class views = flat_map (λ (v : Account). (numbers_in class v).seen) views
 
 -- of one class: its word is the least told, or says that none was; each number seen was told, and is no lower than the word
-pub record IsKept (word : ℕ) (told seen : List ℕ) : Type 0 where
+pub record IsLeastTold (word : ℕ) (told seen : List ℕ) : Type 0 where
   pub least : IsLeastOf told (number_in word)
   pub all_seen : All (λ n. Contains told n × (word ≤ n)) seen
 
@@ -39,8 +39,8 @@ pub record AreFair (terms : Terms) (next met unmet : ℕ) (views : List Account)
   pub late : All (λ v. length (late_of terms.pieces v) ≤ v.places) views
   pub places : sum_by (λ v. v.places) views ≡ terms.seats
   pub reached : next ≤ terms.pieces + sum_by (λ v. length (late_of terms.pieces v)) views
-  pub met_kept : IsKept met (all_told_in Met views) (all_seen_in Met views)
-  pub unmet_kept : IsKept unmet (all_told_in Unmet views) (all_seen_in Unmet views)
+  pub met_least : IsLeastTold met (all_told_in Met views) (all_seen_in Met views)
+  pub unmet_least : IsLeastTold unmet (all_told_in Unmet views) (all_seen_in Unmet views)
   pub spent : All (λ v. v.places ≡ 0 → v ≡ new_account 0) views
 
 abbrev pub IsFair : Terms → List ℕ → List Account → Type 0

@@ -1,4 +1,4 @@
--- What each step of a desk tells the seat that takes it.
+-- The steps of a desk: how each changes the account of the seat that takes it, and what that seat learns.
 use Rattle.std.specs.Prelude.{◌≡◌, ◌<◌, ◌≤◌, ℕ, [], All, MatchOption}
 use Rattle.lit_desk.specs.declared.account.Account.{Account}
 use Rattle.lit_desk.specs.declared.class.Class2.{Class2}

@@ -23,12 +23,12 @@ pub record IsOfBox (t : Litmus) (boxes : BoxesModel) (from to i n : ℕ) : Type 
   pub has : HasSources t n sources
   pub lies : LiesInBox boxes i sources
 
--- they lie in one of the first so many boxes
+-- its sources lie in one of the first `count` boxes
 pub record IsOfFirst (t : Litmus) (boxes : BoxesModel) (from to count n : ℕ) : Type 0 where
   pub place : ℕ
   pub before : place < count
   pub is : IsOfBox t boxes from to place n
 
--- no such choice has an outcome in the class
+-- no choice of the first `count` boxes has an outcome in the class
 abbrev pub HasNoneBefore : Litmus → BoxesModel → Class → (from to count : ℕ) → Type 0
 HasNoneBefore t boxes class from to count = (n : ℕ) → IsOfFirst t boxes from to count n → ¬ GivesClass t class n

@@ -1,11 +1,12 @@
--- What a search gains by the choices that it looks at.
+-- What a search adds to a table by the choices that it searches.
 use Rattle.std.specs.Prelude.{◌≡◌, ◌↔◌, ◌⊎◌, ℕ, ◌<◌, Bool, IsTrue, List, ◌++◌}
 use Rattle.lit_read.specs.Syntax.{Litmus}
 use Rattle.lit_valid.specs.Entry.{HasOutcome}
 use Rattle.lit_valid.specs.Gives.{Gives, GivesRace, HasLeastOrder}
 use Rattle.lit_search.specs.Report.{Entry, HasEntry}
 
--- The entry is of a choice with such a number. Of these choices no lesser one gives its outcome, and its order is the least.
+-- The entry is of a choice with one of the numbers. Of the choices with these numbers no lesser one gives its outcome, and its order is
+-- the least.
 pub record IsLeastOf (t : Litmus) (Numbers : ℕ → Type 0) (entry : Entry) : Type 0 where
   pub among : Numbers entry.choice
   pub gives : Gives t entry.choice entry.outcome

@@ -1,4 +1,4 @@
--- Lists packed into numbers that rise as they do, as far as their first values tell.
+-- Order-preserving packing of lists into numbers, as far as their first values decide.
 use Rattle.std.specs.Prelude.{◌≡◌, ℕ, zero, suc, ◌+◌, ◌*◌, ◌^◌, nat_lt, if◌then◌else◌, List, [], ◌∷◌}
 
 -- the first values, so many at the most, as digits below the top; the first that is no less is the top, and the digits

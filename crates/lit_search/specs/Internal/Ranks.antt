@@ -1,4 +1,4 @@
--- Ranks of entries, which compare as the outcomes do.
+-- Ranks of entries: they compare as the outcomes do.
 use Rattle.std.specs.Prelude.{◌≡◌, ℕ, ◌<◌, Bool, nat_eq, List, ◌∷◌, length}
 use Rattle.std.specs.Cmp.Lexicographic.{pointwise, slice_cmp}
 use Rattle.std.specs.List.{All}
@@ -12,7 +12,7 @@ use Rattle.lit_search.specs.Ranked.{joined_entries, ranked_entry}
 use Rattle.lit_search.specs.Report.{Entry, outcome_cmp}
 use Rattle.lit_search.specs.Internal.Packed.{IsPacked}
 
--- whether two entries have one outcome
+-- whether two entries have the same outcome
 abbrev pub are_same : Entry → Entry → Bool
 are_same a b = pointwise nat_eq a.outcome b.outcome
 

@@ -1,4 +1,4 @@
--- How far an agent has come, as the program keeps it.
+-- How far an agent has come, as the program's type `Runner` records it.
 use Rattle.std.specs.Prelude.{◌≡◌, ℕ, Bool, true, false, if◌then◌else◌, Option, Some, None, List, [], ◌∷◌, slice_index}
 use Rattle.std.specs.Borrow.{Bor}
 use Rattle.std.specs.Coded.{Coded, code_by, coded×, coded_ℕ, coded_list}
@@ -11,7 +11,7 @@ use Rattle.lit_paths.specs.Run.{compares}
 use Rattle.lit_search.specs.Interleaving.{Progress, from_access, joined_statements}
 use Rattle.lit_search.specs.declared.interleaving.runner.Runner.TheInside.{Inside}
 
--- the statements left of lists one in the other, the innermost last, and then others
+-- the remaining statements of nested lists, the innermost last, and then others
 abbrev pub joined_all : List (Bor (List Stmt)) → Statements → Statements
 joined_all [] others = others
 joined_all (list ∷ lists) others = joined_all lists (joined_statements (statements_of list.now) others)
@@ -43,13 +43,13 @@ pub record ChoosesPart (registers : List ℕ) (s : Statement) (part : Statements
   pub is : s ≡ If reg equal value body other
   pub chosen : part ≡ (if compares equal (slice_index registers reg) value then body else other)
 
--- the next access of statements, and what is left behind it, of which nothing new is said
+-- the next access of statements, and the statements behind it, which are well-formed if the ones before are
 pub record IsNextAccess (registers : List ℕ) (before : Statements) (s : Statement) (left : Statements) : Type 0 where
   pub access : is_access s ≡ true
   pub next : from_access registers before ≡ Then s left
   pub said : (bytes : ℕ) → AreStatementsIn bytes before → IsStatementIn bytes s × AreStatementsIn bytes left
 
--- that, or there is none
-abbrev pub IsNext : List ℕ → Statements → Option (Bor Stmt) → Statements → Type 0
-IsNext registers before None left = (from_access registers before ≡ End) × (left ≡ End)
-IsNext registers before (Some access) left = IsNextAccess registers before (statement_of access.now) left
+-- the next access, or there is none
+abbrev pub IsNextAccessOrNone : List ℕ → Statements → Option (Bor Stmt) → Statements → Type 0
+IsNextAccessOrNone registers before None left = (from_access registers before ≡ End) × (left ≡ End)
+IsNextAccessOrNone registers before (Some access) left = IsNextAccess registers before (statement_of access.now) left

@@ -1,4 +1,4 @@
-//! Outcomes with their examples, in the order in which they were recorded: the table of a search.
+//! The table that a search records into: outcomes with their examples, in the order of recording.
 
 ghost use Rattle.std.specs.Prelude.{◌≡◌, [], length, slice_get, take};
 ghost use Rattle.std.specs.List.{IsDistinct};
@@ -60,7 +60,7 @@ impl Examples {
         Some((&**outcome, example))
     }
 
-    /// Leaves the first so many, and drops the others.
+    /// Retains the first `len` outcomes, and drops the others.
     pub(crate) fn truncate(&mut self, len: usize)
         ensures { self.new ≡ take len self.old }
     {

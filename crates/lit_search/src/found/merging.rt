@@ -1,4 +1,4 @@
-//! Merging what is found in two sets of choices.
+//! The merge of the reports of two sets of choices.
 
 ghost use Rattle.std.specs.Prelude.{◌≡◌, ℕ, ◌+◌, ◌<◌, ◌++◌, ◌||◌, Bool, [], length, map, IfOk, IfNone, IfSome, OnSome};
 ghost use Rattle.std.specs.Option.{option_to_list, option_map};
@@ -17,7 +17,7 @@ use std::alloc::{AllocError, Global};
 use std::cmp::Ordering;
 use std::collections::VecDeque;
 
-/// Of two ranks of one outcome the one with the lesser example: by choice, and then by order as a list.
+/// Of two ranks of the same outcome the one with the lesser example: by choice, and then by order as a list.
 fn lesser(parts: &[Examples], a: Rank, b: Rank) -> Rank
     requires first { IsRank (joined_entries parts.now) a }
     requires second { IsRank (joined_entries parts.now) b }
@@ -38,7 +38,8 @@ fn lesser(parts: &[Examples], a: Rank, b: Rank) -> Rank
 fn compared(parts: &[Examples], a: &VecDeque<Rank>, b: &VecDeque<Rank>) -> Ordering
     requires first { AreRanks (joined_entries parts.now) a.now.items }
     requires second { AreRanks (joined_entries parts.now) b.now.items }
-    ensures { result ≡ heads_cmp (map (ranked_entry (joined_entries parts.now)) a.now.items) (map (ranked_entry (joined_entries parts.now)) b.now.items) }
+    ensures { result ≡ heads_cmp (map (ranked_entry (joined_entries parts.now)) a.now.items)
+        (map (ranked_entry (joined_entries parts.now)) b.now.items) }
 {
     match (a.front(), b.front()) {
         (Some(first), Some(second)) => cmp_ranks(parts, first, second),
@@ -47,11 +48,12 @@ fn compared(parts: &[Examples], a: &VecDeque<Rank>, b: &VecDeque<Rank>) -> Order
     }
 }
 
-/// Takes the rank of the least outcome from the fronts of two rising lists: where both have it, the lesser one.
+/// Takes the rank of the least outcome from the fronts of two rising lists. If both fronts have this outcome, it answers the lesser.
 fn take_least(parts: &[Examples], a: &mut VecDeque<Rank>, b: &mut VecDeque<Rank>) -> Option<Rank>
     requires first { AreRanks (joined_entries parts.now) a.old.items }
     requires second { AreRanks (joined_entries parts.now) b.old.items }
-    ensures taken { merged (map (ranked_entry (joined_entries parts.now)) a.old.items) (map (ranked_entry (joined_entries parts.now)) b.old.items)
+    ensures taken { merged (map (ranked_entry (joined_entries parts.now)) a.old.items)
+        (map (ranked_entry (joined_entries parts.now)) b.old.items)
         ≡ option_to_list (option_map (ranked_entry (joined_entries parts.now)) result)
         ++ merged (map (ranked_entry (joined_entries parts.now)) a.new.items) (map (ranked_entry (joined_entries parts.now)) b.new.items) }
     ensures rank { IfSome result (IsRank (joined_entries parts.now)) }
@@ -59,7 +61,8 @@ fn take_least(parts: &[Examples], a: &mut VecDeque<Rank>, b: &mut VecDeque<Rank>
     ensures second { AreRanks (joined_entries parts.now) b.new.items }
     ensures fewer { OnSome result (length a.new.items + length b.new.items < length a.old.items + length b.old.items) }
     ensures end { IfNone result
-        (merged (map (ranked_entry (joined_entries parts.now)) a.new.items) (map (ranked_entry (joined_entries parts.now)) b.new.items) ≡ []) }
+        (merged (map (ranked_entry (joined_entries parts.now)) a.new.items)
+        (map (ranked_entry (joined_entries parts.now)) b.new.items) ≡ []) }
 {
     match compared(parts, a, b) {
         Ordering::Less => a.pop_front(),
@@ -68,7 +71,7 @@ fn take_least(parts: &[Examples], a: &mut VecDeque<Rank>, b: &mut VecDeque<Rank>
     }
 }
 
-/// The ranks of two rising lists, merged to one: of two of one outcome the lesser one.
+/// Two rising lists of ranks, merged: of two ranks of the same outcome the lesser one.
 fn merged_ranks(
     alloc: Global,
     parts: &[Examples],
@@ -90,7 +93,7 @@ fn merged_ranks(
     Ok(ranks)
 }
 
-/// Whether one of two is marked with a data race.
+/// Whether one of two reports is marked with a data race.
 fn is_one_marked(a: &Found, b: &Found) -> bool
     ensures { result ≡ (a.now.race || b.now.race) }
 {
@@ -121,6 +124,7 @@ fn with_both(alloc: Global, a: Found, b: Found) -> Result<Found, AllocError>
         count: other_count,
         race: _,
     } = b;
+    // Places are numbered over both: where the sum is no `usize`, memory would have run out before (decision 44).
     let Some(total) = count.checked_add(other_count) else {
         return Err(AllocError);
     };

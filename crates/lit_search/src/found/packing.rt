@@ -1,4 +1,4 @@
-//! Outcomes packed into numbers that rise as they do, so that few of them are compared value by value.
+//! Order-preserving packing of outcomes into numbers, so that few outcomes are compared value by value.
 
 ghost use Rattle.std.specs.Prelude.{◌≡◌, ◌+◌, ◌^◌, ◌≤◌};
 ghost use Rattle.lit_search.specs.Internal.Packed.{packed as packed_of};
@@ -22,6 +22,7 @@ pub(crate) fn packed(values: &[u32], top: u128, count: usize) -> u128
     let mut number: u128 = 0;
     let mut weight: u128 = 1;
     let mut place = count;
+    // From the last digit on: a value that is no less than `top` then clears the digits behind it.
     while place > 0 {
         place -= 1;
         number = match values.get(place) {

@@ -1,4 +1,4 @@
-//! Outcomes ranked, wherever they stand.
+//! Ranks: sorting outcomes without moving them (decision 43).
 
 ghost use Rattle.std.specs.Prelude.{◌≡◌, ◌+◌, ◌<◌, ◌^◌, ◌∷◌, IfOk, map, slice_get};
 ghost use Rattle.std.specs.Cmp.Lexicographic.{slice_cmp};
@@ -17,7 +17,7 @@ use crate::found::packing::{LARGE_COUNT, LARGE_TOP, SMALL_COUNT, SMALL_TOP, pack
 use std::alloc::{AllocError, Global};
 use std::cmp::Ordering;
 
-/// An outcome, by its place in parts that stand one behind the other. It has the outcome packed, by which most are compared.
+/// A rank: the place of an outcome in the concatenated parts, and the outcome packed, by which most comparisons are decided.
 #[derive(Clone, Copy, Debug)]
 pub(crate) struct Rank {
     pub large: u128,
@@ -26,7 +26,7 @@ pub(crate) struct Rank {
 }
 
 impl Rank {
-    /// That of an outcome at a place.
+    /// The rank of an outcome at a place.
     fn new(outcome: &[u32], place: usize) -> Self
         ensures packed { IsPacked result.small result.large outcome.now }
         ensures place { result.place ≡ place }
@@ -38,7 +38,7 @@ impl Rank {
         }
     }
 
-    /// The same, where so many outcomes stand before the parts.
+    /// The same rank once `count` outcomes are put before the parts.
     fn behind(self, count: usize) -> Self
         requires { self.place + count < 2 ^ 64 }
         ensures { result ≡ record { large = self.large; small = self.small; place = self.place + count } }
@@ -67,7 +67,7 @@ pub(crate) fn find(parts: &[Examples], place: usize) -> Option<(&[u32], &Example
     None
 }
 
-/// The outcome of a rank, or no value where there is none at its place.
+/// The outcome of a rank, or no values if there is no outcome at its place.
 fn outcome_of<'a>(parts: &'a [Examples], rank: &Rank) -> &'a [u32]
     ensures { result.now ≡ (ranked_entry (joined_entries parts.now) rank.now).outcome }
 {
@@ -77,15 +77,16 @@ fn outcome_of<'a>(parts: &'a [Examples], rank: &Rank) -> &'a [u32]
     }
 }
 
-/// How the outcomes of ranks compare, value by value.
+/// How the outcomes of ranks compare, value by value. Called only if the packed numbers are equal, and so not inlined.
 #[inline(never)]
 fn cmp_outcomes(parts: &[Examples], a: &Rank, b: &Rank) -> Ordering
-    ensures { result ≡ slice_cmp nat_cmp (ranked_entry (joined_entries parts.now) a.now).outcome (ranked_entry (joined_entries parts.now) b.now).outcome }
+    ensures { result ≡ slice_cmp nat_cmp (ranked_entry (joined_entries parts.now) a.now).outcome
+        (ranked_entry (joined_entries parts.now) b.now).outcome }
 {
     outcome_of(parts, a).cmp(outcome_of(parts, b))
 }
 
-/// How they compare by their large values packed, and then value by value.
+/// How ranks compare by their large values packed, and then value by value.
 #[inline(always)]
 fn cmp_large(parts: &[Examples], a: &Rank, b: &Rank) -> Ordering
     ensures { result ≡ slice_cmp nat_cmp (a.now.large ∷ (ranked_entry (joined_entries parts.now) a.now).outcome)
@@ -122,7 +123,7 @@ fn ranks_of(alloc: Global, parts: &[Examples], count: usize) -> Result<Vec<Rank>
     Ok(ranks)
 }
 
-/// The ranks of all outcomes of parts, no two of which are the same, rising by outcome. `count` is for how many there is room at once.
+/// The ranks of all outcomes of parts, no two of which are the same, rising by outcome. `count` is the capacity to begin with.
 pub(crate) fn ranked(
     alloc: Global,
     parts: &[Examples],
@@ -141,7 +142,7 @@ pub(crate) fn ranked(
     Ok(ranks)
 }
 
-/// Ranks, where so many outcomes stand before their parts.
+/// Ranks, once `count` outcomes are put before their parts.
 pub(crate) fn all_behind(
     alloc: Global,
     ranks: Vec<Rank>,

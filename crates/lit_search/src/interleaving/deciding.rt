@@ -1,16 +1,16 @@
-//! The next access of an agent, after the `if`s that its registers decide.
+//! The next access of an agent, behind the `if`s that its registers decide.
 
 ghost use Rattle.std.specs.Prelude.{◌≡◌, ℕ, ◌<◌, true, IfOk, MatchOption, length, slice_index};
 ghost use Rattle.lit_paths.specs.Run.{compares};
 ghost use Rattle.lit_read.specs.declared.limits.TheConstants.{REGISTERS};
 ghost use Rattle.lit_read.specs.Litmus.{statement_of, statements_of};
 ghost use Rattle.lit_read.specs.Syntax.{AreStatementsIn, IsStatementIn, End};
-ghost use Rattle.lit_search.specs.Internal.Runners.{ChoosesPart, IsNext, is_access, joined_all};
+ghost use Rattle.lit_search.specs.Internal.Runners.{ChoosesPart, IsNextAccessOrNone, is_access, joined_all};
 
 use lit_read::Stmt;
 use std::alloc::AllocError;
 
-/// How a comparison of a register with a value comes out.
+/// Whether a comparison of a register with a value is true.
 fn comes_out(registers: &[u32], reg: u8, equal: bool, value: u32) -> bool
     requires { reg < length registers.now }
     ensures { result ≡ compares equal (slice_index registers.now reg) value }
@@ -54,7 +54,7 @@ pub(crate) fn next_access<'t>(
 ) -> Result<Option<&'t Stmt>, AllocError>
     requires said { (bytes : ℕ) × AreStatementsIn bytes (joined_all left.old.items End) }
     requires all { length registers.now ≡ REGISTERS }
-    ensures { IfOk result (λ next. IsNext registers.now (joined_all left.old.items End) next (joined_all left.new.items End)) }
+    ensures { IfOk result (λ next. IsNextAccessOrNone registers.now (joined_all left.old.items End) next (joined_all left.new.items End)) }
 {
     'deciding: while let Some(list) = left.pop() {
         if let Some((first, others)) = list.split_first() {

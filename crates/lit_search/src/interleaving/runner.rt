@@ -1,4 +1,4 @@
-//! An agent that carries out its statements, in turns.
+//! The state of one agent in an interleaving, which carries out its statements in turns.
 
 ghost use Rattle.std.specs.Prelude.{◌≡◌};
 
@@ -11,7 +11,7 @@ use std::marker::Model;
 /// How far an agent has come. A clause sees it as a `Progress`.
 #[derive(Drop)]
 pub(crate) struct Runner<'t> {
-    /// What is left of the lists of statements that it is in, the innermost last.
+    /// The remaining statements of each nested list that the agent is in, the innermost last.
     left: Vec<&'t [Stmt]>,
     registers: [u32; REGISTERS],
 }
@@ -29,15 +29,15 @@ impl<'t> Model for Runner<'t> {
 
 impl<'t> Runner<'t> {
     ghost use Rattle.std.specs.Prelude.{◌≡◌, ℕ, ◌<◌, IfOk, true, replicate, length, slice_index};
-    ghost use Rattle.lit_read.specs.declared.limits.TheConstants.{REGISTERS as HELD};
+    ghost use Rattle.lit_read.specs.declared.limits.TheConstants.{REGISTERS as REGISTER_COUNT};
     ghost use Rattle.lit_read.specs.Litmus.{statement_of, statements_of};
     ghost use Rattle.lit_read.specs.Syntax.{AreStatementsIn, IsStatementIn, End};
     ghost use Rattle.lit_search.specs.Interleaving.{accessed, after, after_statement, from_access};
-    ghost use Rattle.lit_search.specs.Internal.Runners.{IsNext, is_access};
+    ghost use Rattle.lit_search.specs.Internal.Runners.{IsNextAccessOrNone, is_access};
 
     /// An agent before its first statement.
     pub(crate) fn new(alloc: Global, body: &'t [Stmt]) -> Result<Self, AllocError>
-        ensures { IfOk result (λ runner. runner ≡ record { left = statements_of body.now; registers = replicate HELD 0 }) }
+        ensures { IfOk result (λ runner. runner ≡ record { left = statements_of body.now; registers = replicate REGISTER_COUNT 0 }) }
     {
         let mut left = Vec::new(alloc);
         left.push(body)?;
@@ -47,9 +47,9 @@ impl<'t> Runner<'t> {
         })
     }
 
-    /// What a register holds.
+    /// The value of a register.
     pub(crate) fn register(&self, reg: u8) -> u32
-        requires { reg < HELD }
+        requires { reg < REGISTER_COUNT }
         ensures { result ≡ slice_index self.now.registers reg }
     {
         self.registers[usize::from(reg)]
@@ -59,7 +59,7 @@ impl<'t> Runner<'t> {
     fn next(&mut self) -> Result<Option<&'t Stmt>, AllocError>
         requires { (bytes : ℕ) × AreStatementsIn bytes self.old.left }
         ensures registers { self.new.registers ≡ self.old.registers }
-        ensures next { IfOk result (λ next. IsNext self.old.registers self.old.left next self.new.left) }
+        ensures next { IfOk result (λ next. IsNextAccessOrNone self.old.registers self.old.left next self.new.left) }
     {
         next_access(&mut self.left, &self.registers)
     }
@@ -121,13 +121,14 @@ impl<'t> Runner<'t> {
         ensures done { IfOk result (λ _. record { block = block.new; registers = self.new.registers }
             ≡ (accessed (from_access self.old.registers self.old.left) (record { block = block.old; registers = self.old.registers })).1) }
     {
+        // Where no access is left, `next` still takes the remaining `if`s (decision 47).
         if let Some(access) = self.next()? {
             self.carry_out(access, block);
         }
         Ok(())
     }
 
-    /// All that is left, on the block.
+    /// Carries out all remaining statements, on the block.
     pub(crate) fn finish(&mut self, block: &mut [u8]) -> Result<(), AllocError>
         requires { AreStatementsIn (length block.old) self.old.left }
         ensures left { IfOk result (λ _. self.new.left ≡ End) }

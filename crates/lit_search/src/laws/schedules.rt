@@ -1,4 +1,4 @@
-//! Outcomes of schedules. The functions do nothing: their contracts are theorems.
+//! Laws of schedules and their outcomes. The functions do nothing: their contracts are theorems.
 
 ghost use Rattle.std.specs.Prelude.{◌<◌, ◌≤◌, All, ℕ, List, length};
 ghost use Rattle.lit_read.specs.Syntax.{IsLitmus, Litmus};

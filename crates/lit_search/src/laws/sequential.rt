@@ -1,4 +1,4 @@
-//! Executions in one order. The function does nothing: its contract is a theorem.
+//! A law of sequential executions. The function does nothing: its contract is a theorem.
 
 ghost use Rattle.std.specs.Prelude.{ℕ, List};
 ghost use Rattle.lit_read.specs.Syntax.{Litmus};

@@ -1,4 +1,4 @@
-//! What schedules come to.
+//! The outcomes of schedules.
 
 use lit_paths::plan;
 use lit_read::{Test, read};

@@ -46,8 +46,8 @@ fn assert_marks(
     Ok(())
 }
 
-/// A store of 0 and a plain load: only where the load reads from the store is there a data race. The event that makes the
-/// byte can stand for the store, in a range that has its choice and in one that begins behind it.
+/// A store of 0 and a plain load: there is a data race only if the load reads from the store. The init event stores the same byte as the
+/// store, in a range that has its choice and in one that begins behind it.
 #[test]
 fn masked_store(rt: HostRuntime) -> Result<(), Fail> {
     assert_marks(&rt, rt.alloc(), MASKED_STORE, 2, &[1])
@@ -61,7 +61,7 @@ fn racing_stores(rt: HostRuntime) -> Result<(), Fail> {
 }
 
 /// Where both agents read 0 nothing is stored. Where both read 1 each plain load reads from a plain store. In all other
-/// choices some path asks for what is not read.
+/// choices some guard is false.
 #[test]
 fn race_on_one_combination(rt: HostRuntime) -> Result<(), Fail> {
     assert_marks(&rt, rt.alloc(), LOAD_BUFFERING, 9, &[3])

@@ -14,7 +14,7 @@ use std::thread::Threads;
 /// Turns that a worker waits at the most.
 const TURNS: u64 = 10_000_000;
 
-/// Holds one piece until others were entered.
+/// A gate that delays the worker of one piece until others were entered.
 #[derive(Drop)]
 struct Holding {
     held: u64,
@@ -40,8 +40,7 @@ impl Holding {
         }
     }
 
-    /// Whether these pieces were entered, each once, each worker came with its own pass, and the piece held did not
-    /// have to be let go.
+    /// Whether these pieces were entered, each once, each worker came with its own pass, and the delay did not run out of turns.
     fn let_all_in(&self, pieces: u64) -> bool {
         self.entered.load(Ordering::SeqCst) == pieces
             && self.calls.load(Ordering::SeqCst) == u64::from(pieces.count_ones())
@@ -88,7 +87,7 @@ fn searches_halves(
 }
 
 /// The same of a quick search that meets no condition.
-fn asks_halves(
+fn quick_on_halves(
     rt: &(impl Abort + AllocGlobal + Threads + Sync),
     plan: &Plan<'_>,
     gate: &Holding,
@@ -105,7 +104,7 @@ fn gate_holds_first_piece(rt: HostRuntime) -> Result<(), Fail> {
     let test = read(rt.alloc(), STORE_BUFFERING.as_bytes())?;
     let plan = plan(rt.alloc(), &test)?;
     searches_halves(&rt, &plan, &Holding::new(0, 0b10))?;
-    asks_halves(&rt, &plan, &Holding::new(0, 0b10))
+    quick_on_halves(&rt, &plan, &Holding::new(0, 0b10))
 }
 
 /// Each of four pieces, and the other three as a set of bits.
@@ -127,7 +126,7 @@ fn searches_pieces(
 }
 
 /// The same of a quick search that finds an outcome that does not meet the condition, and none that does.
-fn asks_pieces(
+fn quick_on_pieces(
     rt: &(impl Abort + AllocGlobal + Threads + Sync),
     plan: &Plan<'_>,
     held: u64,
@@ -157,13 +156,13 @@ fn gate_drains_desk_of_quick(rt: HostRuntime) -> Result<(), Fail> {
     let test = read(rt.alloc(), STORE_BUFFERING.as_bytes())?;
     let plan = plan(rt.alloc(), &test)?;
     for (held, awaited) in &HELD {
-        asks_pieces(&rt, &plan, *held, *awaited)?;
+        quick_on_pieces(&rt, &plan, *held, *awaited)?;
     }
     Ok(())
 }
 
 /// The answer of a quick search by three workers, a choice a piece.
-fn asked_by_three(
+fn quick_by_three(
     rt: &(impl AllocGlobal + Threads + Sync),
     plan: &Plan<'_>,
     gate: &Holding,
@@ -177,7 +176,7 @@ fn gate_holds_one_of_three(rt: HostRuntime) -> Result<(), Fail> {
     let test = read(rt.alloc(), LOAD_BUFFERING.as_bytes())?;
     let plan = plan(rt.alloc(), &test)?;
     let gate = Holding::new(0, 0b10);
-    let quick = asked_by_three(&rt, &plan, &gate)?;
+    let quick = quick_by_three(&rt, &plan, &gate)?;
     let (Some(met), Some(unmet)) = (quick.met, quick.unmet) else {
         panic!(rt; "each class has an outcome")
     };

@@ -18,7 +18,7 @@ IsReady desk (Ready worker place pass) = place ≡ new_place desk
 IsReady desk (Ended place answer) = ⊥
 IsReady desk Away = ⊥
 
--- its place drew until none was left, unless it was refused, and its answer is the report of the pieces drawn
+-- its place drew until no piece was left, unless memory was refused, and its answer is the report of the pieces drawn
 pub record IsSearched (t : Litmus) (cut : ℕ) (desk : DeskName) (place : PlaceLists) (answer : Result Report ShareFault) : Type 0 where
   pub own : IsPlaceOf desk place
   pub done : OnOk answer (IsDone place)
@@ -29,7 +29,7 @@ HasSearched t cut desk (Ready worker place pass) = ⊥
 HasSearched t cut desk (Ended place answer) = IsSearched t cut desk place answer
 HasSearched t cut desk Away = ⊥
 
--- its place drew until none was left, told choices of each class alone, and of each piece what it had to
+-- its place drew until no piece was left, told in each class choices of that class alone, and hunted each piece in each class
 pub record IsHuntedOut (t : Litmus) (cut : ℕ) (desk : DeskName) (place : PlaceLists) : Type 0 where
   pub own : IsPlaceOf desk place
   pub done : IsDone place

@@ -1,4 +1,4 @@
--- What the ends of a range of choices are, and how many boxes lie before and after the middle one.
+-- The cut of a range of choices into boxes: the range's ends, and how many boxes lie before and after the middle one.
 use Rattle.std.specs.Prelude.{◌≡◌, ◌≢◌, ℕ, ◌+◌, ◌-◌, ◌<◌, ◌≤◌, IfNone, IfSome, List, MatchOption}
 use Rattle.std.specs.Prelude.{Option, Some, length, option_map, slice_index}
 use Rattle.lit_read.specs.Syntax.{Litmus}
@@ -26,13 +26,13 @@ IsLowEnd t c from low = MatchOption low (from ≤ choices_before t c) (λ source
 abbrev pub IsHighEnd : Litmus → (c to : ℕ) → Option (List ℕ) → Type 0
 IsHighEnd t c to high = MatchOption high (choices_before t (c + 1) ≤ to) (λ sources. IsEnd t c (to - 1) sources)
 
--- as many first sources as this are the same in both, and the next ones, if there are any, are not
+-- the longest common prefix of both lists has this length
 pub record IsSame (a b : List ℕ) (count : ℕ) : Type 0 where
   pub within : count ≤ length a
   pub same : (k : ℕ) → k < count → slice_index a k ≡ slice_index b k
   pub apart : count < length a → slice_index a count ≢ slice_index b count
 
--- how many first sources the two ends share: none where one of them is not there
+-- the length of the longest common prefix of both ends; 0 if one of them is not there
 pub record AreShared (low high : Option (List ℕ)) (count : ℕ) : Type 0 where
   pub no_low : IfNone low (count ≡ 0)
   pub no_high : IfNone high (count ≡ 0)
@@ -43,14 +43,14 @@ pub record IsGreaterAt (a : List ℕ) (place : ℕ) (b : List ℕ) : Type 0 wher
   pub same : (k : ℕ) → k < place → slice_index b k ≡ slice_index a k
   pub greater : place < length a → slice_index a place < slice_index b place
 
--- an end of lists of so many sources, of which the first `shared` ones are those of the other end too; where there is one, there
--- are as many boxes on its side of the middle one as there are places behind these
+-- One end of a range of lists of `len` sources, of which the first `shared` are also those of the other end. If there is an end, its
+-- side of the middle box has as many boxes as there are places behind the shared ones.
 pub record IsSide (len : ℕ) (end : Option (List ℕ)) (shared boxes : ℕ) : Type 0 where
   pub long : IfSome end (λ sources. length sources ≡ len)
   pub fits : MatchOption end (shared ≡ 0) (λ _. shared ≤ len)
   pub count : MatchOption end (boxes ≡ 0) (λ _. shared + boxes ≡ len)
 
-pub record IsCut (len : ℕ) (low high : Option (List ℕ)) (shared lows highs : ℕ) : Type 0 where
+pub record IsRangeCut (len : ℕ) (low high : Option (List ℕ)) (shared lows highs : ℕ) : Type 0 where
   pub before : IsSide len low shared lows
   pub behind : IsSide len high shared highs
   pub parting : (a b : List ℕ) → low ≡ Some a → high ≡ Some b → IsGreaterAt a shared b

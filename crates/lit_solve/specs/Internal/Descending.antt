@@ -1,4 +1,4 @@
--- Going down by least sources: what was passed over.
+-- Greedy descent by least sources: which solutions it leaves behind.
 use Rattle.std.specs.Prelude.{◌≡◌, ◌⊎◌, ℕ, ◌<◌, List, Some, slice_get}
 use Rattle.std.specs.Cmp.Lexicographic.{slice_cmp}
 use Rattle.std.specs.Ordering.{nat_cmp}
@@ -10,25 +10,25 @@ use Rattle.lit_solve.specs.Completion.{IsCompletion, IsSolution}
 use Rattle.lit_solve.specs.Fill.{AreSourcesIn}
 use Rattle.lit_solve.specs.Given.{HasAlone}
 
--- each byte read before the n-th has one source left
+-- the domain of each byte read before the n-th has one source
 abbrev pub AreAloneBelow : Box → ℕ → Type 0
 AreAloneBelow box n = (k : ℕ) → k < n → (w : ℕ) × HasAlone box k w
 
--- the solution has a greater source for the k-th byte read than the one that is alone there
-pub record IsPassedAt (box : Box) (k : ℕ) (x : Execution) : Type 0 where
+-- the execution has a greater source for the k-th byte read than the only one in the domain there
+pub record IsNotLeastAt (box : Box) (k : ℕ) (x : Execution) : Type 0 where
   pub source : ℕ
   pub taken : ℕ
   pub alone : HasAlone box k source
   pub takes : slice_get x.sources k ≡ Some taken
   pub greater : source < taken
 
--- a box within another, that has each solution of that, but for those passed at the k-th byte read
+-- a box within another that retains each solution, except those with a greater source for the k-th byte read
 pub record IsLowestAt (old : Box) (goal : Goal) (k : ℕ) (new : Box) : Type 0 where
   pub within : IsWithin new old
-  pub passed : (x : Execution) → IsSolution old goal x → IsCompletion new x ⊎ IsPassedAt new k x
+  pub not_least : (x : Execution) → IsSolution old goal x → IsCompletion new x ⊎ IsNotLeastAt new k x
 
--- a box within another, that has each solution of that whose sources are not greater than all that lie in it
+-- a box within another that retains each solution, except those whose sources are greater than all that lie in it
 pub record IsLowest (old : Box) (goal : Goal) (new : Box) : Type 0 where
   pub within : IsWithin new old
-  pub passed : (x : Execution) → IsSolution old goal x → IsCompletion new x
+  pub not_least : (x : Execution) → IsSolution old goal x → IsCompletion new x
       ⊎ ((sources : List ℕ) → AreSourcesIn new sources → slice_cmp nat_cmp sources x.sources ≡ Less)

@@ -1,4 +1,4 @@
--- Filling a read byte by byte: what the sources of its first bytes leave to those of the others.
+-- Filling a read byte by byte: which sources its other bytes may have, beside those of its first bytes.
 use Rattle.std.specs.Prelude.{◌≡◌, ◌⊎◌, ◌↔◌, ℕ, ◌+◌, ◌*◌, ◌^◌, ◌<◌, ◌≤◌, ◌==◌, List}
 use Rattle.std.specs.Prelude.{Some, drop, filter, length, map, slice_get}
 use Rattle.std.specs.List.{zip}
@@ -33,20 +33,19 @@ pub record TakesWhole (events : List Event) (reads : List (ℕ × ℕ)) (sources
 abbrev pub bytes_taken : List Event → List (ℕ × ℕ) → List ℕ → ℕ → List ℕ
 bytes_taken events reads sources r = map (λ p. payload_at (event_at events p.1) p.0.1) (filter (λ p. p.0.0 == r) (zip reads sources))
 
--- These sources fill what is left of read r, beside so many bytes that compose a value, and events from which it reads
--- whole.
+-- These sources fill the other bytes of read r. Its first `bytes` bytes compose `value`, and it reads whole from the events `whole`.
 pub record FillsBytes (box : Box) (r : ℕ) (reads : List (ℕ × ℕ)) (whole : ℕ → Type 0) (value bytes : ℕ) (sources : List ℕ) : Type 0 where
   pub tear_free : (w v : ℕ) → TakesWhole (box_events box) reads sources r w
       → whole v ⊎ TakesWhole (box_events box) reads sources r v → v ≡ w
-  pub tests : ¬ HasFalseGuardOn box.test box.combination (Some r)
+  pub guards : ¬ HasFalseGuardOn box.test box.combination (Some r)
       (value + 256 ^ bytes * composed (bytes_taken (box_events box) reads sources r))
 
--- there are such sources of the byte reads from the k-th on
+-- some sources of the byte reads from the k-th on fill the other bytes of read r
 abbrev pub CanFillOn : Box → ℕ → ℕ → (ℕ → Type 0) → ℕ → ℕ → Type 0
 CanFillOn box r k whole value bytes =
     (sources : List ℕ) × LieFrom box k sources × FillsBytes box r (reads_on (box_events box) k) whole value bytes sources
 
--- w would not tear read r, which reads whole from these
+-- w would not tear read r, which reads whole from the events `whole`
 abbrev pub WouldNotTear : List Event → ℕ → (ℕ → Type 0) → ℕ → Type 0
 WouldNotTear events r whole w = CanReadWhole (event_at events r) (event_at events w) → (v : ℕ) → whole v → v ≡ w
 
@@ -61,7 +60,7 @@ CanFillWith box r k b whole value bytes w =
     × CanFillOn box r (k + 1) (WholeWith (box_events box) r whole w) (value + 256 ^ bytes * payload_at (event_at (box_events box) w) b)
     (bytes + 1)
 
--- From the k-th byte read on there are reads from r on alone, and what was taken for r leaves room for its bytes there.
+-- The byte reads from the k-th on are of read r and later reads, and r has at most four bytes with those that it took already.
 pub record HasRoom (events : List Event) (r k : ℕ) (taken : Taken) : Type 0 where
   pub place : k ≤ length (byte_reads events)
   pub later : (j q b : ℕ) → k ≤ j → slice_get (byte_reads events) j ≡ Some (q, b) → r ≤ q

@@ -1,4 +1,4 @@
--- Frames: boxes on the way down, with what follows from them.
+-- Frames: the states of a backtracking search, boxes with the relations that follow from them.
 use Rattle.std.specs.Prelude.{◌≡◌, ◌↔◌, ℕ, ◌<◌, ◌≤◌, List, [], Some, length, slice_get, slice_index_or}
 use Rattle.lit_read.specs.Syntax.{IsLitmus, Litmus}
 use Rattle.lit_paths.specs.declared.event.Event.{Event}
@@ -26,7 +26,7 @@ use Rattle.lit_solve.specs.Prunable.{IsRefusedOn}
 abbrev pub box_of : Litmus × ℕ → Frame → Box
 box_of c frame = box_with c frame.domains
 
--- No domain is empty, and the frame's relations are transitive, contained in those of its box, and have what no source decides.
+-- No domain is empty, and the frame's relations are transitive, contained in those of its box, and contain what holds for any sources.
 pub record IsContained (box : Box) (frame : Frame) : Type 0 where
   pub is_box : IsBox box
   pub some : ¬ HasEmptyDomain box
@@ -45,7 +45,7 @@ pub record IsExact (box : Box) (frame : Frame) : Type 0 where
   pub before : (a d : ℕ) → HappensBeforeIn box a d → Holds frame.happens_before.rows a d
   pub forced : (a d : ℕ) → IsForcedIn box a d → Holds frame.forced.rows a d
 
--- each source in a domain is coherent there, by the frame's happens-before
+-- each source in a domain is coherent for its byte read, by the frame's happens-before
 abbrev pub AreCoherentAt : Box → Frame → Type 0
 AreCoherentAt box frame =
     (k r b w : ℕ) → slice_get (byte_reads (box_events box)) k ≡ Some (r, b) → HasSource box k w
@@ -57,13 +57,13 @@ AreCandidates events domains =
     (k r b w : ℕ) → slice_get (byte_reads events) k ≡ Some (r, b)
     → HasEvent (slice_index_or domains k no_events) w ↔ IsCandidate events r b w
 
--- the candidates of each byte read that a test refuses
+-- the candidates of each byte read that a guard refuses
 abbrev pub AreRefused : Litmus × ℕ → List EventSet → Type 0
 AreRefused c domains =
     (k r b w : ℕ) → slice_get (byte_reads (events_on c)) k ≡ Some (r, b)
     → HasEvent (slice_index_or domains k no_events) w ↔ (IsCandidate (events_on c) r b w × IsRefusedOn c r b w)
 
--- what is kept of a combination
+-- what a `Problem` saves of its combination
 pub record IsProblem (c : Litmus × ℕ) (candidates refused : List EventSet) (peers : Rows) (names : List (ℕ × ℕ)) : Type 0 where
   pub litmus : IsLitmus c.0
   pub known : c.1 < length (combinations_of c.0)
@@ -74,13 +74,13 @@ pub record IsProblem (c : Litmus × ℕ) (candidates refused : List EventSet) (p
   pub named : names ≡ names_of c.0
   pub few_names : length names ≤ NAME_LIMIT
 
--- where the k-th byte read has one source left that synchronizes with its read, that is before the read
+-- if the k-th byte read has one source, and this synchronizes with the read, the source is before the read
 abbrev pub IsSynchronizedAt : Box → (ℕ → ℕ → Type 0) → ℕ → Type 0
 IsSynchronizedAt box before k =
     (r b w : ℕ) → slice_get (byte_reads (box_events box)) k ≡ Some (r, b) → HasAlone box k w
     → CanSynchronize (event_at (box_events box) w) (event_at (box_events box) r) → before w r
 
--- the k-th byte read, of read r, has w as its one source left, and v may not stand between the two
+-- the k-th byte read, of read r, has w as its only source, and v may not stand between the two
 pub record IsForbiddenAt (box : Box) (k w r v : ℕ) : Type 0 where
   pub byte : ℕ
   pub is_read : slice_get (byte_reads (box_events box)) k ≡ Some (r, byte)

@@ -12,14 +12,14 @@ pub record FillsAll (box : Box) : Type 0 where
   pub lie : AreSourcesIn box sources
   pub each : (r : ℕ) → r < length (box_events box) → IsFilled box r sources
 
--- No byte read with several sources left can force anything, what is given has an order, and each read can be filled. So any
--- sources that lie there and fill each read are a completion's.
+-- No open byte read can force anything, what is given has an order, and each read can be filled. So any sources that lie in the box
+-- and fill each read are those of a completion.
 pub record IsIndependent (box : Box) : Type 0 where
   pub is_box : IsBox box
   pub some : ¬ HasEmptyDomain box
-  pub quiet : IsLeaf box
+  pub leaf : IsLeaf box
   pub coherent : AreCoherentSources box
-  pub calm : (e : ℕ) → ¬ HappensBeforeIn box e e
+  pub acyclic : (e : ℕ) → ¬ HappensBeforeIn box e e
   pub unwritten : ¬ HasFalseGuardOn box.test box.combination None 0
   pub ordered : HasOrder (length (box_events box)) (HappensBeforeIn box) (IsForbiddenIn box)
   pub filled : FillsAll box

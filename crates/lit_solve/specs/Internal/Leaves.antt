@@ -1,4 +1,4 @@
--- Data races of a byte read and a source, by what a box leaves to read.
+-- Possible data races of a byte read and a source in its domain.
 use Rattle.std.specs.Prelude.{◌≡◌, ℕ, Bool, List, Some, false, slice_get, true}
 use Rattle.lit_paths.specs.ByteReads.{byte_read_at}
 use Rattle.lit_rel.specs.Racing.{AreApart}
@@ -19,12 +19,12 @@ pub record RacesAt (box : Box) (before may : ℕ → ℕ → Type 0) (k : ℕ) :
   pub may_have : may k source
   pub apart : AreApart (box_events box) before (byte_read_at (box_events box) k).0 source
 
--- the read at a byte read may have a source in the domain there, or it has to be one with which the read can be filled
+-- the sources that the read at a byte read may have: those in the domain there, or of these those with which the read can be filled
 abbrev pub MayHave : Box → Bool → ℕ → ℕ → Type 0
 MayHave box true = CanFillAt box
 MayHave box false = HasSource box
 
--- a data race by what reads may have
+-- a possible data race, by the sources that reads may have
 abbrev pub RacesIn : Box → Bool → Type 0
 RacesIn box true = CanRaceIn box
 RacesIn box false = MayRaceIn box

@@ -1,4 +1,4 @@
--- What the sources in a box's domains say of the outcomes of its completions.
+-- Observed values: what the domains of a box say of the outcomes of its completions.
 use Rattle.std.specs.Prelude.{◌≡◌, ℕ, ◌<◌, ◌≤◌, List, Option, None, Some, length, take}
 use Rattle.lit_paths.specs.ByteReads.{byte_read_at, byte_reads}
 use Rattle.lit_paths.specs.Execution.{Execution, execution_outcome}
@@ -16,11 +16,12 @@ use Rattle.lit_solve.specs.Prospect.{IsUndecidedAt}
 abbrev pub part_with : Box → List ℕ → PartModel
 part_with box sources = record { test = box.test; combination = box.combination; sources = sources }
 
--- a register, named by agent and register, holds the read of the k-th byte read at the end
+-- the k-th byte read is observed: some register has the value of its read at the end
 abbrev pub IsObservedAt : Box → ℕ → Type 0
 IsObservedAt box k = (name : ℕ × ℕ) × (observed_read box.test box.combination name ≡ Some (byte_read_at (box_events box) k).0)
 
--- a register has this value at the end by any sources that lie in the box; or a byte that it observes can be read as several
+-- a register has this value at the end by any sources that lie in the box; or the sources of a byte read that it observes store
+-- several bytes
 abbrev pub IsValueObserved : Box → ℕ × ℕ → ReadValue → Type 0
 IsValueObserved box name (One value) =
     (sources : List ℕ) → AreSourcesIn box sources
@@ -32,7 +33,7 @@ pub record AreFirstValues (box : Box) (values : List ℕ) : Type 0 where
   pub few : length values ≤ length (names_of box.test)
   pub first : (x : Execution) → IsCompletion box x → values ≡ take (length values) (execution_outcome box.test x)
 
--- each completion has this outcome; or a byte read that a register observes can be read as several bytes
+-- each completion has this outcome; or the sources of an observed byte read store several bytes
 abbrev pub IsObservation : Box → List ℕ → Option ℕ → Type 0
 IsObservation box values None = (x : Execution) → IsCompletion box x → execution_outcome box.test x ≡ values
 IsObservation box values (Some k) = (k < length (byte_reads (box_events box))) × IsUndecidedAt box k × IsObservedAt box k

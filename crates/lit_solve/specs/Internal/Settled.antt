@@ -1,4 +1,4 @@
--- Frames from which nothing more follows.
+-- Settled frames: propagation has reached its fixed point.
 use Rattle.std.specs.Prelude.{◌≡◌, ℕ, Some, slice_get}
 use Rattle.lit_paths.specs.Execution.{Execution}
 use Rattle.lit_rel.specs.declared.event_set.EventSet.{EventSet}
@@ -9,10 +9,10 @@ use Rattle.lit_solve.specs.Completion.{IsCompletion}
 use Rattle.lit_solve.specs.Given.{IsForcedIn}
 use Rattle.lit_solve.specs.Internal.Frames.{AreCoherentAt, IsExact}
 
--- The frame's relations are those of its box, no event is forced before itself, and each source in a domain is coherent there.
+-- The frame's relations are those of its box, what is forced is acyclic, and each source in a domain is coherent for its byte read.
 pub record IsSettled (box : Box) (frame : Frame) : Type 0 where
   pub exact : IsExact box frame
-  pub calm : (e : ℕ) → ¬ IsForcedIn box e e
+  pub acyclic : (e : ℕ) → ¬ IsForcedIn box e e
   pub coherent : AreCoherentAt box frame
 
 -- the execution has a source of a set for the k-th byte read
@@ -23,4 +23,4 @@ TakesFrom x k set = (w : ℕ) → slice_get x.sources k ≡ Some w → HasEvent 
 pub record IsCut (old : Box) (k : ℕ) (set : EventSet) (new : Box) : Type 0 where
   pub within : IsWithin new old
   pub inside : (w : ℕ) → HasSource new k w → HasEvent set w
-  pub kept : (x : Execution) → IsCompletion old x → TakesFrom x k set → IsCompletion new x
+  pub retained : (x : Execution) → IsCompletion old x → TakesFrom x k set → IsCompletion new x

@@ -15,7 +15,7 @@ pub fn candidates_of(combination: &Combination<'_>, place: usize) -> EventSet
         (byte_read_at (events_in combination.now.0 combination.now.1) place).0
         (byte_read_at (events_in combination.now.0 combination.now.1) place).1 w }
 {
-    // That there are few events is known of the combination's events.
+    // For the prover: a set has room for each event of a combination.
     let _events = combination.events();
     let mut candidates = EventSet::new();
     for event in combination.candidates(place) {

@@ -45,7 +45,7 @@ impl End {
         }
     }
 
-    /// How many first sources it shares with another end, whose sources are as many.
+    /// The length of the common prefix with another end, which has as many sources; 0 where one of the two has none.
     pub(crate) fn shared(&self, other: &End) -> usize
         requires { (a b : List ℕ) → end_sources self.now ≡ Some a → end_sources other.now ≡ Some b → length a ≡ length b }
         ensures { AreShared (end_sources self.now) (end_sources other.now) result }
@@ -69,7 +69,7 @@ impl End {
         }
     }
 
-    /// The events that may stand at a place of what is as these sources before the parting, and greater there.
+    /// The sources that a list may have at a place if it has these sources before the place `parting`, and a greater one there.
     pub(crate) fn above(&self, parting: usize, place: usize) -> EventSet
         requires { IfSome (end_sources self.now) (λ low. (place < length low) × (slice_index low place < EVENTS)) }
         ensures { (w : ℕ) → w < EVENTS → HasEvent result w ↔ IfSome (end_sources self.now) (λ low. IsAbove low parting place w) }
@@ -88,7 +88,7 @@ impl End {
         }
     }
 
-    /// The events that may stand at a place of what is as these sources before the parting, and less there.
+    /// The sources that a list may have at a place if it has these sources before the place `parting`, and a lesser one there.
     pub(crate) fn below(&self, parting: usize, place: usize) -> EventSet
         requires { IfSome (end_sources self.now) (λ high. (place < length high) × (slice_index high place < EVENTS)) }
         ensures { (w : ℕ) → w < EVENTS → HasEvent result w ↔ IfSome (end_sources self.now) (λ high. IsBelow high parting place w) }
@@ -108,7 +108,7 @@ impl End {
     }
 }
 
-/// How many first sources are the same in both, which are equally long.
+/// The length of the common prefix of two lists of the same length.
 fn same_first(a: &[u8], b: &[u8]) -> usize
     requires { length a.now ≡ length b.now }
     ensures { IsSame a.now b.now result }

@@ -15,17 +15,17 @@ path_at t c agent = slice_index_or (combination_at t c) agent (record { decision
 abbrev pub taken_by : Litmus → ℕ → List ℕ → ℕ → List ℕ
 taken_by t c sources agent = map (value_of (events_in t c) sources) (read_numbers_from (first_event t c agent) (path_at t c agent).events)
 
--- a run of one agent
+-- a run of an agent on its path, with these values
 pub record IsGivenRun (t : Litmus) (c : ℕ) (sources : List ℕ) (agent : ℕ) (run : Run) : Type 0 where
   pub is_run : IsRun agent (agent_of t agent).body run
   pub on_path : run_path run ≡ path_at t c agent
   pub given : run.values ≡ taken_by t c sources agent
 
--- there is one
+-- the agent has such a run
 abbrev pub HasGivenRun : Litmus → ℕ → List ℕ → ℕ → Type 0
 HasGivenRun t c sources agent = (run : Run) × IsGivenRun t c sources agent run
 
--- one for each agent
+-- such a run for each agent
 pub record AreGivenRuns (t : Litmus) (c : ℕ) (sources : List ℕ) (runs : List Run) : Type 0 where
   pub one_each : length runs ≡ length t.agents
   pub each : (i : ℕ) (run : Run) → slice_get runs i ≡ Some run → IsGivenRun t c sources i run

@@ -2,7 +2,7 @@ use Rattle.std.proofs.Common.{sym, ap, ◌∙◌, subst, arith, ◌∷◌, [], �
 use Rattle.std.specs.Prelude.{All}
 use Rattle.std.proofs.lemmas.List.Elements.{All-contains, Contains-push}
 use Rattle.lit_desk.specs.Desk.{DeskName, PlaceLists, IsPlaceOf}
-use Rattle.lit_desk.proofs.Kept.{All-front}
+use Rattle.lit_desk.proofs.LeastTold.{All-front}
 use Rattle.lit_desk.proofs.Moves.{gathers, sits}
 use Rattle.lit_desk.proofs.desk.Desk.gather.Goals as goal
 

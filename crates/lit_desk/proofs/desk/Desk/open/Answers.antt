@@ -3,7 +3,7 @@ use Rattle.lit_desk.specs.declared.account.Account.{Account}
 use Rattle.lit_desk.specs.Accounts.{new_account}
 use Rattle.std.proofs.lemmas.List.Elements.{All-same, All-replicate}
 use Rattle.lit_desk.specs.Desk.{IsPlaceOf, desk_name, new_place}
-use Rattle.lit_desk.proofs.Moves.{leaves_as}
+use Rattle.lit_desk.proofs.Moves.{gives_place_as}
 use Rattle.lit_desk.proofs.Places.{one_more_place}
 use Rattle.lit_desk.proofs.desk.Desk.open.Goals as goal
 
@@ -13,7 +13,7 @@ split_seat-other-requires c =
     let left : c.args.seats + 1 - c.loop.counter ≡ suc (c.args.seats - c.loop.counter) = omega arith in (
       inv.table,
       omega (arith, c.in_ok-table.ensures.0),
-      leaves_as c.in_ok-table.table.shared.key c.loop.seat.id c.loop.seat.me.0 (c.args.seats - c.loop.counter) (inv.account ∙ ap new_account left),
+      gives_place_as c.in_ok-table.table.shared.key c.loop.seat.id c.loop.seat.me.0 (c.args.seats - c.loop.counter) (inv.account ∙ ap new_account left),
     )
 
 pub loop-preserved : goal.loop-preserved

@@ -1,6 +1,6 @@
 use Rattle.lit_solve.proofs.Words.{ap, arith, byte_reads, length}
 use Rattle.lit_solve.specs.Boxes.{BoxesModel, boxes_events}
-use Rattle.lit_solve.proofs.PartedLemmas.{low_fits}
+use Rattle.lit_solve.proofs.SoundRangeLemmas.{low_fits}
 use Rattle.lit_solve.proofs.boxes.Boxes.above.Goals as goal
 
 pub above-requires : goal.above-requires

@@ -1,6 +1,6 @@
 use Rattle.lit_solve.proofs.Words.{ap, arith, byte_reads, length}
 use Rattle.lit_solve.specs.Boxes.{BoxesModel, boxes_events}
-use Rattle.lit_solve.proofs.PartedLemmas.{high_fits}
+use Rattle.lit_solve.proofs.SoundRangeLemmas.{high_fits}
 use Rattle.lit_solve.proofs.boxes.Boxes.below.Goals as goal
 
 pub below-requires : goal.below-requires

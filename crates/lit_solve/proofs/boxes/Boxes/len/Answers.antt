@@ -1,5 +1,5 @@
 use Rattle.lit_solve.proofs.Words.{arith}
-use Rattle.lit_solve.proofs.PartedLemmas.{len_fits}
+use Rattle.lit_solve.proofs.SoundRangeLemmas.{len_fits}
 use Rattle.lit_solve.proofs.boxes.Boxes.len.Goals as goal
 
 pub overflow_add-result : goal.overflow_add-result

@@ -1,7 +1,7 @@
 use Rattle.lit_solve.proofs.Words.{◌-◌, ap, AreEventsIn, arith, byte_reads, Event, events_in, length, length-map, List, MatchOption}
 use Rattle.lit_solve.proofs.Words.{pair_of, subst, sym, ℕ, ◌∙◌, ◌≡◌}
 use Rattle.lit_solve.specs.Internal.Cut.{end_sources}
-use Rattle.lit_solve.proofs.PartedLemmas.{cut_of_range, high_sourced, low_sourced, shared_fits}
+use Rattle.lit_solve.proofs.SoundRangeLemmas.{cut_of_range, high_sourced, low_sourced, shared_fits}
 use Rattle.lit_solve.proofs.RangeLemmas.{cuts_range}
 use Rattle.lit_solve.proofs.boxes.Boxes.of_range.Goals as goal
 
@@ -38,7 +38,7 @@ pub returns-clause-cuts : goal.returns-clause-cuts
 returns-clause-cuts c =
     let t = c.args.combination.now.0 in
     let k = c.args.combination.now.1 in
-    let kept = invariant_of-result c in
-    cuts_range _ kept.cut c.args.from c.args.to (omega (arith, c.requires.some)) c.low-low.ensures c.high-high.ensures
+    let retained = invariant_of-result c in
+    cuts_range _ retained.cut c.args.from c.args.to (omega (arith, c.requires.some)) c.low-low.ensures c.high-high.ensures
     (c.choices_are_listed.ensures t)
     c.first_of-first.ensures.of

@@ -1,8 +1,8 @@
 use Rattle.lit_solve.proofs.Words.{ap, arith, byte_reads, length, length-map, pair_of, subst, sym, ◌∙◌, ◌≡◌}
 use Rattle.lit_solve.specs.Boxes.{BoxesModel, boxes_events}
-use Rattle.lit_solve.specs.Internal.Parted.{IsParted}
+use Rattle.lit_solve.specs.Internal.SoundRange.{IsSoundRange}
 use Rattle.lit_solve.proofs.BoxesLemmas.{one_domain_more}
-use Rattle.lit_solve.proofs.PartedLemmas.{box_of_domains}
+use Rattle.lit_solve.proofs.SoundRangeLemmas.{box_of_domains}
 use Rattle.lit_solve.proofs.boxes.Boxes.put.Goals as goal
 
 pub loop-place-preserved : goal.loop-place-preserved
@@ -21,5 +21,5 @@ returns-clause-is_box c =
     let reads : length c.byte_reads-place-end.result.now ≡ length (byte_reads (boxes_events c.args.self.now)) =
     sym (length-map c.byte_reads-place-end.result.now pair_of) ∙ ap length c.byte_reads-place-end.ensures
     ∙ ap (λ (b : BoxesModel). length (byte_reads (boxes_events b))) c.self.view_is in
-    box_of_domains c.args.self.now (subst (λ (b : BoxesModel). IsParted b) c.self.view_is c.self.invariant) c.args.i c.loop-place.domains
+    box_of_domains c.args.self.now (subst (λ (b : BoxesModel). IsSoundRange b) c.self.view_is c.self.invariant) c.args.i c.loop-place.domains
     (λ k w inside. c.loop-place.invariant.exact k w (omega (arith, inside, reads, c.loop-place-test.false)))

@@ -9,10 +9,10 @@ any-init t c sources lie = grind (arith, common_steps, holds-Any, member_holds, 
 pub all-init : goal.all-init
 all-init t c sources lie = grind (arith, common_steps, holds-All, member_holds, values_of)
 
-pub returns-in-Comes-true : goal.returns-in-Comes-true
-returns-in-Comes-true t c sources lie =
-    grind (arith, common_steps, met_by_one, values_of, c.deref-member-items.ensures.value, c.in-Comes-true.ensures)
+pub returns-in-Known-true : goal.returns-in-Known-true
+returns-in-Known-true t c sources lie =
+    grind (arith, common_steps, met_by_one, values_of, c.deref-member-items.ensures.value, c.in-Known-true.ensures)
 
-pub returns-in-Comes-false-decide : goal.returns-in-Comes-false-decide
-returns-in-Comes-false-decide t c sources lie =
-    grind (arith, common_steps, unmet_by_one, values_of, c.deref-member-items-in-All.ensures.value, c.in-Comes-false-decide.ensures)
+pub returns-in-Known-false-decide : goal.returns-in-Known-false-decide
+returns-in-Known-false-decide t c sources lie =
+    grind (arith, common_steps, unmet_by_one, values_of, c.deref-member-items-in-All.ensures.value, c.in-Known-false-decide.ensures)

@@ -3,24 +3,24 @@ use Rattle.lit_solve.proofs.Words.{◌<◌, Execution, HasEvent, subst, sym, ℕ
 use Rattle.lit_rel.proofs.SetLemmas.{split_less_yet}
 use Rattle.lit_solve.specs.Completion.{IsSolution}
 use Rattle.lit_solve.specs.Internal.Frames.{box_of}
-use Rattle.lit_solve.specs.Internal.Narrowing.{size_of}
+use Rattle.lit_solve.specs.Internal.Pruning.{size_of}
 use Rattle.lit_solve.specs.Internal.Settled.{TakesFrom}
 use Rattle.lit_solve.proofs.FrameLemmas.{not_true}
-use Rattle.lit_solve.proofs.NarrowingLemmas.{source_known}
+use Rattle.lit_solve.proofs.PruningLemmas.{source_known}
 use Rattle.lit_solve.proofs.SearchingLemmas.{left_over, not_all, solution_in, solution_out, takes_some}
 use Rattle.lit_solve.proofs.problem.Problem.+exists.Goals as goal
 use Rattle.lit_solve.proofs.problem.Problem.+exists.Goals.{else-cut-via-then-cut+else-exists, else-cut-via-else-cut}
 
 pub part-part-requires-clause-known : goal.part-part-requires-clause-known
 part-part-requires-clause-known t c w there =
-    source_known (box_of c.args.self.now c.args.frame.now) c.requires.exact.contained.is_box c.in-Parted.branch.place w c.in-Parted.ensures.known
+    source_known (box_of c.args.self.now c.args.frame.now) c.requires.exact.contained.is_box c.in-Branched.branch.place w c.in-Branched.ensures.known
     (c.loop-source.invariant.within w there)
 
 pub exists-requires : goal.exists-requires
 exists-requires t c = (
   subst (λ (n : ℕ). size_of c.cut.new.frame.domains < n) c.decreases
       (c.cut.ensures.less c.if-cut.true
-      (not_all (box_of c.args.self.now c.args.frame.now) c.in-Parted.branch c.in-Parted.ensures c.in-Some.source
+      (not_all (box_of c.args.self.now c.args.frame.now) c.in-Branched.branch c.in-Branched.ensures c.in-Some.source
       (c.loop-source.invariant.within c.in-Some.source c.in-Some.ensures.there) c.part-part.result c.part-part.ensures.apart)),
   c.cut.ensures.settled c.if-cut.true,
 )
@@ -39,11 +39,11 @@ pub loop-source-preserved : goal.loop-source-preserved
 loop-source-preserved t c = record {
   within = λ w there. c.loop-source.invariant.within w ((c.difference-left.ensures w).0 there).0;
   taken =
-      left_over (box_of c.args.self.now c.args.frame.now) c.args.goal c.in-Parted.branch.place c.loop-source.left c.part-part.result
+      left_over (box_of c.args.self.now c.args.frame.now) c.args.goal c.in-Branched.branch.place c.loop-source.left c.part-part.result
       c.difference-left.result c.difference-left.ensures in_vain c.loop-source.invariant.taken;
 }
   where
-    in_vain : (x : Execution) → IsSolution (box_of c.args.self.now c.args.frame.now) c.args.goal x → TakesFrom x c.in-Parted.branch.place c.part-part.result → ⊥
+    in_vain : (x : Execution) → IsSolution (box_of c.args.self.now c.args.frame.now) c.args.goal x → TakesFrom x c.in-Branched.branch.place c.part-part.result → ⊥
     in_vain x is takes =
         elim c.else-cut.branch [
           | else-cut-via-then-cut+else-exists w ↦
@@ -51,7 +51,7 @@ loop-source-preserved t c = record {
               (w.exists.ensures.1 (
                 x,
                 solution_in (box_of c.args.self.now c.args.frame.now) (box_of c.args.self.now c.cut.new.frame) c.args.goal
-                    c.in-Parted.branch.place c.part-part.result (c.cut.ensures.cut w.if-cut.true) x is takes,
+                    c.in-Branched.branch.place c.part-part.result (c.cut.ensures.cut w.if-cut.true) x is takes,
               ))
           | else-cut-via-else-cut w ↦ c.cut.ensures.none w.if-cut.false x is.completes takes
         ]
@@ -60,6 +60,6 @@ pub returns : goal.returns
 returns t c = (
   λ never. absurd (let e = never in cc),
   λ found.
-      let some = takes_some (box_of c.args.self.now c.args.frame.now) c.args.goal c.in-Parted.branch.place c.in-Parted.ensures.known found.0 found.1 in
+      let some = takes_some (box_of c.args.self.now c.args.frame.now) c.args.goal c.in-Branched.branch.place c.in-Branched.ensures.known found.0 found.1 in
       absurd (c.in_default.ensures some.0 (c.loop-source.invariant.taken found.0 found.1 some.0 some.1)),
 )

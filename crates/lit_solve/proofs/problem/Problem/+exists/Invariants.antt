@@ -2,7 +2,7 @@ use Rattle.lit_solve.proofs.Words.{Execution, HasEvent, slice_get, Some, â„•, â—
 use Rattle.lit_solve.specs.Box.{HasSource}
 use Rattle.lit_solve.specs.Completion.{IsSolution}
 use Rattle.lit_solve.specs.Internal.Frames.{box_of}
-use Rattle.lit_solve.specs.Internal.Narrowing.{size_of}
+use Rattle.lit_solve.specs.Internal.Pruning.{size_of}
 use Rattle.lit_solve.proofs.problem.Problem.+exists.Given as goal
 
 abbrev pub decreases-exists : goal.decreases-exists

@@ -2,7 +2,7 @@ use Rattle.lit_solve.proofs.Words.{◌+◌, arith, byte_read_at, common_steps, f
 use Rattle.lit_rel.proofs.SetLemmas.{split_less, split_less_yet}
 use Rattle.lit_solve.specs.Box.{HasSource, box_with, events_on}
 use Rattle.lit_solve.specs.Internal.Filling.{CanFillOn, CanFillWith}
-use Rattle.lit_solve.proofs.FillingLemmas.{fill_with, filled_at_end, filled_with, left_out_in_vain, next_filled, next_filled_back}
+use Rattle.lit_solve.proofs.FillingLemmas.{fill_with, filled_at_end, filled_with, dominated_in_vain, next_filled, next_filled_back}
 use Rattle.lit_solve.proofs.ReadByteLemmas.{none_later, read_there, vain_more}
 use Rattle.lit_solve.proofs.problem.Problem.+fills_on.Goals as goal
 
@@ -80,7 +80,7 @@ loop-source-preserved-in-Some-take t c =
     let byte = (byte_read_at events c.args.place).1 in
     let in_vain : ¬ CanFillOn box c.args.read (c.args.place + 1) (HasEvent c.in-Some-take.next.whole) c.in-Some-take.next.value c.in-Some-take.next.bytes =
     λ can. false≢true (c.if-fills_on.ensures.1 can) in
-    let left_out = left_out_in_vain box c.args.read c.args.place byte c.in-Some.source c.args.taken c.in-Some-take.next c.in-Some-take.ensures
+    let dominated = dominated_in_vain box c.args.read c.args.place byte c.in-Some.source c.args.taken c.in-Some-take.next c.in-Some-take.ensures
     (read_there events c.args.place c.args.read is.0 is.1) in
     record {
       left = λ w h. c.loop-source.invariant.left w ((c.in-Some.ensures.rest w).0 (c.worth_trying-left.ensures.within w h)).0;
@@ -88,7 +88,7 @@ loop-source-preserved-in-Some-take t c =
           (λ w. ¬ CanFillWith box c.args.read c.args.place byte (HasEvent c.args.taken.whole) c.args.taken.value c.args.taken.bytes w)
           c.loop-source.invariant.in_vain
           (λ can. in_vain (next_filled_back box c.args.read c.args.place byte c.in-Some.source c.args.taken c.in-Some-take.next c.in-Some-take.ensures can))
-          (λ w there here gone. let same = c.worth_trying-left.ensures.left_out w here gone in left_out w in_vain same.0 same.1);
+          (λ w there here gone. let same = c.worth_trying-left.ensures.dominated w here gone in dominated w in_vain same.0 same.1);
     }
 
 pub returns : goal.returns

@@ -1,6 +1,6 @@
 use Rattle.lit_solve.proofs.Words.{HasEvent, ℕ}
 use Rattle.lit_solve.specs.Box.{HasSource, box_with}
-use Rattle.lit_solve.specs.Internal.Narrowing.{size_of}
+use Rattle.lit_solve.specs.Internal.Pruning.{size_of}
 use Rattle.lit_solve.specs.Outcomes.{AddsEntries}
 use Rattle.lit_solve.proofs.ObservedLemmas.{IsSeen}
 use Rattle.lit_solve.proofs.problem.Problem.+independent_outcomes.Given as goal

@@ -3,11 +3,11 @@ use Rattle.lit_rel.proofs.SetLemmas.{split_less_yet}
 use Rattle.lit_solve.specs.Completion.{IsCompletion}
 use Rattle.lit_solve.specs.Outcomes.{AddsEntries}
 use Rattle.lit_solve.specs.Internal.Frames.{box_of}
-use Rattle.lit_solve.specs.Internal.Narrowing.{size_of}
+use Rattle.lit_solve.specs.Internal.Pruning.{size_of}
 use Rattle.lit_solve.specs.Internal.Settled.{TakesFrom}
 use Rattle.lit_solve.proofs.EntryLemmas.{adds_more, adds_none}
-use Rattle.lit_solve.proofs.NarrowingLemmas.{source_known}
-use Rattle.lit_solve.proofs.ObservedLemmas.{IsSeen, alike_among, all_seen, first_within, part_adds, seen_part, seen_past, some_differ}
+use Rattle.lit_solve.proofs.PruningLemmas.{source_known}
+use Rattle.lit_solve.proofs.ObservedLemmas.{IsSeen, same_stores_among, all_seen, first_within, part_adds, seen_part, seen_past, some_differ}
 use Rattle.lit_solve.proofs.problem.Problem.+outcomes.Goals as goal
 use Rattle.lit_solve.proofs.problem.Problem.+outcomes.Goals.{then-cut+then-may_complete+in_ok-outcomes, else-cut, else-cut-via-then-cut+else-may_complete, else-cut-via-else-cut}
 
@@ -18,13 +18,13 @@ loop-source-init g t c = record {
   seen = λ x is. inr (λ w source. (c.sources_left-all.ensures w).1 (is.within c.in-Some.place w source));
 }
 
-pub storing_alike-group-requires-clause-source : goal.storing_alike-group-requires-clause-source
-storing_alike-group-requires-clause-source g t c =
+pub storing_same-group-requires-clause-source : goal.storing_same-group-requires-clause-source
+storing_same-group-requires-clause-source g t c =
     source_known (box_of c.args.self.now c.args.frame.now) c.requires.settled.exact.contained.is_box c.in-Some.place c.in-Some-split_first.source c.in-Some.ensures.observed.0
     (c.loop-source.invariant.within c.in-Some-split_first.source c.in-Some-split_first.ensures.there)
 
-pub storing_alike-group-requires-clause-known : goal.storing_alike-group-requires-clause-known
-storing_alike-group-requires-clause-known g t c w there =
+pub storing_same-group-requires-clause-known : goal.storing_same-group-requires-clause-known
+storing_same-group-requires-clause-known g t c w there =
     source_known (box_of c.args.self.now c.args.frame.now) c.requires.settled.exact.contained.is_box c.in-Some.place w c.in-Some.ensures.observed.0
     ((c.sources_left-all.ensures w).0 there)
 
@@ -32,12 +32,12 @@ pub outcomes-requires : goal.outcomes-requires
 outcomes-requires g t c κs within =
     let box = box_of c.args.self.now c.args.frame.now in
     let place = c.in-Some.place in
-    let alike = alike_among box place c.in-Some-split_first.source c.sources_left-all.result c.storing_alike-group.result c.sources_left-all.ensures
-    c.storing_alike-group.ensures in
+    let matching = same_stores_among box place c.in-Some-split_first.source c.sources_left-all.result c.storing_same-group.result c.sources_left-all.ensures
+    c.storing_same-group.ensures in
     let there = c.loop-source.invariant.within c.in-Some-split_first.source c.in-Some-split_first.ensures.there in (
       subst (λ (n : ℕ). size_of c.cut.new.frame.domains < n) c.decreases
           (c.cut.ensures.less c.if-cut.true
-          (some_differ box place c.in-Some-split_first.source c.storing_alike-group.result c.in-Some.ensures.observed.0 c.in-Some.ensures.observed.1 there alike)),
+          (some_differ box place c.in-Some-split_first.source c.storing_same-group.result c.in-Some.ensures.observed.0 c.in-Some.ensures.observed.1 there matching)),
       (
         within.0,
         (
@@ -55,14 +55,14 @@ pub returns-in_err-outcomes-clause-added : goal.returns-in_err-outcomes-clause-a
 returns-in_err-outcomes-clause-added g t c =
     let box = box_of c.args.self.now c.args.frame.now in
     let place = c.in-Some.place in
-    let alike = alike_among box place c.in-Some-split_first.source c.sources_left-all.result c.storing_alike-group.result c.sources_left-all.ensures
-    c.storing_alike-group.ensures in
+    let matching = same_stores_among box place c.in-Some-split_first.source c.sources_left-all.result c.storing_same-group.result c.sources_left-all.ensures
+    c.storing_same-group.ensures in
     let old = g.T.OutcomeTable.entries c.args.table.now in
     let mid = g.T.OutcomeTable.entries c.loop-source.table in
     let new = g.T.OutcomeTable.entries c.outcomes.new.table in
     adds_more box old mid new c.loop-source.invariant.added
     (part_adds c.laws_below.ensures box c.requires.settled.exact.contained.is_box c.events-events.ensures.sound place
-    c.in-Some.ensures.observed.0 c.in-Some.ensures.observed.2 c.in-Some-split_first.source c.storing_alike-group.result alike
+    c.in-Some.ensures.observed.0 c.in-Some.ensures.observed.2 c.in-Some-split_first.source c.storing_same-group.result matching
     c.cut.new.frame.domains (c.cut.ensures.cut c.if-cut.true) mid new c.outcomes.ensures.added)
 
 pub loop-source-smaller : goal.loop-source-smaller
@@ -72,8 +72,8 @@ loop-source-smaller g t c =
     let left = (c.difference-left.ensures e).0 there in
     (c.in-Some-split_first.ensures.rest e).1 (
       left.0,
-      λ same. left.1 (subst (λ (v : ℕ). HasEvent c.storing_alike-group.result v) (sym same)
-          ((c.storing_alike-group.ensures c.in-Some-split_first.source).1
+      λ same. left.1 (subst (λ (v : ℕ). HasEvent c.storing_same-group.result v) (sym same)
+          ((c.storing_same-group.ensures c.in-Some-split_first.source).1
           ((c.sources_left-all.ensures c.in-Some-split_first.source).1 (c.loop-source.invariant.within c.in-Some-split_first.source c.in-Some-split_first.ensures.there), refl))),
     ))
 
@@ -81,12 +81,12 @@ pub loop-source-preserved : goal.loop-source-preserved
 loop-source-preserved g t c =
     let box = box_of c.args.self.now c.args.frame.now in
     let place = c.in-Some.place in
-    let group = c.storing_alike-group.result in
+    let group = c.storing_same-group.result in
     let rest = c.difference-left.result in
     let entries = g.T.OutcomeTable.entries in
     let old = entries c.args.table.now in
     let mid = entries c.loop-source.table in
-    let alike = alike_among box place c.in-Some-split_first.source c.sources_left-all.result group c.sources_left-all.ensures c.storing_alike-group.ensures in
+    let matching = same_stores_among box place c.in-Some-split_first.source c.sources_left-all.result group c.sources_left-all.ensures c.storing_same-group.ensures in
     let past = λ (none : (x : Execution) → IsCompletion box x → ¬ TakesFrom x place group).
     seen_past box place old mid c.loop-source.left group rest c.difference-left.ensures c.in-Some.ensures.observed.0
     c.loop-source.invariant.added c.loop-source.invariant.seen none in
@@ -94,14 +94,14 @@ loop-source-preserved g t c =
       | then-cut+then-may_complete+in_ok-outcomes w ↦
           subst (λ (es : List Entry). AddsEntries box old es × IsSeen box place es rest) (sym (ap entries w.table-is))
           (seen_part c.laws_below.ensures box c.requires.settled.exact.contained.is_box c.events-events.ensures.sound place
-          c.in-Some.ensures.observed.0 c.in-Some.ensures.observed.2 c.in-Some-split_first.source group alike c.cut.new.frame.domains
+          c.in-Some.ensures.observed.0 c.in-Some.ensures.observed.2 c.in-Some-split_first.source group matching c.cut.new.frame.domains
           (c.cut.ensures.cut w.if-cut.true) old mid (entries w.outcomes.new.table) c.loop-source.left rest c.difference-left.ensures
           c.loop-source.invariant.added c.loop-source.invariant.seen w.outcomes.ensures.added w.in_ok-outcomes.ensures.whole)
       | else-cut w ↦
           subst (λ (es : List Entry). AddsEntries box old es × IsSeen box place es rest) (sym (ap entries w.table-is))
           (past (elim w.else-cut.branch [
             | else-cut-via-then-cut+else-may_complete v ↦
-                (λ x is takes. v.may_complete.ensures v.if-may_complete.false x ((c.cut.ensures.cut v.if-cut.true).kept x is takes))
+                (λ x is takes. v.may_complete.ensures v.if-may_complete.false x ((c.cut.ensures.cut v.if-cut.true).retained x is takes))
             | else-cut-via-else-cut v ↦ c.cut.ensures.none v.if-cut.false
           ]))
     ] in

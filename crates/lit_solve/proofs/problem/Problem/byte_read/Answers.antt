@@ -1,5 +1,5 @@
 use Rattle.lit_solve.proofs.Words.{arith, common_steps}
-use Rattle.lit_solve.proofs.NarrowingLemmas.{read_known}
+use Rattle.lit_solve.proofs.PruningLemmas.{read_known}
 use Rattle.lit_solve.proofs.problem.Problem.byte_read.Goals as goal
 
 pub returns-clause-read : goal.returns-clause-read

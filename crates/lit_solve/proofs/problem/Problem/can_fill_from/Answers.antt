@@ -4,20 +4,20 @@ use Rattle.lit_solve.specs.Box.{Box, HasSource, box_events, events_on}
 use Rattle.lit_solve.specs.Fill.{CanFill}
 use Rattle.lit_solve.specs.Internal.Frames.{IsContained, box_of}
 use Rattle.lit_solve.specs.Internal.Leaves.{CanFillAt}
-use Rattle.lit_solve.proofs.DomainLemmas.{frame_at, narrowed_at, narrowed_contained}
-use Rattle.lit_solve.proofs.NarrowingLemmas.{source_known}
+use Rattle.lit_solve.proofs.DomainLemmas.{frame_at, pruned_at, pruned_contained}
+use Rattle.lit_solve.proofs.PruningLemmas.{source_known}
 use Rattle.lit_solve.proofs.RacingLemmas.{can_fill_alone, one_within, read_number}
 use Rattle.lit_solve.proofs.problem.Problem.can_fill_from.Goals as goal
 
 -- ---- a set that has nothing but a source of the domain
 module _ (box : Box) (place source : ℕ) (one : EventSet) (is_one : (v : ℕ) → HasEvent one v ↔ (v ≡ source))
     (room : place < length box.domains) (there : HasSource box place source) where
-  alone_contained : (frame : Frame) → IsContained box frame → IsContained (narrowed_at box place one) (frame_at frame place one)
+  alone_contained : (frame : Frame) → IsContained box frame → IsContained (pruned_at box place one) (frame_at frame place one)
   alone_contained frame contained =
-      narrowed_contained box place one room (one_within box place source one is_one room there) frame contained (source, (is_one source).1 refl)
+      pruned_contained box place one room (one_within box place source one is_one room there) frame contained (source, (is_one source).1 refl)
 
   alone_fills : place < length (byte_reads (box_events box))
-      → CanFill (narrowed_at box place one) (byte_read_at (box_events box) place).0 ↔ CanFillAt box place source
+      → CanFill (pruned_at box place one) (byte_read_at (box_events box) place).0 ↔ CanFillAt box place source
   alone_fills inside = can_fill_alone box place source one is_one room inside there
 
 pub set_of-requires : goal.set_of-requires
@@ -47,7 +47,7 @@ returns c =
     let room : c.args.place < length box.domains = omega arith in
     let fills = alone_fills box c.args.place c.args.source c.set_of.result c.set_of.ensures room c.requires.there
     c.requires.place in
-    let alone = narrowed_at box c.args.place c.set_of.result in (
+    let alone = pruned_at box c.args.place c.set_of.result in (
       (λ h. fills.0 (subst (λ (r : ℕ). CanFill alone r) is_read (c.can_fill.ensures.0 h))),
       (λ can. c.can_fill.ensures.1 (subst (λ (r : ℕ). CanFill alone r) (sym is_read) (fills.1 can))),
     )

@@ -4,7 +4,7 @@ use Rattle.lit_rel.proofs.SetLemmas.{split_less}
 use Rattle.lit_solve.specs.Internal.Frames.{box_of}
 use Rattle.lit_solve.proofs.BranchingLemmas.{idle_at}
 use Rattle.lit_solve.proofs.FrameLemmas.{not_true}
-use Rattle.lit_solve.proofs.NarrowingLemmas.{source_known}
+use Rattle.lit_solve.proofs.PruningLemmas.{source_known}
 use Rattle.lit_solve.proofs.problem.Problem.can_force.Goals as goal
 
 pub has_effect-requires-clause-source : goal.has_effect-requires-clause-source
@@ -18,7 +18,7 @@ loop-source-smaller c = split_less c.loop-source.left c.in-Some.source c.in-Some
 pub loop-source-preserved : goal.loop-source-preserved
 loop-source-preserved c = grind (arith, cases_eq, not_true)
 
-pub returns-clause-quiet : goal.returns-clause-quiet
-returns-clause-quiet c _ =
+pub returns-clause-leaf : goal.returns-clause-leaf
+returns-clause-leaf c _ =
     inr (idle_at (box_of c.args.self.now c.args.frame.now) c.args.place c.byte_read-read.result.read c.byte_read-read.result.byte
     c.byte_read-read.ensures.at (λ w there. c.loop-source.invariant.idle w there (c.in_default.ensures w)))

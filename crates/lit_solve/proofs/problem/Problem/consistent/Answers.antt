@@ -4,12 +4,12 @@ use Rattle.lit_rel.proofs.SetLemmas.{event_or_not}
 use Rattle.lit_solve.specs.Box.{HasSource, box_with, events_on}
 use Rattle.lit_solve.specs.Prunable.{IsPrunable}
 use Rattle.lit_solve.specs.Internal.Frames.{IsProblem}
-use Rattle.lit_solve.proofs.DomainLemmas.{narrowed_at, narrowed_is_box, narrows, narrows_on}
-use Rattle.lit_solve.proofs.NarrowingLemmas.{read_here}
+use Rattle.lit_solve.proofs.DomainLemmas.{pruned_at, pruned_is_box, prunes, prunes_on}
+use Rattle.lit_solve.proofs.PruningLemmas.{read_here}
 use Rattle.lit_solve.proofs.problem.Problem.consistent.Goals as goal
 
 pub loop-place-init : goal.loop-place-init
-loop-place-init c = grind (arith, common_steps, narrows)
+loop-place-init c = grind (arith, common_steps, prunes)
 
 pub loop-place-preserved : goal.loop-place-preserved
 loop-place-preserved c =
@@ -24,13 +24,13 @@ loop-place-preserved c =
     let room : place < length box.domains = omega (arith, was.len, c.reads-place-end.ensures.few, c.loop-place-test.true) in
     let inside : place < length (byte_reads events) = omega (arith, c.reads-place-end.ensures.value, c.loop-place-test.true) in
     let read = byte_read_at events place in
-    let out : (w : ℕ) → HasSource box place w → ¬ HasEvent less w → IsPrunable box read.0 read.1 w = λ w there lost. elim (event_or_not _ w) [
+    let prunable : (w : ℕ) → HasSource box place w → ¬ HasEvent less w → IsPrunable box read.0 read.1 w = λ w there lost. elim (event_or_not _ w) [
       | inl refused ↦ inl ((is.by_guards place read.0 read.1 w (read_here events place inside)).0 refused).1
-      | inr passes ↦ absurd (lost ((c.difference.ensures w).1 (there, passes)))
+      | inr is_refused ↦ absurd (lost ((c.difference.ensures w).1 (there, is_refused)))
     ] in
     let within : (w : ℕ) → HasEvent less w → HasSource box place w = λ w there. ((c.difference.ensures w).0 there).0 in
-    let step = narrows box place less room was.is_box is.sound (c.completions_have_no_prunable_source.ensures box) inside out within in record {
+    let step = prunes box place less room was.is_box is.sound (c.completions_have_no_prunable_source.ensures box) inside prunable within in record {
       len = length-set c.loop-place.left place less ∙ was.len;
-      is_box = narrowed_is_box box place less room within was.is_box;
-      narrows = narrows_on first box (narrowed_at box place less) was.narrows step;
+      is_box = pruned_is_box box place less room within was.is_box;
+      prunes = prunes_on first box (pruned_at box place less) was.prunes step;
     }

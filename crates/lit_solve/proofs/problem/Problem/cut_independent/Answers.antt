@@ -1,10 +1,10 @@
 use Rattle.lit_solve.proofs.Words.{◌<◌, ap, arith, common_steps, length, not, refl, subst, ℕ}
 use Rattle.lit_solve.specs.Box.{box_with, events_on}
 use Rattle.lit_solve.specs.Fill.{CanFill}
-use Rattle.lit_solve.proofs.DomainLemmas.{narrowed_at, narrowed_is_box, none_at, none_empty_at, size_less}
+use Rattle.lit_solve.proofs.DomainLemmas.{pruned_at, pruned_is_box, none_at, none_empty_at, size_less}
 use Rattle.lit_solve.proofs.FrameLemmas.{not_true}
 use Rattle.lit_solve.proofs.IndependentLemmas.{independent_part, order_of_part}
-use Rattle.lit_solve.proofs.NarrowingLemmas.{some_exactly}
+use Rattle.lit_solve.proofs.PruningLemmas.{some_exactly}
 use Rattle.lit_solve.proofs.OpeningLemmas.{completion_taken, cut_on, left_within, source_taken}
 use Rattle.lit_solve.proofs.RacingLemmas.{read_number}
 use Rattle.lit_solve.proofs.problem.Problem.cut_independent.Goals as goal
@@ -21,7 +21,7 @@ pub can_fill-requires-clause-is_box : goal.can_fill-requires-clause-is_box
 can_fill-requires-clause-is_box c =
     let box = box_with c.args.self.now c.args.domains.now in
     let room : c.args.place < length box.domains = omega arith in
-    narrowed_is_box box c.args.place c.intersection-left.result room
+    pruned_is_box box c.args.place c.intersection-left.result room
     (left_within box c.args.place c.args.set c.intersection-left.result room c.intersection-left.ensures) c.requires.independent.is_box
 
 pub can_fill-requires-clause-some : goal.can_fill-requires-clause-some
@@ -40,7 +40,7 @@ returns-clause-independent c good =
     let read = read_number (events_on c.args.self.now) c.args.place c.byte_read-read.result c.byte_read-read.result.read refl c.byte_read-read.ensures.at in
     independent_part box (c.laws_below.ensures.of_events (events_on c.args.self.now)) c.requires.independent c.args.place left room c.requires.place
     (left_within box c.args.place c.args.set left room c.intersection-left.ensures) some
-    (subst (λ (r : ℕ). CanFill (narrowed_at box c.args.place left) r) read (c.can_fill.ensures.0 good))
+    (subst (λ (r : ℕ). CanFill (pruned_at box c.args.place left) r) read (c.can_fill.ensures.0 good))
 
 pub returns-clause-order : goal.returns-clause-order
 returns-clause-order c good order least =
@@ -51,10 +51,10 @@ returns-clause-order c good order least =
     let read = read_number (events_on c.args.self.now) c.args.place c.byte_read-read.result c.byte_read-read.result.read refl c.byte_read-read.ensures.at in
     order_of_part box (c.laws_below.ensures.of_events (events_on c.args.self.now)) c.requires.independent c.args.place left room c.requires.place
     (left_within box c.args.place c.args.set left room c.intersection-left.ensures) some
-    (subst (λ (r : ℕ). CanFill (narrowed_at box c.args.place left) r) read (c.can_fill.ensures.0 good)) order least
+    (subst (λ (r : ℕ). CanFill (pruned_at box c.args.place left) r) read (c.can_fill.ensures.0 good)) order least
 
 pub returns-clause-cut : goal.returns-clause-cut
-returns-clause-cut c _ = grind (arith, common_steps, cut_on, narrowed_at, c.intersection-left.ensures)
+returns-clause-cut c _ = grind (arith, common_steps, cut_on, pruned_at, c.intersection-left.ensures)
 
 pub returns-clause-less : goal.returns-clause-less
 returns-clause-less c _ not_all =
@@ -70,8 +70,8 @@ returns-clause-none c failed x is takes =
     let box = box_with c.args.self.now c.args.domains.now in
     let left = c.intersection-left in
     let room : c.args.place < length box.domains = omega arith in
-    let part = narrowed_at box c.args.place left.result in
-    let is_box = narrowed_is_box box c.args.place left.result room (left_within box c.args.place c.args.set left.result room left.ensures)
+    let part = pruned_at box c.args.place left.result in
+    let is_box = pruned_is_box box c.args.place left.result room (left_within box c.args.place c.args.set left.result room left.ensures)
     c.requires.independent.is_box in
     let fills = c.completions_fill_each_read.ensures part x c.byte_read-read.result.read is_box
     (completion_taken box c.args.place c.args.set left.result room left.ensures x is takes) c.byte_read-read.ensures.read in

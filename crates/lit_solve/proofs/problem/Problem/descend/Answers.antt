@@ -1,7 +1,7 @@
 use Rattle.lit_solve.proofs.Words.{◌<◌, arith, byte_reads, length}
 use Rattle.lit_solve.specs.Box.{Box, events_on}
 use Rattle.lit_solve.specs.Internal.Frames.{box_of}
-use Rattle.lit_solve.proofs.DescendingLemmas.{alone_kept, alone_more, lowest_on}
+use Rattle.lit_solve.proofs.DescendingLemmas.{alone_below_stays, alone_more, lowest_on}
 use Rattle.lit_solve.proofs.problem.Problem.descend.Goals as goal
 
 pub loop-place-preserved-in-Some : goal.loop-place-preserved-in-Some
@@ -17,7 +17,7 @@ loop-place-preserved c = record {
   settled = c.in-Some-with_least.ensures.settled;
   alone =
       alone_more now c.loop-place.place
-      (alone_kept now was c.loop-place.place c.in-Some-with_least.ensures.lowest.within c.in-Some-with_least.ensures.settled.exact.contained.some
+      (alone_below_stays now was c.loop-place.place c.in-Some-with_least.ensures.lowest.within c.in-Some-with_least.ensures.settled.exact.contained.some
       (omega (arith, below)) c.loop-place.invariant.alone) c.in-Some-with_least.ensures.alone;
   lowest =
       lowest_on (box_of c.args.self.now c.args.frame.now) was now c.args.goal c.loop-place.place c.loop-place.invariant.lowest

@@ -10,8 +10,8 @@ returns-clause-exact c done =
     c.synchronize.ensures.exact (Forbids c.put_between.new.between) c.put_between.ensures.triples
     refl c.force.ensures.len (c.force.ensures.pairs done)
 
-pub returns-clause-calm : goal.returns-clause-calm
-returns-clause-calm c done e f =
+pub returns-clause-acyclic : goal.returns-clause-acyclic
+returns-clause-acyclic c done e f =
     c.force.ensures.cycle.1 (
       e,
       forced_whole (box_of c.args.self.now c.synchronize.new.frame) c.synchronize.new.frame c.synchronize.new.frame c.synchronize.ensures.contained
@@ -20,11 +20,11 @@ returns-clause-calm c done e f =
 
 pub returns-clause-cycle : goal.returns-clause-cycle
 returns-clause-cycle c failed =
-    let round = c.force.ensures.cycle.0 (not_true c.force.result failed) in
+    let forced_cycle = c.force.ensures.cycle.0 (not_true c.force.result failed) in
     subst (λ (domains : List EventSet). (x : ℕ)
     × IsForcedIn (record { test = c.args.self.now.0; combination = c.args.self.now.1; domains = domains }) x x) c.synchronize.ensures.domains (
-      round.0,
+      forced_cycle.0,
       forced_sound (box_of c.args.self.now c.synchronize.new.frame) c.synchronize.new.frame c.synchronize.new.frame
-          c.synchronize.ensures.contained c.synchronize.ensures.exact (Forbids c.put_between.new.between) c.put_between.ensures.triples round.0 round.0
-          round.1,
+          c.synchronize.ensures.contained c.synchronize.ensures.exact (Forbids c.put_between.new.between) c.put_between.ensures.triples forced_cycle.0 forced_cycle.0
+          forced_cycle.1,
     )

@@ -7,7 +7,7 @@ use Rattle.lit_solve.specs.Internal.Descending.{IsLowestAt}
 use Rattle.lit_solve.specs.Internal.Independent.{HasLeastOrderIn, IsIndependent}
 use Rattle.lit_solve.proofs.DescendingLemmas.{cut_alone, lowest_at}
 use Rattle.lit_solve.proofs.IndependentLemmas.{independent_solution}
-use Rattle.lit_solve.proofs.NarrowingLemmas.{source_known}
+use Rattle.lit_solve.proofs.PruningLemmas.{source_known}
 use Rattle.lit_solve.proofs.SearchingLemmas.{takes_some}
 use Rattle.lit_solve.proofs.problem.Problem.give_least.Goals as goal
 

@@ -10,7 +10,7 @@ returns-then-has_false_unwritten c =
     let box = box_of c.args.self.now c.args.frame.now in
     let unwritten = c.has_false_unwritten.ensures.0 c.if-has_false_unwritten.true in (
       (λ never. absurd (false≢true never)),
-      (λ some. absurd (no_false_unwritten box c.args.frame.now c.requires.settled c.requires.quiet (c.leaves_are_filled_read_by_read.ensures box)
+      (λ some. absurd (no_false_unwritten box c.args.frame.now c.requires.settled c.requires.leaf (c.leaves_are_filled_read_by_read.ensures box)
           some unwritten)),
     )
 
@@ -23,9 +23,9 @@ returns-then-can_fill_each c =
     let ordered = order_is_some c.least_order.result (λ order. order.items) (length (events_on c.args.self.now)) (HappensBeforeIn box)
     (IsForbiddenIn box) c.least_order.ensures.found c.least_order.ensures.none in (
       (λ some.
-          completion_found box c.args.frame.now c.requires.settled c.requires.quiet law unwritten
+          completion_found box c.args.frame.now c.requires.settled c.requires.leaf law unwritten
           (c.reads_are_filled_together.ensures box (c.can_fill_each.ensures.0 c.if-can_fill_each.true)) (ordered.0 (sym c.is_some.ensures ∙ some))),
-      (λ found. c.is_some.ensures ∙ ordered.1 (has_order box c.args.frame.now c.requires.settled c.requires.quiet law found)),
+      (λ found. c.is_some.ensures ∙ ordered.1 (has_order box c.args.frame.now c.requires.settled c.requires.leaf law found)),
     )
 
 pub returns-else-can_fill_each : goal.returns-else-can_fill_each
@@ -33,5 +33,5 @@ returns-else-can_fill_each c =
     let box = box_of c.args.self.now c.args.frame.now in (
       (λ never. absurd (false≢true (sym c.if-can_fill_each.false ∙ never))),
       (λ found. c.can_fill_each.ensures.1
-          (fills_each box c.args.frame.now c.requires.settled c.requires.quiet (c.leaves_are_filled_read_by_read.ensures box) found)),
+          (fills_each box c.args.frame.now c.requires.settled c.requires.leaf (c.leaves_are_filled_read_by_read.ensures box) found)),
     )

@@ -1,16 +1,16 @@
 use Rattle.lit_solve.proofs.Words.{inl, inr, sym}
 use Rattle.lit_rel.proofs.SetLemmas.{event_or_not}
 use Rattle.lit_solve.specs.Box.{box_with}
-use Rattle.lit_solve.proofs.DecidingLemmas.{undecided_by}
-use Rattle.lit_solve.proofs.NarrowingLemmas.{source_known}
+use Rattle.lit_solve.proofs.ReadValueLemmas.{undecided_by}
+use Rattle.lit_solve.proofs.PruningLemmas.{source_known}
 use Rattle.lit_solve.proofs.problem.Problem.has_other_byte.Goals as goal
 
-pub storing_alike-alike-requires-clause-source : goal.storing_alike-alike-requires-clause-source
-storing_alike-alike-requires-clause-source c =
+pub storing_same-matching-requires-clause-source : goal.storing_same-matching-requires-clause-source
+storing_same-matching-requires-clause-source c =
     source_known (box_with c.args.self.now c.args.domains.now) c.requires.is_box c.args.place c.args.source c.requires.place c.requires.there
 
-pub storing_alike-alike-requires-clause-known : goal.storing_alike-alike-requires-clause-known
-storing_alike-alike-requires-clause-known c w there =
+pub storing_same-matching-requires-clause-known : goal.storing_same-matching-requires-clause-known
+storing_same-matching-requires-clause-known c w there =
     source_known (box_with c.args.self.now c.args.domains.now) c.requires.is_box c.args.place w c.requires.place there
 
 pub returns-in-Some : goal.returns-in-Some
@@ -19,11 +19,11 @@ returns-in-Some c =
     let other = c.in-Some._other.0 in
     let differs = (c.difference.ensures other).0 c.in-Some.ensures.there in
     undecided_by box c.args.place c.args.source other c.requires.place c.requires.there differs.0
-    (λ same. differs.1 ((c.storing_alike-alike.ensures other).1 (differs.0, sym same)))
+    (λ same. differs.1 ((c.storing_same-matching.ensures other).1 (differs.0, sym same)))
 
 pub returns-in-None : goal.returns-in-None
 returns-in-None c w there =
-    elim (event_or_not c.storing_alike-alike.result w) [
-      | inl alike ↦ ((c.storing_alike-alike.ensures w).0 alike).1
+    elim (event_or_not c.storing_same-matching.result w) [
+      | inl matching ↦ ((c.storing_same-matching.ensures w).0 matching).1
       | inr other ↦ absurd (c.in-None.ensures w ((c.difference.ensures w).1 (there, other)))
     ]

@@ -3,7 +3,7 @@ use Rattle.lit_solve.proofs.Words.{IsCoherentRead, IsTrue, Litmus, slice_get, So
 use Rattle.std.specs.Prelude.{Bool, true, false, not}
 use Rattle.lit_solve.specs.Box.{events_on}
 use Rattle.lit_solve.specs.Internal.Frames.{IsProblem}
-use Rattle.lit_solve.proofs.NarrowingLemmas.{coherent_if_none, none_if_coherent}
+use Rattle.lit_solve.proofs.PruningLemmas.{coherent_if_none, none_if_coherent}
 use Rattle.lit_solve.proofs.problem.Problem.is_coherent.Goals as goal
 
 pub returns-then-not-holds : goal.returns-then-not-holds
@@ -34,7 +34,7 @@ returns-then-not-holds c =
     ∙ c.byte_read.ensures.is in
     let not_later : ¬ Holds order.rows read c.args.source = λ later. false≢true (sym c.if-not-holds.true ∙ c.holds.ensures.1 later) in
     subst (λ (q : ℕ × ℕ). IsTrue c.is_empty.result ↔ IsCoherentRead events (Holds order.rows) q.0 q.1 c.args.source) is_read (
-      (λ empty. coherent_if_none events order.rows c.requires.contained.before_len read byte c.args.source c.intersection.result both c.requires.calm
+      (λ empty. coherent_if_none events order.rows c.requires.contained.before_len read byte c.args.source c.intersection.result both c.requires.acyclic
           not_later (c.is_empty.ensures.0 empty)),
       (λ coherent. c.is_empty.ensures.1
           (none_if_coherent events order.rows c.requires.contained.before_len read byte c.args.source c.intersection.result both coherent)),

@@ -5,12 +5,12 @@ use Rattle.lit_solve.proofs.problem.Problem.least.Goals as goal
 
 pub returns-in-Some : goal.returns-in-Some
 returns-in-Some c =
-    let new = box_of c.args.self.now c.lead.new.frame in
-    least_found (box_of c.args.self.now c.args.frame.now) new c.args.goal (c.lead.ensures.lowest c.if-not-lead.false) (c.lead.ensures.alone c.if-not-lead.false)
-    (c.lead.ensures.settled c.if-not-lead.false).exact.contained.is_box (c.leaves_have_one_order.ensures new) (c.lead.ensures.found c.if-not-lead.false)
+    let new = box_of c.args.self.now c.find_least.new.frame in
+    least_found (box_of c.args.self.now c.args.frame.now) new c.args.goal (c.find_least.ensures.lowest c.if-not-find_least.false) (c.find_least.ensures.alone c.if-not-find_least.false)
+    (c.find_least.ensures.settled c.if-not-find_least.false).exact.contained.is_box (c.leaves_have_one_order.ensures new) (c.find_least.ensures.found c.if-not-find_least.false)
     c.sources_of.result.items c.sources_of.ensures.one_each c.sources_of.ensures.within c.in-Some.order.items c.in-Some.ensures.found
 
 pub returns-in-None : goal.returns-in-None
 returns-in-None c _ =
-    let found = c.lead.ensures.found c.if-not-lead.false in
-    let order = order_given (box_of c.args.self.now c.lead.new.frame) found.0 found.1.completes in c.in-None.ensures.none order.0 order.1
+    let found = c.find_least.ensures.found c.if-not-find_least.false in
+    let order = order_given (box_of c.args.self.now c.find_least.new.frame) found.0 found.1.completes in c.in-None.ensures.none order.0 order.1

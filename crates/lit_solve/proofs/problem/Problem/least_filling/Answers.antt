@@ -2,7 +2,7 @@ use Rattle.lit_solve.proofs.Words.{◌<◌, arith, byte_reads, length, subst, �
 use Rattle.lit_solve.specs.declared.goal.Goal.TheVariants.{Any}
 use Rattle.lit_solve.specs.Box.{Box, box_with, events_on}
 use Rattle.lit_solve.specs.Internal.Descending.{AreAloneBelow}
-use Rattle.lit_solve.proofs.DescendingLemmas.{alone_kept, alone_more, lowest_on}
+use Rattle.lit_solve.proofs.DescendingLemmas.{alone_below_stays, alone_more, lowest_on}
 use Rattle.lit_solve.proofs.IndependentLemmas.{independent_solution}
 use Rattle.lit_solve.proofs.LeastLemmas.{least_found}
 use Rattle.lit_solve.proofs.problem.Problem.least_filling.Goals as goal
@@ -13,7 +13,7 @@ loop-place-preserved c = record {
   order = λ order least. c.give_least.ensures.order order (c.loop-place.invariant.order order least);
   alone =
       alone_more now c.loop-place.place
-      (alone_kept now was c.loop-place.place c.give_least.ensures.lowest.within c.give_least.ensures.independent.some (omega (arith, below))
+      (alone_below_stays now was c.loop-place.place c.give_least.ensures.lowest.within c.give_least.ensures.independent.some (omega (arith, below))
       c.loop-place.invariant.alone) c.give_least.ensures.alone;
   lowest =
       lowest_on (box_with c.args.self.now c.args.domains.now) was now Any c.loop-place.place c.loop-place.invariant.lowest c.give_least.ensures.lowest

@@ -4,7 +4,7 @@ use Rattle.lit_solve.proofs.Words.{◌∙◌, ◌≡◌, ◌≤◌}
 use Rattle.lit_solve.specs.Box.{events_on}
 use Rattle.lit_solve.specs.Prunable.{IsRefusedOn}
 use Rattle.lit_solve.proofs.CandidateLemmas.{sets_more}
-use Rattle.lit_solve.proofs.NarrowingLemmas.{as_many}
+use Rattle.lit_solve.proofs.PruningLemmas.{as_many}
 use Rattle.lit_solve.proofs.problem.Problem.open.Goals as goal
 
 pub candidates_of-all-requires : goal.candidates_of-all-requires

@@ -1,5 +1,5 @@
 use Rattle.lit_solve.proofs.Words.{[], arith, Bool, MatchBool, subst, sym, ◌≡◌}
-use Rattle.lit_solve.specs.Internal.Deciding.{stored_for}
+use Rattle.lit_solve.specs.Internal.ConditionValues.{stored_for}
 use Rattle.lit_solve.specs.Box.{box_with}
 use Rattle.lit_solve.proofs.problem.Problem.part.Goals as goal
 

@@ -9,5 +9,5 @@ returns-in-Same-clause-coherent c done =
 
 pub returns-clause-none : goal.returns-clause-none
 returns-clause-none c failed x is =
-    c.refuted_boxes_have_no_completion.ensures (box_of c.args.self.now c.propagating.frame) x c.propagating.invariant.contained.is_box
-    (inl (c.force.ensures.cycle c.propagating-test.false)) (c.propagating.invariant.narrows.kept x is)
+    c.refuted_boxes_have_no_completion.ensures (box_of c.args.self.now c.propagation.frame) x c.propagation.invariant.contained.is_box
+    (inl (c.force.ensures.cycle c.propagation-test.false)) (c.propagation.invariant.prunes.retained x is)

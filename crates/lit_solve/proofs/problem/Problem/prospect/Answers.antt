@@ -1,16 +1,16 @@
 use Rattle.lit_solve.proofs.Words.{false≢true, subst, sym, ◌∙◌}
 use Rattle.lit_solve.specs.declared.goal.Goal.{Goal}
 use Rattle.lit_solve.specs.Goal.{Meets}
-use Rattle.lit_solve.specs.Internal.Deciding.{IsProspect}
+use Rattle.lit_solve.specs.Internal.ConditionValues.{IsProspect}
 use Rattle.lit_solve.specs.Internal.Frames.{box_of}
-use Rattle.lit_solve.proofs.RegisterLemmas.{foreseen}
+use Rattle.lit_solve.proofs.RegisterLemmas.{prospect_of_completions}
 use Rattle.lit_solve.proofs.problem.Problem.prospect.Goals as goal
 
 pub returns-in-OfClass : goal.returns-in-OfClass
 returns-in-OfClass c =
     let box = box_of c.args.self.now c.args.frame.now in
     subst (λ (g : Goal). IsProspect box g c.prospect_of.result) (sym c.in-OfClass.is)
-    (foreseen c.laws_below.ensures box c.requires.exact.contained.is_box c.in-OfClass.class c.prospect_of.result c.prospect_of.ensures)
+    (prospect_of_completions c.laws_below.ensures box c.requires.exact.contained.is_box c.in-OfClass.class c.prospect_of.result c.prospect_of.ensures)
 
 pub returns-else-races : goal.returns-else-races
 returns-else-races c x is meets =
@@ -18,4 +18,4 @@ returns-else-races c x is meets =
     let race = subst (λ (g : Goal). Meets box.test g x) c.in-Race.is meets in
     false≢true (sym c.if-races.false
     ∙ c.races.ensures.1
-    (c.boxes_foresee_races.ensures.may box (c.boxes_foresee_races.ensures.filled box x c.requires.exact.contained.is_box is race)))
+    (c.boxes_bound_races.ensures.may box (c.boxes_bound_races.ensures.filled box x c.requires.exact.contained.is_box is race)))

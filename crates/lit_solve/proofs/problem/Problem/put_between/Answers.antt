@@ -18,6 +18,6 @@ pub returns-clause-triples : goal.returns-clause-triples
 returns-clause-triples c w r v =
     let all : c.loop-place.place ≡ length (byte_reads (events_on c.args.self.now)) = omega
     (arith, c.loop-place-test.false, c.loop-place.auto.place-end, c.reads-place-end.ensures.value) in
-    let kept = c.loop-place.invariant.triples w r v in
+    let retained = c.loop-place.invariant.triples w r v in
     let given = forbidden_in (box_of c.args.self.now c.args.frame.now) c.loop-place.place w r v all in
-    (λ f. given.0 (kept.0 f), λ f. kept.1 (given.1 f))
+    (λ f. given.0 (retained.0 f), λ f. retained.1 (given.1 f))

@@ -2,7 +2,7 @@ use Rattle.std.proofs.Common.{arith}
 use Rattle.lit_solve.proofs.Words.{false≢true}
 use Rattle.lit_rel.proofs.SetLemmas.{split_less}
 use Rattle.lit_solve.specs.Internal.Frames.{box_of}
-use Rattle.lit_solve.proofs.NarrowingLemmas.{source_known}
+use Rattle.lit_solve.proofs.PruningLemmas.{source_known}
 use Rattle.lit_solve.proofs.RacingLemmas.{may_have_source, read_number}
 use Rattle.lit_solve.proofs.ReadByteLemmas.{vain_more}
 use Rattle.lit_solve.proofs.problem.Problem.races_at.Goals as goal

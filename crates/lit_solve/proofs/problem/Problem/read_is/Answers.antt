@@ -1,12 +1,12 @@
 use Rattle.lit_solve.proofs.Words.{◌+◌, ◌<◌, ◌^◌, ap, arith, Bool, byte_reads, ByteRead, cases_lt, common_steps, Event, event_at}
 use Rattle.lit_solve.proofs.Words.{false≢true, inl, inr, List, pair_of, slice_get, Some, subst, sym, ℕ, ◌∙◌, ◌≡◌, ◌≤◌}
-use Rattle.lit_solve.specs.declared.deciding.Decided.{Decided}
-use Rattle.lit_solve.specs.declared.deciding.Decided.TheVariants.{Comes}
+use Rattle.lit_solve.specs.declared.condition_values.Decided.{Decided}
+use Rattle.lit_solve.specs.declared.condition_values.Decided.TheVariants.{Known}
 use Rattle.lit_solve.specs.Prospect.{IsUndecidedAt}
-use Rattle.lit_solve.specs.Internal.Deciding.{IsByteDecided}
+use Rattle.lit_solve.specs.Internal.ConditionValues.{IsByteDecided}
 use Rattle.lit_solve.specs.Box.{Box, box_with, events_on}
-use Rattle.lit_solve.proofs.DecidingLemmas.{IsDecidedBelow, byte_at, decided_all, decided_next, other_byte, too_large}
-use Rattle.lit_solve.proofs.problem.Problem.read_is.Goals.{then-from-read+in-Comes-true, then-from-read+in-Hangs, else-from-read}
+use Rattle.lit_solve.proofs.ReadValueLemmas.{IsDecidedBelow, byte_at, decided_all, decided_next, other_byte, too_large}
+use Rattle.lit_solve.proofs.problem.Problem.read_is.Goals.{then-from-read+in-Known-true, then-from-read+in-Undecided, else-from-read}
 use Rattle.lit_solve.proofs.problem.Problem.read_is.Goals as goal
 
 -- an event that was found among these
@@ -61,8 +61,8 @@ bounds-bytes-from c =
       ]
     ]
 
-pub returns-in-Comes-false : goal.returns-in-Comes-false
-returns-in-Comes-false c =
+pub returns-in-Known-false : goal.returns-in-Known-false
+returns-in-Known-false c =
     let p = c.args.self.now in
     let box = box_with p c.args.domains.now in
     let event_is = event_on c.args.read c.event_at-event.ensures c.events.ensures.value in
@@ -70,7 +70,7 @@ returns-in-Comes-false c =
     let here = byte_of (events_on p) c.loop-place.place c.args.read at c.byte_read-at.ensures.at (sym c.from.ensures ∙ c.if-from-read.true) in
     let byte = byte_at c.args.value c.to_le_bytes-bytes.result c.from-then-from-read.result at.byte (event_at (events_on p) c.args.read).first
     c.event_at-event.result.now.first c.to_le_bytes-bytes.ensures c.from-then-from-read.ensures (ap (λ (e : Event). e.first) event_is) in
-    let comes = c.in-Comes-false.is ∙ ap (λ (b : Bool). Comes b) c.in-Comes-false.field-0-test in
+    let comes = c.in-Known-false.is ∙ ap (λ (b : Bool). Known b) c.in-Known-false.field-0-test in
     other_byte box c.args.read c.args.value c.events.ensures.sound c.requires.known c.requires.reads c.loop-place.place at.byte here
     (decided_on box c.loop-place.place byte comes c.byte_is.ensures)
 
@@ -84,15 +84,15 @@ loop-place-preserved c =
     let next = decided_next box c.args.read c.args.value c.events.ensures.sound c.requires.known c.requires.reads place (pair_of at)
     c.loop-place.decided c.byte_read-at.ensures.at in
     elim c.if-from-read.branch [
-      | then-from-read+in-Comes-true w ↦
+      | then-from-read+in-Known-true w ↦
           let byte = byte_at c.args.value c.to_le_bytes-bytes.result w.from-then-from-read.result at.byte (event_at (events_on p) c.args.read).first
           c.event_at-event.result.now.first c.to_le_bytes-bytes.ensures w.from-then-from-read.ensures (ap (λ (e : Event). e.first) event_is) in
-          let comes = w.in-Comes-true.is ∙ ap (λ (b : Bool). Comes b) w.in-Comes-true.field-0-test in
+          let comes = w.in-Known-true.is ∙ ap (λ (b : Bool). Known b) w.in-Known-true.field-0-test in
           subst (IsDecidedBelow box c.args.read c.args.value (place + 1)) (sym w.decided-is)
           (next (inr (decided_on box place byte comes w.byte_is.ensures)) c.loop-place.invariant)
-      | then-from-read+in-Hangs w ↦
+      | then-from-read+in-Undecided w ↦
           subst (IsDecidedBelow box c.args.read c.args.value (place + 1)) (sym w.decided-is)
-          (subst (IsUndecidedAt box) (sym w.in-Hangs.ensures.0) w.in-Hangs.ensures.1)
+          (subst (IsUndecidedAt box) (sym w.in-Undecided.ensures.0) w.in-Undecided.ensures.1)
       | else-from-read w ↦
           subst (IsDecidedBelow box c.args.read c.args.value (place + 1)) (sym w.decided-is)
           (next (inl (λ same. w.if-from-read.false (c.from.ensures ∙ same))) c.loop-place.invariant)

@@ -1,5 +1,5 @@
 use Rattle.lit_solve.specs.Box.{box_with}
-use Rattle.lit_solve.proofs.DecidingLemmas.{IsDecidedBelow}
+use Rattle.lit_solve.proofs.ReadValueLemmas.{IsDecidedBelow}
 use Rattle.lit_solve.proofs.problem.Problem.read_is.Given as goal
 
 abbrev pub invariant-loop-place : goal.invariant-loop-place

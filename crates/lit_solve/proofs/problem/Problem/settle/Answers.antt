@@ -2,7 +2,7 @@ use Rattle.lit_solve.proofs.Words.{arith, common_steps, EventSet, inl, inr, List
 use Rattle.lit_solve.specs.Box.{box_with}
 use Rattle.lit_solve.specs.Completion.{IsCompletion}
 use Rattle.lit_solve.specs.Internal.Frames.{box_of}
-use Rattle.lit_solve.proofs.DomainLemmas.{narrows_on}
+use Rattle.lit_solve.proofs.DomainLemmas.{prunes_on}
 use Rattle.lit_solve.proofs.FrameLemmas.{not_true}
 use Rattle.lit_solve.proofs.problem.Problem.settle.Goals as goal
 use Rattle.lit_solve.proofs.problem.Problem.settle.Goals.{else-propagate-via-then-propagate+else-can_fill_each, else-propagate-via-else-propagate}
@@ -16,7 +16,7 @@ pub returns-then-has_empty-clause-none : goal.returns-then-has_empty-clause-none
 returns-then-has_empty-clause-none c x is =
     let left = c.consistent-domains in
     c.refuted_boxes_have_no_completion.ensures (box_with c.args.self.now left.result) x left.ensures.is_box
-    (inr (inl (c.has_empty.ensures.0 c.if-has_empty.true))) (left.ensures.narrows.kept x is)
+    (inr (inl (c.has_empty.ensures.0 c.if-has_empty.true))) (left.ensures.prunes.retained x is)
 
 pub can_fill_each-requires-clause-is_box : goal.can_fill_each-requires-clause-is_box
 can_fill_each-requires-clause-is_box c = (c.propagate.ensures.exact c.if-propagate.true).contained.is_box
@@ -27,24 +27,24 @@ can_fill_each-requires-clause-some c = (c.propagate.ensures.exact c.if-propagate
 pub returns-then-can_fill_each-clause-settled : goal.returns-then-can_fill_each-clause-settled
 returns-then-can_fill_each-clause-settled c = record {
   exact = c.propagate.ensures.exact c.if-propagate.true;
-  calm = c.propagate.ensures.calm c.if-propagate.true;
+  acyclic = c.propagate.ensures.acyclic c.if-propagate.true;
   coherent = c.propagate.ensures.coherent c.if-propagate.true;
 }
 
-pub returns-then-can_fill_each-clause-narrows : goal.returns-then-can_fill_each-clause-narrows
-returns-then-can_fill_each-clause-narrows c = grind (arith, common_steps, narrows_on, c.propagate.ensures.narrows)
+pub returns-then-can_fill_each-clause-prunes : goal.returns-then-can_fill_each-clause-prunes
+returns-then-can_fill_each-clause-prunes c = grind (arith, common_steps, prunes_on, c.propagate.ensures.prunes)
 
 -- a completion of the box would fill each read
 pub returns-else-propagate-clause-none : goal.returns-else-propagate-clause-none
 returns-else-propagate-clause-none c x is =
     let Completes : List EventSet → Type 0 = λ domains. IsCompletion (box_with c.args.self.now domains) x in
     let begun : IsCompletion (box_of c.args.self.now c.unsettled-frame.result) x =
-    subst Completes (sym c.unsettled-frame.ensures.domains) (c.consistent-domains.ensures.narrows.kept x is) in
+    subst Completes (sym c.unsettled-frame.ensures.domains) (c.consistent-domains.ensures.prunes.retained x is) in
     elim c.else-propagate.branch [
       | else-propagate-via-then-propagate+else-can_fill_each w ↦
           let is_box = (c.propagate.ensures.exact w.if-propagate.true).contained.is_box in
-          let kept = (c.propagate.ensures.narrows w.if-propagate.true).kept x begun in
+          let retained = (c.propagate.ensures.prunes w.if-propagate.true).retained x begun in
           let fills = c.completions_fill_each_read.ensures (box_of c.args.self.now c.propagate.new.frame) x in
-          not_true w.can_fill_each.result w.if-can_fill_each.false (w.can_fill_each.ensures.1 (λ r known. fills r is_box kept known))
+          not_true w.can_fill_each.result w.if-can_fill_each.false (w.can_fill_each.ensures.1 (λ r known. fills r is_box retained known))
       | else-propagate-via-else-propagate w ↦ c.propagate.ensures.none w.if-propagate.false x begun
     ]

@@ -1,7 +1,7 @@
 use Rattle.lit_solve.proofs.Words.{◌++◌, ◌<◌, [], ap, arith, length, length-append, List, subst, sym, ℕ, ◌∙◌, ◌∷◌, ◌≡◌}
 use Rattle.lit_solve.specs.Box.{Box, HasSource, LiesIn, box_with, events_on}
 use Rattle.lit_solve.proofs.LeastLemmas.{lies_more}
-use Rattle.lit_solve.proofs.NarrowingLemmas.{source_known}
+use Rattle.lit_solve.proofs.PruningLemmas.{source_known}
 use Rattle.lit_solve.proofs.problem.Problem.sources_of.Goals as goal
 use Rattle.lit_solve.proofs.problem.Problem.sources_of.Goals.{in-Some, in_default}
 

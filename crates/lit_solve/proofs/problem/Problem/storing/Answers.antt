@@ -1,6 +1,6 @@
 use Rattle.lit_solve.proofs.Words.{ap, arith, common_steps, Event, length, List}
 use Rattle.lit_solve.specs.Box.{box_with}
-use Rattle.lit_solve.proofs.NarrowingLemmas.{source_known}
+use Rattle.lit_solve.proofs.PruningLemmas.{source_known}
 use Rattle.lit_solve.proofs.problem.Problem.storing.Goals as goal
 
 pub storing-requires-clause-known : goal.storing-requires-clause-known

@@ -1,7 +1,7 @@
 use Rattle.lit_solve.proofs.Words.{◌<◌, ap, arith, EventSet, Holds, inl, inr, List, subst, sym, ℕ, ◌∙◌, ◌≡◌, ◌⊎◌}
 use Rattle.lit_solve.specs.Box.{Box}
 use Rattle.lit_solve.specs.Internal.Frames.{IsSynchronizedAt, box_of}
-use Rattle.lit_solve.proofs.FrameLemmas.{before_exact, below_or_last, synchronized_kept}
+use Rattle.lit_solve.proofs.FrameLemmas.{before_exact, below_or_last, synchronized_stays}
 use Rattle.lit_solve.proofs.problem.Problem.synchronize.Goals as goal
 
 pub loop-place-preserved : goal.loop-place-preserved
@@ -21,7 +21,7 @@ loop-place-preserved c = record {
     same = ap (λ (domains : List EventSet). record { test = c.args.self.now.0; combination = c.args.self.now.1; domains = domains }) (sym c.put_synchronized.ensures.domains)
 
     by : (k : ℕ) → (k < c.loop-place.place) ⊎ (k ≡ c.loop-place.place) → IsSynchronizedAt now (Holds c.put_synchronized.new.frame.happens_before.rows) k
-    by k (inl below) = synchronized_kept was now (Holds c.loop-place.frame.happens_before.rows) (Holds c.put_synchronized.new.frame.happens_before.rows) k same c.put_synchronized.ensures.grows (c.loop-place.invariant.there k below)
+    by k (inl below) = synchronized_stays was now (Holds c.loop-place.frame.happens_before.rows) (Holds c.put_synchronized.new.frame.happens_before.rows) k same c.put_synchronized.ensures.grows (c.loop-place.invariant.there k below)
     by k (inr last) = subst (λ (i : ℕ). IsSynchronizedAt now (Holds c.put_synchronized.new.frame.happens_before.rows) i) (sym last) c.put_synchronized.ensures.there
 
 pub returns-clause-exact : goal.returns-clause-exact

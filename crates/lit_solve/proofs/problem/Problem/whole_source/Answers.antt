@@ -1,6 +1,6 @@
 use Rattle.lit_solve.proofs.Words.{◌<◌, Event, length, List, subst, sym}
 use Rattle.lit_solve.specs.Internal.Frames.{box_of}
-use Rattle.lit_solve.proofs.NarrowingLemmas.{source_known}
+use Rattle.lit_solve.proofs.PruningLemmas.{source_known}
 use Rattle.lit_solve.proofs.problem.Problem.whole_source.Goals as goal
 
 pub event_at-requires-2 : goal.event_at-requires-2

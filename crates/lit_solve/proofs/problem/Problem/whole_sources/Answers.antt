@@ -4,7 +4,7 @@ use Rattle.std.specs.Prelude.{length}
 use Rattle.lit_solve.specs.Given.{GivenIn}
 use Rattle.lit_solve.specs.Box.{events_on}
 use Rattle.lit_solve.specs.Internal.Frames.{box_of}
-use Rattle.lit_solve.proofs.NarrowingLemmas.{read_here}
+use Rattle.lit_solve.proofs.PruningLemmas.{read_here}
 use Rattle.lit_solve.proofs.problem.Problem.whole_sources.Goals as goal
 use Rattle.lit_solve.proofs.problem.Problem.whole_sources.Goals.{then-byte_read-read, else-byte_read-read}
 

@@ -6,7 +6,7 @@ use Rattle.lit_solve.specs.Given.{HasAlone}
 use Rattle.lit_solve.specs.Internal.Frames.{box_of}
 use Rattle.lit_solve.proofs.DescendingLemmas.{cut_alone, lowest_at}
 use Rattle.lit_solve.proofs.FrameLemmas.{not_true}
-use Rattle.lit_solve.proofs.NarrowingLemmas.{source_known}
+use Rattle.lit_solve.proofs.PruningLemmas.{source_known}
 use Rattle.lit_solve.proofs.SearchingLemmas.{solution_in, takes_some}
 use Rattle.lit_solve.proofs.problem.Problem.with_least.Goals as goal
 use Rattle.lit_solve.proofs.problem.Problem.with_least.Goals.{else-cut-via-then-cut+else-is_promising, else-cut-via-else-cut}

@@ -1,7 +1,7 @@
 use Rattle.lit_solve.proofs.Words.{ap, CanReadWhole, Event, event_at, false≢true, HasEvent, inl, inr, IsTrue, List, subst, sym, ℕ, ◌↔◌, ◌∙◌}
 use Rattle.lit_solve.proofs.Words.{◌≡◌, ◌≢◌}
 use Rattle.lit_solve.specs.Box.{events_on}
-use Rattle.lit_solve.proofs.NarrowingLemmas.{none_or_some}
+use Rattle.lit_solve.proofs.PruningLemmas.{none_or_some}
 use Rattle.lit_solve.proofs.problem.Problem.would_tear.Goals as goal
 
 pub returns-then-not-is_empty : goal.returns-then-not-is_empty

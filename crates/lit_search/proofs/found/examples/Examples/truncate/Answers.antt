@@ -2,11 +2,11 @@ use Rattle.std.proofs.Common.{List, ap, map, sym, take, ◌∙◌}
 use Rattle.std.proofs.lemmas.List.{take-map}
 use Rattle.std.specs.Box.{boxed_slice_items}
 use Rattle.lit_search.specs.Report.{Entry}
-use Rattle.lit_search.proofs.RisenEntries.{kept}
+use Rattle.lit_search.proofs.RisenEntries.{entry_of_pair}
 use Rattle.lit_search.proofs.found.examples.Examples.truncate.Goals as goal
 
 pub returns : goal.returns
 returns c =
-    ap (map (kept boxed_slice_items (λ x. x.choice) (λ x. x.order.items))) c.truncate.ensures.entries
-    ∙ sym (take-map (kept boxed_slice_items (λ x. x.choice) (λ x. x.order.items)) c.args.len c.self.inside.by_outcome.entries)
+    ap (map (entry_of_pair boxed_slice_items (λ x. x.choice) (λ x. x.order.items))) c.truncate.ensures.entries
+    ∙ sym (take-map (entry_of_pair boxed_slice_items (λ x. x.choice) (λ x. x.order.items)) c.args.len c.self.inside.by_outcome.entries)
     ∙ ap (λ (es : List Entry). take c.args.len es) c.self.view_is

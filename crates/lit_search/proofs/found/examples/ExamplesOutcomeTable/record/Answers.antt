@@ -3,7 +3,7 @@ use Rattle.std.specs.Box.{boxed_slice_items}
 use Rattle.lit_valid.specs.Entry.{HasOutcome}
 use Rattle.lit_search.specs.Examples.{entries_in}
 use Rattle.lit_search.specs.Report.{Entry}
-use Rattle.lit_search.proofs.RisenEntries.{kept, put_new}
+use Rattle.lit_search.proofs.RisenEntries.{entry_of_pair, put_new}
 use Rattle.lit_search.proofs.found.examples.ExamplesOutcomeTable.record.Goals as goal
 
 pub returns-clause-ok : goal.returns-clause-ok
@@ -14,7 +14,7 @@ returns-clause-ok c =
     let M : List Entry → Type 0 = λ r. ¬ HasOutcome r c.args.outcome.now in
     let new : ¬ HasOutcome old (boxed_slice_items c.in_ok-outcome.outcome) = subst N (sym made) (subst M (sym c.self.view_is) c.requires) in
     let one : List ℕ → List Entry = λ o. record { outcome = o; choice = c.args.choice; order = c.args.order.items } ∷ [] in
-    ap (map (kept boxed_slice_items (λ x. x.choice) (λ x. x.order.items))) c.in_ok-insert.ensures.entries
+    ap (map (entry_of_pair boxed_slice_items (λ x. x.choice) (λ x. x.order.items))) c.in_ok-insert.ensures.entries
     ∙ put_new boxed_slice_items (λ x. x.choice) (λ x. x.order.items) c.self.inside.by_outcome.entries c.in_ok-outcome.outcome
     (record { choice = c.args.choice; order = c.args.order }) new
     ∙ ap (λ (o : List ℕ). old ++ one o) made

@@ -1,0 +1,83 @@
+//! The least solution of a frame: by greedy descent, and by a complete search where the descent ends at none.
+
+ghost use Rattle.std.specs.Prelude.{◌≡◌, IsFalse, IsTrue, MatchOption, length};
+ghost use Rattle.lit_paths.specs.ByteReads.{byte_reads};
+ghost use Rattle.lit_solve.specs.Box.{IsBox, LiesIn, box_with, events_on};
+ghost use Rattle.lit_solve.specs.Completion.{HasSolution, IsLeastSolution};
+ghost use Rattle.lit_solve.specs.Internal.Descending.{AreAloneBelow, IsLowest};
+ghost use Rattle.lit_solve.specs.Internal.Frames.{box_of};
+ghost use Rattle.lit_solve.specs.Internal.Settled.{IsSettled};
+
+use crate::domains::{Domains, only_one};
+use crate::frame::Frame;
+use crate::goal::Goal;
+use crate::laws::leaves_have_one_order;
+use crate::problem::Problem;
+use lit_order::Order;
+use lit_paths::Sources;
+
+/// The least solution: its sources, in the order of the byte reads, and its least memory-order.
+#[derive(Drop)]
+pub struct Least {
+    pub sources: Sources,
+    pub order: Order,
+}
+
+impl Problem<'_> {
+    /// The source of each byte read, where each domain has one.
+    pub(crate) fn sources_of(&self, domains: &Domains) -> Sources
+        requires is_box { IsBox (box_with self.now domains.now) }
+        requires alone { AreAloneBelow (box_with self.now domains.now) (length (byte_reads (events_on self.now))) }
+        ensures one_each { length result.items ≡ length (byte_reads (events_on self.now)) }
+        ensures within { LiesIn (box_with self.now domains.now) result.items }
+    {
+        // For the prover: event numbers are small.
+        let _events = self.events();
+        let mut sources = Sources::new();
+        for place in 0..self.reads() {
+            if let Some(source) = only_one(domains[place]) {
+                sources.push(source as u8);
+            }
+        }
+        sources
+    }
+
+    /// Descends to the frame of the least solution, in which each domain has one source. Answers whether there is a solution.
+    fn find_least(&self, frame: &mut Frame, goal: Goal) -> bool
+        requires { IsSettled (box_of self.now frame.old) frame.old }
+        ensures settled { IsTrue result → IsSettled (box_of self.now frame.new) frame.new }
+        ensures alone { IsTrue result → AreAloneBelow (box_of self.now frame.new) (length (byte_reads (events_on self.now))) }
+        ensures lowest { IsTrue result → IsLowest (box_of self.now frame.old) goal (box_of self.now frame.new) }
+        ensures found { IsTrue result → HasSolution (box_of self.now frame.new) goal }
+        ensures none { IsFalse result → ¬ HasSolution (box_of self.now frame.old) goal }
+    {
+        // The descent changes a copy: if it fails, the complete search starts from the frame.
+        let mut down = *frame;
+        if self.descend(&mut down, goal, false) && self.exists(&down, goal) {
+            *frame = down;
+            return true;
+        }
+        // A source that is not refuted may still be in no solution, so that a failed descent proves nothing.
+        self.exists(&*frame, goal) && self.descend(frame, goal, true)
+    }
+
+    /// The least solution of a frame, or `None` exactly if there is none.
+    pub(crate) fn least(&self, frame: &Frame, goal: Goal) -> Option<Least>
+        requires { IsSettled (box_of self.now frame.now) frame.now }
+        ensures { MatchOption result (¬ HasSolution (box_of self.now frame.now) goal)
+            (λ least. IsLeastSolution (box_of self.now frame.now) goal least.sources.items least.order.items) }
+    {
+        leaves_have_one_order();
+        let mut down = *frame;
+        if !self.find_least(&mut down, goal) {
+            return None;
+        }
+        match self.least_order(&down) {
+            Some(order) => Some(Least {
+                sources: self.sources_of(&down.domains),
+                order,
+            }),
+            None => None,
+        }
+    }
+}

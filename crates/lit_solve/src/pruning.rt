@@ -1,0 +1,242 @@
+//! Pruning: sources that no completion has, by the relations of a frame, are removed from its domains.
+
+ghost use Rattle.std.specs.Prelude.{◌≡◌, ◌≢◌, ◌↔◌, ℕ, ◌<◌, IsFalse, IsTrue, length};
+ghost use Rattle.lit_paths.specs.ByteReads.{byte_read_at, byte_reads};
+ghost use Rattle.lit_paths.specs.Event.{event_at as event_of};
+ghost use Rattle.lit_rel.specs.Coherent.{IsCoherentRead};
+ghost use Rattle.lit_rel.specs.EventSet.{HasEvent};
+ghost use Rattle.lit_rel.specs.Forbidden.{IsForbiddenBetween};
+ghost use Rattle.lit_rel.specs.Rows.{Holds};
+ghost use Rattle.lit_rel.specs.SynchronizesWith.{CanSynchronize};
+ghost use Rattle.lit_rel.specs.TearFree.{CanReadWhole, ReadsWholeBy};
+ghost use Rattle.lit_solve.specs.Box.{HasSource, events_on};
+ghost use Rattle.lit_solve.specs.Given.{GivenIn, HasAlone};
+ghost use Rattle.lit_solve.specs.Prunable.{IsPrunable};
+ghost use Rattle.lit_solve.specs.Internal.Frames.{AreCoherentAt, IsContained, box_of};
+ghost use Rattle.lit_solve.specs.Internal.Pruning.{HasNoCompletion, Prunes, size_of};
+ghost use Rattle.lit_solve.specs.declared.pruning.Pruned.TheVariants.{Empty, Less, Same};
+
+use crate::domains::only_one;
+use crate::frame::Frame;
+use crate::laws::completions_have_no_prunable_source;
+use crate::problem::Problem;
+use lit_paths::event_at;
+use lit_rel::{EventSet, can_read_whole, can_synchronize, others_between};
+
+/// What a pass of pruning did to the domains.
+#[derive(Clone, Copy, Debug, PartialEq, Eq)]
+pub(crate) enum Pruned {
+    /// It removed nothing.
+    Same,
+    /// It removed some sources, and no domain is empty.
+    Less,
+    /// A domain is empty.
+    Empty,
+}
+
+impl Problem<'_> {
+    /// Whether the byte read at a place is coherent (29.7.2) with a source, by a frame's happens-before, which is acyclic.
+    fn is_coherent(&self, frame: &Frame, place: usize, source: usize) -> bool
+        requires place { place < length (byte_reads (events_on self.now)) }
+        requires contained { IsContained (box_of self.now frame.now) frame.now }
+        requires source { source < length (events_on self.now) }
+        requires acyclic { (e : ℕ) → ¬ Holds frame.now.happens_before.rows e e }
+        ensures { IsTrue result ↔ IsCoherentRead (events_on self.now) (Holds frame.now.happens_before.rows)
+            (byte_read_at (events_on self.now) place).0 (byte_read_at (events_on self.now) place).1 source }
+    {
+        let read = usize::from(self.byte_read(place).read);
+        let before = &frame.happens_before;
+        let between = before
+            .rows
+            .successors(source)
+            .intersection(before.converse.successors(read));
+        !before.rows.holds(read, source) && self.candidates[place].intersection(between).is_empty()
+    }
+
+    /// Whether a source that could synchronize with a read is forced after it.
+    fn is_forced_later(&self, frame: &Frame, read: usize, source: usize) -> bool
+        requires contained { IsContained (box_of self.now frame.now) frame.now }
+        requires read { read < length (events_on self.now) }
+        requires source { source < length (events_on self.now) }
+        ensures { IsTrue result ↔ (CanSynchronize (event_of (events_on self.now) source)
+            (event_of (events_on self.now) read) × Holds frame.now.forced.rows read source) }
+    {
+        let events = self.events();
+        can_synchronize(event_at(events, source), event_at(events, read))
+            && frame.forced.rows.holds(read, source)
+    }
+
+    /// Whether an event is forced between a source and a read though it may not stand there if the read has that source.
+    fn is_forced_between(&self, frame: &Frame, read: usize, source: usize) -> bool
+        requires contained { IsContained (box_of self.now frame.now) frame.now }
+        requires read { read < length (events_on self.now) }
+        requires source { source < length (events_on self.now) }
+        ensures { IsTrue result ↔ ((v : ℕ) × IsForbiddenBetween (events_on self.now) (Holds frame.now.happens_before.rows) source read v
+            × Holds frame.now.forced.rows source v × Holds frame.now.forced.rows v read) }
+    {
+        let between = frame
+            .forced
+            .rows
+            .successors(source)
+            .intersection(frame.forced.converse.successors(read));
+        // Where nothing is forced between the two, the forbidden events need not be computed.
+        if between.is_empty() {
+            return false;
+        }
+        let events = self.events();
+        let (before, peers) = (&frame.happens_before, &self.peers);
+        let others = others_between(events, source as u8, read as u8, before, peers);
+        !others.intersection(between).is_empty()
+    }
+
+    /// The given source of a byte read, if its read can read whole from it; else no event.
+    fn whole_source(&self, frame: &Frame, place: usize) -> EventSet
+        requires place { place < length (byte_reads (events_on self.now)) }
+        requires contained { IsContained (box_of self.now frame.now) frame.now }
+        ensures { (u : ℕ) → HasEvent result u → HasAlone (box_of self.now frame.now) place u
+            × CanReadWhole (event_of (events_on self.now) (byte_read_at (events_on self.now) place).0) (event_of (events_on self.now) u) }
+    {
+        let events = self.events();
+        let read = usize::from(self.byte_read(place).read);
+        let Some(source) = only_one(frame.domains[place]) else {
+            return EventSet::new();
+        };
+        if can_read_whole(event_at(events, read), event_at(events, source)) {
+            EventSet::new().with(source)
+        } else {
+            EventSet::new()
+        }
+    }
+
+    /// The given sources of a read from which it can read whole. The read is that of one of its byte reads. For a read of one byte the
+    /// set is empty, since such a read can't be torn.
+    fn whole_sources(&self, frame: &Frame, place: usize) -> EventSet
+        requires place { place < length (byte_reads (events_on self.now)) }
+        requires contained { IsContained (box_of self.now frame.now) frame.now }
+        ensures { (u : ℕ) → HasEvent result u → ReadsWholeBy (events_on self.now) (GivenIn (box_of self.now frame.now))
+            (byte_read_at (events_on self.now) place).0 u }
+    {
+        let read = self.byte_read(place).read;
+        let mut whole = EventSet::new();
+        if event_at(self.events(), usize::from(read)).size == 1 {
+            return whole;
+        }
+        for other in 0..self.reads() {
+            if self.byte_read(other).read == read {
+                whole = whole.union(self.whole_source(frame, other));
+            }
+        }
+        whole
+    }
+
+    /// Whether a source would tear a read that reads whole from each event of `whole`: it could read whole from the source too, and
+    /// `whole` has another event.
+    fn would_tear(&self, read: usize, source: usize, whole: EventSet) -> bool
+        requires read { read < length (events_on self.now) }
+        requires source { source < length (events_on self.now) }
+        ensures { IsTrue result ↔ (CanReadWhole (event_of (events_on self.now) read) (event_of (events_on self.now) source)
+            × ((u : ℕ) × HasEvent whole u × (u ≢ source))) }
+    {
+        let events = self.events();
+        let others = whole.difference(EventSet::new().with(source));
+        !others.is_empty() && can_read_whole(event_at(events, read), event_at(events, source))
+    }
+
+    /// Whether the frame shows that no completion has this source for the byte read at a place. `whole` are given sources of the read
+    /// from which it reads whole. The frame's happens-before is acyclic.
+    fn is_prunable(&self, frame: &Frame, place: usize, source: usize, whole: EventSet) -> bool
+        requires place { place < length (byte_reads (events_on self.now)) }
+        requires source { source < length (events_on self.now) }
+        requires contained { IsContained (box_of self.now frame.now) frame.now }
+        requires acyclic { (e : ℕ) → ¬ Holds frame.now.happens_before.rows e e }
+        requires whole { (u : ℕ) → HasEvent whole u → ReadsWholeBy (events_on self.now) (GivenIn (box_of self.now frame.now))
+            (byte_read_at (events_on self.now) place).0 u }
+        ensures prunable { IsTrue result → IsPrunable (box_of self.now frame.now) (byte_read_at (events_on self.now) place).0
+            (byte_read_at (events_on self.now) place).1 source }
+        ensures coherent { IsFalse result → IsCoherentRead (events_on self.now) (Holds frame.now.happens_before.rows)
+            (byte_read_at (events_on self.now) place).0 (byte_read_at (events_on self.now) place).1 source }
+    {
+        let read = usize::from(self.byte_read(place).read);
+        !self.is_coherent(frame, place, source)
+            || self.is_forced_later(frame, read, source)
+            || self.is_forced_between(frame, read, source)
+            || self.would_tear(read, source, whole)
+    }
+
+    /// The sources in the domain of the byte read at a place that can't be pruned. The frame's happens-before is acyclic.
+    fn unpruned(&self, frame: &Frame, place: usize) -> EventSet
+        requires place { place < length (byte_reads (events_on self.now)) }
+        requires contained { IsContained (box_of self.now frame.now) frame.now }
+        requires acyclic { (e : ℕ) → ¬ Holds frame.now.happens_before.rows e e }
+        ensures within { (w : ℕ) → HasEvent result w → HasSource (box_of self.now frame.now) place w }
+        ensures prunable { (w : ℕ) → HasSource (box_of self.now frame.now) place w → ¬ HasEvent result w
+            → IsPrunable (box_of self.now frame.now) (byte_read_at (events_on self.now) place).0
+            (byte_read_at (events_on self.now) place).1 w }
+        ensures coherent { (w : ℕ) → HasEvent result w → IsCoherentRead (events_on self.now) (Holds frame.now.happens_before.rows)
+            (byte_read_at (events_on self.now) place).0 (byte_read_at (events_on self.now) place).1 w }
+    {
+        // For the prover: a set has room for each event of a combination.
+        let _events = self.events();
+        let whole = self.whole_sources(frame, place);
+        let mut left = EventSet::new();
+        let mut rest = frame.domains[place];
+        while let Some((source, others)) = rest.split_first() {
+            if !self.is_prunable(frame, place, source, whole) {
+                left = left.with(source);
+            }
+            rest = others;
+        }
+        left
+    }
+
+    /// Prunes the domain of the byte read at a place. The frame's happens-before is acyclic.
+    fn prune_at(&self, frame: &mut Frame, place: usize) -> Pruned
+        requires place { place < length (byte_reads (events_on self.now)) }
+        requires contained { IsContained (box_of self.now frame.old) frame.old }
+        requires acyclic { (e : ℕ) → ¬ Holds frame.old.happens_before.rows e e }
+        ensures before { frame.new.happens_before ≡ frame.old.happens_before }
+        ensures contained { result ≢ Empty → IsContained (box_of self.now frame.new) frame.new }
+        ensures prunes { result ≢ Empty → Prunes (box_of self.now frame.old) (box_of self.now frame.new) }
+        ensures same { result ≡ Same → frame.new ≡ frame.old }
+        ensures coherent { result ≡ Same → (w : ℕ) → HasSource (box_of self.now frame.old) place w
+            → IsCoherentRead (events_on self.now) (Holds frame.old.happens_before.rows)
+            (byte_read_at (events_on self.now) place).0 (byte_read_at (events_on self.now) place).1 w }
+        ensures less { result ≡ Less → size_of frame.new.domains < size_of frame.old.domains }
+        ensures empty { result ≡ Empty → HasNoCompletion (box_of self.now frame.old) }
+    {
+        completions_have_no_prunable_source();
+        // For the prover: the events lie in the test's block, as the law requires.
+        let _events = self.events();
+        let left = self.unpruned(&*frame, place);
+        if left.is_empty() {
+            return Pruned::Empty;
+        }
+        if frame.domains[place].is_within(left) {
+            return Pruned::Same;
+        }
+        frame.domains[place] = left;
+        Pruned::Less
+    }
+
+    /// Prunes each domain once. The frame's happens-before is acyclic.
+    pub(crate) fn prune(&self, frame: &mut Frame) -> Pruned
+        requires contained { IsContained (box_of self.now frame.old) frame.old }
+        requires acyclic { (e : ℕ) → ¬ Holds frame.old.happens_before.rows e e }
+        ensures contained { result ≢ Empty → IsContained (box_of self.now frame.new) frame.new }
+        ensures prunes { result ≢ Empty → Prunes (box_of self.now frame.old) (box_of self.now frame.new) }
+        ensures same { result ≡ Same → frame.new ≡ frame.old }
+        ensures coherent { result ≡ Same → AreCoherentAt (box_of self.now frame.old) frame.old }
+        ensures less { result ≡ Less → size_of frame.new.domains < size_of frame.old.domains }
+        ensures empty { result ≡ Empty → HasNoCompletion (box_of self.now frame.old) }
+    {
+        let mut pruned = Pruned::Same;
+        for place in 0..self.reads() {
+            match self.prune_at(frame, place) {
+                Pruned::Same => {}
+                Pruned::Less => pruned = Pruned::Less,
+                Pruned::Empty => return Pruned::Empty,
+            }
+        }
+        pruned
+    }
+}

@@ -1,5 +1,0 @@
-use Rattle.lit_valid.proofs.CompletionLemmas.{order_kept}
-use Rattle.lit_valid.proofs.laws.orders_of_completions_keep_parts.Goals as goal
-
-pub returns : goal.returns
-returns c part x order is ordered = order_kept part x is c.laws_below.ensures.grow order ordered
