@@ -10,7 +10,7 @@ use Rattle.lit_read.specs.Syntax.{Litmus, Statement, Statements, If, End, Then}
 use Rattle.lit_paths.specs.declared.event.Event.{Event}
 use Rattle.lit_paths.specs.Path.{Step, IsWalk, events_on}
 use Rattle.lit_paths.specs.Run.{AgreesWith, compares}
-use Rattle.lit_paths.proofs.NameSteps.{range_more}
+use Rattle.lit_paths.proofs.OutcomeRegisterSteps.{range_more}
 use Rattle.lit_paths.proofs.PathSteps.{length-slice_set}
 use Rattle.lit_search.specs.Interleaving.{Contents, Moment, Progress, access_or, after, after_each, after_end, after_statement, after_turn, beginning, ending, found_by, from_access, from_access_in, left_behind, progress_of}
 use Rattle.lit_search.specs.InTurn.{accesses, made_at_end, made_by_each, made_in_turn, makers_of, next_maker}

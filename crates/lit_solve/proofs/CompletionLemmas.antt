@@ -7,7 +7,7 @@ use Rattle.lit_solve.proofs.Words.{subst, sym, ℕ, ◌∙◌, ◌≡◌}
 use Rattle.std.proofs.Common.{append-nil}
 use Rattle.lit_rel.proofs.GrowthLemmas.{Grows-from}
 use Rattle.lit_rel.proofs.SameRelations.{between_by, coherent_read_by}
-use Rattle.lit_order.proofs.ForcedLemmas.{keeps_forced}
+use Rattle.lit_order.proofs.ForcedLemmas.{respects_forced}
 use Rattle.lit_order.proofs.ForcingLemmas.{IsForced-grow}
 use Rattle.lit_order.proofs.PartLemmas.{triples_below}
 use Rattle.lit_order.proofs.StandingLemmas.{StandsBefore-through, never_before_itself}
@@ -64,7 +64,7 @@ module _ (box : Box) (x : Execution) (is : IsCompletion box x) where
   -- its memory-orders respect what is forced
   pub forced_respected : AreOfEvents events → (order : List ℕ) → IsMemoryOrder events x.sources order → (a d : ℕ) → IsForcedIn box a d → StandsBefore order a d
   forced_respected of_events order o a d f =
-      keeps_forced (length events) (HappensBefore events x.sources) (IsForbidden events x.sources)
+      respects_forced (length events) (HappensBefore events x.sources) (IsForbidden events x.sources)
       (triples_below (part_of box x.sources) sourced.each of_events) order o a d
       (IsForced-grow (HappensBeforeIn box) (HappensBefore events x.sources) (IsForbiddenIn box) (IsForbidden events x.sources)
       (λ y z h. Given (grows.happens_before y z h)) grows.forbidden a d f)

@@ -3,7 +3,7 @@ use Rattle.lit_solve.proofs.Words.{◌*◌, ◌+◌, ◌++◌, ◌<◌, [], ◌^
 use Rattle.lit_solve.proofs.Words.{execution_outcome, get_or, get_or-map, Laws, length, length-map, List, map, names_of, observed_read, refl}
 use Rattle.lit_solve.proofs.Words.{slice_get, slice_get-get_or, Some, suc, sym, take, take_all, take_more, observed_value, value_of, zero, ℕ}
 use Rattle.lit_solve.proofs.Words.{◌∙◌, ◌∷◌, ◌≡◌, ◌≢◌, ◌≤◌}
-use Rattle.lit_paths.proofs.NameSteps.{names_from-within}
+use Rattle.lit_paths.proofs.OutcomeRegisterSteps.{names_from-within}
 use Rattle.lit_paths.proofs.Products.{slice_get-drop}
 use Rattle.lit_valid.proofs.CompletionLemmas.{its_outcome}
 use Rattle.lit_solve.specs.declared.filling.Taken.{Taken}

@@ -10,7 +10,7 @@ use Rattle.lit_solve.proofs.Words.{slice_get, slice_get-get_or, slice_index_or, 
 use Rattle.lit_solve.proofs.Words.{subst, suc, sym, Then, true, observed_value, value_in, walk_in, writes, zero, ◌||◌, ℕ, ◌∙◌, ◌∷◌, ◌≡◌, ◌≢◌}
 use Rattle.lit_solve.proofs.Words.{◌≤◌, ◌⊎◌}
 use Rattle.std.proofs.Common.{zip}
-use Rattle.lit_paths.proofs.NameSteps.{names_from-within}
+use Rattle.lit_paths.proofs.OutcomeRegisterSteps.{names_from-within}
 use Rattle.lit_paths.proofs.Products.{product-known}
 use Rattle.lit_valid.proofs.CompletionLemmas.{its_outcome}
 use Rattle.lit_solve.specs.declared.condition_values.Decided.{Decided}

@@ -153,6 +153,6 @@ module _ (t : Litmus) (c agent : ℕ) (sources : List ℕ) (walk : IsWalkIn t c 
   pub observed_by_run : (run : Run) (reg : ℕ) → IsGivenRun t c sources agent run → slice_index run.registers reg ≡ observed_value (record { test = t; combination = c; sources = sources }) (observed_read t c (agent, reg))
   observed_by_run run reg given =
       let lasts : List (Option ℕ) = (path_in t c agent).last in
-      ap (λ (rs : List ℕ). slice_index rs reg) (tells.held run given.is_run (on_walk run given) ∙ ap (λ (vs : List (ℕ × ℕ)). map (value_on vs) lasts) (chosen_of run given))
+      ap (λ (rs : List ℕ). slice_index rs reg) (tells.observed run given.is_run (on_walk run given) ∙ ap (λ (vs : List (ℕ × ℕ)). map (value_on vs) lasts) (chosen_of run given))
       ∙ index-map (value_on chosen) refl lasts reg
       ∙ taken_there (slice_index_or lasts reg None) (λ k at. walk.holds_reads (0 + reg) k (index-range (last_read steps) 0 REGISTERS reg k at))

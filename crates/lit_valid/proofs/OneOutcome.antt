@@ -9,7 +9,7 @@ use Rattle.lit_paths.specs.Choice.{Choice, choices_of, choices_on, combinations_
 use Rattle.lit_paths.specs.Execution.{execution_choice}
 use Rattle.lit_paths.specs.Path.{Path}
 use Rattle.lit_paths.specs.Plan.{choices_before}
-use Rattle.lit_paths.proofs.NameSteps.{names_from-within}
+use Rattle.lit_paths.proofs.OutcomeRegisterSteps.{names_from-within}
 use Rattle.lit_rel.specs.Part.{PartModel, with_sources}
 use Rattle.lit_valid.specs.Completion.{Completes, IsOnCombination}
 use Rattle.lit_valid.specs.Gives.{Gives}

@@ -2,7 +2,7 @@ use Rattle.std.proofs.Common.{◌≡◌, ◌<◌, ℕ, List, [], ◌∷◌, ◌+
 use Rattle.std.specs.List.{range_with_len}
 use Rattle.std.proofs.lemmas.List.{get_or_default, take_more}
 use Rattle.lit_read.specs.Syntax.{AreStatementsIn, IsLitmus, Litmus, End}
-use Rattle.lit_paths.proofs.NameSteps.{range_more}
+use Rattle.lit_paths.proofs.OutcomeRegisterSteps.{range_more}
 use Rattle.lit_search.specs.Interleaving.{Moment, Progress, accessed, after, after_each, after_end, after_turn, beginning, from_access, progress_of}
 use Rattle.lit_search.proofs.MomentLemmas.{IsSound, after_each-more, sound_beginning, sound_each, sound_end, sound_turn, stepped, written_whole}
 use Rattle.lit_search.proofs.interleaving.interleave.Goals as goal
