@@ -22,7 +22,7 @@ fn steps_of(alloc: Global, lines: &[Line], place: usize) -> io::Result<Vec<usize
         match lines.get(place) {
             Some(
                 Line {
-                    reason: Reason::Joined { first, second },
+                    reason: Reason::Composed { first, second },
                     ..
                 },
             ) => {
@@ -76,7 +76,7 @@ fn put_step(page: &mut Vec<u8>, scene: &Scene<'_>, line: &Line) -> io::Result<()
             line.after,
             read,
         ),
-        Reason::HappensBefore | Reason::Joined { .. } => put_chain(
+        Reason::HappensBefore | Reason::Composed { .. } => put_chain(
             page,
             scene,
             line.before,
@@ -89,7 +89,7 @@ fn put_step(page: &mut Vec<u8>, scene: &Scene<'_>, line: &Line) -> io::Result<()
 fn earlier_of(line: &Line) -> Option<usize> {
     match line.reason {
         Reason::AfterRead { earlier, .. } | Reason::BeforeSource { earlier, .. } => Some(earlier),
-        Reason::HappensBefore | Reason::Joined { .. } => None,
+        Reason::HappensBefore | Reason::Composed { .. } => None,
     }
 }
 

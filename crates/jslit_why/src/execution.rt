@@ -230,7 +230,7 @@ fn put_line(page: &mut Vec<u8>, scene: &Scene<'_>, line: &Line) -> io::Result<()
             page.write_all(b",\"reason\":\"happens-before\",\"chain\":")?;
             put_chain(page, scene, line.before, line.after)?;
         }
-        Reason::Joined { first, second } => write!(
+        Reason::Composed { first, second } => write!(
             page,
             ",\"reason\":\"joined\",\"lines\":[{first},{second}]"
         )?,

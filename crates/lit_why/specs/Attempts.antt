@@ -39,16 +39,16 @@ pub record TriesClass (t : Litmus) (class : Class) (n : ℕ) : Type 0 where
   pub is_try : IsTry t class combination sources
 
 -- whether two lists of sources store the same byte for each of these byte reads
-abbrev pub store_alike : List Event → List (ℕ × ℕ) → List ℕ → List ℕ → Bool
-store_alike events [] some other = true
-store_alike events (read ∷ reads) [] other = false
-store_alike events (read ∷ reads) (v ∷ some) [] = false
-store_alike events (read ∷ reads) (v ∷ some) (w ∷ other) =
-    (payload_at (event_at events w) read.1 == payload_at (event_at events v) read.1) && store_alike events reads some other
+abbrev pub store_same : List Event → List (ℕ × ℕ) → List ℕ → List ℕ → Bool
+store_same events [] some other = true
+store_same events (read ∷ reads) [] other = false
+store_same events (read ∷ reads) (v ∷ some) [] = false
+store_same events (read ∷ reads) (v ∷ some) (w ∷ other) =
+    (payload_at (event_at events w) read.1 == payload_at (event_at events v) read.1) && store_same events reads some other
 
 -- whether two lists of sources store the same byte for each byte read of a combination, so that each read has the same value
-abbrev pub give_alike : List Event → List ℕ → List ℕ → Bool
-give_alike events some other = store_alike events (byte_reads events) some other
+abbrev pub give_same_values : List Event → List ℕ → List ℕ → Bool
+give_same_values events some other = store_same events (byte_reads events) some other
 
 -- choices m and n are of one attempt: they are on one combination, and give each read the same value
 pub record AreOneAttempt (t : Litmus) (m n : ℕ) : Type 0 where
@@ -57,7 +57,7 @@ pub record AreOneAttempt (t : Litmus) (m n : ℕ) : Type 0 where
   pub other : List ℕ
   pub on_some : IsOn t m combination some
   pub on_other : IsOn t n combination other
-  pub alike : IsTrue (give_alike (events_in t combination) some other)
+  pub same_values : IsTrue (give_same_values (events_in t combination) some other)
 
 -- choice n is the first of an attempt at the class
 pub record IsLeastTry (t : Litmus) (class : Class) (n : ℕ) : Type 0 where
@@ -69,7 +69,7 @@ pub record HasSoMany (t : Litmus) (n count : ℕ) : Type 0 where
   pub combination : ℕ
   pub sources : List ℕ
   pub on : IsOn t n combination sources
-  pub are : count ≡ length (filter (give_alike (events_in t combination) sources) (sources_of (events_in t combination)))
+  pub are : count ≡ length (filter (give_same_values (events_in t combination) sources) (sources_of (events_in t combination)))
 
 -- an attempt at the class, by the number of its first choice and how many choices it has
 pub record IsAttempt (t : Litmus) (class : Class) (attempt : Attempt) : Type 0 where

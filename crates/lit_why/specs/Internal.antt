@@ -4,7 +4,7 @@
 pub mod Added
 pub mod Deriving
 pub mod Domains
-pub mod Pruning
+pub mod UsedLines
 pub mod RacesOn
 pub mod Racing
 pub mod Reaching

@@ -19,16 +19,16 @@ use Rattle.lit_why.specs.declared.refusals.causes.Refusal.TheVariants.{BeforeIts
 abbrev pub BeforeIn : PartModel → ℕ → ℕ → Type 0
 BeforeIn part = HappensBefore (part_events part) part.sources
 
--- a test on a path whose first event has this number is false of the value that its read takes, of 0 where the register was not written
+-- A guard on a path whose first event has this number is false of the value of its read, or of 0 where the register was not written.
 abbrev pub IsFalseIn : PartModel → ℕ → Tested → Type 0
-IsFalseIn part first test = compares test.equal (observed_value part (number_on first test.on)) test.value ≡ false
+IsFalseIn part first guard = compares guard.equal (observed_value part (number_on first guard.on)) guard.value ≡ false
 
--- the one at a place of an agent's path
+-- the guard at a place of an agent's path is false
 pub record IsFalseAt (part : PartModel) (agent place : ℕ) : Type 0 where
   pub known : agent < length part.test.agents
-  pub test : Tested
-  pub at_place : slice_get (path_in part.test part.combination agent).tests place ≡ Some test
-  pub is_false : IsFalseIn part (first_event part.test part.combination agent) test
+  pub guard : Tested
+  pub at_place : slice_get (path_in part.test part.combination agent).tests place ≡ Some guard
+  pub is_false : IsFalseIn part (first_event part.test part.combination agent) guard
 
 abbrev pub HasNoFalse : PartModel → Type 0
 HasNoFalse part = (agent place : ℕ) → ¬ IsFalseAt part agent place

@@ -4,7 +4,7 @@ ghost use Rattle.std.specs.Prelude.{◌≡◌, ℕ, ◌<◌, ◌==◌, Some, fil
 ghost use Rattle.lit_paths.specs.Choice.{AreSources, sources_of};
 ghost use Rattle.lit_paths.specs.Event.{event_at as event_of, payload_at as payload_of};
 ghost use Rattle.lit_solve.specs.Box.{events_on};
-ghost use Rattle.lit_why.specs.Attempts.{give_alike};
+ghost use Rattle.lit_why.specs.Attempts.{give_same_values};
 
 use lit_paths::laws::choices_have_numbers;
 use lit_paths::{Combination, Event, event_at};
@@ -25,9 +25,9 @@ fn count_storing(events: &[Event], among: &[u8], byte: u8, stored: u8) -> u64
 }
 
 /// How many choices on a combination give each read the value that these sources do, one for each byte read.
-pub(crate) fn count_alike(combination: &Combination<'_>, sources: &[u8]) -> u64
+pub(crate) fn count_same_values(combination: &Combination<'_>, sources: &[u8]) -> u64
     requires { AreSources (events_on combination.now) sources.now }
-    ensures { result ≡ length (filter (give_alike (events_on combination.now) sources.now) (sources_of (events_on combination.now))) }
+    ensures { result ≡ length (filter (give_same_values (events_on combination.now) sources.now) (sources_of (events_on combination.now))) }
 {
     choices_have_numbers();
     // That there are few choices is known of the last one, and that the combination is one of the test of the first.

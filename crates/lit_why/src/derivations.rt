@@ -2,7 +2,7 @@
 
 mod following;
 pub(crate) mod lines;
-mod pruning;
+mod used_lines;
 mod searching;
 
 ghost use Rattle.std.specs.Prelude.{ℕ, ◌<◌, IfOk, MatchOption};
@@ -14,7 +14,7 @@ ghost use Rattle.lit_rel.specs.Rows.{Holds};
 ghost use Rattle.lit_why.specs.Derivation.{IsDerivation};
 
 use crate::derivations::lines::{Line, Reason};
-use crate::derivations::pruning::pruned;
+use crate::derivations::used_lines::only_used;
 use crate::derivations::searching::lines_to_cycle;
 use lit_rel::{Part, Rows};
 use std::alloc::{AllocError, Global};
@@ -52,7 +52,7 @@ pub fn derivation(alloc: Global, part: &Part<'_>) -> Result<Option<Vec<Line>>, A
         return Ok(Some(lines));
     }
     match lines_to_cycle(alloc, &before, &between)? {
-        Some(lines) => Ok(Some(pruned(alloc, lines.as_slice())?)),
+        Some(lines) => Ok(Some(only_used(alloc, lines.as_slice())?)),
         None => Ok(None),
     }
 }

@@ -11,7 +11,7 @@ ghost use Rattle.lit_why.specs.Internal.Added.{Adds};
 ghost use Rattle.lit_why.specs.Internal.Trials.{IsLeastTryOn, IsNode, MayTry, TriesIn};
 
 use crate::attempt::Attempt;
-use crate::counting::count_alike;
+use crate::counting::count_same_values;
 use crate::representatives::representatives;
 use crate::trials::can_try;
 use lit_paths::{Plan, Sources};
@@ -49,7 +49,7 @@ fn attempt_of(problem: &Problem<'_>, sources: &[u8]) -> Attempt
     let combination = problem.combination();
     Attempt {
         choice: number_of(combination, sources),
-        choices: count_alike(combination, sources),
+        choices: count_same_values(combination, sources),
     }
 }
 

@@ -1,9 +1,9 @@
 //! What refuses a complete part (ECMA-262, 2024, 29.7).
 
 pub(crate) mod causes;
+mod guards;
 mod incoherence;
 mod tearing;
-mod tests;
 
 ghost use Rattle.std.specs.Prelude.{◌≡◌, ◌↔◌, ◌<◌, IsTrue, MatchOption, length};
 ghost use Rattle.lit_order.specs.MemoryOrder.{HasOrder};
@@ -16,9 +16,9 @@ ghost use Rattle.lit_why.specs.Refusal.{IsRefusal};
 
 use crate::derivations::first_before_itself;
 use crate::refusals::causes::Refusal;
+use crate::refusals::guards::false_guard;
 use crate::refusals::incoherence::first_incoherent;
 use crate::refusals::tearing::first_torn;
-use crate::refusals::tests::false_guard;
 use lit_order::{ForcedFinder, OrderFinder};
 use lit_rel::{Between, Part, Rows};
 use lit_valid::laws::whole_parts_are_decided_by_orders;

@@ -5,7 +5,7 @@ ghost use Rattle.lit_rel.specs.Between.{Forbids};
 ghost use Rattle.lit_rel.specs.EventSet.{HasEvent};
 ghost use Rattle.lit_rel.specs.Rows.{Holds, rows_len};
 ghost use Rattle.lit_why.specs.Derivation.{IsLineOf};
-ghost use Rattle.lit_why.specs.Internal.Deriving.{HasForced, HasJoined, HasLine, HasLines, IsNewLine, IsOfPair, NoTriple};
+ghost use Rattle.lit_why.specs.Internal.Deriving.{HasForced, HasComposed, HasLine, HasLines, IsNewLine, IsOfPair, NoTriple};
 
 use crate::derivations::lines::{Line, Reason};
 use lit_rel::{Between, EventSet, Pair, Rows};
@@ -34,7 +34,7 @@ fn first_lacking(set: EventSet, there: EventSet) -> Option<usize>
 }
 
 /// From an event by way of one of those that the lines have it before.
-fn joined_from(lines: &[Line], old: &Rows, known: &Rows, first: usize) -> Option<Line>
+fn composed_from(lines: &[Line], old: &Rows, known: &Rows, first: usize) -> Option<Line>
     requires same { rows_len known.now ≡ rows_len old.now }
     requires lines { HasLines lines.now (Holds old.now) }
     requires first { first < rows_len old.now }
@@ -48,7 +48,7 @@ fn joined_from(lines: &[Line], old: &Rows, known: &Rows, first: usize) -> Option
                 return Some(Line {
                     before: first as u8,
                     after: last as u8,
-                    reason: Reason::Joined {
+                    reason: Reason::Composed {
                         first: place_of(lines, first, middle),
                         second: place_of(lines, middle, last),
                     },
@@ -60,14 +60,14 @@ fn joined_from(lines: &[Line], old: &Rows, known: &Rows, first: usize) -> Option
 }
 
 /// From any event so.
-fn joined(lines: &[Line], old: &Rows, known: &Rows) -> Option<Line>
+fn composed(lines: &[Line], old: &Rows, known: &Rows) -> Option<Line>
     requires same { rows_len known.now ≡ rows_len old.now }
     requires lines { HasLines lines.now (Holds old.now) }
-    ensures { MatchOption result (HasJoined (Holds old.now) (Holds known.now))
+    ensures { MatchOption result (HasComposed (Holds old.now) (Holds known.now))
         (IsNewLine (rows_len old.now) NoTriple (Holds known.now) lines.now) }
 {
     for first in 0..old.len() {
-        if let Some(line) = joined_from(lines, old, known, first) {
+        if let Some(line) = composed_from(lines, old, known, first) {
             return Some(line);
         }
     }
@@ -160,11 +160,11 @@ pub(crate) fn next_line(lines: &[Line], old: &Rows, known: &Rows, between: &Betw
     requires len { rows_len old.now ≡ between.now.len }
     requires lines { HasLines lines.now (Holds old.now) }
     ensures { MatchOption result
-        (HasForced (Forbids between.now) (Holds old.now) (Holds known.now) × HasJoined (Holds old.now) (Holds known.now))
+        (HasForced (Forbids between.now) (Holds old.now) (Holds known.now) × HasComposed (Holds old.now) (Holds known.now))
         (IsNewLine (rows_len old.now) (Forbids between.now) (Holds known.now) lines.now) }
 {
     match forced(lines, old, known, between) {
         Some(line) => Some(line),
-        None => joined(lines, old, known),
+        None => composed(lines, old, known),
     }
 }

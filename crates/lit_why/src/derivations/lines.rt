@@ -6,7 +6,7 @@ pub enum Reason {
     /// The one happens before the other.
     HappensBefore,
     /// By an event between the two.
-    Joined {
+    Composed {
         /// The line that has the one before the event between.
         first: usize,
         /// The line that has that event before the other.

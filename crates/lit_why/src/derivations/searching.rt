@@ -16,7 +16,7 @@ use std::alloc::{AllocError, Global};
 fn push_given(lines: &mut Vec<Line>, before: &Rows, first: usize) -> Result<(), AllocError>
     requires { first < rows_len before.now }
     ensures given { OnOk result (AreGiven (Holds before.now) lines.old.items → AreGiven (Holds before.now) lines.new.items) }
-    ensures kept { OnOk result ((e d : ℕ) → HasLine lines.old.items e d → HasLine lines.new.items e d) }
+    ensures retained { OnOk result ((e d : ℕ) → HasLine lines.old.items e d → HasLine lines.new.items e d) }
     ensures all { OnOk result ((d : ℕ) → Holds before.now first d → HasLine lines.new.items first d) }
 {
     for second in 0..before.len() {
@@ -57,7 +57,7 @@ pub(crate) fn lines_to_cycle(
     let mut lines = given_lines(alloc, before)?;
     let (mut old, mut known) = (*before, *before);
     let mut grown = false;
-    'rounds: loop {
+    'iterations: loop {
         match next_line(lines.as_slice(), &old, &known, between) {
             Some(line) => {
                 lines.push(line)?;

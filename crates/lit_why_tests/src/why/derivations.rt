@@ -39,7 +39,7 @@ fn follows(part: &Part<'_>, lines: &[Line], place: usize, line: &Line) -> bool {
     let (before, after) = (line.before, line.after);
     match line.reason {
         Reason::HappensBefore => holds(&part.happens_before(), before, after),
-        Reason::Joined { first, second } => match lines.get(first) {
+        Reason::Composed { first, second } => match lines.get(first) {
             Some(one) => {
                 has(lines, first, place, (before, one.after))
                     && has(lines, second, place, (one.after, after))
@@ -61,7 +61,7 @@ fn follows(part: &Part<'_>, lines: &[Line], place: usize, line: &Line) -> bool {
 fn cites(line: &Line, place: usize) -> bool {
     match line.reason {
         Reason::HappensBefore => false,
-        Reason::Joined { first, second } => first == place || second == place,
+        Reason::Composed { first, second } => first == place || second == place,
         Reason::BeforeSource { read: _, earlier } => earlier == place,
         Reason::AfterRead { source: _, earlier } => earlier == place,
     }
