@@ -23,7 +23,7 @@ use crate::engine::answering::passes;
 use crate::engine::{Options, run_watched};
 use crate::fault::RunFault;
 use crate::interleaving::run_schedule;
-use crate::page::refusing::{write_plan_fault, write_read_fault, write_unknown_agent};
+use crate::buffer::refusal_writer::{write_plan_fault, write_read_fault, write_unknown_agent};
 use crate::watch::Watch;
 use clap::Error;
 use clap::error::ErrorKind;
@@ -213,7 +213,7 @@ fn say<W: Write, E: Write>(output: &mut Counted<W>, errors: &mut E, fault: RunFa
     ensures status { result ≡ status_of fault }
     ensures refused { result ≡ 1 → HasSaid fault (W.contents (device_of output.old)) (W.contents (device_of output.new))
         (failures_of output.old < failures_of output.new) }
-    ensures kept { result ≢ 1 → output.new ≡ output.old }
+    ensures unchanged { result ≢ 1 → output.new ≡ output.old }
 {
     match fault {
         RunFault::Read(fault) => {
@@ -245,7 +245,7 @@ fn say<W: Write, E: Write>(output: &mut Counted<W>, errors: &mut E, fault: RunFa
 /// Prints what `clap` answers to words that ask for no run: the help, the version, or what is wrong with them. Gives the status.
 fn explain<W: Write, E: Write>(output: &mut Counted<W>, errors: &mut E, error: &Error) -> u8
     ensures status { IsExplained (kind_of error.now) result }
-    ensures kept { result ≢ 0 → output.new ≡ output.old }
+    ensures unchanged { result ≢ 0 → output.new ≡ output.old }
 {
     match error.kind() {
         ErrorKind::OutOfMemory => say(output, errors, RunFault::OutOfMemory),

@@ -15,8 +15,8 @@ ghost use Rattle.jslit.specs.Internal.Answering.{IsOfTextOrWriting};
 use crate::counted::Counted;
 use crate::fault::RunFault;
 use crate::interleaving::schedule::agents_of;
-use crate::page::Page;
-use crate::page::reporting::{put_head, put_registers, word_for};
+use crate::buffer::Buffer;
+use crate::buffer::report_writer::{put_head, put_registers, word_for};
 use crate::reading::read_text;
 use lit_paths::{meets, written_names};
 use lit_read::{Test, read};
@@ -40,15 +40,15 @@ fn write_interleaving<W: Write>(
     ensures failed { OnErr result (failures_of output.new ≡ one_more (failures_of output.old)) }
     ensures fault { IfErr result (λ fault. fault ≡ RunFault.OutputFailed) }
 {
-    let mut page = Page::new();
-    put_head(&mut page, output, test);
-    page.put(output, b"interleaving");
+    let mut buffer = Buffer::new();
+    put_head(&mut buffer, output, test);
+    buffer.put(output, b"interleaving");
     let names = written_names(test);
-    put_registers(&mut page, output, test, names.as_slice(), outcome);
-    page.put(output, b"\nmeets ");
-    page.put(output, word_for(meets(test, outcome)));
-    page.put(output, b"\n");
-    page.finish(output)
+    put_registers(&mut buffer, output, test, names.as_slice(), outcome);
+    buffer.put(output, b"\nmeets ");
+    buffer.put(output, word_for(meets(test, outcome)));
+    buffer.put(output, b"\n");
+    buffer.finish(output)
 }
 
 /// Writes what is answered for a text and a schedule. Where there is nothing to answer, nothing is written.

@@ -14,7 +14,7 @@ mod engine;
 mod fault;
 mod interleaving;
 pub mod laws;
-mod page;
+mod buffer;
 mod progress;
 mod reading;
 mod verdict;

@@ -2,7 +2,7 @@
 use Rattle.std.specs.Prelude.{◌≡◌, ℕ, ◌++◌, Bool, true, false, Option, List}
 use Rattle.std.specs.Io.KnownBytes.{Appends}
 use Rattle.jslit.specs.declared.counted.Counted.{Counted}
-use Rattle.jslit.specs.declared.page.Page.{Page}
+use Rattle.jslit.specs.declared.buffer.Buffer.{Buffer}
 use Rattle.jslit.specs.Counted.{device_of, failures_of, one_more}
 use Rattle.jslit.specs.Devices.{AppendsBeginning}
 
@@ -13,9 +13,9 @@ pub record Writing : Type 0 where
   pub waiting : List ℕ
   pub failed : Bool
 
-abbrev pub writing_of : {W : Type 0} → (W → Option (List ℕ)) → Counted W → Page → Writing
-writing_of contents output page =
-    record { known = contents (device_of output); failures = failures_of output; waiting = page.waiting; failed = page.failed }
+abbrev pub writing_of : {W : Type 0} → (W → Option (List ℕ)) → Counted W → Buffer → Writing
+writing_of contents output buffer =
+    record { known = contents (device_of output); failures = failures_of output; waiting = buffer.waiting; failed = buffer.failed }
 
 -- a text was put, and no write failed: it stands behind what waited, of which a beginning was written
 pub record GoesOn (old new : Writing) (text : List ℕ) : Type 0 where
@@ -42,8 +42,8 @@ pub record HasPut (old new : Writing) (text : List ℕ) : Type 0 where
   pub failed : old.failed ≡ true → Stays old new
 
 -- the same of an output and a page of bytes for it, from one moment to another
-abbrev pub HasPutOn : {W : Type 0} → (W → Option (List ℕ)) → (old new : Counted W) → (page new_page : Page) → (text : List ℕ) → Type 0
-HasPutOn contents old new page new_page text = HasPut (writing_of contents old page) (writing_of contents new new_page) text
+abbrev pub HasPutOn : {W : Type 0} → (W → Option (List ℕ)) → (old new : Counted W) → (buffer new_buffer : Buffer) → (text : List ℕ) → Type 0
+HasPutOn contents old new buffer new_buffer text = HasPut (writing_of contents old buffer) (writing_of contents new new_buffer) text
 
 -- no write has failed, and the writer holds, behind what it held, what waited
 pub record IsFinished (old : Writing) (known : Option (List ℕ)) (failures : ℕ) : Type 0 where

@@ -13,7 +13,7 @@ use crate::engine::Options;
 use crate::engine::cutting::{cut_for_outcomes, cut_of};
 use crate::fault::RunFault;
 use crate::laws::reports_are_complete;
-use crate::page::reporting::{write_quick_report, write_report};
+use crate::buffer::report_writer::{write_quick_report, write_report};
 use crate::verdict::{verdict_from, verdict_on};
 use crate::watch::Watch;
 use lit_paths::{Plan, plan};
@@ -105,9 +105,9 @@ fn quick_report<T: Threads + Sync, W: Write, G: Watch>(
 {
     let cut = cut_of(plan.total(), options);
     watch.begin(plan.total().div_ceil(cut));
-    let asked = quick(rt, alloc, plan, cut, watch, passes);
+    let searched = quick(rt, alloc, plan, cut, watch, passes);
     watch.end();
-    let first = asked?;
+    let first = searched?;
     let met = first_found(alloc, plan, Class::Met, &first.met)?;
     let unmet = first_found(alloc, plan, Class::Unmet, &first.unmet)?;
     let verdict = verdict_from(met.is_some(), unmet.is_some());

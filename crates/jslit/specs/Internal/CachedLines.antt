@@ -1,0 +1,11 @@
+-- The lines of the reads of a choice, the last up to its sources, cached.
+use Rattle.std.specs.Prelude.{List}
+use Rattle.lit_read.specs.Syntax.{Litmus}
+use Rattle.lit_paths.specs.declared.event.Event.{Event}
+use Rattle.jslit.specs.declared.buffer.source_lines.CachedLines.{CachedLines}
+use Rattle.jslit.specs.Internal.CachedText.{Holds}
+use Rattle.jslit.specs.Internal.ReadLine.{lines_up_to}
+
+-- the text is cached of what is cached beside it
+abbrev pub HoldsLines : Litmus → List Event → CachedLines → Type 0
+HoldsLines t events cached = Holds cached.text (lines_up_to t events cached.part cached.sources.items)
