@@ -1,11 +1,11 @@
 //! Text on its way to a writer.
 
-pub(crate) mod digits;
 pub(crate) mod cached_text;
-pub(crate) mod source_lines;
+pub(crate) mod digits;
+pub(crate) mod entry_cache;
 pub(crate) mod refusal_writer;
 pub(crate) mod report_writer;
-pub(crate) mod entry_cache;
+pub(crate) mod source_lines;
 pub(crate) mod text;
 
 ghost use Rattle.std.specs.Prelude.{◌≡◌, [], ◌∷◌, false, IfErr, OnOk, OnErr};
@@ -15,10 +15,10 @@ ghost use Rattle.jslit.specs.Counted.{device_of, failures_of, one_more};
 ghost use Rattle.jslit.specs.Devices.{AppendsBeginning};
 ghost use Rattle.jslit.specs.Internal.Writing.{HasPut, HasPutOn, IsFinished, IsStopped, writing_of};
 
-use crate::counted::Counted;
-use crate::fault::RunFault;
 use crate::buffer::digits::{DIGIT_LIMIT, write_digits};
 use crate::buffer::text::Text;
+use crate::counted::Counted;
+use crate::fault::RunFault;
 use std::io::Write;
 
 /// How many bytes wait at the most before they are written.

@@ -16,6 +16,7 @@ ghost use Rattle.jslit.specs.RunAnswer.{HasServed};
 ghost use Rattle.jslit.specs.Internal.Saying.{HasSaid, IsExplained, IsSaid};
 ghost use Rattle.clap.specs.Words.{kind_of};
 
+use crate::buffer::refusal_writer::{write_plan_fault, write_read_fault, write_unknown_agent};
 use crate::command::asked_line::Line;
 use crate::command::words::line;
 use crate::counted::Counted;
@@ -23,7 +24,6 @@ use crate::engine::answering::passes;
 use crate::engine::{Options, run_watched};
 use crate::fault::RunFault;
 use crate::interleaving::run_schedule;
-use crate::buffer::refusal_writer::{write_plan_fault, write_read_fault, write_unknown_agent};
 use crate::watch::Watch;
 use clap::Error;
 use clap::error::ErrorKind;

@@ -12,11 +12,11 @@ ghost use Rattle.jslit.specs.ReportText.{interleaving_text};
 ghost use Rattle.jslit.specs.RunAnswer.{HasRun};
 ghost use Rattle.jslit.specs.Internal.Answering.{IsOfTextOrWriting};
 
+use crate::buffer::Buffer;
+use crate::buffer::report_writer::{put_head, put_registers, word_for};
 use crate::counted::Counted;
 use crate::fault::RunFault;
 use crate::interleaving::schedule::agents_of;
-use crate::buffer::Buffer;
-use crate::buffer::report_writer::{put_head, put_registers, word_for};
 use crate::reading::read_text;
 use lit_paths::{meets, written_names};
 use lit_read::{Test, read};

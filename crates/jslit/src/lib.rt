@@ -8,13 +8,13 @@
 //! contracts, and say how a fault of a lower crate becomes one of a run.
 #![tactic(auto)]
 
+mod buffer;
 mod command;
 mod counted;
 mod engine;
 mod fault;
 mod interleaving;
 pub mod laws;
-mod buffer;
 mod progress;
 mod reading;
 mod verdict;

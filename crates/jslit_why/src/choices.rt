@@ -16,7 +16,7 @@ use std::io::Write;
 /// Puts a choice with its least memory-order, or with the first clause that refuses it.
 pub(crate) fn explain_choice(
     alloc: Global,
-    page: &mut Vec<u8>,
+    buffer: &mut Vec<u8>,
     plan: &Plan<'_>,
     statements: &Statements,
     choice: u64,
@@ -25,22 +25,22 @@ pub(crate) fn explain_choice(
 {
     // That numbers of choices are small is known of how many there are.
     let total = plan.total();
-    writeln!(page, "test {}", plan.test().name())?;
-    writeln!(page, "choice {choice} of 0 to {}", total - 1)?;
+    writeln!(buffer, "test {}", plan.test().name())?;
+    writeln!(buffer, "choice {choice} of 0 to {}", total - 1)?;
     let scene = Scene::new(&*plan, statements, choice);
     if let Some(refusal) = scene.refusal {
         let clause = clause_of(refusal);
-        writeln!(page, "refused by {} ({})", clause.name, clause.section)?;
-        scene.put_sources(page)?;
-        return put_reason(alloc, page, &scene);
+        writeln!(buffer, "refused by {} ({})", clause.name, clause.section)?;
+        scene.put_sources(buffer)?;
+        return put_reason(alloc, buffer, &scene);
     }
     let Ok(found) = search_range(alloc, &*plan, choice, choice + 1) else {
         return Err(io::Error::from(io::ErrorKind::OutOfMemory));
     };
-    page.write_all(b"valid\n")?;
-    scene.put_sources(page)?;
+    buffer.write_all(b"valid\n")?;
+    scene.put_sources(buffer)?;
     if found.len() == 0 {
         return Ok(());
     }
-    scene.put_order(page, found.example(0).order.as_slice())
+    scene.put_order(buffer, found.example(0).order.as_slice())
 }

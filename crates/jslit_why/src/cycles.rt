@@ -37,31 +37,31 @@ fn steps_of(alloc: Global, lines: &[Line], place: usize) -> io::Result<Vec<usize
 
 /// Puts why one event comes before another.
 fn put_forced(
-    page: &mut Vec<u8>,
+    buffer: &mut Vec<u8>,
     scene: &Scene<'_>,
     line: &Line,
     middle: u8,
     source: u8,
     read: u8,
 ) -> io::Result<()> {
-    page.write_all(b"  ")?;
-    scene.put_placed(page, line.before)?;
-    page.write_all(b" before ")?;
-    scene.put_placed(page, line.after)?;
-    page.write_all(b": ")?;
-    scene.put_event(page, middle)?;
-    page.write_all(b" may not stand between ")?;
-    scene.put_event(page, source)?;
-    page.write_all(b" and ")?;
-    scene.put_event(page, read)?;
-    page.write_all(b"\n")
+    buffer.write_all(b"  ")?;
+    scene.put_placed(buffer, line.before)?;
+    buffer.write_all(b" before ")?;
+    scene.put_placed(buffer, line.after)?;
+    buffer.write_all(b": ")?;
+    scene.put_event(buffer, middle)?;
+    buffer.write_all(b" may not stand between ")?;
+    scene.put_event(buffer, source)?;
+    buffer.write_all(b" and ")?;
+    scene.put_event(buffer, read)?;
+    buffer.write_all(b"\n")
 }
 
 /// Puts one line of a derivation that is not joined of others.
-fn put_step(page: &mut Vec<u8>, scene: &Scene<'_>, line: &Line) -> io::Result<()> {
+fn put_step(buffer: &mut Vec<u8>, scene: &Scene<'_>, line: &Line) -> io::Result<()> {
     match line.reason {
         Reason::AfterRead { source, .. } => put_forced(
-            page,
+            buffer,
             scene,
             line,
             line.after,
@@ -69,7 +69,7 @@ fn put_step(page: &mut Vec<u8>, scene: &Scene<'_>, line: &Line) -> io::Result<()
             line.before,
         ),
         Reason::BeforeSource { read, .. } => put_forced(
-            page,
+            buffer,
             scene,
             line,
             line.before,
@@ -77,7 +77,7 @@ fn put_step(page: &mut Vec<u8>, scene: &Scene<'_>, line: &Line) -> io::Result<()
             read,
         ),
         Reason::HappensBefore | Reason::Composed { .. } => put_chain(
-            page,
+            buffer,
             scene,
             line.before,
             line.after,
@@ -104,7 +104,7 @@ fn is_given(lines: &[Line], place: usize) -> bool {
 /// Puts the steps that lead to what a forced line rests on, unless it is of happens-before.
 fn put_premise(
     alloc: Global,
-    page: &mut Vec<u8>,
+    buffer: &mut Vec<u8>,
     scene: &Scene<'_>,
     lines: &[Line],
     line: &Line,
@@ -116,7 +116,7 @@ fn put_premise(
         return Ok(());
     }
     let steps = steps_of(alloc, lines, earlier)?;
-    put_steps(page, scene, lines, &steps)
+    put_steps(buffer, scene, lines, &steps)
 }
 
 /// Where the step stands that begins with the least event, and that event.
@@ -134,14 +134,14 @@ fn first_step(lines: &[Line], steps: &[usize]) -> (usize, u8) {
 
 /// Puts steps, one after the other.
 fn put_steps(
-    page: &mut Vec<u8>,
+    buffer: &mut Vec<u8>,
     scene: &Scene<'_>,
     lines: &[Line],
     steps: &[usize],
 ) -> io::Result<()> {
     for place in steps {
         if let Some(step) = lines.get(*place) {
-            put_step(page, scene, step)?;
+            put_step(buffer, scene, step)?;
         }
     }
     Ok(())
@@ -150,17 +150,17 @@ fn put_steps(
 /// Puts a derivation: the steps that lead to what its forced lines rest on, and then those of the cycle, from its least event on.
 pub(crate) fn put_cycle(
     alloc: Global,
-    page: &mut Vec<u8>,
+    buffer: &mut Vec<u8>,
     scene: &Scene<'_>,
     lines: &[Line],
 ) -> io::Result<()> {
     for line in lines {
-        put_premise(alloc, page, scene, lines, line)?;
+        put_premise(alloc, buffer, scene, lines, line)?;
     }
     let steps = steps_of(alloc, lines, lines.len().saturating_sub(1))?;
     let (place, event) = first_step(lines, &steps);
     let (before, after) = steps.split_at(place.min(steps.len()));
-    put_steps(page, scene, lines, after)?;
-    put_steps(page, scene, lines, before)?;
-    put_conclusion(page, scene, event)
+    put_steps(buffer, scene, lines, after)?;
+    put_steps(buffer, scene, lines, before)?;
+    put_conclusion(buffer, scene, event)
 }

@@ -79,9 +79,9 @@ fn answer_text<T: Threads + Sync, W: Write, E: Write>(
         Ok(text) => text,
         Err(error) => return say(errors, fault_of(&error, RunFault::InputFailed)),
     };
-    let mut page = Vec::new(alloc);
-    match explain(alloc, &text, line, &mut page) {
-        Ok(status) => match write_page(output, errors, &page) {
+    let mut buffer = Vec::new(alloc);
+    match explain(alloc, &text, line, &mut buffer) {
+        Ok(status) => match write_buffer(output, errors, &buffer) {
             0 => status,
             failed => failed,
         },
@@ -130,42 +130,42 @@ fn question_of(
 /// Puts the answer to a question as text.
 fn put_text(
     alloc: Global,
-    page: &mut Vec<u8>,
+    buffer: &mut Vec<u8>,
     plan: &Plan<'_>,
     statements: &Statements,
     question: Question,
     most: usize,
 ) -> io::Result<()> {
     match question {
-        Question::InClass(class) => explain_class(alloc, page, plan, statements, class, most),
-        Question::Race => explain_race(page, plan, statements),
+        Question::InClass(class) => explain_class(alloc, buffer, plan, statements, class, most),
+        Question::Race => explain_race(buffer, plan, statements),
         Question::OfChoice(choice) if choice < plan.total() => {
-            explain_choice(alloc, page, plan, statements, choice)
+            explain_choice(alloc, buffer, plan, statements, choice)
         }
         Question::OfChoice(_) | Question::OfNoNumber => {
-            writeln!(page, "no such choice: they are 0 to {}", plan.total() - 1)
+            writeln!(buffer, "no such choice: they are 0 to {}", plan.total() - 1)
         }
-        Question::OfNoSources => page.write_all(b"no choice has these sources\n"),
+        Question::OfNoSources => buffer.write_all(b"no choice has these sources\n"),
     }
 }
 
 /// Puts the answer to a question as JSON.
 fn put_json(
     alloc: Global,
-    page: &mut Vec<u8>,
+    buffer: &mut Vec<u8>,
     plan: &Plan<'_>,
     statements: &Statements,
     question: Question,
     most: usize,
 ) -> io::Result<()> {
     match question {
-        Question::InClass(class) => put_class(alloc, page, plan, statements, class, most),
-        Question::Race => put_race(alloc, page, plan, statements),
+        Question::InClass(class) => put_class(alloc, buffer, plan, statements, class, most),
+        Question::Race => put_race(alloc, buffer, plan, statements),
         Question::OfChoice(choice) if choice < plan.total() => {
-            put_named_choice(alloc, page, plan, statements, choice)
+            put_named_choice(alloc, buffer, plan, statements, choice)
         }
         Question::OfChoice(_) | Question::OfNoNumber | Question::OfNoSources => {
-            put_no_choice(page, plan)
+            put_no_choice(buffer, plan)
         }
     }
 }
@@ -173,16 +173,16 @@ fn put_json(
 /// Puts what is asked for of a test. Gives the status, which is 1 where there is no such choice.
 fn put_answer(
     alloc: Global,
-    page: &mut Vec<u8>,
+    buffer: &mut Vec<u8>,
     plan: &Plan<'_>,
     statements: &Statements,
     line: &Line<'_>,
 ) -> io::Result<u8> {
     let question = question_of(alloc, plan, statements, line)?;
     if line.json {
-        put_json(alloc, page, plan, statements, question, line.most)?;
+        put_json(alloc, buffer, plan, statements, question, line.most)?;
     } else {
-        put_text(alloc, page, plan, statements, question, line.most)?;
+        put_text(alloc, buffer, plan, statements, question, line.most)?;
     }
     Ok(match question {
         Question::OfNoNumber | Question::OfNoSources => 1,
@@ -195,13 +195,13 @@ fn explain(
     alloc: Global,
     text: &[u8],
     line: &Line<'_>,
-    page: &mut Vec<u8>,
+    buffer: &mut Vec<u8>,
 ) -> Result<u8, RunFault> {
     let test = read(alloc, text)?;
     let plan = plan(alloc, &test)?;
     let statements = Statements::of(alloc, text)?;
     // A page is written by growth alone, so what fails is want of memory.
-    match put_answer(alloc, page, &plan, &statements, line) {
+    match put_answer(alloc, buffer, &plan, &statements, line) {
         Ok(status) => Ok(status),
         Err(_) => Err(RunFault::OutOfMemory),
     }
@@ -227,8 +227,8 @@ fn refuse<T: Threads + Sync, W: Write, E: Write>(
 }
 
 /// Writes a page. Gives the status.
-fn write_page<W: Write, E: Write>(output: &mut Counted<W>, errors: &mut E, page: &[u8]) -> u8 {
-    let Ok(()) = output.write_all(page) else {
+fn write_buffer<W: Write, E: Write>(output: &mut Counted<W>, errors: &mut E, buffer: &[u8]) -> u8 {
+    let Ok(()) = output.write_all(buffer) else {
         return say(errors, RunFault::OutputFailed);
     };
     match output.flush() {

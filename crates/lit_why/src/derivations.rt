@@ -2,8 +2,8 @@
 
 mod following;
 pub(crate) mod lines;
-mod used_lines;
 mod searching;
+mod used_lines;
 
 ghost use Rattle.std.specs.Prelude.{ℕ, ◌<◌, IfOk, MatchOption};
 ghost use Rattle.lit_order.specs.Forcing.{HasForcedCycle};
@@ -14,8 +14,8 @@ ghost use Rattle.lit_rel.specs.Rows.{Holds};
 ghost use Rattle.lit_why.specs.Derivation.{IsDerivation};
 
 use crate::derivations::lines::{Line, Reason};
-use crate::derivations::used_lines::only_used;
 use crate::derivations::searching::lines_to_cycle;
+use crate::derivations::used_lines::only_used;
 use lit_rel::{Part, Rows};
 use std::alloc::{AllocError, Global};
 

@@ -1,8 +1,8 @@
 //! Text that is cached, so that it is put again without being made again.
 
-use crate::counted::Counted;
 use crate::buffer::Buffer;
 use crate::buffer::text::Text;
+use crate::counted::Counted;
 use std::io;
 use std::io::Write;
 

@@ -10,11 +10,11 @@ ghost use Rattle.jslit.specs.Internal.EntryCache.{HoldsOutcome, HoldsOrder, IsCa
 ghost use Rattle.jslit.specs.Internal.EntryCache.{outcome_head, outcome_text, order_line};
 ghost use Rattle.jslit.specs.Internal.Writing.{HasPutOn};
 
-use crate::counted::Counted;
 use crate::buffer::Buffer;
 use crate::buffer::cached_text::CachedText;
-use crate::buffer::source_lines::{CachedLines, put_lines};
 use crate::buffer::report_writer::{put_events, put_register_head, put_registers};
+use crate::buffer::source_lines::{CachedLines, put_lines};
+use crate::counted::Counted;
 use lit_paths::laws::combinations_are_listed;
 use lit_paths::{Combination, Event, Plan};
 use lit_read::Test;
@@ -68,7 +68,12 @@ impl<'f> EntryCache<'f> {
 }
 
 /// Puts the first of these registers up to its value, if there is one.
-fn put_first<W: Write>(buffer: &mut Buffer, output: &mut Counted<W>, test: &Test, names: &[(u8, u8)])
+fn put_first<W: Write>(
+    buffer: &mut Buffer,
+    output: &mut Counted<W>,
+    test: &Test,
+    names: &[(u8, u8)],
+)
     requires known { All (λ name. name.0 < length test.now.agents) names.now }
     ensures { HasPutOn W.contents output.old output.new buffer.old buffer.new
         (first_head test.now names.now) }
@@ -97,7 +102,12 @@ fn put_values<W: Write>(
 }
 
 /// Keeps the line of an outcome up to the first value that is not among these, unless it is too long. It is made anew unless it is cached.
-fn cache_values<'f>(cached: &mut CachedOutcome<'f>, test: &Test, names: &[(u8, u8)], values: &'f [u32])
+fn cache_values<'f>(
+    cached: &mut CachedOutcome<'f>,
+    test: &Test,
+    names: &[(u8, u8)],
+    values: &'f [u32],
+)
     requires known { All (λ name. name.0 < length test.now.agents) names.now }
     requires named { length values.now ≤ length names.now }
     requires cached { HoldsOutcome test.now names.now cached.old }

@@ -6,9 +6,9 @@ ghost use Rattle.jslit.specs.Counted.{device_of, failures_of, one_more};
 ghost use Rattle.jslit.specs.Devices.{AppendsBeginning};
 ghost use Rattle.jslit.specs.RefusalText.{read_fault_line, plan_fault_line, refusal_line};
 
+use crate::buffer::Buffer;
 use crate::counted::Counted;
 use crate::fault::RunFault;
-use crate::buffer::Buffer;
 use lit_paths::PlanFault;
 use lit_read::ReadFault;
 use std::io::Write;

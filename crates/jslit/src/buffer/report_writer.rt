@@ -17,10 +17,10 @@ ghost use Rattle.jslit.specs.Internal.EntryCache.{register_head};
 ghost use Rattle.jslit.specs.Internal.ReadLine.{source_head, read_line, rest_after, lines_from};
 ghost use Rattle.jslit.specs.Internal.Writing.{HasPutOn};
 
-use crate::counted::Counted;
-use crate::fault::RunFault;
 use crate::buffer::Buffer;
 use crate::buffer::entry_cache::{EntryCache, put_entry};
+use crate::counted::Counted;
+use crate::fault::RunFault;
 use crate::verdict::Verdict;
 use lit_paths::{Event, Kind, Plan};
 use lit_read::Test;
@@ -170,7 +170,12 @@ pub(crate) fn put_sources<W: Write>(
 }
 
 /// Puts a blank and the name of a register, by its agent's name and its number. A short one is put at once.
-fn put_register_name<W: Write>(buffer: &mut Buffer, output: &mut Counted<W>, agent: &[u8], register: u8)
+fn put_register_name<W: Write>(
+    buffer: &mut Buffer,
+    output: &mut Counted<W>,
+    agent: &[u8],
+    register: u8,
+)
     ensures { HasPutOn W.contents output.old output.new buffer.old buffer.new
         (codes " " ++ agent.now ++ codes ".r" ++ decimal register) }
 {
@@ -287,7 +292,12 @@ fn choice_at(found: &Found, place: usize) -> u64
 
 /// Puts an outcome and its example for each entry of a report. Examples lie here and there in memory, so each is looked at
 /// one entry before it is put: till then the memory is at hand.
-fn put_entries<W: Write>(buffer: &mut Buffer, output: &mut Counted<W>, plan: &Plan<'_>, found: &Found)
+fn put_entries<W: Write>(
+    buffer: &mut Buffer,
+    output: &mut Counted<W>,
+    plan: &Plan<'_>,
+    found: &Found,
+)
     requires report { IsReport plan.now (in_range 0 (length (choices_of plan.now))) found.now }
     ensures { HasPutOn W.contents output.old output.new buffer.old buffer.new
         (flat_map (entry_text plan.now) found.now.entries) }

@@ -9,10 +9,10 @@ ghost use Rattle.jslit.specs.Internal.CachedLines.{HoldsLines};
 ghost use Rattle.jslit.specs.Internal.ReadLine.{OnlyFirstReads, first_source_head, lines_up_to, line_end};
 ghost use Rattle.jslit.specs.Internal.Writing.{HasPutOn};
 
-use crate::counted::Counted;
 use crate::buffer::Buffer;
 use crate::buffer::cached_text::CachedText;
 use crate::buffer::report_writer::{put_events, put_source_head, put_sources};
+use crate::counted::Counted;
 use lit_paths::{Event, Sources};
 use lit_read::Test;
 use std::io::Write;
@@ -63,7 +63,12 @@ fn last_read(events: &[Event]) -> (usize, usize)
 }
 
 /// Puts the line of the first of these events up to its sources, if there is one.
-fn put_first_head<W: Write>(buffer: &mut Buffer, output: &mut Counted<W>, test: &Test, events: &[Event])
+fn put_first_head<W: Write>(
+    buffer: &mut Buffer,
+    output: &mut Counted<W>,
+    test: &Test,
+    events: &[Event],
+)
     requires owned { All (λ e. IfSome e.owner (λ agent. agent < length test.now.agents)) events.now }
     ensures { HasPutOn W.contents output.old output.new buffer.old buffer.new
         (first_source_head test.now events.now) }

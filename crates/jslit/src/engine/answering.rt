@@ -8,12 +8,12 @@ ghost use Rattle.jslit.specs.Answer.{IsFaultOn, HasReported, HasBegun};
 ghost use Rattle.jslit.specs.Counted.{device_of, failures_of, one_more};
 ghost use Rattle.jslit.specs.Internal.Answering.{HasWritten, HasWrittenSome, IsFirstFound, IsOfWriting, IsOfTextOrWriting};
 
+use crate::buffer::report_writer::{write_quick_report, write_report};
 use crate::counted::Counted;
 use crate::engine::Options;
 use crate::engine::cutting::{cut_for_outcomes, cut_of};
 use crate::fault::RunFault;
 use crate::laws::reports_are_complete;
-use crate::buffer::report_writer::{write_quick_report, write_report};
 use crate::verdict::{verdict_from, verdict_on};
 use crate::watch::Watch;
 use lit_paths::{Plan, plan};

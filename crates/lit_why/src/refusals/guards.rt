@@ -15,7 +15,9 @@ use lit_rel::Part;
 fn number_asked(guard: Tested, first: u8) -> Option<usize>
     ensures { result ≡ number_on first guard.on }
 {
-    guard.on.map(|place| usize::from(first) + usize::from(place))
+    guard
+        .on
+        .map(|place| usize::from(first) + usize::from(place))
 }
 
 /// The value of a read by the part's sources, or 0 where there is none.

@@ -6,7 +6,7 @@ ghost use Rattle.lit_paths.specs.Choice.{choices_of};
 ghost use Rattle.lit_rel.specs.Rows.{rows_len};
 ghost use Rattle.lit_share.specs.Pieces.{pieces_of};
 
-mod stopping;
+mod refusing_gate;
 
 use jslit::Counted;
 use lit_desk::{Class2, Desk, Place};
@@ -16,10 +16,10 @@ use lit_read::{Cond, Test, read, show};
 use lit_rel::{Between, Part, Rows};
 use lit_search::{Class, Found, first_in, search_range};
 use lit_share::{Gate, OpenGate, hunt};
+use refusing_gate::stops_where_refused;
 use std::alloc::Global;
 use std::io::{Print, Write};
 use std::test::Fail;
-use stopping::stops_where_refused;
 
 /// The size of the two requests between which every request is refused.
 const MARK: usize = 7_654_321;
@@ -97,13 +97,13 @@ fn tells_paths(plan: &Plan<'_>) -> bool {
         return false;
     }
     let path = plan.path(1, 0);
-    let asked = Tested {
+    let guard = Tested {
         on: Some(0),
         equal: true,
         value: 1,
     };
     path.events().len() == 2
-        && path.tests() == [asked].as_slice()
+        && path.tests() == [guard].as_slice()
         && path.last(0) == Some(0)
         && path.last(1).is_none()
 }

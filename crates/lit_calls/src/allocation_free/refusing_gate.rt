@@ -12,22 +12,22 @@ use lit_share::{Gate, ShareFault, work};
 use std::sync::atomic::{AtomicU64, Ordering};
 
 /// The first piece of load buffering that shows an outcome, which is kept; a piece is one choice.
-const KEEPING: u64 = 3;
+const RECORDING: u64 = 3;
 
 /// Has every request refused once the piece is entered that would keep an outcome.
 #[derive(Drop)]
-struct Refusing<'r> {
+struct RefusingGate<'r> {
     rt: &'r HostRuntime,
     /// How many pieces were entered.
     entered: AtomicU64,
 }
 
-impl Gate for Refusing<'_> {
+impl Gate for RefusingGate<'_> {
     type Pass = ();
 
     fn at(&self, _pass: &mut (), _worker: usize, piece: u64) {
         self.entered.fetch_add(1, Ordering::SeqCst);
-        if piece == KEEPING {
+        if piece == RECORDING {
             mark(self.rt);
         }
     }
@@ -47,13 +47,13 @@ pub(super) fn stops_where_refused(
     let Some(place) = places.pop() else {
         return false;
     };
-    let gate = Refusing {
+    let gate = RefusingGate {
         rt,
         entered: AtomicU64::new(0),
     };
     let (mut place, answer) = work(rt.alloc(), plan, 1, &desk, place, &gate, (), 0);
     mark(rt);
     matches!(answer, Err(ShareFault::OutOfMemory))
-        && gate.entered.load(Ordering::SeqCst) == KEEPING + 1
-        && desk.draw(&mut place) == Some(KEEPING + 1)
+        && gate.entered.load(Ordering::SeqCst) == RECORDING + 1
+        && desk.draw(&mut place) == Some(RECORDING + 1)
 }

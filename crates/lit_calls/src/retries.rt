@@ -72,7 +72,7 @@ fn searched<R: Threads + Sync + Eprint>(
     }
 }
 
-fn asked<R: Threads + Sync + Eprint>(
+fn quickly_searched<R: Threads + Sync + Eprint>(
     rt: &R,
     alloc: Global,
     plan: &Plan<'_>,
@@ -155,7 +155,7 @@ fn search_all<R: Threads + Sync + Eprint + Print>(
     let found = searched(rt, alloc, plan, workers)?;
     print_found(rt, &found)?;
     print_found(rt, &collected(rt, alloc, plan)?)?;
-    let answer = asked(rt, alloc, plan, workers)?;
+    let answer = quickly_searched(rt, alloc, plan, workers)?;
     print_first(rt, "met", answer.met)?;
     Ok(print_first(rt, "unmet", answer.unmet)?)
 }
