@@ -32,7 +32,7 @@ use Rattle.lit_why.proofs.AddedLemmas.{adds_more}
 use Rattle.lit_why.proofs.NodeLemmas.{on_sourced, placed, rises_at}
 use Rattle.lit_why.proofs.FirstRaceLemmas.{one_sources}
 
--- ---- storing the same
+-- ---- sources that store the same bytes
 pub both : (a b : Bool) → IsTrue (a && b) → IsTrue a × IsTrue b
 both true true is = (refl, refl)
 both true false is = absurd (let e = is in cc)

@@ -81,7 +81,7 @@ EachFollows-given before forbidden lines given k line at = let is = given k line
 pub AreGiven-more : (before : ℕ → ℕ → Type 0) (lines : List Line) (line : Line) → AreGiven before lines → IsGiven before line → AreGiven before (lines ++ line ∷ [])
 AreGiven-more before lines line given here k new at = elim (at_pushed lines line k new at) [ inl old ↦ given k new old.1 | inr last ↦ rw (← last.1) here ]
 
--- where nothing is left to follow, all that is forced is known
+-- where all pairs that follow are known, all pairs that are forced are known
 pub forced_within : (before known : ℕ → ℕ → Type 0) (forbidden : ℕ → ℕ → ℕ → Type 0) → ((e d : ℕ) → before e d → known e d) → HasForced forbidden known known
     → HasComposed known known → (a d : ℕ) → IsForced before forbidden a d → known a d
 forced_within before known forbidden has forced composed a d (Given h) = has a d h
@@ -103,7 +103,7 @@ pub no_cycle_more : (known more : ℕ → ℕ → Type 0) (a d : ℕ) → ((x y 
     → (e : ℕ) → ¬ more e e
 no_cycle_more known more a d put none apart e h = elim ((put e e).0 h) [ inl old ↦ none e old | inr new ↦ apart (sym new.0 ∙ new.1) ]
 
--- the measure of the rounds
+-- the measure of the iterations
 pub two_less : (m n : ℕ) (grown : Bool) → n < m → 2 * n + cond true 1 0 < 2 * m + cond grown 1 0
 two_less m n true less = omega arith
 two_less m n false less = omega arith

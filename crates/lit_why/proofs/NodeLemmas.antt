@@ -1,4 +1,4 @@
--- Going down the byte reads of a box: what tries the class by sources in its domains, and what is left to try.
+-- Descending the byte reads of a box: what tries the class by sources in its domains, and which sources remain to be tried.
 use Rattle.std.proofs.Common.{◌≡◌, ◌↔◌, ◌⊎◌, inl, inr, ℕ, ◌+◌, ◌<◌, true, List, [], ◌∷◌, ◌++◌, Some, arith, get_or, length, refl, sym, ap}
 use Rattle.std.proofs.Common.{subst, ◌∙◌}
 use Rattle.std.specs.Prelude.{slice_get, slice_index}

@@ -48,7 +48,7 @@ module _ (step : ℕ → ℕ → Type 0) (d : ℕ) where
 
 -- ---- levels, of which each further one has what leads to the one before it
 module _ (step : ℕ → ℕ → Type 0) (d from : ℕ) where
-  -- the sets so far, the next one, and what they have together
+  -- the levels so far, the next one, and the union of those so far
   pub record AreReached (levels : List EventSet) (level reached : EventSet) : Type 0 where
     pub are_levels : AreLevels step d levels
     pub next : (e : ℕ) → HasEvent level e ↔ IsReachedBy step d (length levels) e

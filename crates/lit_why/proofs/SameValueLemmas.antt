@@ -1,4 +1,4 @@
--- Choices of one attempt try a class together: tests and outcomes are of what is read.
+-- Choices of one attempt try a class together: guards and outcomes depend on the values read.
 use Rattle.std.proofs.Common.{◌≡◌, inl, inr, ℕ, ◌==◌, Bool, true, false, cond, List, [], ◌∷◌, Option, None, Some, arith, ap, ap₂, filter}
 use Rattle.std.proofs.Common.{length, map}
 use Rattle.std.proofs.Common.{refl, subst, sym, zip}

@@ -1,4 +1,4 @@
--- Marks, and lines that are moved to new places.
+-- Marks of the used lines of a derivation, and the moves of these lines to new places.
 use Rattle.std.proofs.Common.{◌≡◌, ◌⊎◌, ◌↔◌, ℕ, ◌+◌, ◌-◌, ◌<◌, Bool, true, suc, zero, List, [], ◌∷◌, ◌++◌, length, Some, get_or, set, refl, sym, ap, ◌∙◌, subst, arith, inl, inr}
 use Rattle.std.specs.Prelude.{slice_index}
 use Rattle.std.specs.List.{slice_get}
@@ -94,7 +94,7 @@ module _ (lines : List Line) (marks : List Bool) (i : ℕ) (places : List ℕ) (
         ];
       }
 
--- ---- what is left is a derivation
+-- ---- the used lines are a derivation
 cites_moved : (places : List ℕ) (reason : Reason) (j : ℕ) → Cites reason j → Cites (moved_reason places reason) (slice_index places j)
 cites_moved places reasons.HappensBefore j h = h
 cites_moved places (reasons.Composed first second) j (inl h) = inl (ap (slice_index places) h)

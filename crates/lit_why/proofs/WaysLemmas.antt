@@ -1,4 +1,4 @@
--- How many lists of sources store the same, byte read by byte read.
+-- How many lists of sources store the same bytes, byte read by byte read.
 use Rattle.std.proofs.Common.{◌≡◌, ℕ, zero, suc, ◌+◌, ◌*◌, ◌<◌, ◌≤◌, ◌==◌, ◌&&◌, Bool, true, false, cond, List, [], ◌∷◌, ◌++◌, Some}
 use Rattle.std.proofs.Common.{arith, refl, sym, ap, ap₂, ◌∙◌}
 use Rattle.std.proofs.Common.{drop, filter, get_or, length, length-append, map}
@@ -83,7 +83,7 @@ ways_are events (read ∷ reads) (w ∷ sources) long =
     (ways_are events reads sources (omega (arith, long)))
 
 -- ---- from the last byte read on
--- a source stores what it does itself
+-- a source stores the same byte as itself
 counts_itself : (f : ℕ → Bool) (w : ℕ) (xs : List ℕ) (k : ℕ) → slice_get xs k ≡ Some w → f w ≡ true → 1 ≤ length (filter f xs)
 counts_itself f w [] k at is = absurd (let e = at in cc)
 counts_itself f w (x ∷ xs) zero at is =

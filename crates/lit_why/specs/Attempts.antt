@@ -1,5 +1,5 @@
--- Attempts at an outcome: a combination of paths with the values that their tests allow its reads, where the outcome is in a
--- class (this project's own). Whether some execution with these values is valid plays no part.
+-- Attempts at an outcome: a combination of paths, with values of its reads that the guards allow and that put the outcome in a
+-- class (this project's own). An attempt need not have a valid execution.
 use Rattle.std.specs.Prelude.{◌≡◌, ◌⊎◌, ℕ, ◌+◌, ◌<◌, ◌≤◌, ◌==◌, ◌&&◌, Bool, IsTrue, true, false}
 use Rattle.std.specs.Prelude.{List, [], ◌∷◌, Some, filter, length, slice_get}
 use Rattle.lit_read.specs.Syntax.{Litmus}
@@ -26,7 +26,7 @@ pub record IsOn (t : Litmus) (n c : ℕ) (sources : List ℕ) : Type 0 where
 abbrev pub part_with : Litmus → ℕ → List ℕ → PartModel
 part_with t c sources = record { test = t; combination = c; sources = sources }
 
--- by these sources no test of a path is false of what is read, and the outcome is in the class
+-- by these sources no guard of a path is false of the value read, and the outcome is in the class
 pub record IsTry (t : Litmus) (class : Class) (c : ℕ) (sources : List ℕ) : Type 0 where
   pub allowed : ¬ HasFalseGuard (part_with t c sources)
   pub of_class : IsTrue (is_of_class t class (part_outcome (part_with t c sources)))
@@ -64,7 +64,7 @@ pub record IsLeastTry (t : Litmus) (class : Class) (n : ℕ) : Type 0 where
   pub tries : TriesClass t class n
   pub least : (m : ℕ) → m < n → ¬ AreOneAttempt t m n
 
--- so many of the choices on the combination of choice n give each read the value that it does
+-- so many of the choices on the combination of choice n give each read the value that choice n gives it
 pub record HasSoMany (t : Litmus) (n count : ℕ) : Type 0 where
   pub combination : ℕ
   pub sources : List ℕ
@@ -83,16 +83,16 @@ pub record HasAttempt (attempts : List Attempt) (n : ℕ) : Type 0 where
   pub is : slice_get attempts place ≡ Some attempt
   pub same : attempt.choice ≡ n
 
--- their first choices rise
+-- the first choices of the attempts rise
 abbrev pub AreRising : List Attempt → Type 0
 AreRising attempts =
     (i j : ℕ) (a b : Attempt) → i < j → slice_get attempts i ≡ Some a → slice_get attempts j ≡ Some b → a.choice < b.choice
 
--- the first choice of each is before this one
+-- the first choice of each attempt is before choice n
 abbrev pub AreBefore : List Attempt → ℕ → Type 0
 AreBefore attempts n = (i : ℕ) (a : Attempt) → slice_get attempts i ≡ Some a → a.choice < n
 
--- The first `most` attempts at the class: in order, each once, and none is left out but behind so many.
+-- The first `most` attempts at the class, in order, each once: an attempt that is missing comes after so many.
 pub record AreFirstAttempts (t : Litmus) (class : Class) (most : ℕ) (attempts : List Attempt) : Type 0 where
   pub few : length attempts ≤ most
   pub each : (i : ℕ) (a : Attempt) → slice_get attempts i ≡ Some a → IsAttempt t class a

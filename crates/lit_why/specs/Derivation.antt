@@ -1,4 +1,4 @@
--- Why there is no memory-order: precedences, of which each follows from earlier ones, until an event comes before itself (this
+-- Derivations that there is no memory-order: precedences, each of which follows from earlier ones, up to an event before itself (this
 -- project's own; the triples are those of ECMA-262, 2024, 29.7.4).
 use Rattle.std.specs.Prelude.{◌≡◌, ◌⊎◌, ℕ, ◌+◌, ◌<◌, List, length, Some, slice_get}
 use Rattle.lit_paths.specs.declared.event.Event.{Event}
@@ -25,7 +25,7 @@ Follows before forbidden lines place e d (reasons.Composed first second) =
 Follows before forbidden lines place e d (reasons.BeforeSource r earlier) = forbidden d r e × (earlier < place) × IsLineOf lines earlier e r
 Follows before forbidden lines place e d (reasons.AfterRead w earlier) = forbidden w e d × (earlier < place) × IsLineOf lines earlier w d
 
--- each line does
+-- each line follows for its reason from the lines before it
 abbrev pub EachFollows : (ℕ → ℕ → Type 0) → (ℕ → ℕ → ℕ → Type 0) → List Line → Type 0
 EachFollows before forbidden lines =
     (k : ℕ) (line : Line) → slice_get lines k ≡ Some line → Follows before forbidden lines k line.before line.after line.reason
@@ -58,6 +58,6 @@ pub record IsDerivationBy (before : ℕ → ℕ → Type 0) (forbidden : ℕ →
   pub ends : EndsInCycle lines
   pub cited : (k : ℕ) → k + 1 < length lines → IsCitedLater lines k
 
--- by happens-before and what may not stand between a source and its read
+-- the same, by the happens-before and the forbidden triples of these sources
 abbrev pub IsDerivation : List Event → List ℕ → List Line → Type 0
 IsDerivation events sources = IsDerivationBy (HappensBefore events sources) (IsForbidden events sources)

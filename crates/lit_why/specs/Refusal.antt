@@ -1,5 +1,5 @@
--- What refuses a complete part first, of the clauses of a valid execution (ECMA-262, 2024, 29.7; their order, and which of several
--- witnesses is named, is this project's own).
+-- Refusals: the first clause of a valid execution that a complete part breaks, with a witness (ECMA-262, 2024, 29.7; the order of the
+-- clauses, and which of several witnesses is named, are this project's own).
 use Rattle.std.specs.Prelude.{◌≡◌, ◌⊎◌, ℕ, ◌<◌, Option, Some, None, false, List, length, slice_get}
 use Rattle.lit_paths.specs.Plan.{first_event, path_in}
 use Rattle.lit_paths.specs.Run.{compares}
@@ -57,11 +57,11 @@ pub record IsTornBy (part : PartModel) (r w v : ℕ) : Type 0 where
   pub second : IsWholeFrom part r v
   pub rising : w < v
 
--- first by the read, then by one event, then by the other
+-- the lexicographic order of triples: by the read, then by one event, then by the other
 abbrev pub IsLesserTriple : ℕ → ℕ → ℕ → ℕ → ℕ → ℕ → Type 0
 IsLesserTriple q u x r w v = (q < r) ⊎ ((q ≡ r) × IsLesserPair u x w v)
 
--- the clauses before this one refuse nothing, this is what this one refuses, and it refuses nothing less
+-- the clauses before this one hold, and this is the least witness that this one does not
 abbrev pub IsRefusal : PartModel → Refusal → Type 0
 IsRefusal part (FalseGuard agent place) =
     IsFalseAt part agent place × ((a p : ℕ) → IsFalseAt part a p → ¬ IsLesserPair a p agent place)

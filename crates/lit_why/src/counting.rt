@@ -10,7 +10,7 @@ use lit_paths::laws::choices_have_numbers;
 use lit_paths::{Combination, Event, event_at};
 use lit_rel::payload_at;
 
-/// How many of these events store this at a byte.
+/// How many of the events `among` store the value `stored` at a byte.
 fn count_storing(events: &[Event], among: &[u8], byte: u8, stored: u8) -> u64
     requires { (k w : ℕ) → slice_get among.now k ≡ Some w → w < length events.now }
     ensures { result ≡ length (filter (λ v. payload_of (event_of events.now v) byte == stored) among.now) }
@@ -29,8 +29,9 @@ pub(crate) fn count_same_values(combination: &Combination<'_>, sources: &[u8]) -
     requires { AreSources (events_on combination.now) sources.now }
     ensures { result ≡ length (filter (give_same_values (events_on combination.now) sources.now) (sources_of (events_on combination.now))) }
 {
+    // The law says that the choices that begin with given sources are as many as the product of the other byte reads' numbers of
+    // candidates. `end` and `first` tell the prover that there are few choices, and that the combination is one of the test's.
     choices_have_numbers();
-    // That there are few choices is known of the last one, and that the combination is one of the test of the first.
     let _first = combination.first();
     let _end = combination.end();
     let events = combination.events();

@@ -1,4 +1,4 @@
-//! Why there is no memory-order (ECMA-262, 2024, 29.7.4).
+//! Derivations: proofs that a part has no memory-order (ECMA-262, 2024, 29.7.4), line by line.
 
 mod following;
 pub(crate) mod lines;
@@ -32,10 +32,10 @@ pub(crate) fn first_before_itself(before: &Rows) -> Option<usize>
     None
 }
 
-/// Why there is no memory-order of the part's sources: precedences that every order would have to keep, each of which follows from
-/// happens-before, from earlier ones, or from one of these and what may not stand between a source and its read, until an event comes
-/// before itself. Each line but the last is cited by a later one. `None` exactly where no event is forced before itself; then there may
-/// be no memory-order all the same. Refused only where memory is.
+/// A derivation that the part has no memory-order: precedences that every memory-order would have to respect. Each line follows from
+/// happens-before, from two earlier lines, or from an earlier line and a forbidden triple; the last has an event before itself. Each line
+/// but the last is cited by a later one. `None` exactly where no event is forced before itself; then the part may have no memory-order
+/// all the same. Fails only where memory is refused.
 pub fn derivation(alloc: Global, part: &Part<'_>) -> Result<Option<Vec<Line>>, AllocError>
     ensures { IfOk result (λ found. MatchOption found
         (¬ HasForcedCycle (HappensBefore (part_events part.now) part.now.sources) (IsForbidden (part_events part.now) part.now.sources))

@@ -1,4 +1,4 @@
-//! Laws of what is said of a part, and of attempts. The functions do nothing: their contracts are theorems.
+//! Laws on derivations, refusals and attempts. The functions compute nothing: their contracts are theorems.
 
 ghost use Rattle.std.specs.Prelude.{ℕ, List};
 ghost use Rattle.lit_order.specs.Forcing.{HasForcedCycle};
@@ -26,7 +26,7 @@ pub fn derivations_end_in_forced_cycles()
         → HasForcedCycle (HappensBefore events sources) (IsForbidden events sources) }
 {}
 
-/// A complete part that something refuses is that of no valid execution. So `refusal` names something exactly there.
+/// No valid execution has the paths and sources of a complete part with a refusal. So `refusal` gives one exactly for such parts.
 pub fn refused_parts_have_no_completion()
     ensures { (part : PartModel) (refusal : PartRefusal) → IsOnCombination part → AreSources (part_events part) part.sources
         → IsRefusal part refusal → ¬ HasCompletion part }
@@ -35,7 +35,7 @@ pub fn refused_parts_have_no_completion()
     whole_parts_are_decided_by_orders();
 }
 
-/// Where one choice of an attempt tries a class, all of them do: so an attempt is one at the class by any of its choices.
+/// Where one choice of an attempt tries a class, all choices of the attempt do.
 pub fn choices_of_an_attempt_try_together()
     ensures { (t : Litmus) (class : Class) (m n : ℕ) → AreOneAttempt t m n → TriesClass t class m → TriesClass t class n }
 {

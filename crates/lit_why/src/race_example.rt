@@ -1,4 +1,4 @@
-//! The first choice that a valid execution with a data race has.
+//! The first choice whose valid executions include one with a data race.
 
 ghost use Rattle.std.specs.Prelude.{ℕ, ◌<◌, MatchOption, length};
 ghost use Rattle.lit_paths.specs.Choice.{combinations_of};
@@ -26,6 +26,7 @@ fn first_race_on(plan: &Plan<'_>, combination: usize) -> Option<RaceExample>
     ensures { MatchOption result (HasNoRaceOn plan.now combination)
         (λ race. IsFirstRaceOn plan.now combination race.choice race.least.sources.items race.least.order.items) }
 {
+    // `test` tells the prover that the test is one that a text can spell.
     laws_below();
     let _test = plan.test();
     let problem = Problem::open(plan, combination);

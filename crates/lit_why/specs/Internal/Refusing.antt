@@ -43,7 +43,7 @@ pub record IsFirstIncoherent (events : List Event) (before : ℕ → ℕ → Typ
 abbrev pub IsWholeBy : List Event → (ℕ → ℕ → Type 0) → ℕ → ℕ → Type 0
 IsWholeBy events reads r w = reads r w × CanReadWhole (event_at events r) (event_at events w)
 
--- from two
+-- read r would be whole from two events, w the lesser
 pub record AreTorn (events : List Event) (reads : ℕ → ℕ → Type 0) (r w v : ℕ) : Type 0 where
   pub first : IsWholeBy events reads r w
   pub second : IsWholeBy events reads r v

@@ -1,4 +1,4 @@
--- Which lines of a derivation are used, and where they go.
+-- The used lines of a derivation, and their new places.
 use Rattle.std.specs.Prelude.{◌≡◌, ◌⊎◌, ℕ, ◌+◌, ◌<◌, Bool, true, List, length, Some, slice_get, slice_index}
 use Rattle.lit_why.specs.declared.derivations.lines.Line.{Line}
 use Rattle.lit_why.specs.declared.derivations.lines.Reason.{Reason}
@@ -22,13 +22,13 @@ pub record IsCitedByMarked (lines : List Line) (marks : List Bool) (place : ℕ)
 abbrev pub CiteEarlier : List Line → Type 0
 CiteEarlier lines = (later : ℕ) (line : Line) → slice_get lines later ≡ Some line → (k : ℕ) → Cites line.reason k → k < later
 
--- what the marked lines from a place on cite is marked
+-- each line that a marked line from a place on cites is marked
 abbrev pub AreCitedMarked : List Line → List Bool → ℕ → Type 0
 AreCitedMarked lines marks from =
     (later : ℕ) (line : Line) → (later < from → ⊥) → IsMarked marks later → slice_get lines later ≡ Some line → (k : ℕ)
     → Cites line.reason k → IsMarked marks k
 
--- the last line, and what it cites, directly or by others
+-- the marks are those of the last line and of the lines that it cites, directly or through others
 pub record AreMarks (lines : List Line) (marks : List Bool) : Type 0 where
   pub len : length marks ≡ length lines
   pub last : (k : ℕ) → k + 1 ≡ length lines → IsMarked marks k
@@ -54,7 +54,7 @@ pub record AreMoved (lines : List Line) (marks : List Bool) (i : ℕ) (places : 
   pub rising : (j l : ℕ) → j < l → l < i → IsMarked marks j → slice_index places j < slice_index places l
   pub within : (j : ℕ) → j < i → IsMarked marks j → slice_index places j < length used
 
--- what is left of lines: those that are marked
+-- the used lines are those that are marked
 pub record AreUsedLines (lines used : List Line) : Type 0 where
   pub marks : List Bool
   pub are_marks : AreMarks lines marks

@@ -1,4 +1,4 @@
-//! The next line of a derivation: what follows from lines, and is not known yet.
+//! The next line of a derivation: a precedence that follows from earlier lines and is not known yet.
 
 ghost use Rattle.std.specs.Prelude.{◌≡◌, ℕ, ◌<◌, MatchOption};
 ghost use Rattle.lit_rel.specs.Between.{Forbids};
@@ -10,7 +10,7 @@ ghost use Rattle.lit_why.specs.Internal.Deriving.{HasForced, HasComposed, HasLin
 use crate::derivations::lines::{Line, Reason};
 use lit_rel::{Between, EventSet, Pair, Rows};
 
-/// The place of a line that has one event before another. There is one.
+/// The place of a line that has one event before another. The lines have one.
 fn place_of(lines: &[Line], before: usize, after: usize) -> usize
     requires { HasLine lines.now before after }
     ensures { IsLineOf lines.now result before after }
@@ -33,7 +33,7 @@ fn first_lacking(set: EventSet, there: EventSet) -> Option<usize>
     }
 }
 
-/// From an event by way of one of those that the lines have it before.
+/// A new line from `first`, composed of two lines.
 fn composed_from(lines: &[Line], old: &Rows, known: &Rows, first: usize) -> Option<Line>
     requires same { rows_len known.now ≡ rows_len old.now }
     requires lines { HasLines lines.now (Holds old.now) }
@@ -59,7 +59,7 @@ fn composed_from(lines: &[Line], old: &Rows, known: &Rows, first: usize) -> Opti
     None
 }
 
-/// From any event so.
+/// A new line from any event, composed of two lines.
 fn composed(lines: &[Line], old: &Rows, known: &Rows) -> Option<Line>
     requires same { rows_len known.now ≡ rows_len old.now }
     requires lines { HasLines lines.now (Holds old.now) }
@@ -74,7 +74,7 @@ fn composed(lines: &[Line], old: &Rows, known: &Rows) -> Option<Line>
     None
 }
 
-/// That a read comes before an event that comes after its source.
+/// A new line that has a read before an event: the event comes after the source, and may not stand between the source and the read.
 fn after_read(lines: &[Line], old: &Rows, known: &Rows, pair: &Pair) -> Option<Line>
     requires same { rows_len known.now ≡ rows_len old.now }
     requires lines { HasLines lines.now (Holds old.now) }
@@ -98,7 +98,7 @@ fn after_read(lines: &[Line], old: &Rows, known: &Rows, pair: &Pair) -> Option<L
     }
 }
 
-/// That an event comes before a source before whose read it comes.
+/// A new line that has an event before a source: the event comes before the read, and may not stand between the source and the read.
 fn before_source(lines: &[Line], old: &Rows, known: &Rows, pair: &Pair) -> Option<Line>
     requires same { rows_len known.now ≡ rows_len old.now }
     requires lines { HasLines lines.now (Holds old.now) }
@@ -123,7 +123,7 @@ fn before_source(lines: &[Line], old: &Rows, known: &Rows, pair: &Pair) -> Optio
     None
 }
 
-/// What the triples of one source and its read give so.
+/// A new line by a forbidden triple of one source and its read.
 fn forced_by(lines: &[Line], old: &Rows, known: &Rows, pair: &Pair) -> Option<Line>
     requires same { rows_len known.now ≡ rows_len old.now }
     requires lines { HasLines lines.now (Holds old.now) }
@@ -138,7 +138,7 @@ fn forced_by(lines: &[Line], old: &Rows, known: &Rows, pair: &Pair) -> Option<Li
     }
 }
 
-/// What all triples give so.
+/// A new line by any forbidden triple.
 fn forced(lines: &[Line], old: &Rows, known: &Rows, between: &Between) -> Option<Line>
     requires same { rows_len known.now ≡ rows_len old.now }
     requires len { rows_len old.now ≡ between.now.len }
@@ -154,7 +154,7 @@ fn forced(lines: &[Line], old: &Rows, known: &Rows, between: &Between) -> Option
     None
 }
 
-/// A line that follows from old pairs, each of which has a line, and says what is not known.
+/// A new line: it follows from old pairs, each of which has a line, and its own pair is not known.
 pub(crate) fn next_line(lines: &[Line], old: &Rows, known: &Rows, between: &Between) -> Option<Line>
     requires same { rows_len known.now ≡ rows_len old.now }
     requires len { rows_len old.now ≡ between.now.len }

@@ -5,7 +5,7 @@
 pub enum Reason {
     /// The one happens before the other.
     HappensBefore,
-    /// By an event between the two.
+    /// By transitivity, through an event between the two.
     Composed {
         /// The line that has the one before the event between.
         first: usize,

@@ -1,4 +1,4 @@
-//! Lines of a derivation, round after round, until one is a cycle.
+//! Forward chaining: adds lines to a derivation, iteration by iteration, until one is a cycle.
 
 ghost use Rattle.std.specs.Prelude.{◌≡◌, ℕ, ◌<◌, IfOk, MatchOption, OnOk};
 ghost use Rattle.lit_order.specs.Forcing.{HasForcedCycle};
@@ -12,7 +12,7 @@ use crate::derivations::lines::{Line, Reason};
 use lit_rel::{Between, Rows};
 use std::alloc::{AllocError, Global};
 
-/// Puts a line for each pair of an event.
+/// Adds a line for each pair of a relation whose first event this is.
 fn push_given(lines: &mut Vec<Line>, before: &Rows, first: usize) -> Result<(), AllocError>
     requires { first < rows_len before.now }
     ensures given { OnOk result (AreGiven (Holds before.now) lines.old.items → AreGiven (Holds before.now) lines.new.items) }
@@ -43,7 +43,8 @@ fn given_lines(alloc: Global, before: &Rows) -> Result<Vec<Line>, AllocError>
 }
 
 /// Lines of which each follows from earlier ones and the last one is a cycle, or `None` exactly where no event is forced before
-/// itself. By the relation no event comes before itself. A round gives what follows from the lines before it.
+/// itself. The relation has no event before itself. An iteration adds what follows from the lines of earlier iterations, and the first
+/// cycle ends the derivation (decision 39).
 pub(crate) fn lines_to_cycle(
     alloc: Global,
     before: &Rows,

@@ -1,4 +1,4 @@
-//! The lines of a derivation that its last line rests on.
+//! The used lines of a derivation: those that its last line rests on (decision 39).
 
 ghost use Rattle.std.specs.Prelude.{◌≡◌, ◌⊎◌, ◌↔◌, ℕ, ◌<◌, IfOk, List, length, slice_index};
 ghost use Rattle.lit_why.specs.Derivation.{Cites, EndsInCycle};
@@ -33,7 +33,7 @@ fn mark_cited(marks: &mut Vec<bool>, reason: Reason)
     }
 }
 
-/// Which lines are the last one, or are cited by one of these.
+/// Marks the last line, and each line that a marked line cites.
 fn marks_of(alloc: Global, lines: &[Line]) -> Result<Vec<bool>, AllocError>
     requires some { 0 < length lines.now }
     requires earlier { CiteEarlier lines.now }
@@ -103,7 +103,7 @@ fn moved_lines(alloc: Global, lines: &[Line], marks: &[bool]) -> Result<Vec<Line
     Ok(used)
 }
 
-/// Those of lines that end in a cycle, of which each cites earlier ones, that the last one rests on.
+/// The lines that the last line rests on. The lines end in a cycle, and each cites earlier lines only.
 pub(crate) fn only_used(alloc: Global, lines: &[Line]) -> Result<Vec<Line>, AllocError>
     requires ends { EndsInCycle lines.now }
     requires earlier { CiteEarlier lines.now }
