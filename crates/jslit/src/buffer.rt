@@ -1,4 +1,4 @@
-//! Text on its way to a writer.
+//! The output buffer of a report: text on its way to a writer.
 
 pub(crate) mod cached_text;
 pub(crate) mod digits;
@@ -24,8 +24,8 @@ use std::io::Write;
 /// How many bytes wait at the most before they are written.
 const ROOM: usize = 8_192;
 
-/// The end of a text, which waits to be written, and whether a write has failed. Once one has, nothing more is written.
-/// All room is taken beforehand: what is put takes no memory.
+/// An output buffer: the bytes that wait to be written, and whether a write has failed. After a failed write the buffer writes nothing
+/// more (decision 57). Its room is fixed, so putting bytes takes no memory.
 #[derive(Drop)]
 pub(crate) struct Buffer {
     waiting: Text<ROOM>,
@@ -33,7 +33,7 @@ pub(crate) struct Buffer {
 }
 
 impl Buffer {
-    /// A page on which nothing waits.
+    /// An empty buffer.
     pub(crate) fn new() -> Self
         ensures empty { result.waiting ≡ [] }
         ensures going { result.failed ≡ false }
@@ -44,7 +44,7 @@ impl Buffer {
         }
     }
 
-    /// Puts bytes behind what waits. Where there is no room for them, what waits is written first.
+    /// Puts bytes behind those that wait. Where there is no room for them, it writes the waiting bytes first.
     #[inline]
     pub(crate) fn put<W: Write>(&mut self, output: &mut Counted<W>, bytes: &[u8])
         ensures { HasPutOn W.contents output.old output.new self.old self.new bytes.now }
@@ -55,7 +55,7 @@ impl Buffer {
         self.put_anew(output, bytes);
     }
 
-    /// Puts one byte behind what waits.
+    /// Puts one byte behind those that wait.
     #[inline]
     pub(crate) fn put_byte<W: Write>(&mut self, output: &mut Counted<W>, byte: u8)
         ensures { HasPutOn W.contents output.old output.new self.old self.new (byte ∷ []) }
@@ -63,7 +63,7 @@ impl Buffer {
         self.put(output, &[byte]);
     }
 
-    /// Writes what waits, and puts bytes behind it.
+    /// Writes the waiting bytes, and then puts these. Bytes that the empty buffer has no room for go straight to the writer.
     #[inline(never)]
     fn put_anew<W: Write>(&mut self, output: &mut Counted<W>, bytes: &[u8])
         ensures { HasPutOn W.contents output.old output.new self.old self.new bytes.now }
@@ -75,7 +75,7 @@ impl Buffer {
         self.failed = write_on(self.failed, output, bytes);
     }
 
-    /// Puts a number, in decimal digits.
+    /// Puts a number, in decimal digits (decision 56).
     pub(crate) fn put_number<W: Write>(&mut self, output: &mut Counted<W>, number: u64)
         ensures { HasPutOn W.contents output.old output.new self.old self.new (decimal number) }
     {
@@ -88,7 +88,7 @@ impl Buffer {
         self.put(output, &digits[start..]);
     }
 
-    /// Writes what waits.
+    /// Writes the waiting bytes.
     fn flush<W: Write>(&mut self, output: &mut Counted<W>)
         ensures put { HasPutOn W.contents output.old output.new self.old self.new [] }
         ensures empty { self.new.waiting ≡ [] }
@@ -97,7 +97,7 @@ impl Buffer {
         self.waiting.clear();
     }
 
-    /// Writes what waits, and answers whether all that was put has been written.
+    /// Writes the waiting bytes, and answers whether all bytes that were put have been written.
     pub(crate) fn finish<W: Write>(mut self, output: &mut Counted<W>) -> Result<(), RunFault>
         ensures written { OnOk result
             (IsFinished (writing_of W.contents output.old self) (W.contents (device_of output.new)) (failures_of output.new)) }

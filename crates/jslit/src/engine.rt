@@ -25,7 +25,7 @@ pub struct Options {
     /// How many workers search: 1 to `WORKER_LIMIT` of `lit_share`, 16.
     pub workers: usize,
     /// How many choices a piece of the work has at the least: 1 to `CUT_LIMIT` of `lit_share`, 2^48. A worker alone has one
-    /// piece; several have at most 16 or 64, or 256 where each piece has its own sources of bytes that registers hold at the end.
+    /// piece; several have at most 16 or 64, or 256 where each piece has its own sources of observed bytes (decision 63).
     pub cut: u64,
     /// Whether the report is the quick one: of each class of outcomes the first choice alone.
     pub quick: bool,

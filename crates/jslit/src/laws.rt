@@ -1,4 +1,4 @@
-//! What the definitions of the headline come to.
+//! Laws on the answers of a run. The functions compute nothing: their contracts are theorems.
 
 ghost use Rattle.std.specs.Prelude.{◌≡◌, ◌≤◌, ℕ, Bool, false, List, length};
 ghost use Rattle.lit_read.specs.Syntax.{Litmus};

@@ -23,7 +23,7 @@ pub(crate) fn explain_choice(
 ) -> io::Result<()>
     requires { choice < length (choices_of plan.now) }
 {
-    // That numbers of choices are small is known of how many there are.
+    // Tells the prover that numbers of choices are small, so that one more fits.
     let total = plan.total();
     writeln!(buffer, "test {}", plan.test().name())?;
     writeln!(buffer, "choice {choice} of 0 to {}", total - 1)?;

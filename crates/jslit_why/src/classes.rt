@@ -68,7 +68,7 @@ fn put_example(
 ) -> io::Result<()>
     requires { choice < length (choices_of plan.now) }
 {
-    // That numbers of choices are small is known of how many there are.
+    // Tells the prover that numbers of choices are small, so that one more fits.
     let _total = plan.total();
     let Ok(found) = search_range(alloc, &*plan, choice, choice + 1) else {
         return Err(io::Error::from(io::ErrorKind::OutOfMemory));
@@ -114,7 +114,7 @@ fn put_attempts(
     put_tally(alloc, buffer, plan, statements, &tally)
 }
 
-/// Puts each clause that refuses an attempt, how many it refuses, and the first of them with the reason.
+/// Puts each clause that refuses an attempt, how many it refuses, and the first of them with the reason (decision 78).
 fn put_tally(
     alloc: Global,
     buffer: &mut Vec<u8>,

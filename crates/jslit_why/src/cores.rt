@@ -1,4 +1,4 @@
-//! Why no values that reads can take come to a condition: a least part of it to which none come, an unsatisfiable core.
+//! Unsatisfiable cores: a least part of a condition that no values of reads make true (decision 114).
 
 use lit_paths::{Plan, PlanFault, plan};
 use lit_read::{Cond, ReadKind, Test, read, show};
@@ -161,7 +161,7 @@ fn text_before_condition(alloc: Global, test: &Test) -> io::Result<Vec<u8>> {
     Ok(text)
 }
 
-/// Removes each member without which there is still no attempt at the others, one after the other.
+/// Removes members one after the other: each without which there is still no attempt at the others. `needed` counts those that stay.
 fn remove_needless(alloc: Global, test: &Test, members: &mut Vec<Member<'_>>) -> io::Result<()> {
     let mut needed = 0;
     for _ in 0..members.len() {

@@ -7,10 +7,10 @@ use std::alloc::Global;
 use std::io;
 use std::io::Write;
 
-/// How many lines of a derivation are looked at for one step, at the most: more than it can have.
+/// A bound on the loop over the lines of one step: more lines than a derivation can have.
 const MOST: usize = 10_000;
 
-/// The places of the lines that are joined to the line at a place, in the order of their events: none of them is joined itself.
+/// The places of the lines of which the line at a place is composed, in the order of their events. None of these is composed itself.
 fn steps_of(alloc: Global, lines: &[Line], place: usize) -> io::Result<Vec<usize>> {
     let mut steps = Vec::new(alloc);
     let mut waiting = Vec::new(alloc);
@@ -57,7 +57,7 @@ fn put_forced(
     buffer.write_all(b"\n")
 }
 
-/// Puts one line of a derivation that is not joined of others.
+/// Puts one line of a derivation that is not composed of others.
 fn put_step(buffer: &mut Vec<u8>, scene: &Scene<'_>, line: &Line) -> io::Result<()> {
     match line.reason {
         Reason::AfterRead { source, .. } => put_forced(

@@ -190,7 +190,7 @@ fn put_answer(
     })
 }
 
-/// Puts what is asked for of a text on a page. Gives the status.
+/// Puts the answer on a text into a buffer. Gives the status.
 fn explain(
     alloc: Global,
     text: &[u8],
@@ -200,7 +200,7 @@ fn explain(
     let test = read(alloc, text)?;
     let plan = plan(alloc, &test)?;
     let statements = Statements::of(alloc, text)?;
-    // A page is written by growth alone, so what fails is want of memory.
+    // Writing into the buffer fails only where memory for its growth is refused.
     match put_answer(alloc, buffer, &plan, &statements, line) {
         Ok(status) => Ok(status),
         Err(_) => Err(RunFault::OutOfMemory),
@@ -226,7 +226,7 @@ fn refuse<T: Threads + Sync, W: Write, E: Write>(
     check(rt, alloc, &mut input, output, errors, options)
 }
 
-/// Writes a page. Gives the status.
+/// Writes a buffer. Gives the status.
 fn write_buffer<W: Write, E: Write>(output: &mut Counted<W>, errors: &mut E, buffer: &[u8]) -> u8 {
     let Ok(()) = output.write_all(buffer) else {
         return say(errors, RunFault::OutputFailed);

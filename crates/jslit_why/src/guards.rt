@@ -4,7 +4,7 @@ use lit_paths::{Combination, Tested};
 use lit_read::{Stmt, count_with_parts, statement_count};
 use std::alloc::{AllocError, Global};
 
-/// The tests after the next one.
+/// The guards after the next one.
 fn guards_behind(guards: &[Tested]) -> &[Tested] {
     match guards {
         [_, rest @ ..] => rest,
@@ -12,7 +12,7 @@ fn guards_behind(guards: &[Tested]) -> &[Tested] {
     }
 }
 
-/// Whether the next test is that the value equals the number.
+/// Whether the next guard asks that the value equals the number.
 fn asks_equal(guards: &[Tested]) -> bool {
     match guards {
         [guard, ..] => guard.equal,
@@ -20,8 +20,8 @@ fn asks_equal(guards: &[Tested]) -> bool {
     }
 }
 
-/// Adds the number of the statement of each test on the way through statements, the first of which has number `first`, and leads
-/// to the tests that are left.
+/// Adds the number of the statement of each guard on a path through statements, the first of which has number `first`. Gives the guards
+/// behind them.
 #[cycle(guarding)]
 fn push_guards<'t>(
     numbers: &mut Vec<usize>,
@@ -38,7 +38,7 @@ fn push_guards<'t>(
     Ok(left)
 }
 
-/// Adds those on the way through the statement with a number, and leads to the tests that are left.
+/// Adds the numbers on a path through the statement with a number. Gives the guards behind it.
 #[cycle(guarding)]
 fn push_guards_at<'t>(
     numbers: &mut Vec<usize>,
@@ -61,7 +61,7 @@ fn push_guards_at<'t>(
         } => {
             numbers.push(number)?;
             let then = number.saturating_add(1);
-            // The then-part is on the path where the test asks for what the `if` does.
+            // The path goes through the then-part where its guard compares as the `if` does.
             if *equal == asks_equal(guards) {
                 push_guards(numbers, then, body, left)
             } else {
@@ -76,7 +76,7 @@ fn push_guards_at<'t>(
     }
 }
 
-/// The number of the statement of each test on an agent's path, in order: from 0, in the order in which the agent's statements are
+/// The number of the statement of each guard on an agent's path, in order: from 0, in the order in which the agent's statements are
 /// written.
 pub(crate) fn guards_of(
     alloc: Global,

@@ -32,7 +32,7 @@ fn put_head(buffer: &mut Vec<u8>, plan: &Plan<'_>) -> io::Result<()> {
 fn found_of(alloc: Global, plan: &Plan<'_>, choice: u64) -> io::Result<Found>
     requires { choice < length (choices_of plan.now) }
 {
-    // That numbers of choices are small is known of how many there are.
+    // Tells the prover that numbers of choices are small, so that one more fits.
     let _total = plan.total();
     match search_range(alloc, &*plan, choice, choice + 1) {
         Ok(found) => Ok(found),

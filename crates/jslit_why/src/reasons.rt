@@ -100,7 +100,7 @@ fn put_no_order(alloc: Global, buffer: &mut Vec<u8>, scene: &Scene<'_>) -> io::R
     }
 }
 
-/// Puts that the path of an agent takes a read to have another value than it has.
+/// Puts that a guard of an agent's path is false: the path is for another value than the read has.
 fn put_false_guard(
     alloc: Global,
     buffer: &mut Vec<u8>,

@@ -74,7 +74,7 @@ impl<'p> Scene<'p> {
         self.lines.get(usize::from(event)).copied().flatten()
     }
 
-    /// The line of the statement that a test of an agent's path comes from.
+    /// The line of the statement that a guard of an agent's path comes from.
     pub(crate) fn line_of_guard(
         &self,
         alloc: Global,

@@ -1,4 +1,4 @@
-//! The calls that can be refused memory, each made once more where it is.
+//! Retries: the calls that can be refused memory, each made once more where it is refused.
 
 ghost use Rattle.std.specs.Prelude.{◌≡◌, ◌<◌, ◌≤◌, length, IfOk, OnOk};
 ghost use Rattle.lit_paths.specs.Choice.{choices_of};
@@ -91,7 +91,7 @@ fn quickly_searched<R: Threads + Sync + Eprint>(
     }
 }
 
-/// Takes a range of choices. A refused collector is as it was, so it takes the range again.
+/// Takes a range of choices. A collector that is refused memory is as it was, so it takes the range again (decision 46).
 fn take<R: Eprint>(rt: &R, collector: &mut Collector<'_>, from: u64, to: u64) -> Result<(), Fail>
     requires follows { collector.old.end ≤ from }
     requires order { from ≤ to }

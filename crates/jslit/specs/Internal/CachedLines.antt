@@ -1,4 +1,4 @@
--- The lines of the reads of a choice, the last up to its sources, cached.
+-- The cached source lines of an entry, the last up to its sources.
 use Rattle.std.specs.Prelude.{List}
 use Rattle.lit_read.specs.Syntax.{Litmus}
 use Rattle.lit_paths.specs.declared.event.Event.{Event}
@@ -6,6 +6,6 @@ use Rattle.jslit.specs.declared.buffer.source_lines.CachedLines.{CachedLines}
 use Rattle.jslit.specs.Internal.CachedText.{Holds}
 use Rattle.jslit.specs.Internal.ReadLine.{lines_up_to}
 
--- the text is cached of what is cached beside it
+-- the cached text is that of the part and the sources that are saved with it
 abbrev pub HoldsLines : Litmus → List Event → CachedLines → Type 0
 HoldsLines t events cached = Holds cached.text (lines_up_to t events cached.part cached.sources.items)

@@ -1,4 +1,4 @@
--- What a cached text is.
+-- The cache of one text.
 use Rattle.std.specs.Prelude.{◌≡◌, false, List, ℕ}
 use Rattle.jslit.specs.declared.buffer.cached_text.CachedText.{CachedText}
 

@@ -1,4 +1,4 @@
--- What an entry shares with the one before.
+-- The cache of the text that an entry can share with the one before.
 use Rattle.std.specs.Prelude.{ℕ, List, [], ◌∷◌, ◌++◌, codes, drop, length}
 use Rattle.std.specs.Fmt.{decimal}
 use Rattle.lit_read.specs.Syntax.{Litmus, agent_of}
@@ -37,14 +37,14 @@ outcome_head t names values = outcome_text t names values ++ first_head t (drop 
 abbrev pub order_line : Litmus → List Event → List ℕ → List ℕ
 order_line t events order = line (codes "  order" ++ names_text t events order)
 
--- each text is cached of what is cached beside it
+-- the cached text is that of the values, or the order, that are saved with it
 abbrev pub HoldsOutcome : Litmus → List (ℕ × ℕ) → CachedOutcome → Type 0
 HoldsOutcome t names cached = Holds cached.text (outcome_head t names cached.values.now)
 
 abbrev pub HoldsOrder : Litmus → List Event → CachedOrder → Type 0
 HoldsOrder t events cached = Holds cached.text (order_line t events cached.order.now)
 
--- all that is cached is of this test, and of a combination of its paths
+-- all cached texts are of this test, and of this combination of its paths
 pub record IsCacheOf (t : Litmus) (c : ℕ) (cache : EntryCache) : Type 0 where
   pub outcome : HoldsOutcome t (names_of t) cache.outcome
   pub lines : HoldsLines t (events_in t c) cache.lines

@@ -41,7 +41,7 @@ pub record HasPut (old new : Writing) (text : List ℕ) : Type 0 where
   pub failing : old.failed ≡ false → new.failed ≡ true → Fails old new text
   pub failed : old.failed ≡ true → Stays old new
 
--- the same of an output and a page of bytes for it, from one moment to another
+-- the same of an output and its buffer, from one moment to another
 abbrev pub HasPutOn : {W : Type 0} → (W → Option (List ℕ)) → (old new : Counted W) → (buffer new_buffer : Buffer) → (text : List ℕ) → Type 0
 HasPutOn contents old new buffer new_buffer text = HasPut (writing_of contents old buffer) (writing_of contents new new_buffer) text
 

@@ -1,4 +1,4 @@
-//! Text that is cached, so that it is put again without being made again.
+//! A cache of one text: printed once, and copied as long as it does not change (decision 59).
 
 use crate::buffer::Buffer;
 use crate::buffer::text::Text;
@@ -6,7 +6,7 @@ use crate::counted::Counted;
 use std::io;
 use std::io::Write;
 
-/// A writer that takes nothing: what is put on a page before it waits there, or a write has failed.
+/// A writer that takes nothing: the bytes put into a buffer before it wait there, or a write has failed.
 #[derive(Drop)]
 pub(crate) struct Nowhere {}
 
@@ -24,7 +24,7 @@ impl Write for Nowhere {
     }
 }
 
-/// A text of no more bytes than can wait on a page, or none.
+/// A text of no more bytes than a buffer has room for, or no text: then the buffer has failed.
 #[derive(Drop)]
 pub(crate) struct CachedText {
     pub buffer: Buffer,
@@ -47,14 +47,14 @@ impl CachedText {
         }
     }
 
-    /// Lets go of the text.
+    /// Drops the text.
     pub(crate) fn forget(&mut self)
         ensures { self.new.buffer.failed ≡ true }
     {
         self.buffer.failed = true;
     }
 
-    /// Makes it the empty text, behind which more is put on the page.
+    /// Makes it the empty text. The caller adds to it by putting bytes into the buffer.
     pub(crate) fn begin(&mut self)
         ensures empty { self.new.buffer.waiting ≡ [] }
         ensures going { self.new.buffer.failed ≡ false }
@@ -70,7 +70,7 @@ impl CachedText {
         !self.buffer.failed
     }
 
-    /// The text that is cached.
+    /// The cached text.
     pub(crate) fn text(&self) -> &[u8]
         ensures { result.now ≡ self.now.buffer.waiting }
     {

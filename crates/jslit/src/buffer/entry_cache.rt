@@ -1,4 +1,4 @@
-//! An entry of a report, put on a page: what it shares with the entry before is cached, and not made again.
+//! The cache of an entry's text: an entry copies the text that it shares with the entry before (decision 59).
 
 ghost use Rattle.std.specs.Prelude.{◌≡◌, ◌+◌, ◌<◌, ◌≤◌, All, IfSome, length};
 ghost use Rattle.lit_paths.specs.Choice.{choices_of};
@@ -20,21 +20,21 @@ use lit_paths::{Combination, Event, Plan};
 use lit_read::Test;
 use std::io::Write;
 
-/// The line of an outcome up to its last value, with the values that stand there.
+/// The cached line of an outcome up to its last value, with the values in it.
 #[derive(Drop)]
 pub(crate) struct CachedOutcome<'f> {
     values: &'f [u32],
     text: CachedText,
 }
 
-/// The line of an order.
+/// The cached line of an order, with the order.
 #[derive(Drop)]
 pub(crate) struct CachedOrder<'f> {
     order: &'f [u8],
     text: CachedText,
 }
 
-/// The text that an entry can share with the one before.
+/// The cached text that an entry can share with the one before.
 #[derive(Drop)]
 pub(crate) struct EntryCache<'f> {
     outcome: CachedOutcome<'f>,
@@ -46,7 +46,7 @@ impl<'f> EntryCache<'f> {
     ghost use Rattle.lit_read.specs.Syntax.{Litmus};
     ghost use Rattle.std.specs.Prelude.{ℕ};
 
-    /// No text yet.
+    /// An empty cache.
     pub(crate) fn new() -> Self
         ensures { (t : Litmus) (c : ℕ) → IsCacheOf t c result }
     {
@@ -101,7 +101,7 @@ fn put_values<W: Write>(
     put_first(buffer, output, test, &names[values.len()..]);
 }
 
-/// Keeps the line of an outcome up to the first value that is not among these, unless it is too long. It is made anew unless it is cached.
+/// Caches the line that `put_values` puts, unless it is too long. It prints the line only where the cache does not have it.
 fn cache_values<'f>(
     cached: &mut CachedOutcome<'f>,
     test: &Test,
@@ -128,7 +128,7 @@ fn cache_values<'f>(
     );
 }
 
-/// Puts the line of an outcome up to the first value that is not among these, as it is cached.
+/// Puts the line that `put_values` puts, from the cache where it has it.
 fn put_cached_values<'f, W: Write>(
     buffer: &mut Buffer,
     output: &mut Counted<W>,
@@ -161,7 +161,7 @@ fn put_last<W: Write>(buffer: &mut Buffer, output: &mut Counted<W>, values: &[u3
     }
 }
 
-/// Puts the line of an outcome, of which all but the last value is mostly that of the outcome before.
+/// Puts the line of an outcome. Mostly only its last value differs from the outcome before, so the cache has the text up to it.
 fn put_outcome<'f, W: Write>(
     buffer: &mut Buffer,
     output: &mut Counted<W>,
@@ -202,7 +202,7 @@ fn put_order<W: Write>(
     buffer.put_byte(output, b'\n');
 }
 
-/// Keeps the line of an order, unless it is too long. It is made anew unless it is cached.
+/// Caches the line of an order, unless it is too long. It prints the line only where the cache does not have it.
 fn cache_order<'f>(cached: &mut CachedOrder<'f>, test: &Test, events: &[Event], order: &'f [u8])
     requires owned { All (λ e. IfSome e.owner (λ agent. agent < length test.now.agents)) events.now }
     requires known { All (λ n. n < length events.now) order.now }
@@ -224,7 +224,7 @@ fn cache_order<'f>(cached: &mut CachedOrder<'f>, test: &Test, events: &[Event], 
     );
 }
 
-/// Puts the line of an order, as it is cached: it is mostly that of the entry before.
+/// Puts the line of an order, from the cache where it has it. Mostly the order is that of the entry before.
 fn put_cached_order<'f, W: Write>(
     buffer: &mut Buffer,
     output: &mut Counted<W>,
@@ -248,7 +248,7 @@ fn put_cached_order<'f, W: Write>(
     put_order(buffer, output, test, events, order);
 }
 
-/// Enters the combination of a choice, unless it is entered. What is cached of other events is let go.
+/// Enters the combination of a choice, unless it is entered. It then drops the text cached of the other combination's events.
 fn enter_for<'p>(
     plan: &'p Plan<'p>,
     entered: &mut Combination<'p>,
@@ -271,7 +271,7 @@ fn enter_for<'p>(
     cache.order.text.forget();
 }
 
-/// Puts an outcome and its example, by the example's choice and order. The choice's combination is entered unless it is.
+/// Puts an outcome and its example, by the example's choice and order. It enters the choice's combination, unless that is entered.
 pub(crate) fn put_entry<'p, 'f, W: Write>(
     buffer: &mut Buffer,
     output: &mut Counted<W>,
@@ -292,6 +292,7 @@ pub(crate) fn put_entry<'p, 'f, W: Write>(
     ensures text { HasPutOn W.contents output.old output.new buffer.old buffer.new
         (entry_text plan.now (record { outcome = outcome.now; choice = choice; order = order.now })) }
 {
+    // The law says that the list of combinations has each one once, so the entered combination is that of the choice.
     combinations_are_listed();
     let test = plan.test();
     enter_for(plan, combination, choice, cache);

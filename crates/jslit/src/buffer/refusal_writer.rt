@@ -1,4 +1,4 @@
-//! The line that says why a text or its test is refused.
+//! Writes the line of a refusal through the output buffer (decision 69).
 
 ghost use Rattle.std.specs.Prelude.{◌≡◌, OnOk, OnErr};
 ghost use Rattle.std.specs.Io.KnownBytes.{Appends};

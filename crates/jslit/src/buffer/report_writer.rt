@@ -1,4 +1,4 @@
-//! The text of a report, put on a page.
+//! Writes the text of a report through the output buffer. Each function has both the buffer and the output (decision 58).
 
 ghost use Rattle.std.specs.Prelude.{◌≡◌, ℕ, ◌+◌, ◌<◌, ◌≤◌, true, ◌++◌, All, IfSome, OnOk, OnErr, IfErr, length, codes};
 ghost use Rattle.std.specs.Fmt.{decimal};
@@ -27,7 +27,7 @@ use lit_read::Test;
 use lit_search::Found;
 use std::io::Write;
 
-/// Puts a blank and the name of an access, by its agent's name and its place. A short one is put at once.
+/// Puts a blank and the name of an access, by its agent's name and its place. It puts a short name in one call.
 fn put_access<W: Write>(buffer: &mut Buffer, output: &mut Counted<W>, agent: &[u8], place: u8)
     ensures { HasPutOn W.contents output.old output.new buffer.old buffer.new
         (codes " " ++ agent.now ++ codes "." ++ decimal place) }
@@ -169,7 +169,7 @@ pub(crate) fn put_sources<W: Write>(
     }
 }
 
-/// Puts a blank and the name of a register, by its agent's name and its number. A short one is put at once.
+/// Puts a blank and the name of a register, by its agent's name and its number. It puts a short name in one call.
 fn put_register_name<W: Write>(
     buffer: &mut Buffer,
     output: &mut Counted<W>,
@@ -290,8 +290,8 @@ fn choice_at(found: &Found, place: usize) -> u64
     }
 }
 
-/// Puts an outcome and its example for each entry of a report. Examples lie here and there in memory, so each is looked at
-/// one entry before it is put: till then the memory is at hand.
+/// Puts an outcome and its example for each entry of a report. Examples are scattered in memory, so the loop reads from the next example
+/// before it puts the current entry: a prefetch.
 fn put_entries<W: Write>(
     buffer: &mut Buffer,
     output: &mut Counted<W>,
@@ -302,6 +302,7 @@ fn put_entries<W: Write>(
     ensures { HasPutOn W.contents output.old output.new buffer.old buffer.new
         (flat_map (entry_text plan.now) found.now.entries) }
 {
+    // Tells the prover that there is a combination to enter.
     let _some = plan.combinations();
     let mut combination = plan.enter(0);
     let mut cache = EntryCache::new();
@@ -322,7 +323,7 @@ fn put_entries<W: Write>(
     }
 }
 
-/// Writes a test's report. Takes no memory. Its pages are large, so this stays by itself.
+/// Writes a test's report. Takes no memory. Its buffers are large, so the function is not inlined into its caller's frame.
 #[inline(never)]
 pub(crate) fn write_report<W: Write>(
     output: &mut Counted<W>,
@@ -370,6 +371,7 @@ fn put_class<W: Write>(
         return;
     };
     buffer.put_byte(output, b' ');
+    // Tells the prover that there is a combination to enter.
     let _some = plan.combinations();
     let mut combination = plan.enter(0);
     let example = found.example(0);
@@ -385,7 +387,7 @@ fn put_class<W: Write>(
     );
 }
 
-/// Writes a test's quick report. Takes no memory. It stays by itself, as `write_report`.
+/// Writes a test's quick report. Takes no memory. It is not inlined, as `write_report`.
 #[inline(never)]
 pub(crate) fn write_quick_report<W: Write>(
     output: &mut Counted<W>,

@@ -1,4 +1,5 @@
-//! The lines of the reads of a choice, put on a page: those that the choice before has, too, are cached.
+//! The source lines of an entry: a line for each read with its sources. A cache has the lines that the entry before has, too
+//! (decision 59).
 
 ghost use Rattle.std.specs.Prelude.{◌≡◌, ◌<◌, ◌≤◌, true, All, IfSome, length, take, drop};
 ghost use Rattle.lit_paths.specs.ByteReads.{byte_reads, byte_reads_from};
@@ -17,8 +18,8 @@ use lit_paths::{Event, Sources};
 use lit_read::Test;
 use std::io::Write;
 
-/// The lines of the reads among the first events, so many, with their sources, and behind them the line of the event that
-/// follows, up to its sources.
+/// The cached lines: those of the reads among the first `part` events, with these sources, and behind them the line of the next event up
+/// to its sources.
 #[derive(Drop)]
 pub(crate) struct CachedLines {
     part: usize,
@@ -38,7 +39,7 @@ impl CachedLines {
         }
     }
 
-    /// Lets go of the lines.
+    /// Drops the lines.
     pub(crate) fn forget(&mut self)
         ensures { self.new.text.buffer.failed ≡ true }
     {
@@ -46,7 +47,7 @@ impl CachedLines {
     }
 }
 
-/// How many events stand before the last that reads, and how many bytes that one has. Without one, all events and no byte.
+/// How many events are before the last one that reads, and how many bytes that one has. Where none reads: all events, and no byte.
 fn last_read(events: &[Event]) -> (usize, usize)
     ensures known { result.0 ≤ length events.now }
     ensures last { OnlyFirstReads (drop result.0 events.now) }
@@ -78,7 +79,7 @@ fn put_first_head<W: Write>(
     }
 }
 
-/// Puts the lines of the reads among the first events, so many, and that of the event behind up to its sources.
+/// Puts the lines of the reads among the first `part` events, and the line of the next event up to its sources.
 fn put_front<W: Write>(
     buffer: &mut Buffer,
     output: &mut Counted<W>,
@@ -99,8 +100,7 @@ fn put_front<W: Write>(
     put_first_head(buffer, output, test, last);
 }
 
-/// Keeps the lines of the reads among the first events, so many, and that of the event behind up to its sources, unless
-/// they are too long. They are made anew unless they are cached.
+/// Caches the lines that `put_front` puts, unless they are too long. It prints them only where the cache does not have them.
 fn cache_lines(cached: &mut CachedLines, test: &Test, events: &[Event], part: usize, sources: &[u8])
     requires owned { All (λ e. IfSome e.owner (λ agent. agent < length test.now.agents)) events.now }
     requires known { All (λ n. n < length events.now) sources.now }
@@ -117,6 +117,7 @@ fn cache_lines(cached: &mut CachedLines, test: &Test, events: &[Event], part: us
     }
     cached.part = part;
     cached.sources.clear();
+    // There is room for a source of each byte read, so this can't fail.
     let _ = cached.sources.try_extend_from_slice(sources);
     cached.text.begin();
     put_front(
@@ -129,8 +130,7 @@ fn cache_lines(cached: &mut CachedLines, test: &Test, events: &[Event], part: us
     );
 }
 
-/// Puts the lines of the reads among the first events, so many, and that of the event behind up to its sources, as they are
-/// cached.
+/// Puts the lines that `put_front` puts, from the cache where it has them.
 fn put_cached_lines<W: Write>(
     buffer: &mut Buffer,
     output: &mut Counted<W>,
@@ -178,8 +178,8 @@ fn put_line_end<W: Write>(
     }
 }
 
-/// Puts a line for each read, with the sources of its bytes. All up to those of the last read is mostly that of the choice
-/// before.
+/// Puts a line for each read, with the sources of its bytes. Mostly only the sources of the last read differ from the entry before, so
+/// the cache has the text up to these.
 pub(crate) fn put_lines<W: Write>(
     buffer: &mut Buffer,
     output: &mut Counted<W>,

@@ -1,4 +1,4 @@
-//! Texts in room of a fixed size, to which more is put at their ends.
+//! Texts of bounded length in an array, to which bytes are appended.
 
 ghost use Rattle.std.specs.Prelude.{◌≡◌, ◌++◌, [], true, false};
 

@@ -17,7 +17,7 @@ use lit_share::{CUT_LIMIT, WORKER_LIMIT};
 use std::alloc::{AllocError, Global};
 use std::convert::AsStr;
 
-/// What is done where the words say nothing else.
+/// The options where the words give none (decision 67).
 const USUAL: Options = Options {
     workers: 1,
     cut: 4_096,
@@ -148,7 +148,7 @@ fn report_flag(matches: &ArgMatches<'_>) -> Option<&'static str>
     }
 }
 
-/// What is said where a schedule stands with a flag of a report.
+/// What is said where a schedule stands with a flag of a report (decision 70).
 fn exclusion(matches: &ArgMatches<'_>) -> Option<&'static str>
     ensures { is_some result ≡ is_excluded (rows_of (found_of matches.now)) }
 {

@@ -59,11 +59,12 @@ fn report<T: Threads + Sync, W: Write, G: Watch>(
     watch.end();
     let found = searched?;
     let verdict = verdict_on(plan, &found);
+    // The law says that the report has the outcome of each valid execution.
     reports_are_complete();
     write_report(output, plan, &found, verdict)
 }
 
-/// The report of the first choice of a class alone, which has the choice's outcome.
+/// The report of the first choice of a class alone, which has the choice's outcome and order (decision 64).
 fn first_found(
     alloc: Global,
     plan: &Plan<'_>,
@@ -78,6 +79,7 @@ fn first_found(
     let Some(example) = first else {
         return Ok(None);
     };
+    // The law says that a choice has one outcome at most. `test` tells the prover that the test is one that a text can spell.
     choices_have_one_outcome();
     let _test = plan.test();
     let found = search_range(alloc, plan, example.choice, example.choice + 1)?;

@@ -1,4 +1,4 @@
-//! A call of `work` whose gate has every request refused from one piece on.
+//! A gate from which on every request for memory is refused, and a call of `work` that passes it.
 
 ghost use Rattle.std.specs.Prelude.{◌≡◌, [], ◌∷◌, length};
 ghost use Rattle.lit_desk.specs.Desk.{new_place};
@@ -11,10 +11,10 @@ use lit_paths::Plan;
 use lit_share::{Gate, ShareFault, work};
 use std::sync::atomic::{AtomicU64, Ordering};
 
-/// The first piece of load buffering that shows an outcome, which is kept; a piece is one choice.
+/// The first piece of load buffering that has an outcome, which the search records. A piece is one choice.
 const RECORDING: u64 = 3;
 
-/// Has every request refused once the piece is entered that would keep an outcome.
+/// Has every request refused once the piece is entered whose outcome would be recorded.
 #[derive(Drop)]
 struct RefusingGate<'r> {
     rt: &'r HostRuntime,
@@ -33,8 +33,8 @@ impl Gate for RefusingGate<'_> {
     }
 }
 
-/// The piece that is entered as memory ends is searched behind the gate, so it is refused. It is the last one drawn, so
-/// the next draw gives the one behind it.
+/// Whether the search stops where memory is refused. It is refused in the piece whose entry ends memory, since it searches the piece after
+/// the gate. That piece is the last one drawn, so the next draw gives the piece after it.
 pub(super) fn stops_where_refused(
     rt: &HostRuntime,
     plan: &Plan<'_>,

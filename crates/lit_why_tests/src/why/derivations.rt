@@ -84,7 +84,7 @@ fn is_derivation(part: &Part<'_>, lines: &[Line]) -> bool {
 const DERIVED: [(&str, &[u8], Option<(usize, u8)>); 5] = [
     // A stores byte 0 (2) and loads 0 from byte 1 (3), B stores byte 1 (4) and loads 0 from byte 0 (5): each store comes after the
     // load that reads the event that made its byte. So 2, 3, 4, 5, 2: by two lines for each load's pair, one for each agent, and
-    // three joins.
+    // three composed lines.
     (STORE_BUFFERING, &[1, 0], Some((9, 2))),
     (STORE_BUFFERING, &[4, 0], None),
     (READ_READ_COHERENCE_PLAIN, &[1, 0], None),
