@@ -18,7 +18,7 @@ loop-second-preserved c =
           let line : Line = record { before = c.args.first; after = c.loop-second.second; reason = reasons.HappensBefore } in
           rw (w.lines-is, w.in_ok-push.ensures.items) record {
             given = λ before. AreGiven-more (Holds c.args.before.now) lines line (so_far.given before) (record { reason = refl; has = holds });
-            kept = λ e d h. HasLine-more lines line e d (so_far.retained e d h);
+            retained = λ e d h. HasLine-more lines line e d (so_far.retained e d h);
             all = below_more (λ d. Holds c.args.before.now c.args.first d → HasLine (lines ++ line ∷ []) c.args.first d) c.loop-second.second
                 (λ d less h. HasLine-more lines line c.args.first d (so_far.all d less h)) (λ h. (length lines, IsLineOf-last lines line));
           }
