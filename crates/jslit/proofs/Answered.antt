@@ -1,4 +1,4 @@
--- What the program comes to, by what its words ask for.
+-- The effect of the program, by what its words ask for.
 use Rattle.std.proofs.Common.{◌≡◌, ◌≢◌, ◌⊎◌, ◌<◌, ◌∙◌, ℕ, Bool, true, false, List, Option, Some, None, option_map, is_some, sym, ap, subst, inl, inr, arith}
 use Rattle.std.specs.Borrow.{Bor}
 use Rattle.clap.specs.Words.{HasKind, IsAmong, Kinds, Text, kind_of}

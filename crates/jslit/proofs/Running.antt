@@ -1,4 +1,4 @@
--- What a run comes to: one whose input could not be read, and one that answers on a text.
+-- The effect of a run whose input could not be read, and of one that answers on a text.
 use Rattle.std.proofs.Common.{◌≡◌, ◌≢◌, ◌⊎◌, ◌+◌, ◌-◌, ◌^◌, ◌<◌, inl, inr, ℕ, List, Option, Some, None, Ok, Err, IfErr, IsErrOf, OnOk, arith, refl, sym, ap, subst}
 use Rattle.std.specs.declared.result.Result.{Result}
 use Rattle.std.specs.Io.KnownBytes.{Consumes}

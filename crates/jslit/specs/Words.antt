@@ -36,7 +36,7 @@ jslit_command =
     (number_flag (codes "workers") WORKER_LIMIT)) (number_flag (codes "cut") CUT_LIMIT)) (bare_flag (codes "quick")))
     (valued_flag (codes "schedule"))) file_argument
 
--- of what was read: the quick report is asked for, and a flag of a report stands there
+-- whether the flags that were read ask for the quick report, and whether one of them is a flag of a report
 abbrev pub is_quick : List Row → Bool
 is_quick rows = option_map_or (λ text. bytes_eq text (codes "true")) (first_of (codes "quick") rows) false
 

@@ -165,7 +165,7 @@ pub fn check_watched<T: Threads + Sync, R: Read, W: Write, E: Write, G: Watch<Pa
     finish(output, errors, ran)
 }
 
-/// Prints what a schedule comes to on the litmus text of the input, or one line that says why there is nothing to print.
+/// Prints the outcome of a schedule on the litmus text of the input, or one line that says why there is none.
 /// Gives the status: 0 for the schedule's outcome, 1 for a text or schedule that is refused, 3 where memory ran out, 4 for
 /// an input or output that failed.
 pub fn check_schedule<R: Read, W: Write, E: Write>(

@@ -1,4 +1,4 @@
-//! From the bytes of a litmus text and of a schedule to the bytes of what the schedule comes to.
+//! From the bytes of a litmus text and of a schedule to the bytes of the schedule's outcome.
 
 pub(crate) mod schedule;
 
@@ -74,7 +74,7 @@ fn answer_schedule<W: Write>(
     write_interleaving(output, &test, &outcome)
 }
 
-/// Reads a litmus text as `run` does, and writes what a schedule comes to: the outcome where the agents carry out their
+/// Reads a litmus text as `run` does, and writes the outcome of a schedule, where the agents carry out their
 /// statements in these turns, each access at once, and whether it meets the condition. The schedule is the names of
 /// agents, joined by commas, with no blanks; the empty text is the schedule without turns. After the last turn each
 /// agent carries out what it has left, in order. Neither count of failures stands at `u64::MAX` before.

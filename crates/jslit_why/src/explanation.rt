@@ -64,7 +64,7 @@ fn fault_of(error: &io::Error, other: RunFault) -> RunFault {
     }
 }
 
-/// Prints what is asked for of a text, or why it can't be. Gives the status.
+/// Prints the answer to the words on a text, or why there is none. Gives the status.
 fn answer_text<T: Threads + Sync, W: Write, E: Write>(
     rt: &T,
     alloc: Global,
@@ -90,7 +90,7 @@ fn answer_text<T: Threads + Sync, W: Write, E: Write>(
     }
 }
 
-/// What is asked of a test.
+/// A question on a test.
 #[derive(Clone, Copy, Debug)]
 enum Question {
     /// An outcome in a class.
@@ -105,7 +105,7 @@ enum Question {
     OfNoSources,
 }
 
-/// What the words ask of a test.
+/// The question that the words ask on a test.
 fn question_of(
     alloc: Global,
     plan: &Plan<'_>,
@@ -170,7 +170,7 @@ fn put_json(
     }
 }
 
-/// Puts what is asked for of a test. Gives the status, which is 1 where there is no such choice.
+/// Puts the answer to the words on a test. Gives the status, which is 1 where no choice is the one that they ask for.
 fn put_answer(
     alloc: Global,
     buffer: &mut Vec<u8>,

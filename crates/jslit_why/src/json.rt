@@ -28,7 +28,7 @@ fn put_head(buffer: &mut Vec<u8>, plan: &Plan<'_>) -> io::Result<()> {
     )
 }
 
-/// What the valid executions of a choice give.
+/// The report of a choice alone.
 fn found_of(alloc: Global, plan: &Plan<'_>, choice: u64) -> io::Result<Found>
     requires { choice < length (choices_of plan.now) }
 {
@@ -174,7 +174,7 @@ pub(crate) fn put_named_choice(
     buffer.write_all(b"}\n")
 }
 
-/// Puts that no choice is the one that is asked for.
+/// Puts that no choice is the one that the words ask for.
 pub(crate) fn put_no_choice(buffer: &mut Vec<u8>, plan: &Plan<'_>) -> io::Result<()> {
     put_head(buffer, plan)?;
     buffer.write_all(b",\"choice\":null}\n")

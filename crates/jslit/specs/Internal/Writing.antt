@@ -1,4 +1,4 @@
--- What writing a report has come to: what the writer holds, and what waits to be written.
+-- The state of writing a report: the bytes that the writer has, and those that wait in the buffer.
 use Rattle.std.specs.Prelude.{◌≡◌, ℕ, ◌++◌, Bool, true, false, Option, List}
 use Rattle.std.specs.Io.KnownBytes.{Appends}
 use Rattle.jslit.specs.declared.counted.Counted.{Counted}
@@ -45,7 +45,7 @@ pub record HasPut (old new : Writing) (text : List ℕ) : Type 0 where
 abbrev pub HasPutOn : {W : Type 0} → (W → Option (List ℕ)) → (old new : Counted W) → (buffer new_buffer : Buffer) → (text : List ℕ) → Type 0
 HasPutOn contents old new buffer new_buffer text = HasPut (writing_of contents old buffer) (writing_of contents new new_buffer) text
 
--- no write has failed, and the writer holds, behind what it held, what waited
+-- no write has failed, and the writer has the bytes that it had, and then those that waited
 pub record IsFinished (old : Writing) (known : Option (List ℕ)) (failures : ℕ) : Type 0 where
   pub going : old.failed ≡ false
   pub same : failures ≡ old.failures

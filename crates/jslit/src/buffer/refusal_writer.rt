@@ -48,7 +48,7 @@ pub(crate) fn write_read_fault<W: Write>(
     buffer.finish(output)
 }
 
-/// Writes the line on a test that passes a limit. Takes no memory.
+/// Writes the line on a test that exceeds a limit. Takes no memory.
 pub(crate) fn write_plan_fault<W: Write>(
     output: &mut Counted<W>,
     fault: PlanFault,

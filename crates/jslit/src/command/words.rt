@@ -126,7 +126,7 @@ fn command<'a>(alloc: Global) -> Result<Command<'a>, AllocError>
     Ok(whole)
 }
 
-/// Whether the quick report is asked for.
+/// Whether the words ask for the quick report.
 fn is_quick(matches: &ArgMatches<'_>) -> bool
     ensures { result ≡ quick_of (rows_of (found_of matches.now)) }
 {
