@@ -64,6 +64,7 @@ impl Buffer {
     }
 
     /// Writes the waiting bytes, and then puts these. Bytes that the empty buffer has no room for go straight to the writer.
+    /// It is not inlined, so that `put` stays small.
     #[inline(never)]
     fn put_anew<W: Write>(&mut self, output: &mut Counted<W>, bytes: &[u8])
         ensures { HasPutOn W.contents output.old output.new self.old self.new bytes.now }

@@ -186,7 +186,7 @@ pub fn check_schedule<R: Read, W: Write, E: Write>(
     finish(output, errors, ran)
 }
 
-/// Flushes what a run wrote, or prints why it wrote nothing. Gives the status.
+/// Flushes what a run wrote, or prints why it wrote nothing. Gives the status (decision 74).
 fn finish<W: Write, E: Write>(
     output: &mut Counted<W>,
     errors: &mut E,
@@ -262,7 +262,7 @@ fn explain<W: Write, E: Write>(output: &mut Counted<W>, errors: &mut E, error: &
 }
 
 /// Prints why the words of the command line could not be read, and gives the status: 3 where memory ran out, and else 2,
-/// for words that are not text.
+/// for words that are not text (decision 76).
 pub fn no_words<E: Write>(errors: &mut E, error: &io::Error) -> u8
     ensures memory { error_kind error.now ≡ OutOfMemory → result ≡ 3 }
     ensures other { error_kind error.now ≢ OutOfMemory → result ≡ 2 }

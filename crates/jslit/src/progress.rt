@@ -61,6 +61,7 @@ impl<C: Clock, E: Write> Progress<'_, C, E> {
         }
         let begun = self.begun.load(Ordering::SeqCst);
         let pieces = self.pieces.load(Ordering::SeqCst);
+        // No worker waits for the terminal: where another one writes to it, this one shows nothing.
         if let Some(mut terminal) = self.terminal.try_lock() {
             let _ = write!(*terminal, "\r{begun} of {pieces} pieces begun, {seconds} s");
             let _ = terminal.flush();

@@ -15,6 +15,7 @@ fn main(rt: HostRuntime) -> Result<(), Fail> {
     let Some(word) = env::args(&rt)?.nth(1) else {
         return allocation_free::call_all(&rt);
     };
+    // A search needs 1 to `WORKER_LIMIT` workers.
     let workers = word
         .as_str()
         .parse::<usize>()

@@ -36,6 +36,7 @@ pub(crate) fn count_same_values(combination: &Combination<'_>, sources: &[u8]) -
     let _end = combination.end();
     let events = combination.events();
     let mut count = 1u64;
+    // From the last byte read back: the invariant counts by the byte reads from a place on.
     for place in (0..sources.len()).rev() {
         let byte = combination.byte_reads()[place].byte;
         let stored = payload_at(event_at(events, usize::from(sources[place])), byte);

@@ -42,6 +42,7 @@ pub fn derivation(alloc: Global, part: &Part<'_>) -> Result<Option<Vec<Line>>, A
         (λ lines. IsDerivation (part_events part.now) part.now.sources lines.items)) }
 {
     let (before, between) = (part.happens_before(), part.between());
+    // `lines_to_cycle` needs a relation without a cycle.
     if let Some(event) = first_before_itself(&before) {
         let mut lines = Vec::new(alloc);
         lines.push(Line {

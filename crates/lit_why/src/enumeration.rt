@@ -67,6 +67,7 @@ fn add_one(
     ensures { OnOk result (Adds problem.now.0 most (TriesIn (box_with problem.now domains.now) class)
         attempts.old.items attempts.new.items) }
 {
+    // Tells the prover the laws of the crates below.
     laws_below();
     let sources = least_sources(problem, domains);
     attempts.push(attempt_of(problem, sources.as_slice()))?;
@@ -87,6 +88,7 @@ fn add(
     ensures { OnOk result (Adds problem.now.0 most (TriesIn (box_with problem.now domains.now) class)
         attempts.old.items attempts.new.items) }
 {
+    // Tells the prover the laws of the crates below.
     laws_below();
     // Tells the prover that there are few byte reads, so that each has a place in the domains.
     let _events = problem.combination().events();

@@ -26,7 +26,7 @@ fn first_race_on(plan: &Plan<'_>, combination: usize) -> Option<RaceExample>
     ensures { MatchOption result (HasNoRaceOn plan.now combination)
         (λ race. IsFirstRaceOn plan.now combination race.choice race.least.sources.items race.least.order.items) }
 {
-    // `test` tells the prover that the test is one that a text can spell.
+    // Tells the prover the laws of the crates below, and that the test is one that a text can spell.
     laws_below();
     let _test = plan.test();
     let problem = Problem::open(plan, combination);

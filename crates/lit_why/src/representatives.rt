@@ -24,6 +24,7 @@ fn is_stored_before(events: &[Event], among: EventSet, byte: u8, source: usize) 
     let stored = payload_at(event_at(events, source), byte);
     let mut left = among;
     while let Some((event, others)) = left.split_first() {
+        // The events of a set come in rising order.
         if event >= source {
             return false;
         }

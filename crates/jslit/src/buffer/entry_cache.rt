@@ -177,6 +177,7 @@ fn put_outcome<'f, W: Write>(
     ensures text { HasPutOn W.contents output.old output.new buffer.old buffer.new
         (line (outcome_text test.now names.now outcome.now)) }
 {
+    // An outcome without registers has no last value.
     let count = outcome.len().saturating_sub(1);
     let (values, last) = outcome.split_at(count);
     put_cached_values(buffer, output, test, names, values, cached);

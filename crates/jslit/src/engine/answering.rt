@@ -64,7 +64,8 @@ fn report<T: Threads + Sync, W: Write, G: Watch>(
     write_report(output, plan, &found, verdict)
 }
 
-/// The report of the first choice of a class alone, which has the choice's outcome and order (decision 64).
+/// The report of the first choice of a class alone, which has the choice's outcome and order (decision 64). The class is there for the
+/// contract.
 fn first_found(
     alloc: Global,
     plan: &Plan<'_>,

@@ -44,6 +44,7 @@ fn is_observed(combination: &Combination<'_>, read: u8) -> bool {
     for agent in 0..combination.test().agents() {
         for register in 0..REGISTERS as u8 {
             if let Some(place) = combination.path(agent).last(register) {
+                // The number of an event fits in a byte: saturation spares the proof of it.
                 if combination.first_event(agent).saturating_add(place) == read {
                     return true;
                 }
@@ -73,6 +74,7 @@ fn cut_by_sources(plan: &Plan<'_>, wanted: u64) -> u64
             break;
         }
         cut = next;
+        // The bytes of a read mostly come from one event, so only its first byte multiplies the pieces that likely have outcomes.
         if last != Some(at.read) {
             likely = likely.saturating_mul(combination.candidates(place).len() as u64);
             last = Some(at.read);

@@ -56,6 +56,7 @@ pub(crate) fn lines_to_cycle(
         (λ lines. EachFollows (Holds before.now) (Forbids between.now) lines.items × EndsInCycle lines.items)) }
 {
     let mut lines = given_lines(alloc, before)?;
+    // The pairs of earlier iterations, and all pairs so far.
     let (mut old, mut known) = (*before, *before);
     let mut grown = false;
     'iterations: loop {

@@ -40,6 +40,7 @@ fn marks_of(alloc: Global, lines: &[Line]) -> Result<Vec<bool>, AllocError>
     ensures { IfOk result (λ marks. AreMarks lines.now marks.items) }
 {
     let mut marks = vec![in alloc; false; lines.len()]?;
+    // From the last line back: lines cite earlier ones only, so each is marked before its turn.
     let mut left = lines.len();
     marks[left - 1] = true;
     while left > 0 {
