@@ -10,7 +10,7 @@ use std::convert::AsStr;
 
 /// What the words ask for.
 #[derive(Clone, Copy, Debug, PartialEq, Eq)]
-pub(crate) struct Line<'a> {
+pub(crate) struct CommandLine<'a> {
     /// Whether the class is that of the outcomes that do not meet the condition.
     pub unmet: bool,
     /// Whether the words ask for a data race, in place of a class.
@@ -134,7 +134,10 @@ fn command<'a>(alloc: Global) -> Result<Command<'a>, AllocError> {
 }
 
 /// What the words ask for: the program's name, its flags and at most one file.
-pub(crate) fn line_of<'a, S: AsStr>(alloc: Global, words: &'a [S]) -> Result<Line<'a>, Error> {
+pub(crate) fn line_of<'a, S: AsStr>(
+    alloc: Global,
+    words: &'a [S],
+) -> Result<CommandLine<'a>, Error> {
     let mut command = command(alloc)?;
     let matches = command.try_get_matches_from_mut(words)?;
     if let Some(text) = exclusion(&matches) {
@@ -146,7 +149,7 @@ pub(crate) fn line_of<'a, S: AsStr>(alloc: Global, words: &'a [S]) -> Result<Lin
             "the argument '--from <WORDS>' has words of the form EVENT=SOURCE[,SOURCE..] or AGENT.rN=VALUE";
         return Err(command.error(ErrorKind::ValueValidation, text)?);
     }
-    Ok(Line {
+    Ok(CommandLine {
         unmet: matches.get_str("unmet") == Some("true"),
         race: matches.get_str("race") == Some("true"),
         choice: matches.get_one("choice"),

@@ -2,7 +2,7 @@
 
 use crate::reasons::{put_chain, put_conclusion};
 use crate::scene::Scene;
-use lit_why::{Line, Reason};
+use lit_why::{DerivationLine, Reason};
 use std::alloc::Global;
 use std::io;
 use std::io::Write;
@@ -11,7 +11,7 @@ use std::io::Write;
 const MOST: usize = 10_000;
 
 /// The places of the lines of which the line at a place is composed, in the order of their events. None of these is composed itself.
-fn steps_of(alloc: Global, lines: &[Line], place: usize) -> io::Result<Vec<usize>> {
+fn steps_of(alloc: Global, lines: &[DerivationLine], place: usize) -> io::Result<Vec<usize>> {
     let mut steps = Vec::new(alloc);
     let mut waiting = Vec::new(alloc);
     waiting.push(place)?;
@@ -21,7 +21,7 @@ fn steps_of(alloc: Global, lines: &[Line], place: usize) -> io::Result<Vec<usize
         };
         match lines.get(place) {
             Some(
-                Line {
+                DerivationLine {
                     reason: Reason::Composed { first, second },
                     ..
                 },
@@ -39,7 +39,7 @@ fn steps_of(alloc: Global, lines: &[Line], place: usize) -> io::Result<Vec<usize
 fn put_forced(
     buffer: &mut Vec<u8>,
     scene: &Scene<'_>,
-    line: &Line,
+    line: &DerivationLine,
     middle: u8,
     source: u8,
     read: u8,
@@ -58,7 +58,7 @@ fn put_forced(
 }
 
 /// Puts one line of a derivation that is not composed of others.
-fn put_step(buffer: &mut Vec<u8>, scene: &Scene<'_>, line: &Line) -> io::Result<()> {
+fn put_step(buffer: &mut Vec<u8>, scene: &Scene<'_>, line: &DerivationLine) -> io::Result<()> {
     match line.reason {
         Reason::AfterRead { source, .. } => put_forced(
             buffer,
@@ -86,7 +86,7 @@ fn put_step(buffer: &mut Vec<u8>, scene: &Scene<'_>, line: &Line) -> io::Result<
 }
 
 /// The place of the line that a forced line rests on.
-fn earlier_of(line: &Line) -> Option<usize> {
+fn earlier_of(line: &DerivationLine) -> Option<usize> {
     match line.reason {
         Reason::AfterRead { earlier, .. } | Reason::BeforeSource { earlier, .. } => Some(earlier),
         Reason::HappensBefore | Reason::Composed { .. } => None,
@@ -94,7 +94,7 @@ fn earlier_of(line: &Line) -> Option<usize> {
 }
 
 /// Whether a line is of happens-before.
-fn is_given(lines: &[Line], place: usize) -> bool {
+fn is_given(lines: &[DerivationLine], place: usize) -> bool {
     match lines.get(place) {
         Some(line) => line.reason == Reason::HappensBefore,
         None => true,
@@ -106,8 +106,8 @@ fn put_premise(
     alloc: Global,
     buffer: &mut Vec<u8>,
     scene: &Scene<'_>,
-    lines: &[Line],
-    line: &Line,
+    lines: &[DerivationLine],
+    line: &DerivationLine,
 ) -> io::Result<()> {
     let Some(earlier) = earlier_of(line) else {
         return Ok(());
@@ -120,7 +120,7 @@ fn put_premise(
 }
 
 /// Where the step stands that begins with the least event, and that event.
-fn first_step(lines: &[Line], steps: &[usize]) -> (usize, u8) {
+fn first_step(lines: &[DerivationLine], steps: &[usize]) -> (usize, u8) {
     let mut first = (0, u8::MAX);
     for (place, step) in steps.iter().enumerate() {
         if let Some(line) = lines.get(*step) {
@@ -136,7 +136,7 @@ fn first_step(lines: &[Line], steps: &[usize]) -> (usize, u8) {
 fn put_steps(
     buffer: &mut Vec<u8>,
     scene: &Scene<'_>,
-    lines: &[Line],
+    lines: &[DerivationLine],
     steps: &[usize],
 ) -> io::Result<()> {
     for place in steps {
@@ -152,7 +152,7 @@ pub(crate) fn put_cycle(
     alloc: Global,
     buffer: &mut Vec<u8>,
     scene: &Scene<'_>,
-    lines: &[Line],
+    lines: &[DerivationLine],
 ) -> io::Result<()> {
     for line in lines {
         put_premise(alloc, buffer, scene, lines, line)?;

@@ -4,7 +4,7 @@ use crate::clauses::clause_of;
 use crate::scene::Scene;
 use lit_paths::{Event, Kind, Order3};
 use lit_rel::Rows;
-use lit_why::{Line, Reason, Refusal, StepKind, chain, derivation, is_data_race};
+use lit_why::{DerivationLine, Reason, Refusal, StepKind, chain, derivation, is_data_race};
 use std::alloc::Global;
 use std::io;
 use std::io::Write;
@@ -220,7 +220,7 @@ fn put_incoherent(
 }
 
 /// Puts a line of a derivation.
-fn put_line(buffer: &mut Vec<u8>, scene: &Scene<'_>, line: &Line) -> io::Result<()> {
+fn put_line(buffer: &mut Vec<u8>, scene: &Scene<'_>, line: &DerivationLine) -> io::Result<()> {
     buffer.write_all(b"{\"before\":")?;
     put_name(buffer, scene, line.before)?;
     buffer.write_all(b",\"after\":")?;

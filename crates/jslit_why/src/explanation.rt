@@ -5,7 +5,7 @@ ghost use Rattle.jslit.specs.Counted.{failures_of};
 
 use crate::choices::explain_choice;
 use crate::classes::explain_class;
-use crate::command::{Line, line_of};
+use crate::command::{CommandLine, line_of};
 use crate::json::{put_class, put_named_choice, put_no_choice, put_race};
 use crate::races::explain_race;
 use crate::selection::select;
@@ -71,7 +71,7 @@ fn answer_text<T: Threads + Sync, W: Write, E: Write>(
     text: io::Result<Vec<u8>>,
     output: &mut Counted<W>,
     errors: &mut E,
-    line: &Line<'_>,
+    line: &CommandLine<'_>,
 ) -> u8
     requires { failures_of output.old < 2 ^ 64 - 1 }
 {
@@ -110,7 +110,7 @@ fn question_of(
     alloc: Global,
     plan: &Plan<'_>,
     statements: &Statements,
-    line: &Line<'_>,
+    line: &CommandLine<'_>,
 ) -> io::Result<Question> {
     if let Some(words) = line.from {
         return Ok(match select(alloc, plan, statements, words)? {
@@ -176,7 +176,7 @@ fn put_answer(
     buffer: &mut Vec<u8>,
     plan: &Plan<'_>,
     statements: &Statements,
-    line: &Line<'_>,
+    line: &CommandLine<'_>,
 ) -> io::Result<u8> {
     let question = question_of(alloc, plan, statements, line)?;
     if line.json {
@@ -194,7 +194,7 @@ fn put_answer(
 fn explain(
     alloc: Global,
     text: &[u8],
-    line: &Line<'_>,
+    line: &CommandLine<'_>,
     buffer: &mut Vec<u8>,
 ) -> Result<u8, RunFault> {
     let test = read(alloc, text)?;

@@ -6,7 +6,7 @@ use Rattle.std.proofs.lemmas.Option.{same_Some, slice_get_within}
 use Rattle.std.specs.List.{slice_get}
 use Rattle.lit_order.specs.Forcing.{AfterRead, BeforeSource, Given, HasForcedCycle, IsForced, Through}
 use Rattle.lit_paths.proofs.Products.{slice_get_left, slice_get_right}
-use Rattle.lit_why.specs.declared.derivations.lines.Line.{Line}
+use Rattle.lit_why.specs.declared.derivations.lines.DerivationLine.{DerivationLine}
 use Rattle.lit_why.specs.declared.derivations.lines.Reason.{Reason}
 use Rattle.lit_why.specs.declared.derivations.lines.Reason.TheVariants as reasons
 use Rattle.lit_why.specs.Derivation.{EachFollows, EndsInCycle, Follows, IsDerivationBy, IsLineOf}
@@ -30,7 +30,7 @@ pushed_same xs y k x at = slice_get_left xs (y ∷ []) k (slice_get_within xs k 
 pub pushed_last : {X : Type 0} (xs : List X) (y : X) → slice_get (xs ++ y ∷ []) (length xs) ≡ Some y
 pushed_last xs y = slice_get_right xs (y ∷ []) (length xs) 0 (omega arith)
 
-module _ (lines : List Line) (line : Line) where
+module _ (lines : List DerivationLine) (line : DerivationLine) where
   pub IsLineOf-more : (k e d : ℕ) → IsLineOf lines k e d → IsLineOf (lines ++ line ∷ []) k e d
   IsLineOf-more k e d h = record { line = h.line; at_place = pushed_same lines line k h.line h.at_place; first = h.first; second = h.second }
 
@@ -68,17 +68,17 @@ module _ (lines : List Line) (line : Line) where
   }
 
 module _ (before other : ℕ → ℕ → Type 0) (forbidden more : ℕ → ℕ → ℕ → Type 0) (wider : (e d : ℕ) → before e d → other e d) (also : (w r v : ℕ) → forbidden w r v → more w r v) where
-  pub Follows-wider : (lines : List Line) (place e d : ℕ) (reason : Reason) → Follows before forbidden lines place e d reason → Follows other more lines place e d reason
+  pub Follows-wider : (lines : List DerivationLine) (place e d : ℕ) (reason : Reason) → Follows before forbidden lines place e d reason → Follows other more lines place e d reason
   Follows-wider lines place e d reasons.HappensBefore h = wider e d h
   Follows-wider lines place e d (reasons.Composed first second) h = h
   Follows-wider lines place e d (reasons.BeforeSource r earlier) h = (also d r e h.0, h.1, h.2)
   Follows-wider lines place e d (reasons.AfterRead w earlier) h = (also w e d h.0, h.1, h.2)
 
 -- given lines follow
-pub EachFollows-given : (before : ℕ → ℕ → Type 0) (forbidden : ℕ → ℕ → ℕ → Type 0) (lines : List Line) → AreGiven before lines → EachFollows before forbidden lines
+pub EachFollows-given : (before : ℕ → ℕ → Type 0) (forbidden : ℕ → ℕ → ℕ → Type 0) (lines : List DerivationLine) → AreGiven before lines → EachFollows before forbidden lines
 EachFollows-given before forbidden lines given k line at = let is = given k line at in rw is.reason is.has
 
-pub AreGiven-more : (before : ℕ → ℕ → Type 0) (lines : List Line) (line : Line) → AreGiven before lines → IsGiven before line → AreGiven before (lines ++ line ∷ [])
+pub AreGiven-more : (before : ℕ → ℕ → Type 0) (lines : List DerivationLine) (line : DerivationLine) → AreGiven before lines → IsGiven before line → AreGiven before (lines ++ line ∷ [])
 AreGiven-more before lines line given here k new at = elim (at_pushed lines line k new at) [ inl old ↦ given k new old.1 | inr last ↦ rw (← last.1) here ]
 
 -- where all pairs that follow are known, all pairs that are forced are known
@@ -110,7 +110,7 @@ two_less m n false less = omega arith
 
 -- ---- by relations that hold of the same pairs
 module _ (before other : ℕ → ℕ → Type 0) (forbidden more : ℕ → ℕ → ℕ → Type 0) (same : (e d : ℕ) → before e d ↔ other e d) (same_triples : (w r v : ℕ) → forbidden w r v ↔ more w r v) where
-  pub IsDerivationBy-same : (lines : List Line) → IsDerivationBy before forbidden lines → IsDerivationBy other more lines
+  pub IsDerivationBy-same : (lines : List DerivationLine) → IsDerivationBy before forbidden lines → IsDerivationBy other more lines
   IsDerivationBy-same lines h = record {
     follows = λ k line at. Follows-wider before other forbidden more (λ e d. (same e d).0) (λ w r v. (same_triples w r v).0) lines k line.before line.after line.reason (h.follows k line at);
     ends = h.ends;
@@ -127,7 +127,7 @@ module _ (before other : ℕ → ℕ → Type 0) (forbidden more : ℕ → ℕ �
   no_cycle_same none cycle = none (cycle.0, IsForced-back cycle.0 cycle.0 cycle.1)
 
 -- ---- what each line says is forced
-module _ (before : ℕ → ℕ → Type 0) (forbidden : ℕ → ℕ → ℕ → Type 0) (apart : (w r v : ℕ) → forbidden w r v → (v ≢ w) × (v ≢ r)) (lines : List Line) (each : EachFollows before forbidden lines) where
+module _ (before : ℕ → ℕ → Type 0) (forbidden : ℕ → ℕ → ℕ → Type 0) (apart : (w r v : ℕ) → forbidden w r v → (v ≢ w) × (v ≢ r)) (lines : List DerivationLine) (each : EachFollows before forbidden lines) where
   follows_forced : (most : ℕ) → ((k e d : ℕ) → k < most → IsLineOf lines k e d → IsForced before forbidden e d) → (k e d : ℕ) → k < most + 1 → (reason : Reason)
       → Follows before forbidden lines k e d reason → IsForced before forbidden e d
   follows_forced most less k e d inside reasons.HappensBefore h = Given h

@@ -6,7 +6,7 @@ use Rattle.std.proofs.Math.Seq.{get_or-append_seam}
 use Rattle.std.proofs.lemmas.Bool.{cases_eq}
 use Rattle.std.proofs.lemmas.List.{get_or_append_left, length-append}
 use Rattle.std.proofs.lemmas.Option.{same_Some, slice_get-get_or, slice_get_within}
-use Rattle.lit_why.specs.declared.derivations.lines.Line.{Line}
+use Rattle.lit_why.specs.declared.derivations.lines.DerivationLine.{DerivationLine}
 use Rattle.lit_why.specs.declared.derivations.lines.Reason.{Reason}
 use Rattle.lit_why.specs.declared.derivations.lines.Reason.TheVariants as reasons
 use Rattle.lit_why.specs.Derivation.{Cites, EachFollows, EndsInCycle, Follows, IsDerivationBy, IsLineOf}
@@ -25,7 +25,7 @@ marked_set (mark ∷ marks) (suc i) (suc k) inside =
     )
 
 -- ---- one line more, used or not
-module _ (lines : List Line) (marks : List Bool) (i : ℕ) (places : List ℕ) (used : List Line) (was : AreMoved lines marks i places used) (earlier : CiteEarlier lines)
+module _ (lines : List DerivationLine) (marks : List Bool) (i : ℕ) (places : List ℕ) (used : List DerivationLine) (was : AreMoved lines marks i places used) (earlier : CiteEarlier lines)
     (more : List ℕ) (is : more ≡ places ++ length used ∷ []) where
   stable : (j : ℕ) → j < i → slice_index more j ≡ slice_index places j
   stable j less = let len = was.len in rw is (get_or_append_left places (length used ∷ []) 0 j (omega arith))
@@ -42,7 +42,7 @@ module _ (lines : List Line) (marks : List Bool) (i : ℕ) (places : List ℕ) (
   len_more : length more ≡ i + 1
   len_more = let len = was.len in omega (arith, ap length is, length-append places (length used ∷ []))
 
-  line_stable : (j : ℕ) (line : Line) → j < i → slice_get lines j ≡ Some line → moved_line more line ≡ moved_line places line
+  line_stable : (j : ℕ) (line : DerivationLine) → j < i → slice_get lines j ≡ Some line → moved_line more line ≡ moved_line places line
   line_stable j line less at =
       ap (λ (reason : Reason). record { before = line.before; after = line.after; reason = reason })
       (moved_stable line.reason (λ k cites. let before : k < j = earlier j line at k cites in omega arith))
@@ -69,7 +69,7 @@ module _ (lines : List Line) (marks : List Bool) (i : ℕ) (places : List ℕ) (
     ];
   }
 
-  pub moved_put : IsMarked marks i → (line new : Line) → slice_get lines i ≡ Some line → new ≡ moved_line more line → (all : List Line) → all ≡ used ++ new ∷ []
+  pub moved_put : IsMarked marks i → (line new : DerivationLine) → slice_get lines i ≡ Some line → new ≡ moved_line more line → (all : List DerivationLine) → all ≡ used ++ new ∷ []
       → AreMoved lines marks (i + 1) more all
   moved_put marked line new at_i is_new all is_all =
       let len_all : length all ≡ length used + 1 = ap length is_all ∙ length-append used (new ∷ []) in
@@ -102,10 +102,10 @@ cites_moved places (reasons.Composed first second) j (inr h) = inr (ap (slice_in
 cites_moved places (reasons.BeforeSource r k) j h = ap (slice_index places) h
 cites_moved places (reasons.AfterRead w k) j h = ap (slice_index places) h
 
-abbrev pub no_line : Line
+abbrev pub no_line : DerivationLine
 no_line = record { before = 0; after = 0; reason = reasons.HappensBefore }
 
-module _ (before : ℕ → ℕ → Type 0) (forbidden : ℕ → ℕ → ℕ → Type 0) (lines used : List Line) (each : EachFollows before forbidden lines) (ends : EndsInCycle lines)
+module _ (before : ℕ → ℕ → Type 0) (forbidden : ℕ → ℕ → ℕ → Type 0) (lines used : List DerivationLine) (each : EachFollows before forbidden lines) (ends : EndsInCycle lines)
     (only_used : AreUsedLines lines used) where
   line_moved : (k e d : ℕ) → IsMarked only_used.marks k → IsLineOf lines k e d → IsLineOf used (slice_index only_used.places k) e d
   line_moved k e d marked h = record {
@@ -131,12 +131,12 @@ module _ (before : ℕ → ℕ → Type 0) (forbidden : ℕ → ℕ → ℕ → 
   each_moved k line at =
       let found = only_used.moved.only k (slice_get_within used k line at) in
       let j = found.0 in
-      let old : Line = get_or lines j no_line in
+      let old : DerivationLine = get_or lines j no_line in
       let at_old = slice_get-get_or lines j no_line found.1 in
       let moved_at = only_used.moved.each j old found.1 found.2 at_old in
       let is_line : moved_line only_used.places old ≡ line = same_Some (moved_line only_used.places old) line (sym moved_at ∙ ap (slice_get used) found.3 ∙ at) in
       let follows = follows_moved j old.before old.after old.reason found.1 (λ c cites. only_used.are_marks.all j old (λ no_less. absurd (omega arith)) found.2 at_old c cites) (each j old at_old) in
-      let P : Line → Type 0 = λ l. Follows before forbidden used k l.before l.after l.reason in
+      let P : DerivationLine → Type 0 = λ l. Follows before forbidden used k l.before l.after l.reason in
       let Q : ℕ → Type 0 = λ p. Follows before forbidden used p old.before old.after (moved_reason only_used.places old.reason) in
       subst P is_line (subst Q found.3 follows)
 

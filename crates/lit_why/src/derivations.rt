@@ -13,7 +13,7 @@ ghost use Rattle.lit_rel.specs.Part.{part_events};
 ghost use Rattle.lit_rel.specs.Rows.{Holds};
 ghost use Rattle.lit_why.specs.Derivation.{IsDerivation};
 
-use crate::derivations::lines::{Line, Reason};
+use crate::derivations::lines::{DerivationLine, Reason};
 use crate::derivations::searching::lines_to_cycle;
 use crate::derivations::used_lines::only_used;
 use lit_rel::{Part, Rows};
@@ -36,7 +36,7 @@ pub(crate) fn first_before_itself(before: &Rows) -> Option<usize>
 /// happens-before, from two earlier lines, or from an earlier line and a forbidden triple; the last has an event before itself. Each line
 /// but the last is cited by a later one. `None` exactly where no event is forced before itself; then the part may have no memory-order
 /// all the same. Fails only where memory is refused.
-pub fn derivation(alloc: Global, part: &Part<'_>) -> Result<Option<Vec<Line>>, AllocError>
+pub fn derivation(alloc: Global, part: &Part<'_>) -> Result<Option<Vec<DerivationLine>>, AllocError>
     ensures { IfOk result (λ found. MatchOption found
         (¬ HasForcedCycle (HappensBefore (part_events part.now) part.now.sources) (IsForbidden (part_events part.now) part.now.sources))
         (λ lines. IsDerivation (part_events part.now) part.now.sources lines.items)) }
@@ -45,7 +45,7 @@ pub fn derivation(alloc: Global, part: &Part<'_>) -> Result<Option<Vec<Line>>, A
     // `lines_to_cycle` needs a relation without a cycle.
     if let Some(event) = first_before_itself(&before) {
         let mut lines = Vec::new(alloc);
-        lines.push(Line {
+        lines.push(DerivationLine {
             before: event as u8,
             after: event as u8,
             reason: Reason::HappensBefore,

@@ -13,7 +13,7 @@ ghost use Rattle.lit_valid.specs.declared.class.Class.{Class};
 ghost use Rattle.lit_why.specs.Attempts.{AreOneAttempt, TriesClass};
 ghost use Rattle.lit_why.specs.declared.refusals.causes.Refusal.{Refusal as PartRefusal};
 ghost use Rattle.lit_why.specs.Refusal.{IsRefusal};
-ghost use Rattle.lit_why.specs.declared.derivations.lines.Line.{Line as DerivationLine};
+ghost use Rattle.lit_why.specs.declared.derivations.lines.DerivationLine.{DerivationLine as LineOfDerivation};
 ghost use Rattle.lit_why.specs.Derivation.{IsDerivation};
 
 use lit_valid::laws::{
@@ -22,7 +22,7 @@ use lit_valid::laws::{
 
 /// Where there is a derivation, an event is forced before itself. So `derivation` gives one exactly there.
 pub fn derivations_end_in_forced_cycles()
-    ensures { (events : List ExecutionEvent) (sources : List ℕ) (lines : List DerivationLine) → IsDerivation events sources lines
+    ensures { (events : List ExecutionEvent) (sources : List ℕ) (lines : List LineOfDerivation) → IsDerivation events sources lines
         → HasForcedCycle (HappensBefore events sources) (IsForbidden events sources) }
 {}
 

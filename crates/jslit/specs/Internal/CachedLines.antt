@@ -3,9 +3,9 @@ use Rattle.std.specs.Prelude.{List}
 use Rattle.lit_read.specs.Syntax.{Litmus}
 use Rattle.lit_paths.specs.declared.event.Event.{Event}
 use Rattle.jslit.specs.declared.buffer.source_lines.CachedLines.{CachedLines}
-use Rattle.jslit.specs.Internal.CachedText.{Holds}
+use Rattle.jslit.specs.Internal.CachedText.{HoldsText}
 use Rattle.jslit.specs.Internal.ReadLine.{lines_up_to}
 
 -- the cached text is that of the part and the sources that are saved with it
 abbrev pub HoldsLines : Litmus → List Event → CachedLines → Type 0
-HoldsLines t events cached = Holds cached.text (lines_up_to t events cached.part cached.sources.items)
+HoldsLines t events cached = HoldsText cached.text (lines_up_to t events cached.part cached.sources.items)

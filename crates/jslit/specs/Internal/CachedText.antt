@@ -3,5 +3,5 @@ use Rattle.std.specs.Prelude.{◌≡◌, false, List, ℕ}
 use Rattle.jslit.specs.declared.buffer.cached_text.CachedText.{CachedText}
 
 -- where a text is cached, it is this one
-abbrev pub Holds : CachedText → List ℕ → Type 0
-Holds cached text = cached.buffer.failed ≡ false → cached.buffer.waiting ≡ text
+abbrev pub HoldsText : CachedText → List ℕ → Type 0
+HoldsText cached text = cached.buffer.failed ≡ false → cached.buffer.waiting ≡ text

@@ -9,7 +9,7 @@ use Rattle.jslit.specs.declared.buffer.entry_cache.EntryCache.{EntryCache}
 use Rattle.jslit.specs.declared.buffer.entry_cache.CachedOutcome.{CachedOutcome}
 use Rattle.jslit.specs.declared.buffer.entry_cache.CachedOrder.{CachedOrder}
 use Rattle.jslit.specs.ReportText.{line, names_text, registers_text}
-use Rattle.jslit.specs.Internal.CachedText.{Holds}
+use Rattle.jslit.specs.Internal.CachedText.{HoldsText}
 use Rattle.jslit.specs.Internal.CachedLines.{HoldsLines}
 
 -- a register of an outcome up to its value
@@ -39,10 +39,10 @@ order_line t events order = line (codes "  order" ++ names_text t events order)
 
 -- the cached text is that of the values, or the order, that are saved with it
 abbrev pub HoldsOutcome : Litmus → List (ℕ × ℕ) → CachedOutcome → Type 0
-HoldsOutcome t names cached = Holds cached.text (outcome_head t names cached.values.now)
+HoldsOutcome t names cached = HoldsText cached.text (outcome_head t names cached.values.now)
 
 abbrev pub HoldsOrder : Litmus → List Event → CachedOrder → Type 0
-HoldsOrder t events cached = Holds cached.text (order_line t events cached.order.now)
+HoldsOrder t events cached = HoldsText cached.text (order_line t events cached.order.now)
 
 -- all cached texts are of this test, and of this combination of its paths
 pub record IsCacheOf (t : Litmus) (c : ℕ) (cache : EntryCache) : Type 0 where

@@ -5,7 +5,7 @@ ghost use Rattle.std.specs.Prelude.{◌≡◌, ◌<◌, ◌≤◌, true, All, If
 ghost use Rattle.lit_paths.specs.ByteReads.{byte_reads, byte_reads_from};
 ghost use Rattle.lit_paths.specs.declared.limits.TheConstants.{BYTE_READ_LIMIT};
 ghost use Rattle.jslit.specs.ReportText.{from_lines};
-ghost use Rattle.jslit.specs.Internal.CachedText.{Holds};
+ghost use Rattle.jslit.specs.Internal.CachedText.{HoldsText};
 ghost use Rattle.jslit.specs.Internal.CachedLines.{HoldsLines};
 ghost use Rattle.jslit.specs.Internal.ReadLine.{OnlyFirstReads, first_source_head, lines_up_to, line_end};
 ghost use Rattle.jslit.specs.Internal.Writing.{HasPutOn};

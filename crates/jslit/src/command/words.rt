@@ -8,7 +8,7 @@ ghost use Rattle.jslit.specs.Words.{names_report, number_flag, valued_flag, IsAs
 ghost use Rattle.jslit.specs.Words.{file_argument as file_rule};
 ghost use Rattle.lit_share.specs.declared.limits.TheConstants.{CUT_LIMIT as CUTS, WORKER_LIMIT as WORKERS};
 
-use crate::command::asked_line::Line;
+use crate::command::asked_line::CommandLine;
 use crate::command::version::VERSION;
 use crate::engine::Options;
 use clap::error::ErrorKind;
@@ -161,7 +161,7 @@ fn exclusion(matches: &ArgMatches<'_>) -> Option<&'static str>
 
 /// What the words ask for: the program's name, its flags and at most one file. What is no number of workers or choices
 /// within the limits is refused, and so are a schedule with a flag of a report, and what is no flag, as `clap` does it.
-pub fn line<'a, S: AsStr>(alloc: Global, words: &'a [S]) -> Result<Line<'a>, Error>
+pub fn line<'a, S: AsStr>(alloc: Global, words: &'a [S]) -> Result<CommandLine<'a>, Error>
     ensures asked { IfOk result (IsAsked (map S.text words.entry.now)) }
     ensures refused { IfErr result (HasKind (faults_of (map S.text words.entry.now))) }
 {
@@ -177,7 +177,7 @@ pub fn line<'a, S: AsStr>(alloc: Global, words: &'a [S]) -> Result<Line<'a>, Err
         cut,
         quick: is_quick(&matches),
     };
-    Ok(Line {
+    Ok(CommandLine {
         options,
         schedule: matches.get_str("schedule"),
         file: matches.get_str("file"),

@@ -7,11 +7,11 @@ ghost use Rattle.lit_rel.specs.Rows.{Holds, rows_len};
 ghost use Rattle.lit_why.specs.Derivation.{IsLineOf};
 ghost use Rattle.lit_why.specs.Internal.Deriving.{HasForced, HasComposed, HasLine, HasLines, IsNewLine, IsOfPair, NoTriple};
 
-use crate::derivations::lines::{Line, Reason};
+use crate::derivations::lines::{DerivationLine, Reason};
 use lit_rel::{Between, EventSet, Pair, Rows};
 
 /// The place of a line that has one event before another. The lines have one.
-fn place_of(lines: &[Line], before: usize, after: usize) -> usize
+fn place_of(lines: &[DerivationLine], before: usize, after: usize) -> usize
     requires { HasLine lines.now before after }
     ensures { IsLineOf lines.now result before after }
 {
@@ -34,7 +34,12 @@ fn first_lacking(set: EventSet, there: EventSet) -> Option<usize>
 }
 
 /// A new line from `first`, composed of two lines.
-fn composed_from(lines: &[Line], old: &Rows, known: &Rows, first: usize) -> Option<Line>
+fn composed_from(
+    lines: &[DerivationLine],
+    old: &Rows,
+    known: &Rows,
+    first: usize,
+) -> Option<DerivationLine>
     requires same { rows_len known.now ≡ rows_len old.now }
     requires lines { HasLines lines.now (Holds old.now) }
     requires first { first < rows_len old.now }
@@ -45,7 +50,7 @@ fn composed_from(lines: &[Line], old: &Rows, known: &Rows, first: usize) -> Opti
     for middle in 0..old.len() {
         if old.holds(first, middle) {
             if let Some(last) = first_lacking(old.successors(middle), there) {
-                return Some(Line {
+                return Some(DerivationLine {
                     before: first as u8,
                     after: last as u8,
                     reason: Reason::Composed {
@@ -60,7 +65,7 @@ fn composed_from(lines: &[Line], old: &Rows, known: &Rows, first: usize) -> Opti
 }
 
 /// A new line from any event, composed of two lines.
-fn composed(lines: &[Line], old: &Rows, known: &Rows) -> Option<Line>
+fn composed(lines: &[DerivationLine], old: &Rows, known: &Rows) -> Option<DerivationLine>
     requires same { rows_len known.now ≡ rows_len old.now }
     requires lines { HasLines lines.now (Holds old.now) }
     ensures { MatchOption result (HasComposed (Holds old.now) (Holds known.now))
@@ -75,7 +80,12 @@ fn composed(lines: &[Line], old: &Rows, known: &Rows) -> Option<Line>
 }
 
 /// A new line that has a read before an event: the event comes after the source, and may not stand between the source and the read.
-fn after_read(lines: &[Line], old: &Rows, known: &Rows, pair: &Pair) -> Option<Line>
+fn after_read(
+    lines: &[DerivationLine],
+    old: &Rows,
+    known: &Rows,
+    pair: &Pair,
+) -> Option<DerivationLine>
     requires same { rows_len known.now ≡ rows_len old.now }
     requires lines { HasLines lines.now (Holds old.now) }
     requires source { pair.now.source < rows_len old.now }
@@ -86,7 +96,7 @@ fn after_read(lines: &[Line], old: &Rows, known: &Rows, pair: &Pair) -> Option<L
     let (source, read) = (usize::from(pair.source), usize::from(pair.read));
     let later = pair.others.intersection(old.successors(source));
     match first_lacking(later, known.successors(read)) {
-        Some(other) => Some(Line {
+        Some(other) => Some(DerivationLine {
             before: pair.read,
             after: other as u8,
             reason: Reason::AfterRead {
@@ -99,7 +109,12 @@ fn after_read(lines: &[Line], old: &Rows, known: &Rows, pair: &Pair) -> Option<L
 }
 
 /// A new line that has an event before a source: the event comes before the read, and may not stand between the source and the read.
-fn before_source(lines: &[Line], old: &Rows, known: &Rows, pair: &Pair) -> Option<Line>
+fn before_source(
+    lines: &[DerivationLine],
+    old: &Rows,
+    known: &Rows,
+    pair: &Pair,
+) -> Option<DerivationLine>
     requires same { rows_len known.now ≡ rows_len old.now }
     requires lines { HasLines lines.now (Holds old.now) }
     requires source { pair.now.source < rows_len old.now }
@@ -110,7 +125,7 @@ fn before_source(lines: &[Line], old: &Rows, known: &Rows, pair: &Pair) -> Optio
     let (source, read) = (usize::from(pair.source), usize::from(pair.read));
     for other in 0..old.len() {
         if pair.others.contains(other) && old.holds(other, read) && !known.holds(other, source) {
-            return Some(Line {
+            return Some(DerivationLine {
                 before: other as u8,
                 after: pair.source,
                 reason: Reason::BeforeSource {
@@ -124,7 +139,12 @@ fn before_source(lines: &[Line], old: &Rows, known: &Rows, pair: &Pair) -> Optio
 }
 
 /// A new line by a forbidden triple of one source and its read.
-fn forced_by(lines: &[Line], old: &Rows, known: &Rows, pair: &Pair) -> Option<Line>
+fn forced_by(
+    lines: &[DerivationLine],
+    old: &Rows,
+    known: &Rows,
+    pair: &Pair,
+) -> Option<DerivationLine>
     requires same { rows_len known.now ≡ rows_len old.now }
     requires lines { HasLines lines.now (Holds old.now) }
     requires source { pair.now.source < rows_len old.now }
@@ -139,7 +159,12 @@ fn forced_by(lines: &[Line], old: &Rows, known: &Rows, pair: &Pair) -> Option<Li
 }
 
 /// A new line by any forbidden triple.
-fn forced(lines: &[Line], old: &Rows, known: &Rows, between: &Between) -> Option<Line>
+fn forced(
+    lines: &[DerivationLine],
+    old: &Rows,
+    known: &Rows,
+    between: &Between,
+) -> Option<DerivationLine>
     requires same { rows_len known.now ≡ rows_len old.now }
     requires len { rows_len old.now ≡ between.now.len }
     requires lines { HasLines lines.now (Holds old.now) }
@@ -155,7 +180,12 @@ fn forced(lines: &[Line], old: &Rows, known: &Rows, between: &Between) -> Option
 }
 
 /// A new line: it follows from old pairs, each of which has a line, and its own pair is not known.
-pub(crate) fn next_line(lines: &[Line], old: &Rows, known: &Rows, between: &Between) -> Option<Line>
+pub(crate) fn next_line(
+    lines: &[DerivationLine],
+    old: &Rows,
+    known: &Rows,
+    between: &Between,
+) -> Option<DerivationLine>
     requires same { rows_len known.now ≡ rows_len old.now }
     requires len { rows_len old.now ≡ between.now.len }
     requires lines { HasLines lines.now (Holds old.now) }

@@ -30,7 +30,7 @@ pub enum Reason {
 
 /// That one event comes before another in every memory-order.
 #[derive(Clone, Copy, Debug, PartialEq, Eq)]
-pub struct Line {
+pub struct DerivationLine {
     /// The number of the one.
     pub before: u8,
     /// The number of the other.

@@ -8,12 +8,16 @@ ghost use Rattle.lit_why.specs.Derivation.{EachFollows, EndsInCycle};
 ghost use Rattle.lit_why.specs.Internal.Deriving.{AreGiven, HasLine, HasLines};
 
 use crate::derivations::following::next_line;
-use crate::derivations::lines::{Line, Reason};
+use crate::derivations::lines::{DerivationLine, Reason};
 use lit_rel::{Between, Rows};
 use std::alloc::{AllocError, Global};
 
 /// Adds a line for each pair of a relation whose first event this is.
-fn push_given(lines: &mut Vec<Line>, before: &Rows, first: usize) -> Result<(), AllocError>
+fn push_given(
+    lines: &mut Vec<DerivationLine>,
+    before: &Rows,
+    first: usize,
+) -> Result<(), AllocError>
     requires { first < rows_len before.now }
     ensures given { OnOk result (AreGiven (Holds before.now) lines.old.items → AreGiven (Holds before.now) lines.new.items) }
     ensures retained { OnOk result ((e d : ℕ) → HasLine lines.old.items e d → HasLine lines.new.items e d) }
@@ -21,7 +25,7 @@ fn push_given(lines: &mut Vec<Line>, before: &Rows, first: usize) -> Result<(), 
 {
     for second in 0..before.len() {
         if before.holds(first, second) {
-            lines.push(Line {
+            lines.push(DerivationLine {
                 before: first as u8,
                 after: second as u8,
                 reason: Reason::HappensBefore,
@@ -32,7 +36,7 @@ fn push_given(lines: &mut Vec<Line>, before: &Rows, first: usize) -> Result<(), 
 }
 
 /// A line for each pair of a relation.
-fn given_lines(alloc: Global, before: &Rows) -> Result<Vec<Line>, AllocError>
+fn given_lines(alloc: Global, before: &Rows) -> Result<Vec<DerivationLine>, AllocError>
     ensures { IfOk result (λ lines. AreGiven (Holds before.now) lines.items × HasLines lines.items (Holds before.now)) }
 {
     let mut lines = Vec::new(alloc);
@@ -49,7 +53,7 @@ pub(crate) fn lines_to_cycle(
     alloc: Global,
     before: &Rows,
     between: &Between,
-) -> Result<Option<Vec<Line>>, AllocError>
+) -> Result<Option<Vec<DerivationLine>>, AllocError>
     requires len { rows_len before.now ≡ between.now.len }
     requires no_cycle { (e : ℕ) → ¬ Holds before.now e e }
     ensures { IfOk result (λ found. MatchOption found (¬ HasForcedCycle (Holds before.now) (Forbids between.now))

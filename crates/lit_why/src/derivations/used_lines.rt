@@ -4,7 +4,7 @@ ghost use Rattle.std.specs.Prelude.{◌≡◌, ◌⊎◌, ◌↔◌, ℕ, ◌<�
 ghost use Rattle.lit_why.specs.Derivation.{Cites, EndsInCycle};
 ghost use Rattle.lit_why.specs.Internal.UsedLines.{AreMarks, AreMoved, CiteEarlier, IsMarked, AreUsedLines, moved_reason};
 
-use crate::derivations::lines::{Line, Reason};
+use crate::derivations::lines::{DerivationLine, Reason};
 use std::alloc::{AllocError, Global};
 
 /// Marks a place.
@@ -34,7 +34,7 @@ fn mark_cited(marks: &mut Vec<bool>, reason: Reason)
 }
 
 /// Marks the last line, and each line that a marked line cites.
-fn marks_of(alloc: Global, lines: &[Line]) -> Result<Vec<bool>, AllocError>
+fn marks_of(alloc: Global, lines: &[DerivationLine]) -> Result<Vec<bool>, AllocError>
     requires some { 0 < length lines.now }
     requires earlier { CiteEarlier lines.now }
     ensures { IfOk result (λ marks. AreMarks lines.now marks.items) }
@@ -83,7 +83,11 @@ fn moved(reason: Reason, places: &[usize]) -> Reason
 }
 
 /// The lines that are marked, in order, each with its citations moved.
-fn moved_lines(alloc: Global, lines: &[Line], marks: &[bool]) -> Result<Vec<Line>, AllocError>
+fn moved_lines(
+    alloc: Global,
+    lines: &[DerivationLine],
+    marks: &[bool],
+) -> Result<Vec<DerivationLine>, AllocError>
     requires marks { AreMarks lines.now marks.now }
     requires earlier { CiteEarlier lines.now }
     ensures { IfOk result (λ used. (places : List ℕ) × AreMoved lines.now marks.now (length lines.now) places used.items) }
@@ -94,7 +98,7 @@ fn moved_lines(alloc: Global, lines: &[Line], marks: &[bool]) -> Result<Vec<Line
         let reason = line.reason;
         places.push(used.len())?;
         if marks[place] {
-            used.push(Line {
+            used.push(DerivationLine {
                 before: line.before,
                 after: line.after,
                 reason: moved(reason, places.as_slice()),
@@ -105,7 +109,10 @@ fn moved_lines(alloc: Global, lines: &[Line], marks: &[bool]) -> Result<Vec<Line
 }
 
 /// The lines that the last line rests on. The lines end in a cycle, and each cites earlier lines only.
-pub(crate) fn only_used(alloc: Global, lines: &[Line]) -> Result<Vec<Line>, AllocError>
+pub(crate) fn only_used(
+    alloc: Global,
+    lines: &[DerivationLine],
+) -> Result<Vec<DerivationLine>, AllocError>
     requires ends { EndsInCycle lines.now }
     requires earlier { CiteEarlier lines.now }
     ensures { IfOk result (λ used. AreUsedLines lines.now used.items) }

@@ -7,11 +7,11 @@ use lit_rel::{Between, Part, Rows};
 use lit_texts::{
     INDEPENDENT_READS, LOAD_BUFFERING_ATOMIC, READ_READ_COHERENCE_PLAIN, STORE_BUFFERING,
 };
-use lit_why::{Line, Reason, derivation};
+use lit_why::{DerivationLine, Reason, derivation};
 use std::test::Fail;
 
 /// Whether the line at a place, before another one, has these events.
-fn has(lines: &[Line], place: usize, before_place: usize, events: (u8, u8)) -> bool {
+fn has(lines: &[DerivationLine], place: usize, before_place: usize, events: (u8, u8)) -> bool {
     if place >= before_place {
         return false;
     }
@@ -35,7 +35,7 @@ fn forbids(between: &Between, source: u8, read: u8, other: u8) -> bool {
 }
 
 /// Whether a line, with its place, follows from the lines before it.
-fn follows(part: &Part<'_>, lines: &[Line], place: usize, line: &Line) -> bool {
+fn follows(part: &Part<'_>, lines: &[DerivationLine], place: usize, line: &DerivationLine) -> bool {
     let (before, after) = (line.before, line.after);
     match line.reason {
         Reason::HappensBefore => holds(&part.happens_before(), before, after),
@@ -58,7 +58,7 @@ fn follows(part: &Part<'_>, lines: &[Line], place: usize, line: &Line) -> bool {
 }
 
 /// Whether a line cites the one at a place.
-fn cites(line: &Line, place: usize) -> bool {
+fn cites(line: &DerivationLine, place: usize) -> bool {
     match line.reason {
         Reason::HappensBefore => false,
         Reason::Composed { first, second } => first == place || second == place,
@@ -68,7 +68,7 @@ fn cites(line: &Line, place: usize) -> bool {
 }
 
 /// Whether each line follows from earlier ones, and is the last or cited by some line.
-fn is_derivation(part: &Part<'_>, lines: &[Line]) -> bool {
+fn is_derivation(part: &Part<'_>, lines: &[DerivationLine]) -> bool {
     for (place, line) in lines.iter().enumerate() {
         let is_last = place + 1 == lines.len();
         if !follows(part, lines, place, line)

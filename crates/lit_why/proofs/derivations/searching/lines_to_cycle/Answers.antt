@@ -3,7 +3,7 @@ use Rattle.std.proofs.lemmas.Bool.{true≢false}
 use Rattle.lit_order.proofs.RowsLemmas.{pairs_missing, pairs_missing-lt}
 use Rattle.lit_rel.specs.Between.{Forbids}
 use Rattle.lit_rel.specs.Rows.{Holds, rows_len}
-use Rattle.lit_why.specs.declared.derivations.lines.Line.{Line}
+use Rattle.lit_why.specs.declared.derivations.lines.DerivationLine.{DerivationLine}
 use Rattle.lit_why.specs.Derivation.{EachFollows}
 use Rattle.lit_why.specs.Internal.Deriving.{IsNewLine, NoPair}
 use Rattle.lit_why.proofs.DerivationLemmas.{EachFollows-given, EachFollows-more, EndsInCycle-last, Follows-wider, HasForced-from_old, HasLines-more, forced_within, no_cycle_more, two_less}
@@ -25,7 +25,7 @@ pub next_line-requires-clause-lines : goal.next_line-requires-clause-lines
 next_line-requires-clause-lines c e d old =
     rw c.as_slice.ensures.value (c.iterations.invariant.lines e d (c.iterations.invariant.older e d old))
 
-follows_now : (before : ℕ → ℕ → Type 0) (forbidden : ℕ → ℕ → ℕ → Type 0) (n : ℕ) (known : ℕ → ℕ → Type 0) (lines slice : List Line) (line : Line) → slice ≡ lines
+follows_now : (before : ℕ → ℕ → Type 0) (forbidden : ℕ → ℕ → ℕ → Type 0) (n : ℕ) (known : ℕ → ℕ → Type 0) (lines slice : List DerivationLine) (line : DerivationLine) → slice ≡ lines
     → EachFollows before forbidden lines → IsNewLine n forbidden known slice line → EachFollows before forbidden (lines ++ line ∷ [])
 follows_now before forbidden n known lines slice line same each new =
     EachFollows-more lines line before forbidden each
@@ -34,7 +34,7 @@ follows_now before forbidden n known lines slice line same each new =
 pub returns-then-line : goal.returns-then-line
 returns-then-line c =
     let lines = c.iterations.lines.items in
-    let line : Line = c.in-Some.line in
+    let line : DerivationLine = c.in-Some.line in
     let each = follows_now (Holds c.args.before.now) (Forbids c.args.between.now) (rows_len c.iterations.old) (Holds c.iterations.known) lines c.as_slice.result.now line
     c.as_slice.ensures.value c.iterations.invariant.follows c.in-Some.ensures in
     rw c.in_ok-push-in-Some.ensures.items (each, EndsInCycle-last lines line c.if-line.true)
@@ -49,7 +49,7 @@ pub iterations-smaller-in-Some : goal.iterations-smaller-in-Some
 iterations-smaller-in-Some c =
     let known = c.iterations.known in
     let more = c.put.new.self in
-    let line : Line = c.in-Some.line in
+    let line : DerivationLine = c.in-Some.line in
     let put = rw (c.from.ensures, c.from-in-Some.ensures) at c.put.ensures.pairs in
     let fewer = pairs_missing-lt known more c.put.ensures.len (λ a d h. (put a d).1 (inl h)) line.before line.after c.in-Some.ensures.new ((put line.before line.after).1 (inr (refl, refl))) in
     two_less (pairs_missing known) (pairs_missing more) c.iterations.grown fewer
@@ -57,7 +57,7 @@ iterations-smaller-in-Some c =
 pub iterations-preserved-in-Some : goal.iterations-preserved-in-Some
 iterations-preserved-in-Some c =
     let lines = c.iterations.lines.items in
-    let line : Line = c.in-Some.line in
+    let line : DerivationLine = c.in-Some.line in
     let so_far = c.iterations.invariant in
     let put = rw (c.from.ensures, c.from-in-Some.ensures) at c.put.ensures.pairs in
     let each = follows_now (Holds c.args.before.now) (Forbids c.args.between.now) (rows_len c.iterations.old) (Holds c.iterations.known) lines c.as_slice.result.now line

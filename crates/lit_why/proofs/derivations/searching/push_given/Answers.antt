@@ -1,7 +1,7 @@
 use Rattle.std.proofs.Common.{◌++◌, ◌∷◌, [], length, below_more, refl}
 use Rattle.std.proofs.lemmas.Bool.{false≢true}
 use Rattle.lit_rel.specs.Rows.{Holds}
-use Rattle.lit_why.specs.declared.derivations.lines.Line.{Line}
+use Rattle.lit_why.specs.declared.derivations.lines.DerivationLine.{DerivationLine}
 use Rattle.lit_why.specs.declared.derivations.lines.Reason.TheVariants as reasons
 use Rattle.lit_why.specs.Internal.Deriving.{HasLine}
 use Rattle.lit_why.proofs.DerivationLemmas.{AreGiven-more, HasLine-more, IsLineOf-last}
@@ -15,7 +15,7 @@ loop-second-preserved c =
     elim c.if-holds.branch [
       | then-holds+in_ok-push w ↦
           let holds = w.if-holds.ensures.0 refl in
-          let line : Line = record { before = c.args.first; after = c.loop-second.second; reason = reasons.HappensBefore } in
+          let line : DerivationLine = record { before = c.args.first; after = c.loop-second.second; reason = reasons.HappensBefore } in
           rw (w.lines-is, w.in_ok-push.ensures.items) record {
             given = λ before. AreGiven-more (Holds c.args.before.now) lines line (so_far.given before) (record { reason = refl; has = holds });
             retained = λ e d h. HasLine-more lines line e d (so_far.retained e d h);

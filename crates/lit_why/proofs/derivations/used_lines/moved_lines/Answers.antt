@@ -1,7 +1,7 @@
 use Rattle.std.proofs.Common.{◌≡◌, ◌<◌, ◌∙◌, Some, true, false, length, get_or, ap, sym, arith}
 use Rattle.std.proofs.lemmas.Bool.{false≢true}
 use Rattle.std.proofs.lemmas.Option.{same_Some, slice_get-get_or}
-use Rattle.lit_why.specs.declared.derivations.lines.Line.{Line}
+use Rattle.lit_why.specs.declared.derivations.lines.DerivationLine.{DerivationLine}
 use Rattle.lit_why.specs.declared.derivations.lines.Reason.{Reason}
 use Rattle.lit_why.proofs.UsedLineLemmas.{moved_put, moved_skip, no_line}
 use Rattle.lit_why.proofs.derivations.used_lines.moved_lines.Goals as goal
@@ -18,7 +18,7 @@ loop-place-preserved c =
     let mark = slice_get-get_or c.args.marks.now i false inside in
     elim c.if-marks-place.branch [
       | then-marks-place+in_ok-push-2 w ↦
-          let line : Line = get_or c.args.lines.now i no_line in
+          let line : DerivationLine = get_or c.args.lines.now i no_line in
           rw w.used-is (moved_put c.args.lines.now c.args.marks.now i places used c.loop-place.invariant c.requires.earlier c.push.new.self.items is
           (mark ∙ ap Some w.if-marks-place.true) line (record { before = line.before; after = line.after; reason = w.moved.result })
           (slice_get-get_or c.args.lines.now i no_line c.loop-place-test.true)
