@@ -51,7 +51,7 @@ fn write_interleaving<W: Write>(
     buffer.finish(output)
 }
 
-/// Writes what is answered for a text and a schedule. Where there is nothing to answer, nothing is written.
+/// Writes the answer for a text and a schedule. Where there is none, it writes nothing.
 fn answer_schedule<W: Write>(
     alloc: Global,
     text: &[u8],

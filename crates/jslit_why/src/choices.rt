@@ -1,4 +1,4 @@
-//! What refuses a choice, or its memory-order.
+//! The explanation of a choice: its refusal, or its memory-order.
 
 ghost use Rattle.std.specs.Prelude.{◌<◌, length};
 ghost use Rattle.lit_paths.specs.Choice.{choices_of};

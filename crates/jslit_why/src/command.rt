@@ -82,7 +82,7 @@ fn from_flag<'a>(alloc: Global) -> Arg<'a> {
         .help("Ask for the choice with these sources, as in 'A.1=init[0] B.0=A.0,A.0 A.r0=0'")
 }
 
-/// What is said where the words ask for several things.
+/// The message where the words ask for several things.
 fn exclusion(matches: &ArgMatches<'_>) -> Option<&'static str> {
     let unmet = matches.get_str("unmet") == Some("true");
     let race = matches.get_str("race") == Some("true");

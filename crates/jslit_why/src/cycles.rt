@@ -1,4 +1,4 @@
-//! A derivation as it is read: what is forced first, and then the cycle, step by step.
+//! The text of a derivation: first the forced precedences, and then the cycle, step by step.
 
 use crate::reasons::{put_chain, put_conclusion};
 use crate::scene::Scene;
@@ -85,7 +85,7 @@ fn put_step(buffer: &mut Vec<u8>, scene: &Scene<'_>, line: &DerivationLine) -> i
     }
 }
 
-/// The place of the line that a forced line rests on.
+/// The place of the line that a forced line cites.
 fn earlier_of(line: &DerivationLine) -> Option<usize> {
     match line.reason {
         Reason::AfterRead { earlier, .. } | Reason::BeforeSource { earlier, .. } => Some(earlier),
@@ -101,7 +101,7 @@ fn is_given(lines: &[DerivationLine], place: usize) -> bool {
     }
 }
 
-/// Puts the steps that lead to what a forced line rests on, unless it is of happens-before.
+/// Puts the steps that lead to the line that a forced line cites, unless that is of happens-before.
 fn put_premise(
     alloc: Global,
     buffer: &mut Vec<u8>,
@@ -147,7 +147,7 @@ fn put_steps(
     Ok(())
 }
 
-/// Puts a derivation: the steps that lead to what its forced lines rest on, and then those of the cycle, from its least event on.
+/// Puts a derivation: first the steps to the lines that its forced lines cite, and then the steps of the cycle, from its least event on.
 pub(crate) fn put_cycle(
     alloc: Global,
     buffer: &mut Vec<u8>,

@@ -1,4 +1,4 @@
-//! What is answered for a text, and the program's status.
+//! The answer for a text, and the program's status.
 
 ghost use Rattle.std.specs.Prelude.{◌<◌, ◌^◌, ◌-◌};
 ghost use Rattle.jslit.specs.Counted.{failures_of};

@@ -1,4 +1,4 @@
-//! What is answered, as one line of JSON.
+//! The answer as one line of JSON.
 
 ghost use Rattle.std.specs.Prelude.{◌<◌, length};
 ghost use Rattle.lit_paths.specs.Choice.{choices_of};

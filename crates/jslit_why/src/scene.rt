@@ -1,4 +1,4 @@
-//! A choice of a test with what is told of it: its events, by their names and the lines of their statements.
+//! A choice of a test as the program describes it: its events have names, and the lines of their statements.
 
 ghost use Rattle.std.specs.Prelude.{◌<◌, length};
 ghost use Rattle.lit_paths.specs.Choice.{choices_of};

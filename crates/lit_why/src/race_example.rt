@@ -20,7 +20,7 @@ pub struct RaceExample {
     pub least: Least,
 }
 
-/// The first choice with a data race of those on a combination, by its number: below `combinations`.
+/// The first choice on a combination that a valid execution with a data race has; the combination by its number, below `combinations`.
 fn first_race_on(plan: &Plan<'_>, combination: usize) -> Option<RaceExample>
     requires { combination < length (combinations_of plan.now) }
     ensures { MatchOption result (HasNoRaceOn plan.now combination)

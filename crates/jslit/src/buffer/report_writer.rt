@@ -67,7 +67,7 @@ pub(crate) fn put_event<W: Write>(
     );
 }
 
-/// Puts a blank and the name of each of these events, by their numbers.
+/// Puts a blank and the name of each event of a list of numbers.
 pub(crate) fn put_events<W: Write>(
     buffer: &mut Buffer,
     output: &mut Counted<W>,
@@ -120,7 +120,7 @@ fn put_source_line<W: Write>(
     buffer.put_byte(output, b'\n');
 }
 
-/// Puts the line of an event that reads, whose sources are the first of these, and gives the others.
+/// Puts the line of an event if it reads: its sources are the first of `sources`. Gives the other sources.
 fn put_read<'s, W: Write>(
     buffer: &mut Buffer,
     output: &mut Counted<W>,
@@ -224,7 +224,7 @@ fn put_register<W: Write>(
     buffer.put_number(output, value as u64);
 }
 
-/// Puts the first registers of an outcome, one for each of these values, with the values.
+/// Puts the first registers of an outcome with their values, one for each value of a list.
 pub(crate) fn put_registers<W: Write>(
     buffer: &mut Buffer,
     output: &mut Counted<W>,
@@ -262,7 +262,7 @@ fn put_verdict<W: Write>(buffer: &mut Buffer, output: &mut Counted<W>, verdict: 
     buffer.put_byte(output, b'\n');
 }
 
-/// The word for whether something is so.
+/// The word `yes` or `no`.
 pub(crate) fn word_for(answer: bool) -> &'static [u8]
     ensures { result.now ≡ yes_or_no answer }
 {

@@ -133,7 +133,7 @@ fn is_quick(matches: &ArgMatches<'_>) -> bool
     matches.get_str("quick") == Some("true")
 }
 
-/// What is said of the first flag of a report that stands with a schedule.
+/// The message on the first flag of a report that stands with a schedule.
 fn report_flag(matches: &ArgMatches<'_>) -> Option<&'static str>
     ensures { is_some result ≡ names_report (rows_of (found_of matches.now)) }
 {
@@ -148,7 +148,7 @@ fn report_flag(matches: &ArgMatches<'_>) -> Option<&'static str>
     }
 }
 
-/// What is said where a schedule stands with a flag of a report (decision 70).
+/// The message where a schedule stands with a flag of a report (decision 70).
 fn exclusion(matches: &ArgMatches<'_>) -> Option<&'static str>
     ensures { is_some result ≡ is_excluded (rows_of (found_of matches.now)) }
 {
@@ -159,8 +159,8 @@ fn exclusion(matches: &ArgMatches<'_>) -> Option<&'static str>
     }
 }
 
-/// What the words ask for: the program's name, its flags and at most one file. What is no number of workers or choices
-/// within the limits is refused, and so are a schedule with a flag of a report, and what is no flag, as `clap` does it.
+/// What the words ask for: the program's name, its flags and at most one file. It refuses a number of workers or choices
+/// that is not within the limits, a schedule with a flag of a report, and, as `clap` does it, a word that is no flag.
 pub fn line<'a, S: AsStr>(alloc: Global, words: &'a [S]) -> Result<CommandLine<'a>, Error>
     ensures asked { IfOk result (IsAsked (map S.text words.entry.now)) }
     ensures refused { IfErr result (HasKind (faults_of (map S.text words.entry.now))) }

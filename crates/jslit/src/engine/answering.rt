@@ -1,4 +1,4 @@
-//! What is answered for a text: the report on the test that it spells, or a fault.
+//! The answer for a text: the report on the test that it spells, or a fault.
 
 ghost use Rattle.std.specs.Prelude.{◌≡◌, ◌≢◌, ◌≤◌, true, false, length, IfOk, IfErr, OnOk, IsErrOf};
 ghost use Rattle.lit_paths.specs.Choice.{choices_of};
@@ -25,7 +25,7 @@ use std::alloc::{AllocError, Global};
 use std::io::Write;
 use std::thread::Threads;
 
-/// A pass for each worker, of those that carry nothing.
+/// A pass for each worker. The passes carry nothing.
 pub(crate) fn passes(alloc: Global, workers: usize) -> Result<Vec<()>, AllocError>
     ensures { IfOk result (λ passes. length passes.items ≡ workers) }
 {
@@ -117,7 +117,7 @@ fn quick_report<T: Threads + Sync, W: Write, G: Watch>(
     write_quick_report(output, plan, &met, &unmet, verdict)
 }
 
-/// Writes what is answered for a text: the report on the test that it spells. Where there is none, nothing is written.
+/// Writes the answer for a text: the report on the test that it spells. Where there is no report, it writes nothing.
 pub(crate) fn answer<T: Threads + Sync, W: Write, G: Watch>(
     rt: &T,
     alloc: Global,
