@@ -1,4 +1,4 @@
-//! Writes the text of a report through the output buffer. Each function has both the buffer and the output (decision 58).
+//! Writes the text of a report through the output buffer. What prints takes both the buffer and the output (decision 58).
 
 ghost use Rattle.std.specs.Prelude.{◌≡◌, ℕ, ◌+◌, ◌<◌, ◌≤◌, true, ◌++◌, All, IfSome, OnOk, OnErr, IfErr, length, codes};
 ghost use Rattle.std.specs.Fmt.{decimal};

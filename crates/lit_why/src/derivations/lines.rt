@@ -1,6 +1,7 @@
 //! The lines of a derivation.
 
-/// Why the event `before` of a line comes before its event `after` in every memory-order. Lines are cited by their places in the list, from 0.
+/// Why the event `before` of a line comes before its event `after` in every memory-order. Lines
+/// are cited by their places in the list, from 0.
 #[derive(Clone, Copy, Debug, PartialEq, Eq)]
 pub enum Reason {
     /// `before` happens before `after`.
