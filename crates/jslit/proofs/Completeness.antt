@@ -1,4 +1,4 @@
--- A report on all choices of a test leaves out no valid execution.
+-- A report on all choices of a test has the outcome of each valid execution.
 use Rattle.std.proofs.Common.{◌≡◌, ℕ, ◌<◌, List, length, map, Some, refl, ap, ◌∙◌, arith}
 use Rattle.std.specs.Prelude.{slice_get, Contains, IsTrue}
 use Rattle.std.proofs.lemmas.Bool.Decides.{nat_tests}

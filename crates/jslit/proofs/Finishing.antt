@@ -1,4 +1,4 @@
--- What a run comes to that is finished: flushed, or its fault printed.
+-- The effect of a run that is finished: its output is flushed, or its fault is printed.
 use Rattle.std.proofs.Common.{◌≡◌, ◌≢◌, ◌⊎◌, ◌<◌, ◌≤◌, ◌∙◌, inl, inr, ℕ, List, Option, Ok, Err, OnOk, IfErr, IsErrOf, arith, sym, ap, subst}
 use Rattle.std.specs.declared.result.Result.{Result}
 use Rattle.std.specs.Io.KnownBytes.{Keeps}
@@ -23,8 +23,8 @@ module _ {W : Type 0} (contents : W → Option (List ℕ)) (remaining : Option (
   Answers = OfToldText remaining (λ text. HasGrown (Is text) (contents (device_of old)) (contents (device_of mid)))
 
   -- a flushed answer is still there
-  kept_answer : Answers → Flushed → OfToldText remaining (λ text. HasGrown (Is text) (contents (device_of old)) (contents (device_of new)))
-  kept_answer told flushed = record {
+  flushed_answer : Answers → Flushed → OfToldText remaining (λ text. HasGrown (Is text) (contents (device_of old)) (contents (device_of new)))
+  flushed_answer told flushed = record {
     text = told.text;
     is_told = told.is_told;
     holds = record {
@@ -36,7 +36,7 @@ module _ {W : Type 0} (contents : W → Option (List ℕ)) (remaining : Option (
 
   finished_answer : {X : Type 0} (ran : Result X RunFault) → OnOk ran Answers → OnOk ran Flushed → IfErr ran (IsSaid contents status mid new)
       → status ≡ 0 → OfToldText remaining (λ text. HasGrown (Is text) (contents (device_of old)) (contents (device_of new)))
-  finished_answer (Ok u) told flushed said is = kept_answer told flushed
+  finished_answer (Ok u) told flushed said is = flushed_answer told flushed
   finished_answer (Err fault) told flushed said is = absurd (never_zero fault (sym said.status_is ∙ is))
 
   finished_refusal : {X : Type 0} (ran : Result X RunFault) → OnOk ran Flushed → IfErr ran (λ fault. OfToldText remaining (λ text. IsFault text fault))
@@ -60,9 +60,9 @@ module _ {W : Type 0} (contents : W → Option (List ℕ)) (remaining : Option (
   finished_failure : {X : Type 0} (Input : Type 0) (ran : Result X RunFault) → OnOk ran Answers → OnOk ran Flushed → IfErr ran (IsSaid contents status mid new)
       → (IsErrOf ran faults.InputFailed → Input) → (IsErrOf ran faults.OutputFailed → failures_of old < failures_of mid) → status ≡ 4
       → Input ⊎ (failures_of old < failures_of new) ⊎ OfToldText remaining (λ text. HasGrown (Is text) (contents (device_of old)) (contents (device_of new)))
-  finished_failure Input (Ok u) told flushed said input output is = inr (inr (kept_answer told flushed))
+  finished_failure Input (Ok u) told flushed said input output is = inr (inr (flushed_answer told flushed))
   finished_failure Input (Err fault) told flushed said input output is =
-      let same = said.kept (λ one. absurd (omega (arith, is, one))) in
+      let same = said.unchanged (λ one. absurd (omega (arith, is, one))) in
       failed_device fault _ (sym said.status_is ∙ is) (λ of_input. inl (input (ap Err of_input)))
       (λ of_output. inr (inl (subst (λ (o : Counted W). failures_of old < failures_of o) (sym same) (output (ap Err of_output)))))
 
@@ -71,14 +71,14 @@ module _ {W : Type 0} (contents : W → Option (List ℕ)) (remaining : Option (
       → (IsErrOf ran faults.OutputFailed → OfToldText remaining (λ text. HasGrownSome (Is text) (contents (device_of old)) (contents (device_of mid)))) → status ≡ 4
       → (new ≡ old) ⊎ OfToldText remaining (λ text. HasGrownSome (Is text) (contents (device_of old)) (contents (device_of new)))
   finished_beginning (Ok u) told flushed said unwritten begun is =
-      let kept = kept_answer told flushed in
+      let unchanged = flushed_answer told flushed in
       inr (record {
-        text = kept.text;
-        is_told = kept.is_told;
-        holds = record { answer = kept.holds.answer; on = kept.holds.on; begun = whole_is_beginning _ _ kept.holds.answer kept.holds.written };
+        text = unchanged.text;
+        is_told = unchanged.is_told;
+        holds = record { answer = unchanged.holds.answer; on = unchanged.holds.on; begun = whole_is_beginning _ _ unchanged.holds.answer unchanged.holds.written };
       })
   finished_beginning (Err fault) told flushed said unwritten begun is =
-      let same = said.kept (λ one. absurd (omega (arith, is, one))) in
+      let same = said.unchanged (λ one. absurd (omega (arith, is, one))) in
       failed_device fault _ (sym said.status_is ∙ is)
       (λ of_input. inl (same ∙ unwritten (λ output. let bad : faults.InputFailed ≡ faults.OutputFailed = sym of_input ∙ output in absurd cc)))
       (λ of_output.
@@ -92,15 +92,15 @@ module _ {W : Type 0} (contents : W → Option (List ℕ)) (remaining : Option (
   -- no write failed where the answer is whole
   finished_unfailed : {X : Type 0} (ran : Result X RunFault) → (failures_of old < failures_of mid → IsErrOf ran faults.OutputFailed) → failures_of old ≤ failures_of mid
       → OnOk ran (failures_of new ≡ failures_of mid) → IfErr ran (IsSaid contents status mid new) → status ≡ 0 → failures_of new ≡ failures_of old
-  finished_unfailed (Ok u) failed count kept said is = elim (cases_lt (failures_of old) (failures_of mid)) [
+  finished_unfailed (Ok u) failed count unchanged said is = elim (cases_lt (failures_of old) (failures_of mid)) [
     | inl lt ↦
         let bad : Ok u ≡ Err faults.OutputFailed = failed lt in
         absurd cc
     | inr ge ↦
         let same : failures_of mid ≡ failures_of old = omega arith in
-        kept ∙ same
+        unchanged ∙ same
   ]
-  finished_unfailed (Err fault) failed count kept said is = absurd (never_zero fault (sym said.status_is ∙ is))
+  finished_unfailed (Err fault) failed count unchanged said is = absurd (never_zero fault (sym said.status_is ∙ is))
 
   -- where the input failed, nothing was written
   finished_unwritten : {X : Type 0} (ran : Result X RunFault) → IsErrOf ran faults.InputFailed → IfErr ran (λ fault. fault ≢ faults.OutputFailed → mid ≡ old)
@@ -110,7 +110,7 @@ module _ {W : Type 0} (contents : W → Option (List ℕ)) (remaining : Option (
       let same : fault ≡ faults.InputFailed = cc in
       let four : status ≡ 4 = said.status_is ∙ ap status_of same in (
         four,
-        said.kept (λ one. absurd (omega (arith, four, one)))
+        said.unchanged (λ one. absurd (omega (arith, four, one)))
             ∙ unwritten (λ output. let bad : faults.InputFailed ≡ faults.OutputFailed = sym same ∙ output in absurd cc),
       )
 

@@ -13,7 +13,7 @@ use Rattle.jslit.specs.ChoiceEvents.{choice_at, choice_events}
 use Rattle.jslit.specs.ReportText.{class_text, entry_text, event_name, from_lines, interleaving_text, line, names_text, owned_name, quick_text, registers_text, report_text, verdict_text, yes_or_no}
 use Rattle.jslit.specs.declared.verdict.Verdict.{Verdict}
 use Rattle.jslit.specs.Internal.FirstEntry.{entry_of_option}
-use Rattle.jslit.specs.Internal.Sharing.{first_head, first_value, outcome_head, outcome_text, order_line, register_head}
+use Rattle.jslit.specs.Internal.EntryCache.{first_head, first_value, outcome_head, outcome_text, order_line, register_head}
 use Rattle.jslit.proofs.Registers.{register_last, registers_split}
 
 -- a blank, an agent's name, what stands behind it, and a number

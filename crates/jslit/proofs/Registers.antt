@@ -4,7 +4,7 @@ use Rattle.std.proofs.lemmas.List.{drop_more, drop_all, take_all, length-drop, a
 use Rattle.std.specs.Fmt.{decimal}
 use Rattle.lit_read.specs.Syntax.{Litmus, agent_of}
 use Rattle.jslit.specs.ReportText.{register_text, registers_text}
-use Rattle.jslit.specs.Internal.Sharing.{first_head, first_value, register_head}
+use Rattle.jslit.specs.Internal.EntryCache.{first_head, first_value, register_head}
 
 pub registers_more : (t : Litmus) (names : List (ℕ × ℕ)) (values : List ℕ) (i : ℕ) (d : ℕ × ℕ) (v : ℕ) → i < length names → i < length values
     → registers_text t (drop i names) (drop i values) ≡ register_text t (get_or names i d, get_or values i v) ++ registers_text t (drop (i + 1) names) (drop (i + 1) values)

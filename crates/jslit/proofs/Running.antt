@@ -1,4 +1,4 @@
--- What a run comes to: one whose input could not be read, and one that answers on a text.
+-- The effect of a run whose input could not be read, and of one that answers on a text.
 use Rattle.std.proofs.Common.{◌≡◌, ◌≢◌, ◌⊎◌, ◌+◌, ◌-◌, ◌^◌, ◌<◌, inl, inr, ℕ, List, Option, Some, None, Ok, Err, IfErr, IsErrOf, OnOk, arith, refl, sym, ap, subst}
 use Rattle.std.specs.declared.result.Result.{Result}
 use Rattle.std.specs.Io.KnownBytes.{Consumes}
@@ -102,16 +102,16 @@ module _ {R W X : Type 0} (remaining : R → Option (List ℕ)) (contents : W �
             whole = λ _ _. whole_told _ _ text told consumes;
           }
       | inr other ↦
-          let kept : failures_of new ≡ failures_of old = ap failures_of (unwritten other) in record {
+          let unchanged : failures_of new ≡ failures_of old = ap failures_of (unwritten other) in record {
             answered = tt;
             refused = record { text = text; is_told = told; holds = refused };
             input_failed = (
               λ bad. let is : e ≡ faults.InputFailed = cc in absurd (subst IsOfTextOrWriting is of_text),
               λ lt. absurd (omega (arith, same, lt)),
             );
-            output_failed = (λ bad. let is : e ≡ faults.OutputFailed = cc in absurd (other is), λ lt. absurd (omega (arith, kept, lt)));
+            output_failed = (λ bad. let is : e ≡ faults.OutputFailed = cc in absurd (other is), λ lt. absurd (omega (arith, unchanged, lt)));
             input_count = omega (arith, same);
-            output_count = omega (arith, kept);
+            output_count = omega (arith, unchanged);
             begun = λ bad. let is : e ≡ faults.OutputFailed = cc in absurd (other is);
             unwritten = unwritten;
             consumed = consumed;

@@ -116,8 +116,8 @@ name_whole (b ∷ bs) is =
     rw (in_word b parts.0, name_whole bs parts.1) refl
 
 -- ---- a schedule that is read up to a member
--- The agents read so far: they are known, with the turns that are left they make the whole, and where the whole names
--- agents, so does what is left.
+-- The agents read so far: they are known, with the remaining turns they make the whole, and where the whole names
+-- agents, so does the rest.
 pub record IsReadTo (t : Litmus) (schedule : List ℕ) (agents : List ℕ) (rest : Option (List ℕ)) : Type 0 where
   pub known : All (λ agent. agent < length t.agents) agents
   pub told : (xs : List ℕ) → turns_text t xs ≡ rest → turns_text t (agents ++ xs) ≡ some_text schedule
@@ -143,14 +143,14 @@ whole_of t [] (agent ∷ agents) is = absurd cc
 whole_of t (b ∷ bs) [] is = absurd cc
 whole_of t (b ∷ bs) (agent ∷ agents) is = sym (ap (λ (o : Option (List ℕ)). unwrap_or o (b ∷ bs)) is)
 
--- where nothing is left, the schedule names the agents read
+-- where the rest is empty, the schedule names the agents read
 pub read_whole : (t : Litmus) (schedule agents : List ℕ) → IsReadTo t schedule agents None → NamesAgents t schedule agents
 read_whole t schedule agents read = record {
   known = read.known;
   is = whole_of t schedule agents (sym (ap (turns_text t) (append-nil agents)) ∙ read.told [] refl);
 }
 
--- the names of what is left
+-- the names of the rest
 module _ (t : Litmus) (litmus : IsLitmus t) (left member : List ℕ) (after : Option (List ℕ)) (parts : left ≡ member ++ behind_comma after) (whole : list_all is_no_comma member ≡ true) where
   -- its first agent has the member's name, and the others are named behind its comma
   first_named : (xs : List ℕ) → All (λ agent. agent < length t.agents) xs → turns_text t xs ≡ Some left

@@ -160,7 +160,7 @@ module _ (t : Litmus) (events : List Event) where
   pub lines_more : (part : List Event) (i : ℕ) (d : Event) (ws : List ℕ) → i < length part → lines_from t events (drop i part) ws ≡ read_line t events (get_or part i d) ws ++ lines_from t events (drop (i + 1) part) (rest_after (get_or part i d) ws)
   lines_more part i d ws lt = at_drop_more (λ (es : List Event). lines_from t events es ws) part i d lt
 
--- how many sources are left
+-- how many sources the remaining events have
 by_kind : (n : ℕ) (e : Event) (ws : List ℕ) (rest : List (ℕ × ℕ)) (b : Bool) → does_read e.kind ≡ b → length ws ≡ length (bytes_read_by n e ++ rest) → length (cond b (drop e.size ws) ws) ≡ length rest
 by_kind n e ws rest true is long = omega (arith, long, length-append (bytes_read_by n e) rest, length-read_by n e is, length-drop e.size ws)
 by_kind n e ws rest false is long = let none : length (bytes_read_by n e) ≡ 0 = rw is refl in omega (arith, long, length-append (bytes_read_by n e) rest)
@@ -175,7 +175,7 @@ room events i d ws lt long reads =
     let e = get_or events i d in
     omega (arith, long ∙ ap length (at_drop_more (byte_reads_from i) events i d lt), length-append (bytes_read_by i e) (byte_reads_from (i + 1) (drop (i + 1) events)), length-read_by i e reads)
 
--- the sources that are left are known, as all of them are
+-- the remaining sources are known, as all of them are
 known_by : (n size : ℕ) (ws : List ℕ) (b : Bool) → All (λ w. w < n) ws → All (λ w. w < n) (cond b (drop size ws) ws)
 known_by n size ws true h = All-drop (λ w. w < n) size ws h
 known_by n size ws false h = h

@@ -44,7 +44,7 @@ pub record IsQuickReportOf (test : Litmus) (answer : List ℕ) : Type 0 where
       → IsVerdict test report (verdict_of (is_some met) (is_some unmet))
   pub is : answer ≡ quick_text test met unmet (verdict_of (is_some met) (is_some unmet))
 
--- of both the one that is asked for
+-- the quick report or the whole one
 abbrev pub IsAnswerOf : (quick : Bool) → (test : Litmus) → (answer : List ℕ) → Type 0
 IsAnswerOf true test answer = IsQuickReportOf test answer
 IsAnswerOf false test answer = IsReportOf test answer

@@ -28,7 +28,7 @@ pub record ConsumesBeginning (old new : Option (List ℕ)) (limit : ℕ) : Type 
 abbrev pub ConsumesTold : Option (List ℕ) → Option (List ℕ) → Type 0
 ConsumesTold old new = IfSome (told old) (Consumes old new)
 
--- known bytes grow by a beginning of these
+-- known bytes grow by a beginning of these bytes
 pub record AppendsBeginning (old new : Option (List ℕ)) (bytes : List ℕ) : Type 0 where
   pub front : List ℕ
   pub rest : List ℕ

@@ -5,9 +5,9 @@ pub mod FirstEntry
 pub mod Answering
 pub mod ReadLine
 pub mod Judging
-pub mod Keeping
-pub mod Lining
-pub mod Sharing
+pub mod CachedText
+pub mod CachedLines
+pub mod EntryCache
 pub mod Writing
 pub mod Command
 pub mod Saying

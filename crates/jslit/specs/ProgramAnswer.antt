@@ -18,7 +18,7 @@ abbrev pub IsFaultBy : Option Text → (text : List ℕ) → RunFault → Type 0
 IsFaultBy None text fault = IsFaultOn text fault
 IsFaultBy (Some schedule) text fault = IsScheduleFaultOn schedule text fault
 
--- What the program comes to: help or the version where the words ask for it, the status 2 where they are refused, 3 where memory ran out,
+-- The effect of the program: help or the version where the words ask for it, the status 2 where they are refused, 3 where memory ran out,
 -- and else a run on what the input tells, or on a file, of whose bytes nothing is known; then the input is as it was.
 pub record HasAnswered {R W : Type 0} (remaining : R → Option (List ℕ)) (contents : W → Option (List ℕ)) (words : List Text) (status : ℕ)
     (old_input new_input : Counted R) (old new : Counted W) : Type 0 where

@@ -1,4 +1,4 @@
--- The text of a report, and of what a schedule comes to, as bytes (this project's own).
+-- The text of a report, and of the outcome of a schedule, as bytes (this project's own).
 use Rattle.std.specs.Prelude.{ℕ, ◌==◌, Bool, true, false, Option, None, Some, List, [], ◌∷◌, ◌++◌, length, map, filter, codes}
 use Rattle.std.specs.List.{flat_map, zip}
 use Rattle.std.specs.Fmt.{decimal}

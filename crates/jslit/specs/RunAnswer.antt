@@ -1,4 +1,4 @@
--- What a run on a reader and a writer comes to, and the program's status after it (this project's own).
+-- The effect of a run on its reader and its writer, and the program's status after it (this project's own).
 use Rattle.std.specs.Prelude.{◌≡◌, ◌≢◌, ◌⊎◌, ◌↔◌, ◌<◌, ◌≤◌, ◌+◌, ℕ, List, Option, Result, IfErr, IsErrOf, OnOk}
 use Rattle.lit_read.specs.declared.limits.TheConstants.{TEXT_LIMIT}
 use Rattle.jslit.specs.declared.counted.Counted.{Counted}
@@ -12,7 +12,7 @@ use Rattle.jslit.specs.Devices.{ConsumesBeginning, ConsumesTold, OfToldText}
 pub record HasRun {R W T : Type 0} (remaining : R → Option (List ℕ)) (contents : W → Option (List ℕ))
     (IsAnswer : (text answer : List ℕ) → Type 0) (IsFault : (text : List ℕ) → RunFault → Type 0)
     (result : Result T RunFault) (old_input new_input : Counted R) (old new : Counted W) : Type 0 where
-  -- The writer holds what it held, and then the answer.
+  -- The writer has the bytes that it had, and then the answer.
   pub answered : OnOk result (OfToldText (remaining (device_of old_input))
       (λ text. HasGrown (IsAnswer text) (contents (device_of old)) (contents (device_of new))))
   pub refused : IfErr result (λ fault. OfToldText (remaining (device_of old_input)) (λ text. IsFault text fault))
@@ -30,7 +30,7 @@ pub record HasRun {R W T : Type 0} (remaining : R → Option (List ℕ)) (conten
   pub whole : ¬ IsErrOf result faults.InputFailed → ¬ IsErrOf result faults.OutOfMemory
       → ConsumesTold (remaining (device_of old_input)) (remaining (device_of new_input))
 
--- What a run on what a reader tells comes to, by the program's status: with 0 the output took the whole answer, and no write
+-- The effect of a run on the bytes that a reader tells, by the program's status: with 0 the output took the whole answer, and no write
 -- failed; with 1 the line of the refusal, or a beginning of it where a write failed; with 4 an input or output failed, or
 -- flushing the whole answer did, and the output took a beginning of the answer or nothing.
 pub record HasServed {W : Type 0} (contents : W → Option (List ℕ)) (told : Option (List ℕ)) (input_failed : Type 0)

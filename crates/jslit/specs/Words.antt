@@ -11,7 +11,7 @@ use Rattle.clap.specs.declared.builder.value_parser.ValueParser.TheVariants as p
 use Rattle.clap.specs.declared.error.kind.ErrorKind.{ErrorKind}
 use Rattle.clap.specs.declared.error.kind.ErrorKind.TheVariants as kinds
 use Rattle.lit_share.specs.declared.limits.TheConstants.{CUT_LIMIT, WORKER_LIMIT}
-use Rattle.jslit.specs.declared.command.asked_line.Line.{Line}
+use Rattle.jslit.specs.declared.command.asked_line.CommandLine.{CommandLine}
 
 -- a flag with a value, a flag with none, and the file
 abbrev pub valued_flag : Text → Rule
@@ -36,7 +36,7 @@ jslit_command =
     (number_flag (codes "workers") WORKER_LIMIT)) (number_flag (codes "cut") CUT_LIMIT)) (bare_flag (codes "quick")))
     (valued_flag (codes "schedule"))) file_argument
 
--- of what was read: the quick report is asked for, and a flag of a report stands there
+-- whether the flags that were read ask for the quick report, and whether one of them is a flag of a report
 abbrev pub is_quick : List Row → Bool
 is_quick rows = option_map_or (λ text. bytes_eq text (codes "true")) (first_of (codes "quick") rows) false
 
@@ -75,7 +75,7 @@ abbrev pub IsRefused : List Text → Type 0
 IsRefused words = (kind : ErrorKind) × IsAmong kind (faults_of words) × (kind ≢ kinds.DisplayHelp) × (kind ≢ kinds.DisplayVersion)
 
 -- the line is that of these words
-pub record IsAsked (words : List Text) (line : Line) : Type 0 where
+pub record IsAsked (words : List Text) (line : CommandLine) : Type 0 where
   pub run : AsksRun words
   pub quick : line.options.quick ≡ quick_in words
   pub schedule : option_map (λ s. s.now) line.schedule ≡ schedule_in words

@@ -16,14 +16,14 @@ ghost use Rattle.jslit.specs.RunAnswer.{HasServed};
 ghost use Rattle.jslit.specs.Internal.Saying.{HasSaid, IsExplained, IsSaid};
 ghost use Rattle.clap.specs.Words.{kind_of};
 
-use crate::command::asked_line::Line;
+use crate::buffer::refusal_writer::{write_plan_fault, write_read_fault, write_unknown_agent};
+use crate::command::asked_line::CommandLine;
 use crate::command::words::line;
 use crate::counted::Counted;
 use crate::engine::answering::passes;
 use crate::engine::{Options, run_watched};
 use crate::fault::RunFault;
 use crate::interleaving::run_schedule;
-use crate::page::refusing::{write_plan_fault, write_read_fault, write_unknown_agent};
 use crate::watch::Watch;
 use clap::Error;
 use clap::error::ErrorKind;
@@ -104,7 +104,7 @@ fn serve<T: Threads + Sync, R: Read, W: Write, E: Write, G: Watch<Pass = ()>>(
     input: &mut Counted<R>,
     output: &mut Counted<W>,
     errors: &mut E,
-    line: &Line<'_>,
+    line: &CommandLine<'_>,
     watch: &G,
 ) -> u8
     requires input { failures_of input.old < 2 ^ 64 - 1 }
@@ -165,7 +165,7 @@ pub fn check_watched<T: Threads + Sync, R: Read, W: Write, E: Write, G: Watch<Pa
     finish(output, errors, ran)
 }
 
-/// Prints what a schedule comes to on the litmus text of the input, or one line that says why there is nothing to print.
+/// Prints the outcome of a schedule on the litmus text of the input, or one line that says why there is none.
 /// Gives the status: 0 for the schedule's outcome, 1 for a text or schedule that is refused, 3 where memory ran out, 4 for
 /// an input or output that failed.
 pub fn check_schedule<R: Read, W: Write, E: Write>(
@@ -186,7 +186,7 @@ pub fn check_schedule<R: Read, W: Write, E: Write>(
     finish(output, errors, ran)
 }
 
-/// Flushes what a run wrote, or prints why it wrote nothing. Gives the status.
+/// Flushes what a run wrote, or prints why it wrote nothing. Gives the status (decision 74).
 fn finish<W: Write, E: Write>(
     output: &mut Counted<W>,
     errors: &mut E,
@@ -213,7 +213,7 @@ fn say<W: Write, E: Write>(output: &mut Counted<W>, errors: &mut E, fault: RunFa
     ensures status { result ≡ status_of fault }
     ensures refused { result ≡ 1 → HasSaid fault (W.contents (device_of output.old)) (W.contents (device_of output.new))
         (failures_of output.old < failures_of output.new) }
-    ensures kept { result ≢ 1 → output.new ≡ output.old }
+    ensures unchanged { result ≢ 1 → output.new ≡ output.old }
 {
     match fault {
         RunFault::Read(fault) => {
@@ -245,7 +245,7 @@ fn say<W: Write, E: Write>(output: &mut Counted<W>, errors: &mut E, fault: RunFa
 /// Prints what `clap` answers to words that ask for no run: the help, the version, or what is wrong with them. Gives the status.
 fn explain<W: Write, E: Write>(output: &mut Counted<W>, errors: &mut E, error: &Error) -> u8
     ensures status { IsExplained (kind_of error.now) result }
-    ensures kept { result ≢ 0 → output.new ≡ output.old }
+    ensures unchanged { result ≢ 0 → output.new ≡ output.old }
 {
     match error.kind() {
         ErrorKind::OutOfMemory => say(output, errors, RunFault::OutOfMemory),
@@ -262,7 +262,7 @@ fn explain<W: Write, E: Write>(output: &mut Counted<W>, errors: &mut E, error: &
 }
 
 /// Prints why the words of the command line could not be read, and gives the status: 3 where memory ran out, and else 2,
-/// for words that are not text.
+/// for words that are not text (decision 76).
 pub fn no_words<E: Write>(errors: &mut E, error: &io::Error) -> u8
     ensures memory { error_kind error.now ≡ OutOfMemory → result ≡ 3 }
     ensures other { error_kind error.now ≢ OutOfMemory → result ≡ 2 }

@@ -5,7 +5,7 @@ use std::io::{Read, Write};
 
 /// A reader or writer, with a count of its failed reads and writes. The count stays at `u64::MAX`.
 ///
-/// A read or write that answers an error has failed, and so has a write that takes nothing of bytes that are not empty.
+/// A read or write that answers an error has failed, and so has a write that takes nothing of bytes that are not empty (decision 54).
 #[derive(Drop)]
 pub struct Counted<D> {
     device: D,

@@ -19,13 +19,13 @@ use std::alloc::Global;
 use std::io::{Read, Write};
 use std::thread::Threads;
 
-/// How the work is done, and which report is asked for. Neither the number of workers nor the cutting changes the answer.
+/// How the work is done, and which report the caller wants. Neither the number of workers nor the cutting changes the answer.
 #[derive(Clone, Copy, Debug, PartialEq, Eq)]
 pub struct Options {
     /// How many workers search: 1 to `WORKER_LIMIT` of `lit_share`, 16.
     pub workers: usize,
     /// How many choices a piece of the work has at the least: 1 to `CUT_LIMIT` of `lit_share`, 2^48. A worker alone has one
-    /// piece; several have at most 16 or 64, or 256 where each piece has its own sources of bytes that registers hold at the end.
+    /// piece; several have at most 16 or 64, or 256 where each piece has its own sources of observed bytes (decision 63).
     pub cut: u64,
     /// Whether the report is the quick one: of each class of outcomes the first choice alone.
     pub quick: bool,
@@ -39,7 +39,7 @@ pub struct Options {
 /// test once it is known. Neither count of failures stands at `u64::MAX` before.
 ///
 /// Answers `RunFault::Read` with the first fault of a text that spells no test, and `RunFault::Plan` with the limit that
-/// a test passes. `RunFault::InputFailed` and `RunFault::OutputFailed` come where a read or a write failed, and then
+/// a test exceeds. `RunFault::InputFailed` and `RunFault::OutputFailed` come where a read or a write failed, and then
 /// alone; `RunFault::OutOfMemory` where a growth was refused. Nothing is written but after `RunFault::OutputFailed`, which
 /// leaves a beginning of the report.
 pub fn run<T: Threads + Sync, R: Read, W: Write>(
@@ -57,8 +57,8 @@ pub fn run<T: Threads + Sync, R: Read, W: Write>(
     run_watched(rt, alloc, input, output, options, &OpenGate, passes)
 }
 
-/// This is `run`, followed by what its workers pass: on entering each piece, each worker with a pass of its own. There are
-/// as many passes as workers. Neither the watch nor the passes change the answer.
+/// This is `run` with a watch, which each worker passes on entering a piece, with a pass of its own. There are as many passes as
+/// workers. Neither the watch nor the passes change the answer.
 pub fn run_watched<T: Threads + Sync, R: Read, W: Write, G: Watch>(
     rt: &T,
     alloc: Global,

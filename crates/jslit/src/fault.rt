@@ -32,7 +32,7 @@ pub enum RunFault {
     OutputFailed,
 }
 
-/// That memory ran out is a fault of the run.
+/// That memory ran out is a fault of the run (decision 55).
 impl From<ReadFault> for RunFault {
     ghost use Rattle.jslit.specs.Internal.Faults.{IsOfReader};
 
@@ -46,7 +46,7 @@ impl From<ReadFault> for RunFault {
     }
 }
 
-/// That memory ran out is a fault of the run.
+/// That memory ran out is a fault of the run (decision 55).
 impl From<PlanFault> for RunFault {
     ghost use Rattle.jslit.specs.Internal.Faults.{IsOfPlan};
 

@@ -1,4 +1,4 @@
-//! From the bytes of a litmus text and of a schedule to the bytes of what the schedule comes to.
+//! From the bytes of a litmus text and of a schedule to the bytes of the schedule's outcome.
 
 pub(crate) mod schedule;
 
@@ -12,11 +12,11 @@ ghost use Rattle.jslit.specs.ReportText.{interleaving_text};
 ghost use Rattle.jslit.specs.RunAnswer.{HasRun};
 ghost use Rattle.jslit.specs.Internal.Answering.{IsOfTextOrWriting};
 
+use crate::buffer::Buffer;
+use crate::buffer::report_writer::{put_head, put_registers, word_for};
 use crate::counted::Counted;
 use crate::fault::RunFault;
 use crate::interleaving::schedule::agents_of;
-use crate::page::Page;
-use crate::page::reporting::{put_head, put_registers, word_for};
 use crate::reading::read_text;
 use lit_paths::{meets, written_names};
 use lit_read::{Test, read};
@@ -40,18 +40,18 @@ fn write_interleaving<W: Write>(
     ensures failed { OnErr result (failures_of output.new ≡ one_more (failures_of output.old)) }
     ensures fault { IfErr result (λ fault. fault ≡ RunFault.OutputFailed) }
 {
-    let mut page = Page::new();
-    put_head(&mut page, output, test);
-    page.put(output, b"interleaving");
+    let mut buffer = Buffer::new();
+    put_head(&mut buffer, output, test);
+    buffer.put(output, b"interleaving");
     let names = written_names(test);
-    put_registers(&mut page, output, test, names.as_slice(), outcome);
-    page.put(output, b"\nmeets ");
-    page.put(output, word_for(meets(test, outcome)));
-    page.put(output, b"\n");
-    page.finish(output)
+    put_registers(&mut buffer, output, test, names.as_slice(), outcome);
+    buffer.put(output, b"\nmeets ");
+    buffer.put(output, word_for(meets(test, outcome)));
+    buffer.put(output, b"\n");
+    buffer.finish(output)
 }
 
-/// Writes what is answered for a text and a schedule. Where there is nothing to answer, nothing is written.
+/// Writes the answer for a text and a schedule. Where there is none, it writes nothing.
 fn answer_schedule<W: Write>(
     alloc: Global,
     text: &[u8],
@@ -74,7 +74,7 @@ fn answer_schedule<W: Write>(
     write_interleaving(output, &test, &outcome)
 }
 
-/// Reads a litmus text as `run` does, and writes what a schedule comes to: the outcome where the agents carry out their
+/// Reads a litmus text as `run` does, and writes the outcome of a schedule, where the agents carry out their
 /// statements in these turns, each access at once, and whether it meets the condition. The schedule is the names of
 /// agents, joined by commas, with no blanks; the empty text is the schedule without turns. After the last turn each
 /// agent carries out what it has left, in order. Neither count of failures stands at `u64::MAX` before.

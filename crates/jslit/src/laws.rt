@@ -1,4 +1,4 @@
-//! What the definitions of the headline come to.
+//! Laws on the answers of a run. The functions compute nothing: their contracts are theorems.
 
 ghost use Rattle.std.specs.Prelude.{◌≡◌, ◌≤◌, ℕ, Bool, false, List, length};
 ghost use Rattle.lit_read.specs.Syntax.{Litmus};
@@ -35,7 +35,7 @@ pub fn quick_answers_are_reported()
         → IsReport t (in_range 0 (length (choices_of t))) report → HasEntry report.entries entry }
 {}
 
-/// What a schedule comes to on a text is that of an outcome in the text's report, and no report is empty.
+/// The answer for a schedule on a text is that of an outcome in the text's report, and no report is empty.
 pub fn schedules_are_reported()
     ensures reported { (schedule text answer whole : List ℕ) → IsInterleavingOn schedule text answer → (on : IsAnswerOn false text whole)
         → IsOfEntry on.test on.of_test.report answer }

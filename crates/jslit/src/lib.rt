@@ -8,19 +8,19 @@
 //! contracts, and say how a fault of a lower crate becomes one of a run.
 #![tactic(auto)]
 
+mod buffer;
 mod command;
 mod counted;
 mod engine;
 mod fault;
 mod interleaving;
 pub mod laws;
-mod page;
 mod progress;
 mod reading;
 mod verdict;
 mod watch;
 
-pub use command::asked_line::Line;
+pub use command::asked_line::CommandLine;
 pub use command::version::VERSION;
 pub use command::words::line;
 pub use command::{check, check_schedule, check_watched, no_words, program, program_watched};

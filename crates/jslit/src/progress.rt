@@ -1,4 +1,4 @@
-//! A line on a terminal that tells how far a run is.
+//! A line of progress on a terminal (decision 61).
 
 use crate::watch::Watch;
 use lit_share::Gate;
@@ -11,7 +11,7 @@ use std::time::Instant;
 /// How long a run goes on before a line is shown, in seconds.
 const QUIET: u64 = 2;
 
-/// At every one of so many heartbeats the clock is read, which takes as long as some of the frames between them.
+/// The clock is read at one of so many heartbeats, since reading it takes as long as some frames of the search.
 const BEATS: u64 = 4_096;
 
 /// Shows one line that renews itself, once a second at the most, on entering a piece and while outcomes are searched: how many
@@ -61,6 +61,7 @@ impl<C: Clock, E: Write> Progress<'_, C, E> {
         }
         let begun = self.begun.load(Ordering::SeqCst);
         let pieces = self.pieces.load(Ordering::SeqCst);
+        // No worker waits for the terminal: where another one writes to it, this one shows nothing.
         if let Some(mut terminal) = self.terminal.try_lock() {
             let _ = write!(*terminal, "\r{begun} of {pieces} pieces begun, {seconds} s");
             let _ = terminal.flush();

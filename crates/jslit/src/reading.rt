@@ -15,11 +15,10 @@ use std::io::Read;
 /// How many bytes are read at the most: one more than a text may have.
 const READ_LIMIT: usize = TEXT_LIMIT + 1;
 
-/// How many bytes are asked for at a time.
+/// How many bytes one read asks for at the most.
 const CHUNK: usize = 4_096;
 
-/// Reads once, into this room, and puts what was read behind the text. Gives how many bytes that were, which is none
-/// at the input's end alone.
+/// Reads once, into this room, and appends the bytes to the text. Gives how many there were: none only at the input's end.
 fn read_some<R: Read>(
     input: &mut Counted<R>,
     room: &mut [u8],
@@ -43,7 +42,7 @@ fn read_some<R: Read>(
     }
 }
 
-/// The bytes of the input, up to its end or to `READ_LIMIT`. No byte behind them is asked for.
+/// The bytes of the input, up to its end or to `READ_LIMIT`. It reads no byte behind them.
 pub(crate) fn read_text<R: Read>(alloc: Global, input: &mut Counted<R>) -> Result<Vec<u8>, RunFault>
     requires { failures_of input.old < 2 ^ 64 - 1 }
     ensures text { IfOk result (λ text. IsTold (R.remaining (device_of input.old)) text.items) }

@@ -9,7 +9,7 @@ ghost use Rattle.jslit.specs.Internal.Judging.{AllAnswer, SomeAnswers};
 use lit_paths::Plan;
 use lit_search::Found;
 
-/// What is true of the outcomes of a test and its condition.
+/// The verdict on a test: whether all, some or none of its outcomes meet its condition.
 #[derive(Clone, Copy, Debug, PartialEq, Eq)]
 pub enum Verdict {
     /// There is an outcome, and all meet the condition.

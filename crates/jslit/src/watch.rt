@@ -1,9 +1,9 @@
-//! What follows a run as it goes on.
+//! Watches: each follows a run while it goes on.
 
 use lit_share::{Gate, OpenGate};
 
-/// Follows a run: workers pass it on entering each piece, and it is told how many pieces there are, and when the search is
-/// over. The answer of a run does not depend on it.
+/// Follows a run: workers pass it on entering each piece, and the run tells it how many pieces there are and when the search is over. The
+/// answer of a run does not depend on it.
 pub trait Watch: Gate {
     /// A search begins, of so many pieces. A run calls this once at the most, before any piece is entered.
     fn begin(&self, pieces: u64);

@@ -4,8 +4,8 @@ use std::io;
 use std::io::Write;
 use std::rt::Files;
 
-/// Writes to standard error where that is a terminal, and else nowhere. Which it is, is asked at the first write, so that a
-/// short run asks nothing.
+/// Writes to standard error where that is a terminal, and else nowhere. It asks the system at the first write, so that a short run asks
+/// nothing (decision 62).
 #[derive(Drop)]
 pub(crate) struct Terminal<'a, R, E> {
     rt: &'a R,

@@ -52,7 +52,7 @@ impl Read for Broken {
     }
 }
 
-/// Takes at most so many bytes a call, keeps them, and takes no more than it has room for.
+/// Takes at most so many bytes a call, saves them, and takes no more than it has room for.
 #[derive(Drop)]
 struct Narrow {
     taken: Vec<u8>,
@@ -221,7 +221,7 @@ fn input_fails(rt: HostRuntime) -> Result<(), Fail> {
     Ok(())
 }
 
-/// Keeps what it takes, and counts how often it is flushed, which fails.
+/// Saves the bytes that it takes, and counts how often it is flushed, which fails.
 #[derive(Drop)]
 struct Unflushed {
     taken: Vec<u8>,

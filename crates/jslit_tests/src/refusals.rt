@@ -260,7 +260,7 @@ check A.r0 == 0
     prints(&rt, text.as_bytes(), b"refused 9 out_of_block line 4\n", 1)
 }
 
-/// That a text, which has a line again and again, is refused with this line.
+/// That a text, which repeats a line many times, is refused with this line.
 fn is_refused(
     rt: &(impl Threads + Sync + Files + Abort + AllocGlobal),
     beginning: &str,

@@ -1,4 +1,4 @@
-//! What schedules come to.
+//! The outcomes of schedules.
 
 use super::calls::answers;
 use jslit::{Counted, check_schedule, run_schedule};
@@ -114,7 +114,7 @@ meets yes
 /// Schedules of store buffering that name no agents: empty members, blanks, and another case.
 const UNKNOWN: [&str; 8] = [",", "A,", ",A", "A B", " A", "A, B", "a", "AB"];
 
-/// That a schedule comes to these bytes, or to the line of its fault with nothing written.
+/// That the answer for a schedule is these bytes, or the line of its fault with nothing written.
 fn comes_to(
     rt: &(impl Abort + AllocGlobal),
     text: &str,

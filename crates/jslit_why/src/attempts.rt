@@ -11,26 +11,26 @@ use lit_why::Attempt;
 
 /// How many attempts a clause refuses, and the first of them, by its least choice.
 #[derive(Clone, Copy, Debug, PartialEq, Eq)]
-pub(crate) struct Row {
+pub(crate) struct ClauseCount {
     pub count: u64,
     pub first: Option<u64>,
 }
 
-/// A row for each clause, in the order in which they are asked.
+/// A count for each clause, in the order in which the clauses are checked.
 #[derive(Drop)]
 pub(crate) struct Tally {
-    rows: [Row; CLAUSE_COUNT],
+    counts: [ClauseCount; CLAUSE_COUNT],
 }
 
 impl Tally {
     /// No attempts.
     fn new() -> Self {
-        let none = Row {
+        let none = ClauseCount {
             count: 0,
             first: None,
         };
         Tally {
-            rows: [none; CLAUSE_COUNT],
+            counts: [none; CLAUSE_COUNT],
         }
     }
 
@@ -43,10 +43,10 @@ impl Tally {
         let Some(refusal) = scene.refusal else {
             return;
         };
-        let row = &mut self.rows[place_of(refusal)];
-        row.count = row.count.saturating_add(1);
-        if row.first.is_none() {
-            row.first = Some(choice);
+        let counted = &mut self.counts[place_of(refusal)];
+        counted.count = counted.count.saturating_add(1);
+        if counted.first.is_none() {
+            counted.first = Some(choice);
         }
     }
 
@@ -64,10 +64,10 @@ impl Tally {
         tally
     }
 
-    /// The rows.
-    pub(crate) fn rows(&self) -> &[Row]
+    /// The counts, one for each clause.
+    pub(crate) fn counts(&self) -> &[ClauseCount]
         ensures { length result.now ≡ CLAUSES }
     {
-        &self.rows
+        &self.counts
     }
 }

@@ -1,4 +1,4 @@
-//! What refuses a choice, or its memory-order.
+//! The explanation of a choice: its refusal, or its memory-order.
 
 ghost use Rattle.std.specs.Prelude.{◌<◌, length};
 ghost use Rattle.lit_paths.specs.Choice.{choices_of};
@@ -16,31 +16,31 @@ use std::io::Write;
 /// Puts a choice with its least memory-order, or with the first clause that refuses it.
 pub(crate) fn explain_choice(
     alloc: Global,
-    page: &mut Vec<u8>,
+    buffer: &mut Vec<u8>,
     plan: &Plan<'_>,
     statements: &Statements,
     choice: u64,
 ) -> io::Result<()>
     requires { choice < length (choices_of plan.now) }
 {
-    // That numbers of choices are small is known of how many there are.
+    // Tells the prover that numbers of choices are small, so that one more fits.
     let total = plan.total();
-    writeln!(page, "test {}", plan.test().name())?;
-    writeln!(page, "choice {choice} of 0 to {}", total - 1)?;
+    writeln!(buffer, "test {}", plan.test().name())?;
+    writeln!(buffer, "choice {choice} of 0 to {}", total - 1)?;
     let scene = Scene::new(&*plan, statements, choice);
     if let Some(refusal) = scene.refusal {
         let clause = clause_of(refusal);
-        writeln!(page, "refused by {} ({})", clause.name, clause.section)?;
-        scene.put_sources(page)?;
-        return put_reason(alloc, page, &scene);
+        writeln!(buffer, "refused by {} ({})", clause.name, clause.section)?;
+        scene.put_sources(buffer)?;
+        return put_reason(alloc, buffer, &scene);
     }
     let Ok(found) = search_range(alloc, &*plan, choice, choice + 1) else {
         return Err(io::Error::from(io::ErrorKind::OutOfMemory));
     };
-    page.write_all(b"valid\n")?;
-    scene.put_sources(page)?;
+    buffer.write_all(b"valid\n")?;
+    scene.put_sources(buffer)?;
     if found.len() == 0 {
         return Ok(());
     }
-    scene.put_order(page, found.example(0).order.as_slice())
+    scene.put_order(buffer, found.example(0).order.as_slice())
 }

@@ -28,47 +28,47 @@ pub(crate) fn verdict_without(class: Class) -> &'static str {
 /// Puts an example of a class, or why there is none. At most so many attempts are looked at.
 pub(crate) fn explain_class(
     alloc: Global,
-    page: &mut Vec<u8>,
+    buffer: &mut Vec<u8>,
     plan: &Plan<'_>,
     statements: &Statements,
     class: Class,
     most: usize,
 ) -> io::Result<()> {
-    writeln!(page, "test {}", plan.test().name())?;
+    writeln!(buffer, "test {}", plan.test().name())?;
     match first_in(plan, class, 0, plan.total()) {
-        Some(choice) => put_example(alloc, page, plan, statements, choice),
-        None => put_attempts(alloc, page, plan, statements, class, most),
+        Some(choice) => put_example(alloc, buffer, plan, statements, choice),
+        None => put_attempts(alloc, buffer, plan, statements, class, most),
     }
 }
 
 /// Puts the line of an outcome, by its registers' names and values.
 fn put_outcome(
-    page: &mut Vec<u8>,
+    buffer: &mut Vec<u8>,
     test: &Test,
     names: &[(u8, u8)],
     values: &[u32],
 ) -> io::Result<()> {
-    page.write_all(b"outcome")?;
+    buffer.write_all(b"outcome")?;
     for (place, (agent, register)) in names.iter().enumerate() {
         if usize::from(*agent) < test.agents() && place < values.len() {
             let name = test.agent_name(usize::from(*agent));
-            write!(page, " {name}.r{register}={}", values[place])?;
+            write!(buffer, " {name}.r{register}={}", values[place])?;
         }
     }
-    page.write_all(b"\n")
+    buffer.write_all(b"\n")
 }
 
 /// Puts the outcome of a choice with its least memory-order. A choice without an outcome puts nothing.
 fn put_example(
     alloc: Global,
-    page: &mut Vec<u8>,
+    buffer: &mut Vec<u8>,
     plan: &Plan<'_>,
     statements: &Statements,
     choice: u64,
 ) -> io::Result<()>
     requires { choice < length (choices_of plan.now) }
 {
-    // That numbers of choices are small is known of how many there are.
+    // Tells the prover that numbers of choices are small, so that one more fits.
     let _total = plan.total();
     let Ok(found) = search_range(alloc, &*plan, choice, choice + 1) else {
         return Err(io::Error::from(io::ErrorKind::OutOfMemory));
@@ -76,16 +76,16 @@ fn put_example(
     if found.len() == 0 {
         return Ok(());
     }
-    put_outcome(page, plan.test(), plan.names(), found.outcome(0))?;
+    put_outcome(buffer, plan.test(), plan.names(), found.outcome(0))?;
     let scene = Scene::new(plan, statements, choice);
-    scene.put_sources(page)?;
-    scene.put_order(page, found.example(0).order.as_slice())
+    scene.put_sources(buffer)?;
+    scene.put_order(buffer, found.example(0).order.as_slice())
 }
 
 /// Puts how many attempts there are, and by which clauses their least choices are refused.
 fn put_attempts(
     alloc: Global,
-    page: &mut Vec<u8>,
+    buffer: &mut Vec<u8>,
     plan: &Plan<'_>,
     statements: &Statements,
     class: Class,
@@ -96,42 +96,46 @@ fn put_attempts(
     match attempts.len() {
         0 => {
             writeln!(
-                page,
+                buffer,
                 "{verdict}: no attempt, since no values that the reads can take come to it"
             )?;
-            page.write_all(b"  no path can make ")?;
-            put_core(alloc, page, plan, class == Class::Met)?;
-            return page.write_all(b" true\n");
+            buffer.write_all(b"  no path can make ")?;
+            put_core(alloc, buffer, plan, class == Class::Met)?;
+            return buffer.write_all(b" true\n");
         }
-        1 => writeln!(page, "{verdict}: 1 attempt")?,
+        1 => writeln!(buffer, "{verdict}: 1 attempt")?,
         count if count > most => writeln!(
-            page,
+            buffer,
             "{verdict}: more than {most} attempts; of the first {most}:"
         )?,
-        count => writeln!(page, "{verdict}: {count} attempts")?,
+        count => writeln!(buffer, "{verdict}: {count} attempts")?,
     }
     let tally = Tally::count_all(plan, statements, &attempts, most);
-    put_tally(alloc, page, plan, statements, &tally)
+    put_tally(alloc, buffer, plan, statements, &tally)
 }
 
-/// Puts each clause that refuses an attempt, how many it refuses, and the first of them with the reason.
+/// Puts each clause that refuses an attempt, how many it refuses, and the first of them with the reason (decision 78).
 fn put_tally(
     alloc: Global,
-    page: &mut Vec<u8>,
+    buffer: &mut Vec<u8>,
     plan: &Plan<'_>,
     statements: &Statements,
     tally: &Tally,
 ) -> io::Result<()> {
-    for (place, row) in tally.rows().iter().enumerate() {
-        let Some(choice) = row.first else {
+    for (place, counted) in tally.counts().iter().enumerate() {
+        let Some(choice) = counted.first else {
             continue;
         };
         let clause = clause_at(place);
-        writeln!(page, "{} {} ({})", clause.name, row.count, clause.section)?;
+        writeln!(
+            buffer,
+            "{} {} ({})",
+            clause.name, counted.count, clause.section
+        )?;
         if choice < plan.total() {
             let scene = Scene::new(&*plan, statements, choice);
-            scene.put_sources(page)?;
-            put_reason(alloc, page, &scene)?;
+            scene.put_sources(buffer)?;
+            put_reason(alloc, buffer, &scene)?;
         }
     }
     Ok(())

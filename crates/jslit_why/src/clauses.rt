@@ -14,7 +14,7 @@ pub(crate) struct Clause {
 /// How many clauses there are.
 pub(crate) const CLAUSE_COUNT: usize = 5;
 
-/// The clauses, in the order in which they are asked.
+/// The clauses, in the order in which they are checked.
 const CLAUSES: [Clause; CLAUSE_COUNT] = [
     Clause {
         name: "paths",

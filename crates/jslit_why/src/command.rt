@@ -10,14 +10,14 @@ use std::convert::AsStr;
 
 /// What the words ask for.
 #[derive(Clone, Copy, Debug, PartialEq, Eq)]
-pub(crate) struct Line<'a> {
+pub(crate) struct CommandLine<'a> {
     /// Whether the class is that of the outcomes that do not meet the condition.
     pub unmet: bool,
-    /// Whether a data race is asked for, in place of a class.
+    /// Whether the words ask for a data race, in place of a class.
     pub race: bool,
-    /// The choice that is asked for, in place of a class.
+    /// The choice that the words ask for, in place of a class.
     pub choice: Option<u64>,
-    /// The sources, and final values of registers, of the choice that is asked for, in place of a class.
+    /// The sources, and final values of registers, of the choice that the words ask for, in place of a class.
     pub from: Option<&'a str>,
     /// How many attempts are looked at, at the most.
     pub most: usize,
@@ -27,7 +27,7 @@ pub(crate) struct Line<'a> {
     pub file: Option<&'a str>,
 }
 
-/// How many attempts are looked at where the words say nothing.
+/// How many attempts are looked at where the words give no number.
 const MOST: usize = 1_000;
 
 /// The largest number of attempts that may be asked for.
@@ -82,7 +82,7 @@ fn from_flag<'a>(alloc: Global) -> Arg<'a> {
         .help("Ask for the choice with these sources, as in 'A.1=init[0] B.0=A.0,A.0 A.r0=0'")
 }
 
-/// What is said where several things are asked for.
+/// The message where the words ask for several things.
 fn exclusion(matches: &ArgMatches<'_>) -> Option<&'static str> {
     let unmet = matches.get_str("unmet") == Some("true");
     let race = matches.get_str("race") == Some("true");
@@ -134,7 +134,10 @@ fn command<'a>(alloc: Global) -> Result<Command<'a>, AllocError> {
 }
 
 /// What the words ask for: the program's name, its flags and at most one file.
-pub(crate) fn line_of<'a, S: AsStr>(alloc: Global, words: &'a [S]) -> Result<Line<'a>, Error> {
+pub(crate) fn line_of<'a, S: AsStr>(
+    alloc: Global,
+    words: &'a [S],
+) -> Result<CommandLine<'a>, Error> {
     let mut command = command(alloc)?;
     let matches = command.try_get_matches_from_mut(words)?;
     if let Some(text) = exclusion(&matches) {
@@ -146,7 +149,7 @@ pub(crate) fn line_of<'a, S: AsStr>(alloc: Global, words: &'a [S]) -> Result<Lin
             "the argument '--from <WORDS>' has words of the form EVENT=SOURCE[,SOURCE..] or AGENT.rN=VALUE";
         return Err(command.error(ErrorKind::ValueValidation, text)?);
     }
-    Ok(Line {
+    Ok(CommandLine {
         unmet: matches.get_str("unmet") == Some("true"),
         race: matches.get_str("race") == Some("true"),
         choice: matches.get_one("choice"),

@@ -1,4 +1,4 @@
-//! Why no values that reads can take come to a condition: a least part of it to which none come, an unsatisfiable core.
+//! Unsatisfiable cores: a least part of a condition that no values of reads make true (decision 114).
 
 use lit_paths::{Plan, PlanFault, plan};
 use lit_read::{Cond, ReadKind, Test, read, show};
@@ -49,36 +49,41 @@ fn push_each<'c>(
 /// Puts conditions, or their negations, with a sign between them, in parentheses.
 #[cycle(conditions)]
 fn put_joined(
-    page: &mut Vec<u8>,
+    buffer: &mut Vec<u8>,
     test: &Test,
     conditions: &[Cond],
     holds: bool,
     sign: &str,
 ) -> io::Result<()> {
-    page.write_all(b"(")?;
+    buffer.write_all(b"(")?;
     for (place, condition) in conditions.iter().enumerate() {
         if place > 0 {
-            page.write_all(sign.as_bytes())?;
+            buffer.write_all(sign.as_bytes())?;
         }
-        put_condition(page, test, condition, holds)?;
+        put_condition(buffer, test, condition, holds)?;
     }
-    page.write_all(b")")
+    buffer.write_all(b")")
 }
 
 /// Puts a condition, or its negation, without a `!`.
 #[cycle(conditions)]
-fn put_condition(page: &mut Vec<u8>, test: &Test, condition: &Cond, holds: bool) -> io::Result<()> {
+fn put_condition(
+    buffer: &mut Vec<u8>,
+    test: &Test,
+    condition: &Cond,
+    holds: bool,
+) -> io::Result<()> {
     match condition {
-        Cond::Not(inner) => put_condition(page, test, inner, !holds),
+        Cond::Not(inner) => put_condition(buffer, test, inner, !holds),
         Cond::All(inner) => put_joined(
-            page,
+            buffer,
             test,
             inner,
             holds,
             if holds { " && " } else { " || " },
         ),
         Cond::Any(inner) => put_joined(
-            page,
+            buffer,
             test,
             inner,
             holds,
@@ -91,17 +96,17 @@ fn put_condition(page: &mut Vec<u8>, test: &Test, condition: &Cond, holds: bool)
             value,
         } => {
             if usize::from(*agent) < test.agents() {
-                page.write_all(test.agent_name(usize::from(*agent)).as_bytes())?;
+                buffer.write_all(test.agent_name(usize::from(*agent)).as_bytes())?;
             }
             let sign = if *equal == holds { "==" } else { "!=" };
-            write!(page, ".r{reg} {sign} {value}")
+            write!(buffer, ".r{reg} {sign} {value}")
         }
     }
 }
 
 /// Puts the members of a conjunction, but the one at a place.
 fn put_without(
-    page: &mut Vec<u8>,
+    buffer: &mut Vec<u8>,
     test: &Test,
     members: &[Member<'_>],
     without: Option<usize>,
@@ -110,10 +115,10 @@ fn put_without(
     for (place, member) in members.iter().enumerate() {
         if without != Some(place) {
             if !first {
-                page.write_all(b" && ")?;
+                buffer.write_all(b" && ")?;
             }
             first = false;
-            put_condition(page, test, member.condition, member.holds)?;
+            put_condition(buffer, test, member.condition, member.holds)?;
         }
     }
     Ok(())
@@ -156,20 +161,20 @@ fn text_before_condition(alloc: Global, test: &Test) -> io::Result<Vec<u8>> {
     Ok(text)
 }
 
-/// Removes each member without which there is still no attempt at the others, one after the other.
+/// Removes members one after the other: each without which there is still no attempt at the others. `needed` counts those that stay.
 fn remove_needless(alloc: Global, test: &Test, members: &mut Vec<Member<'_>>) -> io::Result<()> {
-    let mut kept = 0;
+    let mut needed = 0;
     for _ in 0..members.len() {
-        if members.len() < 2 || kept >= members.len() {
+        if members.len() < 2 || needed >= members.len() {
             return Ok(());
         }
         let mut text = text_before_condition(alloc, test)?;
-        put_without(&mut text, test, members.as_slice(), Some(kept))?;
+        put_without(&mut text, test, members.as_slice(), Some(needed))?;
         text.write_all(b"\n")?;
         if has_attempt(alloc, &text)? {
-            kept += 1;
+            needed += 1;
         } else {
-            members.remove(kept);
+            members.remove(needed);
         }
     }
     Ok(())
@@ -179,7 +184,7 @@ fn remove_needless(alloc: Global, test: &Test, members: &mut Vec<Member<'_>>) ->
 /// at the whole of it.
 pub(crate) fn put_core(
     alloc: Global,
-    page: &mut Vec<u8>,
+    buffer: &mut Vec<u8>,
     plan: &Plan<'_>,
     holds: bool,
 ) -> io::Result<()> {
@@ -187,5 +192,5 @@ pub(crate) fn put_core(
     let mut members = Vec::new(alloc);
     push_members(&mut members, test.check(), holds)?;
     remove_needless(alloc, test, &mut members)?;
-    put_without(page, test, members.as_slice(), None)
+    put_without(buffer, test, members.as_slice(), None)
 }

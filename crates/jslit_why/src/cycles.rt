@@ -1,17 +1,17 @@
-//! A derivation as it is read: what is forced first, and then the cycle, step by step.
+//! The text of a derivation: first the forced precedences, and then the cycle, step by step.
 
 use crate::reasons::{put_chain, put_conclusion};
 use crate::scene::Scene;
-use lit_why::{Line, Reason};
+use lit_why::{DerivationLine, Reason};
 use std::alloc::Global;
 use std::io;
 use std::io::Write;
 
-/// How many lines of a derivation are looked at for one step, at the most: more than it can have.
+/// A bound on the loop over the lines of one step: more lines than a derivation can have.
 const MOST: usize = 10_000;
 
-/// The places of the lines that are joined to the line at a place, in the order of their events: none of them is joined itself.
-fn steps_of(alloc: Global, lines: &[Line], place: usize) -> io::Result<Vec<usize>> {
+/// The places of the lines of which the line at a place is composed, in the order of their events. None of these is composed itself.
+fn steps_of(alloc: Global, lines: &[DerivationLine], place: usize) -> io::Result<Vec<usize>> {
     let mut steps = Vec::new(alloc);
     let mut waiting = Vec::new(alloc);
     waiting.push(place)?;
@@ -21,8 +21,8 @@ fn steps_of(alloc: Global, lines: &[Line], place: usize) -> io::Result<Vec<usize
         };
         match lines.get(place) {
             Some(
-                Line {
-                    reason: Reason::Joined { first, second },
+                DerivationLine {
+                    reason: Reason::Composed { first, second },
                     ..
                 },
             ) => {
@@ -37,31 +37,31 @@ fn steps_of(alloc: Global, lines: &[Line], place: usize) -> io::Result<Vec<usize
 
 /// Puts why one event comes before another.
 fn put_forced(
-    page: &mut Vec<u8>,
+    buffer: &mut Vec<u8>,
     scene: &Scene<'_>,
-    line: &Line,
+    line: &DerivationLine,
     middle: u8,
     source: u8,
     read: u8,
 ) -> io::Result<()> {
-    page.write_all(b"  ")?;
-    scene.put_placed(page, line.before)?;
-    page.write_all(b" before ")?;
-    scene.put_placed(page, line.after)?;
-    page.write_all(b": ")?;
-    scene.put_event(page, middle)?;
-    page.write_all(b" may not stand between ")?;
-    scene.put_event(page, source)?;
-    page.write_all(b" and ")?;
-    scene.put_event(page, read)?;
-    page.write_all(b"\n")
+    buffer.write_all(b"  ")?;
+    scene.put_placed(buffer, line.before)?;
+    buffer.write_all(b" before ")?;
+    scene.put_placed(buffer, line.after)?;
+    buffer.write_all(b": ")?;
+    scene.put_event(buffer, middle)?;
+    buffer.write_all(b" may not stand between ")?;
+    scene.put_event(buffer, source)?;
+    buffer.write_all(b" and ")?;
+    scene.put_event(buffer, read)?;
+    buffer.write_all(b"\n")
 }
 
-/// Puts one line of a derivation that is not joined of others.
-fn put_step(page: &mut Vec<u8>, scene: &Scene<'_>, line: &Line) -> io::Result<()> {
+/// Puts one line of a derivation that is not composed of others.
+fn put_step(buffer: &mut Vec<u8>, scene: &Scene<'_>, line: &DerivationLine) -> io::Result<()> {
     match line.reason {
         Reason::AfterRead { source, .. } => put_forced(
-            page,
+            buffer,
             scene,
             line,
             line.after,
@@ -69,15 +69,15 @@ fn put_step(page: &mut Vec<u8>, scene: &Scene<'_>, line: &Line) -> io::Result<()
             line.before,
         ),
         Reason::BeforeSource { read, .. } => put_forced(
-            page,
+            buffer,
             scene,
             line,
             line.before,
             line.after,
             read,
         ),
-        Reason::HappensBefore | Reason::Joined { .. } => put_chain(
-            page,
+        Reason::HappensBefore | Reason::Composed { .. } => put_chain(
+            buffer,
             scene,
             line.before,
             line.after,
@@ -85,29 +85,29 @@ fn put_step(page: &mut Vec<u8>, scene: &Scene<'_>, line: &Line) -> io::Result<()
     }
 }
 
-/// The place of the line that a forced line rests on.
-fn earlier_of(line: &Line) -> Option<usize> {
+/// The place of the line that a forced line cites.
+fn earlier_of(line: &DerivationLine) -> Option<usize> {
     match line.reason {
         Reason::AfterRead { earlier, .. } | Reason::BeforeSource { earlier, .. } => Some(earlier),
-        Reason::HappensBefore | Reason::Joined { .. } => None,
+        Reason::HappensBefore | Reason::Composed { .. } => None,
     }
 }
 
 /// Whether a line is of happens-before.
-fn is_given(lines: &[Line], place: usize) -> bool {
+fn is_given(lines: &[DerivationLine], place: usize) -> bool {
     match lines.get(place) {
         Some(line) => line.reason == Reason::HappensBefore,
         None => true,
     }
 }
 
-/// Puts the steps that lead to what a forced line rests on, unless it is of happens-before.
+/// Puts the steps that lead to the line that a forced line cites, unless that is of happens-before.
 fn put_premise(
     alloc: Global,
-    page: &mut Vec<u8>,
+    buffer: &mut Vec<u8>,
     scene: &Scene<'_>,
-    lines: &[Line],
-    line: &Line,
+    lines: &[DerivationLine],
+    line: &DerivationLine,
 ) -> io::Result<()> {
     let Some(earlier) = earlier_of(line) else {
         return Ok(());
@@ -116,11 +116,11 @@ fn put_premise(
         return Ok(());
     }
     let steps = steps_of(alloc, lines, earlier)?;
-    put_steps(page, scene, lines, &steps)
+    put_steps(buffer, scene, lines, &steps)
 }
 
 /// Where the step stands that begins with the least event, and that event.
-fn first_step(lines: &[Line], steps: &[usize]) -> (usize, u8) {
+fn first_step(lines: &[DerivationLine], steps: &[usize]) -> (usize, u8) {
     let mut first = (0, u8::MAX);
     for (place, step) in steps.iter().enumerate() {
         if let Some(line) = lines.get(*step) {
@@ -134,33 +134,33 @@ fn first_step(lines: &[Line], steps: &[usize]) -> (usize, u8) {
 
 /// Puts steps, one after the other.
 fn put_steps(
-    page: &mut Vec<u8>,
+    buffer: &mut Vec<u8>,
     scene: &Scene<'_>,
-    lines: &[Line],
+    lines: &[DerivationLine],
     steps: &[usize],
 ) -> io::Result<()> {
     for place in steps {
         if let Some(step) = lines.get(*place) {
-            put_step(page, scene, step)?;
+            put_step(buffer, scene, step)?;
         }
     }
     Ok(())
 }
 
-/// Puts a derivation: the steps that lead to what its forced lines rest on, and then those of the cycle, from its least event on.
+/// Puts a derivation: first the steps to the lines that its forced lines cite, and then the steps of the cycle, from its least event on.
 pub(crate) fn put_cycle(
     alloc: Global,
-    page: &mut Vec<u8>,
+    buffer: &mut Vec<u8>,
     scene: &Scene<'_>,
-    lines: &[Line],
+    lines: &[DerivationLine],
 ) -> io::Result<()> {
     for line in lines {
-        put_premise(alloc, page, scene, lines, line)?;
+        put_premise(alloc, buffer, scene, lines, line)?;
     }
     let steps = steps_of(alloc, lines, lines.len().saturating_sub(1))?;
     let (place, event) = first_step(lines, &steps);
     let (before, after) = steps.split_at(place.min(steps.len()));
-    put_steps(page, scene, lines, after)?;
-    put_steps(page, scene, lines, before)?;
-    put_conclusion(page, scene, event)
+    put_steps(buffer, scene, lines, after)?;
+    put_steps(buffer, scene, lines, before)?;
+    put_conclusion(buffer, scene, event)
 }

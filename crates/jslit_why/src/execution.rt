@@ -4,49 +4,49 @@ use crate::clauses::clause_of;
 use crate::scene::Scene;
 use lit_paths::{Event, Kind, Order3};
 use lit_rel::Rows;
-use lit_why::{Line, Reason, Refusal, StepKind, chain, derivation, is_data_race};
+use lit_why::{DerivationLine, Reason, Refusal, StepKind, chain, derivation, is_data_race};
 use std::alloc::Global;
 use std::io;
 use std::io::Write;
 
 /// Puts what stands before a member of a list: nothing before the first.
-fn put_comma(page: &mut Vec<u8>, first: &mut bool) -> io::Result<()> {
+fn put_comma(buffer: &mut Vec<u8>, first: &mut bool) -> io::Result<()> {
     if *first {
         *first = false;
         return Ok(());
     }
-    page.write_all(b",")
+    buffer.write_all(b",")
 }
 
 /// Puts the name of an event as a string.
-fn put_name(page: &mut Vec<u8>, scene: &Scene<'_>, event: u8) -> io::Result<()> {
-    page.write_all(b"\"")?;
-    scene.put_event(page, event)?;
-    page.write_all(b"\"")
+fn put_name(buffer: &mut Vec<u8>, scene: &Scene<'_>, event: u8) -> io::Result<()> {
+    buffer.write_all(b"\"")?;
+    scene.put_event(buffer, event)?;
+    buffer.write_all(b"\"")
 }
 
 /// Puts a list of the names of two events.
-fn put_pair(page: &mut Vec<u8>, scene: &Scene<'_>, first: u8, second: u8) -> io::Result<()> {
-    page.write_all(b"[")?;
-    put_name(page, scene, first)?;
-    page.write_all(b",")?;
-    put_name(page, scene, second)?;
-    page.write_all(b"]")
+fn put_pair(buffer: &mut Vec<u8>, scene: &Scene<'_>, first: u8, second: u8) -> io::Result<()> {
+    buffer.write_all(b"[")?;
+    put_name(buffer, scene, first)?;
+    buffer.write_all(b",")?;
+    put_name(buffer, scene, second)?;
+    buffer.write_all(b"]")
 }
 
 /// Puts the pairs of a relation.
-fn put_rows(page: &mut Vec<u8>, scene: &Scene<'_>, rows: &Rows) -> io::Result<()> {
+fn put_rows(buffer: &mut Vec<u8>, scene: &Scene<'_>, rows: &Rows) -> io::Result<()> {
     let mut first = true;
-    page.write_all(b"[")?;
+    buffer.write_all(b"[")?;
     for a in 0..rows.len() {
         for d in 0..rows.len() {
             if rows.holds(a, d) {
-                put_comma(page, &mut first)?;
-                put_pair(page, scene, a as u8, d as u8)?;
+                put_comma(buffer, &mut first)?;
+                put_pair(buffer, scene, a as u8, d as u8)?;
             }
         }
     }
-    page.write_all(b"]")
+    buffer.write_all(b"]")
 }
 
 /// The kind of an event.
@@ -77,50 +77,50 @@ fn step_of(kind: StepKind) -> &'static str {
 }
 
 /// Puts a number, or null where there is none.
-fn put_number(page: &mut Vec<u8>, number: Option<usize>) -> io::Result<()> {
+fn put_number(buffer: &mut Vec<u8>, number: Option<usize>) -> io::Result<()> {
     match number {
-        Some(number) => write!(page, "{number}"),
-        None => page.write_all(b"null"),
+        Some(number) => write!(buffer, "{number}"),
+        None => buffer.write_all(b"null"),
     }
 }
 
 /// Puts an event, by its number.
-fn put_event(page: &mut Vec<u8>, scene: &Scene<'_>, number: u8, event: &Event) -> io::Result<()> {
-    page.write_all(b"{\"name\":")?;
-    put_name(page, scene, number)?;
-    page.write_all(b",\"line\":")?;
-    put_number(page, scene.line_of(number))?;
+fn put_event(buffer: &mut Vec<u8>, scene: &Scene<'_>, number: u8, event: &Event) -> io::Result<()> {
+    buffer.write_all(b"{\"name\":")?;
+    put_name(buffer, scene, number)?;
+    buffer.write_all(b",\"line\":")?;
+    put_number(buffer, scene.line_of(number))?;
     let (kind, order) = (kind_of(event), order_of(event));
     write!(
-        page,
+        buffer,
         ",\"kind\":\"{kind}\",\"order\":\"{order}\",\"no_tear\":{}",
         event.no_tear
     )?;
-    write!(page, ",\"first\":{},\"size\":{}", event.first, event.size)?;
+    write!(buffer, ",\"first\":{},\"size\":{}", event.first, event.size)?;
     if event.kind.does_read() {
-        write!(page, ",\"reads\":{}", scene.part.value(number))?;
+        write!(buffer, ",\"reads\":{}", scene.part.value(number))?;
     }
     if event.kind.does_write() {
-        write!(page, ",\"writes\":{}", u32::from_le_bytes(event.payload))?;
+        write!(buffer, ",\"writes\":{}", u32::from_le_bytes(event.payload))?;
     }
-    page.write_all(b"}")
+    buffer.write_all(b"}")
 }
 
 /// Puts all events.
-fn put_events(page: &mut Vec<u8>, scene: &Scene<'_>) -> io::Result<()> {
+fn put_events(buffer: &mut Vec<u8>, scene: &Scene<'_>) -> io::Result<()> {
     let mut first = true;
-    page.write_all(b"\"events\":[")?;
+    buffer.write_all(b"\"events\":[")?;
     for (number, event) in scene.part.combination().events().iter().enumerate() {
-        put_comma(page, &mut first)?;
-        put_event(page, scene, number as u8, event)?;
+        put_comma(buffer, &mut first)?;
+        put_event(buffer, scene, number as u8, event)?;
     }
-    page.write_all(b"]")
+    buffer.write_all(b"]")
 }
 
 /// Puts the source of each byte that is read.
-fn put_sources(page: &mut Vec<u8>, scene: &Scene<'_>) -> io::Result<()> {
+fn put_sources(buffer: &mut Vec<u8>, scene: &Scene<'_>) -> io::Result<()> {
     let mut first = true;
-    page.write_all(b",\"from\":[")?;
+    buffer.write_all(b",\"from\":[")?;
     for (byte, source) in scene
         .part
         .combination()
@@ -128,159 +128,159 @@ fn put_sources(page: &mut Vec<u8>, scene: &Scene<'_>) -> io::Result<()> {
         .iter()
         .zip(scene.sources.iter())
     {
-        put_comma(page, &mut first)?;
-        page.write_all(b"{\"read\":")?;
-        put_name(page, scene, byte.read)?;
-        write!(page, ",\"byte\":{},\"source\":", byte.byte)?;
-        put_name(page, scene, *source)?;
-        page.write_all(b"}")?;
+        put_comma(buffer, &mut first)?;
+        buffer.write_all(b"{\"read\":")?;
+        put_name(buffer, scene, byte.read)?;
+        write!(buffer, ",\"byte\":{},\"source\":", byte.byte)?;
+        put_name(buffer, scene, *source)?;
+        buffer.write_all(b"}")?;
     }
-    page.write_all(b"]")
+    buffer.write_all(b"]")
 }
 
 /// Puts what may not stand between each source and its read.
-fn put_forbidden(page: &mut Vec<u8>, scene: &Scene<'_>) -> io::Result<()> {
+fn put_forbidden(buffer: &mut Vec<u8>, scene: &Scene<'_>) -> io::Result<()> {
     let between = scene.part.between();
     let mut first = true;
-    page.write_all(b",\"forbidden\":[")?;
+    buffer.write_all(b",\"forbidden\":[")?;
     for pair in between.pairs() {
         for other in 0..between.len() {
             if pair.others.contains(other) {
-                put_comma(page, &mut first)?;
-                page.write_all(b"{\"source\":")?;
-                put_name(page, scene, pair.source)?;
-                page.write_all(b",\"read\":")?;
-                put_name(page, scene, pair.read)?;
-                page.write_all(b",\"other\":")?;
-                put_name(page, scene, other as u8)?;
-                page.write_all(b"}")?;
+                put_comma(buffer, &mut first)?;
+                buffer.write_all(b"{\"source\":")?;
+                put_name(buffer, scene, pair.source)?;
+                buffer.write_all(b",\"read\":")?;
+                put_name(buffer, scene, pair.read)?;
+                buffer.write_all(b",\"other\":")?;
+                put_name(buffer, scene, other as u8)?;
+                buffer.write_all(b"}")?;
             }
         }
     }
-    page.write_all(b"]")
+    buffer.write_all(b"]")
 }
 
 /// Puts the pairs of events that are in a data race, the lesser number first.
-fn put_races(page: &mut Vec<u8>, scene: &Scene<'_>) -> io::Result<()> {
+fn put_races(buffer: &mut Vec<u8>, scene: &Scene<'_>) -> io::Result<()> {
     let count = scene.part.combination().events().len();
     let mut first = true;
-    page.write_all(b",\"races\":[")?;
+    buffer.write_all(b",\"races\":[")?;
     for a in 0..count {
         for d in a..count {
             if is_data_race(&scene.part, a as u8, d as u8) {
-                put_comma(page, &mut first)?;
-                put_pair(page, scene, a as u8, d as u8)?;
+                put_comma(buffer, &mut first)?;
+                put_pair(buffer, scene, a as u8, d as u8)?;
             }
         }
     }
-    page.write_all(b"]")
+    buffer.write_all(b"]")
 }
 
 /// Puts a shortest chain of happens-before from one event to another; an empty list where there is none.
-fn put_chain(page: &mut Vec<u8>, scene: &Scene<'_>, from: u8, to: u8) -> io::Result<()> {
+fn put_chain(buffer: &mut Vec<u8>, scene: &Scene<'_>, from: u8, to: u8) -> io::Result<()> {
     let mut first = true;
-    page.write_all(b"[")?;
+    buffer.write_all(b"[")?;
     if let Some(chain) = chain(&scene.part, from, to) {
         let mut from = from;
         for link in chain.links.as_slice() {
-            put_comma(page, &mut first)?;
-            page.write_all(b"{\"before\":")?;
-            put_name(page, scene, from)?;
-            page.write_all(b",\"after\":")?;
-            put_name(page, scene, link.to)?;
-            write!(page, ",\"step\":\"{}\"}}", step_of(link.kind))?;
+            put_comma(buffer, &mut first)?;
+            buffer.write_all(b"{\"before\":")?;
+            put_name(buffer, scene, from)?;
+            buffer.write_all(b",\"after\":")?;
+            put_name(buffer, scene, link.to)?;
+            write!(buffer, ",\"step\":\"{}\"}}", step_of(link.kind))?;
             from = link.to;
         }
     }
-    page.write_all(b"]")
+    buffer.write_all(b"]")
 }
 
 /// Puts the members of an object that say why a byte is not coherent.
 fn put_incoherent(
-    page: &mut Vec<u8>,
+    buffer: &mut Vec<u8>,
     scene: &Scene<'_>,
     read: u8,
     source: u8,
     hidden_by: Option<u8>,
 ) -> io::Result<()> {
-    page.write_all(b",\"source\":")?;
-    put_name(page, scene, source)?;
+    buffer.write_all(b",\"source\":")?;
+    put_name(buffer, scene, source)?;
     let Some(other) = hidden_by else {
-        page.write_all(b",\"hidden_by\":null,\"chains\":[")?;
-        put_chain(page, scene, read, source)?;
-        return page.write_all(b"]");
+        buffer.write_all(b",\"hidden_by\":null,\"chains\":[")?;
+        put_chain(buffer, scene, read, source)?;
+        return buffer.write_all(b"]");
     };
-    page.write_all(b",\"hidden_by\":")?;
-    put_name(page, scene, other)?;
-    page.write_all(b",\"chains\":[")?;
-    put_chain(page, scene, source, other)?;
-    page.write_all(b",")?;
-    put_chain(page, scene, other, read)?;
-    page.write_all(b"]")
+    buffer.write_all(b",\"hidden_by\":")?;
+    put_name(buffer, scene, other)?;
+    buffer.write_all(b",\"chains\":[")?;
+    put_chain(buffer, scene, source, other)?;
+    buffer.write_all(b",")?;
+    put_chain(buffer, scene, other, read)?;
+    buffer.write_all(b"]")
 }
 
 /// Puts a line of a derivation.
-fn put_line(page: &mut Vec<u8>, scene: &Scene<'_>, line: &Line) -> io::Result<()> {
-    page.write_all(b"{\"before\":")?;
-    put_name(page, scene, line.before)?;
-    page.write_all(b",\"after\":")?;
-    put_name(page, scene, line.after)?;
+fn put_line(buffer: &mut Vec<u8>, scene: &Scene<'_>, line: &DerivationLine) -> io::Result<()> {
+    buffer.write_all(b"{\"before\":")?;
+    put_name(buffer, scene, line.before)?;
+    buffer.write_all(b",\"after\":")?;
+    put_name(buffer, scene, line.after)?;
     match line.reason {
         Reason::HappensBefore => {
-            page.write_all(b",\"reason\":\"happens-before\",\"chain\":")?;
-            put_chain(page, scene, line.before, line.after)?;
+            buffer.write_all(b",\"reason\":\"happens-before\",\"chain\":")?;
+            put_chain(buffer, scene, line.before, line.after)?;
         }
-        Reason::Joined { first, second } => write!(
-            page,
+        Reason::Composed { first, second } => write!(
+            buffer,
             ",\"reason\":\"joined\",\"lines\":[{first},{second}]"
         )?,
         Reason::BeforeSource { read, earlier } => {
-            page.write_all(b",\"reason\":\"before-source\",\"read\":")?;
-            put_name(page, scene, read)?;
-            write!(page, ",\"lines\":[{earlier}]")?;
+            buffer.write_all(b",\"reason\":\"before-source\",\"read\":")?;
+            put_name(buffer, scene, read)?;
+            write!(buffer, ",\"lines\":[{earlier}]")?;
         }
         Reason::AfterRead { source, earlier } => {
-            page.write_all(b",\"reason\":\"after-read\",\"source\":")?;
-            put_name(page, scene, source)?;
-            write!(page, ",\"lines\":[{earlier}]")?;
+            buffer.write_all(b",\"reason\":\"after-read\",\"source\":")?;
+            put_name(buffer, scene, source)?;
+            write!(buffer, ",\"lines\":[{earlier}]")?;
         }
     }
-    page.write_all(b"}")
+    buffer.write_all(b"}")
 }
 
 /// Puts a derivation, or null where there is none.
-fn put_derivation(alloc: Global, page: &mut Vec<u8>, scene: &Scene<'_>) -> io::Result<()> {
-    page.write_all(b",\"derivation\":")?;
+fn put_derivation(alloc: Global, buffer: &mut Vec<u8>, scene: &Scene<'_>) -> io::Result<()> {
+    buffer.write_all(b",\"derivation\":")?;
     let Some(lines) = derivation(alloc, &scene.part)? else {
-        return page.write_all(b"null");
+        return buffer.write_all(b"null");
     };
     let mut first = true;
-    page.write_all(b"[")?;
+    buffer.write_all(b"[")?;
     for line in lines.iter() {
-        put_comma(page, &mut first)?;
-        put_line(page, scene, line)?;
+        put_comma(buffer, &mut first)?;
+        put_line(buffer, scene, line)?;
     }
-    page.write_all(b"]")
+    buffer.write_all(b"]")
 }
 
 /// Puts what refuses a choice, or null.
-fn put_refusal(alloc: Global, page: &mut Vec<u8>, scene: &Scene<'_>) -> io::Result<()> {
-    page.write_all(b",\"refusal\":")?;
+fn put_refusal(alloc: Global, buffer: &mut Vec<u8>, scene: &Scene<'_>) -> io::Result<()> {
+    buffer.write_all(b",\"refusal\":")?;
     let Some(refusal) = scene.refusal else {
-        return page.write_all(b"null");
+        return buffer.write_all(b"null");
     };
-    write!(page, "{{\"clause\":\"{}\"", clause_of(refusal).name)?;
+    write!(buffer, "{{\"clause\":\"{}\"", clause_of(refusal).name)?;
     match refusal {
         Refusal::FalseGuard { agent, place } => {
-            write!(page, ",\"agent\":{agent},\"test\":{place},\"line\":")?;
-            put_number(page, scene.line_of_guard(alloc, agent, place)?)?;
+            write!(buffer, ",\"agent\":{agent},\"test\":{place},\"line\":")?;
+            put_number(buffer, scene.line_of_guard(alloc, agent, place)?)?;
         }
         Refusal::BeforeItself { event } => {
-            page.write_all(b",\"event\":")?;
-            put_name(page, scene, event)?;
-            page.write_all(b",\"chains\":[")?;
-            put_chain(page, scene, event, event)?;
-            page.write_all(b"]")?;
+            buffer.write_all(b",\"event\":")?;
+            put_name(buffer, scene, event)?;
+            buffer.write_all(b",\"chains\":[")?;
+            put_chain(buffer, scene, event, event)?;
+            buffer.write_all(b"]")?;
         }
         Refusal::Incoherent {
             read,
@@ -288,58 +288,58 @@ fn put_refusal(alloc: Global, page: &mut Vec<u8>, scene: &Scene<'_>) -> io::Resu
             source,
             hidden_by,
         } => {
-            page.write_all(b",\"read\":")?;
-            put_name(page, scene, read)?;
-            write!(page, ",\"byte\":{byte}")?;
-            put_incoherent(page, scene, read, source, hidden_by)?;
+            buffer.write_all(b",\"read\":")?;
+            put_name(buffer, scene, read)?;
+            write!(buffer, ",\"byte\":{byte}")?;
+            put_incoherent(buffer, scene, read, source, hidden_by)?;
         }
         Refusal::Torn {
             read,
             source,
             other,
         } => {
-            page.write_all(b",\"read\":")?;
-            put_name(page, scene, read)?;
-            page.write_all(b",\"sources\":")?;
-            put_pair(page, scene, source, other)?;
+            buffer.write_all(b",\"read\":")?;
+            put_name(buffer, scene, read)?;
+            buffer.write_all(b",\"sources\":")?;
+            put_pair(buffer, scene, source, other)?;
         }
-        Refusal::NoOrder => put_derivation(alloc, page, scene)?,
+        Refusal::NoOrder => put_derivation(alloc, buffer, scene)?,
     }
-    page.write_all(b"}")
+    buffer.write_all(b"}")
 }
 
 /// Puts a memory-order, or null where there is none.
-fn put_order(page: &mut Vec<u8>, scene: &Scene<'_>, order: Option<&[u8]>) -> io::Result<()> {
-    page.write_all(b",\"order\":")?;
+fn put_order(buffer: &mut Vec<u8>, scene: &Scene<'_>, order: Option<&[u8]>) -> io::Result<()> {
+    buffer.write_all(b",\"order\":")?;
     let Some(order) = order else {
-        return page.write_all(b"null");
+        return buffer.write_all(b"null");
     };
     let mut first = true;
-    page.write_all(b"[")?;
+    buffer.write_all(b"[")?;
     for event in order {
-        put_comma(page, &mut first)?;
-        put_name(page, scene, *event)?;
+        put_comma(buffer, &mut first)?;
+        put_name(buffer, scene, *event)?;
     }
-    page.write_all(b"]")
+    buffer.write_all(b"]")
 }
 
 /// Puts a choice as an object, with a memory-order where it has one.
 pub(crate) fn put_execution(
     alloc: Global,
-    page: &mut Vec<u8>,
+    buffer: &mut Vec<u8>,
     scene: &Scene<'_>,
     order: Option<&[u8]>,
 ) -> io::Result<()> {
-    page.write_all(b"{")?;
-    put_events(page, scene)?;
-    put_sources(page, scene)?;
-    page.write_all(b",\"synchronizes_with\":")?;
-    put_rows(page, scene, &scene.part.synchronizes())?;
-    page.write_all(b",\"happens_before\":")?;
-    put_rows(page, scene, &scene.part.happens_before())?;
-    put_forbidden(page, scene)?;
-    put_order(page, scene, order)?;
-    put_refusal(alloc, page, scene)?;
-    put_races(page, scene)?;
-    page.write_all(b"}")
+    buffer.write_all(b"{")?;
+    put_events(buffer, scene)?;
+    put_sources(buffer, scene)?;
+    buffer.write_all(b",\"synchronizes_with\":")?;
+    put_rows(buffer, scene, &scene.part.synchronizes())?;
+    buffer.write_all(b",\"happens_before\":")?;
+    put_rows(buffer, scene, &scene.part.happens_before())?;
+    put_forbidden(buffer, scene)?;
+    put_order(buffer, scene, order)?;
+    put_refusal(alloc, buffer, scene)?;
+    put_races(buffer, scene)?;
+    buffer.write_all(b"}")
 }

@@ -1,11 +1,11 @@
-//! What is answered for a text, and the program's status.
+//! The answer for a text, and the program's status.
 
 ghost use Rattle.std.specs.Prelude.{◌<◌, ◌^◌, ◌-◌};
 ghost use Rattle.jslit.specs.Counted.{failures_of};
 
 use crate::choices::explain_choice;
 use crate::classes::explain_class;
-use crate::command::{Line, line_of};
+use crate::command::{CommandLine, line_of};
 use crate::json::{put_class, put_named_choice, put_no_choice, put_race};
 use crate::races::explain_race;
 use crate::selection::select;
@@ -64,14 +64,14 @@ fn fault_of(error: &io::Error, other: RunFault) -> RunFault {
     }
 }
 
-/// Prints what is asked for of a text, or why it can't be. Gives the status.
+/// Prints the answer to the words on a text, or why there is none. Gives the status.
 fn answer_text<T: Threads + Sync, W: Write, E: Write>(
     rt: &T,
     alloc: Global,
     text: io::Result<Vec<u8>>,
     output: &mut Counted<W>,
     errors: &mut E,
-    line: &Line<'_>,
+    line: &CommandLine<'_>,
 ) -> u8
     requires { failures_of output.old < 2 ^ 64 - 1 }
 {
@@ -79,9 +79,9 @@ fn answer_text<T: Threads + Sync, W: Write, E: Write>(
         Ok(text) => text,
         Err(error) => return say(errors, fault_of(&error, RunFault::InputFailed)),
     };
-    let mut page = Vec::new(alloc);
-    match explain(alloc, &text, line, &mut page) {
-        Ok(status) => match write_page(output, errors, &page) {
+    let mut buffer = Vec::new(alloc);
+    match explain(alloc, &text, line, &mut buffer) {
+        Ok(status) => match write_buffer(output, errors, &buffer) {
             0 => status,
             failed => failed,
         },
@@ -90,7 +90,7 @@ fn answer_text<T: Threads + Sync, W: Write, E: Write>(
     }
 }
 
-/// What is asked of a test.
+/// A question on a test.
 #[derive(Clone, Copy, Debug)]
 enum Question {
     /// An outcome in a class.
@@ -105,12 +105,12 @@ enum Question {
     OfNoSources,
 }
 
-/// What the words ask of a test.
+/// The question that the words ask on a test.
 fn question_of(
     alloc: Global,
     plan: &Plan<'_>,
     statements: &Statements,
-    line: &Line<'_>,
+    line: &CommandLine<'_>,
 ) -> io::Result<Question> {
     if let Some(words) = line.from {
         return Ok(match select(alloc, plan, statements, words)? {
@@ -130,59 +130,59 @@ fn question_of(
 /// Puts the answer to a question as text.
 fn put_text(
     alloc: Global,
-    page: &mut Vec<u8>,
+    buffer: &mut Vec<u8>,
     plan: &Plan<'_>,
     statements: &Statements,
     question: Question,
     most: usize,
 ) -> io::Result<()> {
     match question {
-        Question::InClass(class) => explain_class(alloc, page, plan, statements, class, most),
-        Question::Race => explain_race(page, plan, statements),
+        Question::InClass(class) => explain_class(alloc, buffer, plan, statements, class, most),
+        Question::Race => explain_race(buffer, plan, statements),
         Question::OfChoice(choice) if choice < plan.total() => {
-            explain_choice(alloc, page, plan, statements, choice)
+            explain_choice(alloc, buffer, plan, statements, choice)
         }
         Question::OfChoice(_) | Question::OfNoNumber => {
-            writeln!(page, "no such choice: they are 0 to {}", plan.total() - 1)
+            writeln!(buffer, "no such choice: they are 0 to {}", plan.total() - 1)
         }
-        Question::OfNoSources => page.write_all(b"no choice has these sources\n"),
+        Question::OfNoSources => buffer.write_all(b"no choice has these sources\n"),
     }
 }
 
 /// Puts the answer to a question as JSON.
 fn put_json(
     alloc: Global,
-    page: &mut Vec<u8>,
+    buffer: &mut Vec<u8>,
     plan: &Plan<'_>,
     statements: &Statements,
     question: Question,
     most: usize,
 ) -> io::Result<()> {
     match question {
-        Question::InClass(class) => put_class(alloc, page, plan, statements, class, most),
-        Question::Race => put_race(alloc, page, plan, statements),
+        Question::InClass(class) => put_class(alloc, buffer, plan, statements, class, most),
+        Question::Race => put_race(alloc, buffer, plan, statements),
         Question::OfChoice(choice) if choice < plan.total() => {
-            put_named_choice(alloc, page, plan, statements, choice)
+            put_named_choice(alloc, buffer, plan, statements, choice)
         }
         Question::OfChoice(_) | Question::OfNoNumber | Question::OfNoSources => {
-            put_no_choice(page, plan)
+            put_no_choice(buffer, plan)
         }
     }
 }
 
-/// Puts what is asked for of a test. Gives the status, which is 1 where there is no such choice.
+/// Puts the answer to the words on a test. Gives the status, which is 1 where no choice is the one that they ask for.
 fn put_answer(
     alloc: Global,
-    page: &mut Vec<u8>,
+    buffer: &mut Vec<u8>,
     plan: &Plan<'_>,
     statements: &Statements,
-    line: &Line<'_>,
+    line: &CommandLine<'_>,
 ) -> io::Result<u8> {
     let question = question_of(alloc, plan, statements, line)?;
     if line.json {
-        put_json(alloc, page, plan, statements, question, line.most)?;
+        put_json(alloc, buffer, plan, statements, question, line.most)?;
     } else {
-        put_text(alloc, page, plan, statements, question, line.most)?;
+        put_text(alloc, buffer, plan, statements, question, line.most)?;
     }
     Ok(match question {
         Question::OfNoNumber | Question::OfNoSources => 1,
@@ -190,18 +190,18 @@ fn put_answer(
     })
 }
 
-/// Puts what is asked for of a text on a page. Gives the status.
+/// Puts the answer on a text into a buffer. Gives the status.
 fn explain(
     alloc: Global,
     text: &[u8],
-    line: &Line<'_>,
-    page: &mut Vec<u8>,
+    line: &CommandLine<'_>,
+    buffer: &mut Vec<u8>,
 ) -> Result<u8, RunFault> {
     let test = read(alloc, text)?;
     let plan = plan(alloc, &test)?;
     let statements = Statements::of(alloc, text)?;
-    // A page is written by growth alone, so what fails is want of memory.
-    match put_answer(alloc, page, &plan, &statements, line) {
+    // Writing into the buffer fails only where memory for its growth is refused.
+    match put_answer(alloc, buffer, &plan, &statements, line) {
         Ok(status) => Ok(status),
         Err(_) => Err(RunFault::OutOfMemory),
     }
@@ -226,9 +226,9 @@ fn refuse<T: Threads + Sync, W: Write, E: Write>(
     check(rt, alloc, &mut input, output, errors, options)
 }
 
-/// Writes a page. Gives the status.
-fn write_page<W: Write, E: Write>(output: &mut Counted<W>, errors: &mut E, page: &[u8]) -> u8 {
-    let Ok(()) = output.write_all(page) else {
+/// Writes a buffer. Gives the status.
+fn write_buffer<W: Write, E: Write>(output: &mut Counted<W>, errors: &mut E, buffer: &[u8]) -> u8 {
+    let Ok(()) = output.write_all(buffer) else {
         return say(errors, RunFault::OutputFailed);
     };
     match output.flush() {

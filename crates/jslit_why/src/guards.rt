@@ -4,53 +4,53 @@ use lit_paths::{Combination, Tested};
 use lit_read::{Stmt, count_with_parts, statement_count};
 use std::alloc::{AllocError, Global};
 
-/// The tests after the next one.
-fn guards_behind(tests: &[Tested]) -> &[Tested] {
-    match tests {
+/// The guards after the next one.
+fn guards_behind(guards: &[Tested]) -> &[Tested] {
+    match guards {
         [_, rest @ ..] => rest,
-        [] => tests,
+        [] => guards,
     }
 }
 
-/// Whether the next test is that the value equals the number.
-fn asks_equal(tests: &[Tested]) -> bool {
-    match tests {
-        [test, ..] => test.equal,
+/// Whether the next guard asks that the value equals the number.
+fn asks_equal(guards: &[Tested]) -> bool {
+    match guards {
+        [guard, ..] => guard.equal,
         [] => false,
     }
 }
 
-/// Adds the number of the statement of each test on the way through statements, the first of which has number `first`, and leads
-/// to the tests that are left.
+/// Adds the number of the statement of each guard on a path through statements, the first of which has number `first`. Gives the guards
+/// behind them.
 #[cycle(guarding)]
 fn push_guards<'t>(
-    guards: &mut Vec<usize>,
+    numbers: &mut Vec<usize>,
     first: usize,
     body: &[Stmt],
-    tests: &'t [Tested],
+    guards: &'t [Tested],
 ) -> Result<&'t [Tested], AllocError> {
     let mut number = first;
-    let mut left = tests;
+    let mut left = guards;
     for statement in body {
-        left = push_guards_at(guards, number, statement, left)?;
+        left = push_guards_at(numbers, number, statement, left)?;
         number = number.saturating_add(count_with_parts(statement));
     }
     Ok(left)
 }
 
-/// Adds those on the way through the statement with a number, and leads to the tests that are left.
+/// Adds the numbers on a path through the statement with a number. Gives the guards behind it.
 #[cycle(guarding)]
 fn push_guards_at<'t>(
-    guards: &mut Vec<usize>,
+    numbers: &mut Vec<usize>,
     number: usize,
     statement: &Stmt,
-    tests: &'t [Tested],
+    guards: &'t [Tested],
 ) -> Result<&'t [Tested], AllocError> {
-    let left = guards_behind(tests);
+    let left = guards_behind(guards);
     match statement {
-        Stmt::Load { .. } | Stmt::Store { .. } | Stmt::Exchange { .. } => Ok(tests),
+        Stmt::Load { .. } | Stmt::Store { .. } | Stmt::Exchange { .. } => Ok(guards),
         Stmt::CompareExchange { .. } => {
-            guards.push(number)?;
+            numbers.push(number)?;
             Ok(left)
         }
         Stmt::If {
@@ -59,14 +59,14 @@ fn push_guards_at<'t>(
             other,
             ..
         } => {
-            guards.push(number)?;
+            numbers.push(number)?;
             let then = number.saturating_add(1);
-            // The then-part is on the path where the test asks for what the `if` does.
-            if *equal == asks_equal(tests) {
-                push_guards(guards, then, body, left)
+            // The path goes through the then-part where its guard compares as the `if` does.
+            if *equal == asks_equal(guards) {
+                push_guards(numbers, then, body, left)
             } else {
                 push_guards(
-                    guards,
+                    numbers,
                     then.saturating_add(statement_count(body)),
                     other,
                     left,
@@ -76,17 +76,17 @@ fn push_guards_at<'t>(
     }
 }
 
-/// The number of the statement of each test on an agent's path, in order: from 0, in the order in which the agent's statements are
+/// The number of the statement of each guard on an agent's path, in order: from 0, in the order in which the agent's statements are
 /// written.
 pub(crate) fn guards_of(
     alloc: Global,
     combination: &Combination<'_>,
     agent: usize,
 ) -> Result<Vec<usize>, AllocError> {
-    let mut guards = Vec::new(alloc);
+    let mut numbers = Vec::new(alloc);
     if agent < combination.test().agents() {
         let body = combination.test().body(agent);
-        push_guards(&mut guards, 0, body, combination.path(agent).tests())?;
+        push_guards(&mut numbers, 0, body, combination.path(agent).tests())?;
     }
-    Ok(guards)
+    Ok(numbers)
 }

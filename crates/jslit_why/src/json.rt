@@ -1,4 +1,4 @@
-//! What is answered, as one line of JSON.
+//! The answer as one line of JSON.
 
 ghost use Rattle.std.specs.Prelude.{◌<◌, length};
 ghost use Rattle.lit_paths.specs.Choice.{choices_of};
@@ -19,20 +19,20 @@ use std::io;
 use std::io::Write;
 
 /// Puts the members that each answer begins with: the version and the test's name.
-fn put_head(page: &mut Vec<u8>, plan: &Plan<'_>) -> io::Result<()> {
+fn put_head(buffer: &mut Vec<u8>, plan: &Plan<'_>) -> io::Result<()> {
     let version = VERSION.lines().next().unwrap_or("");
     write!(
-        page,
+        buffer,
         "{{\"jslit\":\"{version}\",\"test\":\"{}\"",
         plan.test().name()
     )
 }
 
-/// What the valid executions of a choice give.
+/// The report of a choice alone.
 fn found_of(alloc: Global, plan: &Plan<'_>, choice: u64) -> io::Result<Found>
     requires { choice < length (choices_of plan.now) }
 {
-    // That numbers of choices are small is known of how many there are.
+    // Tells the prover that numbers of choices are small, so that one more fits.
     let _total = plan.total();
     match search_range(alloc, &*plan, choice, choice + 1) {
         Ok(found) => Ok(found),
@@ -43,7 +43,7 @@ fn found_of(alloc: Global, plan: &Plan<'_>, choice: u64) -> io::Result<Found>
 /// Puts a choice as the member `execution`, with its least memory-order where it has one.
 fn put_choice(
     alloc: Global,
-    page: &mut Vec<u8>,
+    buffer: &mut Vec<u8>,
     plan: &Plan<'_>,
     statements: &Statements,
     choice: u64,
@@ -52,50 +52,55 @@ fn put_choice(
 {
     let found = found_of(alloc, plan, choice)?;
     let scene = Scene::new(&*plan, statements, choice);
-    write!(page, ",\"choice\":{choice},\"execution\":")?;
+    write!(buffer, ",\"choice\":{choice},\"execution\":")?;
     if found.len() == 0 {
-        put_execution(alloc, page, &scene, None)
+        put_execution(alloc, buffer, &scene, None)
     } else {
-        put_execution(alloc, page, &scene, Some(found.example(0).order.as_slice()))
+        put_execution(
+            alloc,
+            buffer,
+            &scene,
+            Some(found.example(0).order.as_slice()),
+        )
     }
 }
 
 /// Puts the clauses that refuse attempts, each with the first that it refuses.
 fn put_clauses(
     alloc: Global,
-    page: &mut Vec<u8>,
+    buffer: &mut Vec<u8>,
     plan: &Plan<'_>,
     statements: &Statements,
     tally: &Tally,
 ) -> io::Result<()> {
-    page.write_all(b",\"clauses\":[")?;
+    buffer.write_all(b",\"clauses\":[")?;
     let mut first = true;
-    for (place, row) in tally.rows().iter().enumerate() {
-        let Some(choice) = row.first else {
+    for (place, counted) in tally.counts().iter().enumerate() {
+        let Some(choice) = counted.first else {
             continue;
         };
         if choice < plan.total() {
             if !first {
-                page.write_all(b",")?;
+                buffer.write_all(b",")?;
             }
             first = false;
             let clause = clause_at(place);
             write!(
-                page,
+                buffer,
                 "{{\"clause\":\"{}\",\"section\":\"{}\",\"attempts\":{}",
-                clause.name, clause.section, row.count
+                clause.name, clause.section, counted.count
             )?;
-            put_choice(alloc, page, plan, statements, choice)?;
-            page.write_all(b"}")?;
+            put_choice(alloc, buffer, plan, statements, choice)?;
+            buffer.write_all(b"}")?;
         }
     }
-    page.write_all(b"]")
+    buffer.write_all(b"]")
 }
 
 /// Puts how many attempts at a class there are, and what refuses them.
 fn put_attempts(
     alloc: Global,
-    page: &mut Vec<u8>,
+    buffer: &mut Vec<u8>,
     plan: &Plan<'_>,
     statements: &Statements,
     class: Class,
@@ -109,68 +114,68 @@ fn put_attempts(
         attempts.len() <= most,
     );
     write!(
-        page,
+        buffer,
         ",\"verdict\":\"{verdict}\",\"attempts\":{count},\"whole\":{whole}"
     )?;
     if attempts.is_empty() {
-        page.write_all(b",\"no_path_can_make\":\"")?;
-        put_core(alloc, page, plan, class == Class::Met)?;
-        page.write_all(b"\"")?;
+        buffer.write_all(b",\"no_path_can_make\":\"")?;
+        put_core(alloc, buffer, plan, class == Class::Met)?;
+        buffer.write_all(b"\"")?;
     }
-    put_clauses(alloc, page, plan, statements, &tally)
+    put_clauses(alloc, buffer, plan, statements, &tally)
 }
 
 /// Puts an example of a class, or why there is none.
 pub(crate) fn put_class(
     alloc: Global,
-    page: &mut Vec<u8>,
+    buffer: &mut Vec<u8>,
     plan: &Plan<'_>,
     statements: &Statements,
     class: Class,
     most: usize,
 ) -> io::Result<()> {
-    put_head(page, plan)?;
-    write!(page, ",\"condition\":{}", class == Class::Met)?;
+    put_head(buffer, plan)?;
+    write!(buffer, ",\"condition\":{}", class == Class::Met)?;
     match first_in(plan, class, 0, plan.total()) {
-        Some(choice) => put_choice(alloc, page, plan, statements, choice)?,
-        None => put_attempts(alloc, page, plan, statements, class, most)?,
+        Some(choice) => put_choice(alloc, buffer, plan, statements, choice)?,
+        None => put_attempts(alloc, buffer, plan, statements, class, most)?,
     }
-    page.write_all(b"}\n")
+    buffer.write_all(b"}\n")
 }
 
 /// Puts the first data race, or that there is none.
 pub(crate) fn put_race(
     alloc: Global,
-    page: &mut Vec<u8>,
+    buffer: &mut Vec<u8>,
     plan: &Plan<'_>,
     statements: &Statements,
 ) -> io::Result<()> {
-    put_head(page, plan)?;
+    put_head(buffer, plan)?;
     let Some(example) = first_race(plan) else {
-        return page.write_all(b",\"data_race\":false}\n");
+        return buffer.write_all(b",\"data_race\":false}\n");
     };
-    page.write_all(b",\"data_race\":true")?;
-    put_choice(alloc, page, plan, statements, example.choice)?;
-    page.write_all(b"}\n")
+    buffer.write_all(b",\"data_race\":true")?;
+    put_choice(alloc, buffer, plan, statements, example.choice)?;
+    buffer.write_all(b"}\n")
 }
 
 /// Puts a choice, by its number.
 pub(crate) fn put_named_choice(
     alloc: Global,
-    page: &mut Vec<u8>,
+    buffer: &mut Vec<u8>,
     plan: &Plan<'_>,
     statements: &Statements,
     choice: u64,
 ) -> io::Result<()>
     requires { choice < length (choices_of plan.now) }
 {
-    put_head(page, plan)?;
-    put_choice(alloc, page, plan, statements, choice)?;
-    page.write_all(b"}\n")
+    put_head(buffer, plan)?;
+    put_choice(alloc, buffer, plan, statements, choice)?;
+    buffer.write_all(b"}\n")
 }
 
-/// Puts that no choice is the one that is asked for.
-pub(crate) fn put_no_choice(page: &mut Vec<u8>, plan: &Plan<'_>) -> io::Result<()> {
-    put_head(page, plan)?;
-    page.write_all(b",\"choice\":null}\n")
+/// Puts that no choice is the one that the words ask for.
+pub(crate) fn put_no_choice(buffer: &mut Vec<u8>, plan: &Plan<'_>) -> io::Result<()> {
+    put_head(buffer, plan)?;
+    buffer.write_all(b",\"choice\":null}\n")
 }

@@ -1,5 +1,6 @@
 //! The program jslit-why: why no valid execution of a litmus test has an outcome of a class, an example where one has, and which
 //! two events are in a data race. What it says of an execution it has from the calls of `lit_why`; its text is tested, not proved.
+//! Its sums saturate where nothing proves that they fit.
 #![tactic(auto)]
 
 mod attempts;

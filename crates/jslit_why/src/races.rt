@@ -10,31 +10,31 @@ use std::io::Write;
 
 /// Puts the first data race of a test, or that there is none.
 pub(crate) fn explain_race(
-    page: &mut Vec<u8>,
+    buffer: &mut Vec<u8>,
     plan: &Plan<'_>,
     statements: &Statements,
 ) -> io::Result<()> {
-    writeln!(page, "test {}", plan.test().name())?;
+    writeln!(buffer, "test {}", plan.test().name())?;
     let Some(example) = first_race(plan) else {
-        return writeln!(page, "data race no");
+        return writeln!(buffer, "data race no");
     };
     let scene = Scene::new(plan, statements, example.choice);
     if let Some(pair) = racing_pair(&scene.part) {
-        put_pair(page, &scene, pair)?;
+        put_pair(buffer, &scene, pair)?;
     }
-    scene.put_sources(page)?;
-    scene.put_order(page, example.least.order.as_slice())
+    scene.put_sources(buffer)?;
+    scene.put_order(buffer, example.least.order.as_slice())
 }
 
 /// Puts two events, and why they are in a data race.
-fn put_pair(page: &mut Vec<u8>, scene: &Scene<'_>, pair: RacingPair) -> io::Result<()> {
-    page.write_all(b"data race ")?;
-    scene.put_placed(page, pair.first)?;
-    page.write_all(b" and ")?;
-    scene.put_placed(page, pair.second)?;
-    page.write_all(b"\n")?;
-    put_accessed(page, scene, pair.first)?;
-    put_accessed(page, scene, pair.second)?;
-    page.write_all(b"  neither happens before the other\n")?;
-    put_atomicity(page, scene, pair)
+fn put_pair(buffer: &mut Vec<u8>, scene: &Scene<'_>, pair: RacingPair) -> io::Result<()> {
+    buffer.write_all(b"data race ")?;
+    scene.put_placed(buffer, pair.first)?;
+    buffer.write_all(b" and ")?;
+    scene.put_placed(buffer, pair.second)?;
+    buffer.write_all(b"\n")?;
+    put_accessed(buffer, scene, pair.first)?;
+    put_accessed(buffer, scene, pair.second)?;
+    buffer.write_all(b"  neither happens before the other\n")?;
+    put_atomicity(buffer, scene, pair)
 }

@@ -1,4 +1,4 @@
-//! A choice of a test with what is told of it: its events, by their names and the lines of their statements.
+//! A choice of a test as the program describes it: its events have names, and the lines of their statements.
 
 ghost use Rattle.std.specs.Prelude.{◌<◌, length};
 ghost use Rattle.lit_paths.specs.Choice.{choices_of};
@@ -14,17 +14,17 @@ use std::io;
 use std::io::Write;
 
 /// Puts the name of an event: of a byte of the block, or of an agent's access.
-pub(crate) fn put_event_name(page: &mut Vec<u8>, test: &Test, event: &Event) -> io::Result<()> {
+pub(crate) fn put_event_name(buffer: &mut Vec<u8>, test: &Test, event: &Event) -> io::Result<()> {
     match event.owner {
         Some(agent) if usize::from(agent) < test.agents() => {
             write!(
-                page,
+                buffer,
                 "{}.{}",
                 test.agent_name(usize::from(agent)),
                 event.place
             )
         }
-        _ => write!(page, "init[{}]", event.place),
+        _ => write!(buffer, "init[{}]", event.place),
     }
 }
 
@@ -62,9 +62,9 @@ impl<'p> Scene<'p> {
     }
 
     /// Puts the name of an event, by its number.
-    pub(crate) fn put_event(&self, page: &mut Vec<u8>, event: u8) -> io::Result<()> {
+    pub(crate) fn put_event(&self, buffer: &mut Vec<u8>, event: u8) -> io::Result<()> {
         match self.part.combination().events().get(usize::from(event)) {
-            Some(event) => put_event_name(page, self.plan.test(), event),
+            Some(event) => put_event_name(buffer, self.plan.test(), event),
             None => Ok(()),
         }
     }
@@ -74,7 +74,7 @@ impl<'p> Scene<'p> {
         self.lines.get(usize::from(event)).copied().flatten()
     }
 
-    /// The line of the statement that a test of an agent's path comes from.
+    /// The line of the statement that a guard of an agent's path comes from.
     pub(crate) fn line_of_guard(
         &self,
         alloc: Global,
@@ -90,16 +90,16 @@ impl<'p> Scene<'p> {
     }
 
     /// Puts the name of an event, with the line of its statement.
-    pub(crate) fn put_placed(&self, page: &mut Vec<u8>, event: u8) -> io::Result<()> {
-        self.put_event(page, event)?;
+    pub(crate) fn put_placed(&self, buffer: &mut Vec<u8>, event: u8) -> io::Result<()> {
+        self.put_event(buffer, event)?;
         match self.line_of(event) {
-            Some(line) => write!(page, " (line {line})"),
+            Some(line) => write!(buffer, " (line {line})"),
             None => Ok(()),
         }
     }
 
     /// Puts a line for each event that reads, with the source of each of its bytes.
-    pub(crate) fn put_sources(&self, page: &mut Vec<u8>) -> io::Result<()> {
+    pub(crate) fn put_sources(&self, buffer: &mut Vec<u8>) -> io::Result<()> {
         let mut last = None;
         for (byte, source) in self
             .part
@@ -110,28 +110,28 @@ impl<'p> Scene<'p> {
         {
             if last != Some(byte.read) {
                 if last.is_some() {
-                    page.write_all(b"\n")?;
+                    buffer.write_all(b"\n")?;
                 }
-                page.write_all(b"  from ")?;
-                self.put_event(page, byte.read)?;
+                buffer.write_all(b"  from ")?;
+                self.put_event(buffer, byte.read)?;
                 last = Some(byte.read);
             }
-            page.write_all(b" ")?;
-            self.put_event(page, *source)?;
+            buffer.write_all(b" ")?;
+            self.put_event(buffer, *source)?;
         }
         if last.is_some() {
-            page.write_all(b"\n")?;
+            buffer.write_all(b"\n")?;
         }
         Ok(())
     }
 
     /// Puts the line of a memory-order.
-    pub(crate) fn put_order(&self, page: &mut Vec<u8>, order: &[u8]) -> io::Result<()> {
-        page.write_all(b"  order")?;
+    pub(crate) fn put_order(&self, buffer: &mut Vec<u8>, order: &[u8]) -> io::Result<()> {
+        buffer.write_all(b"  order")?;
         for event in order {
-            page.write_all(b" ")?;
-            self.put_event(page, *event)?;
+            buffer.write_all(b" ")?;
+            self.put_event(buffer, *event)?;
         }
-        page.write_all(b"\n")
+        buffer.write_all(b"\n")
     }
 }

@@ -157,8 +157,8 @@ fn has_values(scene: &Scene<'_>, words: &str) -> bool {
     true
 }
 
-/// The least choice that the words select and that belongs to a valid execution; where none does, the least whose paths' tests allow
-/// the values read.
+/// The least choice that the words select and that a valid execution has; where none has one, the least selected choice whose guards allow
+/// the values read (decision 113).
 pub(crate) fn select(
     alloc: Global,
     plan: &Plan<'_>,

@@ -14,7 +14,7 @@ pub(crate) struct Statements {
 }
 
 impl Statements {
-    /// Those of a text.
+    /// The lines of the statements of a text.
     pub(crate) fn of(alloc: Global, text: &[u8]) -> Result<Self, AllocError> {
         let lines = statement_lines(alloc, text)?;
         Ok(Statements { lines })

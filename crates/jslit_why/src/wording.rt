@@ -16,11 +16,11 @@ fn deed(event: &Event) -> &'static str {
 }
 
 /// Puts the bytes of an event's range.
-fn put_range(page: &mut Vec<u8>, event: &Event) -> io::Result<()> {
+fn put_range(buffer: &mut Vec<u8>, event: &Event) -> io::Result<()> {
     match event.size {
-        1 => write!(page, "byte {}", event.first),
+        1 => write!(buffer, "byte {}", event.first),
         size => write!(
-            page,
+            buffer,
             "bytes {} to {}",
             event.first,
             (u32::from(event.first) + u32::from(size)).saturating_sub(1)
@@ -29,14 +29,14 @@ fn put_range(page: &mut Vec<u8>, event: &Event) -> io::Result<()> {
 }
 
 /// Puts the line that says what an event does, to which bytes.
-pub(crate) fn put_accessed(page: &mut Vec<u8>, scene: &Scene<'_>, event: u8) -> io::Result<()> {
-    page.write_all(b"  ")?;
-    scene.put_event(page, event)?;
+pub(crate) fn put_accessed(buffer: &mut Vec<u8>, scene: &Scene<'_>, event: u8) -> io::Result<()> {
+    buffer.write_all(b"  ")?;
+    scene.put_event(buffer, event)?;
     if let Some(event) = scene.part.combination().events().get(usize::from(event)) {
-        write!(page, " {} ", deed(event))?;
-        put_range(page, event)?;
+        write!(buffer, " {} ", deed(event))?;
+        put_range(buffer, event)?;
     }
-    page.write_all(b"\n")
+    buffer.write_all(b"\n")
 }
 
 /// Whether an event is sequentially consistent.
@@ -49,27 +49,27 @@ fn is_seq_cst(scene: &Scene<'_>, event: u8) -> bool {
 
 /// Puts the line that says why a race of two events is a data race.
 pub(crate) fn put_atomicity(
-    page: &mut Vec<u8>,
+    buffer: &mut Vec<u8>,
     scene: &Scene<'_>,
     pair: RacingPair,
 ) -> io::Result<()> {
-    page.write_all(b"  ")?;
+    buffer.write_all(b"  ")?;
     match (
         is_seq_cst(scene, pair.first),
         is_seq_cst(scene, pair.second),
     ) {
-        (true, true) => return page.write_all(
+        (true, true) => return buffer.write_all(
             b"both are sequentially consistent, and their ranges overlap without being equal\n",
         ),
-        (false, false) => page.write_all(b"neither")?,
-        (true, false) => scene.put_event(page, pair.second)?,
-        (false, true) => scene.put_event(page, pair.first)?,
+        (false, false) => buffer.write_all(b"neither")?,
+        (true, false) => scene.put_event(buffer, pair.second)?,
+        (false, true) => scene.put_event(buffer, pair.first)?,
     }
     let verb = if is_seq_cst(scene, pair.first) == is_seq_cst(scene, pair.second) {
         " is"
     } else {
         " is not"
     };
-    page.write_all(verb.as_bytes())?;
-    page.write_all(b" sequentially consistent\n")
+    buffer.write_all(verb.as_bytes())?;
+    buffer.write_all(b" sequentially consistent\n")
 }

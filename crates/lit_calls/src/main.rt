@@ -3,8 +3,8 @@
 //! take no memory.
 #![tactic(auto)]
 
-mod again;
-mod without_memory;
+mod allocation_free;
+mod retries;
 
 use lit_share::WORKER_LIMIT;
 use std::env;
@@ -13,8 +13,9 @@ use std::test::Fail;
 
 fn main(rt: HostRuntime) -> Result<(), Fail> {
     let Some(word) = env::args(&rt)?.nth(1) else {
-        return without_memory::call_all(&rt);
+        return allocation_free::call_all(&rt);
     };
+    // A search needs 1 to `WORKER_LIMIT` workers.
     let workers = word
         .as_str()
         .parse::<usize>()
@@ -22,5 +23,5 @@ fn main(rt: HostRuntime) -> Result<(), Fail> {
         .clamp(1, WORKER_LIMIT);
     let mut text = Vec::new(rt.alloc());
     rt.stdin().read_to_end(&mut text)?;
-    again::call_all(&rt, rt.alloc(), &text, workers)
+    retries::call_all(&rt, rt.alloc(), &text, workers)
 }

@@ -1,5 +1,5 @@
-//! Measures parts of the libraries, for `tools/measure`. The first word says what is measured; with none that is known this
-//! prints what there is. It is no part of the product.
+//! Measures parts of the libraries, for `tools/measure`. The first word says what is measured; without a known word this
+//! prints the words that there are. It is no part of the product.
 #![tactic(auto)]
 
 mod collecting;

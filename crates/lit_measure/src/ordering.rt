@@ -16,19 +16,19 @@ const FIRST_STORE: usize = 16;
 
 const FIRST_LOAD: usize = 20;
 
-/// How many executions are tried, and how often each is asked.
+/// How many executions are tried, and how often each is ordered.
 const TRIED: usize = 65_536;
 
 const TURNS: usize = 64;
 
-/// Puts a pair in, and what it leads through.
+/// Adds a pair to a transitive relation, and closes the relation with it.
 fn close(rows: &mut Rows, a: usize, d: usize) {
     if a < rows.len() && d < rows.len() {
         rows.close_with(a, d);
     }
 }
 
-/// What comes before what, where no load has a source.
+/// The happens-before of the test, where no load has a source.
 fn unsourced() -> Rows {
     let mut rows = Rows::new(EVENTS);
     for event in 1..EVENTS {
@@ -124,7 +124,7 @@ fn small_executions(alloc: Global) -> Result<Vec<(Rows, Between)>, AllocError> {
     Ok(all)
 }
 
-/// How many executions have no event that is forced before itself, each asked so many times.
+/// How many executions have no event that is forced before itself, where each is searched so many times.
 fn unbroken(all: &[(Rows, Between)], turns: usize) -> usize {
     let mut count: usize = 0;
     for _ in 0..turns {
@@ -137,7 +137,7 @@ fn unbroken(all: &[(Rows, Between)], turns: usize) -> usize {
     count
 }
 
-/// How many orders a finder finds, each execution asked `TURNS` times.
+/// How many orders a finder finds, where it searches each execution `TURNS` times.
 fn found<F: OrderFinder>(finder: &F, all: &[(Rows, Between)]) -> usize {
     let mut count: usize = 0;
     for _ in 0..TURNS {

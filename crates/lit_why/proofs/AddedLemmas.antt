@@ -1,4 +1,4 @@
--- How a list of attempts goes on: by none, by one, and by what is added in turn.
+-- How a list of attempts grows: by none, by one, and by two lists in turn.
 use Rattle.std.proofs.Common.{◌≡◌, ◌↔◌, ◌⊎◌, inl, inr, ℕ, zero, suc, ◌+◌, ◌-◌, ◌<◌, ◌≤◌, List, [], ◌∷◌, ◌++◌, Some, length, length-append}
 use Rattle.std.proofs.Common.{refl, sym, ap, subst, ◌∙◌, arith}
 use Rattle.std.specs.Prelude.{slice_get}
@@ -56,7 +56,7 @@ adds_same t most holds other old new same adds = record {
 }
 
 -- ---- one after the other
--- what stands in two lists joined is in one of them
+-- what stands in two lists appended is in one of them
 parted : (xs ys : List Attempt) (i : ℕ) (a : Attempt) → slice_get (xs ++ ys) i ≡ Some a
     → (slice_get xs i ≡ Some a) ⊎ ((length xs ≤ i) × (slice_get ys (i - length xs) ≡ Some a))
 parted xs ys i a at = elim (cases_lt i (length xs)) [
@@ -89,8 +89,8 @@ module _ (t : Litmus) (most : ℕ) (first second all : ℕ → Type 0) (old mid 
   abbrev ys : List Attempt
   ys = behind.added
 
-  joined : new ≡ old ++ (xs ++ ys)
-  joined = behind.goes_on ∙ ap (λ (zs : List Attempt). zs ++ ys) before.goes_on ∙ append_assoc old xs ys
+  appended : new ≡ old ++ (xs ++ ys)
+  appended = behind.goes_on ∙ ap (λ (zs : List Attempt). zs ++ ys) before.goes_on ∙ append_assoc old xs ys
 
   rising : AreRising (xs ++ ys)
   rising i j a b less at_a at_b = elim (parted xs ys i a at_a) [
@@ -135,7 +135,7 @@ module _ (t : Litmus) (most : ℕ) (first second all : ℕ → Type 0) (old mid 
   pub adds_more : Adds t most all old new
   adds_more = record {
     added = xs ++ ys;
-    goes_on = joined;
+    goes_on = appended;
     few = behind.few;
     each = λ i a at. elim (parted xs ys i a at) [
       | inl left ↦ let h = before.each i a left in ((both a.choice).1 (inl h.0), h.1)

@@ -23,8 +23,8 @@ use Rattle.lit_solve.specs.Box.{Box, LiesIn, box_with, events_on}
 use Rattle.lit_solve.proofs.LexLemmas.{place_of_less}
 use Rattle.lit_solve.proofs.RangeLemmas.{sources_rise}
 use Rattle.lit_why.specs.declared.attempt.Attempt.{Attempt}
-use Rattle.lit_why.specs.Attempts.{AreBefore, AreFirstAttempts, AreOneAttempt, AreRising, HasAttempt, IsLeastTry, IsOn, IsTry, give_alike}
-use Rattle.lit_why.specs.Attempts.{part_with, store_alike}
+use Rattle.lit_why.specs.Attempts.{AreBefore, AreFirstAttempts, AreOneAttempt, AreRising, HasAttempt, IsLeastTry, IsOn, IsTry, give_same_values}
+use Rattle.lit_why.specs.Attempts.{part_with, store_same}
 use Rattle.lit_why.specs.Internal.Added.{Adds}
 use Rattle.lit_why.specs.Internal.Domains.{AreDomainsBy}
 use Rattle.lit_why.specs.Internal.Trials.{IsLeastTryOn, IsRepresentative, IsStoredBefore, TriesIn}
@@ -32,22 +32,22 @@ use Rattle.lit_why.proofs.AddedLemmas.{adds_more}
 use Rattle.lit_why.proofs.NodeLemmas.{on_sourced, placed, rises_at}
 use Rattle.lit_why.proofs.FirstRaceLemmas.{one_sources}
 
--- ---- storing the same
+-- ---- sources that store the same bytes
 pub both : (a b : Bool) → IsTrue (a && b) → IsTrue a × IsTrue b
 both true true is = (refl, refl)
 both true false is = absurd (let e = is in cc)
 both false b is = absurd (let e = is in cc)
 
 -- at each place
-alike_at : (events : List Event) (reads : List (ℕ × ℕ)) (some other : List ℕ) → IsTrue (store_alike events reads some other)
+stored_same_at : (events : List Event) (reads : List (ℕ × ℕ)) (some other : List ℕ) → IsTrue (store_same events reads some other)
     → (k v w : ℕ) (read : ℕ × ℕ) → slice_get reads k ≡ Some read → slice_get some k ≡ Some v → slice_get other k ≡ Some w
     → payload_at (event_at events w) read.1 ≡ payload_at (event_at events v) read.1
-alike_at events [] some other is k v w read at at_some at_other = absurd (let e = at in cc)
-alike_at events (r ∷ reads) [] other is k v w read at at_some at_other = absurd (let e = at_some in cc)
-alike_at events (r ∷ reads) (x ∷ some) [] is k v w read at at_some at_other = absurd (let e = at_other in cc)
-alike_at events (r ∷ reads) (x ∷ some) (y ∷ other) is zero v w read at at_some at_other =
+stored_same_at events [] some other is k v w read at at_some at_other = absurd (let e = at in cc)
+stored_same_at events (r ∷ reads) [] other is k v w read at at_some at_other = absurd (let e = at_some in cc)
+stored_same_at events (r ∷ reads) (x ∷ some) [] is k v w read at at_some at_other = absurd (let e = at_other in cc)
+stored_same_at events (r ∷ reads) (x ∷ some) (y ∷ other) is zero v w read at at_some at_other =
     let here : (payload_at (event_at events y) r.1 == payload_at (event_at events x) r.1) ≡ true =
-    (both (payload_at (event_at events y) r.1 == payload_at (event_at events x) r.1) (store_alike events reads some other) is).0 in
+    (both (payload_at (event_at events y) r.1 == payload_at (event_at events x) r.1) (store_same events reads some other) is).0 in
     let stored : payload_at (event_at events y) r.1 ≡ payload_at (event_at events x) r.1 = grind (arith, nat_tests) in
     let same_read : r ≡ read = same_Some r read at in
     let same_v : x ≡ v = same_Some x v at_some in
@@ -55,25 +55,25 @@ alike_at events (r ∷ reads) (x ∷ some) (y ∷ other) is zero v w read at at_
     subst (λ (q : ℕ × ℕ). payload_at (event_at events w) q.1 ≡ payload_at (event_at events v) q.1) same_read
     (subst (λ (n : ℕ). payload_at (event_at events n) r.1 ≡ payload_at (event_at events v) r.1) same_w
     (subst (λ (n : ℕ). payload_at (event_at events y) r.1 ≡ payload_at (event_at events n) r.1) same_v stored))
-alike_at events (r ∷ reads) (x ∷ some) (y ∷ other) is (suc k) v w read at at_some at_other =
-    alike_at events reads some other
-    (both (payload_at (event_at events y) r.1 == payload_at (event_at events x) r.1) (store_alike events reads some other) is).1 k v w
+stored_same_at events (r ∷ reads) (x ∷ some) (y ∷ other) is (suc k) v w read at at_some at_other =
+    stored_same_at events reads some other
+    (both (payload_at (event_at events y) r.1 == payload_at (event_at events x) r.1) (store_same events reads some other) is).1 k v w
     read at at_some
     at_other
 
-alike_from : (events : List Event) (reads : List (ℕ × ℕ)) (some other : List ℕ) → length some ≡ length reads → length other ≡ length reads
+store_same_from : (events : List Event) (reads : List (ℕ × ℕ)) (some other : List ℕ) → length some ≡ length reads → length other ≡ length reads
     → ((k v w : ℕ) (read : ℕ × ℕ) → slice_get reads k ≡ Some read → slice_get some k ≡ Some v → slice_get other k ≡ Some w
-    → payload_at (event_at events w) read.1 ≡ payload_at (event_at events v) read.1) → IsTrue (store_alike events reads some other)
-alike_from events [] some other long long_other each = refl
-alike_from events (r ∷ reads) [] other long long_other each = absurd (omega (arith, long))
-alike_from events (r ∷ reads) (x ∷ some) [] long long_other each = absurd (omega (arith, long_other))
-alike_from events (r ∷ reads) (x ∷ some) (y ∷ other) long long_other each =
-    let later : store_alike events reads some other ≡ true =
-    alike_from events reads some other (omega (arith, long)) (omega (arith, long_other))
+    → payload_at (event_at events w) read.1 ≡ payload_at (event_at events v) read.1) → IsTrue (store_same events reads some other)
+store_same_from events [] some other long long_other each = refl
+store_same_from events (r ∷ reads) [] other long long_other each = absurd (omega (arith, long))
+store_same_from events (r ∷ reads) (x ∷ some) [] long long_other each = absurd (omega (arith, long_other))
+store_same_from events (r ∷ reads) (x ∷ some) (y ∷ other) long long_other each =
+    let later : store_same events reads some other ≡ true =
+    store_same_from events reads some other (omega (arith, long)) (omega (arith, long_other))
     (λ k v w read at at_some at_other. each (suc k) v w read at at_some at_other) in
     let here : (payload_at (event_at events y) r.1 == payload_at (event_at events x) r.1)
     ≡ true = eq-eqb _ _ (each 0 x y r refl refl refl) in
-    ap (λ (b : Bool). b && store_alike events reads some other) here ∙ later
+    ap (λ (b : Bool). b && store_same events reads some other) here ∙ later
 
 -- ---- choices on a combination
 -- a choice is on one combination
@@ -127,7 +127,7 @@ module _ (laws : Laws) (refused : RefusedBytesMakeFalse) (p : Litmus × ℕ) (cl
 
   -- no lesser choice has the same values as one by representatives
   least_by : (n : ℕ) (is : TriesIn box class n) (m : ℕ) → m < n → ¬ AreOneAttempt t m n
-  least_by n is m less one = never at_m on_n alike
+  least_by n is m less one = never at_m on_n same_values
     where
       same : one.combination ≡ c
       same = one_combination t n c one.combination is.on.low is.on.high one.on_other.low one.on_other.high
@@ -138,11 +138,11 @@ module _ (laws : Laws) (refused : RefusedBytesMakeFalse) (p : Litmus × ℕ) (cl
       on_n : IsOn t n c one.other
       on_n = subst (λ (d : ℕ). IsOn t n d one.other) same one.on_other
 
-      alike : IsTrue (give_alike events one.some one.other)
-      alike = subst (λ (d : ℕ). IsTrue (give_alike (events_in t d) one.some one.other)) same one.alike
+      same_values : IsTrue (give_same_values events one.some one.other)
+      same_values = subst (λ (d : ℕ). IsTrue (give_same_values (events_in t d) one.some one.other)) same one.same_values
 
-      never : IsOn t m c one.some → IsOn t n c one.other → IsTrue (give_alike events one.some one.other) → ⊥
-      never on_m on_n alike =
+      never : IsOn t m c one.some → IsOn t n c one.other → IsTrue (give_same_values events one.some one.other) → ⊥
+      never on_m on_n same_values =
           let a = one.some in
           let b = is.sources in
           let others : one.other ≡ b = one_sources t n one.other b on_n.has is.on.has in
@@ -162,8 +162,8 @@ module _ (laws : Laws) (refused : RefusedBytesMakeFalse) (p : Litmus × ℕ) (cl
             other = get_or a k 0;
             candidate = are_a.each k read.0 read.1 (get_or a k 0) at_read at_a;
             lesser = place.2.greater place.1;
-            same = sym (alike_at events (byte_reads events) a b
-                (subst (λ (ws : List ℕ). IsTrue (give_alike events a ws)) others alike) k (get_or a k 0) (get_or b k 0) read
+            same = sym (stored_same_at events (byte_reads events) a b
+                (subst (λ (ws : List ℕ). IsTrue (give_same_values events a ws)) others same_values) k (get_or a k 0) (get_or b k 0) read
                 at_read at_a at_b);
           })
 
@@ -209,7 +209,7 @@ module _ (laws : Laws) (refused : RefusedBytesMakeFalse) (p : Litmus × ℕ) (cl
           other = sources;
           on_some = lesser.1;
           on_other = on;
-          alike = alike_from events (byte_reads events) others sources are_others.one_each are.one_each
+          same_values = store_same_from events (byte_reads events) others sources are_others.one_each are.one_each
               (λ i x y read at_i at_x at_y. elim (cases_eq i k) [
                 | inl same ↦
                     let pair : (r, b) ≡ read = same_Some (r, b) read (sym at_read ∙ ap (slice_get (byte_reads events)) (sym same) ∙ at_i) in

@@ -6,11 +6,11 @@ use Rattle.std.proofs.lemmas.Option.{same_Some, slice_get_within}
 use Rattle.std.specs.List.{slice_get}
 use Rattle.lit_order.specs.Forcing.{AfterRead, BeforeSource, Given, HasForcedCycle, IsForced, Through}
 use Rattle.lit_paths.proofs.Products.{slice_get_left, slice_get_right}
-use Rattle.lit_why.specs.declared.derivations.lines.Line.{Line}
+use Rattle.lit_why.specs.declared.derivations.lines.DerivationLine.{DerivationLine}
 use Rattle.lit_why.specs.declared.derivations.lines.Reason.{Reason}
 use Rattle.lit_why.specs.declared.derivations.lines.Reason.TheVariants as reasons
 use Rattle.lit_why.specs.Derivation.{EachFollows, EndsInCycle, Follows, IsDerivationBy, IsLineOf}
-use Rattle.lit_why.specs.Internal.Deriving.{AreGiven, HasForced, HasJoined, HasLine, HasLines, IsGiven}
+use Rattle.lit_why.specs.Internal.Deriving.{AreGiven, HasForced, HasComposed, HasLine, HasLines, IsGiven}
 
 -- what is at a place after one is put at the end
 pub at_pushed : {X : Type 0} (xs : List X) (y : X) (k : ℕ) (x : X) → slice_get (xs ++ y ∷ []) k ≡ Some x → ((k < length xs) × (slice_get xs k ≡ Some x)) ⊎ ((k ≡ length xs) × (y ≡ x))
@@ -24,15 +24,15 @@ at_pushed xs y k x at =
           inr (same, same_Some y x (sym (slice_get_right xs (y ∷ []) k 0 (omega arith)) ∙ at))
     ]
 
-pub pushed_kept : {X : Type 0} (xs : List X) (y : X) (k : ℕ) (x : X) → slice_get xs k ≡ Some x → slice_get (xs ++ y ∷ []) k ≡ Some x
-pushed_kept xs y k x at = slice_get_left xs (y ∷ []) k (slice_get_within xs k x at) ∙ at
+pub pushed_same : {X : Type 0} (xs : List X) (y : X) (k : ℕ) (x : X) → slice_get xs k ≡ Some x → slice_get (xs ++ y ∷ []) k ≡ Some x
+pushed_same xs y k x at = slice_get_left xs (y ∷ []) k (slice_get_within xs k x at) ∙ at
 
 pub pushed_last : {X : Type 0} (xs : List X) (y : X) → slice_get (xs ++ y ∷ []) (length xs) ≡ Some y
 pushed_last xs y = slice_get_right xs (y ∷ []) (length xs) 0 (omega arith)
 
-module _ (lines : List Line) (line : Line) where
+module _ (lines : List DerivationLine) (line : DerivationLine) where
   pub IsLineOf-more : (k e d : ℕ) → IsLineOf lines k e d → IsLineOf (lines ++ line ∷ []) k e d
-  IsLineOf-more k e d h = record { line = h.line; at_place = pushed_kept lines line k h.line h.at_place; first = h.first; second = h.second }
+  IsLineOf-more k e d h = record { line = h.line; at_place = pushed_same lines line k h.line h.at_place; first = h.first; second = h.second }
 
   pub IsLineOf-last : IsLineOf (lines ++ line ∷ []) (length lines) line.before line.after
   IsLineOf-last = record { line = line; at_place = pushed_last lines line; first = refl; second = refl }
@@ -47,7 +47,7 @@ module _ (lines : List Line) (line : Line) where
   module _ (before : ℕ → ℕ → Type 0) (forbidden : ℕ → ℕ → ℕ → Type 0) where
     Follows-more : (place e d : ℕ) (reason : Reason) → Follows before forbidden lines place e d reason → Follows before forbidden (lines ++ line ∷ []) place e d reason
     Follows-more place e d reasons.HappensBefore h = h
-    Follows-more place e d (reasons.Joined first second) h = (h.0, h.1, h.2, IsLineOf-more first e h.0 h.3, IsLineOf-more second h.0 d h.4)
+    Follows-more place e d (reasons.Composed first second) h = (h.0, h.1, h.2, IsLineOf-more first e h.0 h.3, IsLineOf-more second h.0 d h.4)
     Follows-more place e d (reasons.BeforeSource r earlier) h = (h.0, h.1, IsLineOf-more earlier e r h.2)
     Follows-more place e d (reasons.AfterRead w earlier) h = (h.0, h.1, IsLineOf-more earlier w d h.2)
 
@@ -68,29 +68,29 @@ module _ (lines : List Line) (line : Line) where
   }
 
 module _ (before other : ℕ → ℕ → Type 0) (forbidden more : ℕ → ℕ → ℕ → Type 0) (wider : (e d : ℕ) → before e d → other e d) (also : (w r v : ℕ) → forbidden w r v → more w r v) where
-  pub Follows-wider : (lines : List Line) (place e d : ℕ) (reason : Reason) → Follows before forbidden lines place e d reason → Follows other more lines place e d reason
+  pub Follows-wider : (lines : List DerivationLine) (place e d : ℕ) (reason : Reason) → Follows before forbidden lines place e d reason → Follows other more lines place e d reason
   Follows-wider lines place e d reasons.HappensBefore h = wider e d h
-  Follows-wider lines place e d (reasons.Joined first second) h = h
+  Follows-wider lines place e d (reasons.Composed first second) h = h
   Follows-wider lines place e d (reasons.BeforeSource r earlier) h = (also d r e h.0, h.1, h.2)
   Follows-wider lines place e d (reasons.AfterRead w earlier) h = (also w e d h.0, h.1, h.2)
 
 -- given lines follow
-pub EachFollows-given : (before : ℕ → ℕ → Type 0) (forbidden : ℕ → ℕ → ℕ → Type 0) (lines : List Line) → AreGiven before lines → EachFollows before forbidden lines
+pub EachFollows-given : (before : ℕ → ℕ → Type 0) (forbidden : ℕ → ℕ → ℕ → Type 0) (lines : List DerivationLine) → AreGiven before lines → EachFollows before forbidden lines
 EachFollows-given before forbidden lines given k line at = let is = given k line at in rw is.reason is.has
 
-pub AreGiven-more : (before : ℕ → ℕ → Type 0) (lines : List Line) (line : Line) → AreGiven before lines → IsGiven before line → AreGiven before (lines ++ line ∷ [])
+pub AreGiven-more : (before : ℕ → ℕ → Type 0) (lines : List DerivationLine) (line : DerivationLine) → AreGiven before lines → IsGiven before line → AreGiven before (lines ++ line ∷ [])
 AreGiven-more before lines line given here k new at = elim (at_pushed lines line k new at) [ inl old ↦ given k new old.1 | inr last ↦ rw (← last.1) here ]
 
--- where nothing is left to follow, all that is forced is known
+-- where all pairs that follow are known, all pairs that are forced are known
 pub forced_within : (before known : ℕ → ℕ → Type 0) (forbidden : ℕ → ℕ → ℕ → Type 0) → ((e d : ℕ) → before e d → known e d) → HasForced forbidden known known
-    → HasJoined known known → (a d : ℕ) → IsForced before forbidden a d → known a d
-forced_within before known forbidden has forced joined a d (Given h) = has a d h
-forced_within before known forbidden has forced joined a d (Through m p q) =
-    joined a m d (forced_within before known forbidden has forced joined a m p) (forced_within before known forbidden has forced joined m d q)
-forced_within before known forbidden has forced joined a d (AfterRead w f not_source not_read p) =
-    forced.after w a d f (forced_within before known forbidden has forced joined w d p)
-forced_within before known forbidden has forced joined a d (BeforeSource r f not_source not_read p) =
-    forced.earlier d r a f (forced_within before known forbidden has forced joined a r p)
+    → HasComposed known known → (a d : ℕ) → IsForced before forbidden a d → known a d
+forced_within before known forbidden has forced composed a d (Given h) = has a d h
+forced_within before known forbidden has forced composed a d (Through m p q) =
+    composed a m d (forced_within before known forbidden has forced composed a m p) (forced_within before known forbidden has forced composed m d q)
+forced_within before known forbidden has forced composed a d (AfterRead w f not_source not_read p) =
+    forced.after w a d f (forced_within before known forbidden has forced composed w d p)
+forced_within before known forbidden has forced composed a d (BeforeSource r f not_source not_read p) =
+    forced.earlier d r a f (forced_within before known forbidden has forced composed a r p)
 
 pub HasForced-from_old : (forbidden : ℕ → ℕ → ℕ → Type 0) (old known : ℕ → ℕ → Type 0) → ((e d : ℕ) → known e d → old e d) → HasForced forbidden old known → HasForced forbidden known known
 HasForced-from_old forbidden old known same forced = record {
@@ -103,16 +103,16 @@ pub no_cycle_more : (known more : ℕ → ℕ → Type 0) (a d : ℕ) → ((x y 
     → (e : ℕ) → ¬ more e e
 no_cycle_more known more a d put none apart e h = elim ((put e e).0 h) [ inl old ↦ none e old | inr new ↦ apart (sym new.0 ∙ new.1) ]
 
--- the measure of the rounds
+-- the measure of the iterations
 pub two_less : (m n : ℕ) (grown : Bool) → n < m → 2 * n + cond true 1 0 < 2 * m + cond grown 1 0
 two_less m n true less = omega arith
 two_less m n false less = omega arith
 
--- ---- by relations that hold alike
-module _ (before other : ℕ → ℕ → Type 0) (forbidden more : ℕ → ℕ → ℕ → Type 0) (same : (e d : ℕ) → before e d ↔ other e d) (alike : (w r v : ℕ) → forbidden w r v ↔ more w r v) where
-  pub IsDerivationBy-same : (lines : List Line) → IsDerivationBy before forbidden lines → IsDerivationBy other more lines
+-- ---- by relations that hold of the same pairs
+module _ (before other : ℕ → ℕ → Type 0) (forbidden more : ℕ → ℕ → ℕ → Type 0) (same : (e d : ℕ) → before e d ↔ other e d) (same_triples : (w r v : ℕ) → forbidden w r v ↔ more w r v) where
+  pub IsDerivationBy-same : (lines : List DerivationLine) → IsDerivationBy before forbidden lines → IsDerivationBy other more lines
   IsDerivationBy-same lines h = record {
-    follows = λ k line at. Follows-wider before other forbidden more (λ e d. (same e d).0) (λ w r v. (alike w r v).0) lines k line.before line.after line.reason (h.follows k line at);
+    follows = λ k line at. Follows-wider before other forbidden more (λ e d. (same e d).0) (λ w r v. (same_triples w r v).0) lines k line.before line.after line.reason (h.follows k line at);
     ends = h.ends;
     cited = h.cited;
   }
@@ -120,18 +120,18 @@ module _ (before other : ℕ → ℕ → Type 0) (forbidden more : ℕ → ℕ �
   IsForced-back : (a d : ℕ) → IsForced other more a d → IsForced before forbidden a d
   IsForced-back a d (Given h) = Given ((same a d).1 h)
   IsForced-back a d (Through m p q) = Through m (IsForced-back a m p) (IsForced-back m d q)
-  IsForced-back a d (AfterRead w f not_source not_read p) = AfterRead w ((alike w a d).1 f) not_source not_read (IsForced-back w d p)
-  IsForced-back a d (BeforeSource r f not_source not_read p) = BeforeSource r ((alike d r a).1 f) not_source not_read (IsForced-back a r p)
+  IsForced-back a d (AfterRead w f not_source not_read p) = AfterRead w ((same_triples w a d).1 f) not_source not_read (IsForced-back w d p)
+  IsForced-back a d (BeforeSource r f not_source not_read p) = BeforeSource r ((same_triples d r a).1 f) not_source not_read (IsForced-back a r p)
 
   pub no_cycle_same : ¬ HasForcedCycle before forbidden → ¬ HasForcedCycle other more
   no_cycle_same none cycle = none (cycle.0, IsForced-back cycle.0 cycle.0 cycle.1)
 
 -- ---- what each line says is forced
-module _ (before : ℕ → ℕ → Type 0) (forbidden : ℕ → ℕ → ℕ → Type 0) (apart : (w r v : ℕ) → forbidden w r v → (v ≢ w) × (v ≢ r)) (lines : List Line) (each : EachFollows before forbidden lines) where
+module _ (before : ℕ → ℕ → Type 0) (forbidden : ℕ → ℕ → ℕ → Type 0) (apart : (w r v : ℕ) → forbidden w r v → (v ≢ w) × (v ≢ r)) (lines : List DerivationLine) (each : EachFollows before forbidden lines) where
   follows_forced : (most : ℕ) → ((k e d : ℕ) → k < most → IsLineOf lines k e d → IsForced before forbidden e d) → (k e d : ℕ) → k < most + 1 → (reason : Reason)
       → Follows before forbidden lines k e d reason → IsForced before forbidden e d
   follows_forced most less k e d inside reasons.HappensBefore h = Given h
-  follows_forced most less k e d inside (reasons.Joined first second) h =
+  follows_forced most less k e d inside (reasons.Composed first second) h =
       let one : first < k = h.1 in let two : second < k = h.2 in Through h.0 (less first e h.0 (omega arith) h.3) (less second h.0 d (omega arith) h.4)
   follows_forced most less k e d inside (reasons.BeforeSource r earlier) h =
       let one : earlier < k = h.1 in let two = apart d r e h.0 in BeforeSource r h.0 two.0 two.1 (less earlier e r (omega arith) h.2)

@@ -1,5 +1,5 @@
 pub mod AddedLemmas
-pub mod AlikeLemmas
+pub mod SameValueLemmas
 pub mod AttemptLemmas
 pub mod CountLemmas
 pub mod DerivationLemmas
@@ -7,7 +7,7 @@ pub mod DomainLemmas
 pub mod FirstRaceLemmas
 pub mod LinkLemmas
 pub mod NodeLemmas
-pub mod PruningLemmas
+pub mod UsedLineLemmas
 pub mod RaceLemmas
 pub mod ReachLemmas
 pub mod RefusalLemmas

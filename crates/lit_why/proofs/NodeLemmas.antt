@@ -1,4 +1,4 @@
--- Going down the byte reads of a box: what tries the class by sources in its domains, and what is left to try.
+-- Descending the byte reads of a box: what tries the class by sources in its domains, and which sources remain to be tried.
 use Rattle.std.proofs.Common.{◌≡◌, ◌↔◌, ◌⊎◌, inl, inr, ℕ, ◌+◌, ◌<◌, true, List, [], ◌∷◌, ◌++◌, Some, arith, get_or, length, refl, sym, ap}
 use Rattle.std.proofs.Common.{subst, ◌∙◌}
 use Rattle.std.specs.Prelude.{slice_get, slice_index}
@@ -69,19 +69,19 @@ one_choice laws t m n c a b on_a on_b same = elim (cases_order m n) [
     never : (ws : List ℕ) → slice_cmp nat_cmp ws ws ≡ Less → ⊥
     never ws less = never_both_less ws ws refl less less
 
--- ---- a domain of which some sources are left
--- choice n tries the class, with a source at the place that is left no more
+-- ---- a domain of which some sources remain to be tried
+-- choice n tries the class, with a source at the place that was tried before
 pub record TriesPast (box : Box) (class : Class) (place : ℕ) (left : EventSet) (n : ℕ) : Type 0 where
   pub is : TriesIn box class n
   pub past : (w : ℕ) → slice_get is.sources place ≡ Some w → ¬ HasEvent left w
 
--- what is left is of the domain, and greater than what is left no more
+-- the remaining sources are of the domain, and greater than those that were tried before
 pub record AreLeft (box : Box) (place : ℕ) (left : EventSet) : Type 0 where
   pub within : (w : ℕ) → HasEvent left w → HasSource box place w
   pub greater : (w v : ℕ) → HasSource box place w → ¬ HasEvent left w → HasEvent left v → w < v
 
 module _ (laws : Laws) (box : Box) (class : Class) where
-  -- what tries has a source for each byte read, in its domain
+  -- a choice that tries the class has a source for each byte read, in its domain
   pub tries_at : (place n : ℕ) (is : TriesIn box class n) → place < length (byte_reads (box_events box))
       → slice_get is.sources place ≡ Some (get_or is.sources place 0)
   tries_at place n is inside =
@@ -115,7 +115,7 @@ module _ (laws : Laws) (box : Box) (class : Class) where
         is : TriesIn box class a.choice
         is = record { sources = sources; on = on; lies = lie.within; is_try = can sources lie decided }
 
-  -- ---- a domain of which some sources are left
+  -- ---- a domain of which some sources remain to be tried
   module _ (place : ℕ) (inside : place < length (byte_reads (box_events box))) where
     pub all_left : (left : EventSet) → ((w : ℕ) → HasEvent left w ↔ HasSource box place w) → AreLeft box place left
     all_left left same = record {
@@ -192,7 +192,7 @@ module _ (laws : Laws) (box : Box) (class : Class) where
       next_at : (n : ℕ) (is : TriesIn next class n) (w : ℕ) → slice_get is.sources place ≡ Some w → w ≡ source
       next_at n is w at = its_own w (is.lies place w at)
 
-      -- what is left no more, once the source is tried
+      -- the choices that were tried before, once the source is tried too
       pub past_more : (n : ℕ) → TriesPast box class place others n ↔ (TriesPast box class place left n ⊎ TriesIn next class n)
       past_more n = (
         λ tries.

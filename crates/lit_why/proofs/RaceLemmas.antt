@@ -1,4 +1,4 @@
--- Data races by relations that hold alike.
+-- Data races by relations that hold of the same pairs.
 use Rattle.std.proofs.Common.{◌≢◌, ◌↔◌, ℕ, ◌<◌, List, Option, Some, None, MatchOption, sym, arith, inl, inr}
 use Rattle.std.proofs.lemmas.Bool.{cases_lt}
 use Rattle.lit_paths.specs.declared.event.Event.{Event}
@@ -11,9 +11,9 @@ use Rattle.lit_why.specs.RacingPair.{IsLeastRacing}
 -- a pair races where a relation orders the same pairs and reads are the same
 pub IsDataRace-same : (events : List Event) (before other reads more : ℕ → ℕ → Type 0) → ((e d : ℕ) → before e d ↔ other e d) → ((e d : ℕ) → reads e d ↔ more e d)
     → (e d : ℕ) → IsDataRace events before reads e d → IsDataRace events other more e d
-IsDataRace-same events before other reads more same alike e d h = grind (arith, same, alike)
+IsDataRace-same events before other reads more same same_reads e d h = grind (arith, same, same_reads)
 
--- the least pair of one is that of another that races alike
+-- the least pair of one is that of another by which the same events race
 pub IsLeastRacing-same : (races other : ℕ → ℕ → Type 0) → ((e d : ℕ) → races e d ↔ other e d) → (pair : RacingPair) → IsLeastRacing races pair → IsLeastRacing other pair
 IsLeastRacing-same races other same pair h = record {
   rising = h.rising;
@@ -62,10 +62,10 @@ pub found_same : (before other reads more : ℕ → ℕ → Type 0) (events : Li
     → (found : Option RacingPair)
     → MatchOption found ((e d : ℕ) → e < d → ¬ IsDataRace events before reads e d) (IsLeastRacing (IsDataRace events before reads))
     → MatchOption found (¬ HasDataRaceOf events other more) (IsLeastRacing (IsDataRace events other more))
-found_same before other reads more events same alike None h =
-    let back = IsDataRace-same events other before more reads (λ e d. ((same e d).1, (same e d).0)) (λ e d. ((alike e d).1, (alike e d).0)) in
+found_same before other reads more events same same_reads None h =
+    let back = IsDataRace-same events other before more reads (λ e d. ((same e d).1, (same e d).0)) (λ e d. ((same_reads e d).1, (same_reads e d).0)) in
     none_from_rising events other more (λ e d less race. h e d less (back e d race))
-found_same before other reads more events same alike (Some pair) h =
-    let back = IsDataRace-same events other before more reads (λ e d. ((same e d).1, (same e d).0)) (λ e d. ((alike e d).1, (alike e d).0)) in
-    let to = IsDataRace-same events before other reads more same alike in
+found_same before other reads more events same same_reads (Some pair) h =
+    let back = IsDataRace-same events other before more reads (λ e d. ((same e d).1, (same e d).0)) (λ e d. ((same_reads e d).1, (same_reads e d).0)) in
+    let to = IsDataRace-same events before other reads more same same_reads in
     IsLeastRacing-same (IsDataRace events before reads) (IsDataRace events other more) (λ e d. (to e d, back e d)) pair h

@@ -48,17 +48,17 @@ module _ (step : ℕ → ℕ → Type 0) (d : ℕ) where
 
 -- ---- levels, of which each further one has what leads to the one before it
 module _ (step : ℕ → ℕ → Type 0) (d from : ℕ) where
-  -- the sets so far, the next one, and what they have together
-  pub record AreKept (levels : List EventSet) (level reached : EventSet) : Type 0 where
+  -- the levels so far, the next one, and the union of those so far
+  pub record AreReached (levels : List EventSet) (level reached : EventSet) : Type 0 where
     pub are_levels : AreLevels step d levels
     pub next : (e : ℕ) → HasEvent level e ↔ IsReachedBy step d (length levels) e
     pub together : (e : ℕ) → HasEvent reached e ↔ ((k : ℕ) × (k < length levels) × IsReachedBy step d k e)
     pub below : (k : ℕ) → k < length levels → ¬ IsReachedBy step d k from
 
   module _ (level reached : EventSet) where
-    pub kept_first : (single : EventSet) → ((e : ℕ) → HasEvent single e ↔ (e ≡ d)) → ((e : ℕ) → HasEvent level e ↔ ((x : ℕ) × step e x × HasEvent single x))
-        → ((e : ℕ) → ¬ HasEvent reached e) → AreKept [] level reached
-    kept_first single is_single leads none = record {
+    pub reached_first : (single : EventSet) → ((e : ℕ) → HasEvent single e ↔ (e ≡ d)) → ((e : ℕ) → HasEvent level e ↔ ((x : ℕ) × step e x × HasEvent single x))
+        → ((e : ℕ) → ¬ HasEvent reached e) → AreReached [] level reached
+    reached_first single is_single leads none = record {
       are_levels = λ k inside. absurd (omega arith);
       next = λ e. (
         (λ h. let x = (leads e).0 h in record { middles = []; count = refl; chain = let P : ℕ → Type 0 = λ y. step e y in subst P ((is_single x.0).0 x.2) x.1 }),
@@ -68,44 +68,44 @@ module _ (step : ℕ → ℕ → Type 0) (d from : ℕ) where
       below = λ k inside. absurd (omega arith);
     }
 
-    pub kept_more : (levels : List EventSet) (next more : EventSet) → AreKept levels level reached → ¬ HasEvent level from
+    pub reached_more : (levels : List EventSet) (next more : EventSet) → AreReached levels level reached → ¬ HasEvent level from
         → ((e : ℕ) → HasEvent next e ↔ ((x : ℕ) × step e x × HasEvent level x)) → ((e : ℕ) → HasEvent more e ↔ (HasEvent reached e ⊎ HasEvent level e))
-        → (all : List EventSet) → all ≡ levels ++ level ∷ [] → AreKept all next more
-    kept_more levels next more kept lacks leads joined all is =
+        → (all : List EventSet) → all ≡ levels ++ level ∷ [] → AreReached all next more
+    reached_more levels next more reaches lacks leads united all is =
         let n = length levels in
         let count : length all ≡ n + 1 = rw is (length-append levels (level ∷ [])) in
         let earlier : (k : ℕ) → k < n → get_or all k no_events ≡ get_or levels k no_events = λ k inside. rw is (get_or_append_left levels (level ∷ []) no_events k inside) in
         let here : get_or all n no_events ≡ level = rw is (get_or-append_seam levels level [] no_events) in
         record {
           are_levels = λ k inside e. elim (cases_eq k n) [
-            | inl same ↦ rw (same, here) (kept.next e)
-            | inr other ↦ let less : k < n = omega arith in rw (earlier k less) (kept.are_levels k less e)
+            | inl same ↦ rw (same, here) (reaches.next e)
+            | inr other ↦ let less : k < n = omega arith in rw (earlier k less) (reaches.are_levels k less e)
           ];
           next = λ e. rw count (
-            (λ h. let x = (leads e).0 h in reached_before step d n e x.0 x.1 ((kept.next x.0).0 x.2)),
-            (λ h. let x = reached_next step d n e h in (leads e).1 (x.0, x.1, (kept.next x.0).1 x.2)),
+            (λ h. let x = (leads e).0 h in reached_before step d n e x.0 x.1 ((reaches.next x.0).0 x.2)),
+            (λ h. let x = reached_next step d n e h in (leads e).1 (x.0, x.1, (reaches.next x.0).1 x.2)),
           );
           together = λ e. rw count (
-            (λ h. elim ((joined e).0 h) [
-              | inl old ↦ let at = (kept.together e).0 old in let less : at.0 < n = at.1 in (at.0, omega arith, at.2)
-              | inr new ↦ (n, omega arith, (kept.next e).0 new)
+            (λ h. elim ((united e).0 h) [
+              | inl old ↦ let at = (reaches.together e).0 old in let less : at.0 < n = at.1 in (at.0, omega arith, at.2)
+              | inr new ↦ (n, omega arith, (reaches.next e).0 new)
             ]),
-            (λ h. (joined e).1 (elim (cases_eq h.0 n) [
-              | inl same ↦ inr ((kept.next e).1 (rw same at h.2))
-              | inr other ↦ let inside : h.0 < n + 1 = h.1 in inl ((kept.together e).1 (h.0, omega arith, h.2))
+            (λ h. (united e).1 (elim (cases_eq h.0 n) [
+              | inl same ↦ inr ((reaches.next e).1 (rw same at h.2))
+              | inr other ↦ let inside : h.0 < n + 1 = h.1 in inl ((reaches.together e).1 (h.0, omega arith, h.2))
             ])),
           );
           below = λ k inside h. elim (cases_eq k n) [
-            | inl same ↦ lacks ((kept.next from).1 (rw same at h))
-            | inr other ↦ kept.below k (omega arith) h
+            | inl same ↦ lacks ((reaches.next from).1 (rw same at h))
+            | inr other ↦ reaches.below k (omega arith) h
           ];
         }
 
     -- where the next one has nothing new, nothing reaches d from here
-    pub kept_all : (levels : List EventSet) → AreKept levels level reached → ((e : ℕ) → HasEvent level e → HasEvent reached e) → IsUnreached step from d
-    kept_all levels kept old middles chain =
-        let found = all_below step d (length levels) (λ e h. (kept.together e).0 (old e ((kept.next e).1 h))) middles from chain in
-        kept.below found.0 found.1 found.2
+    pub reached_all : (levels : List EventSet) → AreReached levels level reached → ((e : ℕ) → HasEvent level e → HasEvent reached e) → IsUnreached step from d
+    reached_all levels reaches old middles chain =
+        let found = all_below step d (length levels) (λ e h. (reaches.together e).0 (old e ((reaches.next e).1 h))) middles from chain in
+        reaches.below found.0 found.1 found.2
 
 -- ---- one event more of a set
 module _ (leads cur : ℕ → Type 0) (event : ℕ) (so_far : (e : ℕ) → cur e ↔ ((e < event) × leads e)) where

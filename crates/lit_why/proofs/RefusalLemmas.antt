@@ -1,4 +1,4 @@
--- What refuses a part, by relations that hold alike, and that a part that nothing refuses is not broken.
+-- What refuses a part, by relations that hold of the same pairs, and that a part that nothing refuses is not broken.
 use Rattle.lit_why.specs.RacingPair.{IsLesserPair}
 use Rattle.lit_rel.proofs.SourceLemmas.{read_from, read_here}
 use Rattle.std.proofs.Common.{◌≡◌, ◌⊎◌, ◌↔◌, ℕ, ◌+◌, ◌<◌, ◌≤◌, ◌==◌, false, Option, Some, None, List, [], ◌∷◌, length, map, get_or, suc, refl, sym, ap, subst, eqb-true, arith, inl, inr, ◌∙◌}
@@ -43,20 +43,20 @@ value_past events sources r past =
     let none = filter_none (byte_reads events) sources r (λ k q at same. let known = (are_of_events events).known k q.0 q.1 at in absurd (omega arith)) in
     ap (λ (ps : List ((ℕ × ℕ) × ℕ)). composed (map (λ p. payload_at (event_at events p.1) p.0.1) ps)) none
 
--- ---- tests
-module _ (part : PartModel) (agent : ℕ) (tests : List Tested) (first : ℕ) (is_tests : tests ≡ (path_in part.test part.combination agent).tests)
+-- ---- guards
+module _ (part : PartModel) (agent : ℕ) (guards : List Tested) (first : ℕ) (is_guards : guards ≡ (path_in part.test part.combination agent).tests)
     (is_first : first ≡ first_event part.test part.combination agent) where
-  pub none_here : ((k : ℕ) (test : Tested) → slice_get tests k ≡ Some test → ¬ IsFalseIn part first test) → (p : ℕ) → IsFalseAt part agent p → ⊥
-  none_here none p h = none p h.test (rw is_tests h.at_place) (rw is_first h.is_false)
+  pub none_here : ((k : ℕ) (guard : Tested) → slice_get guards k ≡ Some guard → ¬ IsFalseIn part first guard) → (p : ℕ) → IsFalseAt part agent p → ⊥
+  none_here none p h = none p h.guard (rw is_guards h.at_place) (rw is_first h.is_false)
 
-  pub least_here : agent < length part.test.agents → (place : ℕ) → IsFirstFalse part first tests place → ((a : ℕ) → a < agent → (p : ℕ) → IsFalseAt part a p → ⊥) → IsLeastFalse part agent place
+  pub least_here : agent < length part.test.agents → (place : ℕ) → IsFirstFalse part first guards place → ((a : ℕ) → a < agent → (p : ℕ) → IsFalseAt part a p → ⊥) → IsLeastFalse part agent place
   least_here known place h before = record {
-    is_false = record { known = known; test = h.test; at_place = rw is_tests at h.at_place; is_false = rw is_first at h.is_false };
+    is_false = record { known = known; guard = h.guard; at_place = rw is_guards at h.at_place; is_false = rw is_first at h.is_false };
     least = λ a p other less. elim less [
       | inl less_agent ↦ before a less_agent p other
       | inr less_place ↦
           let here : IsFalseAt part agent p = (let P : ℕ → Type 0 = λ x. IsFalseAt part x p in subst P less_place.0 other) in
-          h.least p here.test less_place.1 (rw is_tests here.at_place) (rw is_first here.is_false)
+          h.least p here.guard less_place.1 (rw is_guards here.at_place) (rw is_first here.is_false)
     ];
   }
 
@@ -96,9 +96,9 @@ not_lesser_same : (q c r b : ℕ) → r ≡ q → b ≡ c → ¬ IsLesserPair q 
 not_lesser_same q c r b same also (inl less) = omega arith
 not_lesser_same q c r b same also (inr less) = let one : c < b = less.1 in omega arith
 
--- ---- by relations that hold alike
+-- ---- by relations that hold of the same pairs
 module _ (part : PartModel) (before reads : ℕ → ℕ → Type 0) (same : (e d : ℕ) → before e d ↔ BeforeIn part e d)
-    (alike : (r w : ℕ) → reads r w ↔ ReadsFrom (part_events part) part.sources r w) where
+    (same_reads : (r w : ℕ) → reads r w ↔ ReadsFrom (part_events part) part.sources r w) where
   hides_same : (r b w v : ℕ) → Hides (part_events part) before r b w v → Hides (part_events part) (BeforeIn part) r b w v
   hides_same r b w v h = record { writes = h.writes; in_range = h.in_range; after_source = (same w v).0 h.after_source; before_read = (same v r).0 h.before_read }
 
@@ -148,15 +148,15 @@ module _ (part : PartModel) (before reads : ℕ → ℕ → Type 0) (same : (e d
 
   pub torn_same : (r w v : ℕ) → AreTorn (part_events part) reads r w v → IsTornBy part r w v
   torn_same r w v h = record {
-    first = record { reads = (alike r w).0 h.first.0; can = h.first.1 };
-    second = record { reads = (alike r v).0 h.second.0; can = h.second.1 };
+    first = record { reads = (same_reads r w).0 h.first.0; can = h.first.1 };
+    second = record { reads = (same_reads r v).0 h.second.0; can = h.second.1 };
     rising = h.rising;
   }
 
   pub torn_back : (r w v : ℕ) → IsTornBy part r w v → AreTorn (part_events part) reads r w v
   torn_back r w v h = record {
-    first = ((alike r w).1 h.first.reads, h.first.can);
-    second = ((alike r v).1 h.second.reads, h.second.can);
+    first = ((same_reads r w).1 h.first.reads, h.first.can);
+    second = ((same_reads r v).1 h.second.reads, h.second.can);
     rising = h.rising;
   }
 
@@ -174,7 +174,7 @@ module _ (part : PartModel) (before reads : ℕ → ℕ → Type 0) (same : (e d
 module _ (part : PartModel) where
   false_on : (asked : Option ℕ) (value : ℕ) → value ≡ observed_value part asked → HasFalseGuardOn part.test part.combination asked value → HasNoFalse part → ⊥
   false_on asked value is h none =
-      none h.agent h.place (record { known = h.known; test = h.test; at_place = h.at_place; is_false = rw (h.asks, ← is) h.is_false })
+      none h.agent h.place (record { known = h.known; guard = h.test; at_place = h.at_place; is_false = rw (h.asks, ← is) h.is_false })
 
   pub not_broken : HasNoFalse part → HasNoCycle part → HasCoherentReads (part_events part) part.sources → HasTearFreeReads (part_events part) part.sources → ¬ IsBroken part
   not_broken no_false no_cycle coherent tear_free (inl (inl cycle)) = no_cycle cycle.0 cycle.1
@@ -198,10 +198,10 @@ read_known events list is k at at_k = (are_of_events events).known k at.read at.
 pub orders_same : (part : PartModel) (n : ℕ) (before : ℕ → ℕ → Type 0) (forbidden : ℕ → ℕ → ℕ → Type 0) → n ≡ length (part_events part) → ((e d : ℕ) → before e d ↔ BeforeIn part e d)
     → ((w r v : ℕ) → forbidden w r v ↔ IsForbidden (part_events part) part.sources w r v)
     → HasOrder n before forbidden ↔ ((order : List ℕ) × IsMemoryOrder (part_events part) part.sources order)
-orders_same part n before forbidden len same alike =
+orders_same part n before forbidden len same same_triples =
     let events = part_events part in (
-      (λ h. (h.0, IsOrderOf-same n (length events) before (BeforeIn part) forbidden (IsForbidden events part.sources) len (λ a d. (same a d).1) (λ w r v. (alike w r v).1) h.0 h.1)),
-      (λ h. (h.0, IsOrderOf-same (length events) n (BeforeIn part) before (IsForbidden events part.sources) forbidden (sym len) (λ a d. (same a d).0) (λ w r v. (alike w r v).0) h.0 h.1)),
+      (λ h. (h.0, IsOrderOf-same n (length events) before (BeforeIn part) forbidden (IsForbidden events part.sources) len (λ a d. (same a d).1) (λ w r v. (same_triples w r v).1) h.0 h.1)),
+      (λ h. (h.0, IsOrderOf-same (length events) n (BeforeIn part) before (IsForbidden events part.sources) forbidden (sym len) (λ a d. (same a d).0) (λ w r v. (same_triples w r v).0) h.0 h.1)),
     )
 
 -- ---- what is refused is broken, or has no order
@@ -213,12 +213,12 @@ module _ (part : PartModel) (are : AreSources (part_events part) part.sources) w
       omega arith
 
   false_breaks : (agent place : ℕ) → IsFalseAt part agent place → HasFalseGuard part
-  false_breaks agent place h = go (number_on (first_event part.test part.combination agent) h.test.on) refl
+  false_breaks agent place h = go (number_on (first_event part.test part.combination agent) h.guard.on) refl
     where
-      go : (asked : Option ℕ) → number_on (first_event part.test part.combination agent) h.test.on ≡ asked → HasFalseGuard part
-      go None asks = inl record { agent = agent; known = h.known; place = place; test = h.test; at_place = h.at_place; asks = asks; is_false = rw asks at h.is_false }
+      go : (asked : Option ℕ) → number_on (first_event part.test part.combination agent) h.guard.on ≡ asked → HasFalseGuard part
+      go None asks = inl record { agent = agent; known = h.known; place = place; test = h.guard; at_place = h.at_place; asks = asks; is_false = rw asks at h.is_false }
       go (Some r) asks =
-          inr (r, all_given r, record { agent = agent; known = h.known; place = place; test = h.test; at_place = h.at_place; asks = asks; is_false = rw asks at h.is_false })
+          inr (r, all_given r, record { agent = agent; known = h.known; place = place; test = h.guard; at_place = h.at_place; asks = asks; is_false = rw asks at h.is_false })
 
   pub refused : (refusal : Refusal) → IsRefusal part refusal → IsBroken part ⊎ (¬ IsBroken part × ((order : List ℕ) → ¬ IsMemoryOrder (part_events part) part.sources order))
   refused (FalseGuard agent place) h = inl (inr (false_breaks agent place h.0))

@@ -1,4 +1,4 @@
--- Sources that stand for all that store the same.
+-- Representatives: the least of the candidates that store the same byte.
 use Rattle.std.proofs.Common.{◌≡◌, ◌↔◌, ℕ, ◌<◌, Bool, true, false, not, refl}
 use Rattle.std.specs.Prelude.{IsTrue}
 use Rattle.std.proofs.lemmas.Bool.{false≢true}
@@ -11,7 +11,7 @@ use Rattle.lit_solve.specs.Box.{events_on}
 use Rattle.lit_solve.specs.Prunable.{IsRefusedOn}
 use Rattle.lit_why.specs.Internal.Trials.{IsRepresentative}
 
--- a candidate that no test refuses is one where no lesser candidate stores the same
+-- a candidate that no guard refuses is a representative where no lesser candidate stores the same byte
 pub unless_before : (c : Litmus × ℕ) (among : EventSet) (read : ℕ × ℕ) (w : ℕ) (before : Bool)
     → ((v : ℕ) → HasEvent among v ↔ IsCandidate (events_on c) read.0 read.1 v) → HasEvent among w → ¬ IsRefusedOn c read.0 read.1 w
     → (IsTrue before ↔ ((v : ℕ) × HasEvent among v × (v < w)

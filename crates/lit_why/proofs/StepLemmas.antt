@@ -25,12 +25,12 @@ chain_known step n known e [] d chain = known e d chain
 chain_known step n known e (m ∷ middles) d chain = ((known e m chain.0).0, (chain_known step n known m middles d chain.1).1)
 
 -- the steps of a part, as rows that have them
-module _ (part : PartModel) (synchronizes rows : ℕ → ℕ → Type 0) (alike : (e d : ℕ) → synchronizes e d ↔ Synchronizes (part_events part) part.sources e d)
+module _ (part : PartModel) (synchronizes rows : ℕ → ℕ → Type 0) (same_synchronizes : (e d : ℕ) → synchronizes e d ↔ Synchronizes (part_events part) part.sources e d)
     (steps : (e d : ℕ) → rows e d ↔ IsStep (part_events part) synchronizes e d) where
   in_rows : (e : ℕ) (middles : List ℕ) (d : ℕ) → Chain (StepBy (part_events part) (ReadsByteFrom (part_events part) part.sources)) e middles d → Chain rows e middles d
   in_rows = Chain-same (StepBy (part_events part) (ReadsByteFrom (part_events part) part.sources)) rows (λ e d h. (steps e d).1 (elim h [
     | inl ordered ↦ inl ordered
-    | inr (inl s) ↦ inr (inl ((alike e d).1 s))
+    | inr (inl s) ↦ inr (inl ((same_synchronizes e d).1 s))
     | inr (inr made) ↦ inr (inr made)
   ]))
 
@@ -44,7 +44,7 @@ module _ (part : PartModel) (synchronizes rows : ℕ → ℕ → Type 0) (alike 
       → length links ≡ length levels + 1 → IsShortestChain part e d links
   is_shortest e d levels links below linked count = record {
     some = omega arith;
-    linked = AreLinkedBy-same (part_events part) synchronizes (Synchronizes (part_events part) part.sources) alike e links d linked;
+    linked = AreLinkedBy-same (part_events part) synchronizes (Synchronizes (part_events part) part.sources) same_synchronizes e links d linked;
     shortest = λ middles chain. elim (cases_lt (length middles) (length levels)) [
       | inl less ↦ absurd (below.below (length middles) less (record { middles = middles; count = refl; chain = in_rows e middles d chain }))
       | inr other ↦ omega arith

@@ -1,4 +1,4 @@
--- What the domains of a box say of the tests of paths.
+-- What the domains of a box say of the guards of paths.
 use Rattle.std.proofs.Common.{◌≡◌, inr, ℕ, List, Some, ap, arith, length, map, subst, ◌∙◌}
 use Rattle.std.proofs.lemmas.Option.{slice_get_within}
 use Rattle.lit_read.specs.Syntax.{Litmus}
@@ -13,7 +13,7 @@ use Rattle.lit_solve.specs.Fill.{AreSourcesIn}
 use Rattle.lit_solve.proofs.NarrowingLemmas.{as_many}
 use Rattle.lit_why.specs.Attempts.{part_with}
 
--- where each byte read has a source, a test on any read that is false of its value is a false one
+-- where each byte read has a source, a guard on any read that is false of its value is a false guard of the part
 pub refused_by_read : (box : Box) (r : ℕ) (sources : List ℕ) → AreSourcesIn box sources
     → HasFalseGuardOn box.test box.combination (Some r) (value_of (box_events box) sources r)
     → HasFalseGuard (part_with box.test box.combination sources)

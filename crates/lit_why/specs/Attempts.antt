@@ -1,5 +1,5 @@
--- Attempts at an outcome: a combination of paths with the values that their tests allow its reads, where the outcome is in a
--- class (this project's own). Whether some execution with these values is valid plays no part.
+-- Attempts at an outcome: a combination of paths, with values of its reads that the guards allow and that put the outcome in a
+-- class (this project's own). An attempt need not have a valid execution.
 use Rattle.std.specs.Prelude.{◌≡◌, ◌⊎◌, ℕ, ◌+◌, ◌<◌, ◌≤◌, ◌==◌, ◌&&◌, Bool, IsTrue, true, false}
 use Rattle.std.specs.Prelude.{List, [], ◌∷◌, Some, filter, length, slice_get}
 use Rattle.lit_read.specs.Syntax.{Litmus}
@@ -26,7 +26,7 @@ pub record IsOn (t : Litmus) (n c : ℕ) (sources : List ℕ) : Type 0 where
 abbrev pub part_with : Litmus → ℕ → List ℕ → PartModel
 part_with t c sources = record { test = t; combination = c; sources = sources }
 
--- by these sources no test of a path is false of what is read, and the outcome is in the class
+-- by these sources no guard of a path is false of the value read, and the outcome is in the class
 pub record IsTry (t : Litmus) (class : Class) (c : ℕ) (sources : List ℕ) : Type 0 where
   pub allowed : ¬ HasFalseGuard (part_with t c sources)
   pub of_class : IsTrue (is_of_class t class (part_outcome (part_with t c sources)))
@@ -39,16 +39,16 @@ pub record TriesClass (t : Litmus) (class : Class) (n : ℕ) : Type 0 where
   pub is_try : IsTry t class combination sources
 
 -- whether two lists of sources store the same byte for each of these byte reads
-abbrev pub store_alike : List Event → List (ℕ × ℕ) → List ℕ → List ℕ → Bool
-store_alike events [] some other = true
-store_alike events (read ∷ reads) [] other = false
-store_alike events (read ∷ reads) (v ∷ some) [] = false
-store_alike events (read ∷ reads) (v ∷ some) (w ∷ other) =
-    (payload_at (event_at events w) read.1 == payload_at (event_at events v) read.1) && store_alike events reads some other
+abbrev pub store_same : List Event → List (ℕ × ℕ) → List ℕ → List ℕ → Bool
+store_same events [] some other = true
+store_same events (read ∷ reads) [] other = false
+store_same events (read ∷ reads) (v ∷ some) [] = false
+store_same events (read ∷ reads) (v ∷ some) (w ∷ other) =
+    (payload_at (event_at events w) read.1 == payload_at (event_at events v) read.1) && store_same events reads some other
 
 -- whether two lists of sources store the same byte for each byte read of a combination, so that each read has the same value
-abbrev pub give_alike : List Event → List ℕ → List ℕ → Bool
-give_alike events some other = store_alike events (byte_reads events) some other
+abbrev pub give_same_values : List Event → List ℕ → List ℕ → Bool
+give_same_values events some other = store_same events (byte_reads events) some other
 
 -- choices m and n are of one attempt: they are on one combination, and give each read the same value
 pub record AreOneAttempt (t : Litmus) (m n : ℕ) : Type 0 where
@@ -57,19 +57,19 @@ pub record AreOneAttempt (t : Litmus) (m n : ℕ) : Type 0 where
   pub other : List ℕ
   pub on_some : IsOn t m combination some
   pub on_other : IsOn t n combination other
-  pub alike : IsTrue (give_alike (events_in t combination) some other)
+  pub same_values : IsTrue (give_same_values (events_in t combination) some other)
 
 -- choice n is the first of an attempt at the class
 pub record IsLeastTry (t : Litmus) (class : Class) (n : ℕ) : Type 0 where
   pub tries : TriesClass t class n
   pub least : (m : ℕ) → m < n → ¬ AreOneAttempt t m n
 
--- so many of the choices on the combination of choice n give each read the value that it does
+-- so many of the choices on the combination of choice n give each read the value that choice n gives it
 pub record HasSoMany (t : Litmus) (n count : ℕ) : Type 0 where
   pub combination : ℕ
   pub sources : List ℕ
   pub on : IsOn t n combination sources
-  pub are : count ≡ length (filter (give_alike (events_in t combination) sources) (sources_of (events_in t combination)))
+  pub are : count ≡ length (filter (give_same_values (events_in t combination) sources) (sources_of (events_in t combination)))
 
 -- an attempt at the class, by the number of its first choice and how many choices it has
 pub record IsAttempt (t : Litmus) (class : Class) (attempt : Attempt) : Type 0 where
@@ -83,16 +83,16 @@ pub record HasAttempt (attempts : List Attempt) (n : ℕ) : Type 0 where
   pub is : slice_get attempts place ≡ Some attempt
   pub same : attempt.choice ≡ n
 
--- their first choices rise
+-- the first choices of the attempts rise
 abbrev pub AreRising : List Attempt → Type 0
 AreRising attempts =
     (i j : ℕ) (a b : Attempt) → i < j → slice_get attempts i ≡ Some a → slice_get attempts j ≡ Some b → a.choice < b.choice
 
--- the first choice of each is before this one
+-- the first choice of each attempt is before choice n
 abbrev pub AreBefore : List Attempt → ℕ → Type 0
 AreBefore attempts n = (i : ℕ) (a : Attempt) → slice_get attempts i ≡ Some a → a.choice < n
 
--- The first `most` attempts at the class: in order, each once, and none is left out but behind so many.
+-- The first `most` attempts at the class, in order, each once: an attempt that is missing comes after so many.
 pub record AreFirstAttempts (t : Litmus) (class : Class) (most : ℕ) (attempts : List Attempt) : Type 0 where
   pub few : length attempts ≤ most
   pub each : (i : ℕ) (a : Attempt) → slice_get attempts i ≡ Some a → IsAttempt t class a

@@ -1,5 +1,4 @@
--- How one event happens before another: the steps of a shortest chain (ECMA-262, 2024, 29.6.6; that a kind is said is this
--- project's own).
+-- Shortest chains of happens-before (ECMA-262, 2024, 29.6.6; the kinds of steps are this project's own).
 use Rattle.std.specs.Prelude.{◌≡◌, ℕ, ◌+◌, ◌<◌, ◌≤◌, List, [], ◌∷◌, length}
 use Rattle.lit_paths.specs.declared.event.Event.{Event}
 use Rattle.lit_rel.specs.AgentOrder.{IsAgentOrdered}
@@ -24,7 +23,7 @@ AreLinkedBy events synchronizes e [] d = e ≡ d
 AreLinkedBy events synchronizes e (link ∷ links) d =
     IsOfKindBy events synchronizes link.kind e link.to × AreLinkedBy events synchronizes link.to links d
 
--- by the sources given
+-- the same, where synchronizes-with is that of these sources
 abbrev pub AreLinked : List Event → List ℕ → ℕ → List Link → ℕ → Type 0
 AreLinked events sources = AreLinkedBy events (Synchronizes events sources)
 

@@ -1,10 +1,10 @@
 -- Notions of the contracts inside this crate: steps of derivations, and which of their lines are used; chains of so many steps; races
 -- from one event on, and data races on one combination; what refuses a part; the domains that a search begins with, what they say of
--- attempts, and how a list of attempts goes on.
+-- attempts, and how a list of attempts grows.
 pub mod Added
 pub mod Deriving
 pub mod Domains
-pub mod Pruning
+pub mod UsedLines
 pub mod RacesOn
 pub mod Racing
 pub mod Reaching

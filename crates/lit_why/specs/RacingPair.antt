@@ -6,7 +6,7 @@ use Rattle.lit_rel.specs.Part.{PartModel, part_events}
 use Rattle.lit_rel.specs.ReadsFrom.{ReadsFrom}
 use Rattle.lit_why.specs.declared.racing.RacingPair.{RacingPair}
 
--- first by one event, then by the other
+-- the lexicographic order of pairs
 abbrev pub IsLesserPair : ℕ → ℕ → ℕ → ℕ → Type 0
 IsLesserPair e d first second = (e < first) ⊎ ((e ≡ first) × (d < second))
 
@@ -16,7 +16,7 @@ pub record IsLeastRacing (races : ℕ → ℕ → Type 0) (pair : RacingPair) : 
   pub is_race : races pair.first pair.second
   pub least : (e d : ℕ) → e < d → races e d → ¬ IsLesserPair e d pair.first pair.second
 
--- in a data race by a part's happens-before and reads-from
+-- two events are in a data race by a part's happens-before and reads-from
 abbrev pub RacesIn : PartModel → ℕ → ℕ → Type 0
 RacesIn part = IsDataRace (part_events part) (HappensBefore (part_events part) part.sources) (ReadsFrom (part_events part) part.sources)
 

@@ -1,5 +1,5 @@
--- What refuses a complete part first, of the clauses of a valid execution (ECMA-262, 2024, 29.7; their order, and which of several
--- witnesses is named, is this project's own).
+-- Refusals: the first clause of a valid execution that a complete part breaks, with a witness (ECMA-262, 2024, 29.7; the order of the
+-- clauses, and which of several witnesses is named, are this project's own).
 use Rattle.std.specs.Prelude.{◌≡◌, ◌⊎◌, ℕ, ◌<◌, Option, Some, None, false, List, length, slice_get}
 use Rattle.lit_paths.specs.Plan.{first_event, path_in}
 use Rattle.lit_paths.specs.Run.{compares}
@@ -19,16 +19,16 @@ use Rattle.lit_why.specs.declared.refusals.causes.Refusal.TheVariants.{BeforeIts
 abbrev pub BeforeIn : PartModel → ℕ → ℕ → Type 0
 BeforeIn part = HappensBefore (part_events part) part.sources
 
--- a test on a path whose first event has this number is false of the value that its read takes, of 0 where the register was not written
+-- A guard on a path whose first event has this number is false of the value of its read, or of 0 where the register was not written.
 abbrev pub IsFalseIn : PartModel → ℕ → Tested → Type 0
-IsFalseIn part first test = compares test.equal (observed_value part (number_on first test.on)) test.value ≡ false
+IsFalseIn part first guard = compares guard.equal (observed_value part (number_on first guard.on)) guard.value ≡ false
 
--- the one at a place of an agent's path
+-- the guard at a place of an agent's path is false
 pub record IsFalseAt (part : PartModel) (agent place : ℕ) : Type 0 where
   pub known : agent < length part.test.agents
-  pub test : Tested
-  pub at_place : slice_get (path_in part.test part.combination agent).tests place ≡ Some test
-  pub is_false : IsFalseIn part (first_event part.test part.combination agent) test
+  pub guard : Tested
+  pub at_place : slice_get (path_in part.test part.combination agent).tests place ≡ Some guard
+  pub is_false : IsFalseIn part (first_event part.test part.combination agent) guard
 
 abbrev pub HasNoFalse : PartModel → Type 0
 HasNoFalse part = (agent place : ℕ) → ¬ IsFalseAt part agent place
@@ -57,11 +57,11 @@ pub record IsTornBy (part : PartModel) (r w v : ℕ) : Type 0 where
   pub second : IsWholeFrom part r v
   pub rising : w < v
 
--- first by the read, then by one event, then by the other
+-- the lexicographic order of triples: by the read, then by one event, then by the other
 abbrev pub IsLesserTriple : ℕ → ℕ → ℕ → ℕ → ℕ → ℕ → Type 0
 IsLesserTriple q u x r w v = (q < r) ⊎ ((q ≡ r) × IsLesserPair u x w v)
 
--- the clauses before this one refuse nothing, this is what this one refuses, and it refuses nothing less
+-- the clauses before this one hold, and this is the least witness that this one does not
 abbrev pub IsRefusal : PartModel → Refusal → Type 0
 IsRefusal part (FalseGuard agent place) =
     IsFalseAt part agent place × ((a p : ℕ) → IsFalseAt part a p → ¬ IsLesserPair a p agent place)

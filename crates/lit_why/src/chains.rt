@@ -1,4 +1,4 @@
-//! How one event happens before another (ECMA-262, 2024, 29.6.6), step by step.
+//! Shortest chains of happens-before from one event to another (ECMA-262, 2024, 29.6.6).
 
 pub(crate) mod links;
 mod reaching;
@@ -18,7 +18,7 @@ use arrayvec::ArrayVec;
 use lit_paths::{EVENT_LIMIT, Event};
 use lit_rel::{EventSet, Part, Rows};
 
-/// The steps from one event to another, by way of levels as `levels_below` gives them.
+/// The links of a shortest chain from one event to another, along the levels that `levels_below` gives.
 fn links_along(
     events: &[Event],
     synchronizes: &Rows,
@@ -58,7 +58,7 @@ fn link_between(events: &[Event], synchronizes: &Rows, first: usize, second: usi
     ensures to { result.to ≡ second }
     ensures kind { IsOfKindBy events.now (Holds synchronizes.now) result.kind first second }
 {
-    // A number of an event is a byte.
+    // Tells the prover that there are few events, so that the number of an event fits in a byte.
     let _events = synchronizes.len();
     Link {
         to: second as u8,
@@ -66,9 +66,9 @@ fn link_between(events: &[Event], synchronizes: &Rows, first: usize, second: usi
     }
 }
 
-/// The least number of steps, each of agent-order, synchronizes-with, or from an event that makes a byte of the other's range, that lead
-/// from one event to another, both by number; from an event to itself they are a cycle. `None` exactly where the one does not happen
-/// before the other.
+/// A shortest chain of happens-before from one event to another, both by number; from an event to itself it is a cycle. Each step is of
+/// agent-order, of synchronizes-with, or from an init event to an event whose range has its byte. `None` exactly where the one event
+/// does not happen before the other.
 pub fn chain(part: &Part<'_>, from: u8, to: u8) -> Option<Chain>
     ensures { MatchOption result (¬ HappensBefore (part_events part.now) part.now.sources from to)
         (λ chain. IsShortestChain part.now from to chain.links.items) }

@@ -1,9 +1,9 @@
-//! Why there is no memory-order (ECMA-262, 2024, 29.7.4).
+//! Derivations: proofs that a part has no memory-order (ECMA-262, 2024, 29.7.4), line by line.
 
 mod following;
 pub(crate) mod lines;
-mod pruning;
 mod searching;
+mod used_lines;
 
 ghost use Rattle.std.specs.Prelude.{ℕ, ◌<◌, IfOk, MatchOption};
 ghost use Rattle.lit_order.specs.Forcing.{HasForcedCycle};
@@ -13,9 +13,9 @@ ghost use Rattle.lit_rel.specs.Part.{part_events};
 ghost use Rattle.lit_rel.specs.Rows.{Holds};
 ghost use Rattle.lit_why.specs.Derivation.{IsDerivation};
 
-use crate::derivations::lines::{Line, Reason};
-use crate::derivations::pruning::pruned;
+use crate::derivations::lines::{DerivationLine, Reason};
 use crate::derivations::searching::lines_to_cycle;
+use crate::derivations::used_lines::only_used;
 use lit_rel::{Part, Rows};
 use std::alloc::{AllocError, Global};
 
@@ -32,19 +32,20 @@ pub(crate) fn first_before_itself(before: &Rows) -> Option<usize>
     None
 }
 
-/// Why there is no memory-order of the part's sources: precedences that every order would have to keep, each of which follows from
-/// happens-before, from earlier ones, or from one of these and what may not stand between a source and its read, until an event comes
-/// before itself. Each line but the last is cited by a later one. `None` exactly where no event is forced before itself; then there may
-/// be no memory-order all the same. Refused only where memory is.
-pub fn derivation(alloc: Global, part: &Part<'_>) -> Result<Option<Vec<Line>>, AllocError>
+/// A derivation that the part has no memory-order: precedences that every memory-order would have to respect. Each line follows from
+/// happens-before, from two earlier lines, or from an earlier line and a forbidden triple; the last has an event before itself. Each line
+/// but the last is cited by a later one. `None` exactly where no event is forced before itself; then the part may have no memory-order
+/// all the same. Fails only where memory is refused.
+pub fn derivation(alloc: Global, part: &Part<'_>) -> Result<Option<Vec<DerivationLine>>, AllocError>
     ensures { IfOk result (λ found. MatchOption found
         (¬ HasForcedCycle (HappensBefore (part_events part.now) part.now.sources) (IsForbidden (part_events part.now) part.now.sources))
         (λ lines. IsDerivation (part_events part.now) part.now.sources lines.items)) }
 {
     let (before, between) = (part.happens_before(), part.between());
+    // `lines_to_cycle` needs a relation without a cycle.
     if let Some(event) = first_before_itself(&before) {
         let mut lines = Vec::new(alloc);
-        lines.push(Line {
+        lines.push(DerivationLine {
             before: event as u8,
             after: event as u8,
             reason: Reason::HappensBefore,
@@ -52,7 +53,7 @@ pub fn derivation(alloc: Global, part: &Part<'_>) -> Result<Option<Vec<Line>>, A
         return Ok(Some(lines));
     }
     match lines_to_cycle(alloc, &before, &between)? {
-        Some(lines) => Ok(Some(pruned(alloc, lines.as_slice())?)),
+        Some(lines) => Ok(Some(only_used(alloc, lines.as_slice())?)),
         None => Ok(None),
     }
 }

@@ -1,4 +1,4 @@
-//! The domains that a search begins with.
+//! The domains that a search begins with: all candidates of each byte read.
 
 ghost use Rattle.lit_paths.specs.ByteReads.{IsCandidate};
 ghost use Rattle.lit_solve.specs.Box.{events_on};
@@ -12,7 +12,7 @@ use lit_solve::{Domains, candidates_of};
 pub(crate) fn all_candidates(combination: &Combination<'_>) -> Domains
     ensures { AreDomainsBy combination.now (λ p w. IsCandidate (events_on combination.now) p.0 p.1 w) result }
 {
-    // That there are few byte reads is known of the combination's events.
+    // Tells the prover that there are few byte reads, so that the array has room.
     let _events = combination.events();
     let mut domains = [EventSet::new(); BYTE_READ_LIMIT];
     for place in 0..combination.byte_reads().len() {

@@ -1,4 +1,4 @@
-//! The attempts at a class, one after the other: down the byte reads of each combination, by the bytes that are stored for them.
+//! Enumeration of the attempts at a class: on each combination a depth-first search that branches on the byte stored for each byte read.
 
 ghost use Rattle.std.specs.Prelude.{◌↔◌, ℕ, ◌≤◌, ◌<◌, IfOk, IsTrue, OnOk, length, true};
 ghost use Rattle.lit_read.specs.Syntax.{IsLitmus};
@@ -11,7 +11,7 @@ ghost use Rattle.lit_why.specs.Internal.Added.{Adds};
 ghost use Rattle.lit_why.specs.Internal.Trials.{IsLeastTryOn, IsNode, MayTry, TriesIn};
 
 use crate::attempt::Attempt;
-use crate::counting::count_alike;
+use crate::counting::count_same_values;
 use crate::representatives::representatives;
 use crate::trials::can_try;
 use lit_paths::{Plan, Sources};
@@ -28,7 +28,7 @@ fn least_sources(problem: &Problem<'_>, domains: &Domains) -> Sources
     requires some { ¬ HasEmptyDomain (box_with problem.now domains.now) }
     ensures { AreSourcesIn (box_with problem.now domains.now) result.items }
 {
-    // There is room for a source of each byte read, and an event's number fits.
+    // Tells the prover that there is room for a source of each byte read, and that the number of an event fits in a byte.
     let _events = problem.combination().events();
     let mut sources = Sources::new();
     for place in 0..problem.combination().byte_reads().len() {
@@ -39,7 +39,7 @@ fn least_sources(problem: &Problem<'_>, domains: &Domains) -> Sources
     sources
 }
 
-/// The number of the choice with these sources, one for each byte read, and how many choices are of its attempt.
+/// The number of the choice with these sources, one for each byte read, and how many choices its attempt has.
 fn attempt_of(problem: &Problem<'_>, sources: &[u8]) -> Attempt
     requires known { problem.now.1 < length (combinations_of problem.now.0) }
     requires sourced { AreSources (events_on problem.now) sources.now }
@@ -49,11 +49,11 @@ fn attempt_of(problem: &Problem<'_>, sources: &[u8]) -> Attempt
     let combination = problem.combination();
     Attempt {
         choice: number_of(combination, sources),
-        choices: count_alike(combination, sources),
+        choices: count_same_values(combination, sources),
     }
 }
 
-/// Adds the attempt by the sources in the domains, one for each byte read, which try the class.
+/// Adds the attempt of a leaf: the domain of each byte read has one source, and these sources try the class.
 fn add_one(
     problem: &Problem<'_>,
     class: Class,
@@ -67,13 +67,14 @@ fn add_one(
     ensures { OnOk result (Adds problem.now.0 most (TriesIn (box_with problem.now domains.now) class)
         attempts.old.items attempts.new.items) }
 {
+    // Tells the prover the laws of the crates below.
     laws_below();
     let sources = least_sources(problem, domains);
     attempts.push(attempt_of(problem, sources.as_slice()))?;
     Ok(())
 }
 
-/// Adds the attempts by sources in the domains, as far as there are fewer than `most`. Each byte read before a place has one source.
+/// Adds the attempts by sources in the domains, until there are `most`. Each byte read before a place has one source.
 fn add(
     problem: &Problem<'_>,
     class: Class,
@@ -87,8 +88,9 @@ fn add(
     ensures { OnOk result (Adds problem.now.0 most (TriesIn (box_with problem.now domains.now) class)
         attempts.old.items attempts.new.items) }
 {
+    // Tells the prover the laws of the crates below.
     laws_below();
-    // That there are few byte reads is known of the events.
+    // Tells the prover that there are few byte reads, so that each has a place in the domains.
     let _events = problem.combination().events();
     if attempts.len() == most || !can_try(problem, domains, class) {
         return Ok(());
@@ -110,7 +112,7 @@ fn add(
 fn has_empty(problem: &Problem<'_>, domains: &Domains) -> bool
     ensures { IsTrue result ↔ HasEmptyDomain (box_with problem.now domains.now) }
 {
-    // That there are few byte reads is known of the events.
+    // Tells the prover that there are few byte reads, so that each has a place in the domains.
     let _events = problem.combination().events();
     for place in 0..problem.combination().byte_reads().len() {
         if domains[place].is_empty() {
@@ -120,7 +122,7 @@ fn has_empty(problem: &Problem<'_>, domains: &Domains) -> bool
     false
 }
 
-/// Adds the attempts on a combination, as far as there are fewer than `most`.
+/// Adds the attempts on a combination, until there are `most`.
 fn add_on(
     problem: &Problem<'_>,
     class: Class,
@@ -133,8 +135,11 @@ fn add_on(
     ensures { OnOk result (Adds problem.now.0 most (IsLeastTryOn problem.now.0 class problem.now.1)
         attempts.old.items attempts.new.items) }
 {
+    // The second law says that a source which a guard refuses makes a guard of every complete part with it false, so the domains of
+    // representatives lose no attempt (decision 37).
     laws_below();
     refused_bytes_make_guards_false();
+    // Tells the prover that there are few events and few byte reads.
     let _events = problem.combination().events();
     let domains = representatives(problem.combination());
     if has_empty(problem, &domains) {
@@ -143,10 +148,9 @@ fn add_on(
     add(problem, class, most, &domains, 0, attempts)
 }
 
-/// The first `most` attempts at a class of a plan's test, in the order of their first choices: each combination of paths with a
-/// value for each of its reads that some sources give, the tests of the paths allow, and that make an outcome in the class. No
-/// choice is walked: the time goes with the attempts and what is tried in vain between them. Answers `AllocError` where a
-/// growth was refused.
+/// The first `most` attempts at a class of a plan's test, in the order of their first choices: each combination of paths with values
+/// of its reads that some sources give, that the guards allow, and that put the outcome in the class. The search visits attempts and
+/// dead ends between them, not each choice. Answers `AllocError` where a growth was refused.
 pub fn attempts(
     alloc: Global,
     plan: &Plan<'_>,
@@ -155,6 +159,7 @@ pub fn attempts(
 ) -> Result<Vec<Attempt>, AllocError>
     ensures { IfOk result (λ attempts. AreFirstAttempts plan.now class most attempts.items) }
 {
+    // Tells the prover that the test is one that a text can spell.
     let _test = plan.test();
     let mut found = Vec::new(alloc);
     for combination in 0..plan.combinations() {

@@ -1,4 +1,4 @@
-//! Laws of what is said of a part, and of attempts. The functions do nothing: their contracts are theorems.
+//! Laws on derivations, refusals and attempts. The functions compute nothing: their contracts are theorems.
 
 ghost use Rattle.std.specs.Prelude.{ℕ, List};
 ghost use Rattle.lit_order.specs.Forcing.{HasForcedCycle};
@@ -13,7 +13,7 @@ ghost use Rattle.lit_valid.specs.declared.class.Class.{Class};
 ghost use Rattle.lit_why.specs.Attempts.{AreOneAttempt, TriesClass};
 ghost use Rattle.lit_why.specs.declared.refusals.causes.Refusal.{Refusal as PartRefusal};
 ghost use Rattle.lit_why.specs.Refusal.{IsRefusal};
-ghost use Rattle.lit_why.specs.declared.derivations.lines.Line.{Line as DerivationLine};
+ghost use Rattle.lit_why.specs.declared.derivations.lines.DerivationLine.{DerivationLine as LineOfDerivation};
 ghost use Rattle.lit_why.specs.Derivation.{IsDerivation};
 
 use lit_valid::laws::{
@@ -22,11 +22,11 @@ use lit_valid::laws::{
 
 /// Where there is a derivation, an event is forced before itself. So `derivation` gives one exactly there.
 pub fn derivations_end_in_forced_cycles()
-    ensures { (events : List ExecutionEvent) (sources : List ℕ) (lines : List DerivationLine) → IsDerivation events sources lines
+    ensures { (events : List ExecutionEvent) (sources : List ℕ) (lines : List LineOfDerivation) → IsDerivation events sources lines
         → HasForcedCycle (HappensBefore events sources) (IsForbidden events sources) }
 {}
 
-/// A complete part that something refuses is that of no valid execution. So `refusal` names something exactly there.
+/// No valid execution has the paths and sources of a complete part with a refusal. So `refusal` gives one exactly for such parts.
 pub fn refused_parts_have_no_completion()
     ensures { (part : PartModel) (refusal : PartRefusal) → IsOnCombination part → AreSources (part_events part) part.sources
         → IsRefusal part refusal → ¬ HasCompletion part }
@@ -35,7 +35,7 @@ pub fn refused_parts_have_no_completion()
     whole_parts_are_decided_by_orders();
 }
 
-/// Where one choice of an attempt tries a class, all of them do: so an attempt is one at the class by any of its choices.
+/// Where one choice of an attempt tries a class, all choices of the attempt do.
 pub fn choices_of_an_attempt_try_together()
     ensures { (t : Litmus) (class : Class) (m n : ℕ) → AreOneAttempt t m n → TriesClass t class m → TriesClass t class n }
 {

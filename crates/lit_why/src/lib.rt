@@ -22,7 +22,7 @@ pub use attempt::Attempt;
 pub use chains::chain;
 pub use chains::links::{Chain, Link, StepKind};
 pub use derivations::derivation;
-pub use derivations::lines::{Line, Reason};
+pub use derivations::lines::{DerivationLine, Reason};
 pub use enumeration::attempts;
 pub use parts::part_of;
 pub use race_example::{RaceExample, first_race};

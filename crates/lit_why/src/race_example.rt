@@ -1,4 +1,4 @@
-//! The first choice that a valid execution with a data race has.
+//! The first choice whose valid executions include one with a data race.
 
 ghost use Rattle.std.specs.Prelude.{ℕ, ◌<◌, MatchOption, length};
 ghost use Rattle.lit_paths.specs.Choice.{combinations_of};
@@ -20,12 +20,13 @@ pub struct RaceExample {
     pub least: Least,
 }
 
-/// The first choice with a data race of those on a combination, by its number: below `combinations`.
+/// The first choice on a combination that a valid execution with a data race has; the combination by its number, below `combinations`.
 fn first_race_on(plan: &Plan<'_>, combination: usize) -> Option<RaceExample>
     requires { combination < length (combinations_of plan.now) }
     ensures { MatchOption result (HasNoRaceOn plan.now combination)
         (λ race. IsFirstRaceOn plan.now combination race.choice race.least.sources.items race.least.order.items) }
 {
+    // Tells the prover the laws of the crates below, and that the test is one that a text can spell.
     laws_below();
     let _test = plan.test();
     let problem = Problem::open(plan, combination);

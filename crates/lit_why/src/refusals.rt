@@ -1,9 +1,9 @@
-//! What refuses a complete part (ECMA-262, 2024, 29.7).
+//! Refusals: the first clause of a valid execution (ECMA-262, 2024, 29.7) that a complete part breaks, with a witness.
 
 pub(crate) mod causes;
+mod guards;
 mod incoherence;
 mod tearing;
-mod tests;
 
 ghost use Rattle.std.specs.Prelude.{◌≡◌, ◌↔◌, ◌<◌, IsTrue, MatchOption, length};
 ghost use Rattle.lit_order.specs.MemoryOrder.{HasOrder};
@@ -16,14 +16,14 @@ ghost use Rattle.lit_why.specs.Refusal.{IsRefusal};
 
 use crate::derivations::first_before_itself;
 use crate::refusals::causes::Refusal;
+use crate::refusals::guards::false_guard;
 use crate::refusals::incoherence::first_incoherent;
 use crate::refusals::tearing::first_torn;
-use crate::refusals::tests::false_guard;
 use lit_order::{ForcedFinder, OrderFinder};
 use lit_rel::{Between, Part, Rows};
 use lit_valid::laws::whole_parts_are_decided_by_orders;
 
-/// Whether some order keeps a relation and avoids forbidden triples, both on the same events.
+/// Whether some order respects a relation and avoids forbidden triples, both on the same events.
 fn has_order(before: &Rows, between: &Between) -> bool
     requires { rows_len before.now ≡ between.now.len }
     ensures { IsTrue result ↔ HasOrder (rows_len before.now) (Holds before.now) (Forbids between.now) }
@@ -34,9 +34,9 @@ fn has_order(before: &Rows, between: &Between) -> bool
     }
 }
 
-/// What refuses a part with sources for all its byte reads, of a combination of a test: the first clause of a valid execution that does, in
-/// the order of `Refusal`, and the least of what that clause refuses. `None` exactly where a valid execution has the part's paths and
-/// sources. The sources are passed beside the part, which does not lend them.
+/// The refusal of a complete part on a combination of a test: the first clause of a valid execution that the part breaks, in the order of
+/// `Refusal`, with its least witness (decision 38). `None` exactly where a valid execution has the part's paths and sources. The caller
+/// passes the sources beside the part, which does not lend them (decision 40).
 pub fn refusal(part: &Part<'_>, sources: &[u8]) -> Option<Refusal>
     requires known { part.now.combination < length (combinations_of part.now.test) }
     requires complete { IsComplete part.now }
@@ -52,7 +52,7 @@ pub fn refusal(part: &Part<'_>, sources: &[u8]) -> Option<Refusal>
     }
     let combination = part.combination();
     let events = combination.events();
-    // Its sources are events.
+    // Tells the prover that the part's sources are events of the combination.
     let _len = part.len();
     if let Some(found) = first_incoherent(events, &before, combination.byte_reads(), sources) {
         return Some(Refusal::Incoherent {
@@ -70,8 +70,9 @@ pub fn refusal(part: &Part<'_>, sources: &[u8]) -> Option<Refusal>
             other: found.other as u8,
         });
     }
+    // The law says that a complete part that is not broken has a valid execution exactly where it has a memory-order.
     whole_parts_are_decided_by_orders();
-    // The test is one that a text can say.
+    // Tells the prover that the test is one that a text can spell.
     let _agents = combination.test().agents();
     if has_order(&before, &part.between()) {
         None

@@ -1,4 +1,4 @@
-//! Sources that stand for all that store the same.
+//! Representatives: of the candidates of a byte read that store the same byte, the least (decision 37).
 
 ghost use Rattle.std.specs.Prelude.{◌≡◌, ◌↔◌, ℕ, ◌<◌, ◌≤◌, IsTrue, length};
 ghost use Rattle.lit_paths.specs.ByteReads.{IsCandidate, byte_read_at, byte_reads};
@@ -14,7 +14,7 @@ use lit_rel::laws::byte_reads_are_of_events;
 use lit_rel::{EventSet, is_source_refused, payload_at};
 use lit_solve::{Domains, candidates_of};
 
-/// Whether some lesser event of a set stores the same as this one at a byte.
+/// Whether some lesser event of a set stores the same value at a byte as this one.
 fn is_stored_before(events: &[Event], among: EventSet, byte: u8, source: usize) -> bool
     requires source { source < length events.now }
     requires few { length events.now ≤ EVENT_LIMIT }
@@ -24,6 +24,7 @@ fn is_stored_before(events: &[Event], among: EventSet, byte: u8, source: usize) 
     let stored = payload_at(event_at(events, source), byte);
     let mut left = among;
     while let Some((event, others)) = left.split_first() {
+        // The events of a set come in rising order.
         if event >= source {
             return false;
         }
@@ -35,7 +36,7 @@ fn is_stored_before(events: &[Event], among: EventSet, byte: u8, source: usize) 
     false
 }
 
-/// Whether a candidate of a byte read, by its place, is the least of those that store what it does, and no test refuses it.
+/// Whether a candidate of a byte read, by its place, is the least of those that store the same byte, and no guard refuses it.
 fn is_representative(
     combination: &Combination<'_>,
     place: usize,
@@ -48,6 +49,7 @@ fn is_representative(
     requires there { HasEvent candidates source }
     ensures { IsTrue result ↔ IsRepresentative combination.now (byte_read_at (events_on combination.now) place) source }
 {
+    // The law says that each byte read is of an event that reads the byte.
     byte_reads_are_of_events();
     let events = combination.events();
     let at = combination.byte_reads()[place];
@@ -57,12 +59,12 @@ fn is_representative(
     !is_stored_before(events, candidates, at.byte, source)
 }
 
-/// The candidates of a byte read, by its place, that are the least of those that store what they do, and that no test refuses.
+/// The representatives of a byte read, by its place.
 fn representatives_at(combination: &Combination<'_>, place: usize) -> EventSet
     requires { place < length (byte_reads (events_on combination.now)) }
     ensures { (w : ℕ) → HasEvent result w ↔ IsRepresentative combination.now (byte_read_at (events_on combination.now) place) w }
 {
-    // A set has room for each event of a combination.
+    // Tells the prover that a set has room for each event of the combination.
     let _events = combination.events();
     let candidates = candidates_of(combination, place);
     let mut first = EventSet::new();
@@ -76,11 +78,11 @@ fn representatives_at(combination: &Combination<'_>, place: usize) -> EventSet
     first
 }
 
-/// These of each byte read.
+/// The representatives of each byte read, as domains.
 pub(crate) fn representatives(combination: &Combination<'_>) -> Domains
     ensures { AreDomainsBy combination.now (IsRepresentative combination.now) result }
 {
-    // That there are few byte reads is known of the combination's events.
+    // Tells the prover that there are few byte reads, so that the array has room.
     let _events = combination.events();
     let mut domains = [EventSet::new(); BYTE_READ_LIMIT];
     for place in 0..combination.byte_reads().len() {

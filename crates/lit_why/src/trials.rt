@@ -8,14 +8,14 @@ use lit_rel::has_false_guard;
 use lit_solve::{Domains, Problem, Prospect, ReadValue};
 use lit_valid::Class;
 
-/// Whether a test on a read is false of its value, by event number, where the domains leave it one.
+/// Whether a guard on a read, by event number, is false of the read's value, where the domains leave the read one value.
 fn is_read_refused(problem: &Problem<'_>, domains: &Domains, read: usize) -> bool
     requires read { read < length (events_on problem.now) }
     requires is_box { IsBox (box_with problem.now domains.now) }
     requires some { ¬ HasEmptyDomain (box_with problem.now domains.now) }
     ensures { IsReadRefused (box_with problem.now domains.now) read result }
 {
-    // The number of an event is that of one byte.
+    // Tells the prover that the number of an event fits in a byte.
     let _events = problem.combination().events();
     match problem.read_value(domains, read as u8) {
         ReadValue::One(value) => has_false_guard(problem.combination(), Some(read), value),
@@ -23,7 +23,7 @@ fn is_read_refused(problem: &Problem<'_>, domains: &Domains, read: usize) -> boo
     }
 }
 
-/// Whether a test of a path is false: of 0 in a register that was not written, or of a read to which the domains leave one value.
+/// Whether a guard of a path is false: of 0 in a register that was not written, or of a read to which the domains leave one value.
 fn are_refused(problem: &Problem<'_>, domains: &Domains) -> bool
     requires is_box { IsBox (box_with problem.now domains.now) }
     requires some { ¬ HasEmptyDomain (box_with problem.now domains.now) }
@@ -40,8 +40,7 @@ fn are_refused(problem: &Problem<'_>, domains: &Domains) -> bool
     false
 }
 
-/// Whether sources in the domains can try a class: no test is false, and the outcome can be in the class, as far as each byte
-/// read is read as one byte.
+/// Whether sources in the domains can try a class. `false` says that none do; `true` says that all do, unless a byte is undecided.
 pub(crate) fn can_try(problem: &Problem<'_>, domains: &Domains, class: Class) -> bool
     requires is_box { IsBox (box_with problem.now domains.now) }
     requires some { ¬ HasEmptyDomain (box_with problem.now domains.now) }

@@ -65,7 +65,7 @@ fn each_way_to_read_is_an_attempt(rt: HostRuntime) -> Result<(), Fail> {
     assert_attempts(&rt, STORE_BUFFERING, Class::Unmet, 9, others)
 }
 
-/// They are the first ones, and no more than are asked for.
+/// These are the first attempts, and no more than `most`.
 #[test]
 fn so_many_are_given_at_most(rt: HostRuntime) -> Result<(), Fail> {
     assert_attempts(&rt, STORE_BUFFERING, Class::Unmet, 0, &[])?;
@@ -73,7 +73,7 @@ fn so_many_are_given_at_most(rt: HostRuntime) -> Result<(), Fail> {
     assert_attempts(&rt, STORE_BUFFERING, Class::Unmet, 2, &[(1, 1), (2, 1)])
 }
 
-/// Choices that read the same from other events are of one attempt: 1 from either store; and of two bytes, the low one from
+/// Choices that read the same values from other events are of one attempt: 1 from either store; and of two bytes, the low one from
 /// either and the high one from the wide store.
 #[test]
 fn sources_that_store_the_same_are_counted(rt: HostRuntime) -> Result<(), Fail> {
@@ -86,7 +86,7 @@ fn sources_that_store_the_same_are_counted(rt: HostRuntime) -> Result<(), Fail> 
 
 /// Both succeed where both read 0. One fails where it reads the 1 of the other, and no path lets both fail.
 #[test]
-fn paths_allow_values_by_their_tests(rt: HostRuntime) -> Result<(), Fail> {
+fn guards_allow_values(rt: HostRuntime) -> Result<(), Fail> {
     assert_attempts(&rt, BOTH_EXCHANGE_FOR_ONE, Class::Met, 9, &[(0, 1)])?;
     let others: &[(u64, u64)] = &[(5, 1), (7, 1)];
     assert_attempts(&rt, BOTH_EXCHANGE_FOR_ONE, Class::Unmet, 9, others)?;

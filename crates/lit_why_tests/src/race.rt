@@ -41,7 +41,7 @@ fn a_plain_load_races_with_the_store_that_it_reads(rt: HostRuntime) -> Result<()
     )
 }
 
-/// Atomic accesses of one range race with nothing; nor does a load behind a test that the atomic flag was read.
+/// Atomic accesses of one range race with nothing; nor does a load behind a guard that the atomic flag was read.
 #[test]
 fn synchronized_accesses_have_no_race(rt: HostRuntime) -> Result<(), Fail> {
     assert_race(&rt, STORE_BUFFERING, None)?;

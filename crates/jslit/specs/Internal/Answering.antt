@@ -1,4 +1,4 @@
--- What writing an answer for a test comes to.
+-- The effect of writing the answer for a test.
 use Rattle.std.specs.Prelude.{Bool, Option, IfSome, List, ℕ}
 use Rattle.std.specs.Io.KnownBytes.{Appends}
 use Rattle.lit_read.specs.Syntax.{Litmus}

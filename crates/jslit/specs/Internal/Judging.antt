@@ -1,4 +1,4 @@
--- What outcomes answer to the condition.
+-- Whether outcomes meet the condition.
 use Rattle.std.specs.Prelude.{◌≡◌, ◌<◌, ℕ, Bool}
 use Rattle.lit_read.specs.Syntax.{Litmus}
 use Rattle.lit_paths.specs.Outcome.{meets}

@@ -28,7 +28,7 @@ abbrev pub first_source_head : Litmus → List Event → List ℕ
 first_source_head t [] = []
 first_source_head t (e ∷ es) = source_head t e
 
--- the lines of the reads among the first events, so many, and that of the event behind up to its sources
+-- the lines of the reads among the first `part` events, and the line of the next event up to its sources
 abbrev pub lines_up_to : Litmus → List Event → ℕ → List ℕ → List ℕ
 lines_up_to t events part sources = lines_from t events (take part events) sources ++ first_source_head t (drop part events)
 

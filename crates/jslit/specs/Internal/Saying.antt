@@ -1,4 +1,4 @@
--- What printing the line of a fault comes to.
+-- The effect of printing the line of a fault.
 use Rattle.std.specs.Prelude.{◌≡◌, ◌≢◌, ◌⊎◌, ◌<◌, Option, List, ℕ}
 use Rattle.clap.specs.declared.error.kind.ErrorKind.{ErrorKind}
 use Rattle.clap.specs.declared.error.kind.ErrorKind.TheVariants as kinds
@@ -19,7 +19,7 @@ pub record HasSaid (fault : RunFault) (old new : Option (List ℕ)) (failed : Ty
 pub record IsSaid {W : Type 0} (contents : W → Option (List ℕ)) (status : ℕ) (old new : Counted W) (fault : RunFault) : Type 0 where
   pub status_is : status ≡ status_of fault
   pub refused : status ≡ 1 → HasSaid fault (contents (device_of old)) (contents (device_of new)) (failures_of old < failures_of new)
-  pub kept : status ≢ 1 → new ≡ old
+  pub unchanged : status ≢ 1 → new ≡ old
 
 -- the status that an error of the words has, by its kind
 abbrev pub IsExplained : ErrorKind → ℕ → Type 0

@@ -1,4 +1,4 @@
--- What reading a schedule comes to.
+-- The results of reading a schedule.
 use Rattle.std.specs.Prelude.{◌≢◌, ◌<◌, ℕ, Option, Some, None, List, [], ◌∷◌, length}
 use Rattle.lit_read.specs.Syntax.{Litmus, agent_of}
 use Rattle.jslit.specs.declared.fault.RunFault.{RunFault}

@@ -1,8 +1,8 @@
--- What writing a report has come to: what the writer holds, and what waits to be written.
+-- The state of writing a report: the bytes that the writer has, and those that wait in the buffer.
 use Rattle.std.specs.Prelude.{◌≡◌, ℕ, ◌++◌, Bool, true, false, Option, List}
 use Rattle.std.specs.Io.KnownBytes.{Appends}
 use Rattle.jslit.specs.declared.counted.Counted.{Counted}
-use Rattle.jslit.specs.declared.page.Page.{Page}
+use Rattle.jslit.specs.declared.buffer.Buffer.{Buffer}
 use Rattle.jslit.specs.Counted.{device_of, failures_of, one_more}
 use Rattle.jslit.specs.Devices.{AppendsBeginning}
 
@@ -13,9 +13,9 @@ pub record Writing : Type 0 where
   pub waiting : List ℕ
   pub failed : Bool
 
-abbrev pub writing_of : {W : Type 0} → (W → Option (List ℕ)) → Counted W → Page → Writing
-writing_of contents output page =
-    record { known = contents (device_of output); failures = failures_of output; waiting = page.waiting; failed = page.failed }
+abbrev pub writing_of : {W : Type 0} → (W → Option (List ℕ)) → Counted W → Buffer → Writing
+writing_of contents output buffer =
+    record { known = contents (device_of output); failures = failures_of output; waiting = buffer.waiting; failed = buffer.failed }
 
 -- a text was put, and no write failed: it stands behind what waited, of which a beginning was written
 pub record GoesOn (old new : Writing) (text : List ℕ) : Type 0 where
@@ -41,11 +41,11 @@ pub record HasPut (old new : Writing) (text : List ℕ) : Type 0 where
   pub failing : old.failed ≡ false → new.failed ≡ true → Fails old new text
   pub failed : old.failed ≡ true → Stays old new
 
--- the same of an output and a page of bytes for it, from one moment to another
-abbrev pub HasPutOn : {W : Type 0} → (W → Option (List ℕ)) → (old new : Counted W) → (page new_page : Page) → (text : List ℕ) → Type 0
-HasPutOn contents old new page new_page text = HasPut (writing_of contents old page) (writing_of contents new new_page) text
+-- the same of an output and its buffer, from one moment to another
+abbrev pub HasPutOn : {W : Type 0} → (W → Option (List ℕ)) → (old new : Counted W) → (buffer new_buffer : Buffer) → (text : List ℕ) → Type 0
+HasPutOn contents old new buffer new_buffer text = HasPut (writing_of contents old buffer) (writing_of contents new new_buffer) text
 
--- no write has failed, and the writer holds, behind what it held, what waited
+-- no write has failed, and the writer has the bytes that it had, and then those that waited
 pub record IsFinished (old : Writing) (known : Option (List ℕ)) (failures : ℕ) : Type 0 where
   pub going : old.failed ≡ false
   pub same : failures ≡ old.failures

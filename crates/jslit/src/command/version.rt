@@ -1,4 +1,4 @@
-//! The version: the one place where it stands, beside the toolchain that the program is proved and built by.
+//! The version: the one place where it stands (decision 66), beside the toolchain that the program is proved and built by.
 
 /// What `--version` prints behind a program's name: the version, and the line of the toolchain that proves and builds it.
 pub const VERSION: &str = "0.1.0

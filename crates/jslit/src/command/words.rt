@@ -8,7 +8,7 @@ ghost use Rattle.jslit.specs.Words.{names_report, number_flag, valued_flag, IsAs
 ghost use Rattle.jslit.specs.Words.{file_argument as file_rule};
 ghost use Rattle.lit_share.specs.declared.limits.TheConstants.{CUT_LIMIT as CUTS, WORKER_LIMIT as WORKERS};
 
-use crate::command::asked_line::Line;
+use crate::command::asked_line::CommandLine;
 use crate::command::version::VERSION;
 use crate::engine::Options;
 use clap::error::ErrorKind;
@@ -17,7 +17,7 @@ use lit_share::{CUT_LIMIT, WORKER_LIMIT};
 use std::alloc::{AllocError, Global};
 use std::convert::AsStr;
 
-/// What is done where the words say nothing else.
+/// The options where the words give none (decision 67).
 const USUAL: Options = Options {
     workers: 1,
     cut: 4_096,
@@ -126,14 +126,14 @@ fn command<'a>(alloc: Global) -> Result<Command<'a>, AllocError>
     Ok(whole)
 }
 
-/// Whether the quick report is asked for.
+/// Whether the words ask for the quick report.
 fn is_quick(matches: &ArgMatches<'_>) -> bool
     ensures { result ≡ quick_of (rows_of (found_of matches.now)) }
 {
     matches.get_str("quick") == Some("true")
 }
 
-/// What is said of the first flag of a report that stands with a schedule.
+/// The message on the first flag of a report that stands with a schedule.
 fn report_flag(matches: &ArgMatches<'_>) -> Option<&'static str>
     ensures { is_some result ≡ names_report (rows_of (found_of matches.now)) }
 {
@@ -148,7 +148,7 @@ fn report_flag(matches: &ArgMatches<'_>) -> Option<&'static str>
     }
 }
 
-/// What is said where a schedule stands with a flag of a report.
+/// The message where a schedule stands with a flag of a report (decision 70).
 fn exclusion(matches: &ArgMatches<'_>) -> Option<&'static str>
     ensures { is_some result ≡ is_excluded (rows_of (found_of matches.now)) }
 {
@@ -159,9 +159,9 @@ fn exclusion(matches: &ArgMatches<'_>) -> Option<&'static str>
     }
 }
 
-/// What the words ask for: the program's name, its flags and at most one file. What is no number of workers or choices
-/// within the limits is refused, and so are a schedule with a flag of a report, and what is no flag, as `clap` does it.
-pub fn line<'a, S: AsStr>(alloc: Global, words: &'a [S]) -> Result<Line<'a>, Error>
+/// What the words ask for: the program's name, its flags and at most one file. It refuses a number of workers or choices
+/// that is not within the limits, a schedule with a flag of a report, and, as `clap` does it, a word that is no flag.
+pub fn line<'a, S: AsStr>(alloc: Global, words: &'a [S]) -> Result<CommandLine<'a>, Error>
     ensures asked { IfOk result (IsAsked (map S.text words.entry.now)) }
     ensures refused { IfErr result (HasKind (faults_of (map S.text words.entry.now))) }
 {
@@ -177,7 +177,7 @@ pub fn line<'a, S: AsStr>(alloc: Global, words: &'a [S]) -> Result<Line<'a>, Err
         cut,
         quick: is_quick(&matches),
     };
-    Ok(Line {
+    Ok(CommandLine {
         options,
         schedule: matches.get_str("schedule"),
         file: matches.get_str("file"),

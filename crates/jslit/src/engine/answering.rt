@@ -1,4 +1,4 @@
-//! What is answered for a text: the report on the test that it spells, or a fault.
+//! The answer for a text: the report on the test that it spells, or a fault.
 
 ghost use Rattle.std.specs.Prelude.{◌≡◌, ◌≢◌, ◌≤◌, true, false, length, IfOk, IfErr, OnOk, IsErrOf};
 ghost use Rattle.lit_paths.specs.Choice.{choices_of};
@@ -8,12 +8,12 @@ ghost use Rattle.jslit.specs.Answer.{IsFaultOn, HasReported, HasBegun};
 ghost use Rattle.jslit.specs.Counted.{device_of, failures_of, one_more};
 ghost use Rattle.jslit.specs.Internal.Answering.{HasWritten, HasWrittenSome, IsFirstFound, IsOfWriting, IsOfTextOrWriting};
 
+use crate::buffer::report_writer::{write_quick_report, write_report};
 use crate::counted::Counted;
 use crate::engine::Options;
 use crate::engine::cutting::{cut_for_outcomes, cut_of};
 use crate::fault::RunFault;
 use crate::laws::reports_are_complete;
-use crate::page::reporting::{write_quick_report, write_report};
 use crate::verdict::{verdict_from, verdict_on};
 use crate::watch::Watch;
 use lit_paths::{Plan, plan};
@@ -25,7 +25,7 @@ use std::alloc::{AllocError, Global};
 use std::io::Write;
 use std::thread::Threads;
 
-/// A pass for each worker, of those that carry nothing.
+/// A pass for each worker. The passes carry nothing.
 pub(crate) fn passes(alloc: Global, workers: usize) -> Result<Vec<()>, AllocError>
     ensures { IfOk result (λ passes. length passes.items ≡ workers) }
 {
@@ -59,11 +59,13 @@ fn report<T: Threads + Sync, W: Write, G: Watch>(
     watch.end();
     let found = searched?;
     let verdict = verdict_on(plan, &found);
+    // The law says that the report has the outcome of each valid execution.
     reports_are_complete();
     write_report(output, plan, &found, verdict)
 }
 
-/// The report of the first choice of a class alone, which has the choice's outcome.
+/// The report of the first choice of a class alone, which has the choice's outcome and order (decision 64). The class is there for the
+/// contract.
 fn first_found(
     alloc: Global,
     plan: &Plan<'_>,
@@ -78,6 +80,7 @@ fn first_found(
     let Some(example) = first else {
         return Ok(None);
     };
+    // The law says that a choice has one outcome at most. `test` tells the prover that the test is one that a text can spell.
     choices_have_one_outcome();
     let _test = plan.test();
     let found = search_range(alloc, plan, example.choice, example.choice + 1)?;
@@ -105,16 +108,16 @@ fn quick_report<T: Threads + Sync, W: Write, G: Watch>(
 {
     let cut = cut_of(plan.total(), options);
     watch.begin(plan.total().div_ceil(cut));
-    let asked = quick(rt, alloc, plan, cut, watch, passes);
+    let searched = quick(rt, alloc, plan, cut, watch, passes);
     watch.end();
-    let first = asked?;
+    let first = searched?;
     let met = first_found(alloc, plan, Class::Met, &first.met)?;
     let unmet = first_found(alloc, plan, Class::Unmet, &first.unmet)?;
     let verdict = verdict_from(met.is_some(), unmet.is_some());
     write_quick_report(output, plan, &met, &unmet, verdict)
 }
 
-/// Writes what is answered for a text: the report on the test that it spells. Where there is none, nothing is written.
+/// Writes the answer for a text: the report on the test that it spells. Where there is no report, it writes nothing.
 pub(crate) fn answer<T: Threads + Sync, W: Write, G: Watch>(
     rt: &T,
     alloc: Global,

@@ -1,4 +1,4 @@
-//! How the choices are cut into the pieces that workers draw: in each piece an outcome is looked for anew.
+//! The cut of the choices into the pieces that workers draw. Each piece is searched for its outcomes anew (decision 63).
 
 ghost use Rattle.std.specs.Prelude.{◌≡◌, ◌<◌, ◌≤◌};
 ghost use Rattle.lit_paths.specs.declared.limits.TheConstants.{CHOICE_LIMIT};
@@ -30,7 +30,7 @@ fn pieces_of(workers: usize) -> u64
     }
 }
 
-/// How many choices a piece has: those asked for, or more where that would make too many pieces.
+/// How many choices a piece has: as many as the options say, or more where that would make too many pieces.
 pub(crate) fn cut_of(total: u64, options: Options) -> u64
     requires few { total ≤ CHOICE_LIMIT }
     ensures some { 0 < result }
@@ -39,11 +39,12 @@ pub(crate) fn cut_of(total: u64, options: Options) -> u64
     options.cut.max(total.div_ceil(pieces_of(options.workers)))
 }
 
-/// Whether some register has what an event reads at the end of its agent's path.
+/// Whether a read is observed: some register holds its value at the end of its agent's path.
 fn is_observed(combination: &Combination<'_>, read: u8) -> bool {
     for agent in 0..combination.test().agents() {
         for register in 0..REGISTERS as u8 {
             if let Some(place) = combination.path(agent).last(register) {
+                // The number of an event fits in a byte: saturation spares the proof of it.
                 if combination.first_event(agent).saturating_add(place) == read {
                     return true;
                 }
@@ -53,14 +54,14 @@ fn is_observed(combination: &Combination<'_>, read: u8) -> bool {
     false
 }
 
-/// How many choices of the first combination have the same sources of its leading observed bytes, for as many bytes as make so many
-/// pieces that likely have outcomes: those in which the bytes of a read come from one event. Other sources mostly are other values, so
-/// hardly an outcome is in two such pieces, where an even cut leaves most workers nothing to do.
+/// How many choices of the first combination have the same sources of its leading observed bytes. It takes as many bytes as make `wanted`
+/// pieces that likely have outcomes: those in which the bytes of a read come from one event. Other sources mostly store other values, so
+/// hardly an outcome is in two such pieces; an even cut would leave most workers nothing to do (decision 63).
 fn cut_by_sources(plan: &Plan<'_>, wanted: u64) -> u64
     ensures some { 0 < result }
     ensures small { result ≤ CHOICE_LIMIT }
 {
-    // That there is a combination is known of how many there are.
+    // Tells the prover that there is a combination to enter.
     let _combinations = plan.combinations();
     let combination = plan.enter(0);
     let (mut cut, mut likely, mut last) = (plan.total(), 1_u64, None);
@@ -73,17 +74,18 @@ fn cut_by_sources(plan: &Plan<'_>, wanted: u64) -> u64
             break;
         }
         cut = next;
+        // The bytes of a read mostly come from one event, so only its first byte multiplies the pieces that likely have outcomes.
         if last != Some(at.read) {
             likely = likely.saturating_mul(combination.candidates(place).len() as u64);
             last = Some(at.read);
         }
     }
-    // Each of these is from 1 to the total; saying so here spares the loop an invariant.
+    // The cut is from 1 to the total as it is: this clamp replaces an invariant of the loop.
     cut.min(plan.total()).max(1)
 }
 
-/// How many choices a piece of a search for outcomes has: for several workers as many as have the same sources of leading observed
-/// bytes, where that makes more pieces.
+/// How many choices a piece of a search for outcomes has. For several workers the cut is by the sources of leading observed bytes, where
+/// that makes more pieces than an even cut.
 pub(crate) fn cut_for_outcomes(plan: &Plan<'_>, options: Options) -> u64
     ensures some { 0 < result }
     ensures small { result ≤ CUT_LIMIT }

@@ -1,10 +1,10 @@
--- How a list of attempts goes on.
+-- How a list of attempts grows.
 use Rattle.std.specs.Prelude.{◌≡◌, ◌⊎◌, ℕ, ◌≤◌, List, ◌++◌, Some, length, slice_get}
 use Rattle.lit_read.specs.Syntax.{Litmus}
 use Rattle.lit_why.specs.declared.attempt.Attempt.{Attempt}
 use Rattle.lit_why.specs.Attempts.{AreBefore, AreRising, HasAttempt, HasSoMany}
 
--- a list goes on by the first choices of which this holds, as far as it may grow, each with how many there are of its attempt
+-- a list grows by attempts, each with its count of choices, at the first choices of which this holds, until it is as long as it may be
 pub record Adds (t : Litmus) (most : ℕ) (holds : ℕ → Type 0) (old new : List Attempt) : Type 0 where
   pub added : List Attempt
   pub goes_on : new ≡ old ++ added

@@ -4,11 +4,11 @@ use Rattle.lit_read.specs.Syntax.{Litmus}
 use Rattle.lit_paths.specs.Plan.{HasSources, choices_before}
 use Rattle.lit_valid.specs.Gives.{GivesRace, HasLeastOrder}
 
--- no valid execution of a choice on the combination has one
+-- no valid execution of a choice on the combination has a data race
 abbrev pub HasNoRaceOn : Litmus → ℕ → Type 0
 HasNoRaceOn t c = (n : ℕ) → choices_before t c ≤ n → n < choices_before t (c + 1) → ¬ GivesRace t n
 
--- choice n is the first on the combination of which some has one, with these sources and this least memory-order
+-- choice n is the first on the combination with a valid execution that has a data race; its sources and its least memory-order are these
 pub record IsFirstRaceOn (t : Litmus) (c n : ℕ) (sources order : List ℕ) : Type 0 where
   pub low : choices_before t c ≤ n
   pub gives : GivesRace t n

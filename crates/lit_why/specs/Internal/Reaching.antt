@@ -1,4 +1,4 @@
--- Steps of happens-before by a relation that stands for synchronizes-with, and events from which another is reached in so many.
+-- Steps of happens-before by a relation that stands for synchronizes-with, and the events from which so many steps lead to another.
 use Rattle.std.specs.Prelude.{◌≡◌, ◌⊎◌, ◌↔◌, ℕ, ◌<◌, List, length, slice_index_or}
 use Rattle.lit_paths.specs.declared.event.Event.{Event}
 use Rattle.lit_rel.specs.AgentOrder.{IsAgentOrdered}
@@ -16,7 +16,7 @@ pub record IsReachedBy (step : ℕ → ℕ → Type 0) (d k e : ℕ) : Type 0 wh
   pub count : length middles ≡ k
   pub chain : Chain step e middles d
 
--- at each place k of the list, the set of these events
+-- at each place k of the list, the set of the events from which a chain with k events in the middle leads to d
 abbrev pub AreLevels : (ℕ → ℕ → Type 0) → ℕ → List EventSet → Type 0
 AreLevels step d levels =
     (k : ℕ) → k < length levels → (e : ℕ) → HasEvent (slice_index_or levels k no_events) e ↔ IsReachedBy step d k e
@@ -27,6 +27,6 @@ pub record AreLevelsBelow (step : ℕ → ℕ → Type 0) (e d : ℕ) (levels : 
   pub below : (k : ℕ) → k < length levels → ¬ IsReachedBy step d k e
   pub reached : IsReachedBy step d (length levels) e
 
--- no chain
+-- no chain leads from e to d
 abbrev pub IsUnreached : (ℕ → ℕ → Type 0) → ℕ → ℕ → Type 0
 IsUnreached step e d = (middles : List ℕ) → ¬ Chain step e middles d

@@ -10,14 +10,14 @@ use Rattle.lit_rel.specs.TearFree.{CanReadWhole}
 use Rattle.lit_why.specs.RacingPair.{IsLesserPair}
 use Rattle.lit_why.specs.Refusal.{IsFalseAt, IsFalseIn}
 
--- the first test of a list that is false
-pub record IsFirstFalse (part : PartModel) (first : ℕ) (tests : List Tested) (place : ℕ) : Type 0 where
-  pub test : Tested
-  pub at_place : slice_get tests place ≡ Some test
-  pub is_false : IsFalseIn part first test
-  pub least : (k : ℕ) (other : Tested) → k < place → slice_get tests k ≡ Some other → ¬ IsFalseIn part first other
+-- the first guard of a list that is false
+pub record IsFirstFalse (part : PartModel) (first : ℕ) (guards : List Tested) (place : ℕ) : Type 0 where
+  pub guard : Tested
+  pub at_place : slice_get guards place ≡ Some guard
+  pub is_false : IsFalseIn part first guard
+  pub least : (k : ℕ) (other : Tested) → k < place → slice_get guards k ≡ Some other → ¬ IsFalseIn part first other
 
--- the least of the part
+-- the first false guard of the part, by agent and then by place
 pub record IsLeastFalse (part : PartModel) (agent place : ℕ) : Type 0 where
   pub is_false : IsFalseAt part agent place
   pub least : (a p : ℕ) → IsFalseAt part a p → ¬ IsLesserPair a p agent place
@@ -43,7 +43,7 @@ pub record IsFirstIncoherent (events : List Event) (before : ℕ → ℕ → Typ
 abbrev pub IsWholeBy : List Event → (ℕ → ℕ → Type 0) → ℕ → ℕ → Type 0
 IsWholeBy events reads r w = reads r w × CanReadWhole (event_at events r) (event_at events w)
 
--- from two
+-- read r would be whole from two events, w the lesser
 pub record AreTorn (events : List Event) (reads : ℕ → ℕ → Type 0) (r w v : ℕ) : Type 0 where
   pub first : IsWholeBy events reads r w
   pub second : IsWholeBy events reads r v

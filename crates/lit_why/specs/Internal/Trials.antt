@@ -21,17 +21,17 @@ pub record IsStoredBefore (c : Litmus × ℕ) (read : ℕ × ℕ) (w : ℕ) : Ty
   pub lesser : other < w
   pub same : payload_at (event_at (events_on c) other) read.1 ≡ payload_at (event_at (events_on c) w) read.1
 
--- w stands for the sources of a byte read that store what it does: it is the least of them, and no test refuses them
+-- w is the least of the candidates of a byte read that store the same byte, and no guard refuses it
 pub record IsRepresentative (c : Litmus × ℕ) (read : ℕ × ℕ) (w : ℕ) : Type 0 where
   pub candidate : IsCandidate (events_on c) read.0 read.1 w
   pub allowed : ¬ IsRefusedOn c read.0 read.1 w
   pub least : ¬ IsStoredBefore c read w
 
--- it hangs on what a byte is read as
+-- some byte of the box is undecided
 abbrev pub IsUndecided : Box → Type 0
 IsUndecided box = (k : ℕ) × IsUndecidedAt box k
 
--- a test on a read is false of its value by any sources that lie in the box; or it is false by none of them, unless a byte is undecided
+-- a guard on a read is false of its value by any sources that lie in the box; or it is false by none of them, unless a byte is undecided
 abbrev pub IsReadRefused : Box → ℕ → Bool → Type 0
 IsReadRefused box r true =
     (sources : List ℕ) → AreSourcesIn box sources
@@ -40,7 +40,7 @@ IsReadRefused box r false =
     (sources : List ℕ) → AreSourcesIn box sources
     → HasFalseGuardOn box.test box.combination (Some r) (value_of (box_events box) sources r) → IsUndecided box
 
--- the same of all tests
+-- the same of all guards
 abbrev pub AreRefused : Box → Bool → Type 0
 AreRefused box true = (sources : List ℕ) → AreSourcesIn box sources → HasFalseGuard (part_with box.test box.combination sources)
 AreRefused box false =

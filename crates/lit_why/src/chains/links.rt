@@ -1,9 +1,9 @@
-//! Chains of steps, as links.
+//! Chains of happens-before, as lists of links.
 
 use arrayvec::ArrayVec;
 use lit_paths::EVENT_LIMIT;
 
-/// What makes one event a step of happens-before away from another.
+/// The kind of one step of happens-before.
 #[derive(Clone, Copy, Debug, Default, PartialEq, Eq)]
 pub enum StepKind {
     /// agent-order: both are in one event list, the first one earlier.
@@ -11,7 +11,7 @@ pub enum StepKind {
     AgentOrder,
     /// synchronizes-with: the second reads from the first, both are sequentially consistent, and their ranges are equal.
     SynchronizesWith,
-    /// The first makes a byte that is in the range of the second.
+    /// The first is the init event of a byte in the range of the second.
     MadeBefore,
 }
 
@@ -24,7 +24,7 @@ pub struct Link {
     pub kind: StepKind,
 }
 
-/// The steps from one event to another, at least one.
+/// A chain from one event to another, of at least one link.
 #[derive(Drop)]
 pub struct Chain {
     /// Each leads from the event that the one before it leads to.

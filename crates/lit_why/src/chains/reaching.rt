@@ -1,4 +1,4 @@
-//! From which events another is reached, by how many steps.
+//! Breadth-first search backwards along steps: from which events a chain of so many steps leads to an event.
 
 ghost use Rattle.std.specs.Prelude.{◌≡◌, ◌↔◌, ℕ, ◌<◌, IsTrue, MatchOption, length};
 ghost use Rattle.lit_rel.specs.EventSet.{HasEvent};
@@ -9,7 +9,7 @@ use arrayvec::ArrayVec;
 use lit_paths::EVENT_LIMIT;
 use lit_rel::{EventSet, Rows};
 
-/// For each number of steps, from one on, the events from which so many lead to an event.
+/// The levels of the search: for each number of steps, from one on, the events from which so many steps lead to an event.
 pub(crate) type Levels = ArrayVec<EventSet, EVENT_LIMIT>;
 
 /// Whether an event leads to some event of a set.
@@ -36,7 +36,7 @@ fn leading_to(steps: &Rows, set: EventSet) -> EventSet
     leading
 }
 
-/// The least event of a set that an event leads to. There is one.
+/// The least event of a set that an event leads to. The set has one.
 pub(crate) fn next_of(steps: &Rows, event: usize, set: EventSet) -> usize
     requires known { event < rows_len steps.now }
     requires some { (d : ℕ) × Holds steps.now event d × HasEvent set d }
@@ -49,8 +49,8 @@ pub(crate) fn next_of(steps: &Rows, event: usize, set: EventSet) -> usize
     }
 }
 
-/// From which events so many steps lead to an event, for each number of steps with which none lead there from `from`, up to the
-/// first number with which some do. `None` exactly where no steps lead there from `from`.
+/// The levels of `to` that are below the least number of steps from `from` to `to`. `None` exactly where no steps lead from `from` to
+/// `to`.
 pub(crate) fn levels_below(steps: &Rows, from: usize, to: usize) -> Option<Levels>
     requires from { from < rows_len steps.now }
     requires to { to < rows_len steps.now }

@@ -1,17 +1,17 @@
-//! The next line of a derivation: what follows from lines, and is not known yet.
+//! The next line of a derivation: a precedence that follows from earlier lines and is not known yet.
 
 ghost use Rattle.std.specs.Prelude.{◌≡◌, ℕ, ◌<◌, MatchOption};
 ghost use Rattle.lit_rel.specs.Between.{Forbids};
 ghost use Rattle.lit_rel.specs.EventSet.{HasEvent};
 ghost use Rattle.lit_rel.specs.Rows.{Holds, rows_len};
 ghost use Rattle.lit_why.specs.Derivation.{IsLineOf};
-ghost use Rattle.lit_why.specs.Internal.Deriving.{HasForced, HasJoined, HasLine, HasLines, IsNewLine, IsOfPair, NoTriple};
+ghost use Rattle.lit_why.specs.Internal.Deriving.{HasForced, HasComposed, HasLine, HasLines, IsNewLine, IsOfPair, NoTriple};
 
-use crate::derivations::lines::{Line, Reason};
+use crate::derivations::lines::{DerivationLine, Reason};
 use lit_rel::{Between, EventSet, Pair, Rows};
 
-/// The place of a line that has one event before another. There is one.
-fn place_of(lines: &[Line], before: usize, after: usize) -> usize
+/// The place of a line that has one event before another. The lines have one.
+fn place_of(lines: &[DerivationLine], before: usize, after: usize) -> usize
     requires { HasLine lines.now before after }
     ensures { IsLineOf lines.now result before after }
 {
@@ -33,8 +33,13 @@ fn first_lacking(set: EventSet, there: EventSet) -> Option<usize>
     }
 }
 
-/// From an event by way of one of those that the lines have it before.
-fn joined_from(lines: &[Line], old: &Rows, known: &Rows, first: usize) -> Option<Line>
+/// A new line from `first`, composed of two lines.
+fn composed_from(
+    lines: &[DerivationLine],
+    old: &Rows,
+    known: &Rows,
+    first: usize,
+) -> Option<DerivationLine>
     requires same { rows_len known.now ≡ rows_len old.now }
     requires lines { HasLines lines.now (Holds old.now) }
     requires first { first < rows_len old.now }
@@ -45,10 +50,10 @@ fn joined_from(lines: &[Line], old: &Rows, known: &Rows, first: usize) -> Option
     for middle in 0..old.len() {
         if old.holds(first, middle) {
             if let Some(last) = first_lacking(old.successors(middle), there) {
-                return Some(Line {
+                return Some(DerivationLine {
                     before: first as u8,
                     after: last as u8,
-                    reason: Reason::Joined {
+                    reason: Reason::Composed {
                         first: place_of(lines, first, middle),
                         second: place_of(lines, middle, last),
                     },
@@ -59,23 +64,28 @@ fn joined_from(lines: &[Line], old: &Rows, known: &Rows, first: usize) -> Option
     None
 }
 
-/// From any event so.
-fn joined(lines: &[Line], old: &Rows, known: &Rows) -> Option<Line>
+/// A new line from any event, composed of two lines.
+fn composed(lines: &[DerivationLine], old: &Rows, known: &Rows) -> Option<DerivationLine>
     requires same { rows_len known.now ≡ rows_len old.now }
     requires lines { HasLines lines.now (Holds old.now) }
-    ensures { MatchOption result (HasJoined (Holds old.now) (Holds known.now))
+    ensures { MatchOption result (HasComposed (Holds old.now) (Holds known.now))
         (IsNewLine (rows_len old.now) NoTriple (Holds known.now) lines.now) }
 {
     for first in 0..old.len() {
-        if let Some(line) = joined_from(lines, old, known, first) {
+        if let Some(line) = composed_from(lines, old, known, first) {
             return Some(line);
         }
     }
     None
 }
 
-/// That a read comes before an event that comes after its source.
-fn after_read(lines: &[Line], old: &Rows, known: &Rows, pair: &Pair) -> Option<Line>
+/// A new line that has a read before an event: the event comes after the source, and may not stand between the source and the read.
+fn after_read(
+    lines: &[DerivationLine],
+    old: &Rows,
+    known: &Rows,
+    pair: &Pair,
+) -> Option<DerivationLine>
     requires same { rows_len known.now ≡ rows_len old.now }
     requires lines { HasLines lines.now (Holds old.now) }
     requires source { pair.now.source < rows_len old.now }
@@ -86,7 +96,7 @@ fn after_read(lines: &[Line], old: &Rows, known: &Rows, pair: &Pair) -> Option<L
     let (source, read) = (usize::from(pair.source), usize::from(pair.read));
     let later = pair.others.intersection(old.successors(source));
     match first_lacking(later, known.successors(read)) {
-        Some(other) => Some(Line {
+        Some(other) => Some(DerivationLine {
             before: pair.read,
             after: other as u8,
             reason: Reason::AfterRead {
@@ -98,8 +108,13 @@ fn after_read(lines: &[Line], old: &Rows, known: &Rows, pair: &Pair) -> Option<L
     }
 }
 
-/// That an event comes before a source before whose read it comes.
-fn before_source(lines: &[Line], old: &Rows, known: &Rows, pair: &Pair) -> Option<Line>
+/// A new line that has an event before a source: the event comes before the read, and may not stand between the source and the read.
+fn before_source(
+    lines: &[DerivationLine],
+    old: &Rows,
+    known: &Rows,
+    pair: &Pair,
+) -> Option<DerivationLine>
     requires same { rows_len known.now ≡ rows_len old.now }
     requires lines { HasLines lines.now (Holds old.now) }
     requires source { pair.now.source < rows_len old.now }
@@ -110,7 +125,7 @@ fn before_source(lines: &[Line], old: &Rows, known: &Rows, pair: &Pair) -> Optio
     let (source, read) = (usize::from(pair.source), usize::from(pair.read));
     for other in 0..old.len() {
         if pair.others.contains(other) && old.holds(other, read) && !known.holds(other, source) {
-            return Some(Line {
+            return Some(DerivationLine {
                 before: other as u8,
                 after: pair.source,
                 reason: Reason::BeforeSource {
@@ -123,8 +138,13 @@ fn before_source(lines: &[Line], old: &Rows, known: &Rows, pair: &Pair) -> Optio
     None
 }
 
-/// What the triples of one source and its read give so.
-fn forced_by(lines: &[Line], old: &Rows, known: &Rows, pair: &Pair) -> Option<Line>
+/// A new line by a forbidden triple of one source and its read.
+fn forced_by(
+    lines: &[DerivationLine],
+    old: &Rows,
+    known: &Rows,
+    pair: &Pair,
+) -> Option<DerivationLine>
     requires same { rows_len known.now ≡ rows_len old.now }
     requires lines { HasLines lines.now (Holds old.now) }
     requires source { pair.now.source < rows_len old.now }
@@ -138,8 +158,13 @@ fn forced_by(lines: &[Line], old: &Rows, known: &Rows, pair: &Pair) -> Option<Li
     }
 }
 
-/// What all triples give so.
-fn forced(lines: &[Line], old: &Rows, known: &Rows, between: &Between) -> Option<Line>
+/// A new line by any forbidden triple.
+fn forced(
+    lines: &[DerivationLine],
+    old: &Rows,
+    known: &Rows,
+    between: &Between,
+) -> Option<DerivationLine>
     requires same { rows_len known.now ≡ rows_len old.now }
     requires len { rows_len old.now ≡ between.now.len }
     requires lines { HasLines lines.now (Holds old.now) }
@@ -154,17 +179,22 @@ fn forced(lines: &[Line], old: &Rows, known: &Rows, between: &Between) -> Option
     None
 }
 
-/// A line that follows from old pairs, each of which has a line, and says what is not known.
-pub(crate) fn next_line(lines: &[Line], old: &Rows, known: &Rows, between: &Between) -> Option<Line>
+/// A new line: it follows from old pairs, each of which has a line, and its own pair is not known.
+pub(crate) fn next_line(
+    lines: &[DerivationLine],
+    old: &Rows,
+    known: &Rows,
+    between: &Between,
+) -> Option<DerivationLine>
     requires same { rows_len known.now ≡ rows_len old.now }
     requires len { rows_len old.now ≡ between.now.len }
     requires lines { HasLines lines.now (Holds old.now) }
     ensures { MatchOption result
-        (HasForced (Forbids between.now) (Holds old.now) (Holds known.now) × HasJoined (Holds old.now) (Holds known.now))
+        (HasForced (Forbids between.now) (Holds old.now) (Holds known.now) × HasComposed (Holds old.now) (Holds known.now))
         (IsNewLine (rows_len old.now) (Forbids between.now) (Holds known.now) lines.now) }
 {
     match forced(lines, old, known, between) {
         Some(line) => Some(line),
-        None => joined(lines, old, known),
+        None => composed(lines, old, known),
     }
 }

@@ -1,40 +1,41 @@
 //! The lines of a derivation.
 
-/// Why one event comes before another in every memory-order. Lines are cited by their places in the list, from 0.
+/// Why the event `before` of a line comes before its event `after` in every memory-order. Lines
+/// are cited by their places in the list, from 0.
 #[derive(Clone, Copy, Debug, PartialEq, Eq)]
 pub enum Reason {
-    /// The one happens before the other.
+    /// `before` happens before `after`.
     HappensBefore,
-    /// By an event between the two.
-    Joined {
-        /// The line that has the one before the event between.
+    /// By transitivity, through an event between the two.
+    Composed {
+        /// The line that has `before` before the event between.
         first: usize,
-        /// The line that has that event before the other.
+        /// The line that has that event before `after`.
         second: usize,
     },
-    /// The one may not stand after the other, a source, and before its read; and it comes before the read.
+    /// `after` is a source, `before` may not stand between it and its read, and `before` comes before the read.
     BeforeSource {
         /// The number of the read.
         read: u8,
-        /// The line that has the one before the read.
+        /// The line that has `before` before the read.
         earlier: usize,
     },
-    /// The one is a read, the other may not stand after its source and before it; and it comes after the source.
+    /// `before` is a read, `after` may not stand between its source and it, and `after` comes after the source.
     AfterRead {
         /// The number of the source.
         source: u8,
-        /// The line that has the source before the other.
+        /// The line that has the source before `after`.
         earlier: usize,
     },
 }
 
 /// That one event comes before another in every memory-order.
 #[derive(Clone, Copy, Debug, PartialEq, Eq)]
-pub struct Line {
-    /// The number of the one.
+pub struct DerivationLine {
+    /// The number of the first event.
     pub before: u8,
-    /// The number of the other.
+    /// The number of the second event.
     pub after: u8,
-    /// Why it does.
+    /// Why the first comes before the second.
     pub reason: Reason,
 }

@@ -1,13 +1,13 @@
-//! What refuses a complete part.
+//! The kinds of refusals of a complete part.
 
-/// What no valid execution with a part's paths and sources allows.
+/// Why no valid execution has a part's paths and sources.
 #[derive(Clone, Copy, Debug, PartialEq, Eq)]
 pub enum Refusal {
-    /// A test of a path is false of the value read.
+    /// A guard of a path is false of the value read.
     FalseGuard {
         /// The agent, from 0.
         agent: usize,
-        /// The test's place on its path, from 0.
+        /// The guard's place on its path, from 0.
         place: usize,
     },
     /// An event happens before itself.

@@ -17,7 +17,7 @@ pub(crate) struct Tear {
     pub other: usize,
 }
 
-/// Whether a read has an event among its sources that it would be whole from, by reads-from as rows.
+/// Whether a read has this event among its sources and would be whole from it, by reads-from as rows.
 fn is_whole(events: &[Event], reads: &Rows, read: usize, source: usize) -> bool
     requires len { rows_len reads.now ≡ length events.now }
     requires read { read < length events.now }
@@ -62,7 +62,7 @@ fn torn_read(events: &[Event], reads: &Rows, read: usize) -> Option<(usize, usiz
     None
 }
 
-/// The least read with two such events.
+/// The least read that would be whole from two events, with the least two.
 pub(crate) fn first_torn(events: &[Event], reads: &Rows) -> Option<Tear>
     requires { rows_len reads.now ≡ length events.now }
     ensures { MatchOption result ((r w v : ℕ) → ¬ AreTorn events.now (Holds reads.now) r w v)

@@ -7,11 +7,11 @@ use lit_rel::{Between, Part, Rows};
 use lit_texts::{
     INDEPENDENT_READS, LOAD_BUFFERING_ATOMIC, READ_READ_COHERENCE_PLAIN, STORE_BUFFERING,
 };
-use lit_why::{Line, Reason, derivation};
+use lit_why::{DerivationLine, Reason, derivation};
 use std::test::Fail;
 
 /// Whether the line at a place, before another one, has these events.
-fn has(lines: &[Line], place: usize, before_place: usize, events: (u8, u8)) -> bool {
+fn has(lines: &[DerivationLine], place: usize, before_place: usize, events: (u8, u8)) -> bool {
     if place >= before_place {
         return false;
     }
@@ -35,11 +35,11 @@ fn forbids(between: &Between, source: u8, read: u8, other: u8) -> bool {
 }
 
 /// Whether a line, with its place, follows from the lines before it.
-fn follows(part: &Part<'_>, lines: &[Line], place: usize, line: &Line) -> bool {
+fn follows(part: &Part<'_>, lines: &[DerivationLine], place: usize, line: &DerivationLine) -> bool {
     let (before, after) = (line.before, line.after);
     match line.reason {
         Reason::HappensBefore => holds(&part.happens_before(), before, after),
-        Reason::Joined { first, second } => match lines.get(first) {
+        Reason::Composed { first, second } => match lines.get(first) {
             Some(one) => {
                 has(lines, first, place, (before, one.after))
                     && has(lines, second, place, (one.after, after))
@@ -58,17 +58,17 @@ fn follows(part: &Part<'_>, lines: &[Line], place: usize, line: &Line) -> bool {
 }
 
 /// Whether a line cites the one at a place.
-fn cites(line: &Line, place: usize) -> bool {
+fn cites(line: &DerivationLine, place: usize) -> bool {
     match line.reason {
         Reason::HappensBefore => false,
-        Reason::Joined { first, second } => first == place || second == place,
+        Reason::Composed { first, second } => first == place || second == place,
         Reason::BeforeSource { read: _, earlier } => earlier == place,
         Reason::AfterRead { source: _, earlier } => earlier == place,
     }
 }
 
 /// Whether each line follows from earlier ones, and is the last or cited by some line.
-fn is_derivation(part: &Part<'_>, lines: &[Line]) -> bool {
+fn is_derivation(part: &Part<'_>, lines: &[DerivationLine]) -> bool {
     for (place, line) in lines.iter().enumerate() {
         let is_last = place + 1 == lines.len();
         if !follows(part, lines, place, line)
@@ -84,7 +84,7 @@ fn is_derivation(part: &Part<'_>, lines: &[Line]) -> bool {
 const DERIVED: [(&str, &[u8], Option<(usize, u8)>); 5] = [
     // A stores byte 0 (2) and loads 0 from byte 1 (3), B stores byte 1 (4) and loads 0 from byte 0 (5): each store comes after the
     // load that reads the event that made its byte. So 2, 3, 4, 5, 2: by two lines for each load's pair, one for each agent, and
-    // three joins.
+    // three composed lines.
     (STORE_BUFFERING, &[1, 0], Some((9, 2))),
     (STORE_BUFFERING, &[4, 0], None),
     (READ_READ_COHERENCE_PLAIN, &[1, 0], None),

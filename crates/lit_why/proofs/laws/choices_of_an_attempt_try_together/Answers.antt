@@ -1,4 +1,4 @@
-use Rattle.lit_why.proofs.AlikeLemmas.{try_together}
+use Rattle.lit_why.proofs.SameValueLemmas.{try_together}
 use Rattle.lit_why.proofs.laws.choices_of_an_attempt_try_together.Goals as goal
 
 pub returns : goal.returns

@@ -12,9 +12,9 @@ returns c =
     let before = Holds c.happens_before-before.result in
     let reads = Holds c.reads_from-reads.result in
     let same = c.happens_before-before.ensures.pairs in
-    let alike = c.reads_from-reads.ensures.pairs in
+    let same_reads = c.reads_from-reads.ensures.pairs in
     let racing = rw (c.events-events.ensures.value, c.combination.ensures, c.from-e.ensures, c.from-d.ensures) at c.are_racing.ensures in (
-      λ h. IsDataRace-same events before (HappensBefore events part.sources) reads (ReadsFrom events part.sources) same alike c.args.first c.args.second (racing.0 h),
+      λ h. IsDataRace-same events before (HappensBefore events part.sources) reads (ReadsFrom events part.sources) same same_reads c.args.first c.args.second (racing.0 h),
       λ race. racing.1 (IsDataRace-same events (HappensBefore events part.sources) before (ReadsFrom events part.sources) reads
-          (λ e d. ((same e d).1, (same e d).0)) (λ e d. ((alike e d).1, (alike e d).0)) c.args.first c.args.second race),
+          (λ e d. ((same e d).1, (same e d).0)) (λ e d. ((same_reads e d).1, (same_reads e d).0)) c.args.first c.args.second race),
     )

@@ -40,15 +40,15 @@ returns-in-Some-first_torn c =
     let reads = Holds c.reads_from-reads.result in
     let found = c.in-Some-first_torn.found in
     let same = c.happens_before-before.ensures.pairs in
-    let alike = c.reads_from-reads.ensures.pairs in
+    let same_reads = c.reads_from-reads.ensures.pairs in
     let is_list = rw c.combination-combination.ensures at c.byte_reads.ensures in
     let each = rw (c.events-events.ensures.value, c.combination-combination.ensures) at c.in_default-first_incoherent.ensures in
     let torn = rw (c.events-events.ensures.value, c.combination-combination.ensures) at c.in-Some-first_torn.ensures in (
       c.in_default.ensures,
       (λ e h. c.in_default-first_before_itself.ensures e ((same e e).1 h)),
-      all_coherent part before reads same alike c.byte_reads.result.now c.args.sources.now is_list c.requires.sources each,
-      torn_same part before reads same alike found.read found.source found.other torn.0,
-      (λ q u x other. torn.1 q u x (torn_back part before reads same alike q u x other)),
+      all_coherent part before reads same same_reads c.byte_reads.result.now c.args.sources.now is_list c.requires.sources each,
+      torn_same part before reads same same_reads found.read found.source found.other torn.0,
+      (λ q u x other. torn.1 q u x (torn_back part before reads same same_reads q u x other)),
     )
 
 pub returns-then-has_order : goal.returns-then-has_order
@@ -58,12 +58,12 @@ returns-then-has_order c =
     let before = Holds c.happens_before-before.result in
     let reads = Holds c.reads_from-reads.result in
     let same = c.happens_before-before.ensures.pairs in
-    let alike = c.reads_from-reads.ensures.pairs in
+    let same_reads = c.reads_from-reads.ensures.pairs in
     let is_list = rw c.combination-combination.ensures at c.byte_reads.ensures in
     let each = rw (c.events-events.ensures.value, c.combination-combination.ensures) at c.in_default-first_incoherent.ensures in
     let none = rw (c.events-events.ensures.value, c.combination-combination.ensures) at c.in_default-first_torn.ensures in
-    let coherent = all_coherent part before reads same alike c.byte_reads.result.now c.args.sources.now is_list c.requires.sources each in
-    let tear_free = all_tear_free part before reads same alike none in
+    let coherent = all_coherent part before reads same same_reads c.byte_reads.result.now c.args.sources.now is_list c.requires.sources each in
+    let tear_free = all_tear_free part before reads same same_reads none in
     let no_cycle : HasNoCycle part = λ e h. c.in_default-first_before_itself.ensures e ((same e e).1 h) in
     let whole = not_broken part c.in_default.ensures no_cycle coherent tear_free in
     let orders = orders_same part (rows_len c.happens_before-before.result) before (Forbids c.between.result) c.happens_before-before.ensures.len same c.between.ensures.triples in
@@ -77,14 +77,14 @@ returns-else-has_order c =
     let before = Holds c.happens_before-before.result in
     let reads = Holds c.reads_from-reads.result in
     let same = c.happens_before-before.ensures.pairs in
-    let alike = c.reads_from-reads.ensures.pairs in
+    let same_reads = c.reads_from-reads.ensures.pairs in
     let is_list = rw c.combination-combination.ensures at c.byte_reads.ensures in
     let each = rw (c.events-events.ensures.value, c.combination-combination.ensures) at c.in_default-first_incoherent.ensures in
     let none = rw (c.events-events.ensures.value, c.combination-combination.ensures) at c.in_default-first_torn.ensures in
     let orders = orders_same part (rows_len c.happens_before-before.result) before (Forbids c.between.result) c.happens_before-before.ensures.len same c.between.ensures.triples in (
       c.in_default.ensures,
       (λ e h. c.in_default-first_before_itself.ensures e ((same e e).1 h)),
-      all_coherent part before reads same alike c.byte_reads.result.now c.args.sources.now is_list c.requires.sources each,
-      all_tear_free part before reads same alike none,
+      all_coherent part before reads same same_reads c.byte_reads.result.now c.args.sources.now is_list c.requires.sources each,
+      all_tear_free part before reads same same_reads none,
       (λ order is. false≢true (c.if-has_order.ensures.1 (orders.1 (order, is)))),
     )

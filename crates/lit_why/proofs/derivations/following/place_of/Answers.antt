@@ -1,6 +1,6 @@
 use Rattle.std.proofs.Common.{◌∙◌, ap, below_more, arith}
 use Rattle.std.proofs.lemmas.Option.{get_or_from_slice_get, slice_get_within}
-use Rattle.lit_why.specs.declared.derivations.lines.Line.{Line}
+use Rattle.lit_why.specs.declared.derivations.lines.DerivationLine.{DerivationLine}
 use Rattle.lit_why.specs.Derivation.{IsLineOf}
 use Rattle.lit_why.proofs.derivations.following.place_of.Goals as goal
 use Rattle.lit_why.proofs.derivations.following.place_of.Goals.{else-from-before-via-then-from-before+else-from-after, else-from-before-via-else-from-before}
@@ -12,8 +12,8 @@ loop-place-preserved c =
     let is = get_or_from_slice_get c.args.lines.now c.loop-place.place h.line _ h.at_place in
     elim c.else-from-before.branch [
       | else-from-before-via-then-from-before+else-from-after w ↦
-          w.if-from-after.false (w.from-then-from-before.ensures ∙ ap (λ (line : Line). line.after) is ∙ h.second)
-      | else-from-before-via-else-from-before w ↦ w.if-from-before.false (c.from.ensures ∙ ap (λ (line : Line). line.before) is ∙ h.first)
+          w.if-from-after.false (w.from-then-from-before.ensures ∙ ap (λ (line : DerivationLine). line.after) is ∙ h.second)
+      | else-from-before-via-else-from-before w ↦ w.if-from-before.false (c.from.ensures ∙ ap (λ (line : DerivationLine). line.before) is ∙ h.first)
     ])
 
 pub returns : goal.returns

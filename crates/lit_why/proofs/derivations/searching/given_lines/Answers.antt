@@ -5,10 +5,10 @@ use Rattle.lit_why.proofs.derivations.searching.given_lines.Goals as goal
 
 pub loop-first-preserved : goal.loop-first-preserved
 loop-first-preserved c =
-    let kept = c.loop-first.invariant in
+    let so_far = c.loop-first.invariant in
     let pushed = c.in_ok-push_given.ensures in
     record {
-      given = pushed.given kept.given;
+      given = pushed.given so_far.given;
       all = below_more (λ e. (d : ℕ) → Holds c.args.before.now e d → HasLine c.push_given.new.lines.items e d) c.loop-first.first
-          (λ e less d h. pushed.kept e d (kept.all e less d h)) pushed.all;
+          (λ e less d h. pushed.retained e d (so_far.all e less d h)) pushed.all;
     }

@@ -3,14 +3,14 @@ use Rattle.std.proofs.lemmas.Bool.{true≢false}
 use Rattle.lit_order.proofs.RowsLemmas.{pairs_missing, pairs_missing-lt}
 use Rattle.lit_rel.specs.Between.{Forbids}
 use Rattle.lit_rel.specs.Rows.{Holds, rows_len}
-use Rattle.lit_why.specs.declared.derivations.lines.Line.{Line}
+use Rattle.lit_why.specs.declared.derivations.lines.DerivationLine.{DerivationLine}
 use Rattle.lit_why.specs.Derivation.{EachFollows}
 use Rattle.lit_why.specs.Internal.Deriving.{IsNewLine, NoPair}
 use Rattle.lit_why.proofs.DerivationLemmas.{EachFollows-given, EachFollows-more, EndsInCycle-last, Follows-wider, HasForced-from_old, HasLines-more, forced_within, no_cycle_more, two_less}
 use Rattle.lit_why.proofs.derivations.searching.lines_to_cycle.Goals as goal
 
-pub rounds-init : goal.rounds-init
-rounds-init c = record {
+pub iterations-init : goal.iterations-init
+iterations-init c = record {
   known_len = refl;
   old_len = refl;
   follows = EachFollows-given (Holds c.args.before.now) (Forbids c.args.between.now) c.in_ok-lines.lines.items c.in_ok-lines.ensures.0;
@@ -23,9 +23,9 @@ rounds-init c = record {
 
 pub next_line-requires-clause-lines : goal.next_line-requires-clause-lines
 next_line-requires-clause-lines c e d old =
-    rw c.as_slice.ensures.value (c.rounds.invariant.lines e d (c.rounds.invariant.older e d old))
+    rw c.as_slice.ensures.value (c.iterations.invariant.lines e d (c.iterations.invariant.older e d old))
 
-follows_now : (before : ℕ → ℕ → Type 0) (forbidden : ℕ → ℕ → ℕ → Type 0) (n : ℕ) (known : ℕ → ℕ → Type 0) (lines slice : List Line) (line : Line) → slice ≡ lines
+follows_now : (before : ℕ → ℕ → Type 0) (forbidden : ℕ → ℕ → ℕ → Type 0) (n : ℕ) (known : ℕ → ℕ → Type 0) (lines slice : List DerivationLine) (line : DerivationLine) → slice ≡ lines
     → EachFollows before forbidden lines → IsNewLine n forbidden known slice line → EachFollows before forbidden (lines ++ line ∷ [])
 follows_now before forbidden n known lines slice line same each new =
     EachFollows-more lines line before forbidden each
@@ -33,51 +33,51 @@ follows_now before forbidden n known lines slice line same each new =
 
 pub returns-then-line : goal.returns-then-line
 returns-then-line c =
-    let lines = c.rounds.lines.items in
-    let line : Line = c.in-Some.line in
-    let each = follows_now (Holds c.args.before.now) (Forbids c.args.between.now) (rows_len c.rounds.old) (Holds c.rounds.known) lines c.as_slice.result.now line
-    c.as_slice.ensures.value c.rounds.invariant.follows c.in-Some.ensures in
+    let lines = c.iterations.lines.items in
+    let line : DerivationLine = c.in-Some.line in
+    let each = follows_now (Holds c.args.before.now) (Forbids c.args.between.now) (rows_len c.iterations.old) (Holds c.iterations.known) lines c.as_slice.result.now line
+    c.as_slice.ensures.value c.iterations.invariant.follows c.in-Some.ensures in
     rw c.in_ok-push-in-Some.ensures.items (each, EndsInCycle-last lines line c.if-line.true)
 
 pub put-requires-clause-first : goal.put-requires-clause-first
-put-requires-clause-first c = let new = c.in-Some.ensures in let kept = c.rounds.invariant in omega (arith, new.first, c.from.ensures, kept.known_len, kept.old_len)
+put-requires-clause-first c = let new = c.in-Some.ensures in let so_far = c.iterations.invariant in omega (arith, new.first, c.from.ensures, so_far.known_len, so_far.old_len)
 
 pub put-requires-clause-second : goal.put-requires-clause-second
-put-requires-clause-second c = let new = c.in-Some.ensures in let kept = c.rounds.invariant in omega (arith, new.second, c.from-in-Some.ensures, kept.known_len, kept.old_len)
+put-requires-clause-second c = let new = c.in-Some.ensures in let so_far = c.iterations.invariant in omega (arith, new.second, c.from-in-Some.ensures, so_far.known_len, so_far.old_len)
 
-pub rounds-smaller-in-Some : goal.rounds-smaller-in-Some
-rounds-smaller-in-Some c =
-    let known = c.rounds.known in
+pub iterations-smaller-in-Some : goal.iterations-smaller-in-Some
+iterations-smaller-in-Some c =
+    let known = c.iterations.known in
     let more = c.put.new.self in
-    let line : Line = c.in-Some.line in
+    let line : DerivationLine = c.in-Some.line in
     let put = rw (c.from.ensures, c.from-in-Some.ensures) at c.put.ensures.pairs in
     let fewer = pairs_missing-lt known more c.put.ensures.len (λ a d h. (put a d).1 (inl h)) line.before line.after c.in-Some.ensures.new ((put line.before line.after).1 (inr (refl, refl))) in
-    two_less (pairs_missing known) (pairs_missing more) c.rounds.grown fewer
+    two_less (pairs_missing known) (pairs_missing more) c.iterations.grown fewer
 
-pub rounds-preserved-in-Some : goal.rounds-preserved-in-Some
-rounds-preserved-in-Some c =
-    let lines = c.rounds.lines.items in
-    let line : Line = c.in-Some.line in
-    let kept = c.rounds.invariant in
+pub iterations-preserved-in-Some : goal.iterations-preserved-in-Some
+iterations-preserved-in-Some c =
+    let lines = c.iterations.lines.items in
+    let line : DerivationLine = c.in-Some.line in
+    let so_far = c.iterations.invariant in
     let put = rw (c.from.ensures, c.from-in-Some.ensures) at c.put.ensures.pairs in
-    let each = follows_now (Holds c.args.before.now) (Forbids c.args.between.now) (rows_len c.rounds.old) (Holds c.rounds.known) lines c.as_slice.result.now line
-    c.as_slice.ensures.value kept.follows c.in-Some.ensures in
+    let each = follows_now (Holds c.args.before.now) (Forbids c.args.between.now) (rows_len c.iterations.old) (Holds c.iterations.known) lines c.as_slice.result.now line
+    c.as_slice.ensures.value so_far.follows c.in-Some.ensures in
     record {
-      known_len = c.put.ensures.len ∙ kept.known_len;
-      old_len = kept.old_len;
+      known_len = c.put.ensures.len ∙ so_far.known_len;
+      old_len = so_far.old_len;
       follows = rw c.in_ok-push-in-Some.ensures.items each;
-      lines = rw c.in_ok-push-in-Some.ensures.items (HasLines-more lines line (Holds c.rounds.known) (Holds c.put.new.self) kept.lines put);
-      given = λ e d h. (put e d).1 (inl (kept.given e d h));
-      older = λ e d h. (put e d).1 (inl (kept.older e d h));
+      lines = rw c.in_ok-push-in-Some.ensures.items (HasLines-more lines line (Holds c.iterations.known) (Holds c.put.new.self) so_far.lines put);
+      given = λ e d h. (put e d).1 (inl (so_far.given e d h));
+      older = λ e d h. (put e d).1 (inl (so_far.older e d h));
       same = λ h. absurd (true≢false h);
-      no_cycle = no_cycle_more (Holds c.rounds.known) (Holds c.put.new.self) line.before line.after put kept.no_cycle c.if-line.false;
+      no_cycle = no_cycle_more (Holds c.iterations.known) (Holds c.put.new.self) line.before line.after put so_far.no_cycle c.if-line.false;
     }
 
 pub returns-then-not-grown : goal.returns-then-not-grown
 returns-then-not-grown c cycle =
-    let kept = c.rounds.invariant in
-    let same = kept.same c.if-not-grown.true in
+    let so_far = c.iterations.invariant in
+    let same = so_far.same c.if-not-grown.true in
     let closed = c.in-None.ensures in
-    let forced = HasForced-from_old (Forbids c.args.between.now) (Holds c.rounds.old) (Holds c.rounds.known) same closed.0 in
-    kept.no_cycle cycle.0 (forced_within (Holds c.args.before.now) (Holds c.rounds.known) (Forbids c.args.between.now) kept.given forced
+    let forced = HasForced-from_old (Forbids c.args.between.now) (Holds c.iterations.old) (Holds c.iterations.known) same closed.0 in
+    so_far.no_cycle cycle.0 (forced_within (Holds c.args.before.now) (Holds c.iterations.known) (Forbids c.args.between.now) so_far.given forced
     (λ e m d p q. closed.1 e m d (same e m p) (same m d q)) cycle.0 cycle.0 cycle.1)

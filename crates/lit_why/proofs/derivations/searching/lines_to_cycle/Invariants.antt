@@ -6,11 +6,11 @@ use Rattle.lit_why.specs.Derivation.{EachFollows}
 use Rattle.lit_why.specs.Internal.Deriving.{HasLines}
 use Rattle.lit_why.proofs.derivations.searching.lines_to_cycle.Given as goal
 
-abbrev pub decreases-rounds : goal.decreases-rounds
-decreases-rounds l = 2 * pairs_missing l.known + cond l.grown 1 0
+abbrev pub decreases-iterations : goal.decreases-iterations
+decreases-iterations l = 2 * pairs_missing l.known + cond l.grown 1 0
 
-abbrev pub invariant-rounds : goal.invariant-rounds
-invariant-rounds l = record {
+abbrev pub invariant-iterations : goal.invariant-iterations
+invariant-iterations l = record {
   known_len : rows_len l.known ≡ rows_len l.before;
   old_len : rows_len l.old ≡ rows_len l.before;
   follows : EachFollows (Holds l.before) (Forbids l.between) l.lines.items;

@@ -6,6 +6,6 @@ use Rattle.lit_why.proofs.derivations.searching.push_given.Given as goal
 abbrev pub invariant-loop-second : goal.invariant-loop-second
 invariant-loop-second l = record {
   given : AreGiven (Holds l.before) l.initial.lines.items → AreGiven (Holds l.before) l.lines.items;
-  kept : (e d : ℕ) → HasLine l.initial.lines.items e d → HasLine l.lines.items e d;
+  retained : (e d : ℕ) → HasLine l.initial.lines.items e d → HasLine l.lines.items e d;
   all : (d : ℕ) → d < l.second → Holds l.before l.first d → HasLine l.lines.items l.first d;
 }

@@ -1,8 +1,0 @@
-use Rattle.jslit.proofs.page.sharing.Shared.new.Goals as goal
-
-pub returns : goal.returns
-returns c = λ t n. record {
-  outcome = λ going. absurd (let gone = c.new-outcome.ensures in cc);
-  lines = λ going. absurd (let gone = c.new-lines.ensures in cc);
-  order = λ going. absurd (let gone = c.new-order.ensures in cc);
-}

@@ -1,5 +1,0 @@
-use Rattle.lit_why.specs.Internal.Pruning.{AreMoved}
-use Rattle.lit_why.proofs.derivations.pruning.moved_lines.Given as goal
-
-abbrev pub invariant-loop-place : goal.invariant-loop-place
-invariant-loop-place l = AreMoved l.lines l.marks l.place l.places.items l.kept.items
