@@ -5,7 +5,7 @@ use Rattle.clap.specs.Words.{HasKind, IsAmong, Kinds, Text, kind_of}
 use Rattle.clap.specs.declared.error.Error.{Error}
 use Rattle.clap.specs.declared.error.kind.ErrorKind.{ErrorKind}
 use Rattle.clap.specs.declared.error.kind.ErrorKind.TheVariants as kinds
-use Rattle.jslit.specs.declared.command.asked_line.CommandLine.{CommandLine}
+use Rattle.jslit.specs.declared.command.asked_line.Line.{Line}
 use Rattle.jslit.specs.declared.counted.Counted.{Counted}
 use Rattle.jslit.specs.Answer.{IsCheckStatus}
 use Rattle.jslit.specs.Counted.{device_of, failures_of}
@@ -38,7 +38,7 @@ module _ {W : Type 0} (contents : W → Option (List ℕ)) where
   }
 
   -- of the line, and so of the words
-  of_words : (words : List Text) (line : CommandLine) (told : Option (List ℕ)) (input_failed : Type 0) (status : ℕ) (old new : Counted W) → IsAsked words line
+  of_words : (words : List Text) (line : Line) (told : Option (List ℕ)) (input_failed : Type 0) (status : ℕ) (old new : Counted W) → IsAsked words line
       → HasServed contents told input_failed (IsAnswerBy line.options.quick (option_map (λ s. s.now) line.schedule))
       (IsFaultBy (option_map (λ s. s.now) line.schedule)) status old new
       → HasServed contents told input_failed (IsAnswerBy (quick_in words) (schedule_in words)) (IsFaultBy (schedule_in words)) status old new
@@ -91,7 +91,7 @@ module _ {W : Type 0} (contents : W → Option (List ℕ)) where
         }
 
     -- the words name a file
-    pub of_file : (line : CommandLine) (path : Bor Text) (told : Option (List ℕ)) (input_failed : Type 0) → IsAsked words line → line.file ≡ Some path → IsCheckStatus status
+    pub of_file : (line : Line) (path : Bor Text) (told : Option (List ℕ)) (input_failed : Type 0) → IsAsked words line → line.file ≡ Some path → IsCheckStatus status
         → new_input ≡ old_input
         → HasServed contents told input_failed (IsAnswerBy line.options.quick (option_map (λ s. s.now) line.schedule))
         (IsFaultBy (option_map (λ s. s.now) line.schedule)) status old new
@@ -105,7 +105,7 @@ module _ {W : Type 0} (contents : W → Option (List ℕ)) where
     }
 
     -- the words name none
-    pub of_input : (line : CommandLine) → IsAsked words line → line.file ≡ None → IsCheckStatus status
+    pub of_input : (line : Line) → IsAsked words line → line.file ≡ None → IsCheckStatus status
         → HasServed contents (remaining (device_of old_input)) (failures_of old_input < failures_of new_input)
         (IsAnswerBy line.options.quick (option_map (λ s. s.now) line.schedule)) (IsFaultBy (option_map (λ s. s.now) line.schedule)) status old new
         → Whole

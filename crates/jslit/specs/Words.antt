@@ -11,7 +11,7 @@ use Rattle.clap.specs.declared.builder.value_parser.ValueParser.TheVariants as p
 use Rattle.clap.specs.declared.error.kind.ErrorKind.{ErrorKind}
 use Rattle.clap.specs.declared.error.kind.ErrorKind.TheVariants as kinds
 use Rattle.lit_share.specs.declared.limits.TheConstants.{CUT_LIMIT, WORKER_LIMIT}
-use Rattle.jslit.specs.declared.command.asked_line.CommandLine.{CommandLine}
+use Rattle.jslit.specs.declared.command.asked_line.Line.{Line}
 
 -- a flag with a value, a flag with none, and the file
 abbrev pub valued_flag : Text → Rule
@@ -75,7 +75,7 @@ abbrev pub IsRefused : List Text → Type 0
 IsRefused words = (kind : ErrorKind) × IsAmong kind (faults_of words) × (kind ≢ kinds.DisplayHelp) × (kind ≢ kinds.DisplayVersion)
 
 -- the line is that of these words
-pub record IsAsked (words : List Text) (line : CommandLine) : Type 0 where
+pub record IsAsked (words : List Text) (line : Line) : Type 0 where
   pub run : AsksRun words
   pub quick : line.options.quick ≡ quick_in words
   pub schedule : option_map (λ s. s.now) line.schedule ≡ schedule_in words

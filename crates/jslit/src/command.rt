@@ -17,7 +17,7 @@ ghost use Rattle.jslit.specs.Internal.Saying.{HasSaid, IsExplained, IsSaid};
 ghost use Rattle.clap.specs.Words.{kind_of};
 
 use crate::buffer::refusal_writer::{write_plan_fault, write_read_fault, write_unknown_agent};
-use crate::command::asked_line::CommandLine;
+use crate::command::asked_line::Line;
 use crate::command::words::line;
 use crate::counted::Counted;
 use crate::engine::answering::passes;
@@ -104,7 +104,7 @@ fn serve<T: Threads + Sync, R: Read, W: Write, E: Write, G: Watch<Pass = ()>>(
     input: &mut Counted<R>,
     output: &mut Counted<W>,
     errors: &mut E,
-    line: &CommandLine<'_>,
+    line: &Line<'_>,
     watch: &G,
 ) -> u8
     requires input { failures_of input.old < 2 ^ 64 - 1 }

@@ -20,7 +20,7 @@ mod reading;
 mod verdict;
 mod watch;
 
-pub use command::asked_line::CommandLine;
+pub use command::asked_line::Line;
 pub use command::version::VERSION;
 pub use command::words::line;
 pub use command::{check, check_schedule, check_watched, no_words, program, program_watched};

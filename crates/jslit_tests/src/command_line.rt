@@ -3,7 +3,7 @@
 use super::calls::answers;
 use super::data::independent_reads::INDEPENDENT_READS;
 use super::workers::INDEPENDENT_READS_QUICK;
-use jslit::{CommandLine, line, no_words};
+use jslit::{Line, line, no_words};
 use std::alloc::AllocGlobal;
 use std::io;
 use std::test::Fail;
@@ -153,7 +153,7 @@ fn lines(rt: HostRuntime) -> Result<(), Fail> {
     assert!(rt; !given.options.quick);
     assert!(rt; given.file.is_none());
     let words = ["jslit", "--workers", "3", "--cut", "7", "--quick", "x.lit"];
-    let given: CommandLine<'_> = line(alloc, &words)?;
+    let given: Line<'_> = line(alloc, &words)?;
     assert_eq!(rt; given.options.workers, 3);
     assert_eq!(rt; given.options.cut, 7);
     assert!(rt; given.options.quick);

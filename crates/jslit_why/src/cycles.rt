@@ -22,7 +22,7 @@ fn steps_of(alloc: Global, lines: &[DerivationLine], place: usize) -> io::Result
         match lines.get(place) {
             Some(
                 DerivationLine {
-                    reason: Reason::Composed { first, second },
+                    reason: Reason::Joined { first, second },
                     ..
                 },
             ) => {
@@ -76,7 +76,7 @@ fn put_step(buffer: &mut Vec<u8>, scene: &Scene<'_>, line: &DerivationLine) -> i
             line.after,
             read,
         ),
-        Reason::HappensBefore | Reason::Composed { .. } => put_chain(
+        Reason::HappensBefore | Reason::Joined { .. } => put_chain(
             buffer,
             scene,
             line.before,
@@ -89,7 +89,7 @@ fn put_step(buffer: &mut Vec<u8>, scene: &Scene<'_>, line: &DerivationLine) -> i
 fn earlier_of(line: &DerivationLine) -> Option<usize> {
     match line.reason {
         Reason::AfterRead { earlier, .. } | Reason::BeforeSource { earlier, .. } => Some(earlier),
-        Reason::HappensBefore | Reason::Composed { .. } => None,
+        Reason::HappensBefore | Reason::Joined { .. } => None,
     }
 }
 

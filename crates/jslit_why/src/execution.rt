@@ -230,7 +230,7 @@ fn put_line(buffer: &mut Vec<u8>, scene: &Scene<'_>, line: &DerivationLine) -> i
             buffer.write_all(b",\"reason\":\"happens-before\",\"chain\":")?;
             put_chain(buffer, scene, line.before, line.after)?;
         }
-        Reason::Composed { first, second } => write!(
+        Reason::Joined { first, second } => write!(
             buffer,
             ",\"reason\":\"joined\",\"lines\":[{first},{second}]"
         )?,

@@ -10,7 +10,7 @@ use Rattle.lit_why.specs.declared.derivations.lines.DerivationLine.{DerivationLi
 use Rattle.lit_why.specs.declared.derivations.lines.Reason.{Reason}
 use Rattle.lit_why.specs.declared.derivations.lines.Reason.TheVariants as reasons
 use Rattle.lit_why.specs.Derivation.{EachFollows, EndsInCycle, Follows, IsDerivationBy, IsLineOf}
-use Rattle.lit_why.specs.Internal.Deriving.{AreGiven, HasForced, HasComposed, HasLine, HasLines, IsGiven}
+use Rattle.lit_why.specs.Internal.Deriving.{AreGiven, HasForced, HasJoined, HasLine, HasLines, IsGiven}
 
 -- what is at a place after one is put at the end
 pub at_pushed : {X : Type 0} (xs : List X) (y : X) (k : ℕ) (x : X) → slice_get (xs ++ y ∷ []) k ≡ Some x → ((k < length xs) × (slice_get xs k ≡ Some x)) ⊎ ((k ≡ length xs) × (y ≡ x))
@@ -47,7 +47,7 @@ module _ (lines : List DerivationLine) (line : DerivationLine) where
   module _ (before : ℕ → ℕ → Type 0) (forbidden : ℕ → ℕ → ℕ → Type 0) where
     Follows-more : (place e d : ℕ) (reason : Reason) → Follows before forbidden lines place e d reason → Follows before forbidden (lines ++ line ∷ []) place e d reason
     Follows-more place e d reasons.HappensBefore h = h
-    Follows-more place e d (reasons.Composed first second) h = (h.0, h.1, h.2, IsLineOf-more first e h.0 h.3, IsLineOf-more second h.0 d h.4)
+    Follows-more place e d (reasons.Joined first second) h = (h.0, h.1, h.2, IsLineOf-more first e h.0 h.3, IsLineOf-more second h.0 d h.4)
     Follows-more place e d (reasons.BeforeSource r earlier) h = (h.0, h.1, IsLineOf-more earlier e r h.2)
     Follows-more place e d (reasons.AfterRead w earlier) h = (h.0, h.1, IsLineOf-more earlier w d h.2)
 
@@ -70,7 +70,7 @@ module _ (lines : List DerivationLine) (line : DerivationLine) where
 module _ (before other : ℕ → ℕ → Type 0) (forbidden more : ℕ → ℕ → ℕ → Type 0) (wider : (e d : ℕ) → before e d → other e d) (also : (w r v : ℕ) → forbidden w r v → more w r v) where
   pub Follows-wider : (lines : List DerivationLine) (place e d : ℕ) (reason : Reason) → Follows before forbidden lines place e d reason → Follows other more lines place e d reason
   Follows-wider lines place e d reasons.HappensBefore h = wider e d h
-  Follows-wider lines place e d (reasons.Composed first second) h = h
+  Follows-wider lines place e d (reasons.Joined first second) h = h
   Follows-wider lines place e d (reasons.BeforeSource r earlier) h = (also d r e h.0, h.1, h.2)
   Follows-wider lines place e d (reasons.AfterRead w earlier) h = (also w e d h.0, h.1, h.2)
 
@@ -83,14 +83,14 @@ AreGiven-more before lines line given here k new at = elim (at_pushed lines line
 
 -- where all pairs that follow are known, all pairs that are forced are known
 pub forced_within : (before known : ℕ → ℕ → Type 0) (forbidden : ℕ → ℕ → ℕ → Type 0) → ((e d : ℕ) → before e d → known e d) → HasForced forbidden known known
-    → HasComposed known known → (a d : ℕ) → IsForced before forbidden a d → known a d
-forced_within before known forbidden has forced composed a d (Given h) = has a d h
-forced_within before known forbidden has forced composed a d (Through m p q) =
-    composed a m d (forced_within before known forbidden has forced composed a m p) (forced_within before known forbidden has forced composed m d q)
-forced_within before known forbidden has forced composed a d (AfterRead w f not_source not_read p) =
-    forced.after w a d f (forced_within before known forbidden has forced composed w d p)
-forced_within before known forbidden has forced composed a d (BeforeSource r f not_source not_read p) =
-    forced.earlier d r a f (forced_within before known forbidden has forced composed a r p)
+    → HasJoined known known → (a d : ℕ) → IsForced before forbidden a d → known a d
+forced_within before known forbidden has forced joined a d (Given h) = has a d h
+forced_within before known forbidden has forced joined a d (Through m p q) =
+    joined a m d (forced_within before known forbidden has forced joined a m p) (forced_within before known forbidden has forced joined m d q)
+forced_within before known forbidden has forced joined a d (AfterRead w f not_source not_read p) =
+    forced.after w a d f (forced_within before known forbidden has forced joined w d p)
+forced_within before known forbidden has forced joined a d (BeforeSource r f not_source not_read p) =
+    forced.earlier d r a f (forced_within before known forbidden has forced joined a r p)
 
 pub HasForced-from_old : (forbidden : ℕ → ℕ → ℕ → Type 0) (old known : ℕ → ℕ → Type 0) → ((e d : ℕ) → known e d → old e d) → HasForced forbidden old known → HasForced forbidden known known
 HasForced-from_old forbidden old known same forced = record {
@@ -131,7 +131,7 @@ module _ (before : ℕ → ℕ → Type 0) (forbidden : ℕ → ℕ → ℕ → 
   follows_forced : (most : ℕ) → ((k e d : ℕ) → k < most → IsLineOf lines k e d → IsForced before forbidden e d) → (k e d : ℕ) → k < most + 1 → (reason : Reason)
       → Follows before forbidden lines k e d reason → IsForced before forbidden e d
   follows_forced most less k e d inside reasons.HappensBefore h = Given h
-  follows_forced most less k e d inside (reasons.Composed first second) h =
+  follows_forced most less k e d inside (reasons.Joined first second) h =
       let one : first < k = h.1 in let two : second < k = h.2 in Through h.0 (less first e h.0 (omega arith) h.3) (less second h.0 d (omega arith) h.4)
   follows_forced most less k e d inside (reasons.BeforeSource r earlier) h =
       let one : earlier < k = h.1 in let two = apart d r e h.0 in BeforeSource r h.0 two.0 two.1 (less earlier e r (omega arith) h.2)

@@ -21,7 +21,7 @@ use Rattle.lit_valid.specs.Laws.{Laws}
 use Rattle.lit_solve.specs.Box.{Box, HasSource, LiesIn, box_events}
 use Rattle.lit_solve.specs.Fill.{AreSourcesIn}
 use Rattle.lit_solve.specs.Internal.Cut.{IsGreaterAt}
-use Rattle.lit_solve.proofs.DomainLemmas.{domain_here, narrowed_at, narrowed_is_box, narrowed_within, none_empty_at, source_here}
+use Rattle.lit_solve.proofs.DomainLemmas.{domain_here, pruned_at, pruned_is_box, pruned_within, none_empty_at, source_here}
 use Rattle.lit_solve.proofs.DomainLemmas.{source_other}
 use Rattle.lit_solve.proofs.LexLemmas.{never_both_less}
 use Rattle.lit_solve.proofs.RangeLemmas.{not_behind, sourced, sources_rise}
@@ -151,20 +151,20 @@ module _ (laws : Laws) (box : Box) (class : Class) where
     module _ (room : place < length box.domains) (left others one : EventSet) (source : ℕ) (split : IsSplit left source others)
         (are : AreLeft box place left) (only : (w : ℕ) → HasEvent one w ↔ (w ≡ source)) where
       abbrev next : Box
-      next = narrowed_at box place one
+      next = pruned_at box place one
 
       one_within : (w : ℕ) → HasEvent one w → HasSource box place w
       one_within w there = subst (HasSource box place) (sym ((only w).0 there)) (are.within source split.there)
 
       in_next : (k w : ℕ) → HasSource next k w → HasSource box k w
-      in_next = (narrowed_within box place one room one_within).domains
+      in_next = (pruned_within box place one room one_within).domains
 
       its_own : (w : ℕ) → HasSource next place w → w ≡ source
       its_own w there = (only w).0 (subst (λ (set : EventSet). HasEvent set w) (domain_here box place one room) there)
 
       pub next_node : IsNode box place → IsNode next (place + 1)
       next_node node = record {
-        is_box = narrowed_is_box box place one room one_within node.is_box;
+        is_box = pruned_is_box box place one room one_within node.is_box;
         some = none_empty_at box place one room node.some (source, (only source).1 refl);
         within = omega (arith, inside);
         alone = λ k below. elim (cases_eq k place) [

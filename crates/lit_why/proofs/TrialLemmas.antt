@@ -10,7 +10,7 @@ use Rattle.lit_rel.specs.Broken.{HasFalseGuard, HasFalseGuardOn}
 use Rattle.lit_rel.specs.ReadsFrom.{value_of}
 use Rattle.lit_solve.specs.Box.{Box, box_events, events_on}
 use Rattle.lit_solve.specs.Fill.{AreSourcesIn}
-use Rattle.lit_solve.proofs.NarrowingLemmas.{as_many}
+use Rattle.lit_solve.proofs.PruningLemmas.{as_many}
 use Rattle.lit_why.specs.Attempts.{part_with}
 
 -- where each byte read has a source, a guard on any read that is false of its value is a false guard of the part

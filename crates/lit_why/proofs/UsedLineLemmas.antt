@@ -35,7 +35,7 @@ module _ (lines : List DerivationLine) (marks : List Bool) (i : ℕ) (places : L
 
   moved_stable : (reason : Reason) → ((k : ℕ) → Cites reason k → k < i) → moved_reason more reason ≡ moved_reason places reason
   moved_stable reasons.HappensBefore cited = refl
-  moved_stable (reasons.Composed first second) cited = rw (stable first (cited first (inl refl)), stable second (cited second (inr refl))) refl
+  moved_stable (reasons.Joined first second) cited = rw (stable first (cited first (inl refl)), stable second (cited second (inr refl))) refl
   moved_stable (reasons.BeforeSource r k) cited = rw (stable k (cited k refl)) refl
   moved_stable (reasons.AfterRead w k) cited = rw (stable k (cited k refl)) refl
 
@@ -97,8 +97,8 @@ module _ (lines : List DerivationLine) (marks : List Bool) (i : ℕ) (places : L
 -- ---- the used lines are a derivation
 cites_moved : (places : List ℕ) (reason : Reason) (j : ℕ) → Cites reason j → Cites (moved_reason places reason) (slice_index places j)
 cites_moved places reasons.HappensBefore j h = h
-cites_moved places (reasons.Composed first second) j (inl h) = inl (ap (slice_index places) h)
-cites_moved places (reasons.Composed first second) j (inr h) = inr (ap (slice_index places) h)
+cites_moved places (reasons.Joined first second) j (inl h) = inl (ap (slice_index places) h)
+cites_moved places (reasons.Joined first second) j (inr h) = inr (ap (slice_index places) h)
 cites_moved places (reasons.BeforeSource r k) j h = ap (slice_index places) h
 cites_moved places (reasons.AfterRead w k) j h = ap (slice_index places) h
 
@@ -118,7 +118,7 @@ module _ (before : ℕ → ℕ → Type 0) (forbidden : ℕ → ℕ → ℕ → 
   follows_moved : (j e d : ℕ) (reason : Reason) → j < length lines → ((k : ℕ) → Cites reason k → IsMarked only_used.marks k) → Follows before forbidden lines j e d reason
       → Follows before forbidden used (slice_index only_used.places j) e d (moved_reason only_used.places reason)
   follows_moved j e d reasons.HappensBefore inside cited h = h
-  follows_moved j e d (reasons.Composed first second) inside cited h =
+  follows_moved j e d (reasons.Joined first second) inside cited h =
       let one = cited first (inl refl) in
       let two = cited second (inr refl) in
       (h.0, only_used.moved.rising first j h.1 inside one, only_used.moved.rising second j h.2 inside two, line_moved first e h.0 one h.3, line_moved second h.0 d two h.4)

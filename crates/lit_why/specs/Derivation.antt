@@ -20,7 +20,7 @@ pub record IsLineOf (lines : List DerivationLine) (place e d : ℕ) : Type 0 whe
 -- not stand between it and the read r, and e is before r; or e is a read, d may not stand between its source w and it, and d is after w.
 abbrev pub Follows : (ℕ → ℕ → Type 0) → (ℕ → ℕ → ℕ → Type 0) → List DerivationLine → (place e d : ℕ) → Reason → Type 0
 Follows before forbidden lines place e d reasons.HappensBefore = before e d
-Follows before forbidden lines place e d (reasons.Composed first second) =
+Follows before forbidden lines place e d (reasons.Joined first second) =
     (m : ℕ) × (first < place) × (second < place) × IsLineOf lines first e m × IsLineOf lines second m d
 Follows before forbidden lines place e d (reasons.BeforeSource r earlier) = forbidden d r e × (earlier < place) × IsLineOf lines earlier e r
 Follows before forbidden lines place e d (reasons.AfterRead w earlier) = forbidden w e d × (earlier < place) × IsLineOf lines earlier w d
@@ -40,7 +40,7 @@ pub record EndsInCycle (lines : List DerivationLine) : Type 0 where
 -- a reason cites the line at a place
 abbrev pub Cites : Reason → ℕ → Type 0
 Cites reasons.HappensBefore place = ⊥
-Cites (reasons.Composed first second) place = (first ≡ place) ⊎ (second ≡ place)
+Cites (reasons.Joined first second) place = (first ≡ place) ⊎ (second ≡ place)
 Cites (reasons.BeforeSource r earlier) place = earlier ≡ place
 Cites (reasons.AfterRead w earlier) place = earlier ≡ place
 

@@ -4,7 +4,7 @@ use crate::engine::Options;
 
 /// What the words of the command line ask for.
 #[derive(Clone, Copy, Debug, PartialEq, Eq)]
-pub struct CommandLine<'a> {
+pub struct Line<'a> {
     /// How the work is done, and which report the words ask for.
     pub options: Options,
     /// The schedule whose outcome the words ask for in place of a report.

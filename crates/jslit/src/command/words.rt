@@ -8,7 +8,7 @@ ghost use Rattle.jslit.specs.Words.{names_report, number_flag, valued_flag, IsAs
 ghost use Rattle.jslit.specs.Words.{file_argument as file_rule};
 ghost use Rattle.lit_share.specs.declared.limits.TheConstants.{CUT_LIMIT as CUTS, WORKER_LIMIT as WORKERS};
 
-use crate::command::asked_line::CommandLine;
+use crate::command::asked_line::Line;
 use crate::command::version::VERSION;
 use crate::engine::Options;
 use clap::error::ErrorKind;
@@ -161,7 +161,7 @@ fn exclusion(matches: &ArgMatches<'_>) -> Option<&'static str>
 
 /// What the words ask for: the program's name, its flags and at most one file. It refuses a number of workers or choices
 /// that is not within the limits, a schedule with a flag of a report, and, as `clap` does it, a word that is no flag.
-pub fn line<'a, S: AsStr>(alloc: Global, words: &'a [S]) -> Result<CommandLine<'a>, Error>
+pub fn line<'a, S: AsStr>(alloc: Global, words: &'a [S]) -> Result<Line<'a>, Error>
     ensures asked { IfOk result (IsAsked (map S.text words.entry.now)) }
     ensures refused { IfErr result (HasKind (faults_of (map S.text words.entry.now))) }
 {
@@ -177,7 +177,7 @@ pub fn line<'a, S: AsStr>(alloc: Global, words: &'a [S]) -> Result<CommandLine<'
         cut,
         quick: is_quick(&matches),
     };
-    Ok(CommandLine {
+    Ok(Line {
         options,
         schedule: matches.get_str("schedule"),
         file: matches.get_str("file"),

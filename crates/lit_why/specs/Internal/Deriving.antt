@@ -29,8 +29,8 @@ pub record IsNewLine (n : ℕ) (forbidden : ℕ → ℕ → ℕ → Type 0) (kno
   pub new : ¬ known line.before line.after
 
 -- each pair composed of two old pairs is known
-abbrev pub HasComposed : (old known : ℕ → ℕ → Type 0) → Type 0
-HasComposed old known = (e m d : ℕ) → old e m → old m d → known e d
+abbrev pub HasJoined : (old known : ℕ → ℕ → Type 0) → Type 0
+HasJoined old known = (e m d : ℕ) → old e m → old m d → known e d
 
 -- each pair that a triple forces by an old pair is known
 pub record HasForced (forbidden : ℕ → ℕ → ℕ → Type 0) (old known : ℕ → ℕ → Type 0) : Type 0 where

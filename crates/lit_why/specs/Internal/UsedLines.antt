@@ -38,7 +38,7 @@ pub record AreMarks (lines : List DerivationLine) (marks : List Bool) : Type 0 w
 -- the reason, with each place that it cites read in a list of new places
 abbrev pub moved_reason : List ℕ → Reason → Reason
 moved_reason places reasons.HappensBefore = reasons.HappensBefore
-moved_reason places (reasons.Composed first second) = reasons.Composed (slice_index places first) (slice_index places second)
+moved_reason places (reasons.Joined first second) = reasons.Joined (slice_index places first) (slice_index places second)
 moved_reason places (reasons.BeforeSource r earlier) = reasons.BeforeSource r (slice_index places earlier)
 moved_reason places (reasons.AfterRead w earlier) = reasons.AfterRead w (slice_index places earlier)
 

@@ -5,7 +5,7 @@ ghost use Rattle.lit_rel.specs.Between.{Forbids};
 ghost use Rattle.lit_rel.specs.EventSet.{HasEvent};
 ghost use Rattle.lit_rel.specs.Rows.{Holds, rows_len};
 ghost use Rattle.lit_why.specs.Derivation.{IsLineOf};
-ghost use Rattle.lit_why.specs.Internal.Deriving.{HasForced, HasComposed, HasLine, HasLines, IsNewLine, IsOfPair, NoTriple};
+ghost use Rattle.lit_why.specs.Internal.Deriving.{HasForced, HasJoined, HasLine, HasLines, IsNewLine, IsOfPair, NoTriple};
 
 use crate::derivations::lines::{DerivationLine, Reason};
 use lit_rel::{Between, EventSet, Pair, Rows};
@@ -34,7 +34,7 @@ fn first_lacking(set: EventSet, there: EventSet) -> Option<usize>
 }
 
 /// A new line from `first`, composed of two lines.
-fn composed_from(
+fn joined_from(
     lines: &[DerivationLine],
     old: &Rows,
     known: &Rows,
@@ -53,7 +53,7 @@ fn composed_from(
                 return Some(DerivationLine {
                     before: first as u8,
                     after: last as u8,
-                    reason: Reason::Composed {
+                    reason: Reason::Joined {
                         first: place_of(lines, first, middle),
                         second: place_of(lines, middle, last),
                     },
@@ -65,14 +65,14 @@ fn composed_from(
 }
 
 /// A new line from any event, composed of two lines.
-fn composed(lines: &[DerivationLine], old: &Rows, known: &Rows) -> Option<DerivationLine>
+fn joined(lines: &[DerivationLine], old: &Rows, known: &Rows) -> Option<DerivationLine>
     requires same { rows_len known.now ≡ rows_len old.now }
     requires lines { HasLines lines.now (Holds old.now) }
-    ensures { MatchOption result (HasComposed (Holds old.now) (Holds known.now))
+    ensures { MatchOption result (HasJoined (Holds old.now) (Holds known.now))
         (IsNewLine (rows_len old.now) NoTriple (Holds known.now) lines.now) }
 {
     for first in 0..old.len() {
-        if let Some(line) = composed_from(lines, old, known, first) {
+        if let Some(line) = joined_from(lines, old, known, first) {
             return Some(line);
         }
     }
@@ -190,11 +190,11 @@ pub(crate) fn next_line(
     requires len { rows_len old.now ≡ between.now.len }
     requires lines { HasLines lines.now (Holds old.now) }
     ensures { MatchOption result
-        (HasForced (Forbids between.now) (Holds old.now) (Holds known.now) × HasComposed (Holds old.now) (Holds known.now))
+        (HasForced (Forbids between.now) (Holds old.now) (Holds known.now) × HasJoined (Holds old.now) (Holds known.now))
         (IsNewLine (rows_len old.now) (Forbids between.now) (Holds known.now) lines.now) }
 {
     match forced(lines, old, known, between) {
         Some(line) => Some(line),
-        None => composed(lines, old, known),
+        None => joined(lines, old, known),
     }
 }

@@ -7,7 +7,7 @@ pub enum Reason {
     /// `before` happens before `after`.
     HappensBefore,
     /// By transitivity, through an event between the two.
-    Composed {
+    Joined {
         /// The line that has `before` before the event between.
         first: usize,
         /// The line that has that event before `after`.

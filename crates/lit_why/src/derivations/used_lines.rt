@@ -24,7 +24,7 @@ fn mark_cited(marks: &mut Vec<bool>, reason: Reason)
 {
     match reason {
         Reason::HappensBefore => {}
-        Reason::Composed { first, second } => {
+        Reason::Joined { first, second } => {
             mark(marks, first);
             mark(marks, second);
         }
@@ -67,7 +67,7 @@ fn moved(reason: Reason, places: &[usize]) -> Reason
 {
     match reason {
         Reason::HappensBefore => Reason::HappensBefore,
-        Reason::Composed { first, second } => Reason::Composed {
+        Reason::Joined { first, second } => Reason::Joined {
             first: place_at(places, first),
             second: place_at(places, second),
         },

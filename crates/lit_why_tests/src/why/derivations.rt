@@ -39,7 +39,7 @@ fn follows(part: &Part<'_>, lines: &[DerivationLine], place: usize, line: &Deriv
     let (before, after) = (line.before, line.after);
     match line.reason {
         Reason::HappensBefore => holds(&part.happens_before(), before, after),
-        Reason::Composed { first, second } => match lines.get(first) {
+        Reason::Joined { first, second } => match lines.get(first) {
             Some(one) => {
                 has(lines, first, place, (before, one.after))
                     && has(lines, second, place, (one.after, after))
@@ -61,7 +61,7 @@ fn follows(part: &Part<'_>, lines: &[DerivationLine], place: usize, line: &Deriv
 fn cites(line: &DerivationLine, place: usize) -> bool {
     match line.reason {
         Reason::HappensBefore => false,
-        Reason::Composed { first, second } => first == place || second == place,
+        Reason::Joined { first, second } => first == place || second == place,
         Reason::BeforeSource { read: _, earlier } => earlier == place,
         Reason::AfterRead { source: _, earlier } => earlier == place,
     }

@@ -5,7 +5,7 @@ use Rattle.lit_paths.specs.declared.limits.TheConstants.{BYTE_READ_LIMIT}
 use Rattle.lit_rel.specs.EventSet.{HasEvent, no_events}
 use Rattle.lit_rel.proofs.SetLemmas.{split_less}
 use Rattle.lit_solve.specs.Box.{box_with, events_on}
-use Rattle.lit_solve.proofs.NarrowingLemmas.{source_known}
+use Rattle.lit_solve.proofs.PruningLemmas.{source_known}
 use Rattle.lit_why.specs.Internal.Trials.{MayTry, TriesIn}
 use Rattle.lit_why.proofs.AddedLemmas.{adds_none, adds_same}
 use Rattle.lit_why.proofs.NodeLemmas.{TriesPast, adds_past, all_left, all_past, fewer_left, next_node, none_past, on_sourced}

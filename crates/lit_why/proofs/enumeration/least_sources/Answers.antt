@@ -1,7 +1,7 @@
 use Rattle.std.proofs.Common.{◌≡◌, ◌<◌, arith, length}
 use Rattle.lit_paths.specs.ByteReads.{byte_reads}
 use Rattle.lit_solve.specs.Box.{box_with, events_on}
-use Rattle.lit_solve.proofs.NarrowingLemmas.{source_known}
+use Rattle.lit_solve.proofs.PruningLemmas.{source_known}
 use Rattle.lit_why.proofs.TrialLemmas.{events_are, reads_len}
 use Rattle.lit_why.proofs.enumeration.least_sources.Goals as goal
 

@@ -8,7 +8,7 @@ use Rattle.lit_paths.specs.Event.{event_at, payload_at}
 use Rattle.lit_rel.specs.EventSet.{HasEvent}
 use Rattle.lit_solve.specs.Box.{events_on}
 use Rattle.lit_solve.specs.Prunable.{IsRefusedOn}
-use Rattle.lit_solve.proofs.NarrowingLemmas.{read_known, read_listed, read_there}
+use Rattle.lit_solve.proofs.PruningLemmas.{read_known, read_listed, read_there}
 use Rattle.lit_why.specs.Internal.Trials.{IsRepresentative}
 use Rattle.lit_why.proofs.RepresentativeLemmas.{unless_before}
 use Rattle.lit_why.proofs.representatives.is_representative.Goals as goal

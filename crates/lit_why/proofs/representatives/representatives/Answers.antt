@@ -5,7 +5,7 @@ use Rattle.lit_paths.specs.declared.limits.TheConstants.{BYTE_READ_LIMIT}
 use Rattle.std.proofs.lemmas.Option.{slice_get_within}
 use Rattle.lit_solve.specs.Box.{events_on}
 use Rattle.lit_solve.proofs.CandidateLemmas.{sets_more}
-use Rattle.lit_solve.proofs.NarrowingLemmas.{as_many}
+use Rattle.lit_solve.proofs.PruningLemmas.{as_many}
 use Rattle.lit_why.specs.Internal.Trials.{IsRepresentative}
 use Rattle.lit_why.proofs.representatives.representatives.Goals as goal
 

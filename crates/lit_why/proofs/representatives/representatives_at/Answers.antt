@@ -3,7 +3,7 @@ use Rattle.std.proofs.Common.{sym, ◌∙◌}
 use Rattle.lit_paths.specs.ByteReads.{byte_read_at}
 use Rattle.lit_rel.proofs.SetLemmas.{split_less}
 use Rattle.lit_solve.specs.Box.{events_on}
-use Rattle.lit_solve.proofs.ReadByteLemmas.{alike_more, alike_same}
+use Rattle.lit_solve.proofs.ReadByteLemmas.{matching_more, matching_same}
 use Rattle.lit_why.specs.Internal.Trials.{IsRepresentative}
 use Rattle.lit_why.proofs.representatives.representatives_at.Goals as goal
 
@@ -16,7 +16,7 @@ loop-source-smaller-then-is_representative c = split_less c.loop-source.left c.i
 pub loop-source-preserved-then-is_representative : goal.loop-source-preserved-then-is_representative
 loop-source-preserved-then-is_representative c = record {
   left = λ v h. c.loop-source.invariant.left v ((c.in-Some.ensures.rest v).0 h).0;
-  first = alike_more c.candidates_of-candidates.result c.loop-source.left c.in-Some.others c.loop-source.first
+  first = matching_more c.candidates_of-candidates.result c.loop-source.left c.in-Some.others c.loop-source.first
       (IsRepresentative c.args.combination.now (byte_read_at (events_on c.args.combination.now) c.args.place))
       c.in-Some.source c.in-Some.ensures c.loop-source.invariant.first c.with-first.result
       (c.loop-source.invariant.left c.in-Some.source c.in-Some.ensures.there)
@@ -26,7 +26,7 @@ loop-source-preserved-then-is_representative c = record {
 pub loop-source-preserved : goal.loop-source-preserved
 loop-source-preserved c = record {
   left = λ v h. c.loop-source.invariant.left v ((c.in-Some.ensures.rest v).0 h).0;
-  first = alike_same c.candidates_of-candidates.result c.loop-source.left c.in-Some.others c.loop-source.first
+  first = matching_same c.candidates_of-candidates.result c.loop-source.left c.in-Some.others c.loop-source.first
       (IsRepresentative c.args.combination.now (byte_read_at (events_on c.args.combination.now) c.args.place))
       c.in-Some.source c.in-Some.ensures c.loop-source.invariant.first
       (λ is. false≢true (sym c.if-is_representative.false ∙ c.is_representative.ensures.1 is));
