@@ -18,7 +18,7 @@ pub(crate) const CLAUSE_COUNT: usize = 5;
 const CLAUSES: [Clause; CLAUSE_COUNT] = [
     Clause {
         name: "paths",
-        section: "the tests of the paths",
+        section: "the guards of the paths",
     },
     Clause {
         name: "happens-before",

@@ -272,7 +272,7 @@ fn put_refusal(alloc: Global, buffer: &mut Vec<u8>, scene: &Scene<'_>) -> io::Re
     write!(buffer, "{{\"clause\":\"{}\"", clause_of(refusal).name)?;
     match refusal {
         Refusal::FalseGuard { agent, place } => {
-            write!(buffer, ",\"agent\":{agent},\"test\":{place},\"line\":")?;
+            write!(buffer, ",\"agent\":{agent},\"guard\":{place},\"line\":")?;
             put_number(buffer, scene.line_of_guard(alloc, agent, place)?)?;
         }
         Refusal::BeforeItself { event } => {

@@ -6,7 +6,7 @@ use Rattle.lit_read.specs.Syntax.{Litmus}
 use Rattle.lit_paths.specs.ByteReads.{byte_read_at, byte_reads}
 use Rattle.lit_paths.specs.Plan.{ListsCandidates, events_in}
 use Rattle.lit_rel.specs.Part.{part_events}
-use Rattle.lit_calls.proofs.allocation_free.give.Goals as goal
+use Rattle.lit_allocation_failures.proofs.allocation_free.give.Goals as goal
 
 place_of_any : (xs : List ℕ) (x : ℕ) → list_any (λ y. y == x) xs ≡ true → (k : ℕ) × (slice_get xs k ≡ Some x)
 place_of_any [] x h = absurd (false≢true h)
