@@ -21,7 +21,7 @@ use Rattle.lit_rel.specs.Coherent.{HasCoherentReads, Hides, IsCoherentRead}
 use Rattle.lit_rel.specs.Forbidden.{IsForbidden}
 use Rattle.lit_rel.specs.Growth.{IsGivenWhole}
 use Rattle.lit_rel.specs.Part.{PartModel, part_events}
-use Rattle.lit_rel.specs.ReadsFrom.{ReadsFrom, joined, value_of}
+use Rattle.lit_rel.specs.ReadsFrom.{ReadsFrom, composed, value_of}
 use Rattle.lit_rel.specs.TearFree.{HasTearFreeReads}
 use Rattle.lit_valid.specs.PartOutcome.{observed_value}
 use Rattle.lit_why.specs.Internal.Refusing.{AreTorn, IsFirstFalse, IsFirstIncoherent, IsHiddenBy, IsLeastFalse}
@@ -41,7 +41,7 @@ filter_none (q ∷ reads) (w ∷ sources) r none =
 pub value_past : (events : List Event) (sources : List ℕ) (r : ℕ) → length events ≤ r → value_of events sources r ≡ 0
 value_past events sources r past =
     let none = filter_none (byte_reads events) sources r (λ k q at same. let known = (are_of_events events).known k q.0 q.1 at in absurd (omega arith)) in
-    ap (λ (ps : List ((ℕ × ℕ) × ℕ)). joined (map (λ p. payload_at (event_at events p.1) p.0.1) ps)) none
+    ap (λ (ps : List ((ℕ × ℕ) × ℕ)). composed (map (λ p. payload_at (event_at events p.1) p.0.1) ps)) none
 
 -- ---- guards
 module _ (part : PartModel) (agent : ℕ) (guards : List Tested) (first : ℕ) (is_guards : guards ≡ (path_in part.test part.combination agent).tests)

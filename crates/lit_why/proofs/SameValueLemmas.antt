@@ -11,7 +11,7 @@ use Rattle.lit_paths.specs.Event.{event_at, payload_at}
 use Rattle.lit_paths.specs.Outcome.{names_of}
 use Rattle.lit_paths.specs.Plan.{events_in}
 use Rattle.lit_rel.specs.Broken.{HasFalseGuard, HasFalseGuardOn}
-use Rattle.lit_rel.specs.ReadsFrom.{joined, value_of}
+use Rattle.lit_rel.specs.ReadsFrom.{composed, value_of}
 use Rattle.lit_valid.specs.declared.class.Class.{Class}
 use Rattle.lit_valid.specs.Class.{is_of_class}
 use Rattle.lit_valid.specs.Laws.{Laws}
@@ -58,7 +58,7 @@ taken_same events r (read ∷ reads) (v ∷ some) (w ∷ other) long long_other 
 module _ (t : Litmus) (class : Class) (c : ℕ) (some other : List ℕ) (long : length some ≡ length (byte_reads (events_in t c)))
     (long_other : length other ≡ length (byte_reads (events_in t c))) (same_values : IsTrue (give_same_values (events_in t c) some other)) where
   value_same : (r : ℕ) → value_of (events_in t c) some r ≡ value_of (events_in t c) other r
-  value_same r = ap joined (taken_same (events_in t c) r (byte_reads (events_in t c)) some other long long_other same_values)
+  value_same r = ap composed (taken_same (events_in t c) r (byte_reads (events_in t c)) some other long long_other same_values)
 
   observed_same : (observed : Option ℕ) → observed_value (part_with t c some) observed ≡ observed_value (part_with t c other) observed
   observed_same None = refl
