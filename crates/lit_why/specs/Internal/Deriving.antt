@@ -22,7 +22,8 @@ abbrev pub NoTriple : ℕ → ℕ → ℕ → Type 0
 NoTriple w r v = ⊥
 
 -- the line is of events below n, follows from the lines before it, and its pair is not known
-pub record IsNewLine (n : ℕ) (forbidden : ℕ → ℕ → ℕ → Type 0) (known : ℕ → ℕ → Type 0) (lines : List DerivationLine) (line : DerivationLine) : Type 0 where
+pub record IsNewLine (n : ℕ) (forbidden : ℕ → ℕ → ℕ → Type 0) (known : ℕ → ℕ → Type 0) (lines : List DerivationLine)
+    (line : DerivationLine) : Type 0 where
   pub first : line.before < n
   pub second : line.after < n
   pub follows : Follows NoPair forbidden lines (length lines) line.before line.after line.reason
