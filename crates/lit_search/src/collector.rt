@@ -89,7 +89,15 @@ impl<'p> Collector<'p> {
         ensures refused { OnErr result (self.new ≡ self.old) }
     {
         let count = self.table.len();
-        match record(self.plan, &mut self.table, heartbeat, self.race, from, to) {
+        match record(
+            self.alloc,
+            self.plan,
+            &mut self.table,
+            heartbeat,
+            self.race,
+            from,
+            to,
+        ) {
             Ok(race) => {
                 self.race = race;
                 self.end = to;

@@ -93,6 +93,7 @@ fn is_marked_with(problem: &Problem<'_>, domains: &Domains, mark: bool) -> bool
 /// Records the outcomes of the choices with numbers from `from` up to and without `to`, all of the problem's combination,
 /// that the table lacks. Answers `true` if `mark` is, or if one of these choices has a data race (decision 45).
 fn record_on<H: Heartbeat>(
+    alloc: Global,
     problem: &Problem<'_>,
     table: &mut Examples,
     heartbeat: &H,
@@ -114,7 +115,7 @@ fn record_on<H: Heartbeat>(
     let mut race = mark;
     for place in 0..boxes.len() {
         boxes.put(place, &mut domains);
-        outcomes(problem, &domains, table, heartbeat)?;
+        outcomes(alloc, problem, &domains, table, heartbeat)?;
         race = is_marked_with(problem, &domains, race);
     }
     Ok(race)
@@ -123,6 +124,7 @@ fn record_on<H: Heartbeat>(
 /// Records the outcomes of the choices with numbers from `from` up to and without `to` that the table lacks. Answers `true` if
 /// `mark` is, or if one of these choices has a data race.
 pub(crate) fn record<H: Heartbeat>(
+    alloc: Global,
     plan: &Plan<'_>,
     table: &mut Examples,
     heartbeat: &H,
@@ -142,7 +144,7 @@ pub(crate) fn record<H: Heartbeat>(
     while next < to {
         let problem = Problem::open(&*plan, plan.combination(next));
         let end = problem.combination().end().min(to);
-        race = record_on(&problem, table, heartbeat, race, next, end)?;
+        race = record_on(alloc, &problem, table, heartbeat, race, next, end)?;
         next = end;
     }
     Ok(race)

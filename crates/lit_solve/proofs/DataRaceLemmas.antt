@@ -1,8 +1,7 @@
 -- Data races of completions, by what a box gives.
-use Rattle.lit_solve.proofs.Words.{◌<◌, ◌==◌, ap, arith, byte_reads, cond, Event, event_at, Execution, execution_events, HappensBefore}
-use Rattle.lit_solve.proofs.Words.{HasDataRace, inl, inr, Laws, length, List, nat_tests, ReadsFrom, refl, slice_get, Some, subst, sym}
+use Rattle.lit_solve.proofs.Words.{ap, byte_reads, Event, event_at, Execution, execution_events, HappensBefore}
+use Rattle.lit_solve.proofs.Words.{HasDataRace, inl, inr, Laws, List, ReadsFrom, slice_get, Some, subst, sym}
 use Rattle.lit_solve.proofs.Words.{WriteOneByte, ℕ, ◌∙◌, ◌≡◌, ◌⊎◌}
-use Rattle.std.specs.Prelude.{Bool, true, false}
 use Rattle.lit_rel.proofs.RaceLemmas.{HasDataRaceOf-wider}
 use Rattle.lit_solve.specs.declared.goal.Goal.TheVariants.{Race}
 use Rattle.lit_solve.specs.Box.{Box, IsBox, box_events}
@@ -10,9 +9,10 @@ use Rattle.lit_solve.specs.Completion.{HasSolution, IsCompletion}
 use Rattle.lit_solve.specs.Fill.{AreCoherentSources, AreSourcesIn, IsFilled, IsLeaf}
 use Rattle.lit_solve.specs.Given.{HappensBeforeIn}
 use Rattle.lit_solve.specs.DataRace.{CanFillFrom, CanRaceIn, HasSourceOf, MayRaceIn}
+use Rattle.lit_solve.specs.Internal.Independent.{LieOn}
 use Rattle.lit_solve.proofs.CompletionLemmas.{events_same}
 use Rattle.lit_solve.proofs.FillLemmas.{before_back, completion_of_filled, filled_by, grows_in, no_cycle_given, order_given, sources_lie, unwritten_true}
-use Rattle.lit_solve.proofs.TogetherLemmas.{together, together_agrees, together_fills, together_lies}
+use Rattle.lit_solve.proofs.TogetherLemmas.{on_read, replaced, replaced_fill, replaced_lie, replaced_own}
 
 -- what can be filled may be read
 pub can_race_may : (box : Box) → CanRaceIn box → MayRaceIn box
@@ -44,33 +44,27 @@ module _ (box : Box) (laws : Laws) (entered : IsBox box) where
   module _ (leaf : IsLeaf box) (coherent : AreCoherentSources box) (x : Execution) (is : IsCompletion box x) where
     -- another takes the sources of one read from elsewhere
     module _ (r : ℕ) (others : List ℕ) (lie : AreSourcesIn box others) (filled : IsFilled box r others) where
-      abbrev picked : ℕ → List ℕ
-      picked q = cond (q == r) others x.sources
+      own_lie : LieOn box r others
+      own_lie = on_read box r others lie
 
-      picked_lies : (q : ℕ) → q < length events → AreSourcesIn box (picked q)
-      picked_lies q known = grind (arith, nat_tests, sources_lie)
-
-      picked_fills : (q : ℕ) → q < length events → IsFilled box q (picked q)
-      picked_fills q known = by (q == r) refl
-        where
-          by : (here : Bool) → (q == r) ≡ here → IsFilled box q (cond here others x.sources)
-          by true same = let equal : q ≡ r = grind (arith, nat_tests) in subst (λ (p : ℕ). IsFilled box p others) (sym equal) filled
-          by false other = filled_by box x is laws entered q
-
-      picked_here : picked r ≡ others
-      picked_here = grind (arith, nat_tests)
-
-      with_fill : (y : Execution) × IsCompletion box y × (y.sources ≡ together box picked)
+      with_fill : (y : Execution) × IsCompletion box y × (y.sources ≡ replaced box (laws.of_events events) r others x.sources own_lie (sources_lie box x is))
       with_fill =
-          completion_of_filled box (together box picked) (together_lies box picked (laws.of_events events) picked_lies) leaf laws entered
-          coherent (no_cycle_given box x is) (together_fills box picked (laws.of_events events) picked_lies picked_fills)
+          completion_of_filled box (replaced box (laws.of_events events) r others x.sources own_lie (sources_lie box x is))
+          (replaced_lie box (laws.of_events events) r others x.sources own_lie (sources_lie box x is)) leaf laws entered
+          coherent (no_cycle_given box x is)
+          (replaced_fill box (laws.of_events events) r others x.sources own_lie (sources_lie box x is) filled (λ q known. filled_by box x is laws entered q))
           (unwritten_true box x is laws entered) (order_given box x is)
 
       reads_as_well : (k b w : ℕ) → slice_get (byte_reads events) k ≡ Some (r, b) → slice_get others k ≡ Some w → ReadsFrom events with_fill.0.sources r w
-      reads_as_well k b w at takes =
-          let known = (laws.of_events events).known k r b at in
-          let agrees = together_agrees box picked (laws.of_events events) picked_lies r known k b at in
-          (b, (k, at, ap (λ (ws : List ℕ). slice_get ws k) with_fill.2 ∙ agrees ∙ ap (λ (ws : List ℕ). slice_get ws k) picked_here ∙ takes))
+      reads_as_well k b w at takes = (
+        b,
+        (
+          k,
+          at,
+          ap (λ (ws : List ℕ). slice_get ws k) with_fill.2
+              ∙ replaced_own box (laws.of_events events) r others x.sources own_lie (sources_lie box x is) k b at ∙ takes,
+        ),
+      )
 
     -- two events that race by what is given do so in each completion in which they conflict
     raced : (h : CanRaceIn box) (y : Execution) → IsCompletion box y

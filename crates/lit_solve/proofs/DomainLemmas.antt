@@ -30,7 +30,7 @@ module _ (box : Box) (place : ℕ) (left : EventSet) (room : place < length box.
   pub domain_here : slice_index_or (slice_set box.domains place left) place no_events ≡ left
   domain_here = get_or-set_same box.domains place left no_events room
 
-  domain_other : (k : ℕ) → k ≢ place → slice_index_or (slice_set box.domains place left) k no_events ≡ slice_index_or box.domains k no_events
+  pub domain_other : (k : ℕ) → k ≢ place → slice_index_or (slice_set box.domains place left) k no_events ≡ slice_index_or box.domains k no_events
   domain_other k other = get_or-set_other box.domains place k left no_events other
 
   -- an event is in a domain of the new box exactly if it is in that of the old one and, at the place, in `left`

@@ -60,8 +60,12 @@ module _ (old new : Box) (goal : Goal) (lowest : IsLowest old goal new) (alone :
   same : found.0.sources ≡ sources
   same = sources_same new alone sources long lies found.0 found.1.completes
 
-  not_less : (x : Execution) → IsSolution old goal x → slice_cmp nat_cmp x.sources sources ≢ Less
+  pub not_less : (x : Execution) → IsSolution old goal x → slice_cmp nat_cmp x.sources sources ≢ Less
   not_less x is less = grind (arith, never_both_less, same, same_events, sourced, sources_lie, sources_same)
+
+  -- a completion has these sources
+  pub completion_found : (x : Execution) × IsCompletion old x × (x.sources ≡ sources)
+  completion_found = (found.0, (solution_out new old goal lowest.within found.0 found.1).completes, same)
 
   pub least_found : (order : List ℕ) → IsLeastOrderOf (length (box_events new)) (HappensBeforeIn new) (IsForbiddenIn new) order
       → IsLeastSolution old goal sources order

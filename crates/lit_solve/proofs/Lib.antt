@@ -31,3 +31,7 @@ pub mod EntryLemmas
 pub mod ObservationLemmas
 pub mod ObservedLemmas
 pub mod IndependentLemmas
+pub mod GivenReadLemmas
+pub mod ReadValuesLemmas
+pub mod OpenReadLemmas
+pub mod ProductLemmas

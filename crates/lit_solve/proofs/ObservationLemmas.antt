@@ -101,7 +101,7 @@ module _ (box : Box) (entered : IsBox box) (laws : Laws) (x : Execution) (is : I
       its_outcome (part_of box x.sources) x (completes box x is) laws (record { litmus = entered.litmus; known = entered.known })
       (names_from-within box.test.agents)
 
-  length_outcome : length (execution_outcome box.test x) ≡ length (names_of box.test)
+  pub length_outcome : length (execution_outcome box.test x) ≡ length (names_of box.test)
   length_outcome = ap (λ (vs : List ℕ). length vs) outcome_is ∙ length-map (names_of box.test) observed_in
 
   -- one value more

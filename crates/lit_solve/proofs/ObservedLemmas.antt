@@ -24,7 +24,7 @@ use Rattle.lit_solve.proofs.RegisterLemmas.{register_value}
 use Rattle.lit_solve.proofs.SearchingLemmas.{not_all, takes_some}
 
 -- a completion takes some source
-takes_one : (box : Box) (k : ℕ) → k < length (byte_reads (box_events box)) → (x : Execution) → IsCompletion box x
+pub takes_one : (box : Box) (k : ℕ) → k < length (byte_reads (box_events box)) → (x : Execution) → IsCompletion box x
     → (w : ℕ) × (slice_get x.sources k ≡ Some w)
 takes_one box k inside x is = takes_some box Any k inside x (record { completes = is; meets = tt })
 
@@ -44,7 +44,7 @@ pub least_pruned : (box : Box) (domains : List EventSet) → Prunes box (box_wit
 least_pruned box domains prunes entry is = grind arith
 
 module _ (laws : Laws) (box : Box) (entered : IsBox box) (sound : AreEventsIn box.test.bytes (box_events box)) (k : ℕ)
-    (inside : k < length (byte_reads (box_events box))) (observed : IsObservedAt box k) where
+    (inside : k < length (byte_reads (box_events box))) where
   abbrev events : List Event
   events = box_events box
 
@@ -56,15 +56,6 @@ module _ (laws : Laws) (box : Box) (entered : IsBox box) (sound : AreEventsIn bo
 
   at : slice_get (byte_reads events) k ≡ Some (r, b)
   at = read_here events k inside
-
-  -- what the register has at the end is the value of the read
-  observed_is : (x : Execution) → IsCompletion box x
-      → value_in (zip (names_of box.test) (execution_outcome box.test x)) observed.0.0 observed.0.1 ≡ value_of events x.sources r
-  observed_is x is = register_value laws box x entered is observed.0.0 observed.0.1 ∙ ap (observed_value (part_of box x.sources)) observed.1
-
-  same_value : (x y : Execution) → IsCompletion box x → IsCompletion box y → execution_outcome box.test x ≡ execution_outcome box.test y
-      → value_of events x.sources r ≡ value_of events y.sources r
-  same_value x y is_x is_y same = grind (arith, observed_is)
 
   -- a source stores the byte that the value has there
   stores : (number : ℕ) (x : Execution) → IsCompletion box x → (w : ℕ) → slice_get x.sources k ≡ Some w → value_of events x.sources r ≡ number
@@ -78,11 +69,32 @@ module _ (laws : Laws) (box : Box) (entered : IsBox box) (sound : AreEventsIn bo
             ∙ eq-eqb (value_of events x.sources r) number value))
       ]
 
+  -- so where two completions have the same value of the read, they take sources that store the same byte
+  pub same_stored : (x y : Execution) → IsCompletion box x → IsCompletion box y → value_of events x.sources r ≡ value_of events y.sources r
+      → (w v : ℕ) → slice_get x.sources k ≡ Some w → slice_get y.sources k ≡ Some v → stored_for box k w ≡ stored_for box k v
+  same_stored x y is_x is_y same w v at_x at_y = stores (value_of events y.sources r) x is_x w at_x same ∙ sym (stores (value_of events y.sources r) y is_y v at_y refl)
+
+-- ---- an observed byte read
+module _ (laws : Laws) (box : Box) (entered : IsBox box) (sound : AreEventsIn box.test.bytes (box_events box)) (k : ℕ)
+    (inside : k < length (byte_reads (box_events box))) (observed : IsObservedAt box k) where
+  abbrev its_events : List Event
+  its_events = box_events box
+
+  abbrev its_read : ℕ
+  its_read = (byte_read_at its_events k).0
+
+  -- what the register has at the end is the value of the read
+  observed_is : (x : Execution) → IsCompletion box x
+      → value_in (zip (names_of box.test) (execution_outcome box.test x)) observed.0.0 observed.0.1 ≡ value_of its_events x.sources its_read
+  observed_is x is = register_value laws box x entered is observed.0.0 observed.0.1 ∙ ap (observed_value (part_of box x.sources)) observed.1
+
+  same_value : (x y : Execution) → IsCompletion box x → IsCompletion box y → execution_outcome box.test x ≡ execution_outcome box.test y
+      → value_of its_events x.sources its_read ≡ value_of its_events y.sources its_read
+  same_value x y is_x is_y same = grind (arith, observed_is)
+
   pub same_byte : (x y : Execution) → IsCompletion box x → IsCompletion box y → execution_outcome box.test x ≡ execution_outcome box.test y
       → (w v : ℕ) → slice_get x.sources k ≡ Some w → slice_get y.sources k ≡ Some v → stored_for box k w ≡ stored_for box k v
-  same_byte x y is_x is_y same w v at_x at_y =
-      let number = value_of events y.sources r in
-      stores number x is_x w at_x (same_value x y is_x is_y same) ∙ sym (stores number y is_y v at_y refl)
+  same_byte x y is_x is_y same = same_stored laws box entered sound k inside x y is_x is_y (same_value x y is_x is_y same)
 
   -- ---- the part of a box by the sources that store the same as one
   module _ (source : ℕ) (group : EventSet)
@@ -120,21 +132,20 @@ module _ (laws : Laws) (box : Box) (entered : IsBox box) (sound : AreEventsIn bo
               (cut.inside some.0 (is.completes.within k some.0 some.1))
 
 -- ---- going through the parts of a box
+-- of each completion something is known, or it takes a source of the set
+abbrev pub IsSeenBy : (Execution → Type 0) → Box → ℕ → EventSet → Type 0
+IsSeenBy known box k left = (x : Execution) → IsCompletion box x → known x ⊎ TakesFrom x k left
+
 -- each completion has an outcome with an entry, or takes a source of the set
 abbrev pub IsSeen : Box → ℕ → List Entry → EventSet → Type 0
-IsSeen box k entries left =
-    (x : Execution) → IsCompletion box x → HasOutcome entries (execution_outcome box.test x) ⊎ TakesFrom x k left
+IsSeen box k entries left = IsSeenBy (λ x. HasOutcome entries (execution_outcome box.test x)) box k left
 
-module _ (box : Box) (k : ℕ) where
-  seen_stays : (old new : List Entry) (left : EventSet) → ((outcome : List ℕ) → HasOutcome old outcome → HasOutcome new outcome)
-      → IsSeen box k old left → IsSeen box k new left
-  seen_stays old new left stays seen x is = grind arith
-
-  seen_more : (entries : List Entry) (left group rest : EventSet)
-      → ((w : ℕ) → HasEvent rest w ↔ (HasEvent left w × ¬ HasEvent group w)) → k < length (byte_reads (box_events box))
-      → ((x : Execution) → IsCompletion box x → TakesFrom x k group → HasOutcome entries (execution_outcome box.test x))
-      → IsSeen box k entries left → IsSeen box k entries rest
-  seen_more entries left group rest rest_is inside taken seen x is = elim (seen x is) [
+module _ (known : Execution → Type 0) (box : Box) (k : ℕ) (inside : k < length (byte_reads (box_events box))) where
+  pub seen_more : (left group rest : EventSet)
+      → ((w : ℕ) → HasEvent rest w ↔ (HasEvent left w × ¬ HasEvent group w))
+      → ((x : Execution) → IsCompletion box x → TakesFrom x k group → known x)
+      → IsSeenBy known box k left → IsSeenBy known box k rest
+  seen_more left group rest rest_is taken seen x is = elim (seen x is) [
     | inl has ↦ inl has
     | inr takes ↦
         (let some = takes_one box k inside x is in
@@ -145,18 +156,29 @@ module _ (box : Box) (k : ℕ) where
         ])
   ]
 
+  pub all_seen_by : (left : EventSet) → ((w : ℕ) → ¬ HasEvent left w) → IsSeenBy known box k left → (x : Execution) → IsCompletion box x → known x
+  all_seen_by left none seen x is = elim (seen x is) [
+    | inl has ↦ has
+    | inr takes ↦ (let some = takes_one box k inside x is in absurd (none some.0 (takes some.0 some.1)))
+  ]
+
+module _ (box : Box) (k : ℕ) where
+  seen_stays : (old new : List Entry) (left : EventSet) → ((outcome : List ℕ) → HasOutcome old outcome → HasOutcome new outcome)
+      → IsSeen box k old left → IsSeen box k new left
+  seen_stays old new left stays seen x is = grind arith
+
   -- the parts gone through, and one that has no completion
   pub seen_past : (old entries : List Entry) (left group rest : EventSet) → ((w : ℕ) → HasEvent rest w ↔ (HasEvent left w × ¬ HasEvent group w))
       → k < length (byte_reads (box_events box)) → AddsEntries box old entries → IsSeen box k entries left
       → ((x : Execution) → IsCompletion box x → ¬ TakesFrom x k group) → AddsEntries box old entries × IsSeen box k entries rest
-  seen_past old entries left group rest rest_is inside added seen none = grind arith
+  seen_past old entries left group rest rest_is inside added seen none = (
+    added,
+    seen_more (λ x. HasOutcome entries (execution_outcome box.test x)) box k inside left group rest rest_is (λ x is takes. absurd (none x is takes)) seen,
+  )
 
   pub all_seen : (entries : List Entry) (left : EventSet) → ((w : ℕ) → ¬ HasEvent left w) → k < length (byte_reads (box_events box))
       → IsSeen box k entries left → HasEachOutcome box entries
-  all_seen entries left none inside seen x is = elim (seen x is) [
-    | inl has ↦ has
-    | inr takes ↦ (let some = takes_one box k inside x is in absurd (none some.0 (takes some.0 some.1)))
-  ]
+  all_seen entries left none inside seen = all_seen_by (λ x. HasOutcome entries (execution_outcome box.test x)) box k inside left none seen
 
 -- ---- one part more, by the sources that store the same as one
 module _ (laws : Laws) (box : Box) (entered : IsBox box) (sound : AreEventsIn box.test.bytes (box_events box)) (k : ℕ)
@@ -173,7 +195,7 @@ module _ (laws : Laws) (box : Box) (entered : IsBox box) (sound : AreEventsIn bo
       → HasEachOutcome (box_with (box.test, box.combination) domains) new → AddsEntries box old new × IsSeen box k new rest
   seen_part old mid new left rest rest_is added seen adds whole = (
     adds_more box old mid new added (part_adds mid new adds),
-    seen_more box k new left group rest rest_is inside (λ x is takes. whole x (cut.retained x is takes))
+    seen_more (λ x. HasOutcome new (execution_outcome box.test x)) box k inside left group rest rest_is (λ x is takes. whole x (cut.retained x is takes))
         (seen_stays box k mid new left (λ outcome. adds_stays box mid new outcome (part_adds mid new adds)) seen),
   )
 

@@ -1,10 +1,11 @@
 -- Sources put together: each byte read takes what a list of sources of its own read has there.
 use Rattle.lit_solve.proofs.Words.{◌+◌, ◌<◌, ◌==◌, [], ap, AreOfEvents, AreSources, arith, Bool, byte_read_at, byte_reads, cases_eq}
 use Rattle.lit_solve.proofs.Words.{cases_lt, cond, Event, false, filter, get_or, inl, inr, length, List, nat_tests, none-some, refl}
-use Rattle.lit_solve.proofs.Words.{same_Some, slice_get, slice_get-get_or, slice_get_within, Some, suc, sym, value_of, zero, zip, ℕ, ◌∙◌}
+use Rattle.lit_solve.proofs.Words.{same_Some, slice_get, slice_get-get_or, slice_get_within, Some, subst, suc, sym, value_of, zero, zip, ℕ, ◌∙◌}
 use Rattle.lit_solve.proofs.Words.{◌∷◌, ◌≡◌, ◌≢◌, ◌≤◌, ◌⊎◌}
 use Rattle.lit_solve.specs.Box.{Box, box_events}
 use Rattle.lit_solve.specs.Fill.{AreSourcesIn, CanFill, IsFilled}
+use Rattle.lit_solve.specs.Internal.Independent.{LieOn}
 
 -- ---- a read goes by its own bytes alone
 -- the byte reads of one read, each with its source
@@ -36,7 +37,7 @@ of_read-same r (p ∷ reads) (v ∷ sources) (o ∷ others) long other_long agre
 abbrev pub AgreeOn : List Event → ℕ → List ℕ → List ℕ → Type 0
 AgreeOn events r sources others = (k b : ℕ) → slice_get (byte_reads events) k ≡ Some (r, b) → slice_get sources k ≡ slice_get others k
 
-value_agrees : (events : List Event) (r : ℕ) (sources others : List ℕ) → AreSources events sources → AreSources events others
+pub value_agrees : (events : List Event) (r : ℕ) (sources others : List ℕ) → AreSources events sources → AreSources events others
     → AgreeOn events r sources others → value_of events sources r ≡ value_of events others r
 unfolding of_read
 value_agrees events r sources others sourced other_sourced agree = grind (arith, of_read-same)
@@ -45,6 +46,10 @@ value_agrees events r sources others sourced other_sourced agree = grind (arith,
 pub fills_as_well : (box : Box) (r : ℕ) (sources others : List ℕ) → AreSources (box_events box) sources → AreSources (box_events box) others
     → AgreeOn (box_events box) r sources others → IsFilled box r sources → IsFilled box r others
 fills_as_well box r sources others sourced other_sourced agree filled = grind (arith, value_agrees)
+
+-- sources that lie in the box do so for each read
+pub on_read : (box : Box) (r : ℕ) (sources : List ℕ) → AreSourcesIn box sources → LieOn box r sources
+on_read box r sources lie = record { sourced = lie.sourced; within = λ k b w at source. lie.within k w source }
 
 -- ---- a list for each read
 module _ (box : Box) (chosen : ℕ → List ℕ) where
@@ -73,7 +78,7 @@ module _ (box : Box) (chosen : ℕ → List ℕ) where
       let next : (k + 1) + i ≡ k + suc i = omega arith in
       together_from-at (k + 1) i reads p at ∙ ap (λ (j : ℕ). Some (get_or (chosen p.0) j 0)) next
 
-  module _ (of_events : AreOfEvents events) (lie : (r : ℕ) → r < length events → AreSourcesIn box (chosen r)) where
+  module _ (of_events : AreOfEvents events) (lie : (r : ℕ) → r < length events → LieOn box r (chosen r)) where
     pub together_agrees : (r : ℕ) → r < length events → AgreeOn events r together (chosen r)
     together_agrees r known k b at =
         let inside : k < length (chosen r) = omega (arith, (lie r known).sourced.one_each, slice_get_within (byte_reads events) k (r, b) at) in
@@ -95,12 +100,94 @@ module _ (box : Box) (chosen : ℕ → List ℕ) where
           let read = byte_read_at events k in
           let at : slice_get (byte_reads events) k ≡ Some read = slice_get-get_or (byte_reads events) k (0, 0) inside in
           let known : read.0 < length events = of_events.known k read.0 read.1 at in
-          (lie read.0 known).within k w (sym (together_agrees read.0 known k read.1 at) ∙ source);
+          (lie read.0 known).within k read.1 w at (sym (together_agrees read.0 known k read.1 at) ∙ source);
     }
 
     pub together_fills : ((r : ℕ) → r < length events → IsFilled box r (chosen r)) → (r : ℕ) → r < length events → IsFilled box r together
     together_fills filled r known =
         fills_as_well box r (chosen r) together (lie r known).sourced together_lies.sourced (λ k b at. sym (together_agrees r known k b at)) (filled r known)
+
+-- ---- two lists: one for some reads, and one for the others
+module _ (box : Box) (of_events : AreOfEvents (box_events box)) (given : ℕ → Type 0) (given_or_not : (r : ℕ) → given r ⊎ ¬ given r) (own base : List ℕ)
+    (own_lie : (r : ℕ) → given r → LieOn box r own) (base_lie : (r : ℕ) → ¬ given r → LieOn box r base) where
+  choose : (r : ℕ) → given r ⊎ ¬ given r → List ℕ
+  choose r (inl is) = own
+  choose r (inr other) = base
+
+  chosen : ℕ → List ℕ
+  chosen r = choose r (given_or_not r)
+
+  chosen_own : (r : ℕ) → given r → chosen r ≡ own
+  unfolding choose chosen
+  chosen_own r is = grind (arith, given_or_not)
+
+  chosen_base : (r : ℕ) → ¬ given r → chosen r ≡ base
+  unfolding choose chosen
+  chosen_base r other = grind (arith, given_or_not)
+
+  chosen_lie : (r : ℕ) → r < length (box_events box) → LieOn box r (chosen r)
+  chosen_lie r known = elim (given_or_not r) [
+    | inl is ↦ subst (LieOn box r) (sym (chosen_own r is)) (own_lie r is)
+    | inr other ↦ subst (LieOn box r) (sym (chosen_base r other)) (base_lie r other)
+  ]
+
+  pub joined : List ℕ
+  joined = together box chosen
+
+  pub joined_lie : AreSourcesIn box joined
+  unfolding joined
+  joined_lie = together_lies box chosen of_events chosen_lie
+
+  pub joined_own : (r : ℕ) → r < length (box_events box) → given r → AgreeOn (box_events box) r joined own
+  unfolding joined
+  joined_own r known is = subst (AgreeOn (box_events box) r joined) (chosen_own r is) (together_agrees box chosen of_events chosen_lie r known)
+
+  pub joined_base : (r : ℕ) → r < length (box_events box) → ¬ given r → AgreeOn (box_events box) r joined base
+  unfolding joined
+  joined_base r known other = subst (AgreeOn (box_events box) r joined) (chosen_base r other) (together_agrees box chosen of_events chosen_lie r known)
+
+  pub joined_fill : ((r : ℕ) → given r → IsFilled box r own) → ((r : ℕ) → r < length (box_events box) → ¬ given r → IsFilled box r base) → (r : ℕ)
+      → r < length (box_events box) → IsFilled box r joined
+  unfolding joined
+  joined_fill own_filled base_filled =
+      together_fills box chosen of_events chosen_lie (λ r known. elim (given_or_not r) [
+        | inl is ↦ subst (IsFilled box r) (sym (chosen_own r is)) (own_filled r is)
+        | inr other ↦ subst (IsFilled box r) (sym (chosen_base r other)) (base_filled r known other)
+      ])
+
+-- ---- other sources for one read
+module _ (box : Box) (of_events : AreOfEvents (box_events box)) (r : ℕ) (own base : List ℕ) (lie : LieOn box r own) (base_in : AreSourcesIn box base) where
+  is_read : (q : ℕ) → (q ≡ r) ⊎ (q ≢ r)
+  is_read q = cases_eq q r
+
+  read_lies : (q : ℕ) → q ≡ r → LieOn box q own
+  read_lies q same = subst (λ (p : ℕ). LieOn box p own) (sym same) lie
+
+  others_lie : (q : ℕ) → q ≢ r → LieOn box q base
+  others_lie q other = on_read box q base base_in
+
+  pub replaced : List ℕ
+  replaced = joined box of_events (λ q. q ≡ r) is_read own base read_lies others_lie
+
+  pub replaced_lie : AreSourcesIn box replaced
+  unfolding replaced
+  replaced_lie = joined_lie box of_events (λ q. q ≡ r) is_read own base read_lies others_lie
+
+  pub replaced_own : AgreeOn (box_events box) r replaced own
+  unfolding replaced
+  replaced_own k b at = joined_own box of_events (λ q. q ≡ r) is_read own base read_lies others_lie r (of_events.known k r b at) refl k b at
+
+  pub replaced_base : (q : ℕ) → q ≢ r → AgreeOn (box_events box) q replaced base
+  unfolding replaced
+  replaced_base q other k b at =
+      joined_base box of_events (λ p. p ≡ r) is_read own base read_lies others_lie q (of_events.known k q b at) other k b at
+
+  pub replaced_fill : IsFilled box r own → ((q : ℕ) → q < length (box_events box) → IsFilled box q base) → (q : ℕ) → q < length (box_events box)
+      → IsFilled box q replaced
+  unfolding replaced
+  replaced_fill filled others =
+      joined_fill box of_events (λ q. q ≡ r) is_read own base read_lies others_lie
+      (λ q same. subst (λ (p : ℕ). IsFilled box p own) (sym same) filled) (λ q known other. others q known)
 
 -- ---- where each read can be filled
 module _ (box : Box) (of_events : AreOfEvents (box_events box)) (fills : (r : ℕ) → r < length (box_events box) → CanFill box r) where
@@ -115,9 +202,12 @@ module _ (box : Box) (of_events : AreOfEvents (box_events box)) (fills : (r : �
   unfolding pick picked
   pick_fills r known = grind (arith, cases_lt)
 
+  picked_lie : (r : ℕ) → r < length (box_events box) → LieOn box r (picked r)
+  picked_lie r known = on_read box r (picked r) (pick_fills r known).0
+
   pub filled_together : (sources : List ℕ) × AreSourcesIn box sources × ((r : ℕ) → r < length (box_events box) → IsFilled box r sources)
   filled_together = (
     together box picked,
-    together_lies box picked of_events (λ r known. (pick_fills r known).0),
-    together_fills box picked of_events (λ r known. (pick_fills r known).0) (λ r known. (pick_fills r known).1),
+    together_lies box picked of_events picked_lie,
+    together_fills box picked of_events picked_lie (λ r known. (pick_fills r known).1),
   )

@@ -12,3 +12,5 @@ pub mod Cut
 pub mod SoundRange
 pub mod Observation
 pub mod Independent
+pub mod ReadValues
+pub mod Product

@@ -26,7 +26,7 @@ use crate::observation::Values;
 use crate::problem::Problem;
 use crate::table::OutcomeTable;
 use lit_valid::laws::laws_below;
-use std::alloc::AllocError;
+use std::alloc::{AllocError, Global};
 
 impl Problem<'_> {
     /// A byte read of a read that can force something and whose sources store several bytes.
@@ -122,18 +122,17 @@ impl Problem<'_> {
         self.put(&frame.domains, outcome, least, table)
     }
 
-    /// Records the outcomes of a leaf that the table lacks. They begin with the given values.
+    /// Records the outcomes of a leaf that the table lacks.
     fn leaf_outcomes<T: OutcomeTable, H: Heartbeat>(
         &self,
+        alloc: Global,
         frame: &Frame,
-        values: &Values,
         table: &mut T,
         doubt: &mut bool,
         heartbeat: &H,
     ) -> Result<(), AllocError>
         requires settled { IsSettled (box_of self.now frame.now) frame.now }
         requires leaf { IsLeaf (box_of self.now frame.now) }
-        requires first { AreFirstValues (box_of self.now frame.now) values.now.items }
         ensures added { AddsEntries (box_of self.now frame.now) (T.entries table.old) (T.entries table.new) }
         ensures whole { OnOk result (HasEachOutcome (box_of self.now frame.now) (T.entries table.new)) }
     {
@@ -151,7 +150,7 @@ impl Problem<'_> {
             return Ok(());
         };
         *doubt = false;
-        self.independent_outcomes(&frame.domains, values, &order, table, heartbeat)
+        self.product_outcomes(alloc, &frame.domains, &order, table, heartbeat)
     }
 
     /// Whether a frame may have a completion. It searches for one only where there is doubt.
@@ -166,6 +165,7 @@ impl Problem<'_> {
     /// as it is set, the search descends only into frames with a completion.
     pub(crate) fn outcomes<T: OutcomeTable, H: Heartbeat>(
         &self,
+        alloc: Global,
         frame: &Frame,
         values: &Values,
         table: &mut T,
@@ -185,7 +185,7 @@ impl Problem<'_> {
             return self.record(frame, values.as_slice(), table, doubt);
         };
         let Some(_branch) = self.branch(frame) else {
-            return self.leaf_outcomes(frame, &values, table, doubt, heartbeat);
+            return self.leaf_outcomes(alloc, frame, table, doubt, heartbeat);
         };
         // For the prover: a combination has few events.
         let _events = self.events();
@@ -196,7 +196,7 @@ impl Problem<'_> {
             let mut next = *frame;
             // To refute an outcome takes long, and the next ones are mostly infeasible too: one search for any completion costs less.
             if self.cut(&mut next, place, group) && self.may_complete(&next, *doubt) {
-                self.outcomes(&next, &values, table, doubt, heartbeat)?;
+                self.outcomes(alloc, &next, &values, table, doubt, heartbeat)?;
             }
             left = left.difference(group);
         }

@@ -1,7 +1,10 @@
 //! Boxes with independent reads: no open byte read can force anything. So each read takes its sources by itself, all completions have the
 //! same least memory-order, and there is nothing to propagate.
 
-ghost use Rattle.std.specs.Prelude.{◌≡◌, ℕ, ◌<◌, IsFalse, IsTrue, List, OnOk, length};
+ghost use Rattle.std.specs.Prelude.{◌≡◌, ◌≢◌, ℕ, ◌<◌, IsFalse, IsTrue, List, OnOk, length};
+ghost use Rattle.std.specs.Cmp.Lexicographic.{slice_cmp};
+ghost use Rattle.std.specs.Ordering.{nat_cmp};
+ghost use Rattle.std.specs.declared.cmp.Ordering.TheVariants.{Less};
 ghost use Rattle.lit_paths.specs.ByteReads.{byte_reads};
 ghost use Rattle.lit_paths.specs.Execution.{Execution, execution_outcome};
 ghost use Rattle.lit_rel.specs.EventSet.{HasEvent};
@@ -10,19 +13,16 @@ ghost use Rattle.lit_solve.specs.Completion.{IsCompletion, IsLeastSolution};
 ghost use Rattle.lit_solve.specs.declared.goal.Goal.TheVariants.{Any};
 ghost use Rattle.lit_solve.specs.Given.{HasAlone};
 ghost use Rattle.lit_solve.specs.Internal.Descending.{IsLowestAt};
-ghost use Rattle.lit_solve.specs.Internal.Independent.{HasLeastOrderIn, IsIndependent};
+ghost use Rattle.lit_solve.specs.Internal.Independent.{FillsRead, GivesReads, HasLeastOrderIn, IsIndependent};
 ghost use Rattle.lit_solve.specs.Internal.Pruning.{size_of};
-ghost use Rattle.lit_solve.specs.Internal.Observation.{AreFirstValues};
 ghost use Rattle.lit_solve.specs.Internal.Settled.{IsCut, TakesFrom};
 ghost use Rattle.lit_solve.specs.Outcomes.{AddsEntries, HasEachOutcome};
 
 use crate::domains::{Domains, only_one, set_of};
-use crate::heartbeat::Heartbeat;
 use crate::laws::{
     completions_fill_each_read, leaves_are_filled_read_by_read, leaves_have_one_order,
 };
 use crate::least_search::Least;
-use crate::observation::Values;
 use crate::problem::Problem;
 use crate::table::OutcomeTable;
 use lit_order::Order;
@@ -34,7 +34,7 @@ use std::alloc::AllocError;
 impl Problem<'_> {
     /// Restricts the domain of the byte read at a place to a set. Answers `false` if its read can't be filled then: no completion has a
     /// source of the set there.
-    fn cut_independent(&self, domains: &mut Domains, place: usize, set: EventSet) -> bool
+    pub(crate) fn cut_independent(&self, domains: &mut Domains, place: usize, set: EventSet) -> bool
         requires place { place < length (byte_reads (events_on self.now)) }
         requires independent { IsIndependent (box_with self.now domains.old) }
         ensures independent { IsTrue result → IsIndependent (box_with self.now domains.new) }
@@ -89,9 +89,11 @@ impl Problem<'_> {
     }
 
     /// The sources of the least completion.
-    fn least_filling(&self, domains: &Domains) -> Sources
+    pub(crate) fn least_filling(&self, domains: &Domains) -> Sources
         requires { IsIndependent (box_with self.now domains.now) }
-        ensures { (order : List ℕ) → HasLeastOrderIn (box_with self.now domains.now) order
+        ensures completes { (x : Execution) × IsCompletion (box_with self.now domains.now) x × (x.sources ≡ result.items) }
+        ensures least { (x : Execution) → IsCompletion (box_with self.now domains.now) x → slice_cmp nat_cmp x.sources result.items ≢ Less }
+        ensures ordered { (order : List ℕ) → HasLeastOrderIn (box_with self.now domains.now) order
             → IsLeastSolution (box_with self.now domains.now) Any result.items order }
     {
         leaves_are_filled_read_by_read();
@@ -104,7 +106,7 @@ impl Problem<'_> {
     }
 
     /// Records the one outcome of a box, if the table lacks it.
-    fn record_independent<T: OutcomeTable>(
+    pub(crate) fn record_independent<T: OutcomeTable>(
         &self,
         domains: &Domains,
         outcome: &[u32],
@@ -125,41 +127,19 @@ impl Problem<'_> {
         self.put(domains, outcome, Least { sources, order }, table)
     }
 
-    /// Records the outcomes of a box that the table lacks. They begin with the given values. `order` is the least memory-order.
-    pub(crate) fn independent_outcomes<T: OutcomeTable, H: Heartbeat>(
-        &self,
-        domains: &Domains,
-        values: &Values,
-        order: &Order,
-        table: &mut T,
-        heartbeat: &H,
-    ) -> Result<(), AllocError>
-        requires independent { IsIndependent (box_with self.now domains.now) }
-        requires first { AreFirstValues (box_with self.now domains.now) values.now.items }
-        requires order { HasLeastOrderIn (box_with self.now domains.now) order.now.items }
-        ensures added { AddsEntries (box_with self.now domains.now) (T.entries table.old) (T.entries table.new) }
-        ensures whole { OnOk result (HasEachOutcome (box_with self.now domains.now) (T.entries table.new)) }
+    /// Gives the reads of a set these sources, which fill them.
+    pub(crate) fn give(&self, domains: &mut Domains, given: EventSet, sources: &Sources)
+        requires independent { IsIndependent (box_with self.now domains.old) }
+        requires fills { (r : ℕ) → HasEvent given r → FillsRead (box_with self.now domains.old) r sources.now.items }
+        requires long { length sources.now.items ≡ length (byte_reads (events_on self.now)) }
+        ensures gives { GivesReads (box_with self.now domains.old) given sources.now.items (box_with self.now domains.new) }
     {
-        // For the prover: an execution's outcome follows from its sources.
-        laws_below();
-        heartbeat.beat();
-        let mut values = values.clone()?;
-        let Some(place) = self.observe(domains, &mut values) else {
-            return self.record_independent(domains, values.as_slice(), order, table);
-        };
-        // For the prover: a combination has few events and few byte reads.
+        // For the prover: event numbers are small.
         let _events = self.events();
-        let _reads = self.reads();
-        let all = domains[place];
-        let mut left = all;
-        while let Some((source, _others)) = left.split_first() {
-            let group = self.storing_same(all, place, source);
-            let mut part = *domains;
-            if self.cut_independent(&mut part, place, group) {
-                self.independent_outcomes(&part, &values, order, table, heartbeat)?;
+        for place in 0..self.reads() {
+            if given.contains(usize::from(self.byte_read(place).read)) {
+                domains[place] = set_of(usize::from(sources[place]));
             }
-            left = left.difference(group);
         }
-        Ok(())
     }
 }

@@ -12,7 +12,7 @@ use crate::least_search::Least;
 use crate::observation::Values;
 use crate::problem::Problem;
 use crate::table::OutcomeTable;
-use std::alloc::AllocError;
+use std::alloc::{AllocError, Global};
 
 /// Whether a box of the problem's combination has a completion that meets the goal.
 pub fn exists(problem: &Problem<'_>, domains: &Domains, goal: Goal) -> bool
@@ -38,9 +38,10 @@ pub fn least(problem: &Problem<'_>, domains: &Domains, goal: Goal) -> Option<Lea
 }
 
 /// Records the outcomes of a box's completions that the table lacks. Each comes with the choice of the least sources of a completion that
-/// has it, and with their least memory-order. Answers `AllocError` if the table refuses to record one; some outcomes may be missing then.
-/// Calls the heartbeat at each step down.
+/// has it, and with their least memory-order. Answers `AllocError` if the table refuses to record one or if the memory for the values of
+/// reads, taken from `alloc`, is refused; some outcomes may be missing then. Calls the heartbeat at each step down.
 pub fn outcomes<T: OutcomeTable, H: Heartbeat>(
+    alloc: Global,
     problem: &Problem<'_>,
     domains: &Domains,
     table: &mut T,
@@ -51,7 +52,14 @@ pub fn outcomes<T: OutcomeTable, H: Heartbeat>(
     ensures whole { OnOk result (HasEachOutcome (box_with problem.now domains.now) (T.entries table.new)) }
 {
     match problem.settle(domains) {
-        Some(frame) => problem.outcomes(&frame, &Values::new(), table, &mut false, heartbeat),
+        Some(frame) => problem.outcomes(
+            alloc,
+            &frame,
+            &Values::new(),
+            table,
+            &mut false,
+            heartbeat,
+        ),
         None => Ok(()),
     }
 }

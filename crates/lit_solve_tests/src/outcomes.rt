@@ -6,7 +6,7 @@ use lit_read::read;
 use lit_rel::EventSet;
 use lit_solve::{Boxes, Domains, Problem, outcomes};
 use lit_texts::STORE_BUFFERING;
-use std::alloc::{AllocError, AllocGlobal};
+use std::alloc::{AllocError, AllocGlobal, Global};
 use std::process::Abort;
 use std::sync::atomic::{AtomicU64, Ordering};
 use std::test::Fail;
@@ -23,11 +23,31 @@ r2 = U8[0]
 check B.r0 == 2
 ";
 
+/// A word and its first byte are read. Two stores write a 1 into that byte.
+const WORD_AND_BYTE: &str = "test word
+bytes 2
+agent A
+U16[0] = 257
+agent B
+U8[0] = 1
+agent C
+r0 = U16[0]
+r1 = U8[0]
+r2 = U8[1]
+r2 = U8[0]
+check C.r0 == 1
+";
+
 /// An outcome, the number of its choice, and its least memory-order.
 type Wanted<'a> = (&'a [u32], u64, &'a [u8]);
 
 /// Records all outcomes of the first combination, which has several choices. Answers how many steps down that took.
-fn record_all(rt: &impl Abort, plan: &Plan<'_>, table: &mut Listed) -> Result<u64, AllocError> {
+fn record_all(
+    rt: &impl Abort,
+    alloc: Global,
+    plan: &Plan<'_>,
+    table: &mut Listed,
+) -> Result<u64, AllocError> {
     // For the prover: the plan's test is one that a text can say, and has a combination 0.
     let _test = plan.test();
     let _combinations = plan.combinations();
@@ -41,7 +61,7 @@ fn record_all(rt: &impl Abort, plan: &Plan<'_>, table: &mut Listed) -> Result<u6
     for i in 0..boxes.len() {
         let mut domains: Domains = [EventSet::new(); BYTE_READ_LIMIT];
         boxes.put(i, &mut domains);
-        outcomes(&problem, &domains, table, &beats)?;
+        outcomes(alloc, &problem, &domains, table, &beats)?;
     }
     Ok(beats.count.load(Ordering::SeqCst))
 }
@@ -66,7 +86,7 @@ fn each_outcome_is_recorded_once_with_its_least_example(rt: HostRuntime) -> Resu
     let plan = plan(rt.alloc(), &test)?;
     let mut table = Listed::new(rt.alloc());
     for _again in 0..2 {
-        record_all(&rt, &plan, &mut table)?;
+        record_all(&rt, rt.alloc(), &plan, &mut table)?;
         let rows = table.rows();
         assert_eq!(&rt; rows.len(), 3);
         assert_has(&rt, rows, (&[0, 1], 1, &[0, 1, 2, 3, 4, 5]));
@@ -82,8 +102,27 @@ fn independent_loads_have_heartbeats(rt: HostRuntime) -> Result<(), Fail> {
     let test = read(rt.alloc(), THREE_LOADS.as_bytes())?;
     let plan = plan(rt.alloc(), &test)?;
     let mut table = Listed::new(rt.alloc());
-    let beats = record_all(&rt, &plan, &mut table)?;
+    let beats = record_all(&rt, rt.alloc(), &plan, &mut table)?;
     assert_eq!(&rt; table.rows().len(), 27);
+    assert_has(&rt, table.rows(), (&[2, 0, 1], 19, &[0, 1, 2, 3, 4, 5]));
     assert!(&rt; beats >= 27);
+    Ok(())
+}
+
+/// Each value of the word goes with each of the two bytes. Of the sources of a value the least come into the example, and so they do of the
+/// load whose register is written again.
+#[test]
+fn each_value_has_its_least_sources(rt: HostRuntime) -> Result<(), Fail> {
+    let test = read(rt.alloc(), WORD_AND_BYTE.as_bytes())?;
+    let plan = plan(rt.alloc(), &test)?;
+    let mut table = Listed::new(rt.alloc());
+    record_all(&rt, rt.alloc(), &plan, &mut table)?;
+    let rows = table.rows();
+    let order: &[u8] = &[0, 1, 2, 3, 4, 5, 6, 7];
+    assert_eq!(&rt; rows.len(), 16);
+    assert_has(&rt, rows, (&[0, 0, 0], 0, order));
+    assert_has(&rt, rows, (&[1, 1, 0], 42, order));
+    assert_has(&rt, rows, (&[256, 0, 1], 19, order));
+    assert_has(&rt, rows, (&[257, 1, 1], 61, order));
     Ok(())
 }

@@ -1,10 +1,16 @@
--- Boxes in which reads are independent of each other.
-use Rattle.std.specs.Prelude.{ℕ, ◌<◌, List, None, length}
+-- Boxes in which reads are independent of each other, so that each is filled by itself.
+use Rattle.std.specs.Prelude.{◌≡◌, ℕ, ◌<◌, ◌≤◌, List, None, Some, length, slice_get, slice_index_or}
+use Rattle.lit_paths.specs.declared.event.Event.{Event}
+use Rattle.lit_paths.specs.ByteReads.{byte_reads}
+use Rattle.lit_paths.specs.Choice.{AreSources}
+use Rattle.lit_rel.specs.declared.event_set.EventSet.{EventSet}
+use Rattle.lit_rel.specs.EventSet.{HasEvent}
 use Rattle.lit_rel.specs.Broken.{HasFalseGuardOn}
+use Rattle.lit_rel.specs.ReadsFrom.{value_of}
 use Rattle.lit_order.specs.MemoryOrder.{HasOrder, IsLeastOrderOf}
-use Rattle.lit_solve.specs.Box.{Box, HasEmptyDomain, IsBox, box_events}
+use Rattle.lit_solve.specs.Box.{Box, HasEmptyDomain, HasSource, IsBox, IsWithin, box_events}
 use Rattle.lit_solve.specs.Fill.{AreCoherentSources, AreSourcesIn, IsFilled, IsLeaf}
-use Rattle.lit_solve.specs.Given.{HappensBeforeIn, IsForbiddenIn}
+use Rattle.lit_solve.specs.Given.{HappensBeforeIn, HasAlone, IsForbiddenIn}
 
 -- sources that lie in the box and fill each read
 pub record FillsAll (box : Box) : Type 0 where
@@ -27,3 +33,36 @@ pub record IsIndependent (box : Box) : Type 0 where
 -- the least order of what is given
 abbrev pub HasLeastOrderIn : Box → List ℕ → Type 0
 HasLeastOrderIn box order = IsLeastOrderOf (length (box_events box)) (HappensBeforeIn box) (IsForbiddenIn box) order
+
+-- ---- the sources of one read
+-- sources of all byte reads, of which those of read r lie in the box
+pub record LieOn (box : Box) (r : ℕ) (sources : List ℕ) : Type 0 where
+  pub sourced : AreSources (box_events box) sources
+  pub within : (k b w : ℕ) → slice_get (byte_reads (box_events box)) k ≡ Some (r, b) → slice_get sources k ≡ Some w → HasSource box k w
+
+-- sources of all byte reads, of which those of read r lie in the box and fill it
+pub record FillsRead (box : Box) (r : ℕ) (sources : List ℕ) : Type 0 where
+  pub lie : LieOn box r sources
+  pub filled : IsFilled box r sources
+
+-- where lists differ first in a source of read r, that of `sources` is less
+abbrev pub IsNotGreaterOn : List Event → ℕ → (sources others : List ℕ) → Type 0
+IsNotGreaterOn events r sources others =
+    (k b : ℕ) → slice_get (byte_reads events) k ≡ Some (r, b)
+    → ((j d : ℕ) → j < k → slice_get (byte_reads events) j ≡ Some (r, d) → slice_index_or others j 0 ≡ slice_index_or sources j 0)
+    → slice_index_or sources k 0 ≤ slice_index_or others k 0
+
+-- the least sources that lie in the box and fill read r with this value
+pub record IsLeastFilling (box : Box) (r value : ℕ) (sources : List ℕ) : Type 0 where
+  pub fills : FillsRead box r sources
+  pub has : value_of (box_events box) sources r ≡ value
+  pub least : (others : List ℕ) → FillsRead box r others → value_of (box_events box) others r ≡ value
+      → IsNotGreaterOn (box_events box) r sources others
+
+-- a box within another in which the reads of a set are given these sources, while the others keep their domains
+pub record GivesReads (old : Box) (given : EventSet) (sources : List ℕ) (new : Box) : Type 0 where
+  pub within : IsWithin new old
+  pub own : (k r b : ℕ) → slice_get (byte_reads (box_events old)) k ≡ Some (r, b) → HasEvent given r
+      → HasAlone new k (slice_index_or sources k 0)
+  pub others : (k r b w : ℕ) → slice_get (byte_reads (box_events old)) k ≡ Some (r, b) → ¬ HasEvent given r → HasSource old k w
+      → HasSource new k w

@@ -25,8 +25,8 @@ returns-in_default-clause-whole g c x is =
     (x, record { completes = is; meets = tt }) in
     absurd (c.in_default.ensures.none order.0 order.1)
 
-pub independent_outcomes-requires-clause-independent : goal.independent_outcomes-requires-clause-independent
-independent_outcomes-requires-clause-independent g c =
+pub product_outcomes-requires-clause-independent : goal.product_outcomes-requires-clause-independent
+product_outcomes-requires-clause-independent g c =
     let box = box_of c.args.self.now c.args.frame.now in
     let settled = c.requires.settled in
     let filled = c.reads_are_filled_together.ensures box (c.can_fill_each.ensures.0 c.if-not-can_fill_each.false) in

@@ -4,7 +4,7 @@ use Rattle.lit_solve.specs.Box.{Box, box_with, events_on}
 use Rattle.lit_solve.specs.Internal.Descending.{AreAloneBelow}
 use Rattle.lit_solve.proofs.DescendingLemmas.{alone_below_stays, alone_more, lowest_on}
 use Rattle.lit_solve.proofs.IndependentLemmas.{independent_solution}
-use Rattle.lit_solve.proofs.LeastLemmas.{least_found}
+use Rattle.lit_solve.proofs.LeastLemmas.{completion_found, least_found, not_less}
 use Rattle.lit_solve.proofs.problem.Problem.least_filling.Goals as goal
 
 pub loop-place-preserved : goal.loop-place-preserved
@@ -29,8 +29,28 @@ loop-place-preserved c = record {
     below : c.loop-place.place < length (byte_reads (events_on c.args.self.now))
     below = omega (arith, c.loop-place-test.true, c.reads-place-end.ensures.value)
 
-pub returns : goal.returns
-returns c order least =
+pub returns-clause-completes : goal.returns-clause-completes
+returns-clause-completes c =
+    let old = box_with c.args.self.now c.args.domains.now in
+    let new = box_with c.args.self.now c.loop-place.down in
+    let is = c.loop-place.invariant in
+    let end : c.loop-place.place ≡ length (byte_reads (events_on c.args.self.now)) = omega (arith, c.loop-place-test.false, c.reads-place-end.ensures.value) in
+    completion_found old new Any is.lowest (subst (AreAloneBelow new) end is.alone) is.independent.is_box (c.leaves_have_one_order.ensures new)
+    (independent_solution new is.independent (c.leaves_are_filled_read_by_read.ensures new)) c.sources_of.result.items c.sources_of.ensures.one_each
+    c.sources_of.ensures.within
+
+pub returns-clause-least : goal.returns-clause-least
+returns-clause-least c x completes =
+    let old = box_with c.args.self.now c.args.domains.now in
+    let new = box_with c.args.self.now c.loop-place.down in
+    let is = c.loop-place.invariant in
+    let end : c.loop-place.place ≡ length (byte_reads (events_on c.args.self.now)) = omega (arith, c.loop-place-test.false, c.reads-place-end.ensures.value) in
+    not_less old new Any is.lowest (subst (AreAloneBelow new) end is.alone) is.independent.is_box (c.leaves_have_one_order.ensures new)
+    (independent_solution new is.independent (c.leaves_are_filled_read_by_read.ensures new)) c.sources_of.result.items c.sources_of.ensures.one_each
+    c.sources_of.ensures.within x (record { completes = completes; meets = tt })
+
+pub returns-clause-ordered : goal.returns-clause-ordered
+returns-clause-ordered c order least =
     let old = box_with c.args.self.now c.args.domains.now in
     let new = box_with c.args.self.now c.loop-place.down in
     let is = c.loop-place.invariant in

@@ -1,0 +1,115 @@
+use Rattle.lit_solve.proofs.Words.{◌<◌, ap, HasEvent, List, no_events, refl, slice_index_or, subst, sym, value_of, ℕ}
+use Rattle.lit_rel.proofs.SetLemmas.{split_less_yet}
+use Rattle.lit_solve.specs.declared.read_values.Filling.{Filling}
+use Rattle.lit_solve.specs.Box.{box_with, events_on}
+use Rattle.lit_solve.specs.Internal.Pruning.{size_of}
+use Rattle.lit_solve.specs.Internal.ReadValues.{AddsFillings, HasValue}
+use Rattle.lit_solve.proofs.FillLemmas.{sources_lie}
+use Rattle.lit_solve.proofs.ObservedLemmas.{IsSeenBy, all_seen_by, same_stores_among, seen_more, some_differ}
+use Rattle.lit_solve.proofs.PruningLemmas.{source_known}
+use Rattle.lit_solve.proofs.ReadValuesLemmas.{adds_more_fillings, adds_one_filling, fillings_out, one_filling, value_of_last, values_more}
+use Rattle.lit_solve.proofs.problem.Problem.+add_fillings.Goals as goal
+use Rattle.lit_solve.proofs.problem.Problem.+add_fillings.Goals.{then-cut_independent+in_ok-add_fillings, else-cut_independent}
+
+pub returns-in-One-clause-added : goal.returns-in-One-clause-added
+returns-in-One-clause-added t c =
+    let box = box_with c.args.self.now c.args.domains.now in
+    adds_one_filling box c.args.read c.args.fillings.now.items c.push.new.self.items
+    (record { value = c.in-One.value; sources = c.least_filling-sources.result })
+    (one_filling c.laws_below.ensures box c.requires.independent c.leaves_are_filled_read_by_read.ensures c.args.read
+    c.least_filling-sources.result.items c.in-One.value c.least_filling-sources.ensures.completes c.least_filling-sources.ensures.least c.in-One.ensures)
+    c.in_ok-push-in-One.ensures.items
+
+pub returns-in-One-clause-whole : goal.returns-in-One-clause-whole
+returns-in-One-clause-whole t c x is =
+    let box = box_with c.args.self.now c.args.domains.now in
+    value_of_last c.args.fillings.now.items c.push.new.self.items (record { value = c.in-One.value; sources = c.least_filling-sources.result })
+    (value_of (events_on c.args.self.now) x.sources c.args.read) c.in_ok-push-in-One.ensures.items
+    (sym (c.in-One.ensures x.sources (sources_lie box x is)))
+
+pub storing_same-group-requires-clause-source : goal.storing_same-group-requires-clause-source
+storing_same-group-requires-clause-source t c =
+    source_known (box_with c.args.self.now c.args.domains.now) c.requires.independent.is_box c.in-Open.place c.in-Some.source c.in-Open.ensures.0
+    (c.loop-source.invariant.within c.in-Some.source c.in-Some.ensures.there)
+
+pub storing_same-group-requires-clause-known : goal.storing_same-group-requires-clause-known
+storing_same-group-requires-clause-known t c w there =
+    source_known (box_with c.args.self.now c.args.domains.now) c.requires.independent.is_box c.in-Open.place w c.in-Open.ensures.0 there
+
+pub add_fillings-requires : goal.add_fillings-requires
+add_fillings-requires t c =
+    let box = box_with c.args.self.now c.args.domains.now in
+    let place = c.in-Open.place in
+    let matching = same_stores_among box place c.in-Some.source (slice_index_or c.args.domains.now c.in-Open.place no_events) c.storing_same-group.result (λ w. (λ h. h, λ h. h))
+    c.storing_same-group.ensures in
+    let there = c.loop-source.invariant.within c.in-Some.source c.in-Some.ensures.there in (
+      subst (λ (n : ℕ). size_of c.cut_independent.new.domains < n) c.decreases
+          (c.cut_independent.ensures.less c.if-cut_independent.true
+          (some_differ box place c.in-Some.source c.storing_same-group.result c.in-Open.ensures.0 c.in-Open.ensures.1 there matching)),
+      (c.requires.read, c.cut_independent.ensures.independent c.if-cut_independent.true),
+    )
+
+pub returns-in_err-add_fillings-clause-added : goal.returns-in_err-add_fillings-clause-added
+returns-in_err-add_fillings-clause-added t c =
+    let box = box_with c.args.self.now c.args.domains.now in
+    let place = c.in-Open.place in
+    let matching = same_stores_among box place c.in-Some.source (slice_index_or c.args.domains.now c.in-Open.place no_events) c.storing_same-group.result (λ w. (λ h. h, λ h. h))
+    c.storing_same-group.ensures in
+    adds_more_fillings box c.args.read c.args.fillings.now.items c.loop-source.fillings.items c.add_fillings.new.fillings.items c.loop-source.invariant.added
+    (fillings_out c.laws_below.ensures box c.requires.independent c.leaves_are_filled_read_by_read.ensures c.events-events.ensures.sound c.args.read place
+    c.in-Open.ensures.0 c.in-Open.ensures.2 c.in-Some.source c.storing_same-group.result matching c.cut_independent.new.domains
+    (c.cut_independent.ensures.cut c.if-cut_independent.true) (c.cut_independent.ensures.independent c.if-cut_independent.true)
+    c.loop-source.fillings.items c.add_fillings.new.fillings.items c.add_fillings.ensures.added)
+
+pub loop-source-smaller : goal.loop-source-smaller
+loop-source-smaller t c =
+    split_less_yet c.loop-source.left c.in-Some.source c.in-Some._others c.difference-left.result c.in-Some.ensures
+    (λ e there.
+    let left = (c.difference-left.ensures e).0 there in
+    (c.in-Some.ensures.rest e).1 (
+      left.0,
+      λ same. left.1 (subst (λ (v : ℕ). HasEvent c.storing_same-group.result v) (sym same)
+          ((c.storing_same-group.ensures c.in-Some.source).1
+          (c.loop-source.invariant.within c.in-Some.source c.in-Some.ensures.there, refl))),
+    ))
+
+pub loop-source-preserved : goal.loop-source-preserved
+loop-source-preserved t c =
+    let box = box_with c.args.self.now c.args.domains.now in
+    let place = c.in-Open.place in
+    let group = c.storing_same-group.result in
+    let rest = c.difference-left.result in
+    let old = c.args.fillings.now.items in
+    let mid = c.loop-source.fillings.items in
+    let matching = same_stores_among box place c.in-Some.source (slice_index_or c.args.domains.now c.in-Open.place no_events) group (λ w. (λ h. h, λ h. h)) c.storing_same-group.ensures in
+    let goes : AddsFillings box c.args.read old c.if-cut_independent.fillings.items
+    × IsSeenBy (λ x. HasValue c.if-cut_independent.fillings.items (value_of (events_on c.args.self.now) x.sources c.args.read)) box place rest =
+    elim c.if-cut_independent.branch [
+      | then-cut_independent+in_ok-add_fillings w ↦
+          subst (λ (fs : List Filling). AddsFillings box c.args.read old fs
+          × IsSeenBy (λ x. HasValue fs (value_of (events_on c.args.self.now) x.sources c.args.read)) box place rest) (sym (ap (λ v. v.items) w.fillings-is))
+          (values_more c.laws_below.ensures box c.requires.independent c.leaves_are_filled_read_by_read.ensures c.events-events.ensures.sound c.args.read
+          place c.in-Open.ensures.0 c.in-Open.ensures.2 c.in-Some.source group matching c.cut_independent.new.domains
+          (c.cut_independent.ensures.cut w.if-cut_independent.true) (c.cut_independent.ensures.independent w.if-cut_independent.true) old mid
+          w.add_fillings.new.fillings.items c.loop-source.left rest c.difference-left.ensures c.loop-source.invariant.added
+          c.loop-source.invariant.seen w.add_fillings.ensures.added w.in_ok-add_fillings.ensures.whole)
+      | else-cut_independent w ↦
+          subst (λ (fs : List Filling). AddsFillings box c.args.read old fs
+          × IsSeenBy (λ x. HasValue fs (value_of (events_on c.args.self.now) x.sources c.args.read)) box place rest) (sym (ap (λ v. v.items) w.fillings-is)) (
+            c.loop-source.invariant.added,
+            seen_more (λ x. HasValue mid (value_of (events_on c.args.self.now) x.sources c.args.read)) box place c.in-Open.ensures.0 c.loop-source.left group
+                rest c.difference-left.ensures (λ x is takes. absurd (c.cut_independent.ensures.none w.if-cut_independent.false x is takes))
+                c.loop-source.invariant.seen,
+          )
+    ] in
+    record {
+      within = λ w there. c.loop-source.invariant.within w ((c.difference-left.ensures w).0 there).0;
+      added = goes.0;
+      seen = goes.1;
+    }
+
+pub returns-clause-whole : goal.returns-clause-whole
+returns-clause-whole t c =
+    all_seen_by (λ x. HasValue c.loop-source.fillings.items (value_of (events_on c.args.self.now) x.sources c.args.read))
+    (box_with c.args.self.now c.args.domains.now) c.in-Open.place c.in-Open.ensures.0 c.loop-source.left c.in_default.ensures
+    c.loop-source.invariant.seen

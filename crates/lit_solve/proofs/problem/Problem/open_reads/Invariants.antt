@@ -1,0 +1,11 @@
+use Rattle.lit_solve.proofs.Words.{◌<◌, get_or, length, ℕ, ◌≡◌}
+use Rattle.lit_solve.specs.Box.{box_with}
+use Rattle.lit_solve.specs.Internal.Product.{AreOpenReads, IsValueBeside}
+use Rattle.lit_solve.proofs.problem.Problem.open_reads.Given as goal
+
+abbrev pub invariant-loop-i : goal.invariant-loop-i
+invariant-loop-i l = record {
+  reads : AreOpenReads (box_with l.self l.domains) l.reads.items;
+  count : length l.values.items ≡ l.i;
+  each : (j : ℕ) → j < l.i → IsValueBeside (box_with l.self l.domains) l.reads.items j (get_or l.values.items j 0);
+}
