@@ -8,4 +8,6 @@ mod nested;
 #[cfg(test)]
 mod paths;
 #[cfg(test)]
+mod planned;
+#[cfg(test)]
 mod read;

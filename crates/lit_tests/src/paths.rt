@@ -1,8 +1,10 @@
 //! `lit_paths`: the paths, events, byte reads and choices of a test.
 
-use lit_paths::{ByteRead, Kind, Order3, PlanFault, plan};
-use lit_read::read;
+use crate::planned::{entered, plan_of, test_of};
+use lit_paths::{ByteRead, Combination, Event, Kind, Order3, Plan, PlanFault};
 use lit_texts::STORE_BUFFERING;
+use numbers::has_choices;
+use std::process::Abort;
 use std::test::Fail;
 
 mod choices;
@@ -11,12 +13,8 @@ mod makers;
 mod numbers;
 mod refusals;
 
-#[test]
-fn store_buffering_events(rt: HostRuntime) -> Result<(), Fail> {
-    let test = read(rt.alloc(), STORE_BUFFERING.as_bytes())?;
-    let plan = plan(rt.alloc(), &test)?;
-    assert_eq!(rt; plan.combinations(), 1);
-    let events = plan.events(0);
+/// Asserts that these are the events of store buffering: two of init, and a store and a load of each agent.
+fn are_store_buffering(rt: &impl Abort, events: &[Event]) {
     assert_eq!(rt; events.len(), 6);
     let (first, store, load) = (events[1], events[2], events[5]);
     assert!(rt; first.order == Order3::Init && first.first == 1 && first.owner.is_none());
@@ -27,46 +25,70 @@ fn store_buffering_events(rt: HostRuntime) -> Result<(), Fail> {
         load.kind == Kind::Read && load.first == 0 && load.owner == Some(1) && load.place == 1
     );
     assert!(rt; load.kind.does_read() && !load.kind.does_write());
+}
+
+#[test]
+fn store_buffering_events(rt: HostRuntime) -> Result<(), Fail> {
+    let test = test_of(rt.alloc(), STORE_BUFFERING.as_bytes())?;
+    let plan = plan_of(rt.alloc(), &test)?;
+    assert_eq!(rt; plan.combinations(), 1);
+    let events = plan.events(0);
+    are_store_buffering(&rt, &events);
     Ok(())
+}
+
+/// Asserts that a choice of a combination has these sources.
+fn has_sources(rt: &impl Abort, combination: &Combination<'_>, choice: u64, wanted: &[u8]) {
+    assert!(rt; combination.first() <= choice && choice < combination.end());
+    let sources = combination.sources(choice);
+    assert_eq!(rt; sources.as_slice(), wanted);
 }
 
 #[test]
 fn store_buffering_combination(rt: HostRuntime) -> Result<(), Fail> {
-    let test = read(rt.alloc(), STORE_BUFFERING.as_bytes())?;
-    let plan = plan(rt.alloc(), &test)?;
+    let test = test_of(rt.alloc(), STORE_BUFFERING.as_bytes())?;
+    let plan = plan_of(rt.alloc(), &test)?;
     assert_eq!(rt; plan.combinations(), 1);
-    let combination = plan.enter(0);
+    let combination = entered(&rt, &plan, 0);
     assert_eq!(rt; combination.events().len(), 6);
     let reads = [ByteRead { read: 3, byte: 1 }, ByteRead { read: 5, byte: 0 }];
     assert!(rt; combination.byte_reads() == reads.as_slice());
-    assert_eq!(rt; combination.first(), 0);
-    assert_eq!(rt; combination.end(), 4);
-    let sources = combination.sources(1);
-    assert_eq!(rt; sources.as_slice(), [1, 2].as_slice());
+    has_choices(&rt, &combination, 0, 4);
+    has_sources(&rt, &combination, 1, &[1, 2]);
     Ok(())
 }
 
-#[test]
-fn store_buffering_candidates(rt: HostRuntime) -> Result<(), Fail> {
-    let test = read(rt.alloc(), STORE_BUFFERING.as_bytes())?;
-    let plan = plan(rt.alloc(), &test)?;
+/// Asserts that the first byte that event 3 reads in the first combination has these candidates.
+fn has_candidates(rt: &impl Abort, plan: &Plan<'_>, wanted: &[u8]) {
     assert_eq!(rt; plan.combinations(), 1);
     let events = plan.events(0);
     assert!(rt; 3 < events.len() && events[3].size == 1);
     let candidates = plan.candidates(0, 3, 0);
-    assert_eq!(rt; candidates.as_slice(), [1, 4].as_slice());
-    Ok(())
+    assert_eq!(rt; candidates.as_slice(), wanted);
 }
 
 #[test]
-fn store_buffering_condition(rt: HostRuntime) -> Result<(), Fail> {
-    let test = read(rt.alloc(), STORE_BUFFERING.as_bytes())?;
-    let plan = plan(rt.alloc(), &test)?;
+fn store_buffering_candidates(rt: HostRuntime) -> Result<(), Fail> {
+    let test = test_of(rt.alloc(), STORE_BUFFERING.as_bytes())?;
+    let plan = plan_of(rt.alloc(), &test)?;
+    has_candidates(&rt, &plan, &[1, 4]);
+    Ok(())
+}
+
+/// Asserts that the condition is about the first register of both agents, and asks that both be 0.
+fn asks_for_zeros(rt: &impl Abort, plan: &Plan<'_>) {
     let names = plan.names();
     assert_eq!(rt; names.len(), 2);
     assert!(rt; names[0] == (0, 0) && names[1] == (1, 0));
     assert!(rt; plan.meets(&[0, 0]));
     assert!(rt; !plan.meets(&[0, 1]));
+}
+
+#[test]
+fn store_buffering_condition(rt: HostRuntime) -> Result<(), Fail> {
+    let test = test_of(rt.alloc(), STORE_BUFFERING.as_bytes())?;
+    let plan = plan_of(rt.alloc(), &test)?;
+    asks_for_zeros(&rt, &plan);
     Ok(())
 }
 

@@ -1,11 +1,13 @@
 //! `lit_read`: texts that are tests, and texts that are refused.
 
-use lit_read::{AGENT_LIMIT, BLOCK_LIMIT, Cond, ReadFault, ReadKind, Stmt, TEXT_LIMIT, View, read};
+use asserted::{body_of, both_of, has_body, has_head, is_comparison, test_of};
+use lit_read::{AGENT_LIMIT, BLOCK_LIMIT, ReadFault, ReadKind, TEXT_LIMIT, View, read};
 use lit_texts::STORE_BUFFERING;
 use std::alloc::{AllocGlobal, Global};
 use std::process::Abort;
 use std::test::Fail;
 
+mod asserted;
 mod canonical;
 mod language;
 mod line_numbers;
@@ -40,104 +42,42 @@ fn refused_fourth(
     Ok(())
 }
 
+/// A small text up to its condition.
+const CHECKED: &[u8] = b"test t\nbytes 1\nagent A\nr0 = U8[0]\ncheck ";
+
+/// A text with a beginning, a piece repeated `count` times, and an end.
 fn repeated(
     alloc: Global,
     front: &[u8],
-    fill: u8,
+    piece: &[u8],
     count: usize,
     back: &[u8],
 ) -> Result<Vec<u8>, Fail> {
     let mut text = Vec::from_slice(alloc, front)?;
     for _ in 0..count {
-        text.push(fill)?;
+        text.extend_from_slice(piece)?;
     }
     text.extend_from_slice(back)?;
     Ok(text)
 }
 
-/// A small text with these bytes between `check ` and the comparison.
-fn checked(alloc: Global, fill: u8, count: usize) -> Result<Vec<u8>, Fail> {
-    let front = b"test t\nbytes 1\nagent A\nr0 = U8[0]\ncheck ";
-    repeated(alloc, front, fill, count, b"A.r0 == 0\n")
-}
-
 #[test]
 fn store_buffering(rt: HostRuntime) {
-    let test = read(rt.alloc(), STORE_BUFFERING.as_bytes()).expect(&rt, "a test");
-    assert!(rt; test.name() == "sb");
-    assert_eq!(rt; test.bytes(), 2);
-    assert_eq!(rt; test.agents(), 2);
-    assert!(rt; test.agent_name(0) == "A");
-    assert!(rt; test.agent_name(1) == "B");
-    let first = test.body(0);
-    assert_eq!(rt; first.len(), 2);
-    is_store(&rt, &first[0], 0, 1, true);
-    is_load(&rt, &first[1], 0, 1, true);
-    let second = test.body(1);
-    assert_eq!(rt; second.len(), 2);
-    is_store(&rt, &second[0], 1, 1, true);
-    is_load(&rt, &second[1], 0, 0, true);
-    match test.check() {
-        Cond::All(members) => {
-            assert_eq!(rt; members.len(), 2);
-            is_comparison(&rt, &members[0], 0, 0, true, 0);
-            is_comparison(&rt, &members[1], 1, 0, true, 0);
-        }
-        _ => panic!(rt; "two comparisons"),
-    }
-}
-
-/// Asserts that a statement is this load of a `Uint8Array`.
-fn is_load(rt: &impl Abort, stmt: &Stmt, in_reg: u8, at: u8, is_atomic: bool) {
-    match stmt {
-        Stmt::Load {
-            reg,
-            view,
-            index,
-            atomic,
-        } => {
-            assert_eq!(rt; *reg, in_reg);
-            assert!(rt; *view == View::U8);
-            assert_eq!(rt; *index, at);
-            assert!(rt; *atomic == is_atomic);
-        }
-        _ => panic!(rt; "a load"),
-    }
-}
-
-/// Asserts that a statement is this store to a `Uint8Array`.
-fn is_store(rt: &impl Abort, stmt: &Stmt, at: u8, of: u32, is_atomic: bool) {
-    match stmt {
-        Stmt::Store {
-            view,
-            index,
-            value,
-            atomic,
-        } => {
-            assert!(rt; *view == View::U8);
-            assert_eq!(rt; *index, at);
-            assert_eq!(rt; *value, of);
-            assert!(rt; *atomic == is_atomic);
-        }
-        _ => panic!(rt; "a store"),
-    }
-}
-
-fn is_comparison(rt: &impl Abort, cond: &Cond, in_agent: u8, of_reg: u8, is_equal: bool, to: u32) {
-    match cond {
-        Cond::Is {
-            agent,
-            reg,
-            equal,
-            value,
-        } => {
-            assert_eq!(rt; *agent, in_agent);
-            assert_eq!(rt; *reg, of_reg);
-            assert!(rt; *equal == is_equal);
-            assert_eq!(rt; *value, to);
-        }
-        _ => panic!(rt; "one comparison"),
-    }
+    let test = test_of(&rt, STORE_BUFFERING.as_bytes());
+    has_head(&rt, &test, "sb", 2, &["A", "B"]);
+    let first = [
+        (None, View::U8, 0, None, Some(1), true),
+        (Some(0), View::U8, 1, None, None, true),
+    ];
+    has_body(&rt, &test, 0, &first);
+    let second = [
+        (None, View::U8, 1, None, Some(1), true),
+        (Some(0), View::U8, 0, None, None, true),
+    ];
+    has_body(&rt, &test, 1, &second);
+    let (first, second) = both_of(&rt, test.check());
+    is_comparison(&rt, first, (0, 0, true, 0));
+    is_comparison(&rt, second, (1, 0, true, 0));
 }
 
 #[test]
@@ -153,19 +93,17 @@ r0 = Atomics . load ( U8 , 3 )
 Atomics.store(U8,4,0)
 agent test
 check A.r7!=4294967295";
-    let test = read(rt.alloc(), text.as_bytes()).expect(&rt, "a test");
-    assert!(rt; test.name() == "_t1");
-    assert_eq!(rt; test.bytes(), 16);
-    assert_eq!(rt; test.agents(), 2);
-    assert!(rt; test.agent_name(1) == "test");
-    assert_eq!(rt; test.body(1).len(), 0);
-    let body = test.body(0);
-    assert_eq!(rt; body.len(), 4);
-    is_load(&rt, &body[0], 7, 15, false);
-    is_store(&rt, &body[1], 0, 255, false);
-    is_load(&rt, &body[2], 0, 3, true);
-    is_store(&rt, &body[3], 4, 0, true);
-    is_comparison(&rt, test.check(), 0, 7, false, 4294967295);
+    let test = test_of(&rt, text.as_bytes());
+    has_head(&rt, &test, "_t1", 16, &["A", "test"]);
+    let first = [
+        (Some(7), View::U8, 15, None, None, false),
+        (None, View::U8, 0, None, Some(255), false),
+        (Some(0), View::U8, 3, None, None, true),
+        (None, View::U8, 4, None, Some(0), true),
+    ];
+    has_body(&rt, &test, 0, &first);
+    has_body(&rt, &test, 1, &[]);
+    is_comparison(&rt, test.check(), (0, 7, false, 4294967295));
 }
 
 #[test]
@@ -189,34 +127,31 @@ r0 = Atomics.load(U8, 0)
     );
 }
 
+/// Fourth lines of the small text, why that is refused, and at which line.
+const SMALL_FAULTS: [(&[u8], ReadKind, usize); 16] = [
+    (b"}", ReadKind::Misplaced, 4),
+    (b"U8[0] = 256", ReadKind::LiteralRange, 4),
+    (b"agent A", ReadKind::DuplicateAgent, 4),
+    (b"r0 = U8[0] //\xc8", ReadKind::NotAscii, 4),
+    (b"U8[4] = 0", ReadKind::OutOfBlock, 4),
+    (b"r0 = Atomics.load(U8, 4)", ReadKind::OutOfBlock, 4),
+    (b"U8[9] = 300", ReadKind::LiteralRange, 4),
+    (b"r0 = U8[00]", ReadKind::Syntax, 4),
+    (b"r0 = U8[01]", ReadKind::Syntax, 4),
+    (b"r8 = U8[0]", ReadKind::Syntax, 4),
+    (b"r0 == U8[0]", ReadKind::Syntax, 4),
+    (b"r0 = U8[0] /", ReadKind::Syntax, 4),
+    (b"r0 = U8[12345678901]", ReadKind::Syntax, 4),
+    (b"r0 = U8[1234567890]", ReadKind::OutOfBlock, 4),
+    (b"r1 = U8[0]", ReadKind::UnknownName, 5),
+    (b"agent B", ReadKind::UnknownName, 5),
+];
+
 #[test]
 fn small_faults(rt: HostRuntime) -> Result<(), Fail> {
-    refused_fourth(&rt, b"}", ReadKind::Misplaced)?;
-    refused_fourth(&rt, b"U8[0] = 256", ReadKind::LiteralRange)?;
-    refused_fourth(&rt, b"agent A", ReadKind::DuplicateAgent)?;
-    refused_fourth(&rt, b"r0 = U8[0] //\xc8", ReadKind::NotAscii)?;
-    refused(
-        &rt,
-        &framed(rt.alloc(), b"r1 = U8[0]")?,
-        ReadKind::UnknownName,
-        5,
-    );
-    refused_fourth(&rt, b"U8[4] = 0", ReadKind::OutOfBlock)?;
-    refused_fourth(&rt, b"r0 = Atomics.load(U8, 4)", ReadKind::OutOfBlock)?;
-    refused_fourth(&rt, b"U8[9] = 300", ReadKind::LiteralRange)?;
-    refused_fourth(&rt, b"r0 = U8[00]", ReadKind::Syntax)?;
-    refused_fourth(&rt, b"r0 = U8[01]", ReadKind::Syntax)?;
-    refused_fourth(&rt, b"r8 = U8[0]", ReadKind::Syntax)?;
-    refused_fourth(&rt, b"r0 == U8[0]", ReadKind::Syntax)?;
-    refused_fourth(&rt, b"r0 = U8[0] /", ReadKind::Syntax)?;
-    refused_fourth(&rt, b"r0 = U8[12345678901]", ReadKind::Syntax)?;
-    refused_fourth(&rt, b"r0 = U8[1234567890]", ReadKind::OutOfBlock)?;
-    refused(
-        &rt,
-        &framed(rt.alloc(), b"agent B")?,
-        ReadKind::UnknownName,
-        5,
-    );
+    for (fourth, kind, line) in SMALL_FAULTS {
+        refused(&rt, &framed(rt.alloc(), fourth)?, kind, line);
+    }
     refused(
         &rt,
         b"test sb\nbytes 2\nagent A\nAtomics.store(U8, 0, 1)\nr0 = Atomics.load(U8, 1)\nagent B\nAtomics.store(U8, 1, 1)\n\
@@ -297,8 +232,8 @@ fn with_block(alloc: Global, bytes: usize) -> Result<Vec<u8>, Fail> {
 #[test]
 fn sizes_of_blocks(rt: HostRuntime) -> Result<(), Fail> {
     for bytes in [1, BLOCK_LIMIT - 1, BLOCK_LIMIT] {
-        let test = read(rt.alloc(), &with_block(rt.alloc(), bytes)?)?;
-        assert_eq!(rt; usize::from(test.bytes()), bytes);
+        let text = with_block(rt.alloc(), bytes)?;
+        assert_eq!(rt; usize::from(test_of(&rt, &text).bytes()), bytes);
     }
     for bytes in [0, BLOCK_LIMIT + 1] {
         refused(&rt, &with_block(rt.alloc(), bytes)?, ReadKind::BlockSize, 2);
@@ -315,109 +250,118 @@ fn with_agents(alloc: Global, agents: usize) -> Result<Vec<u8>, Fail> {
     Ok(text)
 }
 
-#[test]
-fn numbers_of_agents(rt: HostRuntime) -> Result<(), Fail> {
-    let alloc = rt.alloc();
-    for agents in [1, AGENT_LIMIT - 1, AGENT_LIMIT] {
-        let mut text = with_agents(alloc, agents)?;
-        let last = agents.saturating_sub(1);
-        text.extend_from_slice(format!(in alloc;
-            "r0 = U8[0]\ncheck A{last}.r0 == 0\n"
-        )?.as_bytes())?;
-        assert_eq!(rt; read(alloc, &text)?.agents(), agents);
-    }
-    let more = with_agents(alloc, AGENT_LIMIT + 1)?;
-    refused(&rt, &more, ReadKind::TooManyAgents, AGENT_LIMIT + 3);
-    let mut again = with_agents(alloc, AGENT_LIMIT)?;
-    again.extend_from_slice(b"agent A0\n")?;
-    refused(&rt, &again, ReadKind::TooManyAgents, AGENT_LIMIT + 3);
-    let mut twice = with_agents(alloc, AGENT_LIMIT - 1)?;
-    twice.extend_from_slice(b"agent A0\n")?;
-    refused(&rt, &twice, ReadKind::DuplicateAgent, AGENT_LIMIT + 2);
+/// Asserts that a text with this number of agents, of which the last one is asked about, is a test.
+fn has_agents(rt: &(impl Abort + AllocGlobal), agents: usize) -> Result<(), Fail> {
+    let last = agents.saturating_sub(1);
+    let mut text = with_agents(rt.alloc(), agents)?;
+    text.extend_from_slice(format!(in rt.alloc();
+        "r0 = U8[0]\ncheck A{last}.r0 == 0\n"
+    )?.as_bytes())?;
+    assert_eq!(rt; test_of(rt, &text).agents(), agents);
+    Ok(())
+}
+
+/// Asserts that a text with this number of agents, and then these bytes, is refused.
+fn refused_agents(
+    rt: &(impl Abort + AllocGlobal),
+    agents: usize,
+    back: &[u8],
+    kind: ReadKind,
+    line: usize,
+) -> Result<(), Fail> {
+    let mut text = with_agents(rt.alloc(), agents)?;
+    text.extend_from_slice(back)?;
+    refused(rt, &text, kind, line);
     Ok(())
 }
 
 #[test]
-fn long_texts(rt: HostRuntime) -> Result<(), Fail> {
-    refused(
-        &rt,
-        &repeated(rt.alloc(), b"", b' ', TEXT_LIMIT + 1, b"")?,
-        ReadKind::TooLong,
-        1,
-    );
-    refused(
-        &rt,
-        &repeated(rt.alloc(), b"", 200, TEXT_LIMIT + 1, b"")?,
-        ReadKind::TooLong,
-        1,
-    );
-    refused(
-        &rt,
-        &repeated(rt.alloc(), b"", b' ', TEXT_LIMIT, b"")?,
-        ReadKind::MissingPart,
-        1,
-    );
-    refused(
-        &rt,
-        &repeated(rt.alloc(), b"", b'\n', TEXT_LIMIT, b"")?,
+fn numbers_of_agents(rt: HostRuntime) -> Result<(), Fail> {
+    for agents in [1, AGENT_LIMIT - 1, AGENT_LIMIT] {
+        has_agents(&rt, agents)?;
+    }
+    let (again, kind) = (b"agent A0\n", ReadKind::TooManyAgents);
+    refused_agents(&rt, AGENT_LIMIT + 1, b"", kind, AGENT_LIMIT + 3)?;
+    refused_agents(&rt, AGENT_LIMIT, again, kind, AGENT_LIMIT + 3)?;
+    let kind = ReadKind::DuplicateAgent;
+    refused_agents(&rt, AGENT_LIMIT - 1, again, kind, AGENT_LIMIT + 2)
+}
+
+/// A text as `repeated` makes it, why it is refused, and at which line.
+type Long = (
+    &'static [u8],
+    &'static [u8],
+    usize,
+    &'static [u8],
+    ReadKind,
+    usize,
+);
+
+const LOADED: &[u8] = b"test t\nbytes 4\nagent A\nr0 = U8[";
+
+const NAMED: &[u8] = b"test t\nbytes 4\nagent A\nagent ";
+
+const LONG_TEXTS: [Long; 10] = [
+    (b"", b" ", TEXT_LIMIT + 1, b"", ReadKind::TooLong, 1),
+    (b"", b"\xc8", TEXT_LIMIT + 1, b"", ReadKind::TooLong, 1),
+    (b"", b" ", TEXT_LIMIT, b"", ReadKind::MissingPart, 1),
+    (
+        b"",
+        b"\n",
+        TEXT_LIMIT,
+        b"",
         ReadKind::MissingPart,
         TEXT_LIMIT,
-    );
-    refused(
-        &rt,
-        &checked(rt.alloc(), b'(', 65_000)?,
-        ReadKind::Syntax,
-        5,
-    );
-    refused(
-        &rt,
-        &checked(rt.alloc(), b'!', 65_000)?,
-        ReadKind::TooDeep,
-        5,
-    );
-    refused(
-        &rt,
-        &framed(
-            rt.alloc(),
-            &repeated(rt.alloc(), b"r0 = U8[", b'1', 60_000, b"]")?,
-        )?,
+    ),
+    (CHECKED, b"(", 65_000, b"A.r0 == 0\n", ReadKind::Syntax, 5),
+    (CHECKED, b"!", 65_000, b"A.r0 == 0\n", ReadKind::TooDeep, 5),
+    (
+        LOADED,
+        b"1",
+        60_000,
+        b"]\ncheck A.r0 == 0\n",
         ReadKind::Syntax,
         4,
-    );
-    refused(
-        &rt,
-        &framed(
-            rt.alloc(),
-            &repeated(rt.alloc(), b"agent ", b'a', 60_000, b"")?,
-        )?,
+    ),
+    (
+        NAMED,
+        b"a",
+        60_000,
+        b"\ncheck A.r0 == 0\n",
         ReadKind::Syntax,
         4,
-    );
-    refused(
-        &rt,
-        &framed(rt.alloc(), &repeated(rt.alloc(), b"agent ", b'a', 33, b"")?)?,
-        ReadKind::Syntax,
-        4,
-    );
-    refused(
-        &rt,
-        &framed(rt.alloc(), &repeated(rt.alloc(), b"agent ", b'a', 32, b"")?)?,
+    ),
+    (NAMED, b"a", 33, b"\ncheck A.r0 == 0\n", ReadKind::Syntax, 4),
+    (
+        NAMED,
+        b"a",
+        32,
+        b"\ncheck A.r0 == 0\n",
         ReadKind::UnknownName,
         5,
-    );
+    ),
+];
+
+#[test]
+fn long_texts(rt: HostRuntime) -> Result<(), Fail> {
+    for (front, piece, count, back, kind, line) in LONG_TEXTS {
+        refused(
+            &rt,
+            &repeated(rt.alloc(), front, piece, count, back)?,
+            kind,
+            line,
+        );
+    }
     Ok(())
 }
 
 #[test]
 fn many_loads(rt: HostRuntime) -> Result<(), Fail> {
-    let mut text = Vec::from_slice(rt.alloc(), b"test t\nbytes 1\nagent A\n")?;
-    for _ in 0..4_000 {
-        text.extend_from_slice(b"r0 = U8[0]\n")?;
-    }
-    text.extend_from_slice(b"check A.r0 == 0\n")?;
-    let test = read(rt.alloc(), &text).expect(&rt, "a test");
+    let (front, back) = (b"test t\nbytes 1\nagent A\n", b"check A.r0 == 0\n");
+    let text = repeated(rt.alloc(), front, b"r0 = U8[0]\n", 4_000, back)?;
+    let test = test_of(&rt, &text);
     assert_eq!(rt; test.agents(), 1);
-    assert_eq!(rt; test.body(0).len(), 4_000);
+    assert_eq!(rt; body_of(&rt, &test, 0).len(), 4_000);
     Ok(())
 }
 

@@ -1,7 +1,6 @@
 //! The choices of a test, by their numbers.
 
-use lit_paths::plan;
-use lit_read::read;
+use crate::planned::{plan_of, test_of};
 use lit_texts::{BOTH_EXCHANGE_FOR_ONE, LOAD_BUFFERING, STORE_BUFFERING, TYPED_READ};
 use std::alloc::AllocGlobal;
 use std::process::Abort;
@@ -17,8 +16,8 @@ fn assert_choices(
     total: u64,
     rows: &[Expected],
 ) -> Result<(), Fail> {
-    let test = read(rt.alloc(), text.as_bytes())?;
-    let plan = plan(rt.alloc(), &test)?;
+    let test = test_of(rt.alloc(), text.as_bytes())?;
+    let plan = plan_of(rt.alloc(), &test)?;
     assert_eq!(rt; plan.total(), total);
     for (number, combination, wanted) in rows {
         assert!(rt; *number < total);

@@ -1,11 +1,22 @@
 //! The guards of paths, and which reads their registers hold at the end.
 
-use lit_paths::{Tested, plan};
-use lit_read::read;
+use crate::planned::{entered, plan_of, test_of};
+use lit_paths::{Combination, Path, Plan, Tested};
 use lit_texts::{BOTH_EXCHANGE_FOR_ONE, LOAD_BUFFERING, STORE_BUFFERING};
 use std::alloc::AllocGlobal;
 use std::process::Abort;
 use std::test::Fail;
+
+/// The path of an agent in a combination, which the plan has to have.
+fn path_of<'p>(rt: &impl Abort, plan: &'p Plan<'_>, combination: usize, agent: usize) -> &'p Path {
+    assert!(rt; combination < plan.combinations() && agent < plan.test().agents());
+    plan.path(combination, agent)
+}
+
+/// Asserts that a register holds the read at this place at the end of a path.
+fn holds(rt: &impl Abort, path: &Path, register: u8, place: Option<u8>) {
+    assert!(rt; register < 8 && path.last(register) == place);
+}
 
 /// Asserts that a test has this number of combinations, that the path of an agent in one of them, by the numbers of both,
 /// has this number of events and exactly these guards, and that each of these registers holds the read at this place at the end.
@@ -18,15 +29,14 @@ fn assert_guards(
     guards: &[Tested],
     observed: &[(u8, Option<u8>)],
 ) -> Result<(), Fail> {
-    let test = read(rt.alloc(), text.as_bytes())?;
-    let plan = plan(rt.alloc(), &test)?;
+    let test = test_of(rt.alloc(), text.as_bytes())?;
+    let plan = plan_of(rt.alloc(), &test)?;
     assert_eq!(rt; plan.combinations(), combinations);
-    assert!(rt; combination < combinations && agent < plan.test().agents());
-    let path = plan.path(combination, agent);
+    let path = path_of(rt, &plan, combination, agent);
     assert_eq!(rt; path.events().len(), events);
     assert!(rt; path.tests() == guards);
     for (register, place) in observed {
-        assert!(rt; *register < 8 && path.last(*register) == *place);
+        holds(rt, path, *register, *place);
     }
     Ok(())
 }
@@ -135,14 +145,18 @@ fn two_exchanges(rt: HostRuntime) -> Result<(), Fail> {
     assert_guards(&rt, text, 4, (1, 1), 1, &[of_place(0, false, 0)], &observed)
 }
 
-#[test]
-fn paths_of_a_combination(rt: HostRuntime) -> Result<(), Fail> {
-    let test = read(rt.alloc(), BOTH_EXCHANGE_FOR_ONE.as_bytes())?;
-    let plan = plan(rt.alloc(), &test)?;
-    assert!(rt; plan.combinations() == 4);
-    let combination = plan.enter(1);
+/// Asserts that the second of two agents has one guard, and that each agent begins with the event after the ones before.
+fn begins_with_one_event(rt: &impl Abort, combination: &Combination<'_>) {
     assert!(rt; combination.test().agents() == 2);
     assert!(rt; combination.path(1).tests() == [of_place(0, false, 0)].as_slice());
     assert!(rt; combination.first_event(0) == 1 && combination.first_event(1) == 2);
+}
+
+#[test]
+fn paths_of_a_combination(rt: HostRuntime) -> Result<(), Fail> {
+    let test = test_of(rt.alloc(), BOTH_EXCHANGE_FOR_ONE.as_bytes())?;
+    let plan = plan_of(rt.alloc(), &test)?;
+    assert!(rt; plan.combinations() == 4);
+    begins_with_one_event(&rt, &entered(&rt, &plan, 1));
     Ok(())
 }

@@ -1,12 +1,19 @@
 //! The statements that make the events of a path.
 
 use crate::nested::NESTED;
-use lit_paths::plan;
-use lit_read::read;
+use crate::planned::{entered, plan_of, test_of};
+use lit_paths::Combination;
 use lit_texts::STORE_BUFFERING;
 use std::alloc::AllocGlobal;
 use std::process::Abort;
 use std::test::Fail;
+
+/// Asserts that these statements make the events of an agent.
+fn makes(rt: &impl Abort, combination: &Combination<'_>, agent: usize, statements: &[usize]) {
+    assert!(rt; agent < combination.test().agents());
+    let found = combination.statements(agent);
+    assert!(rt; found.as_slice() == statements);
+}
 
 /// Asserts that these statements make the events of an agent in a combination, by the numbers of both.
 fn are_made(
@@ -16,11 +23,9 @@ fn are_made(
     agent: usize,
     statements: &[usize],
 ) -> Result<(), Fail> {
-    let test = read(rt.alloc(), text.as_bytes())?;
-    let plan = plan(rt.alloc(), &test)?;
-    assert!(rt; combination < plan.combinations() && agent < plan.test().agents());
-    let found = plan.enter(combination).statements(agent);
-    assert!(rt; found.as_slice() == statements);
+    let test = test_of(rt.alloc(), text.as_bytes())?;
+    let plan = plan_of(rt.alloc(), &test)?;
+    makes(rt, &entered(rt, &plan, combination), agent, statements);
     Ok(())
 }
 

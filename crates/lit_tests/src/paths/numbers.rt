@@ -1,7 +1,7 @@
 //! The candidates of each byte read, and the numbers of the choices that they and a combination lead to.
 
-use lit_paths::plan;
-use lit_read::read;
+use crate::planned::{entered, plan_of, test_of};
+use lit_paths::{Combination, Plan};
 use lit_texts::{BOTH_EXCHANGE_FOR_ONE, LOAD_BUFFERING, TYPED_READ};
 use std::alloc::AllocGlobal;
 use std::process::Abort;
@@ -10,6 +10,19 @@ use std::test::Fail;
 /// The byte read of a combination at a place: its candidates, and how many choices each of them leads to.
 type Expected = (usize, usize, &'static [u8], u64);
 
+/// Asserts that the byte read at a place has these candidates, and that each of them leads to this number of choices.
+fn assert_read(
+    rt: &impl Abort,
+    combination: &Combination<'_>,
+    place: usize,
+    candidates: &[u8],
+    ways: u64,
+) {
+    assert!(rt; place < combination.byte_reads().len());
+    assert!(rt; combination.candidates(place) == candidates);
+    assert_eq!(rt; combination.ways_after(place), ways);
+}
+
 /// Asserts that a test has this number of combinations, and these byte reads.
 fn assert_reads(
     rt: &(impl Abort + AllocGlobal),
@@ -17,15 +30,12 @@ fn assert_reads(
     combinations: usize,
     rows: &[Expected],
 ) -> Result<(), Fail> {
-    let test = read(rt.alloc(), text.as_bytes())?;
-    let plan = plan(rt.alloc(), &test)?;
+    let test = test_of(rt.alloc(), text.as_bytes())?;
+    let plan = plan_of(rt.alloc(), &test)?;
     assert_eq!(rt; plan.combinations(), combinations);
     for (number, place, candidates, ways) in rows {
-        assert!(rt; *number < combinations);
-        let combination = plan.enter(*number);
-        assert!(rt; *place < combination.byte_reads().len());
-        assert!(rt; combination.candidates(*place) == *candidates);
-        assert_eq!(rt; combination.ways_after(*place), *ways);
+        let combination = entered(rt, &plan, *number);
+        assert_read(rt, &combination, *place, candidates, *ways);
     }
     Ok(())
 }
@@ -60,34 +70,46 @@ fn candidates_with_their_choices(rt: HostRuntime) -> Result<(), Fail> {
     assert_reads(&rt, TYPED_READ, 1, &typed)
 }
 
+/// Asserts that the choices of a combination begin with this number and end before that one.
+pub(super) fn has_choices(rt: &impl Abort, combination: &Combination<'_>, first: u64, end: u64) {
+    assert_eq!(rt; combination.first(), first);
+    assert_eq!(rt; combination.end(), end);
+}
+
+/// Puts a combination, by its number, in the place of another.
+fn replace<'p>(
+    rt: &impl Abort,
+    plan: &'p Plan<'_>,
+    combination: &mut Combination<'p>,
+    number: usize,
+) {
+    assert!(rt; number < plan.combinations());
+    plan.reenter(combination, number);
+}
+
 #[test]
 fn load_buffering_combinations(rt: HostRuntime) -> Result<(), Fail> {
-    let test = read(rt.alloc(), LOAD_BUFFERING.as_bytes())?;
-    let plan = plan(rt.alloc(), &test)?;
+    let test = test_of(rt.alloc(), LOAD_BUFFERING.as_bytes())?;
+    let plan = plan_of(rt.alloc(), &test)?;
     assert_eq!(rt; plan.combinations(), 4);
     for (c, ends) in [(0, 4), (4, 6), (6, 8), (8, 9)].iter().enumerate() {
-        assert!(rt; c < 4);
-        let combination = plan.enter(c);
-        assert_eq!(rt; combination.first(), ends.0);
-        assert_eq!(rt; combination.end(), ends.1);
+        has_choices(&rt, &entered(&rt, &plan, c), ends.0, ends.1);
     }
     Ok(())
 }
 
 #[test]
 fn one_combination_in_place_of_another(rt: HostRuntime) -> Result<(), Fail> {
-    let test = read(rt.alloc(), LOAD_BUFFERING.as_bytes())?;
-    let plan = plan(rt.alloc(), &test)?;
+    let test = test_of(rt.alloc(), LOAD_BUFFERING.as_bytes())?;
+    let plan = plan_of(rt.alloc(), &test)?;
     assert_eq!(rt; plan.combinations(), 4);
-    let mut combination = plan.enter(3);
-    plan.reenter(&mut combination, 0);
+    let mut combination = entered(&rt, &plan, 3);
+    replace(&rt, &plan, &mut combination, 0);
     assert_eq!(rt; combination.events().len(), 6);
     assert_eq!(rt; combination.byte_reads().len(), 2);
-    assert_eq!(rt; combination.first(), 0);
-    assert_eq!(rt; combination.end(), 4);
-    plan.reenter(&mut combination, 3);
+    has_choices(&rt, &combination, 0, 4);
+    replace(&rt, &plan, &mut combination, 3);
     assert_eq!(rt; combination.events().len(), 4);
-    assert_eq!(rt; combination.first(), 8);
-    assert_eq!(rt; combination.end(), 9);
+    has_choices(&rt, &combination, 8, 9);
     Ok(())
 }

@@ -1,7 +1,7 @@
 //! Tests that a plan refuses, and tests at the limits.
 
+use crate::planned::test_of;
 use lit_paths::{ACCESS_LIMIT, CHOICE_LIMIT, COMBINATION_LIMIT, PlanFault, plan};
-use lit_read::read;
 use std::alloc::{AllocError, AllocGlobal, Global};
 use std::process::Abort;
 use std::test::Fail;
@@ -29,7 +29,7 @@ fn assert_planned(
     text: &[u8],
     wanted: Result<(usize, u64), PlanFault>,
 ) -> Result<(), Fail> {
-    let test = read(rt.alloc(), text)?;
+    let test = test_of(rt.alloc(), text)?;
     match (plan(rt.alloc(), &test), wanted) {
         (Ok(plan), Ok((combinations, total))) => {
             assert_eq!(rt; plan.combinations(), combinations);

@@ -1,6 +1,7 @@
 //! The canonical text, and that reading it gives the test again.
 
-use lit_read::{Test, read, show};
+use super::asserted::test_of;
+use lit_read::{Test, show};
 use lit_texts::{
     AMONG_IDLE_EVENTS, BOTH_EXCHANGE_FOR_ONE, EQUAL_STORES, EXCHANGES, FAILED_EXCHANGE,
     INDEPENDENT_READS, LOAD_BUFFERING, MESSAGE_PASSING, MESSAGE_PASSING_PLAIN, OWN_STORE,
@@ -149,16 +150,28 @@ const CONDITIONS: [(&str, &str); 10] = [
     ),
 ];
 
+/// Asserts that two tests have the same statements of this agent.
+fn are_alike(
+    rt: &(impl Abort + AllocGlobal),
+    test: &Test,
+    other: &Test,
+    agent: usize,
+) -> Result<(), Fail> {
+    assert!(rt; agent < test.agents() && agent < other.agents());
+    assert!(rt; test.agent_name(agent) == other.agent_name(agent));
+    let body = format!(in rt.alloc(); "{:?}", test.body(agent))?;
+    let again = format!(in rt.alloc(); "{:?}", other.body(agent))?;
+    assert!(rt; body == again);
+    Ok(())
+}
+
 /// Asserts that two tests say the same.
 fn are_same(rt: &(impl Abort + AllocGlobal), test: &Test, other: &Test) -> Result<(), Fail> {
     assert!(rt; test.name() == other.name());
     assert!(rt; test.bytes() == other.bytes());
     assert!(rt; test.agents() == other.agents());
     for agent in 0..test.agents() {
-        assert!(rt; test.agent_name(agent) == other.agent_name(agent));
-        let body = format!(in rt.alloc(); "{:?}", test.body(agent))?;
-        let again = format!(in rt.alloc(); "{:?}", other.body(agent))?;
-        assert!(rt; body == again);
+        are_alike(rt, test, other, agent)?;
     }
     let check = format!(in rt.alloc(); "{:?}", test.check())?;
     let again = format!(in rt.alloc(); "{:?}", other.check())?;
@@ -166,13 +179,17 @@ fn are_same(rt: &(impl Abort + AllocGlobal), test: &Test, other: &Test) -> Resul
     Ok(())
 }
 
+/// A test's canonical text.
+fn text_of(rt: &(impl Abort + AllocGlobal), test: &Test) -> Vec<u8> {
+    show(rt.alloc(), test).expect(rt, "its text")
+}
+
 /// Asserts that a text's test has this canonical text, and that reading this text gives the same test.
 fn is_shown(rt: &(impl Abort + AllocGlobal), text: &[u8], canonical: &[u8]) -> Result<(), Fail> {
-    let test = read(rt.alloc(), text).expect(rt, "a test");
-    let shown = show(rt.alloc(), &test).expect(rt, "its text");
+    let test = test_of(rt, text);
+    let shown = text_of(rt, &test);
     assert!(rt; shown.as_slice() == canonical);
-    let again = read(rt.alloc(), &shown).expect(rt, "the test again");
-    are_same(rt, &test, &again)
+    are_same(rt, &test, &test_of(rt, &shown))
 }
 
 /// The small text with this condition.

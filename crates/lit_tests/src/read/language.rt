@@ -1,7 +1,8 @@
 //! Each form of the language, and the limits.
 
-use super::{framed, refused, refused_fourth, repeated};
-use lit_read::{Cond, ReadKind, Stmt, View, read};
+use super::asserted::{Access, begins_with, body_of, both_of, denied, either_of, is_if, test_of};
+use super::{CHECKED, framed, refused, refused_fourth, repeated};
+use lit_read::{Cond, ReadKind, View, read};
 use std::alloc::Global;
 use std::process::Abort;
 use std::test::Fail;
@@ -39,194 +40,97 @@ if r0 == 0 {
 check !(A.r0 == 1 && A.r1 != 2) || (A.r2 == 3 || !!A.r3 == 4) && A.r4 == 5
 ";
 
-/// Asserts that a statement is an access with these fields: register, view, index, expected, value, atomic.
-fn has(
-    rt: &impl Abort,
-    stmt: &Stmt,
-    registers: Option<u8>,
-    seen: View,
-    at: u8,
-    wanted: Option<u32>,
-    written: Option<u32>,
-    is_atomic: bool,
-) {
-    let (reg, view, index, expected, value, atomic) = match stmt {
-        Stmt::Load {
-            reg,
-            view,
-            index,
-            atomic,
-        } => (Some(*reg), *view, *index, None, None, *atomic),
-        Stmt::Store {
-            view,
-            index,
-            value,
-            atomic,
-        } => (None, *view, *index, None, Some(*value), *atomic),
-        Stmt::Exchange {
-            reg,
-            view,
-            index,
-            value,
-        } => (Some(*reg), *view, *index, None, Some(*value), true),
-        Stmt::CompareExchange {
-            reg,
-            view,
-            index,
-            expected,
-            value,
-        } => (
-            Some(*reg),
-            *view,
-            *index,
-            Some(*expected),
-            Some(*value),
-            true,
-        ),
-        Stmt::If { .. } => panic!(rt; "an access"),
-    };
-    assert!(rt; reg == registers);
-    assert!(rt; view == seen);
-    assert_eq!(rt; index, at);
-    assert!(rt; expected == wanted);
-    assert!(rt; value == written);
-    assert!(rt; atomic == is_atomic);
-}
+const WHOLE_ACCESSES: [Access; 16] = [
+    (Some(0), View::U8, 15, None, None, false),
+    (Some(1), View::U16, 7, None, None, false),
+    (Some(2), View::U32, 3, None, None, false),
+    (None, View::U8, 0, None, Some(255), false),
+    (None, View::U16, 0, None, Some(65_535), false),
+    (None, View::U32, 0, None, Some(4_294_967_295), false),
+    (Some(3), View::U16, 7, None, None, true),
+    (None, View::U32, 3, None, Some(5), true),
+    (Some(4), View::U8, 0, None, Some(1), true),
+    (Some(5), View::U32, 1, Some(4_294_967_295), Some(2), true),
+    (Some(6), View::D8, 15, None, None, false),
+    (Some(7), View::D16, 14, None, None, false),
+    (Some(0), View::D32, 12, None, None, false),
+    (None, View::D8, 15, None, Some(1), false),
+    (None, View::D16, 14, None, Some(2), false),
+    (None, View::D32, 12, None, Some(3), false),
+];
 
 #[test]
 fn whole(rt: HostRuntime) {
-    let test = read(rt.alloc(), WHOLE.as_bytes()).expect(&rt, "a test");
-    let body = test.body(0);
+    let test = test_of(&rt, WHOLE.as_bytes());
+    let body = body_of(&rt, &test, 0);
     assert_eq!(rt; body.len(), 18);
-    has(&rt, &body[0], Some(0), View::U8, 15, None, None, false);
-    has(&rt, &body[1], Some(1), View::U16, 7, None, None, false);
-    has(&rt, &body[2], Some(2), View::U32, 3, None, None, false);
-    has(&rt, &body[3], None, View::U8, 0, None, Some(255), false);
-    has(&rt, &body[4], None, View::U16, 0, None, Some(65_535), false);
-    has(
-        &rt,
-        &body[5],
-        None,
-        View::U32,
-        0,
-        None,
-        Some(4_294_967_295),
-        false,
-    );
-    has(&rt, &body[6], Some(3), View::U16, 7, None, None, true);
-    has(&rt, &body[7], None, View::U32, 3, None, Some(5), true);
-    has(&rt, &body[8], Some(4), View::U8, 0, None, Some(1), true);
-    has(
-        &rt,
-        &body[9],
-        Some(5),
-        View::U32,
-        1,
-        Some(4_294_967_295),
-        Some(2),
-        true,
-    );
-    has(&rt, &body[10], Some(6), View::D8, 15, None, None, false);
-    has(&rt, &body[11], Some(7), View::D16, 14, None, None, false);
-    has(&rt, &body[12], Some(0), View::D32, 12, None, None, false);
-    has(&rt, &body[13], None, View::D8, 15, None, Some(1), false);
-    has(&rt, &body[14], None, View::D16, 14, None, Some(2), false);
-    has(&rt, &body[15], None, View::D32, 12, None, Some(3), false);
-    match &body[16] {
-        Stmt::If {
-            reg,
-            equal,
-            value,
-            body,
-            other,
-        } => {
-            assert_eq!(rt; *reg, 0);
-            assert!(rt; *equal);
-            assert_eq!(rt; *value, 1);
-            assert_eq!(rt; body.len(), 2);
-            assert_eq!(rt; other.len(), 2);
-        }
-        _ => panic!(rt; "an if"),
-    }
-    match &body[17] {
-        Stmt::If { body, other, .. } => {
-            assert!(rt; body.is_empty() && other.is_empty());
-        }
-        _ => panic!(rt; "an if"),
-    }
+    begins_with(&rt, body, &WHOLE_ACCESSES);
+    is_if(&rt, &body[16], (0, true, 1), (2, 2));
+    is_if(&rt, &body[17], (0, true, 0), (0, 0));
 }
 
 #[test]
 fn condition(rt: HostRuntime) {
-    let test = read(rt.alloc(), WHOLE.as_bytes()).expect(&rt, "a test");
-    let Cond::Any(members) = test.check() else {
-        panic!(rt; "an any")
-    };
-    assert_eq!(rt; members.len(), 2);
-    match &members[0] {
-        Cond::Not(inner) => {
-            let inner: &Cond = inner;
-            match inner {
-                Cond::All(both) => assert_eq!(rt; both.len(), 2),
-                _ => panic!(rt; "an all"),
-            }
-        }
-        _ => panic!(rt; "a not"),
-    }
-    match &members[1] {
-        Cond::All(both) => {
-            assert_eq!(rt; both.len(), 2);
-            match &both[0] {
-                Cond::Any(either) => assert_eq!(rt; either.len(), 2),
-                _ => panic!(rt; "an any"),
-            }
-        }
-        _ => panic!(rt; "an all"),
-    }
+    let test = test_of(&rt, WHOLE.as_bytes());
+    let (first, second) = either_of(&rt, test.check());
+    both_of(&rt, denied(&rt, first));
+    let (either, _) = both_of(&rt, second);
+    either_of(&rt, either);
+}
+
+/// Asserts that a text is a test.
+fn taken(rt: &(impl Abort + AllocGlobal), text: &[u8]) {
+    assert!(rt; read(rt.alloc(), text).is_ok());
 }
 
 /// Asserts that the small text with this fourth line is a test.
 fn taken_fourth(rt: &(impl Abort + AllocGlobal), fourth: &[u8]) -> Result<(), Fail> {
-    assert!(rt; read(rt.alloc(), &framed(rt.alloc(), fourth)?).is_ok());
+    taken(rt, &framed(rt.alloc(), fourth)?);
     Ok(())
 }
 
-#[test]
-fn fourth_lines(rt: HostRuntime) -> Result<(), Fail> {
-    taken_fourth(&rt, b"r0 = DV.getUint16(2, true)")?;
-    taken_fourth(&rt, b"r0 = U16[1]")?;
-    taken_fourth(&rt, b"if r1 == 0 {\nr0 = U8[0]\n}")?;
-    taken_fourth(&rt, b"if r1 == 0 {\n} else {\nr0 = U8[0]\n}")?;
-    refused_fourth(&rt, b"U8[9] = 300", ReadKind::LiteralRange)?;
-    refused_fourth(&rt, b"U16[9] = 65536", ReadKind::LiteralRange)?;
-    refused_fourth(&rt, b"U32[1] = 4294967296", ReadKind::LiteralRange)?;
-    refused_fourth(&rt, b"r0 = U32[1]", ReadKind::OutOfBlock)?;
-    refused_fourth(&rt, b"r0 = U16[2]", ReadKind::OutOfBlock)?;
-    refused_fourth(&rt, b"r0 = DV.getUint16(3, true)", ReadKind::OutOfBlock)?;
-    refused_fourth(&rt, b"r0 = DV.getUint16(2)", ReadKind::Syntax)?;
-    refused_fourth(&rt, b"r0 = DV.getUint8(0, true)", ReadKind::Syntax)?;
-    refused_fourth(&rt, b"DV.setUint16(0, 1)", ReadKind::Syntax)?;
-    refused_fourth(&rt, b"r0 = Atomics.load(DV, 0)", ReadKind::Syntax)?;
-    refused_fourth(&rt, b"r0 = U8[0] }", ReadKind::Syntax)?;
-    refused_fourth(&rt, b"} else", ReadKind::Syntax)?;
-    refused_fourth(&rt, b"if r0 == 1", ReadKind::Syntax)?;
-    refused_fourth(&rt, b"} else {", ReadKind::Misplaced)?;
-    refused_fourth(&rt, b"if r0 == 4294967296 {", ReadKind::LiteralRange)?;
-    refused_fourth(
-        &rt,
+const TAKEN: [&[u8]; 4] = [
+    b"r0 = DV.getUint16(2, true)",
+    b"r0 = U16[1]",
+    b"if r1 == 0 {\nr0 = U8[0]\n}",
+    b"if r1 == 0 {\n} else {\nr0 = U8[0]\n}",
+];
+
+const REFUSED: [(&[u8], ReadKind); 18] = [
+    (b"U8[9] = 300", ReadKind::LiteralRange),
+    (b"U16[9] = 65536", ReadKind::LiteralRange),
+    (b"U32[1] = 4294967296", ReadKind::LiteralRange),
+    (b"r0 = U32[1]", ReadKind::OutOfBlock),
+    (b"r0 = U16[2]", ReadKind::OutOfBlock),
+    (b"r0 = DV.getUint16(3, true)", ReadKind::OutOfBlock),
+    (b"r0 = DV.getUint16(2)", ReadKind::Syntax),
+    (b"r0 = DV.getUint8(0, true)", ReadKind::Syntax),
+    (b"DV.setUint16(0, 1)", ReadKind::Syntax),
+    (b"r0 = Atomics.load(DV, 0)", ReadKind::Syntax),
+    (b"r0 = U8[0] }", ReadKind::Syntax),
+    (b"} else", ReadKind::Syntax),
+    (b"if r0 == 1", ReadKind::Syntax),
+    (b"} else {", ReadKind::Misplaced),
+    (b"if r0 == 4294967296 {", ReadKind::LiteralRange),
+    (
         b"r0 = Atomics.compareExchange(U8, 0, 256, 0)",
         ReadKind::LiteralRange,
-    )?;
-    refused_fourth(
-        &rt,
+    ),
+    (
         b"r0 = Atomics.compareExchange(U8, 0, 0, 256)",
         ReadKind::LiteralRange,
-    )?;
-    refused_fourth(
-        &rt,
-        b"r0 = Atomics.exchange(U8, 4, 0)",
-        ReadKind::OutOfBlock,
-    )?;
+    ),
+    (b"r0 = Atomics.exchange(U8, 4, 0)", ReadKind::OutOfBlock),
+];
+
+#[test]
+fn fourth_lines(rt: HostRuntime) -> Result<(), Fail> {
+    for fourth in TAKEN {
+        taken_fourth(&rt, fourth)?;
+    }
+    for (fourth, kind) in REFUSED {
+        refused_fourth(&rt, fourth, kind)?;
+    }
     Ok(())
 }
 
@@ -274,12 +178,8 @@ fn misplaced_parts(rt: HostRuntime) {
 
 /// A text with `count` `if` lines, one inside the other, and then these bytes.
 fn nested(alloc: Global, count: usize, back: &[u8]) -> Result<Vec<u8>, Fail> {
-    let mut text = Vec::from_slice(alloc, b"test t\nbytes 1\nagent A\n")?;
-    for _ in 0..count {
-        text.extend_from_slice(b"if r0 == 0 {\n")?;
-    }
-    text.extend_from_slice(back)?;
-    Ok(text)
+    let front = b"test t\nbytes 1\nagent A\n";
+    repeated(alloc, front, b"if r0 == 0 {\n", count, back)
 }
 
 #[test]
@@ -299,85 +199,51 @@ fn deep_ifs(rt: HostRuntime) -> Result<(), Fail> {
 check A.r0 == 0
 ",
     )?;
-    assert!(rt; read(rt.alloc(), &eight).is_ok());
-    refused(&rt, &nested(rt.alloc(), 9, b"")?, ReadKind::TooDeep, 12);
-    refused(&rt, &nested(rt.alloc(), 4_000, b"")?, ReadKind::TooDeep, 12);
+    taken(&rt, &eight);
+    for count in [9, 4_000] {
+        refused(&rt, &nested(rt.alloc(), count, b"")?, ReadKind::TooDeep, 12);
+    }
     Ok(())
 }
 
-/// A small text whose condition has these many bytes before and behind the comparison.
-fn wrapped(
-    alloc: Global,
-    before: u8,
-    behind: u8,
-    count: usize,
-    closed: usize,
-) -> Result<Vec<u8>, Fail> {
-    let front = repeated(
-        alloc,
-        b"test t\nbytes 1\nagent A\nr0 = U8[0]\ncheck ",
-        before,
-        count,
-        b"A.r0 == 0",
-    )?;
+/// A piece before the comparison and one behind it, and how many of each a condition has.
+type Wrapping = (&'static [u8], &'static [u8], usize, usize);
+
+const FEW: [Wrapping; 2] = [(b"!", b" ", 8, 0), (b"(", b")", 8, 8)];
+
+const MANY: [(Wrapping, ReadKind); 5] = [
+    ((b"!", b" ", 9, 0), ReadKind::TooDeep),
+    ((b"(", b")", 9, 9), ReadKind::TooDeep),
+    ((b"(", b")", 30_000, 30_000), ReadKind::TooDeep),
+    ((b"(", b")", 30_000, 29_999), ReadKind::Syntax),
+    ((b"(", b")", 3, 4), ReadKind::Syntax),
+];
+
+/// A small text whose condition has these many pieces before and behind the comparison.
+fn wrapped(alloc: Global, wrapping: Wrapping) -> Result<Vec<u8>, Fail> {
+    let (before, behind, count, closed) = wrapping;
+    let front = repeated(alloc, CHECKED, before, count, b"A.r0 == 0")?;
     repeated(alloc, &front, behind, closed, b"\n")
 }
 
 #[test]
 fn deep_conditions(rt: HostRuntime) -> Result<(), Fail> {
-    assert!(rt; read(rt.alloc(), &wrapped(rt.alloc(), b'!', b' ', 8, 0)?).is_ok());
-    assert!(rt; read(rt.alloc(), &wrapped(rt.alloc(), b'(', b')', 8, 8)?).is_ok());
-    refused(
-        &rt,
-        &wrapped(rt.alloc(), b'!', b' ', 9, 0)?,
-        ReadKind::TooDeep,
-        5,
-    );
-    refused(
-        &rt,
-        &wrapped(rt.alloc(), b'(', b')', 9, 9)?,
-        ReadKind::TooDeep,
-        5,
-    );
-    refused(
-        &rt,
-        &wrapped(rt.alloc(), b'(', b')', 30_000, 30_000)?,
-        ReadKind::TooDeep,
-        5,
-    );
-    refused(
-        &rt,
-        &wrapped(rt.alloc(), b'(', b')', 30_000, 29_999)?,
-        ReadKind::Syntax,
-        5,
-    );
-    refused(
-        &rt,
-        &wrapped(rt.alloc(), b'(', b')', 3, 4)?,
-        ReadKind::Syntax,
-        5,
-    );
-    let unknown = repeated(
-        rt.alloc(),
-        b"test t\nbytes 1\nagent A\nr0 = U8[0]\ncheck ",
-        b'!',
-        30_000,
-        b"B.r0 == 0",
-    )?;
+    for wrapping in FEW {
+        taken(&rt, &wrapped(rt.alloc(), wrapping)?);
+    }
+    for (wrapping, kind) in MANY {
+        refused(&rt, &wrapped(rt.alloc(), wrapping)?, kind, 5);
+    }
+    let unknown = repeated(rt.alloc(), CHECKED, b"!", 30_000, b"B.r0 == 0")?;
     refused(&rt, &unknown, ReadKind::UnknownName, 5);
     Ok(())
 }
 
 #[test]
 fn many_comparisons(rt: HostRuntime) -> Result<(), Fail> {
-    let mut text = Vec::from_slice(
-        rt.alloc(),
-        b"test t\nbytes 1\nagent A\nr0 = U8[0]\ncheck A.r0==0",
-    )?;
-    for _ in 0..4_999 {
-        text.extend_from_slice(b"&&A.r0==0")?;
-    }
-    let test = read(rt.alloc(), &text).expect(&rt, "a test");
+    let front = b"test t\nbytes 1\nagent A\nr0 = U8[0]\ncheck A.r0==0";
+    let text = repeated(rt.alloc(), front, b"&&A.r0==0", 4_999, b"")?;
+    let test = test_of(&rt, &text);
     match test.check() {
         Cond::All(members) => assert_eq!(rt; members.len(), 5_000),
         _ => panic!(rt; "an all"),

@@ -1,7 +1,8 @@
 //! The lines on which statements begin, and how many statements there are.
 
+use super::asserted::{body_of, test_of};
 use crate::nested::NESTED;
-use lit_read::{count_with_parts, read, statement_count, statement_lines};
+use lit_read::{Stmt, count_with_parts, statement_count, statement_lines};
 use std::alloc::AllocGlobal;
 use std::process::Abort;
 use std::test::Fail;
@@ -39,15 +40,19 @@ fn no_lines(rt: HostRuntime) -> Result<(), Fail> {
     begin_on(&rt, b"\n\n// r0 = U8[0]\n", &[])
 }
 
+/// Asserts that an agent has this many statements, and each of those outside of an `if` this many with its parts.
+fn are_counted(rt: &impl Abort, body: &[Stmt], all: usize, each: &[usize]) {
+    assert_eq!(rt; body.len(), each.len());
+    assert_eq!(rt; statement_count(body), all);
+    for (stmt, count) in body.iter().zip(each.iter()) {
+        assert_eq!(rt; count_with_parts(stmt), *count);
+    }
+}
+
 #[test]
-fn counts_of_nested_ifs(rt: HostRuntime) -> Result<(), Fail> {
-    let test = read(rt.alloc(), NESTED.as_bytes())?;
+fn counts_of_nested_ifs(rt: HostRuntime) {
+    let test = test_of(&rt, NESTED.as_bytes());
     assert_eq!(rt; test.agents(), 2);
-    let body = test.body(0);
-    assert_eq!(rt; statement_count(body), 8);
-    assert_eq!(rt; statement_count(test.body(1)), 1);
-    assert_eq!(rt; body.len(), 3);
-    assert_eq!(rt; count_with_parts(&body[1]), 6);
-    assert_eq!(rt; count_with_parts(&body[2]), 1);
-    Ok(())
+    are_counted(&rt, body_of(&rt, &test, 0), 8, &[1, 6, 1]);
+    are_counted(&rt, body_of(&rt, &test, 1), 1, &[1]);
 }
