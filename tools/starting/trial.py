@@ -23,14 +23,14 @@ OTHERS = {
 # What is said of a fault, and not of how far the build is. Right before it may stand what a command began to say that was
 # given up, as in `find: cannot forkjslit: ..`.
 FAULT = re.compile(r"jslit: (?!proving |\d+ of \d+: |another start |built )")
-# What the stand-in does: `check` may take long, `run` writes a program that prints the digest of the sources and the number
+# What the stand-in does: `lib` may take long, `run` writes a program that prints the digest of the sources and the number
 # of builds so far. It calls the system's own commands, whatever stands before them on the path.
 RT = r"""#!/bin/bash
 said=$PATH PATH=/usr/bin:/bin
 unset FORKS LD_PRELOAD
 case $1 in
     version) echo "${RT_VERSION:-stand-in 1}" ;;
-    check) if [ -n "$RT_CHECK" ]; then PATH=$said; eval "$RT_CHECK"; fi ;;
+    lib) if [ -n "$RT_CHECK" ]; then PATH=$said; eval "$RT_CHECK"; fi ;;
     run)
         mkdir -p out && echo >>../../builds
         cd ..
