@@ -21,7 +21,7 @@ ways_split (ys ∷ rest) (suc i) xs at =
     let later = ways_split rest i xs at in
     (length ys * later.0, length-product ys rest ∙ ap (λ n. length ys * n) later.1 ∙ sym (mul_assoc (length ys) later.0 (length xs * later_ways rest i)))
 
-small_mod : (a m : ℕ) → a < m → a % m ≡ a
+pub small_mod : (a m : ℕ) → a < m → a % m ≡ a
 small_mod a m h = ap (λ n. n % m) (let e : a ≡ 0 * m + a = omega arith in e) ∙ mod-mul-add 0 m a h
 
 -- the member of one list, in the choice of members with a number

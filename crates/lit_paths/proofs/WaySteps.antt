@@ -1,5 +1,7 @@
 -- The ways to choose the sources of a combination's byte reads, one read more at a time.
-use Rattle.std.proofs.Common.{◌≡◌, ℕ, zero, suc, ◌+◌, ◌*◌, ◌/◌, ◌%◌, ◌<◌, ◌≤◌, List, [], ◌∷◌, ◌++◌, length, map, take, drop, get_or, slice_get, Some, Option, option_map, unwrap_or, arith, refl, sym, ap, ◌∙◌, append_assoc, append-nil, length-append}
+use Rattle.std.proofs.Common.{◌≡◌, ℕ, zero, suc, ◌+◌, ◌*◌, ◌/◌, ◌%◌, ◌<◌, ◌≤◌, List, [], ◌∷◌, ◌++◌, length, map, take, drop, get_or, slice_get, Some, Option, option_map, unwrap_or, arith, refl, sym, ap, subst, ◌∙◌, mul_assoc, append_assoc, append-nil, length-append}
+use Rattle.std.proofs.Math.Nat.{add_assoc, add-mul, div-lt_iff_lt-mul, mod-lt, mul-add-div_right, mul-add-mod_self_right}
+use Rattle.std.proofs.lemmas.Nat.{div-add-mod'}
 use Rattle.std.proofs.lemmas.List.{map_more, drop_more, drop_all, take_all, take_more}
 use Rattle.std.proofs.lemmas.Option.{slice_get-get_or, slice_get_within, slice_get-map}
 use Rattle.arrayvec.specs.ArrayVec.{ArrayVec}
@@ -9,7 +11,7 @@ use Rattle.lit_paths.specs.ByteReads.{byte_reads, pair_of}
 use Rattle.lit_paths.specs.Choice.{product, candidates_of, sources_of}
 use Rattle.lit_paths.specs.Internal.CandidateLists.{candidates_for, candidate_lists, ways_after}
 use Rattle.lit_paths.proofs.Products.{length-product, next_places, next_positive, factors-positive, product-known}
-use Rattle.lit_paths.proofs.Digits.{later_ways, ways_split, digit}
+use Rattle.lit_paths.proofs.Digits.{later_ways, ways_split, digit, small_mod}
 
 -- ---- the lists are those of the definition
 pub candidate_lists-are : (events : List Event) (reads : List ByteRead) → map pair_of reads ≡ byte_reads events → candidate_lists events reads ≡ map (candidates_of events) (byte_reads events)
@@ -107,6 +109,47 @@ member_all xss n i sources known past taken =
     let at = slice_get-get_or (product xss) n [] known in
     let long = (product-known xss n (member_at xss n) at).one_each in
     at ∙ ap (λ ws. Some ws) (sym (taken ∙ take_all i (member_at xss n) (omega (arith, long, past))))
+
+-- what is left of a choice's number after the digits of the lists before one
+abbrev IsLeftOf : ℕ → ℕ → ℕ → Type 0
+IsLeftOf n ways left = (taken : ℕ) × (n ≡ taken * ways + left) × (left < ways)
+
+abbrev pub IsLeft : List (List ℕ) → ℕ → ℕ → ℕ → Type 0
+IsLeft xss n i left = IsLeftOf n (length (product (drop i xss))) left
+
+pub left_first : (xss : List (List ℕ)) (n : ℕ) → n < length (product xss) → IsLeft xss n 0 n
+left_first xss n known = (0, omega arith, known)
+
+module _ (xss : List (List ℕ)) (n i left later : ℕ) (xs : List ℕ) (is : IsLeft xss n i left) (here : slice_get xss i ≡ Some xs) (behind : later ≡ later_ways xss i) where
+  split : length (product (drop i xss)) ≡ length xs * later
+  split =
+      let inside : i < length xss = slice_get_within xss i xs here in
+      let at : get_or xss i [] ≡ xs = ap (λ (o : Option (List ℕ)). unwrap_or o []) (sym (slice_get-get_or xss i [] inside) ∙ here) in
+      let next : i + 1 ≡ suc i = omega arith in
+      ap (λ ws. length (product ws)) (drop_more xss i [] inside) ∙ length-product (get_or xss i []) (drop (i + 1) xss)
+      ∙ ap (λ zs. length zs * length (product (drop (i + 1) xss))) at ∙ ap (λ k. length xs * length (product (drop k xss))) next ∙ ap (λ k. length xs * k) (sym behind)
+
+  some : 0 < later
+  some = (factors-positive (length xs) later left (omega (arith, is.2, split))).1
+
+  pub index_within : left / later < length xs
+  index_within = (div-lt_iff_lt-mul some).1 (omega (arith, is.2, split))
+
+  pub index_is : n / later % length xs ≡ left / later
+  index_is =
+      let far : n ≡ (is.0 * length xs) * later + left = is.1 ∙ ap (λ k. is.0 * k + left) split ∙ ap (λ k. k + left) (sym (mul_assoc is.0 (length xs) later)) in
+      ap (λ k. k / later % length xs) far ∙ ap (λ k. k % length xs) (mul-add-div_right some (is.0 * length xs) left) ∙ mul-add-mod_self_right is.0 (length xs) (left / later)
+      ∙ small_mod (left / later) (length xs) index_within
+
+  pub left_next : IsLeft xss n (i + 1) (left % later)
+  left_next =
+      let next : i + 1 ≡ suc i = omega arith in
+      let ways : later ≡ length (product (drop (i + 1) xss)) = behind ∙ ap (λ k. length (product (drop k xss))) (sym next) in
+      let digits : left / later * later + left % later ≡ left = div-add-mod' left later in
+      let whole : n ≡ (is.0 * length xs + left / later) * later + left % later =
+      is.1 ∙ ap (λ k. is.0 * k + left) split ∙ ap (λ k. k + left) (sym (mul_assoc is.0 (length xs) later)) ∙ ap (λ k. is.0 * length xs * later + k) (sym digits)
+      ∙ sym (add_assoc (is.0 * length xs * later) (left / later * later) (left % later)) ∙ ap (λ k. k + left % later) (sym (add-mul (is.0 * length xs) (left / later) later)) in
+      subst (λ k. IsLeftOf n k (left % later)) ways (is.0 * length xs + left / later, whole, mod-lt left some)
 
 -- ---- of the saved lists
 abbrev pub lists_of : List (ArrayVec ℕ) → List (List ℕ)

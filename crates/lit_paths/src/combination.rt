@@ -94,15 +94,14 @@ impl Formed {
     }
 }
 
-/// The candidate that a choice takes for a byte, by the choice's place on its combination: a digit of `place` in a mixed radix,
-/// of which `later` is the weight.
-fn candidate_at(candidates: &[u8], later: u64, place: u64) -> u8
-    requires some { 1 ≤ length candidates.now }
+/// The candidate that a choice takes for a byte: the next digit of `left`, what is left of the choice's place on its combination after
+/// the digits before, in a mixed radix in which this digit has the weight `later`.
+fn candidate_at(candidates: &[u8], later: u64, left: u64) -> u8
     requires later { 1 ≤ later }
-    ensures { slice_get candidates.now (place / later % length candidates.now) ≡ Some result }
+    requires within { left / later < length candidates.now }
+    ensures { slice_get candidates.now (left / later) ≡ Some result }
 {
-    let index = place / later % candidates.len() as u64;
-    candidates[index as usize]
+    candidates[(left / later) as usize]
 }
 
 /// One combination of paths: the path of each agent, all events, the byte reads with the candidates of each, and the
@@ -281,12 +280,15 @@ impl<'p> Combination<'p> {
         ensures of { IsOfCombination self.now.0 n self.now.1 }
         ensures sourced { AreSources (events_in self.now.0 self.now.1) result.items }
     {
-        let place = n - self.first;
         let candidates = self.formed.ways.candidates.as_slice();
         let later = self.formed.ways.later.as_slice();
+        let mut left = n - self.first;
         let mut sources = Sources::new();
         for i in 0..candidates.len() {
-            sources.push(candidate_at(candidates[i].as_slice(), later[i], place));
+            let list = candidates[i].as_slice();
+            let weight = later[i];
+            sources.push(candidate_at(list, weight, left));
+            left %= weight;
         }
         sources
     }
