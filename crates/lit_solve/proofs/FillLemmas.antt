@@ -1,7 +1,7 @@
 -- Leaves: any sources that lie in one have the relations of what it gives. So they are those of a completion exactly if they fill each
 -- read and there is an order of what is given.
 use Rattle.lit_solve.proofs.Words.{◌+◌, ◌<◌, arith, byte_reads, CanSynchronize, does_write, Event, event_at, Execution, first_event, Grows}
-use Rattle.lit_solve.proofs.Words.{HappensBefore, HasFalseGuardOn, HasOrder, HasTearFreeReads, inl, inr, IsBroken, IsOnCombination, IsForbidden}
+use Rattle.lit_solve.proofs.Words.{HappensBefore, HappensBeforeBy, HasFalseGuardOn, IsCandidate, IsForbiddenBy, HasOrder, HasTearFreeReads, inl, inr, IsBroken, IsOnCombination, IsForbidden}
 use Rattle.lit_solve.proofs.Words.{IsForbiddenBetween, IsMemoryOrder, IsOrderOf, IsTrue, IsWalkIn, Laws, length, List, None, none-some}
 use Rattle.lit_solve.proofs.Words.{number_on, Option, ReadsByteFrom, refl, same_Some, slice_get_within, Some, StepBy, subst, sym}
 use Rattle.lit_solve.proofs.Words.{SynchronizesBy, walk_in, ℕ, ◌≡◌, ◌≢◌, ◌⊎◌}
@@ -25,6 +25,38 @@ effect_synchronized events w r writes other can = grind arith
 -- a source and its read, between which some event may not stand
 effect_between : (events : List Event) (before : ℕ → ℕ → Type 0) (w r v : ℕ) → IsForbiddenBetween events before w r v → HasEffect events w r
 effect_between events before w r v between = grind arith
+
+-- ---- sources of byte reads, of which those that are not given have no effect: they add nothing
+module _ (box : Box) (from : ℕ → ℕ → ℕ → Type 0) (candidate : (r b w : ℕ) → from r b w → IsCandidate (box_events box) r b w)
+    (given_or_idle : (r b w : ℕ) → from r b w → GivenIn box r b w ⊎ ¬ HasEffect (box_events box) w r) where
+  synchronizes_added : (w r : ℕ) → SynchronizesBy (box_events box) from w r → SynchronizesBy (box_events box) (GivenIn box) w r
+  synchronizes_added w r s =
+      let is = candidate r s.reads.0 w s.reads.1 in record {
+        reads = elim (given_or_idle r s.reads.0 w s.reads.1) [
+          | inl given ↦ (s.reads.0, given)
+          | inr idle ↦ absurd (idle (effect_synchronized (box_events box) w r is.writes is.other s.can))
+        ];
+        can = s.can;
+      }
+
+  step_added : (e d : ℕ) → StepBy (box_events box) from e d → StepBy (box_events box) (GivenIn box) e d
+  step_added e d h = elim h [ inl order ↦ inl order | inr rest ↦ inr (elim rest [ inl s ↦ inl (synchronizes_added e d s) | inr made ↦ inr made ]) ]
+
+  pub before_added : (e d : ℕ) → HappensBeforeBy (box_events box) from e d → HappensBeforeIn box e d
+  before_added e d h = record {
+    middles = h.middles;
+    chain = Chain-same (StepBy (box_events box) from) (StepBy (box_events box) (GivenIn box)) step_added e h.middles d h.chain;
+  }
+
+  pub forbidden_added : (w r v : ℕ) → IsForbiddenBy (box_events box) from w r v → IsForbiddenIn box w r v
+  forbidden_added w r v f =
+      let between = between_by (box_events box) (HappensBeforeBy (box_events box) from) (HappensBeforeIn box) before_added w r v f.between in record {
+        reads = elim (given_or_idle r f.reads.0 w f.reads.1) [
+          | inl given ↦ (f.reads.0, given)
+          | inr idle ↦ absurd (idle (effect_between (box_events box) (HappensBeforeIn box) w r v between))
+        ];
+        between = between;
+      }
 
 -- ---- sources that lie in a box
 module _ (box : Box) (sources : List ℕ) (lie : AreSourcesIn box sources) where
@@ -60,17 +92,14 @@ module _ (box : Box) (sources : List ℕ) (lie : AreSourcesIn box sources) where
         }
         by (inr idle) = inr (idle r b w f.1 there)
 
-    synchronizes_back : (w r : ℕ) → SynchronizesBy events from w r → SynchronizesBy events (GivenIn box) w r
-    synchronizes_back w r s = grind (arith, effect_synchronized, given_or_idle)
-
-    step_back : (e d : ℕ) → StepBy events from e d → StepBy events (GivenIn box) e d
-    step_back e d h = grind (arith, synchronizes_back)
+    candidate_of : (r b w : ℕ) → from r b w → IsCandidate events r b w
+    candidate_of r b w f = lie.sourced.each f.0 r b w f.1 f.2
 
     pub before_back : (e d : ℕ) → HappensBefore events sources e d → HappensBeforeIn box e d
-    before_back e d h = grind (arith, Chain-same, step_back)
+    before_back = before_added box from candidate_of given_or_idle
 
     pub forbidden_back : (w r v : ℕ) → IsForbidden events sources w r v → IsForbiddenIn box w r v
-    forbidden_back w r v f = grind (arith, before_back, between_by, effect_between, given_or_idle)
+    forbidden_back = forbidden_added box from candidate_of given_or_idle
 
     -- an order of what is given is one of theirs
     pub order_back_in : (order : List ℕ) → IsOrderOf (length events) (HappensBeforeIn box) (IsForbiddenIn box) order → IsMemoryOrder events sources order

@@ -1,15 +1,19 @@
 -- Frames before any propagation, and boxes with a cut domain.
 use Rattle.lit_solve.proofs.Words.{◌<◌, [], arith, common_steps, EventSet, Execution, Given, HappensBefore, HasEvent, Holds, IsTransitive}
-use Rattle.lit_solve.proofs.Words.{length, ReadsByteFrom, rows_len, slice_get, Some, TwoWayRows, ℕ, ◌↔◌, ◌≡◌}
+use Rattle.lit_solve.proofs.Words.{byte_reads, cases_eq, inl, inr, IsCandidate, subst, ◌⊎◌, length, ReadsByteFrom, rows_len, slice_get, Some, TwoWayRows, ℕ, ◌↔◌, ◌≡◌}
 use Rattle.lit_rel.proofs.ChainLemmas.{Chain-append}
 use Rattle.lit_rel.proofs.GrowthLemmas.{Grows-from}
+use Rattle.lit_order.proofs.ForcingLemmas.{IsForced-grow}
+use Rattle.lit_solve.specs.declared.frame.Frame.{Frame}
+use Rattle.lit_solve.specs.Fill.{HasEffect}
 use Rattle.lit_solve.specs.Box.{Box, HasEmptyDomain, HasSource, IsBox, box_events}
 use Rattle.lit_solve.specs.Completion.{IsCompletion}
-use Rattle.lit_solve.specs.Given.{GivenIn, HappensBeforeIn}
+use Rattle.lit_solve.specs.Given.{GivenIn, HappensBeforeIn, HasAlone, IsForbiddenIn, IsForcedIn}
 use Rattle.lit_solve.specs.Internal.Frames.{IsContained}
 use Rattle.lit_solve.specs.Internal.Pruning.{Prunes}
-use Rattle.lit_solve.specs.Internal.Settled.{IsCut, TakesFrom}
-use Rattle.lit_solve.proofs.DomainLemmas.{completion_at, domain_here, pruned_at, pruned_within}
+use Rattle.lit_solve.specs.Internal.Settled.{IsCut, IsSettled, TakesFrom}
+use Rattle.lit_solve.proofs.DomainLemmas.{completion_at, domain_here, frame_at, pruned_at, pruned_contained, pruned_is_box, pruned_within, source_other}
+use Rattle.lit_solve.proofs.FillLemmas.{before_added, forbidden_added}
 
 module _ (box : Box) (order : TwoWayRows) (len : rows_len order.rows ≡ length (box_events box)) (pairs : (e d : ℕ) → Holds order.rows e d ↔ HappensBefore (box_events box) [] e d) where
   no_byte : (r b w : ℕ) → ReadsByteFrom (box_events box) [] r b w → GivenIn box r b w
@@ -50,3 +54,46 @@ module _ (box : Box) (place : ℕ) (set left : EventSet) (room : place < length 
   -- pruned further it is the cut
   pub cut_on : (now : Box) → Prunes (pruned_at box place left) now → IsCut box place set now
   cut_on now on = grind (arith, common_steps, completion_taken, domain_here, left_within, pruned_within)
+
+-- ---- a restricted domain that gives no source with an effect: what is settled stays so
+module _ (box : Box) (frame : Frame) (settled : IsSettled box frame) (place : ℕ) (left : EventSet) (room : place < length box.domains)
+    (within : (w : ℕ) → HasEvent left w → HasSource box place w) (some : (w : ℕ) × HasEvent left w)
+    (idle : (r b w : ℕ) → slice_get (byte_reads (box_events box)) place ≡ Some (r, b) → HasAlone (pruned_at box place left) place w → ¬ HasEffect (box_events box) w r) where
+  abbrev now : Box
+  now = pruned_at box place left
+
+  given_or_idle : (r b w : ℕ) → GivenIn now r b w → GivenIn box r b w ⊎ ¬ HasEffect (box_events box) w r
+  given_or_idle r b w g = elim (cases_eq g.place place) [
+    | inl here ↦
+        inr (idle r b w (subst (λ (k : ℕ). slice_get (byte_reads (box_events box)) k ≡ Some (r, b)) here g.is_read) (subst (λ (k : ℕ). HasAlone now k w) here g.alone))
+    | inr other ↦ inl record {
+      place = g.place;
+      is_read = g.is_read;
+      alone = record {
+        there = (pruned_within box place left room within).domains g.place w g.alone.there;
+        alone = λ v there. g.alone.alone v (source_other box place left room g.place v other there);
+      };
+    }
+  ]
+
+  candidate : (r b w : ℕ) → GivenIn now r b w → IsCandidate (box_events box) r b w
+  candidate r b w g = (pruned_is_box box place left room within settled.exact.contained.is_box).candidates g.place r b w g.is_read g.alone.there
+
+  before_back : (a d : ℕ) → HappensBeforeIn now a d → HappensBeforeIn box a d
+  before_back = before_added box (GivenIn now) candidate given_or_idle
+
+  forced_back : (a d : ℕ) → IsForcedIn now a d → IsForcedIn box a d
+  forced_back =
+      IsForced-grow (HappensBeforeIn now) (HappensBeforeIn box) (IsForbiddenIn now) (IsForbiddenIn box) (λ a d h. Given (before_back a d h))
+      (forbidden_added box (GivenIn now) candidate given_or_idle)
+
+  pub settled_still : IsSettled now (frame_at frame place left)
+  settled_still = record {
+    exact = record {
+      contained = pruned_contained box place left room within frame settled.exact.contained some;
+      before = λ a d h. settled.exact.before a d (before_back a d h);
+      forced = λ a d h. settled.exact.forced a d (forced_back a d h);
+    };
+    acyclic = λ e h. settled.acyclic e (forced_back e e h);
+    coherent = λ k r b w at there. settled.coherent k r b w at ((pruned_within box place left room within).domains k w there);
+  }

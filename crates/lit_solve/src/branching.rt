@@ -40,7 +40,7 @@ fn with_fewest(frame: &Frame, other: Option<usize>, place: usize) -> usize
 
 impl Problem<'_> {
     /// Whether a source can force anything if a read reads a byte from it. Both are event numbers.
-    fn has_effect(&self, source: usize, read: usize) -> bool
+    pub(crate) fn has_effect(&self, source: usize, read: usize) -> bool
         requires source { source < length (events_on self.now) }
         requires read { read < length (events_on self.now) }
         ensures { IsTrue result ↔ HasEffect (events_on self.now) source read }

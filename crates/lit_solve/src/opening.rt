@@ -1,11 +1,13 @@
 //! How a search gets frames: it opens one for a box, and cuts a domain of one at each branch.
 
-ghost use Rattle.std.specs.Prelude.{◌≡◌, ◌↔◌, ℕ, ◌<◌, IfNone, IfSome, IsFalse, IsTrue, length};
+ghost use Rattle.std.specs.Prelude.{◌≡◌, ◌↔◌, ℕ, ◌<◌, IfNone, IfSome, IsFalse, IsTrue, Some, length, slice_get};
 ghost use Rattle.lit_paths.specs.ByteReads.{byte_reads};
 ghost use Rattle.lit_paths.specs.Execution.{Execution};
 ghost use Rattle.lit_rel.specs.EventSet.{HasEvent};
 ghost use Rattle.lit_solve.specs.Box.{HasEmptyDomain, HasSource, IsBox, box_with, events_on};
 ghost use Rattle.lit_solve.specs.Completion.{IsCompletion};
+ghost use Rattle.lit_solve.specs.Fill.{HasEffect};
+ghost use Rattle.lit_solve.specs.Given.{HasAlone};
 ghost use Rattle.lit_solve.specs.Internal.Frames.{IsContained, box_of};
 ghost use Rattle.lit_solve.specs.Internal.Pruning.{HasNoCompletion, Prunes, size_of};
 ghost use Rattle.lit_solve.specs.Internal.Settled.{IsCut, IsSettled, TakesFrom};
@@ -95,6 +97,20 @@ impl Problem<'_> {
         frame.domains[place]
     }
 
+    /// Whether the byte read at a place has one source left, and this can force something.
+    fn forces(&self, frame: &Frame, place: usize) -> bool
+        requires place { place < length (byte_reads (events_on self.now)) }
+        requires contained { IsContained (box_of self.now frame.now) frame.now }
+        ensures { IsFalse result → (r b w : ℕ) → slice_get (byte_reads (events_on self.now)) place ≡ Some (r, b)
+            → HasAlone (box_of self.now frame.now) place w → ¬ HasEffect (events_on self.now) w r }
+    {
+        let read = usize::from(self.byte_read(place).read);
+        match self.given(frame, place) {
+            Some(source) => self.has_effect(source, read),
+            None => false,
+        }
+    }
+
     /// Restricts the domain of the byte read at a place to a set, and propagates. Answers `false` if that shows that no completion has a
     /// source of the set there. Checks only this read for filling (decision 35).
     pub(crate) fn cut(&self, frame: &mut Frame, place: usize, set: EventSet) -> bool
@@ -115,6 +131,10 @@ impl Problem<'_> {
             return false;
         }
         frame.domains[place] = left;
-        self.propagate(frame) && self.can_fill(&frame.domains, read)
+        // A source without an effect adds nothing to the relations, so that nothing follows from it but for its own read.
+        if self.forces(&*frame, place) && !self.propagate(frame) {
+            return false;
+        }
+        self.can_fill(&frame.domains, read)
     }
 }

@@ -19,8 +19,8 @@ loop-place-preserved c =
     let box = box_with c.args.self.now c.loop-place.left in
     let was = c.loop-place.invariant in
     let less = c.difference.result in
-    let is : IsProblem c.args.self.now c.self.inside.candidates c.self.inside.refused c.self.inside.peers c.self.inside.names.now =
-    subst (λ (p : Litmus × ℕ). IsProblem p c.self.inside.candidates c.self.inside.refused c.self.inside.peers c.self.inside.names.now) c.self.view_is c.self.invariant in
+    let is : IsProblem c.args.self.now c.self.inside.candidates c.self.inside.refused c.self.inside.peers c.self.inside.ranks c.self.inside.names.now =
+    subst (λ (p : Litmus × ℕ). IsProblem p c.self.inside.candidates c.self.inside.refused c.self.inside.peers c.self.inside.ranks c.self.inside.names.now) c.self.view_is c.self.invariant in
     let room : place < length box.domains = omega (arith, was.len, c.reads-place-end.ensures.few, c.loop-place-test.true) in
     let inside : place < length (byte_reads events) = omega (arith, c.reads-place-end.ensures.value, c.loop-place-test.true) in
     let read = byte_read_at events place in

@@ -1,10 +1,15 @@
-use Rattle.lit_solve.proofs.Words.{◌<◌, ap, arith, length, not}
+use Rattle.lit_solve.proofs.Words.{◌<◌, ap, arith, EventSet, length, not, refl, slice_set, subst, sym, ℕ, ◌≤◌}
+use Rattle.lit_solve.specs.declared.frame.Frame.{Frame}
+use Rattle.lit_solve.specs.Box.{Box}
+use Rattle.lit_solve.specs.Internal.Pruning.{size_of}
+use Rattle.lit_solve.specs.Internal.Settled.{IsCut, IsSettled}
 use Rattle.lit_solve.specs.Internal.Frames.{box_of}
-use Rattle.lit_solve.proofs.DomainLemmas.{pruned_contained, none_at, size_less}
+use Rattle.lit_solve.proofs.DomainLemmas.{pruned_at, pruned_contained, none_at, size_less}
 use Rattle.lit_solve.proofs.FrameLemmas.{not_true}
 use Rattle.lit_solve.proofs.PruningLemmas.{some_exactly}
-use Rattle.lit_solve.proofs.OpeningLemmas.{completion_taken, cut_on, left_within, source_taken}
+use Rattle.lit_solve.proofs.OpeningLemmas.{completion_taken, cut_on, left_within, settled_still, source_taken}
 use Rattle.lit_solve.proofs.problem.Problem.cut.Goals as goal
+use Rattle.lit_solve.proofs.problem.Problem.cut.Goals.{else-forces-via-then-forces+else-not-propagate, else-forces-via-else-forces}
 
 pub returns-then-is_empty-clause-none : goal.returns-then-is_empty-clause-none
 returns-then-is_empty-clause-none c _ x is takes =
@@ -13,6 +18,15 @@ returns-then-is_empty-clause-none c _ x is takes =
     none_at box c.args.place c.intersection-left.result room c.requires.place x is
     (source_taken box c.args.place c.args.set c.intersection-left.result room c.intersection-left.ensures x is takes)
     (c.is_empty.ensures.0 c.if-is_empty.true)
+
+pub forces-requires-clause-contained : goal.forces-requires-clause-contained
+forces-requires-clause-contained c =
+    let box = box_of c.args.self.now c.args.frame.now in
+    let room : c.args.place < length box.domains = omega arith in
+    let some = (some_exactly c.intersection-left.result c.is_empty.result c.is_empty.ensures).0 (ap not c.if-is_empty.false) in
+    pruned_contained box c.args.place c.intersection-left.result room
+    (left_within box c.args.place c.args.set c.intersection-left.result room c.intersection-left.ensures) c.args.frame.now
+    c.requires.settled.exact.contained some
 
 pub propagate-requires : goal.propagate-requires
 propagate-requires c =
@@ -23,51 +37,74 @@ propagate-requires c =
     (left_within box c.args.place c.args.set c.intersection-left.result room c.intersection-left.ensures) c.args.frame.now
     c.requires.settled.exact.contained some
 
+pub returns-then-not-propagate-clause-none : goal.returns-then-not-propagate-clause-none
+returns-then-not-propagate-clause-none c _ x is takes =
+    let box = box_of c.args.self.now c.args.frame.now in
+    let left = c.intersection-left in
+    let room : c.args.place < length box.domains = omega arith in
+    c.propagate.ensures.none c.if-not-propagate.true x (completion_taken box c.args.place c.args.set left.result room left.ensures x is takes)
+
+-- the frame is settled once more, propagated or not
+record IsResettled (old : Box) (place : ℕ) (set : EventSet) (size : ℕ) (new : Box) (frame : Frame) : Type 0 where
+  settled : IsSettled new frame
+  cut : IsCut old place set new
+  small : size_of frame.domains ≤ size
+
+again : (c : goal.Joined-else-forces)
+    → IsResettled (box_of c.args.self.now c.args.frame.now) c.args.place c.args.set (size_of (slice_set c.args.frame.now.domains c.args.place c.intersection-left.result))
+    (box_of c.args.self.now c.else-forces.frame) c.else-forces.frame
+again c =
+    let box = box_of c.args.self.now c.args.frame.now in
+    let place = c.args.place in
+    let left = c.intersection-left in
+    let room : place < length box.domains = omega arith in
+    let Resettled : Frame → Type 0 = λ frame. IsResettled box place c.args.set (size_of (slice_set c.args.frame.now.domains place left.result)) (box_of c.args.self.now frame) frame in
+    let on = cut_on box place c.args.set left.result room left.ensures in
+    elim c.else-forces.branch [
+      | else-forces-via-then-forces+else-not-propagate w ↦
+          let done = w.if-not-propagate.false in
+          subst Resettled (sym w.frame-is) record {
+            settled = record { exact = w.propagate.ensures.exact done; acyclic = w.propagate.ensures.acyclic done; coherent = w.propagate.ensures.coherent done };
+            cut = on (box_of c.args.self.now w.propagate.new.frame) (w.propagate.ensures.prunes done);
+            small = w.propagate.ensures.size done;
+          }
+      | else-forces-via-else-forces w ↦
+          let some = (some_exactly left.result c.is_empty.result c.is_empty.ensures).0 (ap not c.if-is_empty.false) in
+          let same = pruned_at box place left.result in
+          subst Resettled (sym w.frame-is) record {
+            settled = settled_still box c.args.frame.now c.requires.settled place left.result room (left_within box place c.args.set left.result room left.ensures) some
+                (c.forces.ensures w.if-forces.false);
+            cut = on same record { within = record { test = refl; combination = refl; domains = λ k v there. there }; retained = λ x is. is };
+            small = omega arith;
+          }
+    ]
+
 pub can_fill-requires-clause-is_box : goal.can_fill-requires-clause-is_box
-can_fill-requires-clause-is_box c = (c.propagate.ensures.exact c.if-propagate.true).contained.is_box
+can_fill-requires-clause-is_box c = (again c).settled.exact.contained.is_box
 
 pub can_fill-requires-clause-some : goal.can_fill-requires-clause-some
-can_fill-requires-clause-some c = (c.propagate.ensures.exact c.if-propagate.true).contained.some
+can_fill-requires-clause-some c = (again c).settled.exact.contained.some
 
-pub returns-then-propagate-clause-settled : goal.returns-then-propagate-clause-settled
-returns-then-propagate-clause-settled c _ = record {
-  exact = c.propagate.ensures.exact c.if-propagate.true;
-  acyclic = c.propagate.ensures.acyclic c.if-propagate.true;
-  coherent = c.propagate.ensures.coherent c.if-propagate.true;
-}
+pub returns-clause-settled : goal.returns-clause-settled
+returns-clause-settled c _ = (again c.before).settled
 
-pub returns-then-propagate-clause-cut : goal.returns-then-propagate-clause-cut
-returns-then-propagate-clause-cut c _ =
-    let box = box_of c.args.self.now c.args.frame.now in
-    let room : c.args.place < length box.domains = omega arith in
-    cut_on box c.args.place c.args.set c.intersection-left.result room c.intersection-left.ensures
-    (box_of c.args.self.now c.propagate.new.frame) (c.propagate.ensures.prunes c.if-propagate.true)
+pub returns-clause-cut : goal.returns-clause-cut
+returns-clause-cut c _ = (again c.before).cut
 
-pub returns-then-propagate-clause-less : goal.returns-then-propagate-clause-less
-returns-then-propagate-clause-less c _ not_all =
+pub returns-clause-less : goal.returns-clause-less
+returns-clause-less c _ not_all =
     let box = box_of c.args.self.now c.args.frame.now in
     let room : c.args.place < length box.domains = omega arith in
     let less = size_less box c.args.place c.intersection-left.result room
     (left_within box c.args.place c.args.set c.intersection-left.result room c.intersection-left.ensures)
     (λ all. not_all (λ w there. ((c.intersection-left.ensures w).0 (all w there)).1)) in
-    omega (arith, less, c.propagate.ensures.size c.if-propagate.true)
+    omega (arith, less, (again c.before).small)
 
 -- a completion of the box cut would fill the read
-pub returns-then-propagate-clause-none : goal.returns-then-propagate-clause-none
-returns-then-propagate-clause-none c failed x is takes =
-    let box = box_of c.args.self.now c.args.frame.now in
-    let now = box_of c.args.self.now c.propagate.new.frame in
-    let left = c.intersection-left in
-    let room : c.args.place < length box.domains = omega arith in
-    let retained = (c.propagate.ensures.prunes c.if-propagate.true).retained x
-    (completion_taken box c.args.place c.args.set left.result room left.ensures x is takes) in
-    let is_box = (c.propagate.ensures.exact c.if-propagate.true).contained.is_box in
-    let fills = c.completions_fill_each_read.ensures now x c.byte_read-read.result.read is_box retained c.byte_read-read.ensures.read in
+pub returns-clause-none : goal.returns-clause-none
+returns-clause-none c failed x is takes =
+    let resettled = again c.before in
+    let now = box_of c.args.self.now c.else-forces.frame in
+    let fills = c.completions_fill_each_read.ensures now x c.byte_read-read.result.read resettled.settled.exact.contained.is_box
+    (resettled.cut.retained x is takes) c.byte_read-read.ensures.read in
     not_true c.can_fill.result failed (c.can_fill.ensures.1 fills)
-
-pub returns-else-propagate-clause-none : goal.returns-else-propagate-clause-none
-returns-else-propagate-clause-none c _ x is takes =
-    let box = box_of c.args.self.now c.args.frame.now in
-    let left = c.intersection-left in
-    let room : c.args.place < length box.domains = omega arith in
-    c.propagate.ensures.none c.if-propagate.false x (completion_taken box c.args.place c.args.set left.result room left.ensures x is takes)
