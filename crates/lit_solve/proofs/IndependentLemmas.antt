@@ -1,7 +1,7 @@
 -- A box with independent reads and a box within it: as long as each read can still be filled, the relations stay the same, and its reads
 -- stay independent.
 use Rattle.lit_solve.proofs.Words.{◌<◌, AreOfEvents, arith, byte_read_at, byte_reads, cases_eq, Event, EventSet, Execution, HasEvent, inl}
-use Rattle.lit_solve.proofs.Words.{inr, length, List, refl, rules, slice_get, Some, subst, sym, ℕ, ◌∙◌, ◌≡◌}
+use Rattle.lit_solve.proofs.Words.{false≢true, IfNone, IfSome, is_some, IsTrue, None, Option, ◌↔◌, inr, length, List, refl, rules, slice_get, Some, subst, sym, ℕ, ◌∙◌, ◌≡◌}
 use Rattle.lit_rel.proofs.SameRelations.{coherent_read_by}
 use Rattle.lit_order.proofs.SameOrders.{IsLeastOrderOf-same, IsOrderOf-same}
 use Rattle.lit_solve.specs.declared.goal.Goal.TheVariants.{Any}
@@ -10,6 +10,7 @@ use Rattle.lit_solve.specs.Completion.{HasSolution, IsCompletion}
 use Rattle.lit_solve.specs.Fill.{AreCoherentSources, AreSourcesIn, CanFill, IsFilled, IsLeaf}
 use Rattle.lit_solve.specs.Given.{HappensBeforeIn, IsForbiddenIn}
 use Rattle.lit_solve.specs.Internal.Independent.{FillsAll, HasLeastOrderIn, IsIndependent, LieOn}
+use Rattle.lit_solve.specs.Internal.Pruning.{HasNoCompletion}
 use Rattle.lit_solve.proofs.BoxLemmas.{before_grows, forbidden_grows}
 use Rattle.lit_solve.proofs.DescendingLemmas.{alone_stays}
 use Rattle.lit_solve.proofs.DomainLemmas.{pruned_at, pruned_within, none_empty_at, source_other}
@@ -21,6 +22,12 @@ use Rattle.lit_solve.proofs.TogetherLemmas.{on_read, replaced, replaced_fill, re
 -- there is a completion
 pub independent_solution : (box : Box) → IsIndependent box → IsFilledReadByRead box → HasSolution box Any
 independent_solution box is law = grind arith
+
+-- so a leaf, of which it is known whether its reads are independent or it has no completion, has one exactly in the first case
+pub leaf_decided : {A : Type 0} (box : Box) → IsFilledReadByRead box → (found : Option A) → IfSome found (λ _. IsIndependent box)
+    → IfNone found (HasNoCompletion box) → IsTrue (is_some found) ↔ HasSolution box Any
+leaf_decided box law None _ none = ((λ never. absurd (false≢true never)), (λ solution. absurd (none solution.0 solution.1.completes)))
+leaf_decided box law (Some _) independent _ = ((λ _. independent_solution box independent law), (λ _. refl))
 
 -- sources that lie in the box and fill each read are those of a completion
 pub completes_with : (box : Box) → IsIndependent box → IsFilledReadByRead box → (sources : List ℕ) → AreSourcesIn box sources

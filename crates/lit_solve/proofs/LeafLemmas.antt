@@ -1,6 +1,6 @@
 -- Leaves: when a settled frame in which no open byte read can force anything has a completion.
 use Rattle.lit_solve.proofs.Words.{◌<◌, arith, Execution, false≢true, Given, HasFalseGuardOn, HasOrder, Holds, IfNone, IfSome, is_some}
-use Rattle.lit_solve.proofs.Words.{IsLeastOrderOf, IsOrderOf, IsTrue, length, List, None, Option, refl, ℕ, ◌↔◌, ◌≡◌}
+use Rattle.lit_solve.proofs.Words.{IsLeastOrderOf, IsOrderOf, IsTrue, length, List, None, Option, refl, Some, ℕ, ◌↔◌, ◌≡◌}
 use Rattle.lit_rel.proofs.SameRelations.{coherent_read_by}
 use Rattle.lit_solve.specs.declared.frame.Frame.{Frame}
 use Rattle.lit_solve.specs.declared.goal.Goal.TheVariants.{Any}
@@ -8,6 +8,8 @@ use Rattle.lit_solve.specs.Box.{Box, IsBox, box_events}
 use Rattle.lit_solve.specs.Completion.{HasSolution, IsCompletion}
 use Rattle.lit_solve.specs.Fill.{AreCoherentSources, AreSourcesIn, CanFill, IsFilled, IsLeaf}
 use Rattle.lit_solve.specs.Given.{HappensBeforeIn, IsForbiddenIn}
+use Rattle.lit_solve.specs.Internal.Independent.{HasLeastOrderIn, IsIndependent}
+use Rattle.lit_solve.specs.Internal.Pruning.{HasNoCompletion}
 use Rattle.lit_solve.specs.Internal.Settled.{IsSettled}
 use Rattle.lit_solve.proofs.FillLemmas.{sources_lie}
 
@@ -37,12 +39,6 @@ module _ (box : Box) (frame : Frame) (settled : IsSettled box frame) where
     by_law : (sources : List ℕ) → AreSourcesIn box sources → ((x : Execution) × IsCompletion box x × (x.sources ≡ sources)) ↔ AreFilling box sources
     by_law sources lie = law sources settled.exact.contained.is_box leaf coherent_sources no_cycle lie
 
-    -- sources that fill each read are those of a completion
-    pub completion_found : ¬ HasFalseGuardOn box.test box.combination None 0
-        → ((sources : List ℕ) × AreSourcesIn box sources × ((r : ℕ) → r < length (box_events box) → IsFilled box r sources))
-        → HasOrder (length (box_events box)) (HappensBeforeIn box) (IsForbiddenIn box) → HasSolution box Any
-    completion_found unwritten fills ordered = grind (arith, by_law)
-
     -- what follows from a completion
     module _ (h : HasSolution box Any) where
       parts : AreFilling box h.0.sources
@@ -57,8 +53,25 @@ module _ (box : Box) (frame : Frame) (settled : IsSettled box frame) where
       pub has_order : HasOrder (length (box_events box)) (HappensBeforeIn box) (IsForbiddenIn box)
       has_order = parts.2
 
--- a call that answers the least order if there is any: there is one exactly if it answers one
-pub order_is_some : {A : Type 0} (found : Option A) (items : A → List ℕ) (n : ℕ) (before : ℕ → ℕ → Type 0) (forbidden : ℕ → ℕ → ℕ → Type 0)
-    → IfSome found (λ order. IsLeastOrderOf n before forbidden (items order)) → IfNone found ((order : List ℕ) → ¬ IsOrderOf n before forbidden order)
-    → IsTrue (is_some found) ↔ HasOrder n before forbidden
-order_is_some found items n before forbidden least none = grind (arith, false≢true)
+    -- with an order of what it gives it has independent reads, and without one no completion
+    pub independent_if : {A : Type 0} (found : Option A) (order : A → List ℕ) → IfSome found (λ a. HasLeastOrderIn box (order a))
+        → ¬ HasFalseGuardOn box.test box.combination None 0
+        → ((sources : List ℕ) × AreSourcesIn box sources × ((r : ℕ) → r < length (box_events box) → IsFilled box r sources))
+        → IfSome found (λ _. IsIndependent box)
+    independent_if None order least unwritten filled = least
+    independent_if (Some a) order least unwritten filled = record {
+      is_box = settled.exact.contained.is_box;
+      some = settled.exact.contained.some;
+      leaf = leaf;
+      coherent = coherent_sources;
+      acyclic = no_cycle;
+      unwritten = unwritten;
+      ordered = (order a, least.is_order);
+      filled = record { sources = filled.0; lie = filled.1; each = filled.2 };
+    }
+
+    pub none_if : {A : Type 0} (found : Option A)
+        → IfNone found ((order : List ℕ) → ¬ IsOrderOf (length (box_events box)) (HappensBeforeIn box) (IsForbiddenIn box) order)
+        → IfNone found (HasNoCompletion box)
+    none_if None none = λ x is. let order = has_order (x, record { completes = is; meets = tt }) in none order.0 order.1
+    none_if (Some a) none = none

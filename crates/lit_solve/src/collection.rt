@@ -19,7 +19,6 @@ use crate::domains::Domains;
 use crate::frame::Frame;
 use crate::goal::Goal;
 use crate::heartbeat::Heartbeat;
-use crate::laws::{leaves_are_filled_read_by_read, reads_are_filled_together};
 use crate::least_search::Least;
 use crate::numbering::number_of;
 use crate::observation::Values;
@@ -136,17 +135,8 @@ impl Problem<'_> {
         ensures added { AddsEntries (box_of self.now frame.now) (T.entries table.old) (T.entries table.new) }
         ensures whole { OnOk result (HasEachOutcome (box_of self.now frame.now) (T.entries table.new)) }
     {
-        reads_are_filled_together();
-        leaves_are_filled_read_by_read();
-        // Each of the three checks may find that the leaf is infeasible: `doubt` stays set then.
-        *doubt = true;
-        if self.has_false_unwritten() {
-            return Ok(());
-        }
-        if !self.can_fill_each(&frame.domains) {
-            return Ok(());
-        }
-        let Some(order) = self.least_order(frame) else {
+        let Some(order) = self.leaf_order(frame) else {
+            *doubt = true;
             return Ok(());
         };
         *doubt = false;

@@ -68,6 +68,14 @@ impl Problem<'_> {
             (λ least. IsLeastSolution (box_of self.now frame.now) goal least.sources.items least.order.items) }
     {
         leaves_have_one_order();
+        // The reads of a leaf take their least sources one by one, without a search.
+        if goal == Goal::Any && self.branch(frame).is_none() {
+            let order = self.leaf_order(frame)?;
+            return Some(Least {
+                sources: self.least_filling(&frame.domains),
+                order,
+            });
+        }
         let mut down = *frame;
         if !self.find_least(&mut down, goal) {
             return None;

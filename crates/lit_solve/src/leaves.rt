@@ -1,7 +1,7 @@
 //! Leaves of the search: whether a settled frame in which no open byte read can force anything has a completion. And possible data
 //! races of a frame (ECMA-262, 2024, 29.8 and 29.9).
 
-ghost use Rattle.std.specs.Prelude.{◌↔◌, ℕ, ◌<◌, IsTrue, length};
+ghost use Rattle.std.specs.Prelude.{◌↔◌, ℕ, ◌<◌, IfNone, IfSome, IsTrue, length};
 ghost use Rattle.lit_paths.specs.ByteReads.{byte_reads};
 ghost use Rattle.lit_rel.specs.Racing.{AreApart, HasApartPair, WritesWith};
 ghost use Rattle.lit_rel.specs.Rows.{Holds};
@@ -10,13 +10,16 @@ ghost use Rattle.lit_solve.specs.Completion.{HasSolution};
 ghost use Rattle.lit_solve.specs.Fill.{CanFill, IsLeaf};
 ghost use Rattle.lit_solve.specs.declared.goal.Goal.TheVariants.{Any};
 ghost use Rattle.lit_solve.specs.Internal.Frames.{IsContained, IsExact, box_of};
+ghost use Rattle.lit_solve.specs.Internal.Independent.{HasLeastOrderIn, IsIndependent};
 ghost use Rattle.lit_solve.specs.Internal.Leaves.{CanFillAt, MayHave, RacesAt, RacesIn};
+ghost use Rattle.lit_solve.specs.Internal.Pruning.{HasNoCompletion};
 ghost use Rattle.lit_solve.specs.Internal.Settled.{IsSettled};
 
 use crate::domains::{Domains, set_of};
 use crate::frame::Frame;
 use crate::laws::{leaves_are_filled_read_by_read, reads_are_filled_together};
 use crate::problem::Problem;
+use lit_order::Order;
 use lit_rel::{are_apart, has_racing_writes};
 
 impl Problem<'_> {
@@ -34,19 +37,34 @@ impl Problem<'_> {
         true
     }
 
-    /// Whether a leaf has a completion. Its reads are filled one by one, and each order of what is given is a memory-order of each
-    /// completion.
+    /// The least memory-order of the completions of a leaf, or `None` exactly if it has none. Its reads are filled one by one, and each
+    /// order of what is given is a memory-order of each completion.
+    pub(crate) fn leaf_order(&self, frame: &Frame) -> Option<Order>
+        requires settled { IsSettled (box_of self.now frame.now) frame.now }
+        requires leaf { IsLeaf (box_of self.now frame.now) }
+        ensures independent { IfSome result (λ _. IsIndependent (box_of self.now frame.now)) }
+        ensures least { IfSome result (λ order. HasLeastOrderIn (box_of self.now frame.now) order.items) }
+        ensures none { IfNone result (HasNoCompletion (box_of self.now frame.now)) }
+    {
+        reads_are_filled_together();
+        leaves_are_filled_read_by_read();
+        if self.has_false_unwritten() {
+            return None;
+        }
+        if !self.can_fill_each(&frame.domains) {
+            return None;
+        }
+        self.least_order(frame)
+    }
+
+    /// Whether a leaf has a completion.
     pub(crate) fn has_completion(&self, frame: &Frame) -> bool
         requires settled { IsSettled (box_of self.now frame.now) frame.now }
         requires leaf { IsLeaf (box_of self.now frame.now) }
         ensures { IsTrue result ↔ HasSolution (box_of self.now frame.now) Any }
     {
-        reads_are_filled_together();
         leaves_are_filled_read_by_read();
-        if self.has_false_unwritten() {
-            return false;
-        }
-        self.can_fill_each(&frame.domains) && self.least_order(frame).is_some()
+        self.leaf_order(frame).is_some()
     }
 
     /// Whether two events are in a data race where both write a byte or one reads from the other, by a frame's happens-before.

@@ -1,7 +1,15 @@
+use Rattle.lit_solve.proofs.Words.{false, false≢true, IfNone, is_some, None, Option, Some, sym, ℕ, ◌≡◌}
 use Rattle.lit_solve.specs.Internal.Frames.{box_of}
 use Rattle.lit_solve.proofs.FillLemmas.{order_given}
 use Rattle.lit_solve.proofs.LeastLemmas.{least_found}
 use Rattle.lit_solve.proofs.problem.Problem.least.Goals as goal
+
+leaf_of : {P : Type 0} (found : Option ℕ) → is_some found ≡ false → IfNone found P → P
+leaf_of None _ leaf = leaf
+leaf_of (Some _) never _ = absurd (false≢true (sym never))
+
+pub leaf_order-requires-clause-leaf : goal.leaf_order-requires-clause-leaf
+leaf_order-requires-clause-leaf c = leaf_of c.branch-self.result c.if-is_none.ensures c.branch-self.ensures.leaf
 
 pub returns-in-Some : goal.returns-in-Some
 returns-in-Some c =
