@@ -1,6 +1,6 @@
 -- Leaves: when a settled frame in which no open byte read can force anything has a completion.
-use Rattle.lit_solve.proofs.Words.{◌<◌, arith, Execution, false≢true, Given, HasFalseGuardOn, HasOrder, Holds, IfNone, IfSome, is_some}
-use Rattle.lit_solve.proofs.Words.{IsLeastOrderOf, IsOrderOf, IsTrue, length, List, None, Option, refl, Some, ℕ, ◌↔◌, ◌≡◌}
+use Rattle.lit_solve.proofs.Words.{◌<◌, Execution, Given, HasFalseGuardOn, HasOrder, Holds, IfNone, IfSome}
+use Rattle.lit_solve.proofs.Words.{IsOrderOf, length, List, None, Option, refl, Some, ℕ, ◌↔◌, ◌≡◌}
 use Rattle.lit_rel.proofs.SameRelations.{coherent_read_by}
 use Rattle.lit_solve.specs.declared.frame.Frame.{Frame}
 use Rattle.lit_solve.specs.declared.goal.Goal.TheVariants.{Any}
