@@ -84,22 +84,6 @@ impl Problem<'_> {
         has_racing_writes(self.events(), &frame.happens_before.rows)
     }
 
-    /// Whether the read at a place can be filled if this source is the only one in the domain there.
-    fn can_fill_from(&self, frame: &Frame, place: usize, source: usize) -> bool
-        requires contained { IsContained (box_of self.now frame.now) frame.now }
-        requires place { place < length (byte_reads (events_on self.now)) }
-        requires there { HasSource (box_of self.now frame.now) place source }
-        ensures { IsTrue result ↔ CanFillAt (box_of self.now frame.now) place source }
-    {
-        // For the prover: a set has room for each event of a combination.
-        let _events = self.events();
-        let _reads = self.reads();
-        let read = self.byte_read(place).read;
-        let mut alone = frame.domains;
-        alone[place] = set_of(source);
-        self.can_fill(&alone, read)
-    }
-
     /// Whether the read at a place may have this source of the domain there. With `filling`, only if it can be filled with it.
     fn may_have(&self, frame: &Frame, place: usize, source: usize, filling: bool) -> bool
         requires contained { IsContained (box_of self.now frame.now) frame.now }
@@ -107,11 +91,16 @@ impl Problem<'_> {
         requires there { HasSource (box_of self.now frame.now) place source }
         ensures { IsTrue result ↔ MayHave (box_of self.now frame.now) filling place source }
     {
-        if filling {
-            self.can_fill_from(frame, place, source)
-        } else {
-            true
+        if !filling {
+            return true;
         }
+        // For the prover: a set has room for each event of a combination.
+        let _events = self.events();
+        let _reads = self.reads();
+        let read = self.byte_read(place).read;
+        let mut alone = frame.domains;
+        alone[place] = set_of(source);
+        self.can_fill(&alone, read)
     }
 
     /// Whether the read at a place is in a data race with a source that it may have there.
