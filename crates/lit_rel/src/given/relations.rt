@@ -1,8 +1,7 @@
 //! The relations of a candidate execution (ECMA-262, 2024, 29.6), for the sources given so far, as `Rows`.
 
-ghost use Rattle.std.specs.Prelude.{◌≡◌, ◌⊎◌, ◌↔◌, ℕ, IsTrue, Some, List, [], ◌∷◌, ◌++◌, length, slice_get};
+ghost use Rattle.std.specs.Prelude.{◌≡◌, ◌↔◌, ℕ, IsTrue, Some, List, [], ◌∷◌, ◌++◌, length, slice_get};
 ghost use Rattle.lit_paths.specs.ByteReads.{byte_reads};
-ghost use Rattle.lit_paths.specs.Event.{event_at as event_of};
 ghost use Rattle.lit_rel.specs.Internal.Given.{IsKnown, read_of, sources_of};
 ghost use Rattle.lit_rel.specs.Internal.PrefixStates.{IsOrder};
 ghost use Rattle.lit_rel.specs.ReadsFrom.{ReadsFrom};
@@ -56,22 +55,11 @@ impl Given<'_> {
     {
         let mut rows = Rows::new(self.events.len());
         for byte in self.bytes {
-            self.put_synchronizing(&mut rows, *byte);
+            let (source, read) = (usize::from(byte.source), usize::from(byte.read));
+            if can_synchronize(event_at(self.events, source), event_at(self.events, read)) {
+                rows.put(source, read);
+            }
         }
         rows
-    }
-
-    /// Adds the pair of a byte's source and read, where they synchronize.
-    fn put_synchronizing(&self, rows: &mut Rows, byte: SourcedByte)
-        requires known { IsKnown (length self.now.events.now) byte }
-        requires len { rows_len rows.old ≡ length self.now.events.now }
-        ensures len { rows_len rows.new ≡ rows_len rows.old }
-        ensures pairs { (w r : ℕ) → Holds rows.new w r ↔ (Holds rows.old w r ⊎ ((w ≡ byte.source) × (r ≡ byte.read)
-            × CanSynchronize (event_of self.now.events.now byte.source) (event_of self.now.events.now byte.read))) }
-    {
-        let (source, read) = (usize::from(byte.source), usize::from(byte.read));
-        if can_synchronize(event_at(self.events, source), event_at(self.events, read)) {
-            rows.put(source, read);
-        }
     }
 }
