@@ -18,20 +18,11 @@ pub fn unsourced_order(events: &[Event]) -> TwoWayRows
     ensures len { rows_len result.rows ≡ length events.now }
     ensures pairs { (e d : ℕ) → Holds result.rows e d ↔ HappensBefore events.now [] e d }
 {
-    TwoWayRows::closed(&fixed_steps(events))
-}
-
-/// The steps of happens-before that no source decides, as a relation.
-fn fixed_steps(events: &[Event]) -> Rows
-    requires { length events.now ≤ EVENT_LIMIT }
-    ensures len { rows_len result ≡ length events.now }
-    ensures pairs { (e d : ℕ) → Holds result e d ↔ IsFixedStep events.now e d }
-{
-    let mut rows = Rows::new(events.len());
+    let mut steps = Rows::new(events.len());
     for first in 0..events.len() {
-        rows.put_all(first, steps_from(events, first));
+        steps.put_all(first, steps_from(events, first));
     }
-    rows
+    TwoWayRows::closed(&steps)
 }
 
 /// The events that an event comes before in such a step.
