@@ -1,5 +1,5 @@
 -- Data races, by pairs of events that are apart.
-use Rattle.std.proofs.Common.{◌≡◌, ◌≢◌, ◌↔◌, ◌⊎◌, ℕ, ◌<◌, List, length, arith, inl, inr}
+use Rattle.std.proofs.Common.{◌≢◌, ◌↔◌, ◌⊎◌, ℕ, ◌<◌, List, length, arith, inl, inr}
 use Rattle.std.proofs.lemmas.Bool.{cases_lt}
 use Rattle.lit_paths.specs.declared.event.Event.{Event}
 use Rattle.lit_paths.specs.Event.{HasSameRange, event_at}
