@@ -18,13 +18,10 @@ fn pair_allows(pair: &Pair, event: usize, placed: EventSet) -> bool
     ensures { IsTrue result ↔ (HasEvent pair.now.others event → HasEvent placed pair.now.source →
         (pair.now.read ≡ event) ⊎ HasEvent placed pair.now.read) }
 {
-    if !pair.others.contains(event) {
-        return true;
-    }
-    if !placed.contains(usize::from(pair.source)) {
-        return true;
-    }
-    usize::from(pair.read) == event || placed.contains(usize::from(pair.read))
+    !pair.others.contains(event)
+        || !placed.contains(usize::from(pair.source))
+        || usize::from(pair.read) == event
+        || placed.contains(usize::from(pair.read))
 }
 
 /// Whether the forbidden triples let an event stand next after the placed events: where the event may not stand between
@@ -81,13 +78,6 @@ impl<'a> Constraints<'a> {
         self.between
     }
 
-    /// The events that are not placed.
-    pub(crate) fn unplaced(&self, placed: EventSet) -> EventSet
-        ensures { (e : ℕ) → HasEvent result e ↔ ((e < constrained_len self.now) × ¬ HasEvent placed e) }
-    {
-        EventSet::below(self.len()).difference(placed)
-    }
-
     /// Whether an event, below `len()`, can stand next after the placed events: it is not placed, every event that comes
     /// before it is, and no forbidden triple has it between a source and its read.
     pub(crate) fn can_stand_next(&self, event: usize, placed: EventSet) -> bool
@@ -95,15 +85,7 @@ impl<'a> Constraints<'a> {
         ensures { IsTrue result ↔ CanStandNext (ComesBefore self.now) (MayNotStand self.now) (HasEvent placed) event }
     {
         !placed.contains(event)
-            && self.follows(event, placed)
+            && self.converse.successors(event).is_within(placed)
             && allows(self.between, event, placed)
-    }
-
-    /// Whether every event that comes before an event, below `len()`, is placed.
-    fn follows(&self, event: usize, placed: EventSet) -> bool
-        requires { event < constrained_len self.now }
-        ensures { IsTrue result ↔ ((a : ℕ) → ComesBefore self.now a event → HasEvent placed a) }
-    {
-        self.converse.successors(event).is_within(placed)
     }
 }

@@ -5,9 +5,9 @@ ghost use Rattle.lit_rel.specs.Between.{Forbids};
 ghost use Rattle.lit_rel.specs.Rows.{rows_len, Holds, IsTransitive};
 ghost use Rattle.lit_order.specs.MemoryOrder.{HasOrder};
 
-use crate::forcing::{closed, forced_precedence};
+use crate::forcing::forced_precedence;
 use crate::triple::undecided;
-use lit_rel::{Between, Rows};
+use lit_rel::{Between, Rows, close};
 
 /// Whether some order respects a relation and avoids forbidden triples, both on the same events. Where propagation leaves
 /// a triple undecided, the search branches on its two sides.
@@ -53,7 +53,11 @@ impl<'a> Forced<'a> {
         ensures cycle { IsNone result ↔ HasCycle (Holds before.now) }
         ensures made { IfSome result (IsMadeOf (rows_len before.now) (HasChain (Holds before.now)) (Forbids between.now)) }
     {
-        let rows = closed(before)?;
+        let mut rows = *before;
+        close(&mut rows);
+        if rows.has_cycle() {
+            return None;
+        }
         Some(Forced { rows, between })
     }
 

@@ -64,7 +64,7 @@ fn extend_greedily(order: &mut Order, placed: EventSet, constraints: &Constraint
     if order.len() == constraints.len() {
         return true;
     }
-    let mut left = constraints.unplaced(placed);
+    let mut left = EventSet::below(constraints.len()).difference(placed);
     'extending: while let Some((event, others)) = left.split_first() {
         if constraints.can_stand_next(event, placed) {
             order.push(event as u8);

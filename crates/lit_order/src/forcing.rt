@@ -3,21 +3,10 @@
 ghost use Rattle.std.specs.Prelude.{◌≡◌, ◌↔◌, ℕ, IsNone, IsTrue, IfSome};
 ghost use Rattle.lit_rel.specs.Between.{Forbids};
 ghost use Rattle.lit_rel.specs.Rows.{rows_len, Holds, IsTransitive};
-ghost use Rattle.lit_order.specs.Forcing.{HasChain, HasCycle, HasForcedCycle, IsForced};
+ghost use Rattle.lit_order.specs.Forcing.{HasForcedCycle, IsForced};
 
 use crate::triple::next_forced;
-use lit_rel::{Between, Rows, TwoWayRows, close};
-
-/// The least transitive relation that has this one, or `None` exactly where a chain of its pairs leads from an event to itself.
-pub(crate) fn closed(before: &Rows) -> Option<Rows>
-    ensures cycle { IsNone result ↔ HasCycle (Holds before.now) }
-    ensures len { IfSome result (λ rows. rows_len rows ≡ rows_len before.now) }
-    ensures pairs { IfSome result (λ rows. (a d : ℕ) → Holds rows a d ↔ HasChain (Holds before.now) a d) }
-{
-    let mut rows = *before;
-    close(&mut rows);
-    if rows.has_cycle() { None } else { Some(rows) }
-}
+use lit_rel::{Between, Rows, TwoWayRows};
 
 /// Propagates: adds the pairs that a transitive relation and forbidden triples force, both on the same events. The answer
 /// is false exactly where an event is forced before itself; then the relation may have some of the forced pairs.

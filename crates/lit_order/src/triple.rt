@@ -44,10 +44,8 @@ fn first_lacking(set: EventSet, other: EventSet, there: EventSet) -> Option<usiz
     ensures { MatchOption result ((e : ℕ) → HasEvent set e → HasEvent other e → ¬ ¬ HasEvent there e)
         (λ event. HasEvent set event × HasEvent other event × ¬ HasEvent there event) }
 {
-    match set.intersection(other).difference(there).split_first() {
-        Some((event, _)) => Some(event),
-        None => None,
-    }
+    let (event, _) = set.intersection(other).difference(there).split_first()?;
+    Some(event)
 }
 
 /// The events that may not stand between a source and its read, but for these two.

@@ -1,5 +1,5 @@
 -- Data races, by pairs of events that are apart.
-use Rattle.std.proofs.Common.{◌≡◌, ◌≢◌, ◌↔◌, ◌⊎◌, ℕ, ◌<◌, Bool, false, IsTrue, List, length, arith, inl, inr}
+use Rattle.std.proofs.Common.{◌≢◌, ◌↔◌, ◌⊎◌, ℕ, ◌<◌, List, length, arith, inl, inr}
 use Rattle.std.proofs.lemmas.Bool.{cases_lt}
 use Rattle.lit_paths.specs.declared.event.Event.{Event}
 use Rattle.lit_paths.specs.Event.{HasSameRange, event_at}
@@ -65,10 +65,15 @@ module _ (events : List Event) (bytes : List SourcedByte) (first : AreFirstReads
         record { place = found.0; byte = found.1; at_place = found.2; is_so = rw (found.3.read, found.3.source) h.apart }),
   )
 
--- where no read races, what tells of writes tells of all
-pub either_race : {Race Reads Writes Racing : Type 0} {b d : Bool} → Race ↔ (Reads ⊎ Writes) → Racing ↔ Reads → (IsTrue b ↔ Racing)
-    → (IsTrue d ↔ Writes) → b ≡ false → IsTrue d ↔ Race
-either_race races reads is_racing is_writing none = grind arith
+  -- what is asked byte by byte, and of writes, says whether there is a data race, by rows that are happens-before
+  pub data_race-iff : (other : ℕ → ℕ → Type 0) → ((e d : ℕ) → before e d ↔ other e d)
+      → (HasByteSo bytes (IsRacing events before) ⊎ HasApartPair events before (WritesWith events)) ↔ HasDataRaceOf events other (ReadsFrom events (sources_of bytes))
+  data_race-iff other same =
+      let reads = ReadsFrom events (sources_of bytes) in
+      let either = HasDataRaceOf-iff events before reads in (
+        (λ h. HasDataRaceOf-wider events before other reads reads (λ e d. (same e d).1) (λ r w there. there) (either.1 (elim h [ inl byte ↦ inl (racing_read-iff.0 byte) | inr pair ↦ inr pair ]))),
+        (λ race. elim (either.0 (HasDataRaceOf-wider events other before reads reads (λ e d. (same e d).0) (λ r w there. there) race)) [ inl pair ↦ inl (racing_read-iff.1 pair) | inr pair ↦ inr pair ]),
+      )
 
 -- ---- writes, the greater number first
 pub racing_writes_to : (events : List Event) (before : ℕ → ℕ → Type 0) → HasApartPair events before (WritesWith events) → (e : ℕ) × (d : ℕ) × (e < length events) × (d < e) × WritesWith events e d × AreApart events before e d

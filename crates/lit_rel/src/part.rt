@@ -8,7 +8,7 @@ pub(crate) mod prefix_state;
 ghost use Rattle.std.specs.Prelude.{◌≡◌, ◌↔◌, ℕ, ◌-◌, ◌<◌, ◌≤◌, IsTrue, [], ◌∷◌, ◌++◌, length, take};
 ghost use Rattle.lit_paths.specs.ByteReads.{byte_reads};
 ghost use Rattle.lit_paths.specs.Choice.{AreSources, combinations_of};
-ghost use Rattle.lit_paths.specs.Event.{event_at};
+ghost use Rattle.lit_paths.specs.Event.{event_at as event_of};
 ghost use Rattle.lit_paths.specs.Plan.{AreEventsIn};
 ghost use Rattle.lit_rel.specs.Between.{Forbids};
 ghost use Rattle.lit_rel.specs.Coherent.{HasCoherentReads};
@@ -23,13 +23,14 @@ ghost use Rattle.lit_rel.specs.TearFree.{HasTearFreeReads};
 
 use crate::between::Between;
 use crate::given::peers::peers_of;
-use crate::given::relations::order_with;
+use crate::given::races::has_racing_writes;
+use crate::given::relations::{can_synchronize, order_with};
 use crate::given::{Given, SourcedByte, SourcedBytes};
 use crate::part::fixed_steps::unsourced_order;
 use crate::part::prefix_state::PrefixState;
 use crate::rows::Rows;
 use arrayvec::ArrayVec;
-use lit_paths::{BYTE_READ_LIMIT, Combination, Plan};
+use lit_paths::{BYTE_READ_LIMIT, Combination, Plan, event_at};
 use std::marker::Model;
 
 /// A combination of a test's paths, with sources for its first byte reads. Its size is fixed. A clause sees it as the
@@ -146,7 +147,7 @@ impl<'p> Part<'p> {
     fn given(&self) -> Given<'_>
         ensures events { result.events.now ≡ part_events self.now }
         ensures sources { sources_of result.bytes.now ≡ self.now.sources }
-        ensures small { (n : ℕ) → (event_at result.events.now n).size ≤ 4 }
+        ensures small { (n : ℕ) → (event_of result.events.now n).size ≤ 4 }
     {
         Given {
             events: self.combination.events(),
@@ -159,7 +160,12 @@ impl<'p> Part<'p> {
         ensures len { rows_len result ≡ length (part_events self.now) }
         ensures pairs { (r w : ℕ) → Holds result r w ↔ ReadsFrom (part_events self.now) self.now.sources r w }
     {
-        self.given().reads_from()
+        let given = self.given();
+        let mut rows = Rows::new(given.events.len());
+        for byte in given.bytes {
+            rows.put(usize::from(byte.read), usize::from(byte.source));
+        }
+        rows
     }
 
     /// synchronizes-with (29.6.5), as pairs of a write and a read, of the sources given.
@@ -167,7 +173,15 @@ impl<'p> Part<'p> {
         ensures len { rows_len result ≡ length (part_events self.now) }
         ensures pairs { (w r : ℕ) → Holds result w r ↔ Synchronizes (part_events self.now) self.now.sources w r }
     {
-        self.given().synchronizes()
+        let given = self.given();
+        let mut rows = Rows::new(given.events.len());
+        for byte in given.bytes {
+            let (source, read) = (usize::from(byte.source), usize::from(byte.read));
+            if can_synchronize(event_at(given.events, source), event_at(given.events, read)) {
+                rows.put(source, read);
+            }
+        }
+        rows
     }
 
     /// happens-before (29.6.6) of the sources given.
@@ -205,7 +219,8 @@ impl<'p> Part<'p> {
     pub fn race(&self) -> bool
         ensures { IsTrue result ↔ HasDataRace (part_events self.now) self.now.sources }
     {
-        self.given().has_data_race(&self.prefix_state.before.rows)
+        let (given, before) = (self.given(), &self.prefix_state.before.rows);
+        given.has_racing_read(before) || has_racing_writes(given.events, before)
     }
 
     /// The value of a read (29.5.4 and 29.5.5), by its event number, from the bytes that have a source.

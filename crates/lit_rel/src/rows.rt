@@ -88,15 +88,6 @@ impl Rows {
         self.sets[event]
     }
 
-    /// Whether an event is another one or leads to it, both numbers below `len()`.
-    pub(crate) fn leads(&self, a: usize, d: usize) -> bool
-        requires first { a < rows_len self.now }
-        requires second { d < rows_len self.now }
-        ensures { IsTrue result ↔ (Holds self.now a d ⊎ (a ≡ d)) }
-    {
-        a == d || self.holds(a, d)
-    }
-
     /// Lets event a and each that leads to it lead to all events of a set, all numbers below `len()`.
     pub(crate) fn put_led(&mut self, a: usize, set: EventSet)
         requires first { a < rows_len self.old }
@@ -105,7 +96,7 @@ impl Rows {
         ensures pairs { (x y : ℕ) → Holds self.new x y ↔ (Holds self.old x y ⊎ ((Holds self.old x a ⊎ (x ≡ a)) × HasEvent set y)) }
     {
         for first in 0..self.len {
-            if self.leads(first, a) {
+            if first == a || self.holds(first, a) {
                 self.put_all(first, set);
             }
         }

@@ -1,20 +1,21 @@
 //! Which events may not stand between a source and its read in the order of memory (ECMA-262, 2024, 29.7.4).
 
-ghost use Rattle.std.specs.Prelude.{◌≡◌, ◌⊎◌, ◌↔◌, ℕ, ◌+◌, ◌<◌, ◌≤◌, length};
-ghost use Rattle.lit_paths.specs.declared.limits.TheConstants.{BYTE_READ_LIMIT, EVENT_LIMIT};
+ghost use Rattle.std.specs.Prelude.{◌≡◌, ◌⊎◌, ◌↔◌, ℕ, ◌<◌, ◌≤◌, length};
+ghost use Rattle.lit_paths.specs.declared.event.Order3.TheVariants.{SeqCst};
+ghost use Rattle.lit_paths.specs.declared.limits.TheConstants.{EVENT_LIMIT};
+ghost use Rattle.lit_paths.specs.Event.{event_at as event_of};
 ghost use Rattle.lit_rel.specs.Between.{Forbids};
 ghost use Rattle.lit_rel.specs.EventSet.{HasEvent};
 ghost use Rattle.lit_rel.specs.Forbidden.{IsAfterSource, IsBeforeRead, IsBetweenSynchronized, IsForbiddenBetween, IsForbiddenTriple};
-ghost use Rattle.lit_rel.specs.Internal.Forbidding.{IsForbidding};
-ghost use Rattle.lit_rel.specs.Internal.Given.{IsKnown, sources_of};
-ghost use Rattle.lit_rel.specs.Peers.{ArePeers, IsSeqCstWrite};
+ghost use Rattle.lit_rel.specs.Internal.Given.{sources_of};
+ghost use Rattle.lit_rel.specs.Peers.{ArePeers, IsPeer, IsSeqCstWrite};
 ghost use Rattle.lit_rel.specs.ReadsFrom.{ReadsByteFrom};
 ghost use Rattle.lit_rel.specs.Rows.{Holds, rows_len};
 
 use crate::between::Between;
 use crate::event_set::EventSet;
+use crate::given::Given;
 use crate::given::relations::can_synchronize;
-use crate::given::{Given, SourcedByte};
 use crate::rows::Rows;
 use crate::rows::two_way_rows::TwoWayRows;
 use lit_paths::{Event, event_at};
@@ -31,131 +32,12 @@ impl Given<'_> {
     {
         let mut between = Between::new(self.events.len());
         for byte in self.bytes {
-            self.forbid_others(&mut between, *byte, before, peers);
+            let others = others_between(self.events, byte.source, byte.read, before, peers);
+            if !others.is_empty() {
+                between.forbid(byte.source, byte.read, others);
+            }
         }
         between
-    }
-
-    /// Forbids what may not stand between a byte's source and its read.
-    fn forbid_others(
-        &self,
-        between: &mut Between,
-        byte: SourcedByte,
-        before: &TwoWayRows,
-        peers: &Rows,
-    )
-        requires rows { rows_len before.now.rows ≡ length self.now.events.now }
-        requires peers { ArePeers self.now.events.now peers.now }
-        requires known { IsKnown (length self.now.events.now) byte }
-        requires len { between.old.len ≡ length self.now.events.now }
-        requires room { length between.old.pairs < BYTE_READ_LIMIT }
-        ensures len { between.new.len ≡ between.old.len }
-        ensures count { length between.new.pairs ≤ length between.old.pairs + 1 }
-        ensures triples { (w r v : ℕ) → Forbids between.new w r v
-            ↔ (Forbids between.old w r v ⊎ IsForbidding self.now.events.now (Holds before.now.rows) w r v byte) }
-    {
-        let (source, read) = (usize::from(byte.source), usize::from(byte.read));
-        let others = self.forbidden(source, read, before, peers);
-        if !others.is_empty() {
-            between.forbid(byte.source, byte.read, others);
-        }
-    }
-
-    /// The events that may not stand between a source and a read: the sequentially consistent writes in one of
-    /// the patterns, but for these two.
-    fn forbidden(&self, source: usize, read: usize, before: &TwoWayRows, peers: &Rows) -> EventSet
-        requires rows { rows_len before.now.rows ≡ length self.now.events.now }
-        requires peers { ArePeers self.now.events.now peers.now }
-        requires source { source < length self.now.events.now }
-        requires read { read < length self.now.events.now }
-        ensures { (v : ℕ) → HasEvent result v
-            ↔ ((v < length self.now.events.now) × IsForbiddenBetween self.now.events.now (Holds before.now.rows) source read v) }
-    {
-        let others = self.in_pattern(source, read, before, peers);
-        others.difference(EventSet::new().with(source).with(read))
-    }
-
-    /// The sequentially consistent writes in one of the patterns between a source and a read.
-    fn in_pattern(&self, source: usize, read: usize, before: &TwoWayRows, peers: &Rows) -> EventSet
-        requires peers { ArePeers self.now.events.now peers.now }
-        requires rows { rows_len before.now.rows ≡ length self.now.events.now }
-        requires source { source < length self.now.events.now }
-        requires read { read < length self.now.events.now }
-        ensures { (v : ℕ) → HasEvent result v ↔ (IsSeqCstWrite self.now.events.now v
-            × (IsBetweenSynchronized self.now.events.now source read v
-            ⊎ IsAfterSource self.now.events.now (Holds before.now.rows) source read v
-            ⊎ IsBeforeRead self.now.events.now (Holds before.now.rows) source read v)) }
-    {
-        let others = self.between_synchronized(source, read, peers);
-        if before.rows.holds(source, read) {
-            others
-                .union(self.after_source(source, read, before, peers))
-                .union(self.before_read(source, read, before, peers))
-        } else {
-            others
-        }
-    }
-
-    /// The sequentially consistent writes that have the range of a read that its source can synchronize with.
-    fn between_synchronized(&self, source: usize, read: usize, peers: &Rows) -> EventSet
-        requires peers { ArePeers self.now.events.now peers.now }
-        requires source { source < length self.now.events.now }
-        requires read { read < length self.now.events.now }
-        ensures { (v : ℕ) → HasEvent result v
-            ↔ (IsSeqCstWrite self.now.events.now v × IsBetweenSynchronized self.now.events.now source read v) }
-    {
-        if can_synchronize(event_at(self.events, source), event_at(self.events, read)) {
-            peers.successors(read)
-        } else {
-            EventSet::new()
-        }
-    }
-
-    /// The sequentially consistent writes before a read that have the range of its source, where that is sequentially
-    /// consistent. The source is before the read.
-    #[tactic(auto, using(crate::proofs::RaceLemmas::same_range_back))]
-    fn after_source(
-        &self,
-        source: usize,
-        read: usize,
-        before: &TwoWayRows,
-        peers: &Rows,
-    ) -> EventSet
-        requires peers { ArePeers self.now.events.now peers.now }
-        requires rows { rows_len before.now.rows ≡ length self.now.events.now }
-        requires source { source < length self.now.events.now }
-        requires read { read < length self.now.events.now }
-        requires ordered { Holds before.now.rows source read }
-        ensures { (v : ℕ) → HasEvent result v
-            ↔ (IsSeqCstWrite self.now.events.now v × IsAfterSource self.now.events.now (Holds before.now.rows) source read v) }
-    {
-        if event_at(self.events, source).is_seq_cst() {
-            peers
-                .successors(source)
-                .intersection(before.converse.successors(read))
-        } else {
-            EventSet::new()
-        }
-    }
-
-    /// The sequentially consistent writes after a source that have the range of its read, where that is sequentially
-    /// consistent. The source is before the read.
-    fn before_read(&self, source: usize, read: usize, before: &TwoWayRows, peers: &Rows) -> EventSet
-        requires peers { ArePeers self.now.events.now peers.now }
-        requires rows { rows_len before.now.rows ≡ length self.now.events.now }
-        requires source { source < length self.now.events.now }
-        requires read { read < length self.now.events.now }
-        requires ordered { Holds before.now.rows source read }
-        ensures { (v : ℕ) → HasEvent result v
-            ↔ (IsSeqCstWrite self.now.events.now v × IsBeforeRead self.now.events.now (Holds before.now.rows) source read v) }
-    {
-        if event_at(self.events, read).is_seq_cst() {
-            peers
-                .successors(read)
-                .intersection(before.rows.successors(source))
-        } else {
-            EventSet::new()
-        }
     }
 }
 
@@ -176,6 +58,64 @@ pub fn others_between(
     ensures { (v : ℕ) → HasEvent result v
         ↔ ((v < length events.now) × IsForbiddenBetween events.now (Holds before.now.rows) source read v) }
 {
-    let given = Given { events, bytes: &[] };
-    given.forbidden(usize::from(source), usize::from(read), before, peers)
+    let (source, read) = (usize::from(source), usize::from(read));
+    let others = in_pattern(events, source, read, before, peers);
+    others.difference(EventSet::new().with(source).with(read))
+}
+
+/// The sequentially consistent writes in one of the patterns between a source and a read.
+fn in_pattern(
+    events: &[Event],
+    source: usize,
+    read: usize,
+    before: &TwoWayRows,
+    peers: &Rows,
+) -> EventSet
+    requires peers { ArePeers events.now peers.now }
+    requires rows { rows_len before.now.rows ≡ length events.now }
+    requires source { source < length events.now }
+    requires read { read < length events.now }
+    ensures { (v : ℕ) → HasEvent result v ↔ (IsSeqCstWrite events.now v
+        × (IsBetweenSynchronized events.now source read v
+        ⊎ IsAfterSource events.now (Holds before.now.rows) source read v
+        ⊎ IsBeforeRead events.now (Holds before.now.rows) source read v)) }
+{
+    let others = between_synchronized(events, source, read, peers);
+    if before.rows.holds(source, read) {
+        let before_read = before.converse.successors(read);
+        let after_source = before.rows.successors(source);
+        others
+            .union(peers_among(events, source, before_read, peers))
+            .union(peers_among(events, read, after_source, peers))
+    } else {
+        others
+    }
+}
+
+/// The sequentially consistent writes that have the range of a read that its source can synchronize with.
+fn between_synchronized(events: &[Event], source: usize, read: usize, peers: &Rows) -> EventSet
+    requires peers { ArePeers events.now peers.now }
+    requires source { source < length events.now }
+    requires read { read < length events.now }
+    ensures { (v : ℕ) → HasEvent result v ↔ (IsSeqCstWrite events.now v × IsBetweenSynchronized events.now source read v) }
+{
+    if can_synchronize(event_at(events, source), event_at(events, read)) {
+        peers.successors(read)
+    } else {
+        EventSet::new()
+    }
+}
+
+/// The sequentially consistent writes of a set that have the range of an event, where that is sequentially consistent too.
+fn peers_among(events: &[Event], event: usize, set: EventSet, peers: &Rows) -> EventSet
+    requires peers { ArePeers events.now peers.now }
+    requires event { event < length events.now }
+    ensures { (v : ℕ) → HasEvent result v
+        ↔ (IsPeer events.now event v × ((event_of events.now event).order ≡ SeqCst) × HasEvent set v) }
+{
+    if event_at(events, event).is_seq_cst() {
+        peers.successors(event).intersection(set)
+    } else {
+        EventSet::new()
+    }
 }

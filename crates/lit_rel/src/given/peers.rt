@@ -1,21 +1,12 @@
 //! The sequentially consistent writes with the range of an event.
 
-ghost use Rattle.std.specs.Prelude.{◌≡◌, ◌⊎◌, ◌↔◌, ℕ, ◌<◌, ◌≤◌, IsTrue, length};
+ghost use Rattle.std.specs.Prelude.{◌≡◌, ◌⊎◌, ◌↔◌, ℕ, ◌<◌, ◌≤◌, length};
 ghost use Rattle.lit_paths.specs.declared.limits.TheConstants.{EVENT_LIMIT};
 ghost use Rattle.lit_rel.specs.Peers.{ArePeers, IsPeer, IsSeqCstWrite};
 ghost use Rattle.lit_rel.specs.Rows.{Holds, rows_len};
 
 use crate::rows::Rows;
 use lit_paths::{Event, event_at};
-
-/// Whether an event is a sequentially consistent write.
-fn is_seq_cst_write(events: &[Event], event: usize) -> bool
-    requires { event < length events.now }
-    ensures { IsTrue result ↔ IsSeqCstWrite events.now event }
-{
-    let write = event_at(events, event);
-    write.kind.does_write() && write.is_seq_cst()
-}
 
 /// Lets each event lead to a write where it has the write's range.
 fn put_peer(peers: &mut Rows, events: &[Event], write: usize)
@@ -37,9 +28,10 @@ pub fn peers_of(events: &[Event]) -> Rows
     ensures { ArePeers events.now result }
 {
     let mut peers = Rows::new(events.len());
-    for write in 0..events.len() {
-        if is_seq_cst_write(events, write) {
-            put_peer(&mut peers, events, write);
+    for number in 0..events.len() {
+        let write = event_at(events, number);
+        if write.kind.does_write() && write.is_seq_cst() {
+            put_peer(&mut peers, events, number);
         }
     }
     peers

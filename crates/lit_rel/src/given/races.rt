@@ -1,10 +1,9 @@
 //! Data races (ECMA-262, 2024, 29.8 and 29.9) of the sources given.
 
 ghost use Rattle.std.specs.Prelude.{◌↔◌, ℕ, ◌<◌, IsTrue, length};
-ghost use Rattle.lit_rel.specs.DataRace.{AreUnguarded, HasDataRaceOf, WriteOneByte};
-ghost use Rattle.lit_rel.specs.Internal.Given.{HasByteSo, IsRacing, sources_of};
+ghost use Rattle.lit_rel.specs.DataRace.{AreUnguarded, WriteOneByte};
+ghost use Rattle.lit_rel.specs.Internal.Given.{HasByteSo, IsRacing};
 ghost use Rattle.lit_rel.specs.Racing.{AreApart, HasApartPair, WritesWith};
-ghost use Rattle.lit_rel.specs.ReadsFrom.{ReadsFrom};
 ghost use Rattle.lit_rel.specs.Rows.{Holds};
 
 use crate::given::Given;
@@ -69,7 +68,7 @@ pub fn has_racing_writes(events: &[Event], before: &Rows) -> bool
 
 impl Given<'_> {
     /// Whether a read and its source are in a data race.
-    fn has_racing_read(&self, before: &Rows) -> bool
+    pub(crate) fn has_racing_read(&self, before: &Rows) -> bool
         ensures { IsTrue result ↔ HasByteSo self.now.bytes.now (IsRacing self.now.events.now (Holds before.now)) }
     {
         for byte in self.bytes {
@@ -83,13 +82,5 @@ impl Given<'_> {
             }
         }
         false
-    }
-
-    /// Whether some two events are in a data race, by a relation that orders the events.
-    pub(crate) fn has_data_race(&self, before: &Rows) -> bool
-        ensures { IsTrue result ↔ HasDataRaceOf self.now.events.now (Holds before.now)
-            (ReadsFrom self.now.events.now (sources_of self.now.bytes.now)) }
-    {
-        self.has_racing_read(before) || has_racing_writes(self.events, before)
     }
 }

@@ -80,29 +80,21 @@ impl Given<'_> {
         false
     }
 
-    /// Whether some byte tears the read of another one.
+    /// Whether a byte and another one of its read come whole from two sources.
     fn is_torn_by(&self, byte: SourcedByte) -> bool
         requires { IsKnown (length self.now.events.now) byte }
         ensures { IsTrue result ↔ HasByteSo self.now.bytes.now (Tears self.now.events.now byte) }
     {
         for other in self.bytes {
-            if self.tears(byte, *other) {
+            if byte.read == other.read
+                && byte.source != other.source
+                && self.reads_whole(byte)
+                && self.reads_whole(*other)
+            {
                 return true;
             }
         }
         false
-    }
-
-    /// Whether two bytes of one read come whole from two sources.
-    fn tears(&self, byte: SourcedByte, other: SourcedByte) -> bool
-        requires byte { IsKnown (length self.now.events.now) byte }
-        requires other { IsKnown (length self.now.events.now) other }
-        ensures { IsTrue result ↔ Tears self.now.events.now byte other }
-    {
-        byte.read == other.read
-            && byte.source != other.source
-            && self.reads_whole(byte)
-            && self.reads_whole(other)
     }
 
     /// Whether neither a byte's read nor its source may tear, and their ranges are equal.

@@ -1,16 +1,13 @@
-//! The relations of a candidate execution (ECMA-262, 2024, 29.6), for the sources given so far, as `Rows`.
+//! synchronizes-with and happens-before (ECMA-262, 2024, 29.6.5 and 29.6.6), with one source more.
 
-ghost use Rattle.std.specs.Prelude.{◌≡◌, ◌⊎◌, ◌↔◌, ℕ, IsTrue, Some, List, [], ◌∷◌, ◌++◌, length, slice_get};
+ghost use Rattle.std.specs.Prelude.{◌≡◌, ◌↔◌, ℕ, IsTrue, Some, List, [], ◌∷◌, ◌++◌, length, slice_get};
 ghost use Rattle.lit_paths.specs.ByteReads.{byte_reads};
-ghost use Rattle.lit_paths.specs.Event.{event_at as event_of};
-ghost use Rattle.lit_rel.specs.Internal.Given.{IsKnown, read_of, sources_of};
+ghost use Rattle.lit_rel.specs.Internal.Given.{IsKnown, read_of};
 ghost use Rattle.lit_rel.specs.Internal.PrefixStates.{IsOrder};
-ghost use Rattle.lit_rel.specs.ReadsFrom.{ReadsFrom};
-ghost use Rattle.lit_rel.specs.Rows.{Holds, rows_len};
-ghost use Rattle.lit_rel.specs.SynchronizesWith.{CanSynchronize, Synchronizes};
+ghost use Rattle.lit_rel.specs.Rows.{rows_len};
+ghost use Rattle.lit_rel.specs.SynchronizesWith.{CanSynchronize};
 
-use crate::given::{Given, SourcedByte};
-use crate::rows::Rows;
+use crate::given::SourcedByte;
 use crate::rows::two_way_rows::TwoWayRows;
 use lit_paths::{Event, event_at};
 
@@ -34,44 +31,4 @@ pub(crate) fn order_with(events: &[Event], byte: SourcedByte, before: &TwoWayRow
         order.close_with(source, read);
     }
     order
-}
-
-impl Given<'_> {
-    /// reads-from (29.6.3), as pairs of a read and a source.
-    pub(crate) fn reads_from(&self) -> Rows
-        ensures len { rows_len result ≡ length self.now.events.now }
-        ensures pairs { (r w : ℕ) → Holds result r w ↔ ReadsFrom self.now.events.now (sources_of self.now.bytes.now) r w }
-    {
-        let mut rows = Rows::new(self.events.len());
-        for byte in self.bytes {
-            rows.put(usize::from(byte.read), usize::from(byte.source));
-        }
-        rows
-    }
-
-    /// synchronizes-with (29.6.5), as pairs of a write and a read.
-    pub(crate) fn synchronizes(&self) -> Rows
-        ensures len { rows_len result ≡ length self.now.events.now }
-        ensures pairs { (w r : ℕ) → Holds result w r ↔ Synchronizes self.now.events.now (sources_of self.now.bytes.now) w r }
-    {
-        let mut rows = Rows::new(self.events.len());
-        for byte in self.bytes {
-            self.put_synchronizing(&mut rows, *byte);
-        }
-        rows
-    }
-
-    /// Adds the pair of a byte's source and read, where they synchronize.
-    fn put_synchronizing(&self, rows: &mut Rows, byte: SourcedByte)
-        requires known { IsKnown (length self.now.events.now) byte }
-        requires len { rows_len rows.old ≡ length self.now.events.now }
-        ensures len { rows_len rows.new ≡ rows_len rows.old }
-        ensures pairs { (w r : ℕ) → Holds rows.new w r ↔ (Holds rows.old w r ⊎ ((w ≡ byte.source) × (r ≡ byte.read)
-            × CanSynchronize (event_of self.now.events.now byte.source) (event_of self.now.events.now byte.read))) }
-    {
-        let (source, read) = (usize::from(byte.source), usize::from(byte.read));
-        if can_synchronize(event_at(self.events, source), event_at(self.events, read)) {
-            rows.put(source, read);
-        }
-    }
 }

@@ -2,9 +2,8 @@
 
 ghost use Rattle.std.specs.Prelude.{◌≡◌, ◌↔◌, ℕ, ◌<◌, ◌≤◌, IsTrue, [], length};
 ghost use Rattle.lit_paths.specs.declared.limits.TheConstants.{EVENT_LIMIT};
-ghost use Rattle.lit_rel.specs.AgentOrder.{IsAgentOrdered};
 ghost use Rattle.lit_rel.specs.EventSet.{HasEvent};
-ghost use Rattle.lit_rel.specs.HappensBefore.{HappensBefore, IsMadeBefore};
+ghost use Rattle.lit_rel.specs.HappensBefore.{HappensBefore};
 ghost use Rattle.lit_rel.specs.Internal.Steps.{IsFixedStep};
 ghost use Rattle.lit_rel.specs.Rows.{Holds, rows_len};
 
@@ -19,20 +18,11 @@ pub fn unsourced_order(events: &[Event]) -> TwoWayRows
     ensures len { rows_len result.rows ≡ length events.now }
     ensures pairs { (e d : ℕ) → Holds result.rows e d ↔ HappensBefore events.now [] e d }
 {
-    TwoWayRows::closed(&fixed_steps(events))
-}
-
-/// The steps of happens-before that no source decides, as a relation.
-fn fixed_steps(events: &[Event]) -> Rows
-    requires { length events.now ≤ EVENT_LIMIT }
-    ensures len { rows_len result ≡ length events.now }
-    ensures pairs { (e d : ℕ) → Holds result e d ↔ IsFixedStep events.now e d }
-{
-    let mut rows = Rows::new(events.len());
+    let mut steps = Rows::new(events.len());
     for first in 0..events.len() {
-        rows.put_all(first, steps_from(events, first));
+        steps.put_all(first, steps_from(events, first));
     }
-    rows
+    TwoWayRows::closed(&steps)
 }
 
 /// The events that an event comes before in such a step.
@@ -50,31 +40,14 @@ fn steps_from(events: &[Event], first: usize) -> EventSet
     steps
 }
 
-/// Whether one event comes before another in such a step.
+/// Whether one event comes before another in such a step: in agent-order (29.6.1), where both are in one event list, the first
+/// one before the other; or since the first event makes a byte that is in the range of the second, another event.
 fn is_fixed_step(events: &[Event], first: usize, second: usize) -> bool
     requires first { first < length events.now }
     requires second { second < length events.now }
     ensures { IsTrue result ↔ IsFixedStep events.now first second }
 {
-    is_agent_ordered(events, first, second) || is_made_before(events, first, second)
-}
-
-/// agent-order (29.6.1): whether two events are in one event list, the first one before the other.
-fn is_agent_ordered(events: &[Event], first: usize, second: usize) -> bool
-    requires first { first < length events.now }
-    requires second { second < length events.now }
-    ensures { IsTrue result ↔ IsAgentOrdered events.now first second }
-{
     let (e, d) = (event_at(events, first), event_at(events, second));
-    e.owner == d.owner && e.place < d.place
-}
-
-/// Whether the first event makes a byte that is in the range of the second, another event.
-fn is_made_before(events: &[Event], first: usize, second: usize) -> bool
-    requires first { first < length events.now }
-    requires second { second < length events.now }
-    ensures { IsTrue result ↔ IsMadeBefore events.now first second }
-{
-    let (e, d) = (event_at(events, first), event_at(events, second));
-    first != second && e.order == Order3::Init && e.shares_byte(d)
+    (e.owner == d.owner && e.place < d.place)
+        || (first != second && e.order == Order3::Init && e.shares_byte(d))
 }

@@ -1,12 +1,10 @@
 //! The state of a part after a prefix of its sources: happens-before, and whether the part is broken.
 
-ghost use Rattle.std.specs.Prelude.{◌≡◌, ◌⊎◌, ◌↔◌, ◌≤◌, IsTrue, length};
+ghost use Rattle.std.specs.Prelude.{◌≤◌, length};
 ghost use Rattle.lit_paths.specs.declared.limits.TheConstants.{BYTE_READ_LIMIT as READS};
 ghost use Rattle.lit_paths.specs.Plan.{events_in};
-ghost use Rattle.lit_rel.specs.Broken.{HasFalseGuard};
-ghost use Rattle.lit_rel.specs.Internal.Given.{AreFirstReads, AreKnown, HasBrokenBytes, part_of, sources_of};
+ghost use Rattle.lit_rel.specs.Internal.Given.{AreFirstReads, AreKnown, part_of, sources_of};
 ghost use Rattle.lit_rel.specs.Internal.PrefixStates.{IsPrefixState, IsOrder};
-ghost use Rattle.lit_rel.specs.Rows.{Holds, rows_len};
 
 use crate::given::{Given, SourcedByte};
 use crate::part::false_guards::contradicts_guard;
@@ -20,16 +18,6 @@ pub(crate) struct PrefixState {
     pub before: TwoWayRows,
     /// Whether the part is broken.
     pub broken: bool,
-}
-
-/// Whether a part is broken, by its events and bytes and by happens-before. The events are those of the combination.
-fn is_broken(combination: &Combination<'_>, given: &Given<'_>, before: &TwoWayRows) -> bool
-    requires events { given.now.events.now ≡ events_in combination.now.0 combination.now.1 }
-    requires len { rows_len before.now.rows ≡ length given.now.events.now }
-    ensures { IsTrue result ↔ (HasBrokenBytes given.now.events.now (Holds before.now.rows) given.now.bytes.now
-        ⊎ HasFalseGuard (part_of combination.now.0 combination.now.1 given.now.bytes.now)) }
-{
-    given.is_broken(before) || contradicts_guard(combination, given)
 }
 
 impl PrefixState {
@@ -50,7 +38,7 @@ impl PrefixState {
             events: combination.events(),
             bytes,
         };
-        let broken = is_broken(combination, &given, &before);
+        let broken = given.is_broken(&before) || contradicts_guard(combination, &given);
         PrefixState { before, broken }
     }
 }

@@ -40,11 +40,12 @@ returns-then-can_stand_next t c found =
 pub extending-init : goal.extending-init
 extending-init t c =
     let it = c.args.constraints.now in
+    let all = rw c.len-3.ensures.value at c.below.ensures in
     record {
       unchanged = refl;
-      known = λ e h. ((c.unplaced-left.ensures e).0 h).0;
+      known = λ e h. (all e).0 ((c.difference-left.ensures e).0 h).0;
       none = λ e below not_left. HasNoOrder-cannot (constrained_len it) (ComesBefore it) (MayNotStand it) (HasEvent c.args.placed) c.args.order.now.items e c.requires.begun
-          (λ x r v f. f.read_known) (λ can. not_left ((c.unplaced-left.ensures e).1 (below, can.new)));
+          (λ x r v f. f.read_known) (λ can. not_left ((c.difference-left.ensures e).1 ((all e).1 below, can.new)));
     }
 
 pub extending-smaller : goal.extending-smaller

@@ -1,21 +1,25 @@
-use Rattle.std.proofs.Common.{refl}
-use Rattle.lit_rel.specs.HappensBefore.{HappensBefore}
-use Rattle.lit_rel.specs.Part.{part_events}
-use Rattle.lit_rel.specs.ReadsFrom.{ReadsFrom}
+use Rattle.std.proofs.Common.{inl, inr, refl}
+use Rattle.std.proofs.lemmas.Bool.{false≢true}
 use Rattle.lit_rel.specs.Rows.{Holds}
 use Rattle.lit_rel.proofs.PartLemmas.{given_order}
-use Rattle.lit_rel.proofs.RaceLemmas.{HasDataRaceOf-wider}
+use Rattle.lit_rel.proofs.RaceLemmas.{data_race-iff}
 use Rattle.lit_rel.proofs.part.Part.race.Goals as goal
 
-pub returns : goal.returns
-returns c =
-    let part = c.args.self.now in
-    let events = part_events part in
-    let rows = Holds c.self.inside.prefix_state.before.rows in
-    let before = HappensBefore events part.sources in
-    let reads = ReadsFrom events part.sources in
-    let order = given_order _ part _ c.self.view_is c.self.invariant.at_all events part.sources refl refl in
-    let by = rw (c.given.ensures.events, c.given.ensures.sources) at c.has_data_race.ensures in (
-      (λ h. HasDataRaceOf-wider events rows before reads reads (λ e d. (order.pairs e d).1) (λ r w there. there) (by.0 h)),
-      (λ race. by.1 (HasDataRaceOf-wider events before rows reads reads (λ e d. (order.pairs e d).0) (λ r w there. there) race)),
+pub returns-then-has_racing_read : goal.returns-then-has_racing_read
+returns-then-has_racing_read c =
+    let given = c.given-given.result in
+    let order = given_order _ c.args.self.now _ c.self.view_is c.self.invariant.at_all _ _ c.given-given.ensures.events c.given-given.ensures.sources in
+    let is = data_race-iff given.events.now given.bytes.now given.first_reads (Holds c.self.inside.prefix_state.before.rows) _ order.pairs in
+    ((λ _. rw (c.given-given.ensures.events, c.given-given.ensures.sources) at (is.0 (inl (c.if-has_racing_read.ensures.0 refl)))), (λ _. c.if-has_racing_read.true))
+
+pub returns-else-has_racing_read : goal.returns-else-has_racing_read
+returns-else-has_racing_read c =
+    let given = c.given-given.result in
+    let order = given_order _ c.args.self.now _ c.self.view_is c.self.invariant.at_all _ _ c.given-given.ensures.events c.given-given.ensures.sources in
+    let is = data_race-iff given.events.now given.bytes.now given.first_reads (Holds c.self.inside.prefix_state.before.rows) _ order.pairs in (
+      (λ h. rw (c.given-given.ensures.events, c.given-given.ensures.sources) at (is.0 (inr (c.has_racing_writes.ensures.0 h)))),
+      (λ race. elim (is.1 (rw (c.given-given.ensures.events, c.given-given.ensures.sources) race)) [
+        | inl reads ↦ absurd (false≢true (c.if-has_racing_read.ensures.1 reads))
+        | inr writes ↦ c.has_racing_writes.ensures.1 writes
+      ]),
     )

@@ -5,8 +5,9 @@ use Rattle.lit_rel.proofs.rows.closing.close.Goals as goal
 
 pub loop-middle-preserved : goal.loop-middle-preserved
 loop-middle-preserved c = record {
-  len = c.lead_through.ensures.len ∙ c.loop-middle.invariant.len;
-  closed = IsClosedBelow-more (Holds c.args.rows.now) (Holds c.loop-middle.rows) (Holds c.lead_through.new.rows) c.loop-middle.middle c.lead_through.ensures.pairs c.loop-middle.invariant.closed;
+  len = c.put_led.ensures.len ∙ c.loop-middle.invariant.len;
+  closed = IsClosedBelow-more (Holds c.args.rows.now) (Holds c.loop-middle.rows) (Holds c.put_led.new.self) c.loop-middle.middle
+      (λ e d. grind (arith, c.put_led.ensures.pairs, c.successors.ensures)) c.loop-middle.invariant.closed;
 }
 
 pub returns-clause-pairs : goal.returns-clause-pairs

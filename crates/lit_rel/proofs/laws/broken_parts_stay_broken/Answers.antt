@@ -4,7 +4,7 @@ use Rattle.lit_rel.specs.Part.{part_events}
 use Rattle.lit_rel.specs.ReadsFrom.{ReadsByteFrom}
 use Rattle.lit_rel.proofs.BrokenLemmas.{IsBrokenBy-grows}
 use Rattle.lit_rel.proofs.GrowthLemmas.{ReadsByteFrom-longer, values_stay}
-use Rattle.lit_rel.proofs.laws.growth.broken_parts_stay_broken.Goals as goal
+use Rattle.lit_rel.proofs.laws.broken_parts_stay_broken.Goals as goal
 
 pub returns : goal.returns
 returns c part rest (inl relations) =

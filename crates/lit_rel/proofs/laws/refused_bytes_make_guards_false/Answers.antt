@@ -3,7 +3,7 @@ use Rattle.std.proofs.lemmas.Option.{slice_get_within}
 use Rattle.lit_paths.specs.ByteReads.{byte_reads}
 use Rattle.lit_rel.specs.Part.{part_events}
 use Rattle.lit_rel.proofs.GuardedByteLemmas.{false_of}
-use Rattle.lit_rel.proofs.laws.guarded_bytes.refused_bytes_make_guards_false.Goals as goal
+use Rattle.lit_rel.proofs.laws.refused_bytes_make_guards_false.Goals as goal
 
 pub returns : goal.returns
 returns c part r b w sound complete from refused =
