@@ -1,9 +1,8 @@
 -- The domains of a box, one for each byte read.
-use Rattle.lit_solve.proofs.Words.{◌+◌, ◌<◌, AreEventsIn, arith, byte_read_at, BYTE_READ_LIMIT, byte_reads, cases_lt, EVENT_LIMIT, EventSet}
-use Rattle.lit_solve.proofs.Words.{get_or, get_or-set_other, get_or-set_same, HasEvent, IfSome, IsCandidate, length, List, no_events, set}
-use Rattle.lit_solve.proofs.Words.{ℕ, ◌↔◌, ◌≡◌, ◌≤◌}
+use Rattle.lit_solve.proofs.Words.{◌+◌, ◌<◌, AreEventsIn, arith, boxes_events, BoxesModel, byte_read_at, BYTE_READ_LIMIT, byte_reads}
+use Rattle.lit_solve.proofs.Words.{cases_lt, EVENT_LIMIT, EventSet, get_or, get_or-set_other, get_or-set_same, HasEvent, IfSome, IsAbove}
+use Rattle.lit_solve.proofs.Words.{IsBelow, IsCandidate, IsInBox, length, List, no_events, parting_in, set, ℕ, ◌↔◌, ◌≡◌, ◌≤◌}
 use Rattle.std.proofs.lemmas.List.{length-set}
-use Rattle.lit_solve.specs.Boxes.{BoxesModel, IsAbove, IsBelow, IsInBox, boxes_events, parting_in}
 
 -- so many domains, of which the first are those of the i-th box
 pub record AreFirstDomains (boxes : BoxesModel) (i : ℕ) (domains : List EventSet) (count : ℕ) : Type 0 where

@@ -1,9 +1,6 @@
 -- Variable ordering: the best byte read so far, and byte reads whose sources can force nothing.
-use Rattle.lit_solve.proofs.Words.{◌+◌, ◌<◌, arith, byte_reads, IfNone, IfSome, inl, inr, length, None, Option, same_Some, slice_get, Some}
-use Rattle.lit_solve.proofs.Words.{subst, sym, ℕ, ◌≡◌, ◌≤◌, ◌⊎◌}
-use Rattle.lit_solve.specs.Box.{Box, HasSource, box_events}
-use Rattle.lit_solve.specs.Fill.{HasEffect, IsIdle, IsLeaf}
-use Rattle.lit_solve.specs.Given.{HasAlone}
+use Rattle.lit_solve.proofs.Words.{◌+◌, ◌<◌, arith, Box, box_events, byte_reads, HasAlone, HasEffect, HasSource, IfNone, IfSome, inl, inr}
+use Rattle.lit_solve.proofs.Words.{IsIdle, IsLeaf, length, None, Option, same_Some, slice_get, Some, subst, sym, ℕ, ◌≡◌, ◌≤◌, ◌⊎◌}
 use Rattle.lit_solve.proofs.FrameLemmas.{below_or_last}
 
 -- where no source of the byte read at a place has an effect on its read

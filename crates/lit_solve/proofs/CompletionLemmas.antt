@@ -1,9 +1,10 @@
 -- Completions of a box take what it gives, respect what it forces, and have no source that it prunes.
-use Rattle.lit_solve.proofs.Words.{◌<◌, [], ap, AreEventsIn, AreOfEvents, AreSources, arith, byte_reads, Completes, Event, Execution}
-use Rattle.lit_solve.proofs.Words.{execution_events, get_or, Given, Grows, HappensBefore, HasCoherentReads, HasTearFreeReads, inl, inr}
-use Rattle.lit_solve.proofs.Words.{IsBroken, IsForbidden, IsGivenWhole, IsMemoryOrder, Laws, length, List, PartModel, ReadsByteFrom}
-use Rattle.lit_solve.proofs.Words.{ReadsWholeBy, RefusedBytesMakeFalse, slice_get, slice_get-get_or, slice_get_within, Some, StandsBefore}
-use Rattle.lit_solve.proofs.Words.{subst, sym, ℕ, ◌∙◌, ◌≡◌}
+use Rattle.lit_solve.proofs.Words.{◌<◌, [], ap, AreEventsIn, AreOfEvents, AreSources, arith, Box, box_events, byte_reads, Completes, Event}
+use Rattle.lit_solve.proofs.Words.{Execution, execution_events, get_or, Given, GivenIn, Grows, HappensBefore, HappensBeforeIn}
+use Rattle.lit_solve.proofs.Words.{HasCoherentReads, HasTearFreeReads, inl, inr, IsBox, IsBroken, IsCompletion, IsForbidden, IsForbiddenIn}
+use Rattle.lit_solve.proofs.Words.{IsForcedIn, IsGivenWhole, IsMemoryOrder, IsPrunable, IsRefuted, Laws, length, LiesIn, List, PartModel}
+use Rattle.lit_solve.proofs.Words.{ReadsByteFrom, ReadsWholeBy, RefusedBytesMakeFalse, slice_get, slice_get-get_or, slice_get_within, Some}
+use Rattle.lit_solve.proofs.Words.{StandsBefore, subst, sym, ℕ, ◌∙◌, ◌≡◌}
 use Rattle.std.proofs.Common.{append-nil}
 use Rattle.lit_rel.proofs.GrowthLemmas.{Grows-from}
 use Rattle.lit_rel.proofs.SameRelations.{between_by, coherent_read_by}
@@ -12,10 +13,6 @@ use Rattle.lit_order.proofs.ForcingLemmas.{IsForced-grow}
 use Rattle.lit_order.proofs.PartLemmas.{triples_below}
 use Rattle.lit_order.proofs.StandingLemmas.{StandsBefore-through, never_before_itself}
 use Rattle.lit_valid.proofs.CompletionLemmas.{its_events, not_broken}
-use Rattle.lit_solve.specs.Box.{Box, IsBox, LiesIn, box_events}
-use Rattle.lit_solve.specs.Completion.{IsCompletion}
-use Rattle.lit_solve.specs.Given.{GivenIn, HappensBeforeIn, IsForbiddenIn, IsForcedIn}
-use Rattle.lit_solve.specs.Prunable.{IsPrunable, IsRefuted}
 
 -- the box's combination with these sources
 abbrev pub part_of : Box → List ℕ → PartModel

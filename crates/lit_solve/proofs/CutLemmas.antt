@@ -1,7 +1,6 @@
 -- Lists between two ends lie in the boxes of a range's cut, one after the other.
-use Rattle.lit_solve.proofs.Words.{◌*◌, ◌+◌, ◌-◌, ◌<◌, arith, cases_lt, cases_order, IfSome, length, List, None, Option, refl, Some, subst}
-use Rattle.lit_solve.proofs.Words.{sym, ℕ, ◌≡◌, ◌≤◌, ⊎_elim}
-use Rattle.lit_solve.specs.Internal.Cut.{IsRangeCut, IsGreaterAt}
+use Rattle.lit_solve.proofs.Words.{◌*◌, ◌+◌, ◌-◌, ◌<◌, arith, cases_lt, cases_order, IfSome, IsGreaterAt, IsRangeCut, length, List, None}
+use Rattle.lit_solve.proofs.Words.{Option, refl, Some, subst, sym, ℕ, ◌≡◌, ◌≤◌, ⊎_elim}
 
 -- a list that shares a longer prefix with l than h does is below h where h differs from l
 pub below_as_low : (l h s : List ℕ) (p k : ℕ) → length l ≡ length s → IsGreaterAt l p h → IsGreaterAt l k s → p < k → IsGreaterAt s p h

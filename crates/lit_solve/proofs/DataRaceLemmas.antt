@@ -1,15 +1,10 @@
 -- Data races of completions, by what a box gives.
-use Rattle.lit_solve.proofs.Words.{ap, byte_reads, Event, event_at, Execution, execution_events, HappensBefore}
-use Rattle.lit_solve.proofs.Words.{HasDataRace, inl, inr, Laws, List, ReadsFrom, slice_get, Some, subst, sym}
+use Rattle.lit_solve.proofs.Words.{ap, AreCoherentSources, AreSourcesIn, Box, box_events, byte_reads, Event, event_at, Execution}
+use Rattle.lit_solve.proofs.Words.{execution_events, HappensBefore, HappensBeforeIn, HasDataRace, HasSolution, inl, inr, IsBox}
+use Rattle.lit_solve.proofs.Words.{IsCompletion, IsFilled, IsLeaf, Laws, LieOn, List, Race, ReadsFrom, slice_get, Some, subst, sym}
 use Rattle.lit_solve.proofs.Words.{WriteOneByte, ℕ, ◌∙◌, ◌≡◌, ◌⊎◌}
 use Rattle.lit_rel.proofs.RaceLemmas.{HasDataRaceOf-wider}
-use Rattle.lit_solve.specs.declared.goal.Goal.TheVariants.{Race}
-use Rattle.lit_solve.specs.Box.{Box, IsBox, box_events}
-use Rattle.lit_solve.specs.Completion.{HasSolution, IsCompletion}
-use Rattle.lit_solve.specs.Fill.{AreCoherentSources, AreSourcesIn, IsFilled, IsLeaf}
-use Rattle.lit_solve.specs.Given.{HappensBeforeIn}
 use Rattle.lit_solve.specs.DataRace.{CanFillFrom, CanRaceIn, HasSourceOf, MayRaceIn}
-use Rattle.lit_solve.specs.Internal.Independent.{LieOn}
 use Rattle.lit_solve.proofs.CompletionLemmas.{events_same}
 use Rattle.lit_solve.proofs.FillLemmas.{before_back, completion_of_filled, filled_by, grows_in, no_cycle_given, order_given, sources_lie, unwritten_true}
 use Rattle.lit_solve.proofs.TogetherLemmas.{on_read, replaced, replaced_fill, replaced_lie, replaced_own}

@@ -1,14 +1,9 @@
 -- Greedy descent: the solutions that it leaves behind are not the least.
-use Rattle.lit_solve.proofs.Words.{◌+◌, ◌<◌, arith, byte_reads, cases_eq, cases_lt, EventSet, Execution, get_or, get_or_from_slice_get}
-use Rattle.lit_solve.proofs.Words.{HasEvent, inl, inr, IsSplit, length, Less, List, nat_cmp, slice_cmp, slice_get, slice_get-get_or, Some}
-use Rattle.lit_solve.proofs.Words.{subst, sym, ℕ, ◌↔◌, ◌∙◌, ◌≡◌, ◌≢◌, ◌≤◌, ◌⊎◌}
-use Rattle.lit_solve.specs.declared.goal.Goal.{Goal}
-use Rattle.lit_solve.specs.Box.{Box, HasEmptyDomain, HasSource, IsWithin, box_events}
-use Rattle.lit_solve.specs.Completion.{IsCompletion, IsSolution}
-use Rattle.lit_solve.specs.Given.{HasAlone}
-use Rattle.lit_solve.specs.Fill.{AreSourcesIn}
-use Rattle.lit_solve.specs.Internal.Descending.{AreAloneBelow, IsLowest, IsLowestAt, IsNotLeastAt}
-use Rattle.lit_solve.specs.Internal.Settled.{IsCut}
+use Rattle.lit_solve.proofs.Words.{◌+◌, ◌<◌, AreAloneBelow, AreSourcesIn, arith, Box, box_events, byte_reads, cases_eq, cases_lt, EventSet}
+use Rattle.lit_solve.proofs.Words.{Execution, get_or, get_or_from_slice_get, Goal, HasAlone, HasEmptyDomain, HasEvent, HasSource, inl, inr}
+use Rattle.lit_solve.proofs.Words.{IsCompletion, IsCut, IsLowest, IsLowestAt, IsNotLeastAt, IsSolution, IsSplit, IsWithin, length, Less}
+use Rattle.lit_solve.proofs.Words.{List, nat_cmp, slice_cmp, slice_get, slice_get-get_or, Some, subst, sym, ℕ, ◌↔◌, ◌∙◌, ◌≡◌, ◌≢◌, ◌≤◌}
+use Rattle.lit_solve.proofs.Words.{◌⊎◌}
 use Rattle.lit_solve.proofs.BoxLemmas.{has_source}
 use Rattle.lit_solve.proofs.CompletionLemmas.{sourced}
 use Rattle.lit_solve.proofs.FrameLemmas.{below_or_last}

@@ -1,8 +1,8 @@
 -- Which sources can force anything, by the writes that have a range.
-use Rattle.lit_solve.proofs.Words.{◌<◌, arith, Event, event_at, EventSet, HasEvent, IsPeer, length, List, SeqCst, ℕ, ◌↔◌, ◌≡◌, ◌⊎◌}
+use Rattle.lit_solve.proofs.Words.{◌<◌, arith, Event, event_at, EventSet, HasEffect, HasEvent, IsPeer, length, List, SeqCst, ℕ, ◌↔◌, ◌≡◌}
+use Rattle.lit_solve.proofs.Words.{◌⊎◌}
 use Rattle.lit_paths.specs.Event.{HasSameRange}
 use Rattle.lit_rel.proofs.ReadingLemmas.{write_known}
-use Rattle.lit_solve.specs.Fill.{HasEffect}
 
 same_range_back : (e d : Event) → HasSameRange e d → HasSameRange d e
 unfolding HasSameRange

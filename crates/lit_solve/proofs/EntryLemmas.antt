@@ -1,11 +1,9 @@
 -- Entries recorded one after another, of a box and of its parts.
-use Rattle.lit_solve.proofs.Words.{◌+◌, ◌++◌, ◌<◌, [], append-nil, append_assoc, arith, choices_before, common_steps, Entry, Execution}
-use Rattle.lit_solve.proofs.Words.{execution_outcome, HasOutcome, HasSources, length, List, refl, subst, sym, ℕ, ◌∷◌, ◌≡◌, ◌≤◌}
+use Rattle.lit_solve.proofs.Words.{◌+◌, ◌++◌, ◌<◌, [], AddsEntries, Any, append-nil, append_assoc, AreNewEntries, arith, Box}
+use Rattle.lit_solve.proofs.Words.{choices_before, common_steps, Entry, Execution, execution_outcome, HasEachOutcome, HasOutcome}
+use Rattle.lit_solve.proofs.Words.{HasSources, IsCompletion, IsLeastEntry, IsLeastSolution, length, List, refl, subst, sym, ℕ, ◌∷◌, ◌≡◌}
+use Rattle.lit_solve.proofs.Words.{◌≤◌}
 use Rattle.lit_rel.proofs.PlaceLemmas.{place-left, place-middle}
-use Rattle.lit_solve.specs.declared.goal.Goal.TheVariants.{Any}
-use Rattle.lit_solve.specs.Box.{Box}
-use Rattle.lit_solve.specs.Completion.{IsCompletion, IsLeastSolution}
-use Rattle.lit_solve.specs.Outcomes.{AddsEntries, AreNewEntries, HasEachOutcome, IsLeastEntry}
 
 -- ---- outcomes that have an entry
 pub outcome_stays : (old more : List Entry) (outcome : List ℕ) → HasOutcome old outcome → HasOutcome (old ++ more) outcome

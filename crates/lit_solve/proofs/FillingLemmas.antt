@@ -1,13 +1,11 @@
 -- Filling a read byte by byte.
-use Rattle.lit_solve.proofs.Words.{◌*◌, ◌+◌, ◌-◌, ◌<◌, [], ◌^◌, ap, arith, byte_reads, CanReadWhole, cases_eq, composed, drop, eq-eqb}
-use Rattle.lit_solve.proofs.Words.{Event, event_at, get_or, HasEvent, HasFalseGuardOn, inl, inr, length, List, nat_tests, none-some}
-use Rattle.lit_solve.proofs.Words.{payload_at, pow_more, ReadsByteFrom, ReadsWholeBy, refl, same_Some, slice_get, slice_get-get_or}
-use Rattle.lit_solve.proofs.Words.{slice_get_within, Some, subst, suc, sym, value_of, zero, ℕ, ◌↔◌, ◌∙◌, ◌∷◌, ◌≡◌, ◌≢◌, ◌≤◌, ◌⊎◌}
+use Rattle.lit_solve.proofs.Words.{◌*◌, ◌+◌, ◌-◌, ◌<◌, [], ◌^◌, ap, arith, Box, box_events, byte_reads, bytes_taken, CanFill, CanFillOn}
+use Rattle.lit_solve.proofs.Words.{CanFillWith, CanReadWhole, cases_eq, composed, drop, eq-eqb, Event, event_at, FillsBytes, get_or}
+use Rattle.lit_solve.proofs.Words.{HasEmptyDomain, HasEvent, HasFalseGuardOn, HasSource, inl, inr, IsBox, length, LieFrom, List, nat_tests}
+use Rattle.lit_solve.proofs.Words.{none-some, payload_at, pow_more, reads_on, ReadsByteFrom, ReadsWholeBy, refl, same_Some, slice_get}
+use Rattle.lit_solve.proofs.Words.{slice_get-get_or, slice_get_within, Some, subst, suc, sym, Taken, TakesOn, TakesWhole, value_of}
+use Rattle.lit_solve.proofs.Words.{WholeWith, WouldNotTear, zero, ℕ, ◌↔◌, ◌∙◌, ◌∷◌, ◌≡◌, ◌≢◌, ◌≤◌, ◌⊎◌}
 use Rattle.lit_paths.proofs.Products.{slice_get-drop}
-use Rattle.lit_solve.specs.declared.filling.Taken.{Taken}
-use Rattle.lit_solve.specs.Box.{Box, HasEmptyDomain, HasSource, IsBox, box_events}
-use Rattle.lit_solve.specs.Fill.{CanFill}
-use Rattle.lit_solve.specs.Internal.Filling.{CanFillOn, CanFillWith, FillsBytes, LieFrom, TakesOn, TakesWhole, WholeWith, WouldNotTear, bytes_taken, reads_on}
 use Rattle.lit_solve.proofs.BoxLemmas.{has_source}
 use Rattle.lit_solve.proofs.ReadByteLemmas.{drop_at}
 

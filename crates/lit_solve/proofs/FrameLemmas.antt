@@ -1,18 +1,15 @@
 -- How the relations of a frame come to be those of its box.
-use Rattle.lit_solve.proofs.Words.{◌+◌, ◌<◌, [], arith, Bool, byte_reads, CanSynchronize, cases_lt, Chain, event_at, EventSet, false, Given}
-use Rattle.lit_solve.proofs.Words.{HasEvent, Holds, inl, inr, IsForbiddenBetween, IsForced, IsTransitive, IsTrue, length, List, rows_len}
-use Rattle.lit_solve.proofs.Words.{same_Some, slice_get, slice_get_within, Some, StepBy, subst, sym, Through, true, TwoWayRows, WithPair, ℕ}
-use Rattle.lit_solve.proofs.Words.{◌↔◌, ◌∙◌, ◌∷◌, ◌≡◌, ◌⊎◌}
+use Rattle.lit_solve.proofs.Words.{◌+◌, ◌<◌, [], arith, Bool, Box, box_events, byte_reads, CanSynchronize, cases_lt, Chain, event_at}
+use Rattle.lit_solve.proofs.Words.{EventSet, false, Frame, Given, GivenIn, HappensBeforeIn, HasAlone, HasEvent, Holds, inl, inr, IsBox}
+use Rattle.lit_solve.proofs.Words.{IsContained, IsExact, IsForbiddenAt, IsForbiddenBetween, IsForbiddenIn, IsForced, IsForcedIn}
+use Rattle.lit_solve.proofs.Words.{IsSynchronizedAt, IsTransitive, IsTrue, length, List, rows_len, same_Some, slice_get, slice_get_within}
+use Rattle.lit_solve.proofs.Words.{Some, StepBy, subst, sym, Through, true, TwoWayRows, WithPair, ℕ, ◌↔◌, ◌∙◌, ◌∷◌, ◌≡◌, ◌⊎◌}
 use Rattle.lit_rel.proofs.ChainLemmas.{Chain-append}
 use Rattle.lit_rel.proofs.ReadingLemmas.{write_known}
 use Rattle.lit_rel.proofs.SameRelations.{between_by}
 use Rattle.lit_rel.proofs.SourceLemmas.{read_known}
 use Rattle.lit_order.proofs.ForcedLemmas.{AreTriplesBelow}
 use Rattle.lit_order.proofs.ForcingLemmas.{IsForced-grow}
-use Rattle.lit_solve.specs.declared.frame.Frame.{Frame}
-use Rattle.lit_solve.specs.Box.{Box, IsBox, box_events}
-use Rattle.lit_solve.specs.Given.{GivenIn, HappensBeforeIn, HasAlone, IsForbiddenIn, IsForcedIn}
-use Rattle.lit_solve.specs.Internal.Frames.{IsContained, IsExact, IsForbiddenAt, IsSynchronizedAt}
 
 -- a number below the next one is below, or the one itself
 pub below_or_last : (k n : ℕ) → k < n + 1 → (k < n) ⊎ (k ≡ n)

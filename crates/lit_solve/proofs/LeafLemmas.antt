@@ -1,16 +1,9 @@
 -- Leaves: when a settled frame in which no open byte read can force anything has a completion.
-use Rattle.lit_solve.proofs.Words.{◌<◌, Execution, Given, HasFalseGuardOn, HasOrder, Holds, IfNone, IfSome}
-use Rattle.lit_solve.proofs.Words.{IsOrderOf, length, List, None, Option, refl, Some, ℕ, ◌↔◌, ◌≡◌}
+use Rattle.lit_solve.proofs.Words.{◌<◌, Any, AreCoherentSources, AreSourcesIn, Box, box_events, CanFill, Execution, Frame, Given}
+use Rattle.lit_solve.proofs.Words.{HappensBeforeIn, HasFalseGuardOn, HasLeastOrderIn, HasNoCompletion, HasOrder, HasSolution, Holds}
+use Rattle.lit_solve.proofs.Words.{IfNone, IfSome, IsBox, IsCompletion, IsFilled, IsForbiddenIn, IsIndependent, IsLeaf, IsOrderOf}
+use Rattle.lit_solve.proofs.Words.{IsSettled, length, List, None, Option, refl, Some, ℕ, ◌↔◌, ◌≡◌}
 use Rattle.lit_rel.proofs.SameRelations.{coherent_read_by}
-use Rattle.lit_solve.specs.declared.frame.Frame.{Frame}
-use Rattle.lit_solve.specs.declared.goal.Goal.TheVariants.{Any}
-use Rattle.lit_solve.specs.Box.{Box, IsBox, box_events}
-use Rattle.lit_solve.specs.Completion.{HasSolution, IsCompletion}
-use Rattle.lit_solve.specs.Fill.{AreCoherentSources, AreSourcesIn, CanFill, IsFilled, IsLeaf}
-use Rattle.lit_solve.specs.Given.{HappensBeforeIn, IsForbiddenIn}
-use Rattle.lit_solve.specs.Internal.Independent.{HasLeastOrderIn, IsIndependent}
-use Rattle.lit_solve.specs.Internal.Pruning.{HasNoCompletion}
-use Rattle.lit_solve.specs.Internal.Settled.{IsSettled}
 use Rattle.lit_solve.proofs.FillLemmas.{sources_lie}
 
 -- what sources have to be so that they are a completion's

@@ -1,15 +1,10 @@
 -- The least solution: if each domain has one source, these are the sources of each completion.
-use Rattle.lit_solve.proofs.Words.{◌++◌, ◌<◌, [], arith, byte_reads, Event, Execution, execution_events, get_or, inl, IsLeastMemoryOrder}
-use Rattle.lit_solve.proofs.Words.{IsLeastOrderOf, IsMemoryOrder, IsOrderOf, length, Less, List, MatchOption, nat_cmp, Option}
-use Rattle.lit_solve.proofs.Words.{same_number_lists, slice_cmp, slice_get-get_or, subst, sym, ℕ, ◌↔◌, ◌∙◌, ◌∷◌, ◌≡◌, ◌≢◌}
+use Rattle.lit_solve.proofs.Words.{◌++◌, ◌<◌, [], AreAloneBelow, arith, Box, box_events, byte_reads, Event, Execution, execution_events}
+use Rattle.lit_solve.proofs.Words.{get_or, Goal, HappensBeforeIn, HasSolution, HasSource, inl, IsBox, IsCompletion, IsForbiddenIn, IsLeaf}
+use Rattle.lit_solve.proofs.Words.{IsLeastMemoryOrder, IsLeastOrderOf, IsLeastSolution, IsLowest, IsMemoryOrder, IsOrderOf, IsSolution}
+use Rattle.lit_solve.proofs.Words.{length, Less, LiesIn, List, MatchOption, nat_cmp, Option, Prunes, same_number_lists, slice_cmp}
+use Rattle.lit_solve.proofs.Words.{slice_get-get_or, subst, sym, ℕ, ◌↔◌, ◌∙◌, ◌∷◌, ◌≡◌, ◌≢◌}
 use Rattle.lit_rel.proofs.PlaceLemmas.{place-push}
-use Rattle.lit_solve.specs.declared.goal.Goal.{Goal}
-use Rattle.lit_solve.specs.Box.{Box, HasSource, IsBox, LiesIn, box_events}
-use Rattle.lit_solve.specs.Completion.{HasSolution, IsCompletion, IsLeastSolution, IsSolution}
-use Rattle.lit_solve.specs.Fill.{IsLeaf}
-use Rattle.lit_solve.specs.Given.{HappensBeforeIn, IsForbiddenIn}
-use Rattle.lit_solve.specs.Internal.Pruning.{Prunes}
-use Rattle.lit_solve.specs.Internal.Descending.{AreAloneBelow, IsLowest}
 use Rattle.lit_solve.proofs.BoxLemmas.{same_events}
 use Rattle.lit_solve.proofs.CompletionLemmas.{events_same, sourced}
 use Rattle.lit_solve.proofs.FillLemmas.{sources_lie}

@@ -1,9 +1,8 @@
 -- Lists of numbers in their order: the first place where they differ decides.
-use Rattle.lit_solve.proofs.Words.{◌<◌, [], ap, ap₂, arith, cases_eq, cases_lt, cases_order, Equal, get_or, Greater, le-ltb, length, Less}
-use Rattle.lit_solve.proofs.Words.{List, nat_cmp, ne_eqb, Ordering, ordering_then, slice_cmp, suc, sym, zero, ℕ, inl, inr, ◌≢◌, ◌≤◌, ◌⊎◌}
-use Rattle.lit_solve.proofs.Words.{◌∙◌, ◌∷◌, ◌≡◌, ⊎_elim}
+use Rattle.lit_solve.proofs.Words.{◌<◌, [], ap, ap₂, arith, cases_eq, cases_lt, cases_order, Equal, get_or, Greater, inl, inr, IsGreaterAt}
+use Rattle.lit_solve.proofs.Words.{le-ltb, length, Less, List, nat_cmp, ne_eqb, Ordering, ordering_then, slice_cmp, suc, sym, zero, ℕ, ◌∙◌}
+use Rattle.lit_solve.proofs.Words.{◌∷◌, ◌≡◌, ◌≢◌, ◌≤◌, ◌⊎◌, ⊎_elim}
 use Rattle.lit_paths.proofs.Rising.{nat_cmp-less, nat_cmp-same}
-use Rattle.lit_solve.specs.Internal.Cut.{IsGreaterAt}
 
 nat_cmp-greater : (a b : ℕ) → b < a → nat_cmp a b ≡ Greater
 nat_cmp-greater a b h = grind (arith, le-ltb, ne_eqb)

@@ -1,11 +1,11 @@
 -- The number of the choice on a combination that has given sources.
-use Rattle.lit_solve.proofs.Words.{◌*◌, ◌+◌, ◌++◌, ◌<◌, [], ap, AreNumbered, AreSources, arith, byte_read_at, byte_reads, candidates_of}
-use Rattle.lit_solve.proofs.Words.{Choice, choices_before, common_steps, drop_all, drop_more, Event, events_in, get_or, HasSources}
-use Rattle.lit_solve.proofs.Words.{IsBegunBy, IsOfCombination, length, length-take-le, length_product, length_push, List, ListsCandidates}
-use Rattle.lit_solve.proofs.Words.{cases_lt, inl, inr, slice_set, suc, zero, get_or-set_other, get_or-set_same, Litmus, map, mul-le-mul_right, NumbersChoices, same_Some, slice_get-get_or, slice_get_within, Some}
-use Rattle.lit_solve.proofs.Words.{subst, sym, take, take_all, take_more, ways_from, ℕ, ◌∙◌, ◌∷◌, ◌≡◌, ◌≤◌}
+use Rattle.lit_solve.proofs.Words.{◌*◌, ◌+◌, ◌++◌, ◌<◌, [], ap, AreNumbered, AreRanks, AreSources, arith, byte_read_at, byte_reads}
+use Rattle.lit_solve.proofs.Words.{candidates_of, cases_lt, Choice, choices_before, common_steps, drop_all, drop_more, Event, events_in}
+use Rattle.lit_solve.proofs.Words.{get_or, get_or-set_other, get_or-set_same, HasSources, inl, inr, IsBegunBy, IsOfCombination, length}
+use Rattle.lit_solve.proofs.Words.{length-take-le, length_product, length_push, List, ListsCandidates, Litmus, map, mul-le-mul_right}
+use Rattle.lit_solve.proofs.Words.{NumbersChoices, same_Some, slice_get-get_or, slice_get_within, slice_set, Some, subst, suc, sym, take}
+use Rattle.lit_solve.proofs.Words.{take_all, take_more, ways_from, zero, ℕ, ◌∙◌, ◌∷◌, ◌≡◌, ◌≤◌}
 use Rattle.std.proofs.Common.{slice_get}
-use Rattle.lit_solve.specs.Internal.Frames.{AreRanks}
 
 -- the choices on a combination that begin with these sources have the numbers from `low` on
 pub record BeginAt (t : Litmus) (c : ℕ) (given : List ℕ) (low : ℕ) : Type 0 where

@@ -1,21 +1,14 @@
 -- Observed values: the value of a read from bytes that are decided one after the other, and the outcomes of the parts of a box.
-use Rattle.lit_solve.proofs.Words.{◌*◌, ◌+◌, ◌++◌, ◌<◌, [], ◌^◌, ap, ap₂, arith, byte_read_at, byte_reads, composed, drop, Event, Execution}
-use Rattle.lit_solve.proofs.Words.{execution_outcome, get_or, get_or-map, Laws, length, length-map, List, map, names_of, observed_read, refl}
-use Rattle.lit_solve.proofs.Words.{slice_get, slice_get-get_or, Some, suc, sym, take, take_all, take_more, observed_value, value_of, zero, ℕ}
-use Rattle.lit_solve.proofs.Words.{◌∙◌, ◌∷◌, ◌≡◌, ◌≢◌, ◌≤◌}
+use Rattle.lit_solve.proofs.Words.{◌*◌, ◌+◌, ◌++◌, ◌<◌, [], ◌^◌, ap, ap₂, AreSourcesIn, arith, Box, box_events, byte_read_at, byte_reads}
+use Rattle.lit_solve.proofs.Words.{bytes_taken, composed, drop, Event, Execution, execution_outcome, get_or, get_or-map, HasSource, IsBox}
+use Rattle.lit_solve.proofs.Words.{IsCompletion, IsValueObserved, IsValueOf, Laws, length, length-map, List, map, names_of, observed_read}
+use Rattle.lit_solve.proofs.Words.{observed_value, part_with, reads_on, refl, slice_get, slice_get-get_or, Some, stored_for, suc, sym}
+use Rattle.lit_solve.proofs.Words.{take, take_all, take_more, Taken, value_of, zero, ℕ, ◌∙◌, ◌∷◌, ◌≡◌, ◌≢◌, ◌≤◌}
 use Rattle.lit_paths.proofs.OutcomeRegisterSteps.{names_from-within}
 use Rattle.lit_paths.proofs.Products.{slice_get-drop}
 use Rattle.lit_valid.proofs.CompletionLemmas.{its_outcome}
-use Rattle.lit_solve.specs.declared.filling.Taken.{Taken}
 use Rattle.lit_solve.specs.declared.observation.ReadValue.{ReadValue}
 use Rattle.lit_solve.specs.declared.observation.ReadValue.TheVariants.{One}
-use Rattle.lit_solve.specs.Box.{Box, HasSource, IsBox, box_events}
-use Rattle.lit_solve.specs.Completion.{IsCompletion}
-use Rattle.lit_solve.specs.Fill.{AreSourcesIn}
-use Rattle.lit_solve.specs.Internal.ConditionValues.{stored_for}
-use Rattle.lit_solve.specs.Internal.Filling.{bytes_taken, reads_on}
-use Rattle.lit_solve.specs.Prospect.{IsValueOf}
-use Rattle.lit_solve.specs.Internal.Observation.{IsValueObserved, part_with}
 use Rattle.lit_solve.proofs.CompletionLemmas.{completes, part_of}
 use Rattle.lit_solve.proofs.FillLemmas.{sources_lie}
 use Rattle.lit_solve.proofs.FillingLemmas.{no_more, same_number, taken_other}

@@ -1,14 +1,10 @@
 -- Lists of open reads, the registers that observe them, and values of outcomes.
-use Rattle.lit_solve.proofs.Words.{◌++◌, ◌+◌, ◌<◌, [], ap, arith, cases_eq, EventSet}
-use Rattle.lit_solve.proofs.Words.{get_or, get_or_from_slice_get, get_or-set_other, get_or-set_same, Litmus, slice_set, HasEvent, inl, inr, length, List, names_of, none-some}
-use Rattle.lit_solve.proofs.Words.{observed_read, Option, refl, same_Some, slice_get, slice_get-get_or}
-use Rattle.lit_solve.proofs.Words.{Some, subst, suc, sym, zero, ℕ, ◌↔◌, ◌∙◌, ◌∷◌, ◌≡◌, ◌≢◌, ◌≤◌, ◌⊎◌}
+use Rattle.lit_solve.proofs.Words.{◌+◌, ◌++◌, ◌<◌, [], ap, AreOpenReads, AreValuesBeside, arith, Box, cases_eq, ChangesListed, EventSet}
+use Rattle.lit_solve.proofs.Words.{Filling, get_or, get_or-set_other, get_or-set_same, get_or_from_slice_get, HasEvent, HasValue, inl, inr}
+use Rattle.lit_solve.proofs.Words.{IsListed, IsOpenRead, IsValueBeside, length, List, Litmus, names_of, none-some, observed_read, Observes}
+use Rattle.lit_solve.proofs.Words.{OpenRead, Option, refl, same_Some, slice_get, slice_get-get_or, slice_set, Some, subst, suc, sym, zero}
+use Rattle.lit_solve.proofs.Words.{ℕ, ◌↔◌, ◌∙◌, ◌∷◌, ◌≡◌, ◌≢◌, ◌≤◌, ◌⊎◌}
 use Rattle.lit_rel.proofs.PlaceLemmas.{place-left, place-middle, place-push}
-use Rattle.lit_solve.specs.declared.product.OpenRead.{OpenRead}
-use Rattle.lit_solve.specs.declared.read_values.Filling.{Filling}
-use Rattle.lit_solve.specs.Box.{Box}
-use Rattle.lit_solve.specs.Internal.Product.{AreOpenReads, AreValuesBeside, ChangesListed, IsListed, IsOpenRead, IsValueBeside, Observes}
-use Rattle.lit_solve.specs.Internal.ReadValues.{HasValue}
 
 -- ---- members of a list
 pub member_or_not : (xs : List ℕ) (x : ℕ) → ((i : ℕ) × (slice_get xs i ≡ Some x)) ⊎ ¬ ((i : ℕ) × (slice_get xs i ≡ Some x))

@@ -1,17 +1,12 @@
 -- Frames before any propagation, and boxes with a cut domain.
-use Rattle.lit_solve.proofs.Words.{◌<◌, [], arith, common_steps, EventSet, Execution, Given, HappensBefore, HasEvent, Holds, IsTransitive}
-use Rattle.lit_solve.proofs.Words.{byte_reads, cases_eq, inl, inr, IsCandidate, subst, ◌⊎◌, length, ReadsByteFrom, rows_len, slice_get, Some, TwoWayRows, ℕ, ◌↔◌, ◌≡◌}
+use Rattle.lit_solve.proofs.Words.{◌<◌, [], arith, Box, box_events, byte_reads, cases_eq, common_steps, EventSet, Execution, Frame, Given}
+use Rattle.lit_solve.proofs.Words.{GivenIn, HappensBefore, HappensBeforeIn, HasAlone, HasEffect, HasEmptyDomain, HasEvent, HasSource}
+use Rattle.lit_solve.proofs.Words.{Holds, inl, inr, IsBox, IsCandidate, IsCompletion, IsContained, IsCut, IsForbiddenIn, IsForcedIn}
+use Rattle.lit_solve.proofs.Words.{IsSettled, IsTransitive, length, Prunes, ReadsByteFrom, rows_len, slice_get, Some, subst, TakesFrom}
+use Rattle.lit_solve.proofs.Words.{TwoWayRows, ℕ, ◌↔◌, ◌≡◌, ◌⊎◌}
 use Rattle.lit_rel.proofs.ChainLemmas.{Chain-append}
 use Rattle.lit_rel.proofs.GrowthLemmas.{Grows-from}
 use Rattle.lit_order.proofs.ForcingLemmas.{IsForced-grow}
-use Rattle.lit_solve.specs.declared.frame.Frame.{Frame}
-use Rattle.lit_solve.specs.Fill.{HasEffect}
-use Rattle.lit_solve.specs.Box.{Box, HasEmptyDomain, HasSource, IsBox, box_events}
-use Rattle.lit_solve.specs.Completion.{IsCompletion}
-use Rattle.lit_solve.specs.Given.{GivenIn, HappensBeforeIn, HasAlone, IsForbiddenIn, IsForcedIn}
-use Rattle.lit_solve.specs.Internal.Frames.{IsContained}
-use Rattle.lit_solve.specs.Internal.Pruning.{Prunes}
-use Rattle.lit_solve.specs.Internal.Settled.{IsCut, IsSettled, TakesFrom}
 use Rattle.lit_solve.proofs.DomainLemmas.{completion_at, domain_here, frame_at, pruned_at, pruned_contained, pruned_is_box, pruned_within, source_other}
 use Rattle.lit_solve.proofs.FillLemmas.{before_added, forbidden_added}
 

@@ -1,18 +1,14 @@
 -- Outcomes as a product: an observed read given one of its values, and what becomes of outcomes, of the other reads and of values.
-use Rattle.lit_solve.proofs.Words.{◌+◌, ◌<◌, [], ap, arith, byte_reads, cases_eq, Entry, Event, EventSet, Execution}
-use Rattle.lit_solve.proofs.Words.{execution_outcome, get_or, get_or-map, HasEvent, HasOutcome, inl, inr, Laws, length, List, map, names_of, none-some}
-use Rattle.lit_solve.proofs.Words.{None, observed_read, observed_value, Option, refl, same_number_lists, same_Some, slice_get, slice_get-get_or}
-use Rattle.lit_solve.proofs.Words.{slice_get_within, slice_cmp, nat_cmp, Less, Some, subst, suc, sym, value_of, zero, ℕ, ◌↔◌, ◌∙◌, ◌∷◌, ◌≡◌, ◌≢◌, ◌≤◌, ◌⊎◌}
+use Rattle.lit_solve.proofs.Words.{◌+◌, ◌<◌, [], AddsEntries, ap, AreOpenReads, AreValuesBeside, arith, Box, box_events, box_with}
+use Rattle.lit_solve.proofs.Words.{byte_reads, cases_eq, Entry, Event, EventSet, Execution, execution_outcome, Filling, FillsRead, get_or}
+use Rattle.lit_solve.proofs.Words.{get_or-map, GivesReads, HasEachOutcome, HasEvent, HasLeastOrderIn, HasOutcome, inl, inr, IsCompletion}
+use Rattle.lit_solve.proofs.Words.{IsIndependent, IsLeastEntry, IsLeastFilling, IsListed, IsNotGreaterOn, IsOpenRead, IsValueBeside, Laws}
+use Rattle.lit_solve.proofs.Words.{length, Less, LieOn, List, map, names_of, nat_cmp, None, none-some, observed_read, observed_value}
+use Rattle.lit_solve.proofs.Words.{Observes, OpenRead, Option, part_with, refl, same_number_lists, same_Some, slice_cmp, slice_get}
+use Rattle.lit_solve.proofs.Words.{slice_get-get_or, slice_get_within, Some, subst, suc, sym, value_of, zero, ℕ, ◌↔◌, ◌∙◌, ◌∷◌, ◌≡◌, ◌≢◌}
+use Rattle.lit_solve.proofs.Words.{◌≤◌, ◌⊎◌}
 use mathlib.Core.Path.{fun_ext}
 use Rattle.lit_rel.proofs.SetLemmas.{event_or_not}
-use Rattle.lit_solve.specs.declared.product.OpenRead.{OpenRead}
-use Rattle.lit_solve.specs.declared.read_values.Filling.{Filling}
-use Rattle.lit_solve.specs.Box.{Box, box_events, box_with}
-use Rattle.lit_solve.specs.Completion.{IsCompletion}
-use Rattle.lit_solve.specs.Internal.Independent.{FillsRead, GivesReads, HasLeastOrderIn, IsIndependent, IsLeastFilling, IsNotGreaterOn, LieOn}
-use Rattle.lit_solve.specs.Internal.Observation.{part_with}
-use Rattle.lit_solve.specs.Internal.Product.{AreOpenReads, AreValuesBeside, IsListed, IsOpenRead, IsValueBeside, Observes}
-use Rattle.lit_solve.specs.Outcomes.{AddsEntries, HasEachOutcome, IsLeastEntry}
 use Rattle.lit_solve.proofs.CompletionLemmas.{sourced}
 use Rattle.lit_solve.proofs.EntryLemmas.{adds_out, adds_stays}
 use Rattle.lit_solve.proofs.FillLemmas.{sources_lie}

@@ -1,13 +1,13 @@
 -- The choices of a range on a combination are those of its boxes.
-use Rattle.lit_solve.proofs.Words.{◌+◌, ◌-◌, ◌<◌, ap, AreSources, arith, byte_read_at, byte_reads, cases_lt, cases_order, Choice}
-use Rattle.lit_solve.proofs.Words.{choices_before, choices_of, combinations_of, events_in, HasSources, IfSome, IsOfCombination, length}
-use Rattle.lit_solve.proofs.Words.{Less, List, ListsChoices, Litmus, nat_cmp, None, Option, refl, same_Some, slice_cmp, slice_get-get_or}
-use Rattle.lit_solve.proofs.Words.{slice_get_within, slice_index, Some, subst, sym, ℕ, ◌↔◌, ◌∙◌, ◌≡◌, ◌≤◌, ⊎_elim}
+use Rattle.lit_solve.proofs.Words.{◌+◌, ◌-◌, ◌<◌, ap, AreSources, arith, boxes_events, boxes_len, BoxesModel, byte_read_at, byte_reads}
+use Rattle.lit_solve.proofs.Words.{cases_lt, cases_order, Choice, choices_before, choices_of, combinations_of, CutsRange, events_in}
+use Rattle.lit_solve.proofs.Words.{HasSources, IfSome, IsAbove, IsBelow, IsGreaterAt, IsHighEnd, IsLowEnd, IsOfCombination, IsRangeCut}
+use Rattle.lit_solve.proofs.Words.{length, Less, LiesInBox, List, ListsChoices, Litmus, nat_cmp, None, Option, parting_in, refl, same_Some}
+use Rattle.lit_solve.proofs.Words.{slice_cmp, slice_get-get_or, slice_get_within, slice_index, Some, subst, sym, ℕ, ◌↔◌, ◌∙◌, ◌≡◌, ◌≤◌}
+use Rattle.lit_solve.proofs.Words.{⊎_elim}
 use Rattle.std.proofs.Common.{slice_get}
 use Rattle.lit_paths.proofs.Rising.{nat_cmp-same, slice_cmp-same}
 use Rattle.lit_paths.proofs.Totals.{before_all}
-use Rattle.lit_solve.specs.Boxes.{BoxesModel, CutsRange, IsAbove, IsBelow, LiesInBox, boxes_events, boxes_len, parting_in}
-use Rattle.lit_solve.specs.Internal.Cut.{IsRangeCut, IsGreaterAt, IsHighEnd, IsLowEnd}
 use Rattle.lit_solve.proofs.CutLemmas.{IsBetween, IsInCut, between, few_boxes, found, rises}
 use Rattle.lit_solve.proofs.LexLemmas.{less_from_place, place_of_less}
 

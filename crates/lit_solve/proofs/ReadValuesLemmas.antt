@@ -1,17 +1,11 @@
 -- The values that a read can have in a box with independent reads, found by going through the bytes that its sources store.
-use Rattle.lit_solve.proofs.Words.{◌++◌, ◌<◌, [], append_assoc, arith, AreEventsIn, byte_read_at, byte_reads, cases_eq, cases_lt}
-use Rattle.lit_solve.proofs.Words.{Event, EventSet, Execution, get_or, get_or_from_slice_get, HasEvent, inl, inr, Laws, length, Less, List}
-use Rattle.lit_solve.proofs.Words.{nat_cmp, slice_cmp, slice_get, slice_get-get_or, slice_get_within, Some, subst, suc, sym, value_of, zero, ℕ}
-use Rattle.lit_solve.proofs.Words.{◌↔◌, ◌∙◌, ◌∷◌, ◌≡◌, ◌≢◌, ap}
+use Rattle.lit_solve.proofs.Words.{◌++◌, ◌<◌, [], AddsFillings, ap, append_assoc, AreEventsIn, AreFillings, AreSourcesIn, arith, Box}
+use Rattle.lit_solve.proofs.Words.{box_events, box_with, byte_read_at, byte_reads, cases_eq, cases_lt, Event, EventSet, Execution, Filling}
+use Rattle.lit_solve.proofs.Words.{FillsRead, get_or, get_or_from_slice_get, HasEvent, HasSource, HasValue, HaveEachValue, inl, inr}
+use Rattle.lit_solve.proofs.Words.{IsCompletion, IsCut, IsFilled, IsIndependent, IsLeastFilling, IsNotGreaterOn, Laws, length, Less, List}
+use Rattle.lit_solve.proofs.Words.{nat_cmp, slice_cmp, slice_get, slice_get-get_or, slice_get_within, Some, stored_for, subst, suc, sym}
+use Rattle.lit_solve.proofs.Words.{TakesFrom, value_of, zero, ℕ, ◌↔◌, ◌∙◌, ◌∷◌, ◌≡◌, ◌≢◌}
 use Rattle.lit_rel.proofs.PlaceLemmas.{place-left, place-middle}
-use Rattle.lit_solve.specs.declared.read_values.Filling.{Filling}
-use Rattle.lit_solve.specs.Box.{Box, HasSource, box_events, box_with}
-use Rattle.lit_solve.specs.Completion.{IsCompletion}
-use Rattle.lit_solve.specs.Fill.{AreSourcesIn, IsFilled}
-use Rattle.lit_solve.specs.Internal.ConditionValues.{stored_for}
-use Rattle.lit_solve.specs.Internal.Independent.{FillsRead, IsIndependent, IsLeastFilling, IsNotGreaterOn}
-use Rattle.lit_solve.specs.Internal.ReadValues.{AddsFillings, AreFillings, HasValue, HaveEachValue}
-use Rattle.lit_solve.specs.Internal.Settled.{IsCut, TakesFrom}
 use Rattle.lit_solve.proofs.CompletionLemmas.{sourced}
 use Rattle.lit_solve.proofs.FillLemmas.{filled_by, sources_lie}
 use Rattle.lit_solve.proofs.IndependentLemmas.{completes_with}

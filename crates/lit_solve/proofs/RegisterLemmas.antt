@@ -1,29 +1,24 @@
 -- A register's value in an outcome is the value of the read that it observes at the end of its agent's path.
-use Rattle.lit_solve.proofs.Words.{◌&&◌, ◌+◌, ◌++◌, ◌<◌, ◌==◌, [], accesses_of, Agent, agent_of, ap, ap₂, arith, Bool, cases_eq, cases_lt}
-use Rattle.lit_solve.proofs.Words.{CompareExchange, cond, does_read, End, eq-eqb, Event, event_at, events_in, Exchange, Execution}
-use Rattle.lit_solve.proofs.Words.{execution_outcome, false, false≢true, filter, first_event, get_or-map-range_with_len, get_or_past, If}
-use Rattle.lit_solve.proofs.Words.{if◌then◌else◌, inl, inr, Is, IsReadAt, IsStatementWalk, IsTrue, IsWalk, IsWalkIn, last_read}
+use Rattle.lit_solve.proofs.Words.{◌&&◌, ◌+◌, ◌++◌, ◌<◌, ◌==◌, [], accesses_of, Agent, agent_of, ap, ap₂, arith, Bool, Box, cases_eq}
+use Rattle.lit_solve.proofs.Words.{cases_lt, CompareExchange, cond, Decided, does_read, End, eq-eqb, Event, event_at, events_in, Exchange}
+use Rattle.lit_solve.proofs.Words.{Execution, execution_outcome, false, false≢true, filter, first_event, get_or-map-range_with_len}
+use Rattle.lit_solve.proofs.Words.{get_or_past, If, if◌then◌else◌, inl, inr, Is, IsBox, IsCompletion, IsDecided, IsOutcomeProspect}
+use Rattle.lit_solve.proofs.Words.{IsProspect, IsReadAt, IsReadDecided, IsStatementWalk, IsTrue, IsWalk, IsWalkIn, last_read}
 use Rattle.lit_solve.proofs.Words.{last_read_from, Laws, length, length-map, length-map-range_with_len, List, list_any, list_any-append}
-use Rattle.lit_solve.proofs.Words.{Litmus, Load, map, names_from, names_in, names_of, nat_tests, ne_eqb, None, none-some, number_on, Option}
-use Rattle.lit_solve.proofs.Words.{option_or, or_parts, path_in, path_on, range_with_len, observed_read, reads_into, refl, REGISTERS, same_Some}
-use Rattle.lit_solve.proofs.Words.{slice_get, slice_get-get_or, slice_index_or, Some, Statement, statement_writes, Statements, Step, Store}
-use Rattle.lit_solve.proofs.Words.{subst, suc, sym, Then, true, observed_value, value_in, walk_in, writes, zero, ◌||◌, ℕ, ◌∙◌, ◌∷◌, ◌≡◌, ◌≢◌}
-use Rattle.lit_solve.proofs.Words.{◌≤◌, ◌⊎◌}
+use Rattle.lit_solve.proofs.Words.{Litmus, Load, map, names_from, names_in, names_of, nat_tests, ne_eqb, None, none-some, number_on}
+use Rattle.lit_solve.proofs.Words.{observed_read, observed_value, OfClass, Option, option_or, or_parts, outcome_by, path_in, path_on}
+use Rattle.lit_solve.proofs.Words.{range_with_len, reads_into, refl, REGISTERS, same_Some, slice_get, slice_get-get_or, slice_index_or}
+use Rattle.lit_solve.proofs.Words.{Some, Statement, statement_writes, Statements, Step, Store, subst, suc, sym, Then, true, value_in}
+use Rattle.lit_solve.proofs.Words.{walk_in, writes, zero, ◌||◌, ℕ, ◌∙◌, ◌∷◌, ◌≡◌, ◌≢◌, ◌≤◌, ◌⊎◌}
 use Rattle.std.proofs.Common.{zip}
 use Rattle.lit_paths.proofs.OutcomeRegisterSteps.{names_from-within}
 use Rattle.lit_paths.proofs.Products.{product-known}
 use Rattle.lit_valid.proofs.CompletionLemmas.{its_outcome}
-use Rattle.lit_solve.specs.declared.condition_values.Decided.{Decided}
 use Rattle.lit_solve.specs.declared.condition_values.Decided.TheVariants.{Known, Undecided}
-use Rattle.lit_solve.specs.Box.{Box, IsBox}
-use Rattle.lit_solve.specs.Completion.{IsCompletion}
 use Rattle.lit_valid.specs.declared.class.Class.{Class}
 use Rattle.lit_valid.specs.Class.{is_of_class}
-use Rattle.lit_solve.specs.declared.goal.Goal.TheVariants.{OfClass}
 use Rattle.lit_solve.specs.declared.prospect.Prospect.{Prospect}
 use Rattle.lit_solve.specs.declared.prospect.Prospect.TheVariants.{Each, Nothing, Open}
-use Rattle.lit_solve.specs.Prospect.{IsOutcomeProspect, outcome_by}
-use Rattle.lit_solve.specs.Internal.ConditionValues.{IsDecided, IsProspect, IsReadDecided}
 use Rattle.lit_solve.proofs.CompletionLemmas.{completes, part_of}
 use Rattle.lit_solve.proofs.FillLemmas.{sources_lie}
 

@@ -1,13 +1,8 @@
 -- Solutions of a box and of its branches.
-use Rattle.lit_solve.proofs.Words.{◌<◌, arith, byte_reads, EventSet, Execution, get_or, HasEvent, length, same_Some, slice_get}
-use Rattle.lit_solve.proofs.Words.{slice_get-get_or, Some, ℕ, ◌↔◌, ◌≡◌}
+use Rattle.lit_solve.proofs.Words.{◌<◌, arith, Box, box_events, Branch, byte_reads, EventSet, Execution, get_or, Goal, GoesWith, HasEvent}
+use Rattle.lit_solve.proofs.Words.{HasSource, IsBranch, IsCut, IsSolution, IsWithin, length, same_Some, slice_get, slice_get-get_or, Some}
+use Rattle.lit_solve.proofs.Words.{TakesFrom, ℕ, ◌↔◌, ◌≡◌}
 use Rattle.lit_rel.proofs.SetLemmas.{event_or_not}
-use Rattle.lit_solve.specs.declared.goal.Goal.{Goal}
-use Rattle.lit_solve.specs.declared.stepping.Branch.{Branch}
-use Rattle.lit_solve.specs.Box.{Box, HasSource, IsWithin, box_events}
-use Rattle.lit_solve.specs.Completion.{IsSolution}
-use Rattle.lit_solve.specs.Internal.Searching.{GoesWith, IsBranch}
-use Rattle.lit_solve.specs.Internal.Settled.{IsCut, TakesFrom}
 use Rattle.lit_solve.proofs.CompletionLemmas.{sourced}
 use Rattle.lit_solve.proofs.PruningLemmas.{read_here}
 

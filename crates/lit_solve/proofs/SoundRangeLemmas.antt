@@ -1,12 +1,10 @@
 -- The invariant of `Boxes`, and what follows for a box.
-use Rattle.lit_solve.proofs.Words.{◌*◌, ◌+◌, ◌-◌, ◌<◌, AreEventsIn, arith, byte_read_at, BYTE_READ_LIMIT, byte_reads, cases_order}
-use Rattle.lit_solve.proofs.Words.{choices_before, Event, EVENT_LIMIT, events_in, EventSet, IfSome, IsCandidate, IsLitmus, IsOfCombination}
-use Rattle.lit_solve.proofs.Words.{length, List, ListsChoices, Litmus, MatchOption, None, Option, refl, same_Some, slice_get-get_or}
-use Rattle.lit_solve.proofs.Words.{slice_get_within, slice_index, Some, subst, ℕ, ◌≡◌, ◌≤◌}
-use Rattle.lit_solve.specs.Box.{IsBox, box_with}
-use Rattle.lit_solve.specs.Boxes.{AreDomainsIn, BoxesModel, boxes_events, boxes_len}
-use Rattle.lit_solve.specs.Internal.Cut.{AreEndSources, AreShared, IsRangeCut, IsGreaterAt, IsHighEnd, IsLowEnd, IsSame, IsSide}
-use Rattle.lit_solve.specs.Internal.SoundRange.{IsSoundRange}
+use Rattle.lit_solve.proofs.Words.{◌*◌, ◌+◌, ◌-◌, ◌<◌, AreDomainsIn, AreEndSources, AreEventsIn, AreShared, arith, box_with, boxes_events}
+use Rattle.lit_solve.proofs.Words.{boxes_len, BoxesModel, byte_read_at, BYTE_READ_LIMIT, byte_reads, cases_order, choices_before, Event}
+use Rattle.lit_solve.proofs.Words.{EVENT_LIMIT, events_in, EventSet, IfSome, IsBox, IsCandidate, IsGreaterAt, IsHighEnd, IsLitmus}
+use Rattle.lit_solve.proofs.Words.{IsLowEnd, IsOfCombination, IsRangeCut, IsSame, IsSide, IsSoundRange, length, List, ListsChoices, Litmus}
+use Rattle.lit_solve.proofs.Words.{MatchOption, None, Option, refl, same_Some, slice_get-get_or, slice_get_within, slice_index, Some}
+use Rattle.lit_solve.proofs.Words.{subst, ℕ, ◌≡◌, ◌≤◌}
 use Rattle.lit_solve.proofs.CutLemmas.{few_boxes}
 use Rattle.lit_solve.proofs.RangeLemmas.{reaches}
 

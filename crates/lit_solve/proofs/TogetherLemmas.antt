@@ -1,11 +1,8 @@
 -- Sources put together: each byte read takes what a list of sources of its own read has there.
-use Rattle.lit_solve.proofs.Words.{◌+◌, ◌<◌, ◌==◌, [], ap, AreOfEvents, AreSources, arith, Bool, byte_read_at, byte_reads, cases_eq}
-use Rattle.lit_solve.proofs.Words.{cases_lt, cond, Event, false, filter, get_or, inl, inr, length, List, nat_tests, none-some, refl}
-use Rattle.lit_solve.proofs.Words.{same_Some, slice_get, slice_get-get_or, slice_get_within, Some, subst, suc, sym, value_of, zero, zip, ℕ, ◌∙◌}
-use Rattle.lit_solve.proofs.Words.{◌∷◌, ◌≡◌, ◌≢◌, ◌≤◌, ◌⊎◌}
-use Rattle.lit_solve.specs.Box.{Box, box_events}
-use Rattle.lit_solve.specs.Fill.{AreSourcesIn, CanFill, IsFilled}
-use Rattle.lit_solve.specs.Internal.Independent.{LieOn}
+use Rattle.lit_solve.proofs.Words.{◌+◌, ◌<◌, ◌==◌, [], ap, AreOfEvents, AreSources, AreSourcesIn, arith, Bool, Box, box_events}
+use Rattle.lit_solve.proofs.Words.{byte_read_at, byte_reads, CanFill, cases_eq, cases_lt, cond, Event, false, filter, get_or, inl, inr}
+use Rattle.lit_solve.proofs.Words.{IsFilled, length, LieOn, List, nat_tests, none-some, refl, same_Some, slice_get, slice_get-get_or}
+use Rattle.lit_solve.proofs.Words.{slice_get_within, Some, subst, suc, sym, value_of, zero, zip, ℕ, ◌∙◌, ◌∷◌, ◌≡◌, ◌≢◌, ◌≤◌, ◌⊎◌}
 
 -- ---- a read goes by its own bytes alone
 -- the byte reads of one read, each with its source

@@ -1,4 +1,4 @@
--- The words that the proofs of this crate speak in, of the library and of the crates below: passed on to all of them.
+-- The words that the proofs of this crate speak in, of the library, of the crates below and of its own specs: passed on to all of them.
 pub use Rattle.lit_order.specs.Forcing.{Given, IsForced, Through}
 pub use Rattle.lit_order.specs.MemoryOrder.{HasOrder, IsLeastMemoryOrder, IsLeastOrderOf, IsMemoryOrder, IsOrderOf, StandsBefore}
 pub use Rattle.lit_paths.specs.ByteReads.{IsCandidate, byte_read_at, byte_reads, pair_of}
@@ -46,6 +46,43 @@ pub use Rattle.lit_valid.specs.Completion.{Completes, IsOnCombination}
 pub use Rattle.lit_valid.specs.Entry.{Entry, HasOutcome}
 pub use Rattle.lit_valid.specs.Laws.{Laws}
 pub use Rattle.lit_valid.specs.PartOutcome.{observed_read, observed_value}
+pub use Rattle.lit_solve.specs.Box.{Box, box_events, box_with, events_on, HasEmptyDomain, HasSource, IsBox, IsWithin, LiesIn}
+pub use Rattle.lit_solve.specs.Boxes.{AreDomainsIn, boxes_events, boxes_len, BoxesModel, CutsRange, IsAbove, IsBelow, IsInBox, LiesInBox}
+pub use Rattle.lit_solve.specs.Boxes.{parting_in}
+pub use Rattle.lit_solve.specs.Completion.{HasSolution, IsCompletion, IsLeastSolution, IsSolution}
+pub use Rattle.lit_solve.specs.Fill.{AreCoherentSources, AreSourcesIn, CanFill, HasEffect, IsFilled, IsIdle, IsLeaf}
+pub use Rattle.lit_solve.specs.Given.{GivenIn, HappensBeforeIn, HasAlone, IsForbiddenIn, IsForcedIn}
+pub use Rattle.lit_solve.specs.Goal.{Meets}
+pub use Rattle.lit_solve.specs.Internal.ConditionValues.{IsByteDecided, IsDecided, IsProspect, IsReadDecided, stored_for}
+pub use Rattle.lit_solve.specs.Internal.Cut.{AreEndSources, AreShared, end_sources, IsGreaterAt, IsHighEnd, IsLowEnd, IsRangeCut, IsSame}
+pub use Rattle.lit_solve.specs.Internal.Cut.{IsSide}
+pub use Rattle.lit_solve.specs.Internal.Descending.{AreAloneBelow, IsLowest, IsLowestAt, IsNotLeastAt}
+pub use Rattle.lit_solve.specs.Internal.Filling.{bytes_taken, CanFillOn, CanFillWith, FillsBytes, HasRoom, LieFrom, reads_on, TakesOn}
+pub use Rattle.lit_solve.specs.Internal.Filling.{TakesWhole, WholeWith, WouldNotTear}
+pub use Rattle.lit_solve.specs.Internal.Frames.{AreCoherentAt, AreRanks, box_of, IsContained, IsExact, IsForbiddenAt, IsProblem}
+pub use Rattle.lit_solve.specs.Internal.Frames.{IsSynchronizedAt}
+pub use Rattle.lit_solve.specs.Internal.Independent.{FillsAll, FillsRead, GivesReads, HasLeastOrderIn, IsIndependent, IsLeastFilling}
+pub use Rattle.lit_solve.specs.Internal.Independent.{IsNotGreaterOn, LieOn}
+pub use Rattle.lit_solve.specs.Internal.Leaves.{CanFillAt, MayHave, RacesAt, RacesIn}
+pub use Rattle.lit_solve.specs.Internal.Observation.{AreFirstValues, IsObservation, IsObservedAt, IsValueObserved, part_with}
+pub use Rattle.lit_solve.specs.Internal.Product.{AreOpenReads, AreValuesBeside, ChangesListed, IsListed, IsOpenRead, IsValueBeside}
+pub use Rattle.lit_solve.specs.Internal.Product.{Observes}
+pub use Rattle.lit_solve.specs.Internal.Pruning.{HasNoCompletion, Prunes, size_of}
+pub use Rattle.lit_solve.specs.Internal.ReadValues.{AddsFillings, AreFillings, HasValue, HaveEachValue}
+pub use Rattle.lit_solve.specs.Internal.Searching.{GoesWith, IsBranch}
+pub use Rattle.lit_solve.specs.Internal.Settled.{IsCut, IsSettled, TakesFrom}
+pub use Rattle.lit_solve.specs.Internal.SoundRange.{IsSoundRange}
+pub use Rattle.lit_solve.specs.Outcomes.{AddsEntries, AreNewEntries, HasEachOutcome, IsLeastEntry}
+pub use Rattle.lit_solve.specs.Prospect.{IsOutcomeProspect, IsUndecidedAt, IsValueOf, outcome_by}
+pub use Rattle.lit_solve.specs.Prunable.{IsPrunable, IsRefusedOn, IsRefuted}
+pub use Rattle.lit_solve.specs.declared.condition_values.Decided.{Decided}
+pub use Rattle.lit_solve.specs.declared.filling.Taken.{Taken}
+pub use Rattle.lit_solve.specs.declared.frame.Frame.{Frame}
+pub use Rattle.lit_solve.specs.declared.goal.Goal.{Goal}
+pub use Rattle.lit_solve.specs.declared.goal.Goal.TheVariants.{Any, OfClass, Race}
+pub use Rattle.lit_solve.specs.declared.product.OpenRead.{OpenRead}
+pub use Rattle.lit_solve.specs.declared.read_values.Filling.{Filling}
+pub use Rattle.lit_solve.specs.declared.stepping.Branch.{Branch}
 pub use Rattle.std.proofs.Common.{Bool, Global, List, None, Option, Some, Vec, [], ap, ap₂, arith, below_more, cond, drop, eq-eqb, false}
 pub use Rattle.std.proofs.Common.{filter, get_or, inl, inr, length, length-append, length-set, map, not, refl, rules, set, subst, suc, sym}
 pub use Rattle.std.proofs.Common.{take, true, zero, ℕ, ⊎_elim, ◌&&◌, ◌*◌, ◌++◌, ◌+◌, ◌-◌, ◌<◌, ◌==◌, ◌^◌, ◌||◌, ◌↔◌, ◌∙◌, ◌∷◌, ◌≡◌, ◌≢◌}

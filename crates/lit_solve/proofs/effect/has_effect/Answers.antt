@@ -1,6 +1,5 @@
-use Rattle.lit_solve.proofs.Words.{arith, HasEvent, inl, inr, IsTrue, ℕ, ◌↔◌, ◌≡◌, ◌⊎◌}
+use Rattle.lit_solve.proofs.Words.{arith, HasEffect, HasEvent, inl, inr, IsTrue, ℕ, ◌↔◌, ◌≡◌, ◌⊎◌}
 use Rattle.lit_solve.proofs.EffectLemmas.{effect_of_source, peer_of_effect}
-use Rattle.lit_solve.specs.Fill.{HasEffect}
 use Rattle.lit_solve.proofs.FrameLemmas.{not_true}
 use Rattle.lit_solve.proofs.effect.has_effect.Goals as goal
 

@@ -1,4 +1,4 @@
-use Rattle.std.proofs.Common.{arith}
+use Rattle.lit_solve.proofs.Words.{arith}
 use Rattle.lit_rel.proofs.SetLemmas.{split_less}
 use Rattle.lit_solve.proofs.ReadByteLemmas.{matching_more, matching_same}
 use Rattle.lit_solve.proofs.filling.storing.Goals as goal

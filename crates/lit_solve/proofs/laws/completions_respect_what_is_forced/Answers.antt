@@ -1,4 +1,4 @@
-use Rattle.lit_solve.specs.Box.{box_events}
+use Rattle.lit_solve.proofs.Words.{box_events}
 use Rattle.lit_solve.proofs.CompletionLemmas.{forced_respected, order_here}
 use Rattle.lit_solve.proofs.laws.completions_respect_what_is_forced.Goals as goal
 

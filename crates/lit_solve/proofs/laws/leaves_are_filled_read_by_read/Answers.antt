@@ -1,5 +1,4 @@
-use Rattle.lit_solve.proofs.Words.{List, subst, ℕ}
-use Rattle.lit_solve.specs.Fill.{IsFilled}
+use Rattle.lit_solve.proofs.Words.{IsFilled, List, subst, ℕ}
 use Rattle.lit_solve.proofs.FillLemmas.{completion_of_filled, filled_by, order_given, unwritten_true}
 use Rattle.lit_solve.proofs.laws.leaves_are_filled_read_by_read.Goals as goal
 

@@ -1,4 +1,4 @@
-use Rattle.lit_solve.specs.Box.{box_events}
+use Rattle.lit_solve.proofs.Words.{box_events}
 use Rattle.lit_solve.proofs.TogetherLemmas.{filled_together}
 use Rattle.lit_solve.proofs.laws.reads_are_filled_together.Goals as goal
 

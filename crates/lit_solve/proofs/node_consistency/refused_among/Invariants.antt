@@ -1,6 +1,4 @@
-use Rattle.lit_solve.proofs.Words.{byte_read_at, HasEvent, ℕ, ◌↔◌}
-use Rattle.lit_solve.specs.Box.{events_on}
-use Rattle.lit_solve.specs.Prunable.{IsRefusedOn}
+use Rattle.lit_solve.proofs.Words.{byte_read_at, events_on, HasEvent, IsRefusedOn, ℕ, ◌↔◌}
 use Rattle.lit_solve.proofs.node_consistency.refused_among.Given as goal
 
 abbrev pub invariant-loop-source : goal.invariant-loop-source

@@ -1,5 +1,4 @@
-use Rattle.lit_solve.proofs.Words.{[], arith, ap, Event, get_or, length, List, slice_get, Some, subst, sym, ℕ, ◌∙◌, ◌≡◌}
-use Rattle.lit_solve.specs.Box.{events_on}
+use Rattle.lit_solve.proofs.Words.{[], ap, arith, Event, events_on, get_or, length, List, slice_get, Some, subst, sym, ℕ, ◌∙◌, ◌≡◌}
 use Rattle.lit_solve.proofs.NumberLemmas.{BeginAt, begin_none, candidate_listed, rank_there, next_begun, next_within, whole_has, whole_within}
 use Rattle.lit_solve.proofs.numbering.number_by.Goals as goal
 

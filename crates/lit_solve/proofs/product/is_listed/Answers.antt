@@ -1,5 +1,5 @@
-use Rattle.lit_solve.proofs.Words.{ap, arith, cases_eq, false≢true, inl, inr, get_or, get_or_from_slice_get, refl, slice_get-get_or, slice_get_within, sym, ℕ, ◌∙◌}
-use Rattle.lit_solve.specs.declared.product.OpenRead.{OpenRead}
+use Rattle.lit_solve.proofs.Words.{ap, arith, cases_eq, false≢true, get_or, get_or_from_slice_get, inl, inr, OpenRead, refl}
+use Rattle.lit_solve.proofs.Words.{slice_get-get_or, slice_get_within, sym, ℕ, ◌∙◌}
 use Rattle.lit_solve.proofs.product.is_listed.Goals as goal
 
 pub returns-then-reads-i : goal.returns-then-reads-i

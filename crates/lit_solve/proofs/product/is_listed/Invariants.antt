@@ -1,5 +1,4 @@
-use Rattle.lit_solve.proofs.Words.{◌<◌, slice_get, Some, ℕ, ◌≡◌, ◌≢◌}
-use Rattle.lit_solve.specs.declared.product.OpenRead.{OpenRead}
+use Rattle.lit_solve.proofs.Words.{◌<◌, OpenRead, slice_get, Some, ℕ, ◌≡◌, ◌≢◌}
 use Rattle.lit_solve.proofs.product.is_listed.Given as goal
 
 abbrev pub invariant-loop-i : goal.invariant-loop-i

@@ -1,5 +1,4 @@
-use Rattle.lit_solve.specs.Box.{box_with}
-use Rattle.lit_solve.specs.Internal.Frames.{box_of}
+use Rattle.lit_solve.proofs.Words.{box_of, box_with}
 use Rattle.lit_solve.proofs.LeastLemmas.{least_told}
 use Rattle.lit_solve.proofs.solver.least.Goals as goal
 

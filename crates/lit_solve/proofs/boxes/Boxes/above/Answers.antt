@@ -1,5 +1,4 @@
-use Rattle.lit_solve.proofs.Words.{ap, arith, byte_reads, length}
-use Rattle.lit_solve.specs.Boxes.{BoxesModel, boxes_events}
+use Rattle.lit_solve.proofs.Words.{ap, arith, boxes_events, BoxesModel, byte_reads, length}
 use Rattle.lit_solve.proofs.SoundRangeLemmas.{low_fits}
 use Rattle.lit_solve.proofs.boxes.Boxes.above.Goals as goal
 

@@ -1,4 +1,4 @@
-use Rattle.std.proofs.Common.{arith}
+use Rattle.lit_solve.proofs.Words.{arith}
 use Rattle.lit_solve.proofs.BoxesLemmas.{domain_exact}
 use Rattle.lit_solve.proofs.boxes.Boxes.domain.Goals as goal
 

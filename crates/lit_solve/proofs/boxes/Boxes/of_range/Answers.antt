@@ -1,6 +1,5 @@
-use Rattle.lit_solve.proofs.Words.{◌-◌, ap, AreEventsIn, arith, byte_reads, Event, events_in, length, length-map, List, MatchOption}
-use Rattle.lit_solve.proofs.Words.{pair_of, subst, sym, ℕ, ◌∙◌, ◌≡◌}
-use Rattle.lit_solve.specs.Internal.Cut.{end_sources}
+use Rattle.lit_solve.proofs.Words.{◌-◌, ap, AreEventsIn, arith, byte_reads, end_sources, Event, events_in, length, length-map, List}
+use Rattle.lit_solve.proofs.Words.{MatchOption, pair_of, subst, sym, ℕ, ◌∙◌, ◌≡◌}
 use Rattle.lit_solve.proofs.SoundRangeLemmas.{cut_of_range, high_sourced, low_sourced, shared_fits}
 use Rattle.lit_solve.proofs.RangeLemmas.{cuts_range}
 use Rattle.lit_solve.proofs.boxes.Boxes.of_range.Goals as goal

@@ -1,6 +1,5 @@
-use Rattle.lit_solve.proofs.Words.{ap, arith, byte_reads, length, length-map, pair_of, subst, sym, ◌∙◌, ◌≡◌}
-use Rattle.lit_solve.specs.Boxes.{BoxesModel, boxes_events}
-use Rattle.lit_solve.specs.Internal.SoundRange.{IsSoundRange}
+use Rattle.lit_solve.proofs.Words.{ap, arith, boxes_events, BoxesModel, byte_reads, IsSoundRange, length, length-map, pair_of, subst, sym}
+use Rattle.lit_solve.proofs.Words.{◌∙◌, ◌≡◌}
 use Rattle.lit_solve.proofs.BoxesLemmas.{one_domain_more}
 use Rattle.lit_solve.proofs.SoundRangeLemmas.{box_of_domains}
 use Rattle.lit_solve.proofs.boxes.Boxes.put.Goals as goal

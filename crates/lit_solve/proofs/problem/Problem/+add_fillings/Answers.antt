@@ -1,9 +1,6 @@
-use Rattle.lit_solve.proofs.Words.{◌<◌, ap, HasEvent, List, no_events, refl, slice_index_or, subst, sym, value_of, ℕ}
+use Rattle.lit_solve.proofs.Words.{◌<◌, AddsFillings, ap, box_with, events_on, Filling, HasEvent, HasValue, List, no_events, refl, size_of}
+use Rattle.lit_solve.proofs.Words.{slice_index_or, subst, sym, value_of, ℕ}
 use Rattle.lit_rel.proofs.SetLemmas.{split_less_yet}
-use Rattle.lit_solve.specs.declared.read_values.Filling.{Filling}
-use Rattle.lit_solve.specs.Box.{box_with, events_on}
-use Rattle.lit_solve.specs.Internal.Pruning.{size_of}
-use Rattle.lit_solve.specs.Internal.ReadValues.{AddsFillings, HasValue}
 use Rattle.lit_solve.proofs.FillLemmas.{sources_lie}
 use Rattle.lit_solve.proofs.ObservedLemmas.{IsSeenBy, all_seen_by, same_stores_among, seen_more, some_differ}
 use Rattle.lit_solve.proofs.PruningLemmas.{source_known}

@@ -1,7 +1,4 @@
-use Rattle.lit_solve.proofs.Words.{HasEvent, value_of, ℕ}
-use Rattle.lit_solve.specs.Box.{HasSource, box_with, events_on}
-use Rattle.lit_solve.specs.Internal.Pruning.{size_of}
-use Rattle.lit_solve.specs.Internal.ReadValues.{AddsFillings, HasValue}
+use Rattle.lit_solve.proofs.Words.{AddsFillings, box_with, events_on, HasEvent, HasSource, HasValue, size_of, value_of, ℕ}
 use Rattle.lit_solve.proofs.ObservedLemmas.{IsSeenBy}
 use Rattle.lit_solve.proofs.problem.Problem.+add_fillings.Given as goal
 

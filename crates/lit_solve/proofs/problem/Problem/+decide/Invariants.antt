@@ -1,5 +1,4 @@
-use Rattle.lit_solve.proofs.Words.{condition_of, drop}
-use Rattle.lit_solve.specs.Box.{box_with}
+use Rattle.lit_solve.proofs.Words.{box_with, condition_of, drop}
 use Rattle.lit_solve.proofs.ConditionLemmas.{IsAllLeft, IsAnyLeft}
 use Rattle.lit_solve.proofs.problem.Problem.+decide.Given as goal
 

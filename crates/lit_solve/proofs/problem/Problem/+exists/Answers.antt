@@ -1,10 +1,5 @@
-use Rattle.std.proofs.Common.{arith}
-use Rattle.lit_solve.proofs.Words.{◌<◌, Execution, HasEvent, subst, sym, ℕ}
+use Rattle.lit_solve.proofs.Words.{◌<◌, arith, box_of, Execution, HasEvent, IsSolution, size_of, subst, sym, TakesFrom, ℕ}
 use Rattle.lit_rel.proofs.SetLemmas.{split_less_yet}
-use Rattle.lit_solve.specs.Completion.{IsSolution}
-use Rattle.lit_solve.specs.Internal.Frames.{box_of}
-use Rattle.lit_solve.specs.Internal.Pruning.{size_of}
-use Rattle.lit_solve.specs.Internal.Settled.{TakesFrom}
 use Rattle.lit_solve.proofs.FrameLemmas.{not_true}
 use Rattle.lit_solve.proofs.PruningLemmas.{source_known}
 use Rattle.lit_solve.proofs.SearchingLemmas.{left_over, not_all, solution_in, solution_out, takes_some}

@@ -1,8 +1,4 @@
-use Rattle.lit_solve.proofs.Words.{Execution, HasEvent, slice_get, Some, ℕ, ◌≡◌}
-use Rattle.lit_solve.specs.Box.{HasSource}
-use Rattle.lit_solve.specs.Completion.{IsSolution}
-use Rattle.lit_solve.specs.Internal.Frames.{box_of}
-use Rattle.lit_solve.specs.Internal.Pruning.{size_of}
+use Rattle.lit_solve.proofs.Words.{box_of, Execution, HasEvent, HasSource, IsSolution, size_of, slice_get, Some, ℕ, ◌≡◌}
 use Rattle.lit_solve.proofs.problem.Problem.+exists.Given as goal
 
 abbrev pub decreases-exists : goal.decreases-exists

@@ -1,7 +1,6 @@
-use Rattle.lit_solve.proofs.Words.{◌+◌, arith, byte_read_at, common_steps, false≢true, HasEvent, refl}
+use Rattle.lit_solve.proofs.Words.{◌+◌, arith, box_with, byte_read_at, CanFillOn, CanFillWith, common_steps, events_on, false≢true}
+use Rattle.lit_solve.proofs.Words.{HasEvent, HasSource, refl}
 use Rattle.lit_rel.proofs.SetLemmas.{split_less, split_less_yet}
-use Rattle.lit_solve.specs.Box.{HasSource, box_with, events_on}
-use Rattle.lit_solve.specs.Internal.Filling.{CanFillOn, CanFillWith}
 use Rattle.lit_solve.proofs.FillingLemmas.{fill_with, filled_at_end, filled_with, dominated_in_vain, next_filled, next_filled_back}
 use Rattle.lit_solve.proofs.ReadByteLemmas.{none_later, read_there, vain_more}
 use Rattle.lit_solve.proofs.problem.Problem.+fills_on.Goals as goal

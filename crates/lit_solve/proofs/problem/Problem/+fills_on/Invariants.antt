@@ -1,6 +1,4 @@
-use Rattle.lit_solve.proofs.Words.{◌-◌, byte_read_at, byte_reads, HasEvent, length, ℕ}
-use Rattle.lit_solve.specs.Box.{HasSource, box_with, events_on}
-use Rattle.lit_solve.specs.Internal.Filling.{CanFillWith}
+use Rattle.lit_solve.proofs.Words.{◌-◌, box_with, byte_read_at, byte_reads, CanFillWith, events_on, HasEvent, HasSource, length, ℕ}
 use Rattle.lit_solve.proofs.problem.Problem.+fills_on.Given as goal
 
 abbrev pub decreases-fills_on : goal.decreases-fills_on

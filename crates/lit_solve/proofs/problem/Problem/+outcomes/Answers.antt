@@ -1,10 +1,6 @@
-use Rattle.lit_solve.proofs.Words.{◌<◌, ap, Entry, Execution, HasEvent, inr, List, refl, subst, sym, ℕ}
+use Rattle.lit_solve.proofs.Words.{◌<◌, AddsEntries, ap, box_of, Entry, Execution, HasEvent, inr, IsCompletion, List, refl, size_of, subst}
+use Rattle.lit_solve.proofs.Words.{sym, TakesFrom, ℕ}
 use Rattle.lit_rel.proofs.SetLemmas.{split_less_yet}
-use Rattle.lit_solve.specs.Completion.{IsCompletion}
-use Rattle.lit_solve.specs.Outcomes.{AddsEntries}
-use Rattle.lit_solve.specs.Internal.Frames.{box_of}
-use Rattle.lit_solve.specs.Internal.Pruning.{size_of}
-use Rattle.lit_solve.specs.Internal.Settled.{TakesFrom}
 use Rattle.lit_solve.proofs.EntryLemmas.{adds_more, adds_none}
 use Rattle.lit_solve.proofs.PruningLemmas.{source_known}
 use Rattle.lit_solve.proofs.ObservedLemmas.{IsSeen, same_stores_among, all_seen, first_within, part_adds, seen_part, seen_past, some_differ}

@@ -1,8 +1,4 @@
-use Rattle.lit_solve.proofs.Words.{HasEvent, ℕ}
-use Rattle.lit_solve.specs.Box.{HasSource}
-use Rattle.lit_solve.specs.Internal.Frames.{box_of}
-use Rattle.lit_solve.specs.Internal.Pruning.{size_of}
-use Rattle.lit_solve.specs.Outcomes.{AddsEntries}
+use Rattle.lit_solve.proofs.Words.{AddsEntries, box_of, HasEvent, HasSource, size_of, ℕ}
 use Rattle.lit_solve.proofs.ObservedLemmas.{IsSeen}
 use Rattle.lit_solve.proofs.problem.Problem.+outcomes.Given as goal
 

@@ -1,8 +1,6 @@
-use Rattle.lit_solve.proofs.Words.{[], ◌<◌, ap, arith, EventSet, get_or, HasEvent, inr, length, List, refl, slice_get, slice_get-get_or, Some, subst, sym, ℕ, ◌↔◌, ◌∙◌, ◌∷◌, ◌≡◌}
-use Rattle.lit_solve.specs.declared.product.OpenRead.{OpenRead}
-use Rattle.lit_solve.specs.declared.read_values.Filling.{Filling}
-use Rattle.lit_solve.specs.Box.{box_with}
-use Rattle.lit_solve.specs.Internal.Product.{AreOpenReads, AreValuesBeside, ChangesListed}
+use Rattle.lit_solve.proofs.Words.{◌<◌, [], ap, AreOpenReads, AreValuesBeside, arith, box_with, ChangesListed, EventSet, Filling, get_or}
+use Rattle.lit_solve.proofs.Words.{HasEvent, inr, length, List, OpenRead, refl, slice_get, slice_get-get_or, Some, subst, sym, ℕ, ◌↔◌, ◌∙◌}
+use Rattle.lit_solve.proofs.Words.{◌∷◌, ◌≡◌}
 use Rattle.lit_solve.proofs.EntryLemmas.{adds_more, adds_none}
 use Rattle.lit_solve.proofs.OpenReadLemmas.{beside_changed, changes_first, changes_more, changes_none, changes_rest, value_from_first}
 use Rattle.lit_solve.proofs.ProductLemmas.{all_values_seen, fills_first, long_first, next_independent, next_order, next_out, next_reads, next_values, outcome_beside, seen_next}

@@ -1,8 +1,5 @@
-use Rattle.lit_solve.proofs.Words.{Execution, execution_outcome, HasOutcome, length, value_of, ◌⊎◌}
-use Rattle.lit_solve.specs.Box.{box_with, events_on}
-use Rattle.lit_solve.specs.Completion.{IsCompletion}
-use Rattle.lit_solve.specs.Internal.Product.{ChangesListed}
-use Rattle.lit_solve.specs.Outcomes.{AddsEntries}
+use Rattle.lit_solve.proofs.Words.{AddsEntries, box_with, ChangesListed, events_on, Execution, execution_outcome, HasOutcome, IsCompletion}
+use Rattle.lit_solve.proofs.Words.{length, value_of, ◌⊎◌}
 use Rattle.lit_solve.proofs.OpenReadLemmas.{IsValueFrom}
 use Rattle.lit_solve.proofs.problem.Problem.+product.Given as goal
 

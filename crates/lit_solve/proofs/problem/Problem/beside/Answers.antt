@@ -1,7 +1,5 @@
-use Rattle.lit_solve.proofs.Words.{◌+◌, ◌<◌, ap, arith, cases_eq, get_or, get_or_from_slice_get, HasEvent, inl, inr, length, List, refl, slice_get}
-use Rattle.lit_solve.proofs.Words.{slice_get-get_or, slice_get_within, Some, sym, ℕ, ◌∙◌, ◌≡◌, ◌≢◌}
-use Rattle.lit_solve.specs.declared.product.OpenRead.{OpenRead}
-use Rattle.lit_solve.specs.Box.{events_on}
+use Rattle.lit_solve.proofs.Words.{◌+◌, ◌<◌, ap, arith, cases_eq, events_on, get_or, get_or_from_slice_get, HasEvent, inl, inr, length}
+use Rattle.lit_solve.proofs.Words.{List, OpenRead, refl, slice_get, slice_get-get_or, slice_get_within, Some, sym, ℕ, ◌∙◌, ◌≡◌, ◌≢◌}
 use Rattle.lit_solve.proofs.problem.Problem.beside.Goals as goal
 
 pub set_of-requires : goal.set_of-requires

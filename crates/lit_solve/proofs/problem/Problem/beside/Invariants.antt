@@ -1,6 +1,4 @@
-use Rattle.lit_solve.proofs.Words.{◌<◌, HasEvent, length, slice_get, Some, ℕ, ◌↔◌, ◌≡◌, ◌≢◌}
-use Rattle.lit_solve.specs.declared.product.OpenRead.{OpenRead}
-use Rattle.lit_solve.specs.Box.{events_on}
+use Rattle.lit_solve.proofs.Words.{◌<◌, events_on, HasEvent, length, OpenRead, slice_get, Some, ℕ, ◌↔◌, ◌≡◌, ◌≢◌}
 use Rattle.lit_solve.proofs.problem.Problem.beside.Given as goal
 
 abbrev pub invariant-loop-i : goal.invariant-loop-i

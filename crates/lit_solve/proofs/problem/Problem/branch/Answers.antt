@@ -1,5 +1,4 @@
-use Rattle.lit_solve.proofs.Words.{arith}
-use Rattle.lit_solve.specs.Internal.Frames.{box_of}
+use Rattle.lit_solve.proofs.Words.{arith, box_of}
 use Rattle.lit_solve.proofs.BranchingLemmas.{none_is_leaf, best_stays, best_more}
 use Rattle.lit_solve.proofs.problem.Problem.branch.Goals as goal
 use Rattle.lit_solve.proofs.problem.Problem.branch.Goals.{then-can_force, else-can_force}

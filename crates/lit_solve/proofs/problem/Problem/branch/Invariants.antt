@@ -1,4 +1,4 @@
-use Rattle.lit_solve.specs.Internal.Frames.{box_of}
+use Rattle.lit_solve.proofs.Words.{box_of}
 use Rattle.lit_solve.proofs.BranchingLemmas.{IsBestBelow}
 use Rattle.lit_solve.proofs.problem.Problem.branch.Given as goal
 

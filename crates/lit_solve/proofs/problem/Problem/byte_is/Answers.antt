@@ -1,6 +1,5 @@
-use Rattle.lit_solve.proofs.Words.{arith, common_steps, eq-eqb, refl, sym, ◌∙◌}
+use Rattle.lit_solve.proofs.Words.{arith, box_with, common_steps, eq-eqb, refl, sym, ◌∙◌}
 use Rattle.lit_rel.proofs.SetLemmas.{event_or_not}
-use Rattle.lit_solve.specs.Box.{box_with}
 use Rattle.lit_solve.proofs.ReadValueLemmas.{undecided_by}
 use Rattle.lit_solve.proofs.problem.Problem.byte_is.Goals as goal
 

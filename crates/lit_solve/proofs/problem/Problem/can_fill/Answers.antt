@@ -1,5 +1,4 @@
-use Rattle.lit_solve.proofs.Words.{arith, event_at, HasEvent, inl, inr, sym, ◌≤◌}
-use Rattle.lit_solve.specs.Box.{box_with, events_on}
+use Rattle.lit_solve.proofs.Words.{arith, box_with, event_at, events_on, HasEvent, inl, inr, sym, ◌≤◌}
 use Rattle.lit_solve.proofs.FillingLemmas.{CanFillOn-same, filled_from}
 use Rattle.lit_solve.proofs.ReadByteLemmas.{room_first}
 use Rattle.lit_solve.proofs.problem.Problem.can_fill.Goals as goal

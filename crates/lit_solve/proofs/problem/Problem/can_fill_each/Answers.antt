@@ -1,6 +1,4 @@
-use Rattle.lit_solve.proofs.Words.{below_more}
-use Rattle.lit_solve.specs.Fill.{CanFill}
-use Rattle.lit_solve.specs.Box.{box_with}
+use Rattle.lit_solve.proofs.Words.{below_more, box_with, CanFill}
 use Rattle.lit_solve.proofs.problem.Problem.can_fill_each.Goals as goal
 
 pub loop-read-preserved : goal.loop-read-preserved

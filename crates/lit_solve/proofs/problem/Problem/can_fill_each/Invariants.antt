@@ -1,6 +1,4 @@
-use Rattle.lit_solve.proofs.Words.{◌<◌, ℕ}
-use Rattle.lit_solve.specs.Fill.{CanFill}
-use Rattle.lit_solve.specs.Box.{box_with}
+use Rattle.lit_solve.proofs.Words.{◌<◌, box_with, CanFill, ℕ}
 use Rattle.lit_solve.proofs.problem.Problem.can_fill_each.Given as goal
 
 abbrev pub invariant-loop-read : goal.invariant-loop-read

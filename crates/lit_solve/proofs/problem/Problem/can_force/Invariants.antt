@@ -1,7 +1,4 @@
-use Rattle.lit_solve.proofs.Words.{HasEvent, ℕ}
-use Rattle.lit_solve.specs.Box.{HasSource, events_on}
-use Rattle.lit_solve.specs.Fill.{HasEffect}
-use Rattle.lit_solve.specs.Internal.Frames.{box_of}
+use Rattle.lit_solve.proofs.Words.{box_of, events_on, HasEffect, HasEvent, HasSource, ℕ}
 use Rattle.lit_solve.proofs.problem.Problem.can_force.Given as goal
 
 abbrev pub invariant-loop-source : goal.invariant-loop-source

@@ -1,9 +1,5 @@
-use Rattle.lit_solve.proofs.Words.{◌<◌, ap, arith, EventSet, length, not, refl, slice_set, subst, sym, ℕ, ◌≤◌}
-use Rattle.lit_solve.specs.declared.frame.Frame.{Frame}
-use Rattle.lit_solve.specs.Box.{Box}
-use Rattle.lit_solve.specs.Internal.Pruning.{size_of}
-use Rattle.lit_solve.specs.Internal.Settled.{IsCut, IsSettled}
-use Rattle.lit_solve.specs.Internal.Frames.{box_of}
+use Rattle.lit_solve.proofs.Words.{◌<◌, ap, arith, Box, box_of, EventSet, Frame, IsCut, IsSettled, length, not, refl, size_of, slice_set}
+use Rattle.lit_solve.proofs.Words.{subst, sym, ℕ, ◌≤◌}
 use Rattle.lit_solve.proofs.DomainLemmas.{pruned_at, pruned_contained, none_at, size_less}
 use Rattle.lit_solve.proofs.FrameLemmas.{not_true}
 use Rattle.lit_solve.proofs.PruningLemmas.{some_exactly}

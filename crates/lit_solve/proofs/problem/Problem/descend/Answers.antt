@@ -1,6 +1,4 @@
-use Rattle.lit_solve.proofs.Words.{◌<◌, arith, byte_reads, length}
-use Rattle.lit_solve.specs.Box.{Box, events_on}
-use Rattle.lit_solve.specs.Internal.Frames.{box_of}
+use Rattle.lit_solve.proofs.Words.{◌<◌, arith, Box, box_of, byte_reads, events_on, length}
 use Rattle.lit_solve.proofs.DescendingLemmas.{alone_below_stays, alone_more, lowest_on}
 use Rattle.lit_solve.proofs.problem.Problem.descend.Goals as goal
 

@@ -1,8 +1,4 @@
-use Rattle.lit_solve.proofs.Words.{IsTrue}
-use Rattle.lit_solve.specs.Completion.{HasSolution}
-use Rattle.lit_solve.specs.Internal.Descending.{AreAloneBelow, IsLowest}
-use Rattle.lit_solve.specs.Internal.Frames.{box_of}
-use Rattle.lit_solve.specs.Internal.Settled.{IsSettled}
+use Rattle.lit_solve.proofs.Words.{AreAloneBelow, box_of, HasSolution, IsLowest, IsSettled, IsTrue}
 use Rattle.lit_solve.proofs.problem.Problem.descend.Given as goal
 
 abbrev pub invariant-loop-place : goal.invariant-loop-place

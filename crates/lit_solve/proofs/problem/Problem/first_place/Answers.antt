@@ -1,5 +1,4 @@
-use Rattle.lit_solve.proofs.Words.{arith, pair_of}
-use Rattle.lit_solve.specs.Box.{events_on}
+use Rattle.lit_solve.proofs.Words.{arith, events_on, pair_of}
 use Rattle.lit_solve.proofs.ReadByteLemmas.{rise}
 use Rattle.lit_solve.proofs.problem.Problem.first_place.Goals as goal
 

@@ -1,5 +1,4 @@
-use Rattle.lit_solve.proofs.Words.{◌<◌, byte_reads, slice_get, Some, ℕ, ◌≡◌}
-use Rattle.lit_solve.specs.Box.{events_on}
+use Rattle.lit_solve.proofs.Words.{◌<◌, byte_reads, events_on, slice_get, Some, ℕ, ◌≡◌}
 use Rattle.lit_solve.proofs.problem.Problem.first_place.Given as goal
 
 abbrev pub invariant-loop-place : goal.invariant-loop-place

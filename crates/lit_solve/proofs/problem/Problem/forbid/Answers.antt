@@ -1,5 +1,4 @@
-use Rattle.lit_solve.proofs.Words.{Forbids, Holds}
-use Rattle.lit_solve.specs.Internal.Frames.{box_of}
+use Rattle.lit_solve.proofs.Words.{box_of, Forbids, Holds}
 use Rattle.lit_solve.proofs.FrameLemmas.{forbidden_more, forbidden_none}
 use Rattle.lit_solve.proofs.problem.Problem.forbid.Goals as goal
 

@@ -1,6 +1,4 @@
-use Rattle.lit_solve.proofs.Words.{EventSet, Forbids, List, refl, subst, ℕ}
-use Rattle.lit_solve.specs.Given.{IsForcedIn}
-use Rattle.lit_solve.specs.Internal.Frames.{box_of}
+use Rattle.lit_solve.proofs.Words.{box_of, EventSet, Forbids, IsForcedIn, List, refl, subst, ℕ}
 use Rattle.lit_solve.proofs.FrameLemmas.{forced_exact, forced_sound, forced_whole, not_true}
 use Rattle.lit_solve.proofs.problem.Problem.force.Goals as goal
 

@@ -1,6 +1,4 @@
-use Rattle.lit_solve.proofs.Words.{ap, false≢true, pair_of, same_Some, subst, sym, ℕ, ◌∙◌, ◌≡◌}
-use Rattle.lit_solve.specs.Box.{events_on}
-use Rattle.lit_solve.specs.Fill.{HasEffect}
+use Rattle.lit_solve.proofs.Words.{ap, events_on, false≢true, HasEffect, pair_of, same_Some, subst, sym, ℕ, ◌∙◌, ◌≡◌}
 use Rattle.lit_solve.proofs.problem.Problem.forces.Goals as goal
 
 pub returns-in-Some : goal.returns-in-Some

@@ -1,5 +1,4 @@
-use Rattle.lit_solve.proofs.Words.{◌-◌, byte_reads, length}
-use Rattle.lit_solve.specs.Box.{events_on}
+use Rattle.lit_solve.proofs.Words.{◌-◌, byte_reads, events_on, length}
 use Rattle.lit_solve.proofs.problem.Problem.forcing_byte.Given as goal
 
 abbrev pub decreases-bytes : goal.decreases-bytes

@@ -1,5 +1,5 @@
-use Rattle.lit_solve.proofs.Words.{◌<◌, ◌+◌, ◌↔◌, arith, byte_read_at, byte_reads, false≢true, length-set, HasEvent, length, slice_get, slice_get-get_or, get_or, Some, subst, sym, ap, ◌≡◌, ◌∙◌, List, EventSet, ℕ}
-use Rattle.lit_solve.specs.Box.{box_with, events_on}
+use Rattle.lit_solve.proofs.Words.{◌+◌, ◌<◌, ap, arith, box_with, byte_read_at, byte_reads, events_on, EventSet, false≢true, get_or}
+use Rattle.lit_solve.proofs.Words.{HasEvent, length, length-set, List, slice_get, slice_get-get_or, Some, subst, sym, ℕ, ◌↔◌, ◌∙◌, ◌≡◌}
 use Rattle.lit_solve.proofs.GivenReadLemmas.{IsGivenBelow, all_given, given_more, other_more}
 use Rattle.lit_solve.proofs.PruningLemmas.{source_known}
 use Rattle.lit_solve.proofs.problem.Problem.give.Goals as goal

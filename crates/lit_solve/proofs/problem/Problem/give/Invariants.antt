@@ -1,4 +1,4 @@
-use Rattle.lit_solve.specs.Box.{box_with}
+use Rattle.lit_solve.proofs.Words.{box_with}
 use Rattle.lit_solve.proofs.GivenReadLemmas.{IsGivenBelow}
 use Rattle.lit_solve.proofs.problem.Problem.give.Given as goal
 

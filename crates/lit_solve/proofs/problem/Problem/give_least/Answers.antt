@@ -1,10 +1,6 @@
-use Rattle.lit_solve.proofs.Words.{arith, EventSet, List, Litmus, subst, sym, ℕ, ◌≡◌}
+use Rattle.lit_solve.proofs.Words.{Any, arith, Box, box_with, EventSet, HasAlone, HasLeastOrderIn, IsIndependent, IsLowestAt, List, Litmus}
+use Rattle.lit_solve.proofs.Words.{subst, sym, ℕ, ◌≡◌}
 use Rattle.lit_rel.proofs.SetLemmas.{split_less}
-use Rattle.lit_solve.specs.declared.goal.Goal.TheVariants.{Any}
-use Rattle.lit_solve.specs.Box.{Box, box_with}
-use Rattle.lit_solve.specs.Given.{HasAlone}
-use Rattle.lit_solve.specs.Internal.Descending.{IsLowestAt}
-use Rattle.lit_solve.specs.Internal.Independent.{HasLeastOrderIn, IsIndependent}
 use Rattle.lit_solve.proofs.DescendingLemmas.{cut_alone, lowest_at}
 use Rattle.lit_solve.proofs.IndependentLemmas.{independent_solution}
 use Rattle.lit_solve.proofs.PruningLemmas.{source_known}

@@ -1,7 +1,4 @@
-use Rattle.lit_solve.proofs.Words.{Execution, HasEvent, slice_get, Some, ℕ, ◌≡◌}
-use Rattle.lit_solve.specs.declared.goal.Goal.TheVariants.{Any}
-use Rattle.lit_solve.specs.Box.{HasSource, box_with}
-use Rattle.lit_solve.specs.Completion.{IsSolution}
+use Rattle.lit_solve.proofs.Words.{Any, box_with, Execution, HasEvent, HasSource, IsSolution, slice_get, Some, ℕ, ◌≡◌}
 use Rattle.lit_solve.proofs.problem.Problem.give_least.Given as goal
 
 abbrev pub invariant-loop-source : goal.invariant-loop-source

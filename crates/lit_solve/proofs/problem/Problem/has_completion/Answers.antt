@@ -1,5 +1,4 @@
-use Rattle.lit_solve.proofs.Words.{sym, ◌∙◌}
-use Rattle.lit_solve.specs.Internal.Frames.{box_of}
+use Rattle.lit_solve.proofs.Words.{box_of, sym, ◌∙◌}
 use Rattle.lit_solve.proofs.IndependentLemmas.{leaf_decided}
 use Rattle.lit_solve.proofs.problem.Problem.has_completion.Goals as goal
 

@@ -1,5 +1,4 @@
-use Rattle.lit_solve.proofs.Words.{◌<◌, inl, inr, subst, ℕ, ◌≡◌, ◌⊎◌}
-use Rattle.lit_solve.specs.Box.{HasSource, box_with}
+use Rattle.lit_solve.proofs.Words.{◌<◌, box_with, HasSource, inl, inr, subst, ℕ, ◌≡◌, ◌⊎◌}
 use Rattle.lit_solve.proofs.FrameLemmas.{below_or_last, not_true}
 use Rattle.lit_solve.proofs.problem.Problem.has_empty.Goals as goal
 

@@ -1,5 +1,4 @@
-use Rattle.lit_solve.proofs.Words.{◌<◌, ℕ}
-use Rattle.lit_solve.specs.Box.{HasSource, box_with}
+use Rattle.lit_solve.proofs.Words.{◌<◌, box_with, HasSource, ℕ}
 use Rattle.lit_solve.proofs.problem.Problem.has_empty.Given as goal
 
 abbrev pub invariant-loop-place : goal.invariant-loop-place

@@ -1,11 +1,5 @@
-use Rattle.lit_solve.proofs.Words.{Holds, IsTrue, subst, sym}
+use Rattle.lit_solve.proofs.Words.{AreCoherentSources, box_events, box_of, Goal, HappensBeforeIn, HasSolution, Holds, IsTrue, subst, sym}
 use Rattle.lit_rel.proofs.SameRelations.{coherent_read_by}
-use Rattle.lit_solve.specs.declared.goal.Goal.{Goal}
-use Rattle.lit_solve.specs.Box.{box_events}
-use Rattle.lit_solve.specs.Completion.{HasSolution}
-use Rattle.lit_solve.specs.Fill.{AreCoherentSources}
-use Rattle.lit_solve.specs.Given.{HappensBeforeIn}
-use Rattle.lit_solve.specs.Internal.Frames.{box_of}
 use Rattle.lit_solve.proofs.problem.Problem.is_met.Goals as goal
 
 pub returns-then-has_completion : goal.returns-then-has_completion

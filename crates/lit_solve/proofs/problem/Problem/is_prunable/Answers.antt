@@ -1,7 +1,5 @@
-use Rattle.lit_solve.proofs.Words.{ap, byte_read_at, CanReadWhole, event_at, false≢true, subst, sym, ℕ, ◌∙◌, ◌≡◌}
-use Rattle.lit_solve.specs.Prunable.{IsPrunable}
-use Rattle.lit_solve.specs.Box.{events_on}
-use Rattle.lit_solve.specs.Internal.Frames.{box_of}
+use Rattle.lit_solve.proofs.Words.{ap, box_of, byte_read_at, CanReadWhole, event_at, events_on, false≢true, IsPrunable, subst, sym, ℕ, ◌∙◌}
+use Rattle.lit_solve.proofs.Words.{◌≡◌}
 use Rattle.lit_solve.proofs.PruningLemmas.{between_out, incoherent_out, later_out, tear_out}
 use Rattle.lit_solve.proofs.problem.Problem.is_prunable.Goals as goal
 use Rattle.lit_solve.proofs.problem.Problem.is_prunable.Goals.{then-not-is_coherent, else-not-is_coherent, then-is_forced_later, else-is_forced_later}

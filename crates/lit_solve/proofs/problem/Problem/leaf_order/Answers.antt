@@ -1,5 +1,4 @@
-use Rattle.lit_solve.proofs.Words.{false≢true, sym, ◌∙◌}
-use Rattle.lit_solve.specs.Internal.Frames.{box_of}
+use Rattle.lit_solve.proofs.Words.{box_of, false≢true, sym, ◌∙◌}
 use Rattle.lit_solve.proofs.LeafLemmas.{fills_each, independent_if, no_false_unwritten, none_if}
 use Rattle.lit_solve.proofs.problem.Problem.leaf_order.Goals as goal
 

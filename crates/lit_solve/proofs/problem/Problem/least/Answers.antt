@@ -1,5 +1,4 @@
-use Rattle.lit_solve.proofs.Words.{false, false≢true, IfNone, is_some, None, Option, Some, sym, ℕ, ◌≡◌}
-use Rattle.lit_solve.specs.Internal.Frames.{box_of}
+use Rattle.lit_solve.proofs.Words.{box_of, false, false≢true, IfNone, is_some, None, Option, Some, sym, ℕ, ◌≡◌}
 use Rattle.lit_solve.proofs.FillLemmas.{order_given}
 use Rattle.lit_solve.proofs.LeastLemmas.{least_found}
 use Rattle.lit_solve.proofs.problem.Problem.least.Goals as goal

@@ -1,7 +1,4 @@
-use Rattle.lit_solve.proofs.Words.{◌<◌, arith, byte_reads, length, subst, ◌≡◌}
-use Rattle.lit_solve.specs.declared.goal.Goal.TheVariants.{Any}
-use Rattle.lit_solve.specs.Box.{Box, box_with, events_on}
-use Rattle.lit_solve.specs.Internal.Descending.{AreAloneBelow}
+use Rattle.lit_solve.proofs.Words.{◌<◌, Any, AreAloneBelow, arith, Box, box_with, byte_reads, events_on, length, subst, ◌≡◌}
 use Rattle.lit_solve.proofs.DescendingLemmas.{alone_below_stays, alone_more, lowest_on}
 use Rattle.lit_solve.proofs.IndependentLemmas.{independent_solution}
 use Rattle.lit_solve.proofs.LeastLemmas.{completion_found, least_found, not_less}

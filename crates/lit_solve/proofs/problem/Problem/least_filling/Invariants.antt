@@ -1,8 +1,4 @@
-use Rattle.lit_solve.proofs.Words.{List, ℕ}
-use Rattle.lit_solve.specs.declared.goal.Goal.TheVariants.{Any}
-use Rattle.lit_solve.specs.Box.{box_with}
-use Rattle.lit_solve.specs.Internal.Descending.{AreAloneBelow, IsLowest}
-use Rattle.lit_solve.specs.Internal.Independent.{HasLeastOrderIn, IsIndependent}
+use Rattle.lit_solve.proofs.Words.{Any, AreAloneBelow, box_with, HasLeastOrderIn, IsIndependent, IsLowest, List, ℕ}
 use Rattle.lit_solve.proofs.problem.Problem.least_filling.Given as goal
 
 abbrev pub invariant-loop-place : goal.invariant-loop-place

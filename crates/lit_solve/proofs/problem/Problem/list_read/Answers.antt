@@ -1,9 +1,4 @@
-use Rattle.lit_solve.proofs.Words.{◌++◌, ap, List, subst, sym, ◌∙◌}
-use Rattle.lit_solve.specs.declared.read_values.Filling.{Filling}
-use Rattle.lit_solve.specs.Internal.ReadValues.{AreFillings}
-use Rattle.lit_solve.specs.declared.product.OpenRead.{OpenRead}
-use Rattle.lit_solve.specs.Box.{box_with}
-use Rattle.lit_solve.specs.Internal.Product.{AreOpenReads, IsListed}
+use Rattle.lit_solve.proofs.Words.{◌++◌, ap, AreFillings, AreOpenReads, box_with, Filling, IsListed, List, OpenRead, subst, sym, ◌∙◌}
 use Rattle.lit_solve.proofs.OpenReadLemmas.{listed_last, listed_more, reads_more}
 use Rattle.lit_solve.proofs.problem.Problem.list_read.Goals as goal
 

@@ -1,9 +1,6 @@
-use Rattle.lit_solve.proofs.Words.{◌<◌, arith, Bool, IsTrue, byte_read_at, byte_reads, EventSet, HasEvent, length, refl, subst, sym, ℕ, ◌↔◌, ◌≡◌}
-use Rattle.lit_solve.specs.declared.frame.Frame.{Frame}
-use Rattle.lit_solve.specs.Box.{Box, HasSource, box_events, events_on}
-use Rattle.lit_solve.specs.Fill.{CanFill}
-use Rattle.lit_solve.specs.Internal.Frames.{IsContained, box_of}
-use Rattle.lit_solve.specs.Internal.Leaves.{CanFillAt, MayHave}
+use Rattle.lit_solve.proofs.Words.{◌<◌, arith, Bool, Box, box_events, box_of, byte_read_at, byte_reads, CanFill, CanFillAt, events_on}
+use Rattle.lit_solve.proofs.Words.{EventSet, Frame, HasEvent, HasSource, IsContained, IsTrue, length, MayHave, refl, subst, sym, ℕ, ◌↔◌}
+use Rattle.lit_solve.proofs.Words.{◌≡◌}
 use Rattle.lit_solve.proofs.DomainLemmas.{frame_at, pruned_at, pruned_contained}
 use Rattle.lit_solve.proofs.PruningLemmas.{source_known}
 use Rattle.lit_solve.proofs.RacingLemmas.{can_fill_alone, one_within, read_number}

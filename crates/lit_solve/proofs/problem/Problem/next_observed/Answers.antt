@@ -1,6 +1,4 @@
-use Rattle.lit_solve.proofs.Words.{IfSome, None, Option, Some, subst, sym, unwrap_or, ℕ}
-use Rattle.lit_solve.specs.Internal.Frames.{box_of}
-use Rattle.lit_solve.specs.Internal.Observation.{IsObservation}
+use Rattle.lit_solve.proofs.Words.{box_of, IfSome, IsObservation, None, Option, Some, subst, sym, unwrap_or, ℕ}
 use Rattle.lit_solve.proofs.problem.Problem.next_observed.Goals as goal
 
 -- what holds of what is found, if anything is, and of another one

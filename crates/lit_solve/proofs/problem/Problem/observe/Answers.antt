@@ -1,6 +1,5 @@
-use Rattle.lit_solve.proofs.Words.{◌<◌, ap, arith, common_steps, execution_outcome, get_or, length, List, Litmus, names_of, subst, sym}
-use Rattle.lit_solve.proofs.Words.{take, ℕ, ◌∙◌, ◌≡◌}
-use Rattle.lit_solve.specs.Box.{box_with}
+use Rattle.lit_solve.proofs.Words.{◌<◌, ap, arith, box_with, common_steps, execution_outcome, get_or, length, List, Litmus, names_of}
+use Rattle.lit_solve.proofs.Words.{subst, sym, take, ℕ, ◌∙◌, ◌≡◌}
 use Rattle.lit_solve.proofs.ObservationLemmas.{all_values, value_more}
 use Rattle.lit_solve.proofs.problem.Problem.observe.Goals as goal
 

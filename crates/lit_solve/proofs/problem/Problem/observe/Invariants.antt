@@ -1,6 +1,4 @@
-use Rattle.lit_solve.proofs.Words.{length, ◌≡◌}
-use Rattle.lit_solve.specs.Box.{box_with}
-use Rattle.lit_solve.specs.Internal.Observation.{AreFirstValues}
+use Rattle.lit_solve.proofs.Words.{AreFirstValues, box_with, length, ◌≡◌}
 use Rattle.lit_solve.proofs.problem.Problem.observe.Given as goal
 
 abbrev pub invariant-loop-i : goal.invariant-loop-i

@@ -1,6 +1,5 @@
-use Rattle.lit_solve.proofs.Words.{◌+◌, ◌<◌, ap, ap₂, arith, does_read, event_at, first_event, IsTrue, length, Litmus, None, number_on}
-use Rattle.lit_solve.proofs.Words.{Option, slice_index_or, subst, sym, ℕ, ◌∙◌, ◌≡◌}
-use Rattle.lit_solve.specs.Box.{events_on}
+use Rattle.lit_solve.proofs.Words.{◌+◌, ◌<◌, ap, ap₂, arith, does_read, event_at, events_on, first_event, IsTrue, length, Litmus, None}
+use Rattle.lit_solve.proofs.Words.{number_on, Option, slice_index_or, subst, sym, ℕ, ◌∙◌, ◌≡◌}
 use Rattle.lit_solve.proofs.RegisterLemmas.{observed_reads, none_beyond, none_without_agent}
 use Rattle.lit_solve.proofs.problem.Problem.observed_read.Goals.{then-agent-agents-via-then-agent-agents, then-agent-agents-via-else-agent-agents+then-from-ge-REGISTERS}
 use Rattle.lit_solve.proofs.problem.Problem.observed_read.Goals as goal

@@ -1,8 +1,7 @@
-use Rattle.lit_solve.proofs.Words.{[], ◌<◌, ap, AreEventsIn, ArePeers, byte_read_at, candidates_of, cases_eq, get_or-set_other, get_or-set_same, inl, inr, refl, slice_index_or, slice_set, arith, BYTE_READ_LIMIT, byte_reads, combinations_of, Event, IsCandidate}
-use Rattle.lit_solve.proofs.Words.{IsLitmus, length, length-set, List, Litmus, names_of, slice_get, slice_get_within, Some, subst, sym, ℕ}
-use Rattle.lit_solve.proofs.Words.{◌∙◌, ◌≡◌, ◌≤◌}
-use Rattle.lit_solve.specs.Box.{events_on}
-use Rattle.lit_solve.specs.Prunable.{IsRefusedOn}
+use Rattle.lit_solve.proofs.Words.{◌<◌, [], ap, AreEventsIn, ArePeers, arith, byte_read_at, BYTE_READ_LIMIT, byte_reads, candidates_of}
+use Rattle.lit_solve.proofs.Words.{cases_eq, combinations_of, Event, events_on, get_or-set_other, get_or-set_same, inl, inr, IsCandidate}
+use Rattle.lit_solve.proofs.Words.{IsLitmus, IsRefusedOn, length, length-set, List, Litmus, names_of, refl, slice_get, slice_get_within}
+use Rattle.lit_solve.proofs.Words.{slice_index_or, slice_set, Some, subst, sym, ℕ, ◌∙◌, ◌≡◌, ◌≤◌}
 use Rattle.lit_solve.proofs.CandidateLemmas.{sets_more}
 use Rattle.lit_solve.proofs.PruningLemmas.{as_many}
 use Rattle.lit_solve.proofs.problem.Problem.open.Goals as goal

@@ -1,7 +1,5 @@
-use Rattle.lit_solve.proofs.Words.{[], ◌<◌, byte_read_at, candidates_of, BYTE_READ_LIMIT, byte_reads, HasEvent, IsCandidate, length, no_events, slice_get, slice_index_or}
-use Rattle.lit_solve.proofs.Words.{Some, ℕ, ◌↔◌, ◌≡◌}
-use Rattle.lit_solve.specs.Box.{events_on}
-use Rattle.lit_solve.specs.Prunable.{IsRefusedOn}
+use Rattle.lit_solve.proofs.Words.{◌<◌, [], byte_read_at, BYTE_READ_LIMIT, byte_reads, candidates_of, events_on, HasEvent, IsCandidate}
+use Rattle.lit_solve.proofs.Words.{IsRefusedOn, length, no_events, slice_get, slice_index_or, Some, ℕ, ◌↔◌, ◌≡◌}
 use Rattle.lit_solve.proofs.problem.Problem.open.Given as goal
 
 abbrev pub invariant-loop-place : goal.invariant-loop-place

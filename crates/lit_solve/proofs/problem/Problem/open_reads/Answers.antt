@@ -1,7 +1,5 @@
-use Rattle.lit_solve.proofs.Words.{◌+◌, ◌<◌, ap, arith, get_or, inl, inr, length, List, Litmus, names_of, None, Option, refl, Some, subst, sym, ℕ, ◌∙◌, ◌≡◌, ◌≢◌}
-use Rattle.lit_solve.specs.declared.product.OpenRead.{OpenRead}
-use Rattle.lit_solve.specs.Box.{box_with}
-use Rattle.lit_solve.specs.Internal.Product.{AreOpenReads, IsListed, IsValueBeside, Observes}
+use Rattle.lit_solve.proofs.Words.{◌+◌, ◌<◌, ap, AreOpenReads, arith, box_with, get_or, inl, inr, IsListed, IsValueBeside, length, List}
+use Rattle.lit_solve.proofs.Words.{Litmus, names_of, None, Observes, OpenRead, Option, refl, Some, subst, sym, ℕ, ◌∙◌, ◌≡◌, ◌≢◌}
 use Rattle.lit_solve.proofs.FillLemmas.{sources_lie}
 use Rattle.lit_solve.proofs.OpenReadLemmas.{register_reads, values_more}
 use Rattle.lit_solve.proofs.ProductLemmas.{outcome_at, outcome_unobserved}

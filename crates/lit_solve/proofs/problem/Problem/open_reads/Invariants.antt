@@ -1,6 +1,4 @@
-use Rattle.lit_solve.proofs.Words.{◌<◌, get_or, length, ℕ, ◌≡◌}
-use Rattle.lit_solve.specs.Box.{box_with}
-use Rattle.lit_solve.specs.Internal.Product.{AreOpenReads, IsValueBeside}
+use Rattle.lit_solve.proofs.Words.{◌<◌, AreOpenReads, box_with, get_or, IsValueBeside, length, ℕ, ◌≡◌}
 use Rattle.lit_solve.proofs.problem.Problem.open_reads.Given as goal
 
 abbrev pub invariant-loop-i : goal.invariant-loop-i

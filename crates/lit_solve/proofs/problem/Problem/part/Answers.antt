@@ -1,6 +1,4 @@
-use Rattle.lit_solve.proofs.Words.{[], arith, Bool, MatchBool, subst, sym, ◌≡◌}
-use Rattle.lit_solve.specs.Internal.ConditionValues.{stored_for}
-use Rattle.lit_solve.specs.Box.{box_with}
+use Rattle.lit_solve.proofs.Words.{[], arith, Bool, box_with, MatchBool, stored_for, subst, sym, ◌≡◌}
 use Rattle.lit_solve.proofs.problem.Problem.part.Goals as goal
 
 pub set_of-requires : goal.set_of-requires

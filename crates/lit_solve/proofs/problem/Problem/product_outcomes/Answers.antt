@@ -1,12 +1,8 @@
-use Rattle.lit_solve.proofs.Words.{[], ◌==◌, ◌<◌, ap, arith, byte_reads, Execution, length, Less, List, nat_cmp, nat_tests, refl, slice_cmp, subst}
-use Rattle.lit_solve.proofs.Words.{sym, true, ℕ, ◌∙◌, ◌∷◌, ◌≡◌, ◌≢◌}
+use Rattle.lit_solve.proofs.Words.{◌<◌, ◌==◌, [], ap, AreOpenReads, AreValuesBeside, arith, Box, box_events, box_with, byte_reads}
+use Rattle.lit_solve.proofs.Words.{Execution, FillsRead, GivesReads, IsCompletion, IsListed, length, Less, List, nat_cmp, nat_tests}
+use Rattle.lit_solve.proofs.Words.{OpenRead, refl, slice_cmp, subst, sym, true, ℕ, ◌∙◌, ◌∷◌, ◌≡◌, ◌≢◌}
 use Rattle.std.specs.Prelude.{OnOk}
 use Rattle.std.proofs.Common.{Err, Ok, Result}
-use Rattle.lit_solve.specs.declared.product.OpenRead.{OpenRead}
-use Rattle.lit_solve.specs.Box.{Box, box_events, box_with}
-use Rattle.lit_solve.specs.Completion.{IsCompletion}
-use Rattle.lit_solve.specs.Internal.Independent.{FillsRead, GivesReads}
-use Rattle.lit_solve.specs.Internal.Product.{AreOpenReads, AreValuesBeside, IsListed}
 use Rattle.lit_solve.proofs.CompletionLemmas.{sourced}
 use Rattle.lit_solve.proofs.GivenReadLemmas.{given_independent, given_order}
 use Rattle.lit_solve.proofs.ProductLemmas.{entries_beside, outcome_beside, outcomes_beside, reads_beside, values_beside_in}

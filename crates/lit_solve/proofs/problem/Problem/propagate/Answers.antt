@@ -1,6 +1,4 @@
-use Rattle.lit_solve.proofs.Words.{inl, refl, subst, sym}
-use Rattle.lit_solve.specs.declared.frame.Frame.{Frame}
-use Rattle.lit_solve.specs.Internal.Frames.{AreCoherentAt, box_of}
+use Rattle.lit_solve.proofs.Words.{AreCoherentAt, box_of, Frame, inl, refl, subst, sym}
 use Rattle.lit_solve.proofs.problem.Problem.propagate.Goals as goal
 
 pub returns-in-Same-clause-coherent : goal.returns-in-Same-clause-coherent

@@ -1,6 +1,4 @@
-use Rattle.lit_solve.proofs.Words.{◌≤◌}
-use Rattle.lit_solve.specs.Internal.Frames.{IsContained, box_of}
-use Rattle.lit_solve.specs.Internal.Pruning.{Prunes, size_of}
+use Rattle.lit_solve.proofs.Words.{box_of, IsContained, Prunes, size_of, ◌≤◌}
 use Rattle.lit_solve.proofs.problem.Problem.propagate.Given as goal
 
 abbrev pub invariant-propagation : goal.invariant-propagation

@@ -1,8 +1,4 @@
-use Rattle.lit_solve.proofs.Words.{false≢true, subst, sym, ◌∙◌}
-use Rattle.lit_solve.specs.declared.goal.Goal.{Goal}
-use Rattle.lit_solve.specs.Goal.{Meets}
-use Rattle.lit_solve.specs.Internal.ConditionValues.{IsProspect}
-use Rattle.lit_solve.specs.Internal.Frames.{box_of}
+use Rattle.lit_solve.proofs.Words.{box_of, false≢true, Goal, IsProspect, Meets, subst, sym, ◌∙◌}
 use Rattle.lit_solve.proofs.RegisterLemmas.{prospect_of_completions}
 use Rattle.lit_solve.proofs.problem.Problem.prospect.Goals as goal
 

@@ -1,8 +1,6 @@
-use Rattle.lit_solve.proofs.Words.{◌<◌, byte_read_at, Holds, IsCoherentRead, ℕ, ◌≡◌, ◌≢◌}
-use Rattle.lit_solve.specs.Box.{HasSource, events_on}
+use Rattle.lit_solve.proofs.Words.{◌<◌, box_of, byte_read_at, events_on, HasSource, Holds, IsCoherentRead, IsContained, Prunes, size_of, ℕ}
+use Rattle.lit_solve.proofs.Words.{◌≡◌, ◌≢◌}
 use Rattle.lit_solve.specs.declared.pruning.Pruned.TheVariants.{Empty, Less, Same}
-use Rattle.lit_solve.specs.Internal.Frames.{IsContained, box_of}
-use Rattle.lit_solve.specs.Internal.Pruning.{Prunes, size_of}
 use Rattle.lit_solve.proofs.problem.Problem.prune.Given as goal
 
 abbrev pub invariant-loop-place : goal.invariant-loop-place

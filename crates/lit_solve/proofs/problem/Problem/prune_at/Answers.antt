@@ -1,5 +1,4 @@
-use Rattle.lit_solve.proofs.Words.{◌<◌, ap, arith, false≢true, length, not, sym, ◌∙◌}
-use Rattle.lit_solve.specs.Internal.Frames.{box_of}
+use Rattle.lit_solve.proofs.Words.{◌<◌, ap, arith, box_of, false≢true, length, not, sym, ◌∙◌}
 use Rattle.lit_solve.proofs.DomainLemmas.{pruned_contained, prunes, none_if_empty, size_less}
 use Rattle.lit_solve.proofs.PruningLemmas.{some_exactly}
 use Rattle.lit_solve.proofs.problem.Problem.prune_at.Goals as goal

@@ -1,6 +1,4 @@
-use Rattle.lit_solve.proofs.Words.{arith, byte_reads, Forbids, length, ◌∙◌, ◌≡◌}
-use Rattle.lit_solve.specs.Box.{events_on}
-use Rattle.lit_solve.specs.Internal.Frames.{IsForbiddenAt, box_of}
+use Rattle.lit_solve.proofs.Words.{arith, box_of, byte_reads, events_on, Forbids, IsForbiddenAt, length, ◌∙◌, ◌≡◌}
 use Rattle.lit_solve.proofs.FrameLemmas.{forbidden_in, one_more}
 use Rattle.lit_solve.proofs.problem.Problem.put_between.Goals as goal
 

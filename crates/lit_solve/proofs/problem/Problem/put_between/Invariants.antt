@@ -1,6 +1,4 @@
-use Rattle.lit_solve.proofs.Words.{◌<◌, Forbids, length, ℕ, ◌↔◌, ◌≡◌, ◌≤◌}
-use Rattle.lit_solve.specs.Box.{events_on}
-use Rattle.lit_solve.specs.Internal.Frames.{IsForbiddenAt, box_of}
+use Rattle.lit_solve.proofs.Words.{◌<◌, box_of, events_on, Forbids, IsForbiddenAt, length, ℕ, ◌↔◌, ◌≡◌, ◌≤◌}
 use Rattle.lit_solve.proofs.problem.Problem.put_between.Given as goal
 
 abbrev pub invariant-loop-place : goal.invariant-loop-place

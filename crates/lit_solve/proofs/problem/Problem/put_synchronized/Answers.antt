@@ -1,5 +1,4 @@
-use Rattle.lit_solve.proofs.Words.{arith, common_steps}
-use Rattle.lit_solve.specs.Internal.Frames.{box_of}
+use Rattle.lit_solve.proofs.Words.{arith, box_of, common_steps}
 use Rattle.lit_solve.proofs.FrameLemmas.{contained_with, not_true, synchronized_apart, synchronized_at, synchronized_before}
 use Rattle.lit_solve.proofs.problem.Problem.put_synchronized.Goals as goal
 

@@ -1,6 +1,4 @@
-use Rattle.lit_solve.proofs.Words.{arith, below_more, false≢true, Holds, inl, inr, refl, sym, ◌∙◌}
-use Rattle.lit_solve.specs.Internal.Frames.{box_of}
-use Rattle.lit_solve.specs.Internal.Leaves.{MayHave, RacesAt}
+use Rattle.lit_solve.proofs.Words.{arith, below_more, box_of, false≢true, Holds, inl, inr, MayHave, RacesAt, refl, sym, ◌∙◌}
 use Rattle.lit_solve.proofs.RacingLemmas.{races_iff}
 use Rattle.lit_solve.proofs.problem.Problem.races.Goals as goal
 

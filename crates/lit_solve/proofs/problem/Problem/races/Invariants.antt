@@ -1,6 +1,4 @@
-use Rattle.lit_solve.proofs.Words.{◌<◌, Holds, ℕ}
-use Rattle.lit_solve.specs.Internal.Frames.{box_of}
-use Rattle.lit_solve.specs.Internal.Leaves.{MayHave, RacesAt}
+use Rattle.lit_solve.proofs.Words.{◌<◌, box_of, Holds, MayHave, RacesAt, ℕ}
 use Rattle.lit_solve.proofs.problem.Problem.races.Given as goal
 
 abbrev pub invariant-loop-place : goal.invariant-loop-place

@@ -1,7 +1,4 @@
-use Rattle.lit_solve.proofs.Words.{AreApart, byte_read_at, HasEvent, Holds, ℕ}
-use Rattle.lit_solve.specs.Box.{HasSource, events_on}
-use Rattle.lit_solve.specs.Internal.Frames.{box_of}
-use Rattle.lit_solve.specs.Internal.Leaves.{MayHave}
+use Rattle.lit_solve.proofs.Words.{AreApart, box_of, byte_read_at, events_on, HasEvent, HasSource, Holds, MayHave, ℕ}
 use Rattle.lit_solve.proofs.problem.Problem.races_at.Given as goal
 
 abbrev pub invariant-loop-source : goal.invariant-loop-source

@@ -1,10 +1,7 @@
-use Rattle.lit_solve.proofs.Words.{◌+◌, ◌<◌, ◌^◌, ap, arith, Bool, byte_reads, ByteRead, cases_lt, common_steps, Event, event_at}
-use Rattle.lit_solve.proofs.Words.{false≢true, inl, inr, List, pair_of, slice_get, Some, subst, sym, ℕ, ◌∙◌, ◌≡◌, ◌≤◌}
-use Rattle.lit_solve.specs.declared.condition_values.Decided.{Decided}
+use Rattle.lit_solve.proofs.Words.{◌+◌, ◌<◌, ◌^◌, ap, arith, Bool, Box, box_with, byte_reads, ByteRead, cases_lt, common_steps, Decided}
+use Rattle.lit_solve.proofs.Words.{Event, event_at, events_on, false≢true, inl, inr, IsByteDecided, IsUndecidedAt, List, pair_of}
+use Rattle.lit_solve.proofs.Words.{slice_get, Some, subst, sym, ℕ, ◌∙◌, ◌≡◌, ◌≤◌}
 use Rattle.lit_solve.specs.declared.condition_values.Decided.TheVariants.{Known}
-use Rattle.lit_solve.specs.Prospect.{IsUndecidedAt}
-use Rattle.lit_solve.specs.Internal.ConditionValues.{IsByteDecided}
-use Rattle.lit_solve.specs.Box.{Box, box_with, events_on}
 use Rattle.lit_solve.proofs.ReadValueLemmas.{IsDecidedBelow, byte_at, decided_all, decided_next, other_byte, too_large}
 use Rattle.lit_solve.proofs.problem.Problem.read_is.Goals.{then-from-read+in-Known-true, then-from-read+in-Undecided, else-from-read}
 use Rattle.lit_solve.proofs.problem.Problem.read_is.Goals as goal

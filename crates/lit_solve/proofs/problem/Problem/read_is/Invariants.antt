@@ -1,4 +1,4 @@
-use Rattle.lit_solve.specs.Box.{box_with}
+use Rattle.lit_solve.proofs.Words.{box_with}
 use Rattle.lit_solve.proofs.ReadValueLemmas.{IsDecidedBelow}
 use Rattle.lit_solve.proofs.problem.Problem.read_is.Given as goal
 

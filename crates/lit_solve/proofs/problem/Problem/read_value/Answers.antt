@@ -1,5 +1,4 @@
-use Rattle.lit_solve.proofs.Words.{arith, event_at, false≢true, inl, inr, refl, ◌≤◌}
-use Rattle.lit_solve.specs.Box.{box_with, events_on}
+use Rattle.lit_solve.proofs.Words.{arith, box_with, event_at, events_on, false≢true, inl, inr, refl, ◌≤◌}
 use Rattle.lit_solve.proofs.PruningLemmas.{source_known}
 use Rattle.lit_solve.proofs.ObservationLemmas.{composed_first, composed_last, composed_next}
 use Rattle.lit_solve.proofs.ReadByteLemmas.{none_later, room_first}

@@ -1,6 +1,4 @@
-use Rattle.lit_solve.proofs.Words.{◌-◌, byte_reads, length}
-use Rattle.lit_solve.specs.Box.{box_with, events_on}
-use Rattle.lit_solve.specs.Internal.Filling.{HasRoom}
+use Rattle.lit_solve.proofs.Words.{◌-◌, box_with, byte_reads, events_on, HasRoom, length}
 use Rattle.lit_solve.proofs.ObservationLemmas.{IsComposedOn}
 use Rattle.lit_solve.proofs.problem.Problem.read_value.Given as goal
 

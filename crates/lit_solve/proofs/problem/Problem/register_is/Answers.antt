@@ -1,5 +1,4 @@
-use Rattle.lit_solve.proofs.Words.{arith, common_steps, sym, ◌∙◌}
-use Rattle.lit_solve.specs.Box.{box_with}
+use Rattle.lit_solve.proofs.Words.{arith, box_with, common_steps, sym, ◌∙◌}
 use Rattle.lit_solve.proofs.RegisterLemmas.{decided_by_read, decided_unwritten}
 use Rattle.lit_solve.proofs.problem.Problem.register_is.Goals as goal
 

@@ -1,4 +1,4 @@
-use Rattle.lit_solve.specs.Box.{box_with}
+use Rattle.lit_solve.proofs.Words.{box_with}
 use Rattle.lit_solve.proofs.ObservationLemmas.{observed_by_read}
 use Rattle.lit_solve.proofs.problem.Problem.register_value.Goals as goal
 

@@ -1,6 +1,5 @@
-use Rattle.lit_solve.proofs.Words.{◌+◌, ◌++◌, ◌<◌, [], ap, arith, length, length-append, List, Litmus, names_of}
-use Rattle.lit_solve.proofs.Words.{same_Some, slice_get, Some, subst, sym, ℕ, ◌↔◌, ◌∙◌, ◌∷◌, ◌≡◌}
-use Rattle.lit_solve.specs.Internal.Product.{Observes}
+use Rattle.lit_solve.proofs.Words.{◌+◌, ◌++◌, ◌<◌, [], ap, arith, length, length-append, List, Litmus, names_of, Observes, same_Some}
+use Rattle.lit_solve.proofs.Words.{slice_get, Some, subst, sym, ℕ, ◌↔◌, ◌∙◌, ◌∷◌, ◌≡◌}
 use Rattle.lit_solve.proofs.OpenReadLemmas.{register_new, register_other, register_reads}
 use Rattle.lit_solve.proofs.problem.Problem.registers_of.Goals as goal
 use Rattle.lit_solve.proofs.problem.Problem.registers_of.Goals.{in-Some+then-observed-from, in-Some+else-observed-from, in_default}

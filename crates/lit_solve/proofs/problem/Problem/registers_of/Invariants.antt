@@ -1,5 +1,4 @@
-use Rattle.lit_solve.proofs.Words.{◌<◌, length, slice_get, Some, ℕ, ◌↔◌, ◌≡◌, ◌≤◌}
-use Rattle.lit_solve.specs.Internal.Product.{Observes}
+use Rattle.lit_solve.proofs.Words.{◌<◌, length, Observes, slice_get, Some, ℕ, ◌↔◌, ◌≡◌, ◌≤◌}
 use Rattle.lit_solve.proofs.problem.Problem.registers_of.Given as goal
 
 abbrev pub invariant-loop-i : goal.invariant-loop-i

@@ -1,7 +1,4 @@
-use Rattle.lit_solve.proofs.Words.{arith, common_steps, EventSet, inl, inr, List, subst, sym}
-use Rattle.lit_solve.specs.Box.{box_with}
-use Rattle.lit_solve.specs.Completion.{IsCompletion}
-use Rattle.lit_solve.specs.Internal.Frames.{box_of}
+use Rattle.lit_solve.proofs.Words.{arith, box_of, box_with, common_steps, EventSet, inl, inr, IsCompletion, List, subst, sym}
 use Rattle.lit_solve.proofs.DomainLemmas.{prunes_on}
 use Rattle.lit_solve.proofs.FrameLemmas.{not_true}
 use Rattle.lit_solve.proofs.problem.Problem.settle.Goals as goal

@@ -1,5 +1,5 @@
-use Rattle.lit_solve.proofs.Words.{◌++◌, ◌<◌, [], ap, arith, length, length-append, List, subst, sym, ℕ, ◌∙◌, ◌∷◌, ◌≡◌}
-use Rattle.lit_solve.specs.Box.{Box, HasSource, LiesIn, box_with, events_on}
+use Rattle.lit_solve.proofs.Words.{◌++◌, ◌<◌, [], ap, arith, Box, box_with, events_on, HasSource, length, length-append, LiesIn, List}
+use Rattle.lit_solve.proofs.Words.{subst, sym, ℕ, ◌∙◌, ◌∷◌, ◌≡◌}
 use Rattle.lit_solve.proofs.LeastLemmas.{lies_more}
 use Rattle.lit_solve.proofs.PruningLemmas.{source_known}
 use Rattle.lit_solve.proofs.problem.Problem.sources_of.Goals as goal

@@ -1,5 +1,4 @@
-use Rattle.lit_solve.proofs.Words.{length, ◌≡◌}
-use Rattle.lit_solve.specs.Box.{LiesIn, box_with}
+use Rattle.lit_solve.proofs.Words.{box_with, length, LiesIn, ◌≡◌}
 use Rattle.lit_solve.proofs.problem.Problem.sources_of.Given as goal
 
 abbrev pub invariant-loop-place : goal.invariant-loop-place

@@ -1,5 +1,4 @@
-use Rattle.lit_solve.proofs.Words.{byte_reads, slice_get_within}
-use Rattle.lit_solve.specs.Box.{events_on}
+use Rattle.lit_solve.proofs.Words.{byte_reads, events_on, slice_get_within}
 use Rattle.lit_solve.proofs.problem.Problem.step.Goals as goal
 
 pub returns-in-Open : goal.returns-in-Open

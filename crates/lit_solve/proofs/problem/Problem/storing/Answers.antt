@@ -1,5 +1,4 @@
-use Rattle.lit_solve.proofs.Words.{ap, arith, common_steps, Event, length, List}
-use Rattle.lit_solve.specs.Box.{box_with}
+use Rattle.lit_solve.proofs.Words.{ap, arith, box_with, common_steps, Event, length, List}
 use Rattle.lit_solve.proofs.PruningLemmas.{source_known}
 use Rattle.lit_solve.proofs.problem.Problem.storing.Goals as goal
 

@@ -1,6 +1,5 @@
-use Rattle.lit_solve.proofs.Words.{◌<◌, ap, arith, EventSet, Holds, inl, inr, List, subst, sym, ℕ, ◌∙◌, ◌≡◌, ◌⊎◌}
-use Rattle.lit_solve.specs.Box.{Box}
-use Rattle.lit_solve.specs.Internal.Frames.{IsSynchronizedAt, box_of}
+use Rattle.lit_solve.proofs.Words.{◌<◌, ap, arith, Box, box_of, EventSet, Holds, inl, inr, IsSynchronizedAt, List, subst, sym, ℕ, ◌∙◌, ◌≡◌}
+use Rattle.lit_solve.proofs.Words.{◌⊎◌}
 use Rattle.lit_solve.proofs.FrameLemmas.{before_exact, below_or_last, synchronized_stays}
 use Rattle.lit_solve.proofs.problem.Problem.synchronize.Goals as goal
 

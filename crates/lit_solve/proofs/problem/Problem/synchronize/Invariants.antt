@@ -1,5 +1,4 @@
-use Rattle.lit_solve.proofs.Words.{◌<◌, Holds, ℕ, ◌≡◌}
-use Rattle.lit_solve.specs.Internal.Frames.{IsContained, IsSynchronizedAt, box_of}
+use Rattle.lit_solve.proofs.Words.{◌<◌, box_of, Holds, IsContained, IsSynchronizedAt, ℕ, ◌≡◌}
 use Rattle.lit_solve.proofs.problem.Problem.synchronize.Given as goal
 
 abbrev pub invariant-loop-place : goal.invariant-loop-place

@@ -1,6 +1,5 @@
-use Rattle.lit_solve.proofs.Words.{byte_read_at}
+use Rattle.lit_solve.proofs.Words.{byte_read_at, events_on}
 use Rattle.lit_rel.proofs.SourceLemmas.{read_known}
-use Rattle.lit_solve.specs.Box.{events_on}
 use Rattle.lit_solve.proofs.ReadByteLemmas.{read_there}
 use Rattle.lit_solve.proofs.problem.Problem.take.Goals as goal
 

@@ -1,8 +1,6 @@
-use Rattle.lit_solve.proofs.Words.{◌<◌, arith, byte_read_at, cases_eq, Holds, inl, inr, IsCoherentRead, length, subst, sym, ℕ}
+use Rattle.lit_solve.proofs.Words.{◌<◌, arith, box_of, byte_read_at, cases_eq, events_on, HasSource, Holds, inl, inr, IsCoherentRead}
+use Rattle.lit_solve.proofs.Words.{IsPrunable, length, subst, sym, ℕ}
 use Rattle.lit_rel.proofs.SetLemmas.{split_less}
-use Rattle.lit_solve.specs.Box.{HasSource, events_on}
-use Rattle.lit_solve.specs.Prunable.{IsPrunable}
-use Rattle.lit_solve.specs.Internal.Frames.{box_of}
 use Rattle.lit_solve.proofs.PruningLemmas.{source_known}
 use Rattle.lit_solve.proofs.problem.Problem.unpruned.Goals as goal
 

@@ -1,7 +1,4 @@
-use Rattle.lit_solve.proofs.Words.{byte_read_at, HasEvent, Holds, IsCoherentRead, ℕ}
-use Rattle.lit_solve.specs.Box.{HasSource, events_on}
-use Rattle.lit_solve.specs.Prunable.{IsPrunable}
-use Rattle.lit_solve.specs.Internal.Frames.{box_of}
+use Rattle.lit_solve.proofs.Words.{box_of, byte_read_at, events_on, HasEvent, HasSource, Holds, IsCoherentRead, IsPrunable, ℕ}
 use Rattle.lit_solve.proofs.problem.Problem.unpruned.Given as goal
 
 abbrev pub invariant-loop-source : goal.invariant-loop-source

@@ -1,5 +1,4 @@
-use Rattle.lit_solve.proofs.Words.{[], Event, HappensBefore, Holds, length, List, rows_len, subst, ℕ, ◌↔◌, ◌≡◌}
-use Rattle.lit_solve.specs.Box.{box_with}
+use Rattle.lit_solve.proofs.Words.{[], box_with, Event, HappensBefore, Holds, length, List, rows_len, subst, ℕ, ◌↔◌, ◌≡◌}
 use Rattle.lit_solve.proofs.OpeningLemmas.{unsourced_contained}
 use Rattle.lit_solve.proofs.problem.Problem.unsettled.Goals as goal
 

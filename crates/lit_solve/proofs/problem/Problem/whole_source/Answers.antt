@@ -1,5 +1,4 @@
-use Rattle.lit_solve.proofs.Words.{◌<◌, Event, length, List, subst, sym}
-use Rattle.lit_solve.specs.Internal.Frames.{box_of}
+use Rattle.lit_solve.proofs.Words.{◌<◌, box_of, Event, length, List, subst, sym}
 use Rattle.lit_solve.proofs.PruningLemmas.{source_known}
 use Rattle.lit_solve.proofs.problem.Problem.whole_source.Goals as goal
 

@@ -1,9 +1,6 @@
-use Rattle.lit_solve.proofs.Words.{◌<◌, ap, arith, byte_read_at, byte_reads, EventSet, HasEvent, inl, inr, ReadsWholeBy, subst, sym, ℕ, ◌∙◌}
-use Rattle.lit_solve.proofs.Words.{◌≡◌}
+use Rattle.lit_solve.proofs.Words.{◌<◌, ap, arith, box_of, byte_read_at, byte_reads, events_on, EventSet, GivenIn, HasEvent, inl, inr}
+use Rattle.lit_solve.proofs.Words.{ReadsWholeBy, subst, sym, ℕ, ◌∙◌, ◌≡◌}
 use Rattle.std.specs.Prelude.{length}
-use Rattle.lit_solve.specs.Given.{GivenIn}
-use Rattle.lit_solve.specs.Box.{events_on}
-use Rattle.lit_solve.specs.Internal.Frames.{box_of}
 use Rattle.lit_solve.proofs.PruningLemmas.{read_here}
 use Rattle.lit_solve.proofs.problem.Problem.whole_sources.Goals as goal
 use Rattle.lit_solve.proofs.problem.Problem.whole_sources.Goals.{then-byte_read-read, else-byte_read-read}

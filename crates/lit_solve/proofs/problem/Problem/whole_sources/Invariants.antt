@@ -1,7 +1,4 @@
-use Rattle.lit_solve.proofs.Words.{byte_read_at, HasEvent, ReadsWholeBy, ℕ}
-use Rattle.lit_solve.specs.Given.{GivenIn}
-use Rattle.lit_solve.specs.Box.{events_on}
-use Rattle.lit_solve.specs.Internal.Frames.{box_of}
+use Rattle.lit_solve.proofs.Words.{box_of, byte_read_at, events_on, GivenIn, HasEvent, ReadsWholeBy, ℕ}
 use Rattle.lit_solve.proofs.problem.Problem.whole_sources.Given as goal
 
 abbrev pub invariant-loop-other : goal.invariant-loop-other

@@ -1,8 +1,5 @@
-use Rattle.lit_solve.proofs.Words.{◌*◌, ◌+◌, ◌<◌, ◌^◌, ap, arith, byte_read_at, byte_reads, common_steps, Event, length, List, slice_get}
-use Rattle.lit_solve.proofs.Words.{Some, ℕ, ◌∙◌, ◌≡◌, ◌≤◌}
-use Rattle.lit_solve.specs.declared.filling.Taken.{Taken}
-use Rattle.lit_solve.specs.Box.{events_on}
-use Rattle.lit_solve.specs.Internal.Filling.{HasRoom}
+use Rattle.lit_solve.proofs.Words.{◌*◌, ◌+◌, ◌<◌, ◌^◌, ap, arith, byte_read_at, byte_reads, common_steps, Event, events_on, HasRoom}
+use Rattle.lit_solve.proofs.Words.{length, List, slice_get, Some, Taken, ℕ, ◌∙◌, ◌≡◌, ◌≤◌}
 use Rattle.lit_solve.proofs.ReadByteLemmas.{read_there, fits_word, room_on, small_unit}
 use Rattle.lit_solve.proofs.problem.Problem.with_byte.Goals as goal
 

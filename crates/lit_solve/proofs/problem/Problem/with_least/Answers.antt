@@ -1,9 +1,5 @@
-use Rattle.lit_solve.proofs.Words.{arith, Execution, HasEvent, slice_get, Some, sym, ℕ, ◌∙◌, ◌≡◌}
+use Rattle.lit_solve.proofs.Words.{arith, Box, box_of, Execution, HasAlone, HasEvent, IsSolution, slice_get, Some, sym, ℕ, ◌∙◌, ◌≡◌}
 use Rattle.lit_rel.proofs.SetLemmas.{split_less}
-use Rattle.lit_solve.specs.Box.{Box}
-use Rattle.lit_solve.specs.Completion.{IsSolution}
-use Rattle.lit_solve.specs.Given.{HasAlone}
-use Rattle.lit_solve.specs.Internal.Frames.{box_of}
 use Rattle.lit_solve.proofs.DescendingLemmas.{cut_alone, lowest_at}
 use Rattle.lit_solve.proofs.FrameLemmas.{not_true}
 use Rattle.lit_solve.proofs.PruningLemmas.{source_known}

@@ -1,7 +1,4 @@
-use Rattle.lit_solve.proofs.Words.{Execution, HasEvent, slice_get, Some, ℕ, ◌≡◌}
-use Rattle.lit_solve.specs.Box.{HasSource}
-use Rattle.lit_solve.specs.Completion.{IsSolution}
-use Rattle.lit_solve.specs.Internal.Frames.{box_of}
+use Rattle.lit_solve.proofs.Words.{box_of, Execution, HasEvent, HasSource, IsSolution, slice_get, Some, ℕ, ◌≡◌}
 use Rattle.lit_solve.proofs.problem.Problem.with_least.Given as goal
 
 abbrev pub invariant-loop-source : goal.invariant-loop-source

@@ -1,6 +1,5 @@
-use Rattle.lit_solve.proofs.Words.{ap, CanReadWhole, Event, event_at, false≢true, HasEvent, inl, inr, IsTrue, List, subst, sym, ℕ, ◌↔◌, ◌∙◌}
-use Rattle.lit_solve.proofs.Words.{◌≡◌, ◌≢◌}
-use Rattle.lit_solve.specs.Box.{events_on}
+use Rattle.lit_solve.proofs.Words.{ap, CanReadWhole, Event, event_at, events_on, false≢true, HasEvent, inl, inr, IsTrue, List, subst, sym}
+use Rattle.lit_solve.proofs.Words.{ℕ, ◌↔◌, ◌∙◌, ◌≡◌, ◌≢◌}
 use Rattle.lit_solve.proofs.PruningLemmas.{none_or_some}
 use Rattle.lit_solve.proofs.problem.Problem.would_tear.Goals as goal
 
