@@ -2,14 +2,13 @@
 use Rattle.std.proofs.Common.{◌≡◌, ◌≢◌, ◌⊎◌, ◌↔◌, ℕ, ◌<◌, List, [], refl, subst, inl, inr, arith}
 use Rattle.lit_rel.specs.declared.rows.Rows.{Rows}
 use Rattle.lit_rel.specs.Rows.{Holds, rows_len, IsTransitive, WithPair}
-use Rattle.lit_rel.proofs.ChainLemmas.{Chain-within}
+use Rattle.lit_rel.proofs.ChainLemmas.{Chain-within, HasChain-joined}
 use Rattle.lit_rel.proofs.RowLemmas.{WithPair-within}
 use Rattle.lit_order.specs.Internal.Deciding.{AreDecided, IsUndecided}
 use Rattle.lit_order.specs.Forced.{AndPair}
 use Rattle.lit_order.specs.Forcing.{HasChain, IsForced, Given, Through, HasForcedCycle}
 use Rattle.lit_order.specs.MemoryOrder.{StandsBefore, IsOrderOf}
 use Rattle.lit_order.proofs.ForcedLemmas.{AreTriplesBelow, respects_forced, stands_before_source}
-use Rattle.lit_order.proofs.ForcingLemmas.{HasChain-through}
 use Rattle.lit_order.proofs.LinearLemmas.{IsStrict}
 use Rattle.lit_order.proofs.RestrictionLemmas.{IsOrderOf-fewer}
 use Rattle.lit_order.proofs.RowsLemmas.{holds_or_not}
@@ -54,7 +53,7 @@ module _ (before more : ℕ → ℕ → Type 0) (a d : ℕ) (with_pair : (x y : 
 
   pub more_is_chain : (x y : ℕ) → more x y ↔ HasChain (AndPair before a d) x y
   more_is_chain x y = (
-    (λ h. WithPair-within before (HasChain (AndPair before a d)) a d (HasChain-through (AndPair before a d)) (λ e m old. ([], inl old)) ([], inr (refl, refl)) x y ((with_pair x y).0 h)),
+    (λ h. WithPair-within before (HasChain (AndPair before a d)) a d (HasChain-joined (AndPair before a d)) (λ e m old. ([], inl old)) ([], inr (refl, refl)) x y ((with_pair x y).0 h)),
     (λ chain. Chain-within (AndPair before a d) more one transitive x chain.0 y chain.1),
   )
 

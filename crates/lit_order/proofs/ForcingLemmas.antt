@@ -8,13 +8,10 @@ use Rattle.lit_rel.specs.HappensBefore.{Chain}
 use Rattle.lit_rel.specs.Rows.{IsTransitive, WithPair}
 use Rattle.lit_order.specs.Internal.Deciding.{HasAllForced, IsForcedNext}
 use Rattle.lit_order.specs.Forcing.{HasChain, IsForced, Given, Through, AfterRead, BeforeSource}
-use Rattle.lit_rel.proofs.ChainLemmas.{Chain-append, Chain-within}
+use Rattle.lit_rel.proofs.ChainLemmas.{Chain-within, HasChain-joined}
 use Rattle.lit_rel.proofs.RowLemmas.{WithPair-within}
 use Rattle.lit_order.proofs.ForcedLemmas.{AreTriplesBelow}
 use Rattle.lit_order.proofs.SameOrders.{both}
-
-pub HasChain-through : (step : ℕ → ℕ → Type 0) (e m d : ℕ) → HasChain step e m → HasChain step m d → HasChain step e d
-HasChain-through step e m d p q = (p.0 ++ m ∷ q.0, Chain-append step e p.0 m q.0 d p.1 q.1)
 
 module _ (before : ℕ → ℕ → Type 0) (forbidden : ℕ → ℕ → ℕ → Type 0) where
   -- chains are forced
@@ -73,7 +70,7 @@ forced_of before closed rows forbidden chains is a d =
     both (is a d) (forced_from_closed before closed forbidden chains a d, forced_to_closed before closed forbidden chains a d)
 
 pub IsTransitive-closed : (before closed : ℕ → ℕ → Type 0) → ((a d : ℕ) → closed a d ↔ HasChain before a d) → IsTransitive closed
-IsTransitive-closed before closed pairs x y z p q = (pairs x z).1 (HasChain-through before x y z ((pairs x y).0 p) ((pairs y z).0 q))
+IsTransitive-closed before closed pairs x y z p q = (pairs x z).1 (HasChain-joined before x y z ((pairs x y).0 p) ((pairs y z).0 q))
 
 -- the pair that is forced next: of two events, both known
 pub next_apart : (rows : ℕ → ℕ → Type 0) (forbidden : ℕ → ℕ → ℕ → Type 0) (a d : ℕ) → IsForcedNext rows forbidden a d → a ≢ d

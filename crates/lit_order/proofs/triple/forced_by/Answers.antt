@@ -1,25 +1,8 @@
-use Rattle.std.proofs.Common.{◌≢◌, ℕ, refl, sym, subst, inl, inr}
+use Rattle.std.proofs.Common.{◌≢◌, ℕ, sym, subst, inl, inr}
 use Rattle.lit_rel.specs.EventSet.{HasEvent}
 use Rattle.lit_rel.specs.Rows.{Holds}
 use Rattle.lit_order.proofs.RowsLemmas.{holds_or_not}
 use Rattle.lit_order.proofs.triple.forced_by.Goals as goal
-
-pub returns-in-Some-first_lacking : goal.returns-in-Some-first_lacking
-returns-in-Some-first_lacking c =
-    let v = c.in-Some-first_lacking.other in
-    let turned = c.args.rows.now.same.pairs in
-    let apart = (c.others_of-others.ensures v).0 c.in-Some-first_lacking.ensures.0 in
-    let earlier = (turned v c.from-read.result).0 ((c.successors-before_read.ensures v).0 c.in-Some-first_lacking.ensures.1) in
-    record {
-      other = v;
-      is_other = record { known = earlier.first_known; marked = apart.0 };
-      forces = record {
-        not_source = apart.1;
-        not_read = apart.2;
-        new = λ there. c.in-Some-first_lacking.ensures.2 ((c.successors-2.ensures v).1 ((turned v c.from-source.result).1 there));
-        side = inr (refl, c.from-source.ensures, rw c.from-read.ensures at earlier);
-      };
-    }
 
 pub returns : goal.returns
 returns c v other =
