@@ -212,9 +212,6 @@ impl Problem<'_> {
         let mut reads = Vec::new(alloc);
         let mut values = Values::new();
         self.open_reads(alloc, domains, &mut reads, &mut values)?;
-        if reads.is_empty() {
-            return self.record_independent(domains, values.as_slice(), order, table);
-        }
         // The reads that no outcome tells apart are filled once, not for each outcome.
         let mut part = *domains;
         let least = self.least_filling(domains);

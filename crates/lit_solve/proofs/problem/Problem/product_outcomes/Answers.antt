@@ -9,18 +9,6 @@ use Rattle.lit_solve.proofs.ProductLemmas.{entries_beside, outcome_beside, outco
 use Rattle.lit_solve.proofs.ReadValuesLemmas.{fills_own}
 use Rattle.lit_solve.proofs.problem.Problem.product_outcomes.Goals as goal
 
-none_listed : (reads : List OpenRead) → (length reads == 0) ≡ true → reads ≡ []
-none_listed [] none = refl
-none_listed (it ∷ reads) none = grind (arith, nat_tests)
-
-pub record_independent-requires-clause-same : goal.record_independent-requires-clause-same
-record_independent-requires-clause-same g c x is =
-    let box = box_with c.args.self.now c.args.domains.now in
-    let none = none_listed c.open_reads.new.reads.items (sym (c.if-is_empty.ensures ∙ ap (λ (n : ℕ). n == 0) c.open_reads.new.reads.ok.0)) in
-    outcome_beside c.laws_below.ensures box c.requires.independent c.open_reads.new.values.items
-    (subst (λ (rs : List OpenRead). AreValuesBeside box rs c.open_reads.new.values.items) none c.in_ok-open_reads.ensures.values) x is
-    ∙ sym c.as_slice.ensures.value
-
 -- a listed read is an event
 listed_known : (box : Box) (reads : List OpenRead) → AreOpenReads box reads → (r : ℕ) → IsListed reads r → r < length (box_events box)
 listed_known box reads are r listed = subst (λ (q : ℕ). q < length (box_events box)) listed.same (are.each listed.place listed.it listed.is).known
@@ -28,7 +16,7 @@ listed_known box reads are r listed = subst (λ (q : ℕ). q < length (box_event
 pub beside-requires : goal.beside-requires
 beside-requires g c = record {
   known = λ r listed. listed_known (box_with c.args.self.now c.args.domains.now) c.open_reads.new.reads.items c.in_ok-open_reads.ensures.reads r
-      (subst (λ (rs : List OpenRead). IsListed rs r) c.as_slice-2.ensures.value listed);
+      (subst (λ (rs : List OpenRead). IsListed rs r) c.as_slice.ensures.value listed);
 }
 
 -- the reads that are given are not listed
@@ -66,10 +54,10 @@ pub product-requires-clause-reads : goal.product-requires-clause-reads
 product-requires-clause-reads g c =
     let box = box_with c.args.self.now c.args.domains.now in
     let some = c.least_filling-least.ensures.completes in
-    subst (AreOpenReads (box_with c.args.self.now c.give.new.domains)) (sym c.as_slice-3.ensures.value)
+    subst (AreOpenReads (box_with c.args.self.now c.give.new.domains)) (sym c.as_slice-2.ensures.value)
     (reads_beside c.laws_below.ensures box c.requires.independent c.leaves_are_filled_read_by_read.ensures c.open_reads.new.reads.items
     c.open_reads.new.values.items c.in_ok-open_reads.ensures.values c.beside.result
-    (λ q is. others c.open_reads.new.reads.items c.as_slice-2.result.now c.as_slice-2.ensures.value q ((c.beside.ensures q).0 is).1) some.0 some.1
+    (λ q is. others c.open_reads.new.reads.items c.as_slice.result.now c.as_slice.ensures.value q ((c.beside.ensures q).0 is).1) some.0 some.1
     (least_of box c.least_filling-least.result.items some.0 some.2 c.least_filling-least.ensures.least) c.give.new.domains
     (subst (λ (s : List ℕ). GivesReads box c.beside.result s (box_with c.args.self.now c.give.new.domains)) (sym some.2) c.give.ensures.gives)
     c.in_ok-open_reads.ensures.reads)
@@ -79,10 +67,10 @@ product-requires-clause-values g c =
     let box = box_with c.args.self.now c.args.domains.now in
     let some = c.least_filling-least.ensures.completes in
     subst (λ (rs : List OpenRead). AreValuesBeside (box_with c.args.self.now c.give.new.domains) rs c.open_reads.new.values.items)
-    (sym c.as_slice-3.ensures.value)
+    (sym c.as_slice-2.ensures.value)
     (values_beside_in c.laws_below.ensures box c.requires.independent c.leaves_are_filled_read_by_read.ensures c.open_reads.new.reads.items
     c.open_reads.new.values.items c.in_ok-open_reads.ensures.values c.beside.result
-    (λ q is. others c.open_reads.new.reads.items c.as_slice-2.result.now c.as_slice-2.ensures.value q ((c.beside.ensures q).0 is).1) some.0 some.1
+    (λ q is. others c.open_reads.new.reads.items c.as_slice.result.now c.as_slice.ensures.value q ((c.beside.ensures q).0 is).1) some.0 some.1
     (least_of box c.least_filling-least.result.items some.0 some.2 c.least_filling-least.ensures.least) c.give.new.domains
     (subst (λ (s : List ℕ). GivesReads box c.beside.result s (box_with c.args.self.now c.give.new.domains)) (sym some.2) c.give.ensures.gives))
 
@@ -100,7 +88,7 @@ returns-clause-added g c =
     let some = c.least_filling-least.ensures.completes in
     entries_beside c.laws_below.ensures box c.requires.independent c.leaves_are_filled_read_by_read.ensures c.open_reads.new.reads.items
     c.open_reads.new.values.items c.in_ok-open_reads.ensures.values c.beside.result
-    (λ q is. others c.open_reads.new.reads.items c.as_slice-2.result.now c.as_slice-2.ensures.value q ((c.beside.ensures q).0 is).1) some.0 some.1
+    (λ q is. others c.open_reads.new.reads.items c.as_slice.result.now c.as_slice.ensures.value q ((c.beside.ensures q).0 is).1) some.0 some.1
     (least_of box c.least_filling-least.result.items some.0 some.2 c.least_filling-least.ensures.least) c.give.new.domains
     (subst (λ (s : List ℕ). GivesReads box c.beside.result s (box_with c.args.self.now c.give.new.domains)) (sym some.2) c.give.ensures.gives)
     (g.T.OutcomeTable.entries c.args.table.now) (g.T.OutcomeTable.entries c.product.new.table) c.product.ensures.added
@@ -116,7 +104,7 @@ returns-clause-whole g c =
     on_ok c.product.result c.product.ensures.whole
     (outcomes_beside c.laws_below.ensures box c.requires.independent c.leaves_are_filled_read_by_read.ensures c.open_reads.new.reads.items
     c.open_reads.new.values.items c.in_ok-open_reads.ensures.values c.beside.result
-    (λ q is. others c.open_reads.new.reads.items c.as_slice-2.result.now c.as_slice-2.ensures.value q ((c.beside.ensures q).0 is).1) some.0 some.1
+    (λ q is. others c.open_reads.new.reads.items c.as_slice.result.now c.as_slice.ensures.value q ((c.beside.ensures q).0 is).1) some.0 some.1
     (least_of box c.least_filling-least.result.items some.0 some.2 c.least_filling-least.ensures.least) c.give.new.domains
     (subst (λ (s : List ℕ). GivesReads box c.beside.result s (box_with c.args.self.now c.give.new.domains)) (sym some.2) c.give.ensures.gives)
     (g.T.OutcomeTable.entries c.product.new.table))
