@@ -1,5 +1,5 @@
 -- Propagation finds the forced relation, pair by pair.
-use Rattle.std.proofs.Common.{◌≡◌, ◌≢◌, ◌↔◌, ℕ, ◌<◌, List, [], ◌∷◌, ◌++◌, Some, refl, sym, ◌∙◌, arith, inl, inr}
+use Rattle.std.proofs.Common.{◌≡◌, ◌≢◌, ◌↔◌, ℕ, ◌<◌, List, [], Some, refl, sym, ◌∙◌, arith, inl, inr}
 use Rattle.std.specs.List.{slice_get}
 use Rattle.lit_rel.specs.declared.between.Pair.{Pair}
 use Rattle.lit_rel.specs.EventSet.{HasEvent}
