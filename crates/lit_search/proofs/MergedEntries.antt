@@ -202,14 +202,18 @@ pub record Comes (zs : List Entry) (w : Entry) : Type 0 where
   pub same : entry.outcome ≡ w.outcome
   pub least : IsFalse (is_gt (example_cmp entry w))
 
-comes_first : (z w : Entry) (zs : List Entry) → z.outcome ≡ w.outcome → IsFalse (is_gt (example_cmp z w)) → Comes (z ∷ zs) w
-comes_first z w zs same least = record { entry = z; stands = first_stands z zs; same = same; least = least }
-
 comes_later : (z w : Entry) (zs : List Entry) → Comes zs w → Comes (z ∷ zs) w
 comes_later z w zs c = record { entry = c.entry; stands = later_stands z c.entry zs c.stands; same = c.same; least = c.least }
 
 comes_itself : (zs : List Entry) (w : Entry) → Stands zs w → Comes zs w
 comes_itself zs w s = record { entry = w; stands = s; same = refl; least = not_after_itself w }
+
+-- what stands in x ∷ xs comes behind z, which has the outcome of x
+comes_behind : (w x z : Entry) (xs zs : List Entry) → z.outcome ≡ x.outcome → IsFalse (is_gt (example_cmp z x)) → (Stands xs w → Comes zs w) → Stands (x ∷ xs) w → Comes (z ∷ zs) w
+comes_behind w x z xs zs same least later s = elim (stands_cases x w xs s) [
+  | inl is ↦ rw is (record { entry = z; stands = first_stands z zs; same = same; least = least })
+  | inr t ↦ comes_later z w zs (later t)
+]
 
 comes_from : (w x : Entry) (xs : List Entry) (rest : List Entry → List Entry) (ys : List Entry) → ((zs : List Entry) → Stands xs w ⊎ Stands zs w → Comes (rest zs) w) → Stands (x ∷ xs) w ⊎ Stands ys w → Comes (merged_from x xs rest ys) w
 comes_from w x xs rest [] r (inl s) = comes_itself (x ∷ xs) w s
@@ -219,32 +223,19 @@ comes_from w x xs rest (y ∷ ys) r s =
     (elim (outcome_cmp x y) as (λ o. outcome_cmp x y ≡ o
     → Comes (match_ordering o (x ∷ rest (y ∷ ys)) (lesser x y ∷ rest ys) (y ∷ merged_from x xs rest ys)) w) [
       | Less ↦ λ e. elim s [
-        | inl t ↦ elim (stands_cases x w xs t) [
-          | inl is ↦ rw is (comes_first x x (rest (y ∷ ys)) refl (not_after_itself x))
-          | inr u ↦ comes_later x w (rest (y ∷ ys)) (r (y ∷ ys) (inl u))
-        ]
+        | inl t ↦ comes_behind w x x xs (rest (y ∷ ys)) refl (not_after_itself x) (λ u. r (y ∷ ys) (inl u)) t
         | inr t ↦ comes_later x w (rest (y ∷ ys)) (r (y ∷ ys) (inr t))
       ]
       | Equal ↦ λ e.
           let same = exact_bytes x.outcome y.outcome e in
+          let has = lesser_has (λ v. v.outcome ≡ x.outcome) x y refl (sym same) in
           elim s [
-            | inl t ↦ elim (stands_cases x w xs t) [
-              | inl is ↦ rw is (comes_first (lesser x y) x (rest ys) (lesser_has (λ v. v.outcome ≡ x.outcome) x y refl (sym same))
-                  (lesser_before x y))
-              | inr u ↦ comes_later (lesser x y) w (rest ys) (r ys (inl u))
-            ]
-            | inr t ↦ elim (stands_cases y w ys t) [
-              | inl is ↦ rw is (comes_first (lesser x y) y (rest ys) (lesser_has (λ v. v.outcome ≡ y.outcome) x y same refl)
-                  (lesser_behind x y))
-              | inr u ↦ comes_later (lesser x y) w (rest ys) (r ys (inr u))
-            ]
+            | inl t ↦ comes_behind w x (lesser x y) xs (rest ys) has (lesser_before x y) (λ u. r ys (inl u)) t
+            | inr t ↦ comes_behind w y (lesser x y) ys (rest ys) (has ∙ same) (lesser_behind x y) (λ u. r ys (inr u)) t
           ]
       | Greater ↦ λ e. elim s [
         | inl t ↦ comes_later y w (merged_from x xs rest ys) (later (inl t))
-        | inr t ↦ elim (stands_cases y w ys t) [
-          | inl is ↦ rw is (comes_first y y (merged_from x xs rest ys) refl (not_after_itself y))
-          | inr u ↦ comes_later y w (merged_from x xs rest ys) (later (inr u))
-        ]
+        | inr t ↦ comes_behind w y y ys (merged_from x xs rest ys) refl (not_after_itself y) (λ u. later (inr u)) t
       ]
     ]) refl
 
