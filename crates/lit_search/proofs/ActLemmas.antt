@@ -175,7 +175,8 @@ lead registers = each_from registers (λ s left. (steps : List Step) → IsWalk 
       decided = record {
         agrees = λ more values last a. rw append_assoc
             (none.decided.agrees (rest.ifs ++ more) values last (rest.decided.agrees more values last a));
-        events = λ owner place more. rw append_assoc (none.decided.events owner place (rest.ifs ++ more) ∙ rest.decided.events owner place more);
+        events = λ owner place more. rw append_assoc (none.decided.events owner place (rest.ifs ++ more)
+            ∙ rest.decided.events owner place more);
       };
       walked = (
         none.ifs,

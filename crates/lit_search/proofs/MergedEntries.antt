@@ -152,12 +152,16 @@ lesser_behind a b = (elim (is_gt (example_cmp a b)) as (λ g. is_gt (example_cmp
     [ true ↦ λ e. not_after_itself b | false ↦ λ e. e ]) refl
 
 -- ---- induction on two lists merged
-module _ (P : (xs ys zs : List Entry) → Type 0) (left : (ys : List Entry) → P [] ys ys) (right : (x : Entry) (xs : List Entry) → P (x ∷ xs) [] (x ∷ xs))
-    (less : (x y : Entry) (xs ys : List Entry) → outcome_cmp x y ≡ Less → P xs (y ∷ ys) (merged xs (y ∷ ys)) → P (x ∷ xs) (y ∷ ys) (x ∷ merged xs (y ∷ ys)))
-    (equal : (x y : Entry) (xs ys : List Entry) → outcome_cmp x y ≡ Equal → P xs ys (merged xs ys) → P (x ∷ xs) (y ∷ ys) (lesser x y ∷ merged xs ys))
+module _ (P : (xs ys zs : List Entry) → Type 0) (left : (ys : List Entry) → P [] ys ys)
+    (right : (x : Entry) (xs : List Entry) → P (x ∷ xs) [] (x ∷ xs))
+    (less : (x y : Entry) (xs ys : List Entry) → outcome_cmp x y ≡ Less → P xs (y ∷ ys) (merged xs (y ∷ ys))
+    → P (x ∷ xs) (y ∷ ys) (x ∷ merged xs (y ∷ ys)))
+    (equal : (x y : Entry) (xs ys : List Entry) → outcome_cmp x y ≡ Equal → P xs ys (merged xs ys)
+    → P (x ∷ xs) (y ∷ ys) (lesser x y ∷ merged xs ys))
     (greater : (x y : Entry) (xs ys : List Entry) → outcome_cmp x y ≡ Greater → P (x ∷ xs) ys (merged (x ∷ xs) ys)
     → P (x ∷ xs) (y ∷ ys) (y ∷ merged (x ∷ xs) ys)) where
-  by_first : (x : Entry) (xs : List Entry) → ((zs : List Entry) → P xs zs (merged xs zs)) → (ys : List Entry) → P (x ∷ xs) ys (merged (x ∷ xs) ys)
+  by_first : (x : Entry) (xs : List Entry) → ((zs : List Entry) → P xs zs (merged xs zs)) → (ys : List Entry)
+      → P (x ∷ xs) ys (merged (x ∷ xs) ys)
   by_first x xs rest [] = right x xs
   by_first x xs rest (y ∷ ys) = (elim (outcome_cmp x y) as (λ o. outcome_cmp x y ≡ o
       → P (x ∷ xs) (y ∷ ys) (match_ordering o (x ∷ merged xs (y ∷ ys)) (lesser x y ∷ merged xs ys) (y ∷ merged (x ∷ xs) ys))) [
@@ -207,7 +211,8 @@ comes_itself : (zs : List Entry) (w : Entry) → Stands zs w → Comes zs w
 comes_itself zs w s = record { entry = w; stands = s; same = refl; least = not_after_itself w }
 
 -- what stands in x ∷ xs comes behind z, which has the outcome of x
-comes_behind : (w x z : Entry) (xs zs : List Entry) → z.outcome ≡ x.outcome → IsFalse (is_gt (example_cmp z x)) → (Stands xs w → Comes zs w) → Stands (x ∷ xs) w → Comes (z ∷ zs) w
+comes_behind : (w x z : Entry) (xs zs : List Entry) → z.outcome ≡ x.outcome → IsFalse (is_gt (example_cmp z x))
+    → (Stands xs w → Comes zs w) → Stands (x ∷ xs) w → Comes (z ∷ zs) w
 comes_behind w x z xs zs same least later s = elim (stands_cases x w xs s) [
   | inl is ↦ rw is (record { entry = z; stands = first_stands z zs; same = same; least = least })
   | inr t ↦ comes_later z w zs (later t)

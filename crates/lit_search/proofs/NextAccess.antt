@@ -30,10 +30,12 @@ said-joined bytes (Then s ss) b p q = (p.0, said-joined bytes ss b p.1 q)
 -- ---- induction on the remaining statements from the next access on
 module _ (registers : List ℕ) (One : Statement → Statements → Type 0) (Each : Statements → Statements → Type 0)
     (access : (s : Statement) → is_access s ≡ true → One s (Then s End))
-    (part : (reg : ℕ) (equal : Bool) (value : ℕ) (body other : Statements) (b : Bool) → compares equal (slice_index registers reg) value ≡ b → (left : Statements)
+    (part : (reg : ℕ) (equal : Bool) (value : ℕ) (body other : Statements) (b : Bool)
+    → compares equal (slice_index registers reg) value ≡ b → (left : Statements)
     → Each (if b then body else other) left → One (If reg equal value body other) left)
     (none : Each End End) (past : (s : Statement) (ss left : Statements) → One s End → Each ss left → Each (Then s ss) left)
-    (first : (s : Statement) (ss : Statements) (x : Statement) (more : Statements) → One s (Then x more) → Each (Then s ss) (Then x (joined_statements more ss))) where
+    (first : (s : Statement) (ss : Statements) (x : Statement) (more : Statements) → One s (Then x more)
+    → Each (Then s ss) (Then x (joined_statements more ss))) where
   mutual
     one_from : (s : Statement) → One s (from_access_in registers s)
     one_from (If reg equal value body other) =
@@ -46,10 +48,11 @@ module _ (registers : List ℕ) (One : Statement → Statements → Type 0) (Eac
 
     pub each_from : (ss : Statements) → Each ss (from_access registers ss)
     each_from End = none
-    each_from (Then s ss) = (elim (from_access_in registers s) as (λ a. One s a → Each (Then s ss) (access_or a ss (from_access registers ss))) [
-      | End ↦ λ p. past s ss (from_access registers ss) p (each_from ss)
-      | Then x more ↦ λ p. first s ss x more p
-    ]) (one_from s)
+    each_from (Then s ss) =
+        (elim (from_access_in registers s) as (λ a. One s a → Each (Then s ss) (access_or a ss (from_access registers ss))) [
+          | End ↦ λ p. past s ss (from_access registers ss) p (each_from ss)
+          | Then x more ↦ λ p. first s ss x more p
+        ]) (one_from s)
 
 -- ---- the next access of joined_statements statements
 regrouped : (a ss k x y z : Statements) → y ≡ access_or x k z → access_or a (joined_statements ss k) y ≡ access_or (access_or a ss x) k z
@@ -153,8 +156,10 @@ pub said_from : (bytes : ℕ) (registers : List ℕ) (ss : Statements) → AreSt
 said_from bytes registers = each_from registers (λ s left. IsStatementIn bytes s → AreStatementsIn bytes left)
     (λ ss left. AreStatementsIn bytes ss → AreStatementsIn bytes left)
     (λ s is said. (said, tt))
-    (λ reg equal value body other b is left. elim b as (λ b. (AreStatementsIn bytes (if b then body else other) → AreStatementsIn bytes left)
-    → IsStatementIn bytes (If reg equal value body other) → AreStatementsIn bytes left) [ true ↦ λ p said. p said.2 | false ↦ λ p said. p said.3 ])
+    (λ reg equal value body other b is left. elim b as (λ b.
+    (AreStatementsIn bytes (if b then body else other) → AreStatementsIn bytes left)
+    → IsStatementIn bytes (If reg equal value body other) → AreStatementsIn bytes left)
+    [ true ↦ λ p said. p said.2 | false ↦ λ p said. p said.3 ])
     (λ said. tt)
     (λ s ss left none rest said. rest said.1)
     (λ s ss x more p said. let first = p said.0 in (first.0, said-joined bytes more ss first.1 said.1))
@@ -178,13 +183,15 @@ one_access (If reg equal value body other) ss c is = absurd (let e : false ≡ t
 one_access s ss c is = omega arith
 
 -- an `if` changes nothing before the next access, and makes none
-same_from : (c : Contents) (ss : Statements) → (accesses (from_access c.registers ss) c ≡ accesses ss c) × (after (from_access c.registers ss) c ≡ after ss c)
+same_from : (c : Contents) (ss : Statements) → (accesses (from_access c.registers ss) c ≡ accesses ss c)
+    × (after (from_access c.registers ss) c ≡ after ss c)
 same_from c = each_from c.registers (λ s left. (accesses left c ≡ statement_accesses s c) × (after left c ≡ after_statement s c))
     (λ ss left. (accesses left c ≡ accesses ss c) × (after left c ≡ after ss c))
     (λ s is. (made_itself s c is, refl))
     (λ reg equal value body other b is left. rw is (elim b as (λ b.
     (accesses left c ≡ accesses (if b then body else other) c) × (after left c ≡ after (if b then body else other) c)
-    → (accesses left c ≡ (if b then accesses body c else accesses other c)) × (after left c ≡ (if b then after body c else after other c))) [
+    → (accesses left c ≡ (if b then accesses body c else accesses other c))
+    × (after left c ≡ (if b then after body c else after other c))) [
       | true ↦ λ p. p
       | false ↦ λ p. p
     ]))

@@ -48,9 +48,13 @@ returns c =
 pub returns-then-len-eq0 : goal.returns-then-len-eq0
 returns-then-len-eq0 c =
     is_merge c.args.a c.args.b _ c.a.inside c.b.inside c.a.view_is c.b.view_is c.a.invariant c.b.invariant
-    (ap (λ (r : Report). r.entries) c.b.view_is ∙ merged-none_left c.args.a.entries c.args.b.entries (sym c.len.ensures ∙ c.if-len-eq0.true)) (ap₂ (λ (p q : Bool). p || q) c.race.ensures c.race-2.ensures)
+    (ap (λ (r : Report). r.entries) c.b.view_is
+    ∙ merged-none_left c.args.a.entries c.args.b.entries (sym c.len.ensures ∙ c.if-len-eq0.true))
+    (ap₂ (λ (p q : Bool). p || q) c.race.ensures c.race-2.ensures)
 
 pub returns-then-len-eq0-2 : goal.returns-then-len-eq0-2
 returns-then-len-eq0-2 c =
     is_merge c.args.a c.args.b _ c.a.inside c.b.inside c.a.view_is c.b.view_is c.a.invariant c.b.invariant
-    (ap (λ (r : Report). r.entries) c.a.view_is ∙ merged-none_right c.args.a.entries c.args.b.entries (sym c.len-2.ensures ∙ c.if-len-eq0-2.true)) (ap₂ (λ (p q : Bool). p || q) c.race.ensures c.race-2.ensures)
+    (ap (λ (r : Report). r.entries) c.a.view_is
+    ∙ merged-none_right c.args.a.entries c.args.b.entries (sym c.len-2.ensures ∙ c.if-len-eq0-2.true))
+    (ap₂ (λ (p q : Bool). p || q) c.race.ensures c.race-2.ensures)

@@ -4,7 +4,8 @@ use Rattle.std.proofs.Math.Nat.{le-mul_of_pos_right, one-le-pow, pow-le-pow_righ
 use Rattle.lit_search.proofs.found.packing.packed.Goals as goal
 use Rattle.lit_search.proofs.found.packing.packed.Goals.{in-Some, in-Some-2, in-None}
 
-digit_here : (c : goal.After-from-in-Some) → c.from-in-Some.result * c.loop-place.weight + c.loop-place.number < 170141183460469231731687303715884105728
+digit_here : (c : goal.After-from-in-Some)
+    → c.from-in-Some.result * c.loop-place.weight + c.loop-place.number < 170141183460469231731687303715884105728
 digit_here c =
     let inv = c.loop-place.invariant in
     digit_fits c.args.top c.args.count c.loop-place.place c.from-in-Some.result c.loop-place.weight c.loop-place.number

@@ -39,7 +39,8 @@ returns-clause-rising c =
     let es = joined_entries c.args.parts.now in
     let all = c.loop-outcome.ranks in
     let sorted = c.sort_unstable_by.new.self.items in
-    let end = past es (length all.items) (ap (slice_get es) (sym all.ok.0) ∙ ap (slice_get es) (sym c.len.ensures) ∙ sym c.in_default.ensures) in
+    let end = past es (length all.items) (ap (slice_get es) (sym all.ok.0) ∙ ap (slice_get es) (sym c.len.ensures)
+    ∙ sym c.in_default.ensures) in
     let P : List Entry → Type 0 = λ xs. IsPermutation xs (map (ranked_entry es) sorted) in
     sorted_risen (ranked_entry es) es sorted c.requires
     (subst P (c.loop-outcome.invariant.each ∙ take_all (length all.items) es end) (IsPermutation-map (ranked_entry es) all.items sorted c.sort_unstable_by.ensures.permutation))
