@@ -1,14 +1,15 @@
 -- What an access does, and the course of an agent from its turns: the steps that it walks, the `if`s before each access decided.
 use Rattle.std.proofs.Common.{◌≡◌, ℕ, ◌+◌, ◌==◌, Bool, true, false, Option, Some, None, List, [], ◌∷◌, ◌++◌, take, drop, refl, eq-eqb, inl, inr, sym, ap, subst, ◌∙◌, append_assoc, append-nil}
-use Rattle.std.specs.Prelude.{◌&&◌, if◌then◌else◌, slice_index}
+use Rattle.std.specs.Prelude.{◌&&◌, if◌then◌else◌}
 use Rattle.lit_read.specs.Syntax.{Statement, Load, Store, Exchange, CompareExchange, If, Statements, End, Then}
 use Rattle.lit_paths.specs.declared.event.Event.{Event}
 use Rattle.lit_paths.specs.Event.{does_read, does_write, no_event}
 use Rattle.lit_paths.specs.Path.{Step, LoadMet, StoreMet, ExchangeMet, CompareExchangeMet, IfMet, IsStatementWalk, compare_exchange_event, events_on, modify_event, read_event, write_event, IsWalk}
-use Rattle.lit_paths.specs.Run.{AgreesWith, compares}
+use Rattle.lit_paths.specs.Run.{AgreesWith}
 use Rattle.lit_rel.specs.ReadsFrom.{composed}
-use Rattle.lit_search.specs.Interleaving.{Contents, after_statement, number_in, with_number, access_or, from_access, from_access_in, joined_statements}
+use Rattle.lit_search.specs.Interleaving.{Contents, after_statement, number_in, with_number, from_access, joined_statements}
 use Rattle.lit_search.specs.Internal.Runners.{is_access}
+use Rattle.lit_search.proofs.NextAccess.{each_from}
 
 -- ---- events on a block
 -- the number that an event finds in its range
@@ -147,68 +148,52 @@ itself registers s steps walked =
     let same : steps ≡ walked.0 = walked.2 ∙ ap (λ (xs : List Step). walked.0 ++ xs) walked.4 ∙ append-nil walked.0 in
     record { ifs = []; decided = none_decided registers; walked = subst (IsStatementWalk s) (sym same) walked.3 }
 
-mutual
-  lead_in : (registers : List ℕ) (s : Statement) (steps : List Step) → IsWalk (from_access_in registers s) steps → LeadsTo registers (IsStatementWalk s) steps
-  lead_in registers (If reg equal value body other) steps walked =
-      (elim (compares equal (slice_index registers reg) value) as (λ b. compares equal (slice_index registers reg) value ≡ b
-      → IsWalk (if b then from_access registers body else from_access registers other) steps
-      → LeadsTo registers (IsStatementWalk (If reg equal value body other)) steps) [
-        | true ↦ λ is w.
-            let led = lead registers body steps w in
-            record {
-              ifs = IfMet reg equal value true ∷ led.ifs;
-              decided = record {
-                agrees = λ rest values last a. (sym is, led.decided.agrees rest values last a);
-                events = led.decided.events;
-              };
-              walked = inl (led.ifs ++ steps, refl, led.walked);
-            }
-        | false ↦ λ is w.
-            let led = lead registers other steps w in
-            record {
-              ifs = IfMet reg equal value false ∷ led.ifs;
-              decided = record {
-                agrees = λ rest values last a. (sym is, led.decided.agrees rest values last a);
-                events = led.decided.events;
-              };
-              walked = inr (led.ifs ++ steps, refl, led.walked);
-            }
-      ]) refl walked
-  lead_in registers s steps walked = itself registers s steps walked
-
-  pub lead : (registers : List ℕ) (ss : Statements) (steps : List Step) → IsWalk (from_access registers ss) steps → LeadsTo registers (IsWalk ss) steps
-  lead registers End steps walked = record { ifs = []; decided = none_decided registers; walked = walked }
-  lead registers (Then s ss) steps walked =
-      (elim (from_access_in registers s) as (λ a. ((w : List Step) → IsWalk a w → LeadsTo registers (IsStatementWalk s) w)
-      → IsWalk (access_or a ss (from_access registers ss)) steps → LeadsTo registers (IsWalk (Then s ss)) steps) [
-        | End ↦ λ p w.
-            let none = p [] refl in
-            let rest = lead registers ss steps w in
-            record {
-              ifs = none.ifs ++ rest.ifs;
-              decided = record {
-                agrees = λ more values last a. rw append_assoc
-                    (none.decided.agrees (rest.ifs ++ more) values last (rest.decided.agrees more values last a));
-                events = λ owner place more. rw append_assoc (none.decided.events owner place (rest.ifs ++ more)
-                    ∙ rest.decided.events owner place more);
-              };
-              walked = (
-                none.ifs,
-                rest.ifs ++ steps,
-                append_assoc none.ifs rest.ifs steps,
-                subst (IsStatementWalk s) (append-nil none.ifs) none.walked,
-                rest.walked,
-              );
-            }
-        | Then x more ↦ λ p w.
-            let cut = walk_apart more ss w.1 w.4 in
-            let first = p (w.0 ++ cut.first) (w.0, cut.first, refl, w.3, cut.walked) in
-            let same : first.ifs ++ steps ≡ (first.ifs ++ (w.0 ++ cut.first)) ++ cut.rest =
-            ap (λ (xs : List Step). first.ifs ++ xs) (w.2 ∙ ap (λ (xs : List Step). w.0 ++ xs) cut.is
-            ∙ sym (append_assoc w.0 cut.first cut.rest)) ∙ sym (append_assoc first.ifs (w.0 ++ cut.first) cut.rest) in
-            record {
-              ifs = first.ifs;
-              decided = first.decided;
-              walked = (first.ifs ++ (w.0 ++ cut.first), cut.rest, same, first.walked, cut.then_walked);
-            }
-      ]) (λ w. lead_in registers s w) walked
+pub lead : (registers : List ℕ) (ss : Statements) (steps : List Step) → IsWalk (from_access registers ss) steps → LeadsTo registers (IsWalk ss) steps
+lead registers = each_from registers (λ s left. (steps : List Step) → IsWalk left steps → LeadsTo registers (IsStatementWalk s) steps)
+    (λ ss left. (steps : List Step) → IsWalk left steps → LeadsTo registers (IsWalk ss) steps)
+    (λ s is. itself registers s)
+    (λ reg equal value body other b is left leads steps walked.
+    let led = leads steps walked in
+    record {
+      ifs = IfMet reg equal value b ∷ led.ifs;
+      decided = record {
+        agrees = λ rest values last a. (sym is, led.decided.agrees rest values last a);
+        events = led.decided.events;
+      };
+      walked = (elim b as (λ b. IsWalk (if b then body else other) (led.ifs ++ steps)
+          → IsStatementWalk (If reg equal value body other) (IfMet reg equal value b ∷ led.ifs ++ steps)) [
+            | true ↦ λ w. inl (led.ifs ++ steps, refl, w)
+            | false ↦ λ w. inr (led.ifs ++ steps, refl, w)
+          ]) led.walked;
+    })
+    (λ steps walked. record { ifs = []; decided = none_decided registers; walked = walked })
+    (λ s ss left nothing leads steps walked.
+    let none = nothing [] refl in
+    let rest = leads steps walked in
+    record {
+      ifs = none.ifs ++ rest.ifs;
+      decided = record {
+        agrees = λ more values last a. rw append_assoc
+            (none.decided.agrees (rest.ifs ++ more) values last (rest.decided.agrees more values last a));
+        events = λ owner place more. rw append_assoc (none.decided.events owner place (rest.ifs ++ more)
+            ∙ rest.decided.events owner place more);
+      };
+      walked = (
+        none.ifs,
+        rest.ifs ++ steps,
+        append_assoc none.ifs rest.ifs steps,
+        subst (IsStatementWalk s) (append-nil none.ifs) none.walked,
+        rest.walked,
+      );
+    })
+    (λ s ss x more leads steps w.
+    let cut = walk_apart more ss w.1 w.4 in
+    let first = leads (w.0 ++ cut.first) (w.0, cut.first, refl, w.3, cut.walked) in
+    let same : first.ifs ++ steps ≡ (first.ifs ++ (w.0 ++ cut.first)) ++ cut.rest =
+    ap (λ (xs : List Step). first.ifs ++ xs) (w.2 ∙ ap (λ (xs : List Step). w.0 ++ xs) cut.is
+    ∙ sym (append_assoc w.0 cut.first cut.rest)) ∙ sym (append_assoc first.ifs (w.0 ++ cut.first) cut.rest) in
+    record {
+      ifs = first.ifs;
+      decided = first.decided;
+      walked = (first.ifs ++ (w.0 ++ cut.first), cut.rest, same, first.walked, cut.then_walked);
+    })

@@ -1,23 +1,23 @@
 -- The rest of an interleaving from a moment on: the accesses still to come, and each agent's steps.
 use Rattle.std.proofs.Common.{◌≡◌, ◌≢◌, inl, inr, ℕ, zero, suc, ◌+◌, ◌<◌, ◌≤◌, ◌==◌, true, false, Option, Some, List, [], ◌∷◌, ◌++◌, length, map, refl, sym, ap, ap₂, subst, ◌∙◌, arith, zero-add, append_assoc, append-nil}
-use Rattle.std.specs.Prelude.{All, if◌then◌else◌, filter, replicate, slice_index, slice_set}
+use Rattle.std.specs.Prelude.{All, if◌then◌else◌, filter, replicate, slice_set}
 use Rattle.std.proofs.lemmas.Bool.Decides.{nat_tests}
 use Rattle.std.specs.List.{range_with_len}
 use Rattle.std.proofs.lemmas.Bool.{cases_eq, cases_lt}
 use Rattle.std.proofs.lemmas.List.{get_or_past, get_or-set_other, get_or-set_same, length-map}
 use Rattle.std.proofs.lemmas.List.FromFn.{get_or-range_with_len, length-range_with_len}
-use Rattle.lit_read.specs.Syntax.{Litmus, Statement, Statements, If, End, Then}
+use Rattle.lit_read.specs.Syntax.{Litmus, Statement, Statements, End, Then}
 use Rattle.lit_paths.specs.declared.event.Event.{Event}
 use Rattle.lit_paths.specs.Path.{Step, IsWalk, events_on}
-use Rattle.lit_paths.specs.Run.{AgreesWith, compares}
+use Rattle.lit_paths.specs.Run.{AgreesWith}
 use Rattle.lit_paths.proofs.OutcomeRegisterSteps.{range_more}
 use Rattle.lit_paths.proofs.PathSteps.{length-slice_set}
-use Rattle.lit_search.specs.Interleaving.{Contents, Moment, Progress, access_or, after, after_each, after_end, after_statement, after_turn, beginning, ending, found_by, from_access, from_access_in, left_behind, progress_of}
+use Rattle.lit_search.specs.Interleaving.{Contents, Moment, Progress, after, after_each, after_end, after_statement, after_turn, beginning, ending, found_by, from_access, left_behind, progress_of}
 use Rattle.lit_search.specs.InTurn.{accesses, made_at_end, made_by_each, made_in_turn, makers_of, next_maker}
 use Rattle.lit_search.specs.Internal.Runners.{is_access}
 use Rattle.lit_search.proofs.ActLemmas.{act_agrees, act_block, act_events, act_found, act_owner, act_walked, event_made, found_before, found_in_turn, is_owned_by, same_agent, step_made, lead}
 use Rattle.lit_search.proofs.MomentLemmas.{after_each-more, at_first}
-use Rattle.lit_search.proofs.NextAccess.{after_from, after_next, size_less, size_of, accesses_from, one_access}
+use Rattle.lit_search.proofs.NextAccess.{after_from, after_next, each_from, size_less, size_of, accesses_from, one_access}
 
 -- the events of an agent
 abbrev pub own_events : ℕ → List Event → List Event
@@ -120,23 +120,9 @@ abbrev pub BeginsWithAccess : Statements → Type 0
 BeginsWithAccess End = Unit {0}
 BeginsWithAccess (Then s ss) = is_access s ≡ true
 
-mutual
-  begins_in : (registers : List ℕ) (s : Statement) → BeginsWithAccess (from_access_in registers s)
-  begins_in registers (If reg equal value body other) =
-      elim (compares equal (slice_index registers reg) value) as (λ b.
-      BeginsWithAccess (if b then from_access registers body else from_access registers other)) [
-        | true ↦ begins_from registers body
-        | false ↦ begins_from registers other
-      ]
-  begins_in registers s = refl
-
-  pub begins_from : (registers : List ℕ) (ss : Statements) → BeginsWithAccess (from_access registers ss)
-  begins_from registers End = tt
-  begins_from registers (Then s ss) =
-      (elim (from_access_in registers s) as (λ a. BeginsWithAccess a → BeginsWithAccess (access_or a ss (from_access registers ss))) [
-        | End ↦ λ p. begins_from registers ss
-        | Then x more ↦ λ p. p
-      ]) (begins_in registers s)
+pub begins_from : (registers : List ℕ) (ss : Statements) → BeginsWithAccess (from_access registers ss)
+begins_from registers = each_from registers (λ s left. BeginsWithAccess left) (λ ss left. BeginsWithAccess left) (λ s is. is)
+    (λ reg equal value body other b is left p. p) tt (λ s ss left none rest. rest) (λ s ss x more p. p)
 
 -- ---- a turn, and all remaining statements
 turn_future : (m end : Moment) (makers : List ℕ) (agent : ℕ) → agent < length m.agents → HasFuture (after_turn m agent) end makers → HasFuture m end (made_in_turn m agent ++ makers)

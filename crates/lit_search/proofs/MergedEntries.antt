@@ -10,7 +10,7 @@ use Rattle.std.proofs.lemmas.List.{nil_from_length}
 use Rattle.std.proofs.lemmas.Map.Lookups.{exact_bytes}
 use Rattle.lit_search.specs.Report.{Entry, example_cmp, outcome_cmp, HasEntry}
 use Rattle.lit_search.specs.Merge.{AreMerged, HasInEither}
-use Rattle.lit_search.specs.Internal.Merged.{heads_cmp, lesser, merged_from, merged}
+use Rattle.lit_search.specs.Internal.Merged.{heads_cmp, lesser, merged}
 use Rattle.std.specs.Cmp.{IsTotalOrder}
 use Rattle.std.specs.Cmp.Rules.{comparing}
 use Rattle.std.specs.Cmp.Lexicographic.{slice_cmp, nat_list_cmp_total}
@@ -151,48 +151,50 @@ lesser_behind : (a b : Entry) → IsFalse (is_gt (example_cmp (lesser a b) b))
 lesser_behind a b = (elim (is_gt (example_cmp a b)) as (λ g. is_gt (example_cmp a b) ≡ g → IsFalse (is_gt (example_cmp (cond g b a) b)))
     [ true ↦ λ e. not_after_itself b | false ↦ λ e. e ]) refl
 
--- ---- what holds of all entries
-all_from : (P : Entry → Type 0) (x : Entry) (xs : List Entry) (rest : List Entry → List Entry) (ys : List Entry) → P x → AllByRecursion P xs → ((zs : List Entry) → AllByRecursion P zs → AllByRecursion P (rest zs)) → AllByRecursion P ys
-    → AllByRecursion P (merged_from x xs rest ys)
-all_from P x xs rest [] p h r k = (p, h)
-all_from P x xs rest (y ∷ ys) p h r k =
-    elim (outcome_cmp x y) as (λ o. AllByRecursion P (match_ordering o (x ∷ rest (y ∷ ys)) (lesser x y ∷ rest ys)
-    (y ∷ merged_from x xs rest ys))) [
-      | Less ↦ (p, r (y ∷ ys) k)
-      | Equal ↦ (lesser_has P x y p k.0, r ys k.1)
-      | Greater ↦ (k.0, all_from P x xs rest ys p h r k.1)
-    ]
+-- ---- induction on two lists merged
+module _ (P : (xs ys zs : List Entry) → Type 0) (left : (ys : List Entry) → P [] ys ys)
+    (right : (x : Entry) (xs : List Entry) → P (x ∷ xs) [] (x ∷ xs))
+    (less : (x y : Entry) (xs ys : List Entry) → outcome_cmp x y ≡ Less → P xs (y ∷ ys) (merged xs (y ∷ ys))
+    → P (x ∷ xs) (y ∷ ys) (x ∷ merged xs (y ∷ ys)))
+    (equal : (x y : Entry) (xs ys : List Entry) → outcome_cmp x y ≡ Equal → P xs ys (merged xs ys)
+    → P (x ∷ xs) (y ∷ ys) (lesser x y ∷ merged xs ys))
+    (greater : (x y : Entry) (xs ys : List Entry) → outcome_cmp x y ≡ Greater → P (x ∷ xs) ys (merged (x ∷ xs) ys)
+    → P (x ∷ xs) (y ∷ ys) (y ∷ merged (x ∷ xs) ys)) where
+  by_first : (x : Entry) (xs : List Entry) → ((zs : List Entry) → P xs zs (merged xs zs)) → (ys : List Entry)
+      → P (x ∷ xs) ys (merged (x ∷ xs) ys)
+  by_first x xs rest [] = right x xs
+  by_first x xs rest (y ∷ ys) = (elim (outcome_cmp x y) as (λ o. outcome_cmp x y ≡ o
+      → P (x ∷ xs) (y ∷ ys) (match_ordering o (x ∷ merged xs (y ∷ ys)) (lesser x y ∷ merged xs ys) (y ∷ merged (x ∷ xs) ys))) [
+        | Less ↦ λ e. less x y xs ys e (rest (y ∷ ys))
+        | Equal ↦ λ e. equal x y xs ys e (rest ys)
+        | Greater ↦ λ e. greater x y xs ys e (by_first x xs rest ys)
+      ]) refl
 
+  merging : (xs ys : List Entry) → P xs ys (merged xs ys)
+  merging [] ys = left ys
+  merging (x ∷ xs) ys = by_first x xs (merging xs) ys
+
+-- ---- what holds of all entries
 pub all_merged : (P : Entry → Type 0) (xs ys : List Entry) → AllByRecursion P xs → AllByRecursion P ys → AllByRecursion P (merged xs ys)
-all_merged P [] ys h k = k
-all_merged P (x ∷ xs) ys h k = all_from P x xs (merged xs) ys h.0 h.1 (λ zs. all_merged P xs zs h.1) k
+all_merged P = merging (λ xs ys zs. AllByRecursion P xs → AllByRecursion P ys → AllByRecursion P zs) (λ ys h k. k) (λ x xs h k. h)
+    (λ x y xs ys e rest h k. (h.0, rest h.1 k))
+    (λ x y xs ys e rest h k. (lesser_has P x y h.0 k.0, rest h.1 k.1))
+    (λ x y xs ys e rest h k. (k.0, rest h k.1))
 
 -- ---- rising
-rise_from : (x : Entry) (xs ys : List Entry) → AreRising (x ∷ xs) → ((zs : List Entry) → AreRising zs → AreRising (merged xs zs)) → AreRising ys → AreRising (merged_from x xs (merged xs) ys)
-unfolding IsStrictlySortedBy
-rise_from x xs [] up r vp = up
-rise_from x xs (y ∷ ys) up r vp = (elim (outcome_cmp x y) as (λ o. outcome_cmp x y ≡ o
-    → AreRising (match_ordering o (x ∷ merged xs (y ∷ ys)) (lesser x y ∷ merged xs ys) (y ∷ merged_from x xs (merged xs) ys))) [
-      | Less ↦ λ e. (all_merged (λ w. outcome_cmp x w ≡ Less) xs (y ∷ ys) up.0 (e, below_rising x y ys e vp.0), r (y ∷ ys) vp)
-      | Equal ↦ λ e.
-          let same : x.outcome ≡ y.outcome = exact_bytes x.outcome y.outcome e in
-          let is_x : x.outcome ≡ (lesser x y).outcome = lesser_has (λ w. x.outcome ≡ w.outcome) x y refl same in (
-            all_merged (λ w. outcome_cmp (lesser x y) w ≡ Less) xs ys (rw (← is_x) up.0) (rw (← is_x, same) vp.0),
-            r ys vp.1,
-          )
-      | Greater ↦ λ e.
-          let lt = reversed x.outcome y.outcome e in
-          let P : Entry → Type 0 = λ w. outcome_cmp y w ≡ Less in (
-            all_from P x xs (merged xs) ys lt (below_rising y x xs lt up.0)
-                (λ zs h. all_merged P xs zs (below_rising y x xs lt up.0) h) vp.0,
-            rise_from x xs ys up r vp.1,
-          )
-    ]) refl
-
 pub AreRising-merged : (xs ys : List Entry) → AreRising xs → AreRising ys → AreRising (merged xs ys)
 unfolding IsStrictlySortedBy
-AreRising-merged [] ys up vp = vp
-AreRising-merged (x ∷ xs) ys up vp = rise_from x xs ys up (λ zs wp. AreRising-merged xs zs up.1 wp) vp
+AreRising-merged = merging (λ xs ys zs. AreRising xs → AreRising ys → AreRising zs) (λ ys up vp. vp) (λ x xs up vp. up)
+    (λ x y xs ys e rest up vp. (all_merged (λ w. outcome_cmp x w ≡ Less) xs (y ∷ ys) up.0 (e, below_rising x y ys e vp.0), rest up.1 vp))
+    (λ x y xs ys e rest up vp.
+    let same : x.outcome ≡ y.outcome = exact_bytes x.outcome y.outcome e in
+    let is_x : x.outcome ≡ (lesser x y).outcome = lesser_has (λ w. x.outcome ≡ w.outcome) x y refl same in (
+      all_merged (λ w. outcome_cmp (lesser x y) w ≡ Less) xs ys (rw (← is_x) up.0) (rw (← is_x, same) vp.0),
+      rest up.1 vp.1,
+    ))
+    (λ x y xs ys e rest up vp.
+    let lt = reversed x.outcome y.outcome e in
+    (all_merged (λ w. outcome_cmp y w ≡ Less) (x ∷ xs) ys (lt, below_rising y x xs lt up.0) vp.0, rest up vp.1))
 
 -- ---- what stands there
 -- the entry's outcome stands with an example that is not greater
@@ -202,56 +204,39 @@ pub record Comes (zs : List Entry) (w : Entry) : Type 0 where
   pub same : entry.outcome ≡ w.outcome
   pub least : IsFalse (is_gt (example_cmp entry w))
 
-comes_first : (z w : Entry) (zs : List Entry) → z.outcome ≡ w.outcome → IsFalse (is_gt (example_cmp z w)) → Comes (z ∷ zs) w
-comes_first z w zs same least = record { entry = z; stands = first_stands z zs; same = same; least = least }
-
 comes_later : (z w : Entry) (zs : List Entry) → Comes zs w → Comes (z ∷ zs) w
 comes_later z w zs c = record { entry = c.entry; stands = later_stands z c.entry zs c.stands; same = c.same; least = c.least }
 
 comes_itself : (zs : List Entry) (w : Entry) → Stands zs w → Comes zs w
 comes_itself zs w s = record { entry = w; stands = s; same = refl; least = not_after_itself w }
 
-comes_from : (w x : Entry) (xs : List Entry) (rest : List Entry → List Entry) (ys : List Entry) → ((zs : List Entry) → Stands xs w ⊎ Stands zs w → Comes (rest zs) w) → Stands (x ∷ xs) w ⊎ Stands ys w → Comes (merged_from x xs rest ys) w
-comes_from w x xs rest [] r (inl s) = comes_itself (x ∷ xs) w s
-comes_from w x xs rest [] r (inr s) = absurd (stands_in_none w s)
-comes_from w x xs rest (y ∷ ys) r s =
-    let later = comes_from w x xs rest ys r in
-    (elim (outcome_cmp x y) as (λ o. outcome_cmp x y ≡ o
-    → Comes (match_ordering o (x ∷ rest (y ∷ ys)) (lesser x y ∷ rest ys) (y ∷ merged_from x xs rest ys)) w) [
-      | Less ↦ λ e. elim s [
-        | inl t ↦ elim (stands_cases x w xs t) [
-          | inl is ↦ rw is (comes_first x x (rest (y ∷ ys)) refl (not_after_itself x))
-          | inr u ↦ comes_later x w (rest (y ∷ ys)) (r (y ∷ ys) (inl u))
-        ]
-        | inr t ↦ comes_later x w (rest (y ∷ ys)) (r (y ∷ ys) (inr t))
-      ]
-      | Equal ↦ λ e.
-          let same = exact_bytes x.outcome y.outcome e in
-          elim s [
-            | inl t ↦ elim (stands_cases x w xs t) [
-              | inl is ↦ rw is (comes_first (lesser x y) x (rest ys) (lesser_has (λ v. v.outcome ≡ x.outcome) x y refl (sym same))
-                  (lesser_before x y))
-              | inr u ↦ comes_later (lesser x y) w (rest ys) (r ys (inl u))
-            ]
-            | inr t ↦ elim (stands_cases y w ys t) [
-              | inl is ↦ rw is (comes_first (lesser x y) y (rest ys) (lesser_has (λ v. v.outcome ≡ y.outcome) x y same refl)
-                  (lesser_behind x y))
-              | inr u ↦ comes_later (lesser x y) w (rest ys) (r ys (inr u))
-            ]
-          ]
-      | Greater ↦ λ e. elim s [
-        | inl t ↦ comes_later y w (merged_from x xs rest ys) (later (inl t))
-        | inr t ↦ elim (stands_cases y w ys t) [
-          | inl is ↦ rw is (comes_first y y (merged_from x xs rest ys) refl (not_after_itself y))
-          | inr u ↦ comes_later y w (merged_from x xs rest ys) (later (inr u))
-        ]
-      ]
-    ]) refl
+-- what stands in x ∷ xs comes behind z, which has the outcome of x
+comes_behind : (w x z : Entry) (xs zs : List Entry) → z.outcome ≡ x.outcome → IsFalse (is_gt (example_cmp z x))
+    → (Stands xs w → Comes zs w) → Stands (x ∷ xs) w → Comes (z ∷ zs) w
+comes_behind w x z xs zs same least later s = elim (stands_cases x w xs s) [
+  | inl is ↦ rw is (record { entry = z; stands = first_stands z zs; same = same; least = least })
+  | inr t ↦ comes_later z w zs (later t)
+]
 
 comes : (w : Entry) (xs ys : List Entry) → Stands xs w ⊎ Stands ys w → Comes (merged xs ys) w
-comes w [] ys (inl s) = absurd (stands_in_none w s)
-comes w [] ys (inr s) = comes_itself ys w s
-comes w (x ∷ xs) ys s = comes_from w x xs (merged xs) ys (λ zs t. comes w xs zs t) s
+comes w = merging (λ xs ys zs. Stands xs w ⊎ Stands ys w → Comes zs w)
+    (λ ys s. elim s [ inl t ↦ absurd (stands_in_none w t) | inr t ↦ comes_itself ys w t ])
+    (λ x xs s. elim s [ inl t ↦ comes_itself (x ∷ xs) w t | inr t ↦ absurd (stands_in_none w t) ])
+    (λ x y xs ys e rest s. elim s [
+      | inl t ↦ comes_behind w x x xs (merged xs (y ∷ ys)) refl (not_after_itself x) (λ u. rest (inl u)) t
+      | inr t ↦ comes_later x w (merged xs (y ∷ ys)) (rest (inr t))
+    ])
+    (λ x y xs ys e rest s.
+    let same = exact_bytes x.outcome y.outcome e in
+    let has = lesser_has (λ v. v.outcome ≡ x.outcome) x y refl (sym same) in
+    elim s [
+      | inl t ↦ comes_behind w x (lesser x y) xs (merged xs ys) has (lesser_before x y) (λ u. rest (inl u)) t
+      | inr t ↦ comes_behind w y (lesser x y) ys (merged xs ys) (has ∙ same) (lesser_behind x y) (λ u. rest (inr u)) t
+    ])
+    (λ x y xs ys e rest s. elim s [
+      | inl t ↦ comes_later y w (merged (x ∷ xs) ys) (rest (inl t))
+      | inr t ↦ comes_behind w y y ys (merged (x ∷ xs) ys) refl (not_after_itself y) (λ u. rest (inr u)) t
+    ])
 
 -- ---- as reports
 pub AreMerged-merged : (a b : List Entry) → AreRising a → AreRising b → AreMerged a b (merged a b)

@@ -1,5 +1,5 @@
 -- The remaining statements from the next access on, where an `if` is decided, and how many they are.
-use Rattle.std.proofs.Common.{◌≡◌, ℕ, ◌+◌, ◌<◌, ◌≤◌, true, false, List, [], ◌∷◌, ◌++◌, length, refl, sym, ap, subst, ◌∙◌, arith, suc}
+use Rattle.std.proofs.Common.{◌≡◌, ℕ, ◌+◌, ◌<◌, ◌≤◌, Bool, true, false, List, [], ◌∷◌, ◌++◌, length, refl, sym, ap, subst, ◌∙◌, arith, suc}
 use Rattle.std.specs.Prelude.{if◌then◌else◌, slice_index}
 use Rattle.std.specs.Borrow.{Bor}
 use Rattle.lit_read.specs.declared.syntax.Stmt.{Stmt}
@@ -26,6 +26,33 @@ joined_all-more (l ∷ lists) list others = joined_all-more lists list (joined_s
 pub said-joined : (bytes : ℕ) (a b : Statements) → AreStatementsIn bytes a → AreStatementsIn bytes b → AreStatementsIn bytes (joined_statements a b)
 said-joined bytes End b p q = q
 said-joined bytes (Then s ss) b p q = (p.0, said-joined bytes ss b p.1 q)
+
+-- ---- induction on the remaining statements from the next access on
+module _ (registers : List ℕ) (One : Statement → Statements → Type 0) (Each : Statements → Statements → Type 0)
+    (access : (s : Statement) → is_access s ≡ true → One s (Then s End))
+    (part : (reg : ℕ) (equal : Bool) (value : ℕ) (body other : Statements) (b : Bool)
+    → compares equal (slice_index registers reg) value ≡ b → (left : Statements)
+    → Each (if b then body else other) left → One (If reg equal value body other) left)
+    (none : Each End End) (past : (s : Statement) (ss left : Statements) → One s End → Each ss left → Each (Then s ss) left)
+    (first : (s : Statement) (ss : Statements) (x : Statement) (more : Statements) → One s (Then x more)
+    → Each (Then s ss) (Then x (joined_statements more ss))) where
+  mutual
+    one_from : (s : Statement) → One s (from_access_in registers s)
+    one_from (If reg equal value body other) =
+        (elim (compares equal (slice_index registers reg) value) as (λ b. compares equal (slice_index registers reg) value ≡ b
+        → One (If reg equal value body other) (if b then from_access registers body else from_access registers other)) [
+          | true ↦ λ is. part reg equal value body other true is (from_access registers body) (each_from body)
+          | false ↦ λ is. part reg equal value body other false is (from_access registers other) (each_from other)
+        ]) refl
+    one_from s = access s refl
+
+    pub each_from : (ss : Statements) → Each ss (from_access registers ss)
+    each_from End = none
+    each_from (Then s ss) =
+        (elim (from_access_in registers s) as (λ a. One s a → Each (Then s ss) (access_or a ss (from_access registers ss))) [
+          | End ↦ λ p. past s ss (from_access registers ss) p (each_from ss)
+          | Then x more ↦ λ p. first s ss x more p
+        ]) (one_from s)
 
 -- ---- the next access of joined_statements statements
 regrouped : (a ss k x y z : Statements) → y ≡ access_or x k z → access_or a (joined_statements ss k) y ≡ access_or (access_or a ss x) k z
@@ -80,23 +107,14 @@ size_of-part registers s part c = rw (c.is, c.chosen) (elim (compares c.equal (s
     (λ b. size_of (if b then c.body else c.other) + 2 ≤ size_of c.body + size_of c.other + 2)
     [ true ↦ omega arith | false ↦ omega arith ])
 
-mutual
-  size_in : (registers : List ℕ) (s : Statement) → size_of (from_access_in registers s) ≤ statement_size s
-  size_in registers (If reg equal value body other) =
-      elim (compares equal (slice_index registers reg) value) as (λ b.
-      size_of (if b then from_access registers body else from_access registers other) ≤ size_of body + size_of other + 2) [
-        | true ↦ omega (arith, size_from registers body)
-        | false ↦ omega (arith, size_from registers other)
-      ]
-  size_in registers s = omega arith
-
-  pub size_from : (registers : List ℕ) (ss : Statements) → size_of (from_access registers ss) ≤ size_of ss
-  size_from registers End = omega arith
-  size_from registers (Then s ss) = (elim (from_access_in registers s) as (λ a. size_of a ≤ statement_size s
-      → size_of (access_or a ss (from_access registers ss)) ≤ size_of (Then s ss)) [
-        | End ↦ λ p. omega (arith, size_from registers ss)
-        | Then x more ↦ λ p. omega (arith, size_of-joined more ss)
-      ]) (size_in registers s)
+pub size_from : (registers : List ℕ) (ss : Statements) → size_of (from_access registers ss) ≤ size_of ss
+size_from registers = each_from registers (λ s left. size_of left ≤ statement_size s) (λ ss left. size_of left ≤ size_of ss)
+    (λ s is. omega arith)
+    (λ reg equal value body other b is left. elim b as (λ b. size_of left ≤ size_of (if b then body else other)
+    → size_of left ≤ size_of body + size_of other + 2) [ true ↦ λ p. omega (arith, p) | false ↦ λ p. omega (arith, p) ])
+    (omega arith)
+    (λ s ss left none rest. omega (arith, rest))
+    (λ s ss x more p. omega (arith, p, size_of-joined more ss))
 
 some_size : (s : Statement) → 1 ≤ statement_size s
 some_size (If reg equal value body other) = omega arith
@@ -134,47 +152,61 @@ none_left [] none = refl
 none_left (x ∷ xs) none = absurd (omega (arith, none))
 
 -- ---- what is said of the remaining statements
-mutual
-  said_in : (bytes : ℕ) (registers : List ℕ) (s : Statement) → IsStatementIn bytes s → AreStatementsIn bytes (from_access_in registers s)
-  said_in bytes registers (If reg equal value body other) said =
-      elim (compares equal (slice_index registers reg) value) as (λ b.
-      AreStatementsIn bytes (if b then from_access registers body else from_access registers other)) [
-        | true ↦ said_from bytes registers body said.2
-        | false ↦ said_from bytes registers other said.3
-      ]
-  said_in bytes registers s said = (said, tt)
-
-  pub said_from : (bytes : ℕ) (registers : List ℕ) (ss : Statements) → AreStatementsIn bytes ss → AreStatementsIn bytes (from_access registers ss)
-  said_from bytes registers End said = tt
-  said_from bytes registers (Then s ss) said = (elim (from_access_in registers s) as (λ a. AreStatementsIn bytes a
-      → AreStatementsIn bytes (access_or a ss (from_access registers ss))) [
-        | End ↦ λ p. said_from bytes registers ss said.1
-        | Then x more ↦ λ p. (p.0, said-joined bytes more ss p.1 said.1)
-      ]) (said_in bytes registers s said.0)
+pub said_from : (bytes : ℕ) (registers : List ℕ) (ss : Statements) → AreStatementsIn bytes ss → AreStatementsIn bytes (from_access registers ss)
+said_from bytes registers = each_from registers (λ s left. IsStatementIn bytes s → AreStatementsIn bytes left)
+    (λ ss left. AreStatementsIn bytes ss → AreStatementsIn bytes left)
+    (λ s is said. (said, tt))
+    (λ reg equal value body other b is left. elim b as (λ b.
+    (AreStatementsIn bytes (if b then body else other) → AreStatementsIn bytes left)
+    → IsStatementIn bytes (If reg equal value body other) → AreStatementsIn bytes left)
+    [ true ↦ λ p said. p said.2 | false ↦ λ p said. p said.3 ])
+    (λ said. tt)
+    (λ s ss left none rest said. rest said.1)
+    (λ s ss x more p said. let first = p said.0 in (first.0, said-joined bytes more ss first.1 said.1))
 
 -- ---- all remaining statements
 pub after-joined : (a b : Statements) (c : Contents) → after (joined_statements a b) c ≡ after b (after a c)
 after-joined End b c = refl
 after-joined (Then s ss) b c = after-joined ss b (after_statement s c)
 
--- an `if` changes nothing before the next access
-mutual
-  pub after_in : (s : Statement) (c : Contents) → after (from_access_in c.registers s) c ≡ after_statement s c
-  after_in (If reg equal value body other) c =
-      elim (compares equal (slice_index c.registers reg) value) as (λ b.
-      after (if b then from_access c.registers body else from_access c.registers other) c ≡ (if b then after body c else after other c)) [
-        | true ↦ after_from body c
-        | false ↦ after_from other c
-      ]
-  after_in s c = refl
+-- ---- how many accesses statements make
+accesses-joined : (a b : Statements) (c : Contents) → accesses (joined_statements a b) c ≡ accesses a c + accesses b (after a c)
+accesses-joined End b c = omega arith
+accesses-joined (Then s ss) b c = omega (arith, accesses-joined ss b (after_statement s c))
 
-  pub after_from : (ss : Statements) (c : Contents) → after (from_access c.registers ss) c ≡ after ss c
-  after_from End c = refl
-  after_from (Then s ss) c = (elim (from_access_in c.registers s) as (λ a. after a c ≡ after_statement s c
-      → after (access_or a ss (from_access c.registers ss)) c ≡ after (Then s ss) c) [
-        | End ↦ λ is. after_from ss c ∙ ap (after ss) is
-        | Then x more ↦ λ is. after-joined more ss (after_statement x c) ∙ ap (after ss) is
-      ]) (after_in s c)
+made_itself : (s : Statement) (c : Contents) → is_access s ≡ true → accesses (Then s End) c ≡ statement_accesses s c
+made_itself s c is = omega arith
+
+-- an access, and then others
+pub one_access : (s : Statement) (ss : Statements) (c : Contents) → is_access s ≡ true → accesses (Then s ss) c ≡ suc (accesses ss (after_statement s c))
+one_access (If reg equal value body other) ss c is = absurd (let e : false ≡ true = is in cc)
+one_access s ss c is = omega arith
+
+-- an `if` changes nothing before the next access, and makes none
+same_from : (c : Contents) (ss : Statements) → (accesses (from_access c.registers ss) c ≡ accesses ss c)
+    × (after (from_access c.registers ss) c ≡ after ss c)
+same_from c = each_from c.registers (λ s left. (accesses left c ≡ statement_accesses s c) × (after left c ≡ after_statement s c))
+    (λ ss left. (accesses left c ≡ accesses ss c) × (after left c ≡ after ss c))
+    (λ s is. (made_itself s c is, refl))
+    (λ reg equal value body other b is left. rw is (elim b as (λ b.
+    (accesses left c ≡ accesses (if b then body else other) c) × (after left c ≡ after (if b then body else other) c)
+    → (accesses left c ≡ (if b then accesses body c else accesses other c))
+    × (after left c ≡ (if b then after body c else after other c))) [
+      | true ↦ λ p. p
+      | false ↦ λ p. p
+    ]))
+    (refl, refl)
+    (λ s ss left none rest. (omega (arith, rest.0, none.0, ap (accesses ss) none.1), rest.1 ∙ ap (after ss) none.1))
+    (λ s ss x more p. (
+      omega (arith, p.0, accesses-joined more ss (after_statement x c), ap (accesses ss) p.1),
+      after-joined more ss (after_statement x c) ∙ ap (after ss) p.1,
+    ))
+
+pub after_from : (ss : Statements) (c : Contents) → after (from_access c.registers ss) c ≡ after ss c
+after_from ss c = (same_from c ss).1
+
+pub accesses_from : (ss : Statements) (c : Contents) → accesses (from_access c.registers ss) c ≡ accesses ss c
+accesses_from ss c = (same_from c ss).0
 
 -- the next access carried out, and then all statements behind it
 pub after_next : (p : Progress) (block : List ℕ) (s : Statement) (left : Statements) (now : Contents) → from_access p.registers p.left ≡ Then s left
@@ -182,33 +214,3 @@ pub after_next : (p : Progress) (block : List ℕ) (s : Statement) (left : State
 after_next p block s left now is done =
     let c : Contents = record { block = block; registers = p.registers } in
     ap (after left) done ∙ ap (λ (ss : Statements). after ss c) (sym is) ∙ after_from p.left c
-
--- ---- how many accesses statements make: as many as those that remain from the next access on
-accesses-joined : (a b : Statements) (c : Contents) → accesses (joined_statements a b) c ≡ accesses a c + accesses b (after a c)
-accesses-joined End b c = omega arith
-accesses-joined (Then s ss) b c = omega (arith, accesses-joined ss b (after_statement s c))
-
-mutual
-  accesses_in : (s : Statement) (c : Contents) → accesses (from_access_in c.registers s) c ≡ statement_accesses s c
-  accesses_in (If reg equal value body other) c =
-      elim (compares equal (slice_index c.registers reg) value) as (λ b.
-      accesses (if b then from_access c.registers body else from_access c.registers other) c
-      ≡ (if b then accesses body c else accesses other c)) [
-        | true ↦ accesses_from body c
-        | false ↦ accesses_from other c
-      ]
-  accesses_in s c = refl
-
-  pub accesses_from : (ss : Statements) (c : Contents) → accesses (from_access c.registers ss) c ≡ accesses ss c
-  accesses_from End c = refl
-  accesses_from (Then s ss) c =
-      (elim (from_access_in c.registers s) as (λ a. accesses a c ≡ statement_accesses s c → after a c ≡ after_statement s c
-      → accesses (access_or a ss (from_access c.registers ss)) c ≡ accesses (Then s ss) c) [
-        | End ↦ λ few is. omega (arith, accesses_from ss c, ap (accesses ss) is)
-        | Then x more ↦ λ few is. omega (arith, accesses-joined more ss (after_statement x c), ap (accesses ss) is)
-      ]) (accesses_in s c) (after_in s c)
-
--- an access, and then others
-pub one_access : (s : Statement) (ss : Statements) (c : Contents) → is_access s ≡ true → accesses (Then s ss) c ≡ suc (accesses ss (after_statement s c))
-one_access (If reg equal value body other) ss c is = absurd (let e : false ≡ true = is in cc)
-one_access s ss c is = omega arith

@@ -3,8 +3,8 @@ use Rattle.std.proofs.Common.{◌≡◌, ◌≢◌, ◌⊎◌, inl, inr, ℕ, ze
 use Rattle.std.specs.Prelude.{◌&&◌, IsTrue, if◌then◌else◌, nat_le, nat_lt, slice_get, replicate, slice_index}
 use Rattle.std.proofs.lemmas.Bool.{and_from, and_parts, eq-eqb, false≢true, le-leb, leb-true, lt-ltb, ltb-true, cases_lt, lt-leb}
 use Rattle.std.proofs.lemmas.Bool.Decides.{nat_tests}
-use Rattle.std.proofs.lemmas.List.{length-map, get_or_default, get_or-replicate, get_or-append_right, get_or-drop, get_or-take, get_or_append_left, length-replicate, length-take-le, same_lists}
-use Rattle.std.proofs.lemmas.Option.{none-some, same_Some, slice_get-get_or}
+use Rattle.std.proofs.lemmas.List.{length-map, get_or_default, get_or-replicate, get_or-append_right, get_or-drop, get_or-take, get_or_append_left, length-replicate, length-take, length-take-le, same_lists}
+use Rattle.std.proofs.lemmas.Option.{none-some, same_Some, slice_get-get_or, slice_get_within}
 use Rattle.lit_paths.specs.declared.event.Event.{Event}
 use Rattle.lit_paths.specs.ByteReads.{IsCandidate, byte_reads}
 use Rattle.lit_paths.specs.Choice.{AreSources}
@@ -21,6 +21,7 @@ use Rattle.std.proofs.lemmas.List.Edits.{length-paste}
 use Rattle.std.proofs.lemmas.List.FromFn.{get_or-map-range_with_len, length-map-range_with_len}
 use Rattle.lit_rel.specs.ReadsFrom.{composed, value_of}
 use Rattle.lit_rel.proofs.OwnByteLemmas.{only_its}
+use Rattle.lit_rel.proofs.SourceLemmas.{take_from}
 use Rattle.lit_search.proofs.ActLemmas.{after_event, found_at}
 use Rattle.lit_valid.proofs.RunLemmas.{maps}
 
@@ -40,10 +41,7 @@ writes_parts b e is =
 
 -- ---- lists cut short
 pub in_front : {X : Type 0} (xs : List X) (k j : ℕ) (x : X) → slice_get (take k xs) j ≡ Some x → (j < k) × (slice_get xs j ≡ Some x)
-in_front {X} xs zero j x at = let no : None ≡ Some x = at in absurd (none-some x no)
-in_front {X} [] (suc k) j x at = let no : None ≡ Some x = at in absurd (none-some x no)
-in_front (y ∷ xs) (suc k) zero x at = (omega arith, at)
-in_front (y ∷ xs) (suc k) (suc j) x at = let rest = in_front xs k j x at in (omega (arith, rest.0), rest.1)
+in_front xs k j x at = (omega (arith, slice_get_within (take k xs) j x at, length-take k xs), take_from k xs j x at)
 
 pub front_has : {X : Type 0} (xs : List X) (k j : ℕ) (x : X) → j < k → slice_get xs j ≡ Some x → slice_get (take k xs) j ≡ Some x
 front_has xs zero j x lt at = absurd (omega (arith, lt))

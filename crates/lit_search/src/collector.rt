@@ -2,7 +2,9 @@
 
 ghost use Rattle.std.specs.Prelude.{◌≡◌, ℕ, ◌≤◌, Bool, length, IfOk, OnErr, OnOk};
 ghost use Rattle.lit_paths.specs.Choice.{choices_of};
-ghost use Rattle.lit_search.specs.Report.{in_range};
+ghost use Rattle.lit_search.specs.Collected.{Collected, HasTaken, coded_collected};
+ghost use Rattle.lit_search.specs.Report.{in_either, in_none, in_range};
+ghost use Rattle.lit_search.specs.Internal.Risen.{risen};
 
 use crate::fault::SearchFault;
 use crate::found::Found;
@@ -26,9 +28,6 @@ pub struct Collector<'p> {
 }
 
 impl<'p> Model for Collector<'p> {
-    ghost use Rattle.lit_search.specs.Collected.{Collected, coded_collected};
-    ghost use Rattle.lit_search.specs.Internal.Risen.{risen};
-
     ghost Value = { Collected };
 
     ghost coded = { coded_collected };
@@ -37,9 +36,6 @@ impl<'p> Model for Collector<'p> {
 }
 
 impl<'p> Collector<'p> {
-    ghost use Rattle.lit_search.specs.Collected.{HasTaken};
-    ghost use Rattle.lit_search.specs.Report.{in_either, in_none};
-
     /// A collector that has taken nothing.
     pub fn new(alloc: Global, plan: &'p Plan<'p>) -> Self
         ensures test { result.test ≡ plan.now }
@@ -115,12 +111,6 @@ impl<'p> Collector<'p> {
     pub fn into_found(self) -> Result<Found, SearchFault>
         ensures { IfOk result (λ found. found ≡ self.entry.report) }
     {
-        let Collector {
-            alloc,
-            table,
-            race,
-            ..
-        } = self;
-        Ok(Found::new(alloc, table, race)?)
+        Ok(Found::new(self.alloc, self.table, self.race)?)
     }
 }

@@ -3,7 +3,7 @@
 ghost use Rattle.std.specs.Prelude.{◌≡◌};
 ghost use Rattle.lit_search.specs.declared.fault.SearchFault.TheVariants.{OutOfMemory};
 
-use std::alloc::{AllocError, AllocFailed};
+use std::alloc::AllocError;
 use thiserror::Error;
 
 /// Why a search gave no report.
@@ -18,14 +18,6 @@ impl From<AllocError> for SearchFault {
     ghost from_gives = { λ _ e. e ≡ OutOfMemory };
 
     fn from(_e: AllocError) -> SearchFault {
-        SearchFault::OutOfMemory
-    }
-}
-
-impl<T: Drop> From<AllocFailed<T>> for SearchFault {
-    ghost from_gives = { λ _ e. e ≡ OutOfMemory };
-
-    fn from(_e: AllocFailed<T>) -> SearchFault {
         SearchFault::OutOfMemory
     }
 }

@@ -5,6 +5,10 @@ pub(crate) mod merging;
 pub(crate) mod packing;
 pub(crate) mod ranking;
 
+ghost use Rattle.std.specs.Prelude.{◌≡◌, ◌<◌, IfOk, length};
+ghost use Rattle.lit_search.specs.Report.{entry_at};
+ghost use Rattle.lit_search.specs.Internal.Risen.{risen};
+
 use crate::found::examples::Examples;
 use crate::found::ranking::{Rank, find, ranked};
 use arrayvec::ArrayVec;
@@ -51,10 +55,6 @@ impl Model for Found {
 }
 
 impl Found {
-    ghost use Rattle.std.specs.Prelude.{◌≡◌, ◌<◌, IfOk, length};
-    ghost use Rattle.lit_search.specs.Internal.Risen.{risen};
-    ghost use Rattle.lit_search.specs.Report.{entry_at};
-
     /// These outcomes, ranked, with their examples, and the mark of data races.
     pub(crate) fn new(alloc: Global, examples: Examples, race: bool) -> Result<Self, AllocError>
         ensures entries { IfOk result (λ found. found.entries ≡ risen examples) }
@@ -70,14 +70,6 @@ impl Found {
             count,
             race,
         })
-    }
-
-    /// The same outcomes, with another mark of data races.
-    pub(crate) fn marked(mut self, race: bool) -> Self
-        ensures { result ≡ record { entries = self.entries; race = race } }
-    {
-        self.race = race;
-        self
     }
 
     /// Whether some valid execution of these choices has a data race (ECMA-262, 2024, 29.9). It takes no memory.

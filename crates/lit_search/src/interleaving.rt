@@ -26,7 +26,7 @@ fn runners_of<'t>(alloc: Global, test: &'t Test) -> Result<Vec<Runner<'t>>, Allo
 }
 
 /// The values of an outcome's registers.
-fn outcome_of(alloc: Global, test: &Test, runners: &[Runner<'_>]) -> Result<Vec<u32>, SearchFault>
+fn outcome_of(alloc: Global, test: &Test, runners: &[Runner<'_>]) -> Result<Vec<u32>, AllocError>
     requires { length runners.now ≡ length test.now.agents }
     ensures { IfOk result (λ outcome. outcome.items ≡ outcome_of test.now (map (λ runner. runner.registers) runners.now)) }
 {
@@ -54,5 +54,5 @@ pub fn interleave(alloc: Global, test: &Test, schedule: &[u8]) -> Result<Vec<u32
     'ends: for agent in 0..test.agents() {
         runners[agent].finish(&mut block)?;
     }
-    outcome_of(alloc, test, &runners)
+    Ok(outcome_of(alloc, test, &runners)?)
 }

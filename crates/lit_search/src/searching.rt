@@ -1,12 +1,9 @@
 //! The search of a range of choices, combination by combination and box by box.
 
-ghost use Rattle.std.specs.Prelude.{◌↔◌, ◌⊎◌, ◌+◌, ◌<◌, ◌≤◌, IsTrue, length, IfOk, MatchOption};
+ghost use Rattle.std.specs.Prelude.{◌+◌, ◌<◌, ◌≤◌, IsTrue, length, IfOk, MatchOption};
 ghost use Rattle.lit_read.specs.Syntax.{IsLitmus};
 ghost use Rattle.lit_paths.specs.Choice.{choices_of};
 ghost use Rattle.lit_paths.specs.Plan.{choices_before};
-ghost use Rattle.lit_solve.specs.declared.goal.Goal.TheVariants.{Race};
-ghost use Rattle.lit_solve.specs.Box.{IsBox, box_with};
-ghost use Rattle.lit_solve.specs.Completion.{HasSolution};
 ghost use Rattle.lit_search.specs.FirstOfClass.{HasNoneOf, IsFirstOf};
 ghost use Rattle.lit_search.specs.Report.{IsReport, in_range};
 ghost use Rattle.lit_search.specs.Internal.Boxed.{AreOfRange};
@@ -18,9 +15,7 @@ use crate::found::Found;
 use crate::found::examples::Examples;
 use lit_paths::{BYTE_READ_LIMIT, Plan};
 use lit_rel::EventSet;
-use lit_solve::{
-    Boxes, Domains, Goal, Heartbeat, NoHeartbeat, Problem, exists, least, number_of, outcomes,
-};
+use lit_solve::{Boxes, Goal, Heartbeat, NoHeartbeat, Problem, exists, least, number_of, outcomes};
 use lit_valid::Class;
 use lit_valid::laws::laws_below;
 use std::alloc::{AllocError, Global};
@@ -81,15 +76,6 @@ pub fn first_in(plan: &Plan<'_>, class: Class, from: u64, to: u64) -> Option<u64
     None
 }
 
-/// Answers `true` if `mark` is, or if a box of the problem's combination has a completion with a data race.
-fn is_marked_with(problem: &Problem<'_>, domains: &Domains, mark: bool) -> bool
-    requires { IsBox (box_with problem.now domains.now) }
-    ensures { IsTrue result ↔ (IsTrue mark ⊎ HasSolution (box_with problem.now domains.now) Race) }
-{
-    // Once marked, no further box is searched for a data race.
-    mark || exists(problem, domains, Goal::Race)
-}
-
 /// Records the outcomes of the choices with numbers from `from` up to and without `to`, all of the problem's combination,
 /// that the table lacks. Answers `true` if `mark` is, or if one of these choices has a data race (decision 45).
 fn record_on<H: Heartbeat>(
@@ -116,7 +102,8 @@ fn record_on<H: Heartbeat>(
     for place in 0..boxes.len() {
         boxes.put(place, &mut domains);
         outcomes(alloc, problem, &domains, table, heartbeat)?;
-        race = is_marked_with(problem, &domains, race);
+        // Once marked, no further box is searched for a data race.
+        race = race || exists(problem, &domains, Goal::Race);
     }
     Ok(race)
 }

@@ -93,49 +93,28 @@ fn merged_ranks(
     Ok(ranks)
 }
 
-/// Whether one of two reports is marked with a data race.
-fn is_one_marked(a: &Found, b: &Found) -> bool
-    ensures { result ≡ (a.now.race || b.now.race) }
-{
-    a.race() || b.race()
-}
-
 /// The outcomes of both, and their mark of data races.
-fn with_both(alloc: Global, a: Found, b: Found) -> Result<Found, AllocError>
+fn with_both(alloc: Global, mut a: Found, mut b: Found) -> Result<Found, AllocError>
     ensures { IfOk result (IsMerge a b) }
 {
-    let (first, second) = (a.len(), b.len());
-    let race = is_one_marked(&a, &b);
-    if first == 0 {
-        return Ok(b.marked(race));
+    let race = a.race() | b.race();
+    if a.len() == 0 {
+        return Ok(Found { race, ..b });
     }
-    if second == 0 {
-        return Ok(a.marked(race));
+    if b.len() == 0 {
+        return Ok(Found { race, ..a });
     }
-    let Found {
-        mut parts,
+    // Places are numbered over both: where the sum is no `usize`, memory would have run out before (decision 44).
+    let count = a.count.checked_add(b.count).ok_or(AllocError)?;
+    let others = all_behind(alloc, b.ranks, a.count)?;
+    a.parts.append(&mut b.parts)?;
+    let own = a.ranks;
+    let ranks = merged_ranks(alloc, a.parts.as_slice(), own, others)?;
+    Ok(Found {
         ranks,
         count,
-        race: _,
-    } = a;
-    let Found {
-        parts: mut more,
-        ranks: others,
-        count: other_count,
-        race: _,
-    } = b;
-    // Places are numbered over both: where the sum is no `usize`, memory would have run out before (decision 44).
-    let Some(total) = count.checked_add(other_count) else {
-        return Err(AllocError);
-    };
-    let others = all_behind(alloc, others, count)?;
-    parts.append(&mut more)?;
-    let ranks = merged_ranks(alloc, parts.as_slice(), ranks, others)?;
-    Ok(Found {
-        parts,
-        ranks,
-        count: total,
         race,
+        ..a
     })
 }
 

@@ -1,13 +1,12 @@
 //! Ranks: sorting outcomes without moving them (decision 43).
 
-ghost use Rattle.std.specs.Prelude.{◌≡◌, ◌+◌, ◌<◌, ◌^◌, ◌∷◌, IfOk, map, slice_get};
+ghost use Rattle.std.specs.Prelude.{◌≡◌, ◌+◌, ◌<◌, ◌^◌, IfOk, map, slice_get};
 ghost use Rattle.std.specs.Cmp.Lexicographic.{slice_cmp};
 ghost use Rattle.std.specs.List.{All, IsDistinct};
 ghost use Rattle.std.specs.Option.{option_map};
 ghost use Rattle.std.specs.Ordering.{nat_cmp};
 ghost use Rattle.lit_search.specs.Ranked.{joined_entries, ranked_entry};
 ghost use Rattle.lit_search.specs.Internal.Risen.{risen};
-ghost use Rattle.lit_search.specs.Internal.Packed.{IsPacked};
 ghost use Rattle.lit_search.specs.Internal.Ranks.{AreRanks, are_same, rank_cmp};
 ghost use Rattle.lit_search.specs.Internal.Shown.{shown_entry};
 
@@ -23,32 +22,6 @@ pub(crate) struct Rank {
     pub large: u128,
     pub small: u64,
     pub place: usize,
-}
-
-impl Rank {
-    /// The rank of an outcome at a place.
-    fn new(outcome: &[u32], place: usize) -> Self
-        ensures packed { IsPacked result.small result.large outcome.now }
-        ensures place { result.place ≡ place }
-    {
-        Rank {
-            large: packed(outcome, LARGE_TOP, LARGE_COUNT),
-            small: packed(outcome, SMALL_TOP, SMALL_COUNT) as u64,
-            place,
-        }
-    }
-
-    /// The same rank once `count` outcomes are put before the parts.
-    fn behind(self, count: usize) -> Self
-        requires { self.place + count < 2 ^ 64 }
-        ensures { result ≡ record { large = self.large; small = self.small; place = self.place + count } }
-    {
-        Rank {
-            large: self.large,
-            small: self.small,
-            place: self.place + count,
-        }
-    }
 }
 
 /// The outcome at a place of parts, and its example.
@@ -86,18 +59,6 @@ fn cmp_outcomes(parts: &[Examples], a: &Rank, b: &Rank) -> Ordering
     outcome_of(parts, a).cmp(outcome_of(parts, b))
 }
 
-/// How ranks compare by their large values packed, and then value by value.
-#[inline(always)]
-fn cmp_large(parts: &[Examples], a: &Rank, b: &Rank) -> Ordering
-    ensures { result ≡ slice_cmp nat_cmp (a.now.large ∷ (ranked_entry (joined_entries parts.now) a.now).outcome)
-        (b.now.large ∷ (ranked_entry (joined_entries parts.now) b.now).outcome) }
-{
-    match a.large.cmp(&b.large) {
-        Ordering::Equal => cmp_outcomes(parts, a, b),
-        unequal => unequal,
-    }
-}
-
 /// How ranks compare: by their small values packed, by their large ones, and then value by value. Those of the parts compare
 /// as their outcomes do, and most differ in the first or the second.
 #[inline(always)]
@@ -105,22 +66,12 @@ pub(crate) fn cmp_ranks(parts: &[Examples], a: &Rank, b: &Rank) -> Ordering
     ensures { result ≡ rank_cmp (joined_entries parts.now) a.now b.now }
 {
     match a.small.cmp(&b.small) {
-        Ordering::Equal => cmp_large(parts, a, b),
+        Ordering::Equal => match a.large.cmp(&b.large) {
+            Ordering::Equal => cmp_outcomes(parts, a, b),
+            unequal => unequal,
+        },
         unequal => unequal,
     }
-}
-
-/// The ranks of all outcomes of parts, in their order.
-fn ranks_of(alloc: Global, parts: &[Examples], count: usize) -> Result<Vec<Rank>, AllocError>
-    ensures each { IfOk result (λ ranks. map (ranked_entry (joined_entries parts.now)) ranks.items ≡ joined_entries parts.now) }
-    ensures ranks { IfOk result (λ ranks. AreRanks (joined_entries parts.now) ranks.items) }
-{
-    let mut ranks = Vec::with_capacity(alloc, count)?;
-    while let Some((outcome, _)) = find(parts, ranks.len()) {
-        let rank = Rank::new(outcome, ranks.len());
-        ranks.push(rank)?;
-    }
-    Ok(ranks)
 }
 
 /// The ranks of all outcomes of parts, no two of which are the same, rising by outcome. `count` is the capacity to begin with.
@@ -133,7 +84,15 @@ pub(crate) fn ranked(
     ensures rising { IfOk result (λ ranks. map (ranked_entry (joined_entries parts.now)) ranks.items ≡ risen (joined_entries parts.now)) }
     ensures ranks { IfOk result (λ ranks. AreRanks (joined_entries parts.now) ranks.items) }
 {
-    let mut ranks = ranks_of(alloc, parts, count)?;
+    let mut ranks = Vec::with_capacity(alloc, count)?;
+    while let Some((outcome, _)) = find(parts, ranks.len()) {
+        let rank = Rank {
+            large: packed(outcome, LARGE_TOP, LARGE_COUNT),
+            small: packed(outcome, SMALL_TOP, SMALL_COUNT) as u64,
+            place: ranks.len(),
+        };
+        ranks.push(rank)?;
+    }
     ranks.sort_unstable_by(
         |a: &Rank, b: &Rank| -> Ordering
             ensures { result ≡ rank_cmp (joined_entries parts.entry.now) a.now b.now }
@@ -153,8 +112,9 @@ pub(crate) fn all_behind(
         (λ moved. moved.items ≡ map (λ rank. record { large = rank.large; small = rank.small; place = rank.place + count }) ranks.items) }
 {
     let mut moved = Vec::with_capacity(alloc, ranks.len())?;
-    for rank in ranks {
-        moved.push(rank.behind(count))?;
+    for mut rank in ranks {
+        rank.place += count;
+        moved.push(rank)?;
     }
     Ok(moved)
 }

@@ -1,7 +1,6 @@
 //! The next access of an agent, behind the `if`s that its registers decide.
 
-ghost use Rattle.std.specs.Prelude.{◌≡◌, ℕ, ◌<◌, true, IfOk, MatchOption, length, slice_index};
-ghost use Rattle.lit_paths.specs.Run.{compares};
+ghost use Rattle.std.specs.Prelude.{◌≡◌, ℕ, true, IfOk, MatchOption, length};
 ghost use Rattle.lit_read.specs.declared.limits.TheConstants.{REGISTERS};
 ghost use Rattle.lit_read.specs.Litmus.{statement_of, statements_of};
 ghost use Rattle.lit_read.specs.Syntax.{AreStatementsIn, IsStatementIn, End};
@@ -9,15 +8,6 @@ ghost use Rattle.lit_search.specs.Internal.Runners.{ChoosesPart, IsNextAccessOrN
 
 use lit_read::Stmt;
 use std::alloc::AllocError;
-
-/// Whether a comparison of a register with a value is true.
-fn comes_out(registers: &[u32], reg: u8, equal: bool, value: u32) -> bool
-    requires { reg < length registers.now }
-    ensures { result ≡ compares equal (slice_index registers.now reg) value }
-{
-    let same = registers[usize::from(reg)] == value;
-    if equal { same } else { !same }
-}
 
 /// The part of an `if` that the registers choose, or `None` of an access.
 fn chosen_part<'t>(registers: &[u32], statement: &'t Stmt) -> Option<&'t [Stmt]>
@@ -34,7 +24,7 @@ fn chosen_part<'t>(registers: &[u32], statement: &'t Stmt) -> Option<&'t [Stmt]>
             body,
             other,
         } => {
-            if comes_out(registers, *reg, *equal, *value) {
+            if (registers[usize::from(*reg)] == *value) == *equal {
                 Some(body)
             } else {
                 Some(other)

@@ -1,6 +1,11 @@
 //! The state of one agent in an interleaving, which carries out its statements in turns.
 
-ghost use Rattle.std.specs.Prelude.{◌≡◌};
+ghost use Rattle.std.specs.Prelude.{◌≡◌, ℕ, ◌<◌, IfOk, true, replicate, length, slice_index};
+ghost use Rattle.lit_read.specs.declared.limits.TheConstants.{REGISTERS as REGISTER_COUNT};
+ghost use Rattle.lit_read.specs.Litmus.{statement_of, statements_of};
+ghost use Rattle.lit_read.specs.Syntax.{AreStatementsIn, IsStatementIn, End};
+ghost use Rattle.lit_search.specs.Interleaving.{Progress, accessed, after, after_statement, from_access};
+ghost use Rattle.lit_search.specs.Internal.Runners.{IsNextAccessOrNone, coded_progress, is_access, progress};
 
 use crate::interleaving::block::{number_at, put_number};
 use crate::interleaving::deciding::next_access;
@@ -17,9 +22,6 @@ pub(crate) struct Runner<'t> {
 }
 
 impl<'t> Model for Runner<'t> {
-    ghost use Rattle.lit_search.specs.Interleaving.{Progress};
-    ghost use Rattle.lit_search.specs.Internal.Runners.{coded_progress, progress};
-
     ghost Value = { Progress };
 
     ghost coded = { coded_progress };
@@ -28,13 +30,6 @@ impl<'t> Model for Runner<'t> {
 }
 
 impl<'t> Runner<'t> {
-    ghost use Rattle.std.specs.Prelude.{◌≡◌, ℕ, ◌<◌, IfOk, true, replicate, length, slice_index};
-    ghost use Rattle.lit_read.specs.declared.limits.TheConstants.{REGISTERS as REGISTER_COUNT};
-    ghost use Rattle.lit_read.specs.Litmus.{statement_of, statements_of};
-    ghost use Rattle.lit_read.specs.Syntax.{AreStatementsIn, IsStatementIn, End};
-    ghost use Rattle.lit_search.specs.Interleaving.{accessed, after, after_statement, from_access};
-    ghost use Rattle.lit_search.specs.Internal.Runners.{IsNextAccessOrNone, is_access};
-
     /// An agent before its first statement.
     pub(crate) fn new(alloc: Global, body: &'t [Stmt]) -> Result<Self, AllocError>
         ensures { IfOk result (λ runner. runner ≡ record { left = statements_of body.now; registers = replicate REGISTER_COUNT 0 }) }

@@ -1,10 +1,12 @@
-use Rattle.std.proofs.Common.{◌≡◌, ℕ, arith, subst}
+use Rattle.std.proofs.Common.{◌≡◌, inl, inr, ℕ, arith, subst, sym, ◌∙◌}
+use Rattle.std.proofs.lemmas.Bool.{false≢true}
 use Rattle.lit_solve.specs.Boxes.{boxes_len}
 use Rattle.lit_search.specs.Internal.Boxed.{IsOfFirst}
 use Rattle.lit_search.specs.Internal.Gained.{Gains}
 use Rattle.lit_search.proofs.BoxedLemmas.{gained_all, gained_more, of_none}
 use Rattle.lit_search.proofs.GainLemmas.{gains_none, goes_more}
 use Rattle.lit_search.proofs.searching.record_on.Goals as goal
+use Rattle.lit_search.proofs.searching.record_on.Goals.{then-race, else-race}
 
 pub loop-place-init : goal.loop-place-init
 loop-place-init g c =
@@ -16,8 +18,18 @@ pub loop-place-preserved : goal.loop-place-preserved
 loop-place-preserved g c =
     gained_more c.laws_below.ensures c.args.problem.now c.args.from c.args.to c.boxes_of-boxes.result c.boxes_of-boxes.ensures
     c.loop-place.place (omega (arith, c.loop-place-test.true, c.len-place-end.ensures)) c.put.new.domains c.put.ensures.exact
-    c.args.table.now c.loop-place.table c.outcomes.new.table c.args.mark c.loop-place.race c.is_marked_with-race.result
-    c.loop-place.invariant c.outcomes.ensures.added c.in_ok-outcomes.ensures.whole c.is_marked_with-race.ensures
+    c.args.table.now c.loop-place.table c.outcomes.new.table c.args.mark c.loop-place.race c.if-race.race
+    c.loop-place.invariant c.outcomes.ensures.added c.in_ok-outcomes.ensures.whole
+    (elim c.if-race.branch [
+      | then-race w ↦ rw w.race-is (λ p. inl w.if-race.true, λ h. w.if-race.true)
+      | else-race w ↦ rw w.race-is (
+        λ p. inr (w.exists-race.ensures.0 p),
+        λ h. w.exists-race.ensures.1 (elim h [
+          | inl mark ↦ absurd (false≢true (sym w.if-race.false ∙ mark))
+          | inr solved ↦ solved
+        ]),
+      )
+    ])
 
 pub returns-in_err-outcomes-clause-goes_on : goal.returns-in_err-outcomes-clause-goes_on
 returns-in_err-outcomes-clause-goes_on g c =

@@ -1,4 +1,4 @@
-use Rattle.std.proofs.Common.{◌≡◌, ◌||◌, List, ◌∙◌, ap, ap₂, subst, sym}
+use Rattle.std.proofs.Common.{◌≡◌, ◌||◌, Bool, List, rules, ◌∙◌, ap, ap₂, subst, sym}
 use Rattle.lit_search.specs.Report.{Entry, Report}
 use Rattle.lit_search.specs.Internal.Merged.{merged}
 use Rattle.lit_search.specs.declared.found.Found.TheInside.{Inside}
@@ -23,15 +23,15 @@ pub merged_ranks-requires-clause-second : goal.merged_ranks-requires-clause-seco
 merged_ranks-requires-clause-second c =
     others_are c.a.inside c.b.inside c.a.invariant c.b.invariant c.as_slice.result.now c.in_ok-others.others.items (c.as_slice.ensures.value ∙ c.in_ok-append.ensures.items) c.in_ok-others.ensures
 
-pub invariant_of-result : goal.invariant_of-result
-invariant_of-result c =
+pub invariant_of-result-2 : goal.invariant_of-result-2
+invariant_of-result-2 c =
     let others = c.in_ok-others.others.items in
     let entries = entries_are c.a.inside c.b.inside c.a.invariant c.b.invariant c.append.new.self.items others c.in_ok-append.ensures.items
     c.in_ok-others.ensures c.in_ok-ranks.ranks.items (rw c.as_slice.ensures.value at c.in_ok-ranks.ensures.merged) in
     record {
       rising = subst AreRising (sym entries) (AreRising-merged _ _ c.a.invariant.rising c.b.invariant.rising);
       ranks = rw c.as_slice.ensures.value at c.in_ok-ranks.ensures.ranks;
-      count = c.in-Some.ensures.1
+      count = search rules
           ∙ sum_is c.a.inside c.b.inside c.a.invariant c.b.invariant c.append.new.self.items others c.in_ok-append.ensures.items
           c.in_ok-others.ensures;
     }
@@ -43,19 +43,18 @@ returns c =
     (rw c.as_slice.ensures.value at c.in_ok-ranks.ensures.merged) in
     let of : Report → List Entry = λ r. r.entries in
     is_merge c.args.a c.args.b _ c.a.inside c.b.inside c.a.view_is c.b.view_is c.a.invariant c.b.invariant
-    (entries ∙ ap₂ merged (ap of c.a.view_is) (ap of c.b.view_is)) c.is_one_marked-race.ensures
+    (entries ∙ ap₂ merged (ap of c.a.view_is) (ap of c.b.view_is)) (ap₂ (λ (p q : Bool). p || q) c.race.ensures c.race-2.ensures)
 
-pub returns-then-first-eq0 : goal.returns-then-first-eq0
-returns-then-first-eq0 c =
-    is_merge c.args.a c.args.b c.marked.result c.a.inside c.b.inside c.a.view_is c.b.view_is c.a.invariant c.b.invariant
-    (ap (λ (r : Report). r.entries) c.marked.ensures
-    ∙ merged-none_left c.args.a.entries c.args.b.entries (sym c.len-first.ensures ∙ c.if-first-eq0.true))
-    (ap (λ (r : Report). r.race) c.marked.ensures ∙ c.is_one_marked-race.ensures)
+pub returns-then-len-eq0 : goal.returns-then-len-eq0
+returns-then-len-eq0 c =
+    is_merge c.args.a c.args.b _ c.a.inside c.b.inside c.a.view_is c.b.view_is c.a.invariant c.b.invariant
+    (ap (λ (r : Report). r.entries) c.b.view_is
+    ∙ merged-none_left c.args.a.entries c.args.b.entries (sym c.len.ensures ∙ c.if-len-eq0.true))
+    (ap₂ (λ (p q : Bool). p || q) c.race.ensures c.race-2.ensures)
 
-pub returns-then-second-eq0 : goal.returns-then-second-eq0
-returns-then-second-eq0 c =
-    let marked = c.marked-then-second-eq0 in
-    is_merge c.args.a c.args.b marked.result c.a.inside c.b.inside c.a.view_is c.b.view_is c.a.invariant c.b.invariant
-    (ap (λ (r : Report). r.entries) marked.ensures
-    ∙ merged-none_right c.args.a.entries c.args.b.entries (sym c.len-second.ensures ∙ c.if-second-eq0.true))
-    (ap (λ (r : Report). r.race) marked.ensures ∙ c.is_one_marked-race.ensures)
+pub returns-then-len-eq0-2 : goal.returns-then-len-eq0-2
+returns-then-len-eq0-2 c =
+    is_merge c.args.a c.args.b _ c.a.inside c.b.inside c.a.view_is c.b.view_is c.a.invariant c.b.invariant
+    (ap (λ (r : Report). r.entries) c.a.view_is
+    ∙ merged-none_right c.args.a.entries c.args.b.entries (sym c.len-2.ensures ∙ c.if-len-eq0-2.true))
+    (ap₂ (λ (p q : Bool). p || q) c.race.ensures c.race-2.ensures)

@@ -4,21 +4,19 @@ use Rattle.std.proofs.Math.Nat.{le-mul_of_pos_right, one-le-pow, pow-le-pow_righ
 use Rattle.lit_search.proofs.found.packing.packed.Goals as goal
 use Rattle.lit_search.proofs.found.packing.packed.Goals.{in-Some, in-Some-2, in-None}
 
-pub overflow_mul-number : goal.overflow_mul-number
-overflow_mul-number c =
+digit_here : (c : goal.After-from-in-Some)
+    → c.from-in-Some.result * c.loop-place.weight + c.loop-place.number < 170141183460469231731687303715884105728
+digit_here c =
     let inv = c.loop-place.invariant in
-    let fits = digit_fits c.args.top c.args.count c.loop-place.place c.from-in-Some.result c.loop-place.weight c.loop-place.number
+    digit_fits c.args.top c.args.count c.loop-place.place c.from-in-Some.result c.loop-place.weight c.loop-place.number
     c.args.values.now c.loop-place-test.true inv.few c.requires inv.weight inv.number
-    (omega (arith, c.if-from-top.true, c.from.ensures, c.from-in-Some.ensures)) in
-    omega arith
+    (omega (arith, c.if-from-top.true, c.from.ensures, c.from-in-Some.ensures))
+
+pub overflow_mul-number : goal.overflow_mul-number
+overflow_mul-number c = omega (arith, digit_here c)
 
 pub overflow_add-number : goal.overflow_add-number
-overflow_add-number c =
-    let inv = c.loop-place.invariant in
-    let fits = digit_fits c.args.top c.args.count c.loop-place.place c.from-in-Some.result c.loop-place.weight c.loop-place.number
-    c.args.values.now c.loop-place-test.true inv.few c.requires inv.weight inv.number
-    (omega (arith, c.if-from-top.true, c.from.ensures, c.from-in-Some.ensures)) in
-    omega arith
+overflow_add-number c = omega (arith, digit_here c)
 
 pub overflow_mul-number-in-Some-2 : goal.overflow_mul-number-in-Some-2
 overflow_mul-number-in-Some-2 c =

@@ -12,7 +12,7 @@ loop-rank-preserved c =
     let old = c.loop-rank.moved.items in
     let rest = into_iter_items c.next.new.self in
     let step = c.in-Some.ensures.steps.0 in
-    let items : c.push.new.self.items ≡ old ++ f c.in-Some.rank ∷ [] = c.in_ok-push.ensures.items ∙ ap (λ (r : Rank). old ++ r ∷ []) c.behind.ensures in
+    let items : c.push.new.self.items ≡ old ++ f c.in-Some.rank ∷ [] = c.in_ok-push.ensures.items in
     let P : List Rank → Type 0 = All (λ rank. rank.place + c.args.count < 2 ^ 64) in
     let all = subst P step c.loop-rank.invariant.fits in
     record {

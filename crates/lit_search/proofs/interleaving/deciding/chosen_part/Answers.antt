@@ -1,28 +1,37 @@
-use Rattle.std.proofs.Common.{◌≡◌, ℕ, List, Bool, true, false, ap, ◌∙◌, sym}
-use Rattle.std.specs.Prelude.{if◌then◌else◌, slice_index}
+use Rattle.std.proofs.Common.{◌≡◌, ℕ, ◌==◌, Bool, true, false, refl, ap, ◌∙◌}
+use Rattle.std.specs.Prelude.{if◌then◌else◌, not, slice_index}
+use Rattle.std.proofs.Math.Bool.{beq}
 use Rattle.lit_read.specs.Litmus.{statement_of, statements_of}
-use Rattle.lit_read.specs.Syntax.{Statement, Statements, If}
+use Rattle.lit_read.specs.Syntax.{Statements}
 use Rattle.lit_read.proofs.TreeViews.{if_views}
 use Rattle.lit_paths.specs.Run.{compares}
 use Rattle.lit_search.specs.Internal.Runners.{ChoosesPart}
 use Rattle.lit_search.proofs.interleaving.deciding.chosen_part.Goals as goal
+use Rattle.lit_search.proofs.interleaving.deciding.chosen_part.Goals.{After-from}
 
-chosen_by : (registers : List ℕ) (reg : ℕ) (equal : Bool) (value : ℕ) (body other part : Statements) (s : Statement) (chosen : Bool)
-    → s ≡ If reg equal value body other → compares equal (slice_index registers reg) value ≡ chosen
-    → part ≡ (if chosen then body else other) → ChoosesPart registers s part
-chosen_by registers reg equal value body other part s chosen is came chose =
-    record { reg = reg; equal = equal; value = value; body = body; other = other; is = is; chosen = rw came chose }
+comes_out : (equal : Bool) (a b : ℕ) → compares equal a b ≡ beq (a == b) equal
+comes_out true a b = elim (a == b) as (λ h. h ≡ beq h true) [ true ↦ refl | false ↦ refl ]
+comes_out false a b = elim (a == b) as (λ h. not h ≡ beq h false) [ true ↦ refl | false ↦ refl ]
 
-pub returns-then-comes_out : goal.returns-then-comes_out
-returns-then-comes_out c =
-    chosen_by c.args.registers.now c.in-If.reg c.in-If.equal c.in-If.value (statements_of c.in-If.body.items)
-    (statements_of c.in-If.other.items) _ _ true
-    (ap statement_of c.in-If.is ∙ if_views c.in-If.reg c.in-If.equal c.in-If.value c.in-If.body c.in-If.other)
-    (sym c.comes_out.ensures ∙ c.if-comes_out.true) (ap statements_of c.deref.ensures.value)
+chosen_by : (c : After-from) (part : Statements) (chosen : Bool)
+    → beq (slice_index c.args.registers.now c.from.result == c.in-If.value) c.in-If.equal ≡ chosen
+    → part ≡ (if chosen then statements_of c.in-If.body.items else statements_of c.in-If.other.items)
+    → ChoosesPart c.args.registers.now (statement_of c.args.statement.now) part
+chosen_by c part chosen came chose = record {
+  reg = c.in-If.reg;
+  equal = c.in-If.equal;
+  value = c.in-If.value;
+  body = statements_of c.in-If.body.items;
+  other = statements_of c.in-If.other.items;
+  is = ap statement_of c.in-If.is ∙ if_views c.in-If.reg c.in-If.equal c.in-If.value c.in-If.body c.in-If.other;
+  chosen = rw (comes_out c.in-If.equal (slice_index c.args.registers.now c.in-If.reg) c.in-If.value, ← c.from.ensures, came) chose;
+}
 
-pub returns-else-comes_out : goal.returns-else-comes_out
-returns-else-comes_out c =
-    chosen_by c.args.registers.now c.in-If.reg c.in-If.equal c.in-If.value (statements_of c.in-If.body.items)
-    (statements_of c.in-If.other.items) _ _ false
-    (ap statement_of c.in-If.is ∙ if_views c.in-If.reg c.in-If.equal c.in-If.value c.in-If.body c.in-If.other)
-    (sym c.comes_out.ensures ∙ c.if-comes_out.false) (ap statements_of c.deref-else-comes_out.ensures.value)
+pub returns-then-registers-from : goal.returns-then-registers-from
+returns-then-registers-from c =
+    chosen_by (goal.at.returns-then-registers-from c).After-from _ true c.if-registers-from.true (ap statements_of c.deref.ensures.value)
+
+pub returns-else-registers-from : goal.returns-else-registers-from
+returns-else-registers-from c =
+    chosen_by (goal.at.returns-else-registers-from c).After-from _ false c.if-registers-from.false
+    (ap statements_of c.deref-else-registers-from.ensures.value)

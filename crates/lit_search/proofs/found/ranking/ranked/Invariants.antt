@@ -1,7 +1,7 @@
 use Rattle.std.proofs.Common.{◌≡◌, ◌-◌, ◌≤◌, length, map, take}
 use Rattle.lit_search.specs.Ranked.{joined_entries, ranked_entry}
 use Rattle.lit_search.specs.Internal.Ranks.{AreRanks}
-use Rattle.lit_search.proofs.found.ranking.ranks_of.Given as goal
+use Rattle.lit_search.proofs.found.ranking.ranked.Given as goal
 
 abbrev pub invariant-loop-outcome : goal.invariant-loop-outcome
 invariant-loop-outcome l = record {
