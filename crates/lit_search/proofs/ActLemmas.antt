@@ -1,14 +1,12 @@
 -- What an access does, and the course of an agent from its turns: the steps that it walks, the `if`s before each access decided.
-use Rattle.std.proofs.Common.{◌≡◌, ℕ, ◌+◌, ◌==◌, Bool, true, false, Option, Some, None, List, [], ◌∷◌, ◌++◌, take, drop, refl, eq-eqb, inl, inr, sym, ap, subst, ◌∙◌, append_assoc, append-nil}
-use Rattle.std.specs.Prelude.{◌&&◌, if◌then◌else◌}
-use Rattle.lit_read.specs.Syntax.{Statement, Load, Store, Exchange, CompareExchange, If, Statements, End, Then}
-use Rattle.lit_paths.specs.declared.event.Event.{Event}
-use Rattle.lit_paths.specs.Event.{does_read, does_write, no_event}
-use Rattle.lit_paths.specs.Path.{Step, LoadMet, StoreMet, ExchangeMet, CompareExchangeMet, IfMet, IsStatementWalk, compare_exchange_event, events_on, modify_event, read_event, write_event, IsWalk}
-use Rattle.lit_paths.specs.Run.{AgreesWith}
-use Rattle.lit_rel.specs.ReadsFrom.{composed}
-use Rattle.lit_search.specs.Interleaving.{Contents, after_statement, number_in, with_number, from_access, joined_statements}
-use Rattle.lit_search.specs.Internal.Runners.{is_access}
+use Rattle.lit_search.proofs.Words.{◌&&◌, ◌+◌, ◌++◌, ◌==◌, [], after_statement, AgreesWith, ap, append-nil, Bool, compare_exchange_event}
+use Rattle.lit_search.proofs.Words.{CompareExchange, CompareExchangeMet, composed, Contents, does_read, does_write, drop, End, Event}
+use Rattle.lit_search.proofs.Words.{Exchange, ExchangeMet, false, from_access, If, IfMet, if◌then◌else◌, inl, inr, is_access}
+use Rattle.lit_search.proofs.Words.{IsStatementWalk, IsWalk, joined_statements, List, Load, LoadMet, modify_event, no_event, None}
+use Rattle.lit_search.proofs.Words.{number_in, Option, read_event, refl, Some, Statement, Statements, Step, Store, StoreMet, subst, sym}
+use Rattle.lit_search.proofs.Words.{take, Then, true, with_number, write_event, ℕ, ◌∙◌, ◌∷◌, ◌≡◌}
+use Rattle.std.proofs.Common.{eq-eqb, append_assoc}
+use Rattle.lit_paths.specs.Path.{events_on}
 use Rattle.lit_search.proofs.NextAccess.{each_from}
 
 -- ---- events on a block

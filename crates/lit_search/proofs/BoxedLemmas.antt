@@ -1,37 +1,17 @@
 -- The choices of a range on one combination, by its boxes: which of them have completions of a box, and what those give.
-use Rattle.std.proofs.Common.{◌≡◌, ◌↔◌, ◌⊎◌, inl, inr, ℕ, ◌+◌, ◌<◌, ◌≤◌, zero, suc, Bool, List, [], ◌∷◌, ◌++◌, Some, length, map, refl, sym, ap, subst, ◌∙◌, arith}
-use Rattle.std.specs.Prelude.{IsTrue, slice_get}
-use Rattle.std.proofs.lemmas.Bool.{cases_lt, cases_order}
-use Rattle.std.proofs.lemmas.Option.{same_Some, slice_get_within}
-use Rattle.lit_read.specs.Syntax.{Litmus}
-use Rattle.lit_paths.specs.ByteReads.{byte_reads}
-use Rattle.lit_paths.specs.Choice.{AreSources, Choice, choices_of}
-use Rattle.lit_paths.specs.Execution.{Execution, execution_choice, execution_outcome}
-use Rattle.lit_paths.specs.Path.{Path}
-use Rattle.lit_paths.specs.Plan.{HasSources, IsOfCombination, choices_before, combination_at}
-use Rattle.lit_paths.specs.Run.{run_path}
-use Rattle.lit_rel.specs.declared.event_set.EventSet.{EventSet}
-use Rattle.lit_valid.specs.declared.class.Class.{Class}
-use Rattle.lit_valid.specs.Class.{is_of_class}
-use Rattle.lit_valid.specs.Gives.{GivesRace}
-use Rattle.lit_valid.specs.Laws.{Laws}
-use Rattle.lit_valid.specs.ValidExecution.{IsValidExecution}
-use Rattle.lit_valid.proofs.RunLemmas.{maps}
+use Rattle.lit_search.proofs.Words.{◌+◌, ◌++◌, ◌<◌, [], AddsEntries, ap, AreDomainsIn, AreNewEntries, AreOfRange, AreSources, arith, Bool}
+use Rattle.lit_search.proofs.Words.{Box, box_with, boxes_events, boxes_len, BoxesModel, byte_reads, cases_lt, cases_order, Choice}
+use Rattle.lit_search.proofs.Words.{choices_before, choices_of, Class, combination_at, Entry, events_same, EventSet, Execution}
+use Rattle.lit_search.proofs.Words.{execution_choice, execution_outcome, Gains, GivesRace, HasEachOutcome, HasNoneBefore, HasNoneOf}
+use Rattle.lit_search.proofs.Words.{HasOutcome, HasSolution, HasSources, in_range, inl, inr, is_of_class, IsCompletion, IsFirstOf}
+use Rattle.lit_search.proofs.Words.{IsLeastEntry, IsLeastOf, IsLeastSolution, IsOfBox, IsOfCombination, IsOfFirst, IsTrue}
+use Rattle.lit_search.proofs.Words.{IsValidExecution, Laws, length, LiesIn, LiesInBox, List, Litmus, map, maps, never_both_less}
+use Rattle.lit_search.proofs.Words.{outcome_stays, Path, refl, run_path, same_Some, slice_get, slice_get_within, Some, sources_are}
+use Rattle.lit_search.proofs.Words.{sources_rise, subst, suc, sym, zero, ℕ, ◌↔◌, ◌∙◌, ◌∷◌, ◌≡◌, ◌≤◌, ◌⊎◌}
 use Rattle.lit_solve.specs.declared.goal.Goal.TheVariants.{OfClass, Race}
-use Rattle.lit_solve.specs.Box.{Box, LiesIn, box_with, events_on}
-use Rattle.lit_solve.specs.Boxes.{AreDomainsIn, BoxesModel, LiesInBox, boxes_events, boxes_len}
-use Rattle.lit_solve.specs.Completion.{HasSolution, IsCompletion, IsLeastSolution}
-use Rattle.lit_solve.specs.Outcomes.{AddsEntries, AreNewEntries, HasEachOutcome, IsLeastEntry}
-use Rattle.lit_solve.proofs.CompletionLemmas.{events_same}
-use Rattle.lit_solve.proofs.EntryLemmas.{outcome_stays}
+use Rattle.lit_solve.specs.Box.{events_on}
 use Rattle.lit_search.proofs.MergedEntries.{cmp_same}
-use Rattle.lit_solve.proofs.LexLemmas.{never_both_less}
-use Rattle.lit_solve.proofs.RangeLemmas.{sourced, sources_are, sources_rise}
-use Rattle.lit_search.specs.FirstOfClass.{HasNoneOf, IsFirstOf}
-use Rattle.lit_search.specs.Report.{Entry, in_range}
-use Rattle.lit_search.specs.Internal.Boxed.{AreOfRange, HasNoneBefore, IsOfBox, IsOfFirst}
-use Rattle.lit_search.specs.Internal.Gained.{Gains, IsLeastOf}
-use Rattle.lit_valid.specs.Entry.{HasOutcome}
+use Rattle.lit_solve.proofs.RangeLemmas.{sourced}
 use Rattle.lit_search.proofs.GainLemmas.{gains_more, gains_none}
 use Rattle.lit_search.proofs.NumberSets.{before_end, not_below, within}
 

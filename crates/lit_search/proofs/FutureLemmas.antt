@@ -1,20 +1,16 @@
 -- The rest of an interleaving from a moment on: the accesses still to come, and each agent's steps.
-use Rattle.std.proofs.Common.{◌≡◌, ◌≢◌, inl, inr, ℕ, zero, suc, ◌+◌, ◌<◌, ◌≤◌, ◌==◌, true, false, Option, Some, List, [], ◌∷◌, ◌++◌, length, map, refl, sym, ap, ap₂, subst, ◌∙◌, arith, zero-add, append_assoc, append-nil}
-use Rattle.std.specs.Prelude.{All, if◌then◌else◌, filter, replicate, slice_set}
-use Rattle.std.proofs.lemmas.Bool.Decides.{nat_tests}
-use Rattle.std.specs.List.{range_with_len}
-use Rattle.std.proofs.lemmas.Bool.{cases_eq, cases_lt}
-use Rattle.std.proofs.lemmas.List.{get_or_past, get_or-set_other, get_or-set_same, length-map}
-use Rattle.std.proofs.lemmas.List.FromFn.{get_or-range_with_len, length-range_with_len}
-use Rattle.lit_read.specs.Syntax.{Litmus, Statement, Statements, End, Then}
-use Rattle.lit_paths.specs.declared.event.Event.{Event}
-use Rattle.lit_paths.specs.Path.{Step, IsWalk, events_on}
-use Rattle.lit_paths.specs.Run.{AgreesWith}
-use Rattle.lit_paths.proofs.OutcomeRegisterSteps.{range_more}
-use Rattle.lit_paths.proofs.PathSteps.{length-slice_set}
-use Rattle.lit_search.specs.Interleaving.{Contents, Moment, Progress, after, after_each, after_end, after_statement, after_turn, beginning, ending, found_by, from_access, left_behind, progress_of}
-use Rattle.lit_search.specs.InTurn.{accesses, made_at_end, made_by_each, made_in_turn, makers_of, next_maker}
-use Rattle.lit_search.specs.Internal.Runners.{is_access}
+use Rattle.lit_search.proofs.Words.{◌+◌, ◌++◌, ◌<◌, ◌==◌, [], accesses, after_each, after_end, after_statement, after_turn, AgreesWith, ap}
+use Rattle.lit_search.proofs.Words.{append-nil, ap₂, arith, beginning, cases_eq, cases_lt, Contents, End, ending, Event, false, filter}
+use Rattle.lit_search.proofs.Words.{found_by, from_access, get_or-range_with_len, get_or-set_other, get_or-set_same, get_or_past}
+use Rattle.lit_search.proofs.Words.{if◌then◌else◌, inl, inr, is_access, IsWalk, left_behind, length, length-map, length-range_with_len}
+use Rattle.lit_search.proofs.Words.{length-slice_set, List, Litmus, made_at_end, made_by_each, made_in_turn, makers_of, map, Moment}
+use Rattle.lit_search.proofs.Words.{nat_tests, next_maker, Option, Progress, progress_of, range_more, range_with_len, refl, replicate}
+use Rattle.lit_search.proofs.Words.{slice_set, Some, Statement, Statements, Step, subst, suc, sym, Then, true, zero, zero-add, ℕ, ◌∙◌, ◌∷◌}
+use Rattle.lit_search.proofs.Words.{◌≡◌, ◌≢◌, ◌≤◌}
+use Rattle.std.proofs.Common.{append_assoc}
+use Rattle.std.specs.Prelude.{All}
+use Rattle.lit_paths.specs.Path.{events_on}
+use Rattle.lit_search.specs.Interleaving.{after}
 use Rattle.lit_search.proofs.ActLemmas.{act_agrees, act_block, act_events, act_found, act_owner, act_walked, event_made, found_before, found_in_turn, is_owned_by, same_agent, step_made, lead}
 use Rattle.lit_search.proofs.MomentLemmas.{after_each-more, at_first}
 use Rattle.lit_search.proofs.NextAccess.{after_from, after_next, each_from, size_less, size_of, accesses_from, one_access}

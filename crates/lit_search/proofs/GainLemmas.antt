@@ -1,17 +1,9 @@
 -- What is gained by one set of choices and then by another, and the reports that come of it.
-use Rattle.std.proofs.Common.{◌≡◌, ◌↔◌, ◌⊎◌, inl, inr, ℕ, zero, suc, ◌<◌, ◌≤◌, Bool, false, List, [], ◌∷◌, ◌++◌, Some, length, take, refl, sym, ap, subst, ◌∙◌, arith, append_assoc, append-nil}
-use Rattle.std.specs.Prelude.{IsTrue, slice_get}
-use Rattle.std.specs.List.{IsDistinct}
-use Rattle.std.proofs.Math.Seq.{take-append_seam}
-use Rattle.std.proofs.lemmas.Bool.{cases_lt, false≢true, or_left, or_right}
-use Rattle.lit_read.specs.Syntax.{Litmus}
-use Rattle.lit_valid.specs.Entry.{HasOutcome}
-use Rattle.lit_solve.proofs.EntryLemmas.{outcome_stays}
-use Rattle.lit_search.specs.Collected.{HasTaken}
-use Rattle.lit_search.specs.Report.{Entry, HasEntry, IsReport, in_either, in_range}
-use Rattle.lit_search.specs.Internal.Gained.{Gains, GoesOn}
-use Rattle.lit_search.specs.Internal.Ranks.{are_same}
-use Rattle.lit_search.specs.Internal.Risen.{risen}
+use Rattle.lit_search.proofs.Words.{◌++◌, ◌<◌, [], ap, append-nil, are_same, arith, Bool, cases_lt, Entry, false, false≢true, Gains}
+use Rattle.lit_search.proofs.Words.{GoesOn, HasEntry, HasOutcome, HasTaken, in_either, in_range, inl, inr, IsDistinct, IsReport, IsTrue}
+use Rattle.lit_search.proofs.Words.{length, List, Litmus, or_left, or_right, outcome_stays, refl, risen, slice_get, Some, subst, suc, sym}
+use Rattle.lit_search.proofs.Words.{take, take-append_seam, zero, ℕ, ◌↔◌, ◌∙◌, ◌∷◌, ◌≡◌, ◌≤◌, ◌⊎◌}
+use Rattle.std.proofs.Common.{append_assoc}
 use Rattle.lit_search.proofs.NumberSets.{before_end, either_cases, not_below, within}
 use Rattle.lit_search.proofs.RisenEntries.{retained_from, retained_to, risen_from, risen_to, rises}
 

@@ -1,3 +1,4 @@
+pub mod Words
 pub mod RankLemmas
 pub mod NumberSets
 pub mod BoxedLemmas

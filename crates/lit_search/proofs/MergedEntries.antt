@@ -1,22 +1,11 @@
 -- Entries that rise by outcome: which stand in a list, how their examples compare, and two such lists merged.
-use Rattle.std.proofs.Common.{◌≡◌, ◌⊎◌, inl, inr, true, false, cond, Option, Some, None, List, [], ◌∷◌, ◌++◌, length, map, refl, sym, ap, subst, ◌∙◌, ◌≢◌, ℕ, zero, suc, rules}
-use Rattle.std.specs.Prelude.{IsFalse, slice_get}
-use Rattle.std.specs.Option.{option_map, option_to_list}
-use Rattle.std.specs.List.{AllByRecursion}
-use Rattle.std.specs.List.Sorted.{IsStrictlySortedBy}
-use Rattle.std.specs.Ordering.{is_gt, match_ordering, nat_cmp, ordering_reverse, then_cmp, on}
+use Rattle.lit_search.proofs.Words.{◌++◌, [], all_weaker, AllByRecursion, ap, AreMerged, comparing, cond, Entry, exact_bytes, example_cmp}
+use Rattle.lit_search.proofs.Words.{false, HasEntry, HasInEither, heads_cmp, inl, inr, is_gt, IsFalse, IsStrictlySortedBy, IsTotalOrder}
+use Rattle.lit_search.proofs.Words.{length, lesser, List, map, match_ordering, merged, nat_cmp, nat_list_cmp_total, nil_from_length, None}
+use Rattle.lit_search.proofs.Words.{on, Option, option_map, option_to_list, Ordering, ordering_reverse, outcome_cmp, refl, rules}
+use Rattle.lit_search.proofs.Words.{same_Some, slice_cmp, slice_get, Some, subst, suc, sym, then_cmp, true, zero, ℕ, ◌∙◌, ◌∷◌, ◌≡◌, ◌≢◌}
+use Rattle.lit_search.proofs.Words.{◌⊎◌}
 use Rattle.std.specs.declared.cmp.Ordering.TheVariants.{Less, Equal, Greater}
-use Rattle.std.proofs.lemmas.List.{nil_from_length}
-use Rattle.std.proofs.lemmas.Map.Lookups.{exact_bytes}
-use Rattle.lit_search.specs.Report.{Entry, example_cmp, outcome_cmp, HasEntry}
-use Rattle.lit_search.specs.Merge.{AreMerged, HasInEither}
-use Rattle.lit_search.specs.Internal.Merged.{heads_cmp, lesser, merged}
-use Rattle.std.specs.Cmp.{IsTotalOrder}
-use Rattle.std.specs.Cmp.Rules.{comparing}
-use Rattle.std.specs.Cmp.Lexicographic.{slice_cmp, nat_list_cmp_total}
-use Rattle.std.specs.declared.cmp.Ordering.{Ordering}
-use Rattle.std.proofs.lemmas.Option.{same_Some}
-use Rattle.lit_read.proofs.ListLemmas.{all_weaker}
 
 -- entries with rising outcomes
 abbrev pub AreRising : List Entry → Type 0

@@ -1,18 +1,15 @@
 -- What accesses and turns preserve.
-use Rattle.std.proofs.Common.{◌≡◌, inl, inr, arith, ℕ, zero, suc, true, false, List, [], ◌∷◌, ◌++◌, length, map, take, drop, refl, sym, ap, subst, ◌∙◌, append-nil, ◌≤◌, ◌==◌, append_assoc}
-use Rattle.std.specs.Prelude.{if◌then◌else◌, replicate, slice_index, slice_index_or, slice_set, IsTrue}
-use Rattle.std.proofs.lemmas.Bool.{cases_lt}
-use Rattle.std.proofs.lemmas.List.{drop_all, get_or_past, get_or-map, length-map, length-replicate, take_all}
-use Rattle.lit_read.specs.declared.limits.TheConstants.{REGISTERS}
-use Rattle.lit_read.specs.Syntax.{Agent, Litmus, IsLitmus, Statement, Statements, If, End, Then, IsStatementIn, AreStatementsIn, Window, Uint16, Uint32, window_size, is_in_block, Load, Store, Exchange, CompareExchange}
-use Rattle.lit_paths.specs.Run.{compares}
-use Rattle.lit_search.specs.Interleaving.{Contents, Moment, Progress, accessed, after, after_each, after_end, after_statement, after_turn, beginning, found_by, from_access, left_behind, progress_of, number_in, with_number}
-use Rattle.lit_paths.proofs.PathSteps.{length-slice_set}
+use Rattle.lit_search.proofs.Words.{◌++◌, ◌==◌, [], after_each, after_end, after_statement, after_turn, Agent, ap, append-nil}
+use Rattle.lit_search.proofs.Words.{AreStatementsIn, arith, beginning, cases_lt, CompareExchange, compares, Contents, drop, drop_all, End}
+use Rattle.lit_search.proofs.Words.{Exchange, false, first_byte, found_by, from_access, get_or-map, get_or_past, If, if◌then◌else◌, inl}
+use Rattle.lit_search.proofs.Words.{inr, is_access, is_in_block, IsLitmus, IsStatementIn, IsTrue, left_behind, length, length-map}
+use Rattle.lit_search.proofs.Words.{length-paste, length-replicate, length-slice_set, List, Litmus, Load, map, Moment, number_in}
+use Rattle.lit_search.proofs.Words.{payload_of, Progress, progress_of, refl, REGISTERS, replicate, slice_index, slice_index_or, slice_set}
+use Rattle.lit_search.proofs.Words.{Statement, Statements, Store, subst, suc, sym, take, take_all, Then, true, Uint16, Uint32, Window}
+use Rattle.lit_search.proofs.Words.{window-in_block, window_size, with_number, zero, ℕ, ◌∙◌, ◌∷◌, ◌≡◌, ◌≤◌}
+use Rattle.std.proofs.Common.{append_assoc}
+use Rattle.lit_search.specs.Interleaving.{accessed, after}
 use Rattle.lit_search.proofs.NextAccess.{said_from}
-use Rattle.std.proofs.lemmas.List.Edits.{length-paste}
-use Rattle.lit_paths.specs.Path.{first_byte, payload_of}
-use Rattle.lit_search.specs.Internal.Runners.{is_access}
-use Rattle.lit_paths.proofs.EventFacts.{window-in_block}
 
 pub few_bytes : (window : Window) → window_size window ≤ 4
 few_bytes Uint16 = omega arith

@@ -1,14 +1,10 @@
 -- The remaining statements from the next access on, where an `if` is decided, and how many they are.
-use Rattle.std.proofs.Common.{◌≡◌, ℕ, ◌+◌, ◌<◌, ◌≤◌, Bool, true, false, List, [], ◌∷◌, ◌++◌, length, refl, sym, ap, subst, ◌∙◌, arith, suc}
-use Rattle.std.specs.Prelude.{if◌then◌else◌, slice_index}
-use Rattle.std.specs.Borrow.{Bor}
-use Rattle.lit_read.specs.declared.syntax.Stmt.{Stmt}
-use Rattle.lit_read.specs.Litmus.{statement_of, statements_of}
-use Rattle.lit_read.specs.Syntax.{Statement, Statements, If, End, Then, IsStatementIn, AreStatementsIn}
-use Rattle.lit_paths.specs.Run.{compares}
-use Rattle.lit_search.specs.Interleaving.{joined_statements, access_or, from_access_in, from_access, Contents, Progress, after, after_statement}
-use Rattle.lit_search.specs.Internal.Runners.{ChoosesPart, is_access, joined_all}
-use Rattle.lit_search.specs.InTurn.{accesses, statement_accesses}
+use Rattle.lit_search.proofs.Words.{◌+◌, ◌++◌, ◌<◌, [], access_or, accesses, after_statement, ap, AreStatementsIn, arith, Bool, Bor}
+use Rattle.lit_search.proofs.Words.{ChoosesPart, compares, Contents, End, false, from_access, from_access_in, If, if◌then◌else◌, is_access}
+use Rattle.lit_search.proofs.Words.{IsStatementIn, joined_all, joined_statements, length, List, Progress, refl, slice_index, Statement}
+use Rattle.lit_search.proofs.Words.{statement_accesses, statement_of, Statements, statements_of, Stmt, subst, suc, sym, Then, true, ℕ, ◌∙◌}
+use Rattle.lit_search.proofs.Words.{◌∷◌, ◌≡◌, ◌≤◌}
+use Rattle.lit_search.specs.Interleaving.{after}
 
 -- ---- statements, and then others
 pub joined_end : (ss : Statements) → joined_statements ss End ≡ ss

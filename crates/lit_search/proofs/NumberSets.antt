@@ -1,8 +1,6 @@
 -- Sets of numbers as predicates: ranges, and unions. For this crate and those above it.
-use Rattle.std.proofs.Common.{◌≡◌, ◌⊎◌, inl, inr, ℕ, ◌<◌, ◌≤◌, Bool, true, false, ◌||◌, refl, sym}
-use Rattle.std.specs.Prelude.{IsTrue, nat_le, nat_lt}
-use Rattle.std.proofs.lemmas.Bool.{and_from, and_parts, le-leb, leb-true, lt-ltb, ltb-true}
-use Rattle.lit_search.specs.Report.{in_range}
+use Rattle.lit_search.proofs.Words.{◌<◌, and_from, and_parts, Bool, false, in_range, inl, inr, IsTrue, le-leb, leb-true, lt-ltb, ltb-true}
+use Rattle.lit_search.proofs.Words.{nat_le, nat_lt, refl, sym, true, ◌||◌, ℕ, ◌≡◌, ◌≤◌, ◌⊎◌}
 
 pub either_cases : (a b : Bool) → IsTrue (a || b) → IsTrue a ⊎ IsTrue b
 either_cases true b p = inl refl

@@ -1,28 +1,15 @@
 -- Packed lists: where they differ, they compare as the lists do. And ranks of entries.
-use Rattle.std.proofs.Common.{◌≡◌, ◌≢◌, inl, inr, ℕ, zero, suc, ◌+◌, ◌<◌, ◌≤◌, List, [], ◌∷◌, ◌++◌, map, take, Some, length, refl, sym, ap, ap₂, subst, ◌∙◌, arith, ◌-◌, ◌*◌, ◌^◌, drop, get_or}
-use Rattle.std.specs.Prelude.{None, slice_get, slice_index_or}
-use Rattle.std.specs.Cmp.Lexicographic.{slice_cmp, nat_list_cmp_total}
-use Rattle.std.specs.List.Sorted.{IsSortedBy}
-use Rattle.std.specs.Ordering.{is_lt, nat_cmp, ordering_then, ordering_reverse}
-use Rattle.std.specs.declared.cmp.Ordering.{Ordering}
+use Rattle.lit_search.proofs.Words.{◌*◌, ◌+◌, ◌++◌, ◌-◌, ◌<◌, [], ◌^◌, All-map, All-push, ap, ap₂, AreRanks, arith, cases_lt, cases_order}
+use Rattle.lit_search.proofs.Words.{drop, drop_all, drop_more, Entry, entry_at, flat_map-append, get_or, get_or-append-add}
+use Rattle.lit_search.proofs.Words.{get_or_append_left, get_or_from_slice_get, get_or_past, heads_cmp, inl, inr, Inside, is_lt, IsPacked}
+use Rattle.lit_search.proofs.Words.{IsRank, IsRanked, IsSortedBy, joined_entries, length, length-map, List, lt-leb, lt-ltb, map}
+use Rattle.lit_search.proofs.Words.{map-append, merged, mul-le-mul_right, nat_cmp, nat_cmp_is, nat_list_cmp_total, None, none-some}
+use Rattle.lit_search.proofs.Words.{one-le-pow, option_map, Ordering, ordering_reverse, ordering_then, outcome_cmp, packed}
+use Rattle.lit_search.proofs.Words.{pow-le-pow_right, pow-suc, pow-succ', Rank, rank_cmp, ranked_entry, refl, Report, report_of, slice_cmp}
+use Rattle.lit_search.proofs.Words.{slice_get, slice_get-get_or, slice_get-map, slice_get_within, slice_index_or, Some, subst, suc}
+use Rattle.lit_search.proofs.Words.{suc-mul, sym, take, take-suc, zero, ℕ, ◌∙◌, ◌∷◌, ◌≡◌, ◌≢◌, ◌≤◌}
 use Rattle.std.specs.declared.cmp.Ordering.TheVariants.{Less, Equal, Greater}
-use Rattle.std.proofs.Math.Seq.{take-suc}
-use Rattle.std.proofs.lemmas.Bool.{cases_lt, cases_order, lt-leb, lt-ltb}
-use Rattle.std.proofs.lemmas.List.{get_or_past, get_or-append-add, get_or_append_left, length-append, length-map, map-append, drop_all, drop_more}
-use Rattle.std.proofs.lemmas.List.Elements.{All-map, All-push}
-use Rattle.std.proofs.lemmas.Grind.{flat_map-append}
-use Rattle.std.specs.Option.{option_map}
-use Rattle.std.proofs.lemmas.Option.{get_or_from_slice_get, none-some, slice_get-get_or, slice_get-map, slice_get_within}
-use Rattle.lit_search.specs.declared.found.ranking.Rank.{Rank}
-use Rattle.lit_search.specs.declared.found.Found.TheInside.{Inside}
-use Rattle.lit_search.specs.Found.{report_of}
-use Rattle.lit_search.specs.Ranked.{joined_entries, ranked_entry}
-use Rattle.lit_search.specs.Report.{Entry, Report, entry_at, outcome_cmp}
-use Rattle.lit_search.specs.Internal.Merged.{heads_cmp, merged}
-use Rattle.lit_search.specs.Internal.Packed.{IsPacked, packed}
-use Rattle.lit_search.specs.Internal.Ranks.{AreRanks, IsRank, IsRanked, rank_cmp}
-use Rattle.std.specs.Cmp.{nat_cmp_is}
-use Rattle.std.proofs.Math.Nat.{mul-le-mul_right, one-le-pow, pow-le-pow_right, pow-suc, pow-succ', suc-mul}
+use Rattle.std.proofs.lemmas.List.{length-append}
 
 -- ---- a value more in front
 pub packed-nil : (top n : ℕ) → packed top n [] ≡ 0

@@ -1,19 +1,10 @@
 -- Reports of sets of choices: of two sets, and that a set has one.
-use Rattle.std.proofs.Common.{◌≡◌, ◌⊎◌, inl, inr, ℕ, ◌<◌, ◌≤◌, Bool, true, List, length, refl, sym, ap, ap₂, subst, ◌∙◌, arith}
-use Rattle.std.specs.Prelude.{IsTrue, IsFalse}
-use Rattle.std.specs.Ordering.{is_gt}
+use Rattle.lit_search.proofs.Words.{◌<◌, ap, ap₂, AreEntries, AreMerged, arith, Bool, cases_lt, choices_of, Entry, exact_bytes}
+use Rattle.lit_search.proofs.Words.{example_cmp, execution_choice, execution_events, false≢true, Gives, GivesRace, HasInEither}
+use Rattle.lit_search.proofs.Words.{HasLeastOrder, in_either, inl, inr, is_gt, IsEntry, IsFalse, IsLeastMemoryOrder, IsMerge, IsReport}
+use Rattle.lit_search.proofs.Words.{IsTrue, length, List, Litmus, nat_cmp_is, or_left, or_right, refl, Report, slice_get_within, subst}
+use Rattle.lit_search.proofs.Words.{sym, true, ℕ, ◌∙◌, ◌≡◌, ◌≤◌, ◌⊎◌}
 use Rattle.std.specs.declared.cmp.Ordering.TheVariants.{Less, Equal, Greater}
-use Rattle.std.specs.Cmp.{nat_cmp_is}
-use Rattle.std.proofs.lemmas.Map.Lookups.{exact_bytes}
-use Rattle.std.proofs.lemmas.Bool.{cases_lt, false≢true, or_left, or_right}
-use Rattle.std.proofs.lemmas.Option.{slice_get_within}
-use Rattle.lit_read.specs.Syntax.{Litmus}
-use Rattle.lit_paths.specs.Choice.{choices_of}
-use Rattle.lit_paths.specs.Execution.{execution_choice, execution_events}
-use Rattle.lit_order.specs.MemoryOrder.{IsLeastMemoryOrder}
-use Rattle.lit_valid.specs.Gives.{Gives, GivesRace, HasLeastOrder}
-use Rattle.lit_search.specs.Report.{AreEntries, Entry, IsEntry, IsReport, Report, example_cmp, in_either}
-use Rattle.lit_search.specs.Merge.{AreMerged, HasInEither, IsMerge}
 use Rattle.lit_search.proofs.NumberSets.{either_cases, same_test}
 use Rattle.lit_search.proofs.MergedEntries.{Stands, cmp, reversed, same_rising}
 

@@ -1,26 +1,12 @@
 -- Entries in the order in which they were recorded: how they rise, and those of a map from outcomes to examples.
-use Rattle.std.proofs.Common.{◌≡◌, ◌≢◌, ◌⊎◌, inl, inr, ◌<◌, ℕ, zero, suc, Bool, true, false, cond, List, [], ◌∷◌, ◌++◌, map, Some, length, refl, sym, ap, subst, ◌∙◌, arith}
-use Rattle.std.specs.Prelude.{◌↔◌, IsTrue, is_some, nat_eq, slice_get, slice_index_or}
-use Rattle.std.specs.List.{AllByRecursion, IsDistinct}
-use Rattle.std.specs.List.Sorted.{IsPermutation, IsSortedBy, IsStrictlySortedBy}
-use Rattle.std.specs.Cmp.Lexicographic.{nat_list_cmp_total, pointwise, same_text, texts_ties}
-use Rattle.std.specs.Map.{keys_of, lookup}
-use Rattle.std.specs.Ordering.{is_eq, is_lt, ordering_reverse}
-use Rattle.std.specs.declared.cmp.Ordering.{Ordering}
+use Rattle.lit_search.proofs.Words.{◌++◌, ◌<◌, [], AllByRecursion, ap, are_same, AreMerged, arith, Bool, cond, Contains-permutation, Entry}
+use Rattle.lit_search.proofs.Words.{false, get_or_from_slice_get, HasInEither, HasOutcome, inl, inr, insert_entry, is_eq, is_lt, is_some}
+use Rattle.lit_search.proofs.Words.{IsDistinct, IsDistinct-IsPermutation, IsPermutation, IsPermutation-sym, IsSortedBy, IsStrictlySortedBy}
+use Rattle.lit_search.proofs.Words.{IsTrue, keys_of, length, List, lookup, map, merged, nat_eq, nat_list_cmp_total, nat_list_eq_equiv}
+use Rattle.lit_search.proofs.Words.{Ordering, ordering_reverse, outcome_cmp, pointwise, ranks_by, refl, risen, same_Some, same_text}
+use Rattle.lit_search.proofs.Words.{slice_get, slice_get-get_or, slice_get-map-known, slice_get_within, slice_index_or, Some, sorted_far}
+use Rattle.lit_search.proofs.Words.{subst, suc, sym, texts_ties, true, unary_clauses, zero, ℕ, ◌↔◌, ◌∙◌, ◌∷◌, ◌≡◌, ◌≢◌, ◌⊎◌}
 use Rattle.std.specs.declared.cmp.Ordering.TheVariants.{Less, Equal, Greater}
-use Rattle.std.proofs.lemmas.List.Sorted.{Contains-permutation, IsPermutation-sym, ranks_by, sorted_far}
-use Rattle.std.proofs.lemmas.Map.Keys.{IsDistinct-IsPermutation}
-use Rattle.std.proofs.lemmas.Cmp.{nat_list_eq_equiv}
-use Rattle.std.proofs.lemmas.Option.{get_or_from_slice_get, same_Some, slice_get-get_or, slice_get_within}
-use native.Mathlib.Numerals.{unary_clauses}
-use Rattle.lit_paths.proofs.Rising.{slice_get-map-known}
-use Rattle.indexmap.specs.IndexMap.{insert_entry}
-use Rattle.lit_search.specs.Report.{Entry, outcome_cmp}
-use Rattle.lit_search.specs.Merge.{AreMerged, HasInEither}
-use Rattle.lit_search.specs.Internal.Risen.{risen}
-use Rattle.lit_search.specs.Internal.Merged.{merged}
-use Rattle.lit_valid.specs.Entry.{HasOutcome}
-use Rattle.lit_search.specs.Internal.Ranks.{are_same}
 use Rattle.lit_search.proofs.MergedEntries.{AreMerged-merged, AreRising-merged, AreRising, Stands, all_from_each, all_stand, differs, first_stands, later_stands, once, same_rising, stands_cases, stands_in_none}
 
 flips : (a b : Entry) → are_same a b ≡ are_same b a

@@ -1,39 +1,24 @@
 -- The execution of an interleaving: the runs of its agents, and the last writers before each read. It is valid, and reported.
-use Rattle.std.proofs.Common.{◌≡◌, inl, inr, ℕ, ◌+◌, ◌<◌, ◌≤◌, true, false, Option, Some, None, List, [], ◌∷◌, ◌++◌, length, map, take, flat_map, get_or, refl, sym, ap, ap₂, subst, ◌∙◌, arith, append_assoc, length-append}
-use Rattle.std.specs.Prelude.{◌&&◌, if◌then◌else◌, replicate, slice_get, All, nat_le, nat_lt}
-use Rattle.std.specs.List.{range_with_len}
-use Rattle.std.proofs.lemmas.Bool.{cases_lt, and_from, le-leb, lt-ltb}
-use Rattle.std.proofs.lemmas.List.{get_or_past, get_or-map, length-map, same_lists, take-append-le, take-map, take_all}
-use Rattle.std.proofs.lemmas.List.Elements.{filter-append}
-use Rattle.std.proofs.lemmas.List.FromFn.{get_or-map-range_with_len, length-map-range_with_len}
-use Rattle.std.proofs.lemmas.Option.{get_or_from_slice_get, slice_get_within}
-use Rattle.lit_read.specs.Syntax.{End, IsLitmus, Litmus, agent_of}
-use Rattle.lit_paths.specs.declared.event.Event.{Event}
-use Rattle.lit_paths.specs.Choice.{events_of, choices_of}
-use Rattle.lit_paths.specs.Event.{does_read, event_at}
-use Rattle.lit_paths.specs.Execution.{Execution, IsCandidateExecution, execution_outcome, execution_choice, execution_events}
-use Rattle.lit_paths.specs.Outcome.{outcome_of}
-use Rattle.lit_paths.specs.Path.{IsWalk, Path, decisions_on, events_on}
-use Rattle.lit_paths.specs.Plan.{accesses_on}
-use Rattle.lit_paths.specs.Run.{AgreesWith, IsRun, Run, run_path}
-use Rattle.lit_paths.proofs.Products.{slice_get_right}
-use Rattle.lit_paths.proofs.Rising.{slice_get-map-found, slice_get-map-known}
-use Rattle.lit_rel.specs.InitReads.{AreOfEvents}
-use Rattle.lit_rel.specs.ReadsFrom.{value_of}
-use Rattle.lit_search.specs.InTurn.{makers_of, HasExecution, IsReported}
-use Rattle.lit_search.specs.Interleaving.{Progress, beginning, ending, interleaved, progress_of}
-use Rattle.lit_search.specs.Sequential.{IsSequential}
-use Rattle.lit_valid.specs.ValidExecution.{HasValidChosenReads, read_numbers_from, IsValidExecution}
+use Rattle.lit_search.proofs.Words.{◌&&◌, ◌+◌, ◌++◌, ◌<◌, [], accesses_on, agent_of, AgreesWith, and_from, ap, ap₂, AreOfEvents, arith}
+use Rattle.lit_search.proofs.Words.{beginning, cases_lt, choices_of, decisions_on, does_read, End, ending, Event, event_at, events_of}
+use Rattle.lit_search.proofs.Words.{Execution, execution_choice, execution_events, execution_outcome, false, filter-append, flat_map}
+use Rattle.lit_search.proofs.Words.{get_or, get_or-map, get_or-map-range_with_len, get_or_from_slice_get, get_or_past, HasExecution}
+use Rattle.lit_search.proofs.Words.{HasValidChosenReads, if◌then◌else◌, in_range, inl, inr, interleaved, IsCandidateExecution, IsLitmus}
+use Rattle.lit_search.proofs.Words.{IsMemoryOrder, IsReport, IsReported, IsRun, IsSequential, IsValidExecution, IsWalk, Laws, le-leb}
+use Rattle.lit_search.proofs.Words.{length, length-map, length-map-range_with_len, List, Litmus, lt-ltb, makers_of, map, maps, nat_le}
+use Rattle.lit_search.proofs.Words.{nat_lt, no_run, None, Option, outcome_of, Path, Progress, progress_of, range_with_len}
+use Rattle.lit_search.proofs.Words.{read_numbers-accesses, read_numbers_from, refl, replicate, Report, Run, run_path, same_lists}
+use Rattle.lit_search.proofs.Words.{slice_get, slice_get-map-found, slice_get-map-known, slice_get_right, slice_get_within, Some, subst}
+use Rattle.lit_search.proofs.Words.{sym, take, take-append-le, take-map, take_all, taken_each, taken_together, true, value_of, ℕ, ◌∙◌, ◌∷◌}
+use Rattle.lit_search.proofs.Words.{◌≡◌, ◌≤◌}
+use Rattle.std.proofs.Common.{append_assoc, length-append}
+use Rattle.std.specs.Prelude.{All}
+use Rattle.lit_paths.specs.Path.{events_on}
 use Rattle.lit_search.proofs.ActLemmas.{after_event, found_at, found_in_turn, is_owned_by, same_agent}
 use Rattle.lit_search.proofs.FutureLemmas.{Future, ending_agents, no_progress, own_events, interleaving_future}
 use Rattle.lit_search.proofs.MomentLemmas.{at_first}
-use Rattle.lit_valid.proofs.RunLemmas.{maps, no_run}
-use Rattle.lit_valid.proofs.Takings.{read_numbers-accesses, taken_each, taken_together}
 use Rattle.lit_search.proofs.TimeLemmas.{IsTimeline, order_in_turn, owners_in_turn, AreAccessesOf, accesses_of, retained_at, number_in_lists, own_at, owner_is, start_in, timeline}
 use Rattle.lit_search.proofs.WriterLemmas.{are_sources, sequential, sources_in_turn, block_after, value_found}
-use Rattle.lit_order.specs.MemoryOrder.{IsMemoryOrder}
-use Rattle.lit_search.specs.Report.{IsReport, Report, in_range}
-use Rattle.lit_valid.specs.Laws.{Laws}
 
 block_more : (block : List ℕ) (es : List Event) (e : Event) → block_after block (es ++ e ∷ []) ≡ after_event e (block_after block es)
 block_more block [] e = refl

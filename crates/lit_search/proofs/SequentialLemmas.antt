@@ -1,22 +1,9 @@
 -- Each read takes what was written last: such an execution is valid.
-use Rattle.std.proofs.Common.{◌≡◌, ◌⊎◌, inl, inr, ℕ, ◌<◌, List, [], ◌∷◌, length, sym, ap, ◌∙◌, arith}
-use Rattle.std.specs.Prelude.{slice_get}
-use Rattle.std.proofs.lemmas.Bool.{cases_order}
-use Rattle.std.proofs.lemmas.Option.{same_Some}
-use Rattle.lit_read.specs.Syntax.{Litmus}
-use Rattle.lit_paths.specs.declared.event.Event.{Event}
-use Rattle.lit_paths.specs.Choice.{AreSources}
-use Rattle.lit_paths.specs.Event.{HasByte, HasSameRange, event_at}
-use Rattle.lit_paths.specs.Execution.{Execution, IsCandidateExecution, execution_events}
-use Rattle.lit_rel.specs.Coherent.{HasCoherentReads}
-use Rattle.lit_rel.specs.Forbidden.{IsAfterSource, IsBeforeRead, IsBetweenSynchronized}
-use Rattle.lit_rel.specs.HappensBefore.{Chain, HappensBefore, StepBy}
-use Rattle.lit_rel.specs.InitReads.{AreOfEvents}
-use Rattle.lit_rel.specs.ReadsFrom.{ReadsByteFrom}
-use Rattle.lit_rel.specs.TearFree.{HasTearFreeReads}
-use Rattle.lit_order.specs.MemoryOrder.{IsListOfAll, IsMemoryOrder, StandsBefore}
-use Rattle.lit_search.specs.Sequential.{IsSequential}
-use Rattle.lit_valid.specs.ValidExecution.{HasValidChosenReads, IsValidExecution}
+use Rattle.lit_search.proofs.Words.{◌<◌, [], ap, AreOfEvents, AreSources, arith, cases_order, Chain, Event, event_at, Execution}
+use Rattle.lit_search.proofs.Words.{execution_events, HappensBefore, HasByte, HasCoherentReads, HasSameRange, HasTearFreeReads}
+use Rattle.lit_search.proofs.Words.{HasValidChosenReads, inl, inr, IsAfterSource, IsBeforeRead, IsBetweenSynchronized}
+use Rattle.lit_search.proofs.Words.{IsCandidateExecution, IsListOfAll, IsMemoryOrder, IsSequential, IsValidExecution, length, List, Litmus}
+use Rattle.lit_search.proofs.Words.{ReadsByteFrom, same_Some, slice_get, StandsBefore, StepBy, sym, ℕ, ◌∙◌, ◌∷◌, ◌≡◌, ◌⊎◌}
 
 -- ---- places in a list of all events
 module _ (n : ℕ) (order : List ℕ) (whole : IsListOfAll n order) where

@@ -1,30 +1,19 @@
 -- The accesses that an agent makes on a walk, those of all agents in the order of time, and their numbers.
-use Rattle.std.proofs.Common.{◌≡◌, ◌⊎◌, inl, inr, ℕ, ◌+◌, ◌-◌, ◌<◌, ◌≤◌, Option, Some, None, zero, suc, List, [], ◌∷◌, ◌++◌, length, map, refl, sym, ap, ap₂, subst, ◌∙◌, arith, ◌≢◌, Bool, true, false, append_assoc, append-nil, cond, take, filter, flat_map, get_or, length-append}
-use Rattle.std.specs.Prelude.{replicate, slice_get, IsTrue}
-use Rattle.std.specs.List.{range_with_len}
-use Rattle.std.proofs.lemmas.Bool.{cases_lt, cases_order}
-use Rattle.std.proofs.lemmas.List.{map-append, get_or-append-add, get_or_append_left}
-use Rattle.std.proofs.lemmas.List.FromFn.{get_or-range_with_len, length-range_with_len, get_or-map-range_with_len}
-use Rattle.std.proofs.lemmas.Option.{same_Some, slice_get-get_or, none-some, get_or_from_slice_get, slice_get_within}
-use Rattle.lit_paths.specs.declared.event.Event.{Event}
-use Rattle.lit_paths.specs.Event.{event_at, init_event, init_events, no_event}
-use Rattle.lit_paths.proofs.Products.{slice_get_left, slice_get_right}
-use Rattle.lit_paths.proofs.Rising.{slice_get-map-found, slice_get-map-known}
-use Rattle.lit_rel.specs.AgentOrder.{IsAgentOrdered}
-use Rattle.lit_rel.specs.HappensBefore.{IsMadeBefore}
-use Rattle.lit_order.specs.MemoryOrder.{IsListOfAll, StandsBefore}
-use Rattle.lit_valid.proofs.RunLemmas.{maps}
-use Rattle.lit_read.specs.Syntax.{Window, is_in_block, Statement, Statements, Load, Store, Exchange, CompareExchange, If, End, Then, IsStatementIn, AreStatementsIn}
+use Rattle.lit_search.proofs.Words.{◌+◌, ◌++◌, ◌-◌, ◌<◌, [], ap, append-nil, ap₂, AreStatementsIn, arith, Bool, cases_lt, cases_order}
+use Rattle.lit_search.proofs.Words.{compare_exchange_event, CompareExchange, cond, End, Event, event_at, events_of, Exchange, false}
+use Rattle.lit_search.proofs.Words.{filter, flat_map, get_or, get_or-append-add, get_or-flat_map, get_or-map-range_with_len}
+use Rattle.lit_search.proofs.Words.{get_or-range_with_len, get_or_append_left, get_or_from_slice_get, If, init_event, init_events, inl}
+use Rattle.lit_search.proofs.Words.{inr, is_in_block, IsAgentOrdered, IsListOfAll, IsMadeBefore, IsStatementIn, IsStatementWalk, IsTrue}
+use Rattle.lit_search.proofs.Words.{IsWalk, length, length-flat_map-take, length-init_events, length-range_with_len, List, Load, map}
+use Rattle.lit_search.proofs.Words.{map-append, maps, modify_event, nat_tests, no_event, None, none-some, Option, order-other}
+use Rattle.lit_search.proofs.Words.{range_with_len, read_event, refl, replicate, same_Some, slice_get, slice_get-get_or}
+use Rattle.lit_search.proofs.Words.{slice_get-map-found, slice_get-map-known, slice_get_left, slice_get_right, slice_get_within, Some}
+use Rattle.lit_search.proofs.Words.{StandsBefore, Statement, Statements, Step, Store, subst, suc, sym, take, Then, true, Window}
+use Rattle.lit_search.proofs.Words.{window-in_block, write_event, zero, ℕ, ◌∙◌, ◌∷◌, ◌≡◌, ◌≢◌, ◌≤◌, ◌⊎◌}
+use Rattle.std.proofs.Common.{append_assoc, length-append}
 use Rattle.lit_paths.specs.declared.event.Order3.TheVariants.{Init}
-use Rattle.lit_paths.specs.Path.{Step, IsStatementWalk, IsWalk, compare_exchange_event, events_on, modify_event, read_event, write_event}
-use Rattle.lit_paths.proofs.EventFacts.{window-in_block}
-use Rattle.lit_paths.proofs.Placed.{order-other}
+use Rattle.lit_paths.specs.Path.{events_on}
 use Rattle.lit_search.proofs.MomentLemmas.{few_bytes}
-use Rattle.std.proofs.lemmas.Bool.Decides.{nat_tests}
-use Rattle.std.proofs.lemmas.List.Concat.{get_or-flat_map}
-use Rattle.std.proofs.lemmas.List.Folds.{length-flat_map-take}
-use Rattle.lit_paths.specs.Choice.{events_of}
-use Rattle.lit_paths.proofs.EventLists.{length-init_events}
 use Rattle.lit_search.proofs.ActLemmas.{is_owned_by, same_agent}
 use Rattle.lit_search.proofs.FutureLemmas.{own_events}
 

@@ -1,29 +1,19 @@
 -- The last writer of each byte that is read, in the order of turns, and the block's bytes in the course of the turns.
-use Rattle.std.proofs.Common.{◌≡◌, ◌≢◌, ◌⊎◌, inl, inr, ℕ, zero, suc, ◌+◌, ◌<◌, ◌≤◌, ◌==◌, Bool, true, false, Some, None, List, [], ◌∷◌, length, map, take, drop, ◌-◌, refl, sym, ap, subst, ◌∙◌, arith, ◌++◌, zip, filter, append_assoc, length-drop}
-use Rattle.std.specs.Prelude.{◌&&◌, IsTrue, if◌then◌else◌, nat_le, nat_lt, slice_get, replicate, slice_index}
-use Rattle.std.proofs.lemmas.Bool.{and_from, and_parts, eq-eqb, false≢true, le-leb, leb-true, lt-ltb, ltb-true, cases_lt, lt-leb}
-use Rattle.std.proofs.lemmas.Bool.Decides.{nat_tests}
-use Rattle.std.proofs.lemmas.List.{length-map, get_or_default, get_or-replicate, get_or-append_right, get_or-drop, get_or-take, get_or_append_left, length-replicate, length-take, length-take-le, same_lists}
-use Rattle.std.proofs.lemmas.Option.{none-some, same_Some, slice_get-get_or, slice_get_within}
-use Rattle.lit_paths.specs.declared.event.Event.{Event}
-use Rattle.lit_paths.specs.ByteReads.{IsCandidate, byte_reads}
-use Rattle.lit_paths.specs.Choice.{AreSources}
-use Rattle.lit_paths.specs.Event.{HasByte, does_read, does_write, event_at, no_event, payload_at}
-use Rattle.lit_paths.proofs.Products.{slice_get-drop}
-use Rattle.lit_paths.proofs.Rising.{slice_get-map-found}
-use Rattle.lit_rel.specs.InitReads.{AreOfEvents}
-use Rattle.lit_order.specs.MemoryOrder.{StandsBefore}
-use Rattle.lit_search.specs.Sequential.{IsLastWrite, IsSequential}
+use Rattle.lit_search.proofs.Words.{◌&&◌, ◌+◌, ◌++◌, ◌-◌, ◌<◌, ◌==◌, [], and_from, and_parts, ap, AreOfEvents, AreSources, arith, Bool}
+use Rattle.lit_search.proofs.Words.{byte_reads, cases_lt, composed, does_read, does_write, drop, Event, event_at, false, false≢true}
+use Rattle.lit_search.proofs.Words.{filter, get_or-append_right, get_or-drop, get_or-map-range_with_len, get_or-replicate, get_or-take}
+use Rattle.lit_search.proofs.Words.{get_or_append_left, get_or_default, HasByte, if◌then◌else◌, inl, inr, IsCandidate, IsLastWrite}
+use Rattle.lit_search.proofs.Words.{IsSequential, IsTrue, le-leb, leb-true, length, length-drop, length-map, length-map-range_with_len}
+use Rattle.lit_search.proofs.Words.{length-paste, length-replicate, length-take, length-take-le, List, lt-leb, lt-ltb, ltb-true, map, maps}
+use Rattle.lit_search.proofs.Words.{nat_le, nat_lt, nat_tests, no_event, None, none-some, only_its, payload_at, range_with_len, refl}
+use Rattle.lit_search.proofs.Words.{replicate, same_lists, same_Some, slice_get, slice_get-drop, slice_get-get_or, slice_get-map-found}
+use Rattle.lit_search.proofs.Words.{slice_get_within, slice_index, Some, StandsBefore, subst, suc, sym, take, take_from, true, value_of}
+use Rattle.lit_search.proofs.Words.{zero, zip, ℕ, ◌∙◌, ◌∷◌, ◌≡◌, ◌≢◌, ◌≤◌, ◌⊎◌}
+use Rattle.std.proofs.Common.{append_assoc}
+use Rattle.std.proofs.lemmas.Bool.{eq-eqb}
 use Rattle.lit_search.proofs.SequentialLemmas.{not_itself}
 use Rattle.lit_search.proofs.TimeLemmas.{IsTimeline, act_earlier, act_place, complete, event_of, init_earlier, respects_agents, respects_making, order_in_turn, place_of, IsAct}
-use Rattle.std.specs.List.{range_with_len}
-use Rattle.std.proofs.lemmas.List.Edits.{length-paste}
-use Rattle.std.proofs.lemmas.List.FromFn.{get_or-map-range_with_len, length-map-range_with_len}
-use Rattle.lit_rel.specs.ReadsFrom.{composed, value_of}
-use Rattle.lit_rel.proofs.OwnByteLemmas.{only_its}
-use Rattle.lit_rel.proofs.SourceLemmas.{take_from}
 use Rattle.lit_search.proofs.ActLemmas.{after_event, found_at}
-use Rattle.lit_valid.proofs.RunLemmas.{maps}
 
 -- ---- writes of a byte
 abbrev pub writes_byte : ℕ → Event → Bool

@@ -1,9 +1,7 @@
-use Rattle.std.proofs.Common.{◌≡◌, ◌<◌, ℕ, List, [], ◌∷◌, ◌++◌, length, take, get_or, ap, sym, subst, ◌∙◌, arith, zero-add}
-use Rattle.std.specs.List.{range_with_len}
-use Rattle.std.proofs.lemmas.List.{get_or_default, take_more}
-use Rattle.lit_read.specs.Syntax.{AreStatementsIn, IsLitmus, Litmus, End}
-use Rattle.lit_paths.proofs.OutcomeRegisterSteps.{range_more}
-use Rattle.lit_search.specs.Interleaving.{Moment, Progress, accessed, after, after_each, after_end, after_turn, beginning, from_access, progress_of}
+use Rattle.lit_search.proofs.Words.{◌++◌, ◌<◌, [], after_each, after_end, after_turn, ap, AreStatementsIn, arith, beginning, End}
+use Rattle.lit_search.proofs.Words.{from_access, get_or, get_or_default, IsLitmus, length, List, Litmus, Moment, Progress, progress_of}
+use Rattle.lit_search.proofs.Words.{range_more, range_with_len, subst, sym, take, take_more, zero-add, ℕ, ◌∙◌, ◌∷◌, ◌≡◌}
+use Rattle.lit_search.specs.Interleaving.{accessed, after}
 use Rattle.lit_search.proofs.MomentLemmas.{IsSound, after_each-more, sound_beginning, sound_each, sound_end, sound_turn, stepped, written_whole}
 use Rattle.lit_search.proofs.interleaving.interleave.Goals as goal
 

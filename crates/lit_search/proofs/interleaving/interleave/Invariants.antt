@@ -1,6 +1,4 @@
-use Rattle.std.proofs.Common.{◌≡◌, take}
-use Rattle.std.specs.List.{range_with_len}
-use Rattle.lit_search.specs.Interleaving.{Moment, after_each, after_end, after_turn, beginning}
+use Rattle.lit_search.proofs.Words.{after_each, after_end, after_turn, beginning, Moment, range_with_len, take, ◌≡◌}
 use Rattle.lit_search.proofs.interleaving.interleave.Given as goal
 
 abbrev pub invariant-turns : goal.invariant-turns

@@ -1,5 +1,4 @@
-use Rattle.std.proofs.Common.{◌≡◌, map, take}
-use Rattle.std.specs.Prelude.{[], slice_index, slice_index_or}
+use Rattle.lit_search.proofs.Words.{[], map, slice_index, slice_index_or, take, ◌≡◌}
 use Rattle.lit_search.proofs.interleaving.outcome_of.Given as goal
 
 abbrev pub invariant-loop-name : goal.invariant-loop-name

@@ -1,4 +1,4 @@
-use Rattle.std.proofs.Common.{◌≡◌, map, take}
+use Rattle.lit_search.proofs.Words.{map, take, ◌≡◌}
 use Rattle.lit_search.proofs.MomentLemmas.{at_first}
 use Rattle.lit_search.proofs.interleaving.runners_of.Given as goal
 

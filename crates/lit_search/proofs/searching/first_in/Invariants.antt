@@ -1,6 +1,4 @@
-use Rattle.std.proofs.Common.{◌-◌, ◌≤◌}
-use Rattle.lit_search.specs.FirstOfClass.{HasNoneOf}
-use Rattle.lit_search.specs.Report.{in_range}
+use Rattle.lit_search.proofs.Words.{◌-◌, HasNoneOf, in_range, ◌≤◌}
 use Rattle.lit_search.proofs.searching.first_in.Given as goal
 
 abbrev pub invariant-loop-next : goal.invariant-loop-next

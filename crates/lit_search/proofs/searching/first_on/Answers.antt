@@ -1,7 +1,5 @@
-use Rattle.std.proofs.Common.{ℕ, subst, arith}
-use Rattle.lit_solve.specs.Box.{box_with}
+use Rattle.lit_search.proofs.Words.{arith, box_with, HasNoneBefore, subst, ℕ}
 use Rattle.lit_solve.proofs.CompletionLemmas.{sourced}
-use Rattle.lit_search.specs.Internal.Boxed.{HasNoneBefore}
 use Rattle.lit_search.proofs.BoxedLemmas.{first_found, none_at_all, none_more, of_none}
 use Rattle.lit_search.proofs.searching.first_on.Goals as goal
 

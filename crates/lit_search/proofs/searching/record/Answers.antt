@@ -1,9 +1,4 @@
-use Rattle.std.proofs.Common.{◌≡◌, ◌≤◌, ℕ, ◌+◌, ap, arith, subst, ◌∙◌}
-use Rattle.std.specs.Prelude.{IsTrue}
-use Rattle.lit_read.specs.Syntax.{Litmus}
-use Rattle.lit_paths.specs.Plan.{choices_before}
-use Rattle.lit_search.specs.Report.{in_range}
-use Rattle.lit_search.specs.Internal.Gained.{Gains}
+use Rattle.lit_search.proofs.Words.{◌+◌, ap, arith, choices_before, Gains, in_range, IsTrue, Litmus, subst, ℕ, ◌∙◌, ◌≡◌, ◌≤◌}
 use Rattle.lit_search.proofs.GainLemmas.{gains_none, gains_on, none_within}
 use Rattle.lit_search.proofs.searching.record.Goals as goal
 

@@ -1,7 +1,4 @@
-use Rattle.std.proofs.Common.{◌-◌, ◌≤◌}
-use Rattle.std.specs.Prelude.{IsTrue}
-use Rattle.lit_search.specs.Report.{in_range}
-use Rattle.lit_search.specs.Internal.Gained.{Gains}
+use Rattle.lit_search.proofs.Words.{◌-◌, Gains, in_range, IsTrue, ◌≤◌}
 use Rattle.lit_search.proofs.searching.record.Given as goal
 
 abbrev pub invariant-loop-next : goal.invariant-loop-next

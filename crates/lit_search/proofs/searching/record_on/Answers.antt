@@ -1,8 +1,4 @@
-use Rattle.std.proofs.Common.{◌≡◌, inl, inr, ℕ, arith, subst, sym, ◌∙◌}
-use Rattle.std.proofs.lemmas.Bool.{false≢true}
-use Rattle.lit_solve.specs.Boxes.{boxes_len}
-use Rattle.lit_search.specs.Internal.Boxed.{IsOfFirst}
-use Rattle.lit_search.specs.Internal.Gained.{Gains}
+use Rattle.lit_search.proofs.Words.{arith, boxes_len, false≢true, Gains, inl, inr, IsOfFirst, subst, sym, ℕ, ◌∙◌, ◌≡◌}
 use Rattle.lit_search.proofs.BoxedLemmas.{gained_all, gained_more, of_none}
 use Rattle.lit_search.proofs.GainLemmas.{gains_none, goes_more}
 use Rattle.lit_search.proofs.searching.record_on.Goals as goal

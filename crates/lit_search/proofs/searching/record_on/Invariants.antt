@@ -1,5 +1,4 @@
-use Rattle.lit_search.specs.Internal.Boxed.{IsOfFirst}
-use Rattle.lit_search.specs.Internal.Gained.{Gains}
+use Rattle.lit_search.proofs.Words.{Gains, IsOfFirst}
 use Rattle.lit_search.proofs.searching.record_on.Given as goal
 
 abbrev pub invariant-loop-place : goal.invariant-loop-place

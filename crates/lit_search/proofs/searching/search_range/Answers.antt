@@ -1,7 +1,4 @@
-use Rattle.std.proofs.Common.{subst, sym, ◌∙◌}
-use Rattle.std.proofs.lemmas.Result.{IfOk-weaker}
-use Rattle.lit_read.specs.Syntax.{Litmus}
-use Rattle.lit_search.specs.Report.{Report, IsReport, in_none, in_range}
+use Rattle.lit_search.proofs.Words.{IfOk-weaker, in_none, in_range, IsReport, Litmus, Report, subst, sym, ◌∙◌}
 use Rattle.lit_search.proofs.searching.search_range.Goals as goal
 
 pub returns : goal.returns

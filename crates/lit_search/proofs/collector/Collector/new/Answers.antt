@@ -1,8 +1,4 @@
-use Rattle.std.proofs.Common.{false, List, subst, sym}
-use Rattle.std.proofs.lemmas.Bool.{false≢true}
-use Rattle.lit_search.specs.Internal.Gained.{Gains}
-use Rattle.lit_search.specs.Report.{Entry, in_none}
-use Rattle.std.specs.Prelude.{[], IsTrue}
+use Rattle.lit_search.proofs.Words.{[], Entry, false, false≢true, Gains, in_none, IsTrue, List, subst, sym}
 use Rattle.lit_search.proofs.GainLemmas.{gains_none, reported}
 use Rattle.lit_search.proofs.collector.Collector.new.Goals as goal
 

@@ -1,7 +1,4 @@
-use Rattle.std.proofs.Common.{◌≡◌, ◌≤◌, List, ap, subst, sym, ◌∙◌}
-use Rattle.lit_search.specs.Collected.{Collected, HasTaken}
-use Rattle.lit_search.specs.Report.{Entry}
-use Rattle.lit_search.specs.Internal.Risen.{risen}
+use Rattle.lit_search.proofs.Words.{ap, Collected, Entry, HasTaken, List, risen, subst, sym, ◌∙◌, ◌≡◌, ◌≤◌}
 use Rattle.lit_search.proofs.GainLemmas.{cut_back, taken_more}
 use Rattle.lit_search.proofs.collector.Collector.take.Goals as goal
 

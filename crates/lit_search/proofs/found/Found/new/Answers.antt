@@ -1,7 +1,5 @@
-use Rattle.std.proofs.Common.{append-nil, ◌≡◌, ◌++◌, List, [], ◌∷◌, ◌∙◌, ap, length, map, subst, sym}
-use Rattle.lit_search.specs.Ranked.{joined_entries, ranked_entry}
-use Rattle.lit_search.specs.Report.{Entry}
-use Rattle.lit_search.specs.Internal.Ranks.{AreRanks}
+use Rattle.lit_search.proofs.Words.{◌++◌, [], ap, append-nil, AreRanks, Entry, joined_entries, length, List, map, ranked_entry, subst, sym}
+use Rattle.lit_search.proofs.Words.{◌∙◌, ◌∷◌, ◌≡◌}
 use Rattle.lit_search.proofs.MergedEntries.{AreRising}
 use Rattle.lit_search.proofs.RisenEntries.{rises}
 use Rattle.lit_search.proofs.found.Found.new.Goals as goal

@@ -1,6 +1,4 @@
-use Rattle.std.proofs.Common.{ap}
-use Rattle.lit_search.specs.Report.{Entry}
-use Rattle.lit_search.specs.Internal.Shown.{shown_entry}
+use Rattle.lit_search.proofs.Words.{ap, Entry, shown_entry}
 use Rattle.lit_search.proofs.RankLemmas.{found_at}
 use Rattle.lit_search.proofs.found.Found.outcome.Goals as goal
 

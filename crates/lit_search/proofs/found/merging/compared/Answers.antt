@@ -1,5 +1,4 @@
-use Rattle.std.proofs.Common.{◌∙◌}
-use Rattle.lit_search.specs.Ranked.{joined_entries}
+use Rattle.lit_search.proofs.Words.{joined_entries, ◌∙◌}
 use Rattle.lit_search.proofs.RankLemmas.{fronts}
 use Rattle.lit_search.proofs.found.merging.compared.Goals as goal
 

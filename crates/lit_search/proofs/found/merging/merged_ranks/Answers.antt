@@ -1,11 +1,6 @@
-use Rattle.std.proofs.Common.{◌≡◌, ◌++◌, List, [], ◌∷◌, ◌∙◌, ap, map, subst, sym}
-use Rattle.std.proofs.lemmas.List.{append_assoc, map-append}
-use Rattle.std.proofs.lemmas.List.Elements.{All-push}
-use Rattle.lit_search.specs.declared.found.ranking.Rank.{Rank}
-use Rattle.lit_search.specs.Ranked.{joined_entries, ranked_entry}
-use Rattle.lit_search.specs.Report.{Entry}
-use Rattle.lit_search.specs.Internal.Merged.{merged}
-use Rattle.lit_search.specs.Internal.Ranks.{AreRanks, IsRank}
+use Rattle.lit_search.proofs.Words.{◌++◌, [], All-push, ap, AreRanks, Entry, IsRank, joined_entries, List, map, map-append, merged, Rank}
+use Rattle.lit_search.proofs.Words.{ranked_entry, subst, sym, ◌∙◌, ◌∷◌, ◌≡◌}
+use Rattle.std.proofs.lemmas.List.{append_assoc}
 use Rattle.lit_search.proofs.found.merging.merged_ranks.Goals as goal
 
 pub loop-rank-preserved : goal.loop-rank-preserved

@@ -1,7 +1,4 @@
-use Rattle.std.proofs.Common.{◌≡◌, ◌+◌, ◌++◌, length, map}
-use Rattle.lit_search.specs.Ranked.{joined_entries, ranked_entry}
-use Rattle.lit_search.specs.Internal.Merged.{merged}
-use Rattle.lit_search.specs.Internal.Ranks.{AreRanks}
+use Rattle.lit_search.proofs.Words.{◌+◌, ◌++◌, AreRanks, joined_entries, length, map, merged, ranked_entry, ◌≡◌}
 use Rattle.lit_search.proofs.found.merging.merged_ranks.Given as goal
 
 abbrev pub invariant-loop-rank : goal.invariant-loop-rank

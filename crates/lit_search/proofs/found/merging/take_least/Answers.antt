@@ -1,5 +1,4 @@
-use Rattle.std.proofs.Common.{sym, ◌∙◌}
-use Rattle.lit_search.specs.Ranked.{joined_entries, ranked_entry}
+use Rattle.lit_search.proofs.Words.{joined_entries, ranked_entry, sym, ◌∙◌}
 use Rattle.lit_search.proofs.MergedEntries.{taken_less}
 use Rattle.lit_search.proofs.found.merging.take_least.Goals as goal
 

@@ -1,10 +1,5 @@
-use Rattle.std.proofs.Common.{◌≡◌, ◌||◌, Bool, List, rules, ◌∙◌, ap, ap₂, subst, sym}
-use Rattle.lit_search.specs.Report.{Entry, Report}
-use Rattle.lit_search.specs.Internal.Merged.{merged}
-use Rattle.lit_search.specs.declared.found.Found.TheInside.{Inside}
-use Rattle.lit_search.specs.Found.{report_of}
-use Rattle.lit_search.specs.Merge.{IsMerge}
-use Rattle.lit_search.specs.Internal.Ranks.{IsRanked}
+use Rattle.lit_search.proofs.Words.{ap, ap₂, Bool, Entry, Inside, IsMerge, IsRanked, List, merged, Report, report_of, rules, subst, sym}
+use Rattle.lit_search.proofs.Words.{◌||◌, ◌∙◌, ◌≡◌}
 use Rattle.lit_search.proofs.MergedEntries.{AreMerged-merged, AreRising-merged, merged-none_left, merged-none_right, AreRising}
 use Rattle.lit_search.proofs.RankLemmas.{entries_are, others_are, sum_is}
 use Rattle.lit_search.proofs.found.merging.with_both.Goals as goal

@@ -1,6 +1,6 @@
-use Rattle.std.proofs.Common.{◌+◌, ◌-◌, ◌*◌, ◌^◌, ◌<◌, drop, sym, ap, ap₂, ◌∙◌, arith}
+use Rattle.lit_search.proofs.Words.{◌*◌, ◌+◌, ◌-◌, ◌<◌, ◌^◌, ap, ap₂, arith, drop, le-mul_of_pos_right, one-le-pow, pow-le-pow_right}
+use Rattle.lit_search.proofs.Words.{suc-mul, sym, ◌∙◌}
 use Rattle.lit_search.proofs.RankLemmas.{digit_fits, one_more, packed-large, packed-past, packed-small, room, stepped}
-use Rattle.std.proofs.Math.Nat.{le-mul_of_pos_right, one-le-pow, pow-le-pow_right, suc-mul}
 use Rattle.lit_search.proofs.found.packing.packed.Goals as goal
 use Rattle.lit_search.proofs.found.packing.packed.Goals.{in-Some, in-Some-2, in-None}
 

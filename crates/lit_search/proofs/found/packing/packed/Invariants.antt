@@ -1,5 +1,4 @@
-use Rattle.std.proofs.Common.{◌≡◌, ◌+◌, ◌-◌, ◌^◌, ◌≤◌, drop}
-use Rattle.lit_search.specs.Internal.Packed.{packed}
+use Rattle.lit_search.proofs.Words.{◌+◌, ◌-◌, ◌^◌, drop, packed, ◌≡◌, ◌≤◌}
 use Rattle.lit_search.proofs.found.packing.packed.Given as goal
 
 abbrev pub invariant-loop-place : goal.invariant-loop-place

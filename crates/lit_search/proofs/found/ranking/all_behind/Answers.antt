@@ -1,8 +1,6 @@
-use Rattle.std.proofs.Common.{◌≡◌, ◌+◌, ◌<◌, ◌^◌, ◌++◌, List, [], ◌∷◌, ◌∙◌, map, ap, suc, subst, sym, arith}
+use Rattle.lit_search.proofs.Words.{◌+◌, ◌++◌, ◌<◌, [], ◌^◌, ap, arith, into_iter_items, List, map, Rank, subst, suc, sym, ◌∙◌, ◌∷◌, ◌≡◌}
 use Rattle.std.specs.List.{All}
-use Rattle.std.specs.Vec.Iter.{into_iter_items}
 use Rattle.std.proofs.lemmas.List.{append_assoc}
-use Rattle.lit_search.specs.declared.found.ranking.Rank.{Rank}
 use Rattle.lit_search.proofs.RankLemmas.{moved}
 use Rattle.lit_search.proofs.found.ranking.all_behind.Goals as goal
 

@@ -1,6 +1,5 @@
-use Rattle.std.proofs.Common.{◌≡◌, ◌+◌, ◌<◌, ◌^◌, ◌++◌, map}
+use Rattle.lit_search.proofs.Words.{◌+◌, ◌++◌, ◌<◌, ◌^◌, into_iter_items, map, ◌≡◌}
 use Rattle.std.specs.List.{All}
-use Rattle.std.specs.Vec.Iter.{into_iter_items}
 use Rattle.lit_search.proofs.RankLemmas.{moved}
 use Rattle.lit_search.proofs.found.ranking.all_behind.Given as goal
 

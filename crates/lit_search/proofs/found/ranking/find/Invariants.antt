@@ -1,6 +1,4 @@
-use Rattle.std.proofs.Common.{◌≡◌, length}
-use Rattle.std.specs.Prelude.{slice_get}
-use Rattle.lit_search.specs.Ranked.{joined_entries}
+use Rattle.lit_search.proofs.Words.{joined_entries, length, slice_get, ◌≡◌}
 use Rattle.lit_search.proofs.found.ranking.find.Given as goal
 
 abbrev pub invariant-loop-part : goal.invariant-loop-part

@@ -1,5 +1,4 @@
-use Rattle.std.proofs.Common.{sym}
-use Rattle.lit_search.specs.Ranked.{joined_entries}
+use Rattle.lit_search.proofs.Words.{joined_entries, sym}
 use Rattle.lit_search.proofs.RankLemmas.{no_outcome}
 use Rattle.lit_search.proofs.found.ranking.outcome_of.Goals as goal
 

@@ -1,16 +1,7 @@
-use Rattle.std.proofs.Common.{◌≡◌, ◌++◌, List, [], ◌∷◌, ◌∙◌, ap, sym, arith, length, map, subst, rules}
-use Rattle.std.specs.Cmp.Lexicographic.{nat_list_cmp_total}
-use Rattle.std.specs.List.Sorted.{IsPermutation}
-use Rattle.std.specs.Prelude.{slice_get}
-use Rattle.std.proofs.lemmas.Fn.{always_returns_same}
-use Rattle.std.proofs.lemmas.List.{length-append, take_all}
-use Rattle.std.proofs.lemmas.List.Sorted.{All-permutation, IsPermutation-map, ranks_by}
-use Rattle.std.proofs.lemmas.Option.{slice_get_within}
-use Rattle.lit_search.specs.declared.found.ranking.Rank.{Rank}
-use Rattle.lit_search.specs.Ranked.{joined_entries, ranked_entry}
-use Rattle.lit_search.specs.Report.{Entry}
-use Rattle.lit_search.specs.Internal.Ranks.{IsRank, rank_key}
-use Rattle.lit_search.specs.Internal.Shown.{shown_entry}
+use Rattle.lit_search.proofs.Words.{◌++◌, [], All-permutation, always_returns_same, ap, arith, Entry, IsPermutation, IsPermutation-map}
+use Rattle.lit_search.proofs.Words.{IsRank, joined_entries, length, List, map, nat_list_cmp_total, Rank, rank_key, ranked_entry, ranks_by}
+use Rattle.lit_search.proofs.Words.{rules, shown_entry, slice_get, slice_get_within, subst, sym, take_all, ◌∙◌, ◌∷◌, ◌≡◌}
+use Rattle.std.proofs.lemmas.List.{length-append}
 use Rattle.lit_search.proofs.RisenEntries.{sorted_risen}
 use Rattle.lit_search.proofs.RankLemmas.{one_more_each, one_more_rank, past, sorted_by_outcome}
 use Rattle.lit_search.proofs.found.ranking.ranked.Goals as goal

@@ -1,6 +1,4 @@
-use Rattle.std.proofs.Common.{◌≡◌, ◌-◌, ◌≤◌, length, map, take}
-use Rattle.lit_search.specs.Ranked.{joined_entries, ranked_entry}
-use Rattle.lit_search.specs.Internal.Ranks.{AreRanks}
+use Rattle.lit_search.proofs.Words.{◌-◌, AreRanks, joined_entries, length, map, ranked_entry, take, ◌≡◌, ◌≤◌}
 use Rattle.lit_search.proofs.found.ranking.ranked.Given as goal
 
 abbrev pub invariant-loop-outcome : goal.invariant-loop-outcome

@@ -1,11 +1,5 @@
-use Rattle.std.proofs.Common.{◌≡◌, ℕ, ◌==◌, Bool, true, false, refl, ap, ◌∙◌}
-use Rattle.std.specs.Prelude.{if◌then◌else◌, not, slice_index}
-use Rattle.std.proofs.Math.Bool.{beq}
-use Rattle.lit_read.specs.Litmus.{statement_of, statements_of}
-use Rattle.lit_read.specs.Syntax.{Statements}
-use Rattle.lit_read.proofs.TreeViews.{if_views}
-use Rattle.lit_paths.specs.Run.{compares}
-use Rattle.lit_search.specs.Internal.Runners.{ChoosesPart}
+use Rattle.lit_search.proofs.Words.{◌==◌, ap, beq, Bool, ChoosesPart, compares, false, if_views, if◌then◌else◌, not, refl, slice_index}
+use Rattle.lit_search.proofs.Words.{statement_of, Statements, statements_of, true, ℕ, ◌∙◌, ◌≡◌}
 use Rattle.lit_search.proofs.interleaving.deciding.chosen_part.Goals as goal
 use Rattle.lit_search.proofs.interleaving.deciding.chosen_part.Goals.{After-from}
 

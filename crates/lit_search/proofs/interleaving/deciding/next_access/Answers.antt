@@ -1,8 +1,5 @@
-use Rattle.std.proofs.Common.{◌≡◌, ap, sym, subst, ◌∙◌, arith}
-use Rattle.lit_read.specs.Litmus.{statement_of, statements_of}
-use Rattle.lit_read.specs.Syntax.{AreStatementsIn, Statements, End}
-use Rattle.lit_search.specs.Interleaving.{from_access, joined_statements}
-use Rattle.lit_search.specs.Internal.Runners.{joined_all}
+use Rattle.lit_search.proofs.Words.{ap, AreStatementsIn, arith, End, from_access, joined_all, joined_statements, statement_of, Statements}
+use Rattle.lit_search.proofs.Words.{statements_of, subst, sym, ◌∙◌, ◌≡◌}
 use Rattle.lit_search.proofs.NextAccess.{from_access-part, from_access-then, lists_size, lists_size-more, met, met-size, none_left, opened, said_from, said-joined, said-part, size_of-part}
 use Rattle.lit_search.proofs.interleaving.deciding.next_access.Goals as goal
 

@@ -1,7 +1,4 @@
-use Rattle.std.proofs.Common.{◌≡◌, ℕ}
-use Rattle.lit_read.specs.Syntax.{AreStatementsIn, End}
-use Rattle.lit_search.specs.Interleaving.{from_access}
-use Rattle.lit_search.specs.Internal.Runners.{joined_all}
+use Rattle.lit_search.proofs.Words.{AreStatementsIn, End, from_access, joined_all, ℕ, ◌≡◌}
 use Rattle.lit_search.proofs.NextAccess.{lists_size}
 use Rattle.lit_search.proofs.interleaving.deciding.next_access.Given as goal
 

@@ -1,4 +1,4 @@
-use Rattle.std.specs.Prelude.{[]}
+use Rattle.lit_search.proofs.Words.{[]}
 use Rattle.lit_search.proofs.RunsInTurn.{some_entry}
 use Rattle.lit_search.proofs.laws.schedules.reports_have_an_entry.Goals as goal
 

@@ -1,4 +1,4 @@
-use Rattle.std.specs.Box.{boxed_slice_items}
+use Rattle.lit_search.proofs.Words.{boxed_slice_items}
 use Rattle.lit_search.proofs.RisenEntries.{IsDistinct-entry_of_pair}
 use Rattle.lit_search.proofs.found.examples.Examples.len.Goals as goal
 

@@ -1,7 +1,4 @@
-use Rattle.std.proofs.Common.{List, ap, map, sym, take, ◌∙◌}
-use Rattle.std.proofs.lemmas.List.{take-map}
-use Rattle.std.specs.Box.{boxed_slice_items}
-use Rattle.lit_search.specs.Report.{Entry}
+use Rattle.lit_search.proofs.Words.{ap, boxed_slice_items, Entry, List, map, sym, take, take-map, ◌∙◌}
 use Rattle.lit_search.proofs.RisenEntries.{entry_of_pair}
 use Rattle.lit_search.proofs.found.examples.Examples.truncate.Goals as goal
 

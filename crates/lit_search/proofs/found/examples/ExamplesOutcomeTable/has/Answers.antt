@@ -1,8 +1,4 @@
-use Rattle.std.proofs.Common.{◌↔◌, Bool, subst, sym}
-use Rattle.std.specs.Prelude.{IsTrue}
-use Rattle.std.specs.Box.{boxed_slice_items}
-use Rattle.lit_valid.specs.Entry.{HasOutcome}
-use Rattle.lit_search.specs.Examples.{entries_in}
+use Rattle.lit_search.proofs.Words.{Bool, boxed_slice_items, entries_in, HasOutcome, IsTrue, subst, sym, ◌↔◌}
 use Rattle.lit_search.proofs.RisenEntries.{lookup_finds}
 use Rattle.lit_search.proofs.found.examples.ExamplesOutcomeTable.has.Goals as goal
 

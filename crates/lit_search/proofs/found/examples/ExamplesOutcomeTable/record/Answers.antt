@@ -1,8 +1,4 @@
-use Rattle.std.proofs.Common.{List, ℕ, [], ◌∷◌, ◌++◌, map, subst, sym, ap, ◌∙◌}
-use Rattle.std.specs.Box.{boxed_slice_items}
-use Rattle.lit_valid.specs.Entry.{HasOutcome}
-use Rattle.lit_search.specs.Examples.{entries_in}
-use Rattle.lit_search.specs.Report.{Entry}
+use Rattle.lit_search.proofs.Words.{◌++◌, [], ap, boxed_slice_items, entries_in, Entry, HasOutcome, List, map, subst, sym, ℕ, ◌∙◌, ◌∷◌}
 use Rattle.lit_search.proofs.RisenEntries.{entry_of_pair, put_new}
 use Rattle.lit_search.proofs.found.examples.ExamplesOutcomeTable.record.Goals as goal
 

@@ -1,7 +1,6 @@
-use Rattle.std.proofs.Common.{List, ℕ, length, subst, ap, sym, ◌∙◌, arith}
-use Rattle.lit_read.specs.Litmus.{statement_of}
-use Rattle.lit_read.specs.Syntax.{AreStatementsIn, Statements}
-use Rattle.lit_search.specs.Interleaving.{Contents, after, after_statement}
+use Rattle.lit_search.proofs.Words.{after_statement, ap, AreStatementsIn, arith, Contents, length, List, statement_of, Statements, subst}
+use Rattle.lit_search.proofs.Words.{sym, ℕ, ◌∙◌}
+use Rattle.lit_search.specs.Interleaving.{after}
 use Rattle.lit_search.proofs.NextAccess.{after_from, after_next, size_less, size_of}
 use Rattle.lit_search.proofs.interleaving.runner.Runner.finish.Goals as goal
 

@@ -1,5 +1,4 @@
-use Rattle.std.proofs.Common.{◌≡◌, length}
-use Rattle.lit_read.specs.Syntax.{AreStatementsIn}
+use Rattle.lit_search.proofs.Words.{AreStatementsIn, length, ◌≡◌}
 use Rattle.lit_search.specs.Interleaving.{after}
 use Rattle.lit_search.proofs.NextAccess.{size_of}
 use Rattle.lit_search.proofs.interleaving.runner.Runner.finish.Given as goal

@@ -1,12 +1,5 @@
-use Rattle.std.proofs.Common.{◌≡◌, List, ◌∷◌, [], ◌++◌, ap, ◌∙◌}
-use Rattle.std.specs.Prelude.{replicate}
-use Rattle.std.specs.Borrow.{Bor}
-use Rattle.lit_read.specs.declared.limits.TheConstants.{REGISTERS}
-use Rattle.lit_read.specs.declared.syntax.Stmt.{Stmt}
-use Rattle.lit_read.specs.Litmus.{statements_of}
-use Rattle.lit_read.specs.Syntax.{Statements, End}
-use Rattle.lit_search.specs.Interleaving.{Progress}
-use Rattle.lit_search.specs.Internal.Runners.{joined_all}
+use Rattle.lit_search.proofs.Words.{◌++◌, [], ap, Bor, End, joined_all, List, Progress, REGISTERS, replicate, Statements, statements_of}
+use Rattle.lit_search.proofs.Words.{Stmt, ◌∙◌, ◌∷◌, ◌≡◌}
 use Rattle.lit_search.proofs.NextAccess.{joined_end}
 use Rattle.lit_search.proofs.interleaving.runner.Runner.new.Goals as goal
 

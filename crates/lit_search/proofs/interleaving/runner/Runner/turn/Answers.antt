@@ -1,4 +1,4 @@
-use Rattle.std.proofs.Common.{length}
+use Rattle.lit_search.proofs.Words.{length}
 use Rattle.lit_search.proofs.interleaving.runner.Runner.turn.Goals as goal
 
 pub carry_out-requires-clause-said : goal.carry_out-requires-clause-said
