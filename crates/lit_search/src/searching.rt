@@ -49,7 +49,7 @@ fn first_on(problem: &Problem<'_>, class: Class, from: u64, to: u64) -> Option<u
     for i in 0..boxes.len() {
         boxes.put(i, &mut domains);
         if let Some(least) = least(problem, &domains, Goal::OfClass(class)) {
-            return Some(number_of(problem, least.sources.as_slice()));
+            return Some(number_of(problem.combination(), least.sources.as_slice()));
         }
     }
     None

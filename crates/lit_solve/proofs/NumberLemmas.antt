@@ -1,10 +1,9 @@
 -- The number of the choice on a combination that has given sources.
-use Rattle.lit_solve.proofs.Words.{◌*◌, ◌+◌, ◌++◌, ◌<◌, [], ap, AreNumbered, AreRanks, AreSources, arith, byte_read_at, byte_reads}
-use Rattle.lit_solve.proofs.Words.{candidates_of, cases_lt, Choice, choices_before, common_steps, drop_all, drop_more, Event, events_in}
-use Rattle.lit_solve.proofs.Words.{get_or, get_or-set_other, get_or-set_same, HasSources, inl, inr, IsBegunBy, IsOfCombination, length}
-use Rattle.lit_solve.proofs.Words.{length-take-le, length_product, length_push, List, ListsCandidates, Litmus, map, mul-le-mul_right}
-use Rattle.lit_solve.proofs.Words.{NumbersChoices, same_Some, slice_get-get_or, slice_get_within, slice_set, Some, subst, suc, sym, take}
-use Rattle.lit_solve.proofs.Words.{take_all, take_more, ways_from, zero, ℕ, ◌∙◌, ◌∷◌, ◌≡◌, ◌≤◌}
+use Rattle.lit_solve.proofs.Words.{◌*◌, ◌+◌, ◌++◌, ◌<◌, [], ap, AreNumbered, AreSources, arith, byte_read_at, byte_reads, candidates_of}
+use Rattle.lit_solve.proofs.Words.{Choice, choices_before, common_steps, drop_all, drop_more, Event, events_in, get_or, HasSources}
+use Rattle.lit_solve.proofs.Words.{IsBegunBy, IsOfCombination, length, length-take-le, length_product, length_push, List, ListsCandidates}
+use Rattle.lit_solve.proofs.Words.{Litmus, map, mul-le-mul_right, NumbersChoices, same_Some, slice_get-get_or, slice_get_within, Some}
+use Rattle.lit_solve.proofs.Words.{subst, sym, take, take_all, take_more, ways_from, ℕ, ◌∙◌, ◌∷◌, ◌≡◌, ◌≤◌}
 use Rattle.std.proofs.Common.{slice_get}
 
 -- the choices on a combination that begin with these sources have the numbers from `low` on
@@ -110,35 +109,3 @@ pub candidate_listed : (events : List Event) (sources : List ℕ) (place : ℕ) 
 candidate_listed events sources place candidates are inside lists =
     lists.all (get_or sources place 0) (are.each place (byte_read_at events place).0 (byte_read_at events place).1 (get_or sources place 0)
     (slice_get-get_or (byte_reads events) place (0, 0) (omega (arith, inside, are.one_each))) (slice_get-get_or sources place 0 inside))
-
--- a rising list's members are at least their places
-module _ (candidates : List ℕ) (rising : (i j v w : ℕ) → i < j → slice_get candidates i ≡ Some v → slice_get candidates j ≡ Some w → v < w) where
-  pub rank_below : (k w : ℕ) → slice_get candidates k ≡ Some w → k ≤ w
-  rank_below zero w at = omega arith
-  rank_below (suc k) w at =
-      let before : slice_get candidates k ≡ Some (get_or candidates k 0) =
-      slice_get-get_or candidates k 0 (omega (arith, slice_get_within candidates (suc k) w at)) in
-      omega (arith, rank_below k (get_or candidates k 0) before, rising k (suc k) (get_or candidates k 0) w (omega arith) before at)
-
-  -- one rank more is in the table
-  pub ranks_more : (ranks : List ℕ) (rank event : ℕ) → slice_get candidates rank ≡ Some event → event < length ranks
-      → ((k w : ℕ) → k < rank → slice_get candidates k ≡ Some w → get_or ranks w 0 ≡ k)
-      → (k w : ℕ) → k < rank + 1 → slice_get candidates k ≡ Some w → get_or (slice_set ranks event rank) w 0 ≡ k
-  ranks_more ranks rank event here room before k w below at =
-      elim (cases_lt k rank) [
-        | inl earlier ↦ get_or-set_other ranks event w rank 0 (λ same. omega (arith, same, rising k rank w event earlier at here)) ∙ before k w earlier at
-        | inr not_earlier ↦
-            let last : k ≡ rank = omega (arith, below, not_earlier) in
-            let same : w ≡ event = same_Some w event (sym at ∙ ap (slice_get candidates) last ∙ here) in
-            ap (λ (e : ℕ). get_or (slice_set ranks event rank) e 0) same ∙ get_or-set_same ranks event rank 0 room ∙ sym last
-      ]
-
--- the rank of a source in the table is its place among the candidates
-pub rank_there : (events : List Event) (sources : List ℕ) (ranks : List (List ℕ)) (place : ℕ) (candidates : List ℕ) → AreSources events sources → AreRanks events ranks
-    → place < length sources → candidates ≡ candidates_of events (byte_read_at events place)
-    → ListsCandidates events (byte_read_at events place).0 (byte_read_at events place).1 candidates
-    → slice_get candidates (get_or (get_or ranks place []) (get_or sources place 0) 0) ≡ Some (get_or sources place 0)
-rank_there events sources ranks place candidates are ranked inside listed lists =
-    let there = candidate_listed events sources place candidates are inside lists in
-    let is = ranked place there.0 (get_or sources place 0) (omega (arith, inside, are.one_each)) (ap (λ (ws : List ℕ). slice_get ws there.0) (sym listed) ∙ there.1) in
-    ap (slice_get candidates) is ∙ there.1

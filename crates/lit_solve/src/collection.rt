@@ -91,7 +91,7 @@ impl Problem<'_> {
         ensures added { AddsEntries (box_with self.now _domains.now) (T.entries table.old) (T.entries table.new) }
         ensures whole { OnOk result (HasEachOutcome (box_with self.now _domains.now) (T.entries table.new)) }
     {
-        let choice = number_of(self, least.sources.as_slice());
+        let choice = number_of(&self.combination, least.sources.as_slice());
         table.record(outcome, choice, least.order)?;
         Ok(())
     }

@@ -13,10 +13,10 @@ use crate::domains::set_of;
 use crate::frame::Frame;
 use crate::goal::Goal;
 use crate::problem::Problem;
-use crate::stepping::Step;
+use crate::prospect::Prospect;
 
 impl Problem<'_> {
-    /// Whether a frame may have a solution, as far as one step shows. If `sure`, whether it has one, by a search.
+    /// Whether a frame may have a solution, as far as its domains show. If `sure`, whether it has one, by a search.
     fn is_promising(&self, frame: &Frame, goal: Goal, sure: bool) -> bool
         requires { IsSettled (box_of self.now frame.now) frame.now }
         ensures none { ¬ IsTrue result → ¬ HasSolution (box_of self.now frame.now) goal }
@@ -25,9 +25,9 @@ impl Problem<'_> {
         if sure {
             return self.exists(frame, goal);
         }
-        match self.step(frame, goal) {
-            Step::Refuted => false,
-            Step::Leaf | Step::Branched(_) => true,
+        match self.prospect(frame, goal) {
+            Prospect::Nothing => false,
+            Prospect::Each | Prospect::Open(_) => true,
         }
     }
 

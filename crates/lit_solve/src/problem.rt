@@ -10,8 +10,7 @@ ghost use Rattle.lit_solve.specs.Box.{events_on};
 use crate::boxes::candidates::candidates_of;
 use crate::domains::Domains;
 use crate::node_consistency::refused_among;
-use crate::numbering::{Ranks, ranks_of};
-use lit_paths::{BYTE_READ_LIMIT, ByteRead, Combination, EVENT_LIMIT, Event, Plan};
+use lit_paths::{BYTE_READ_LIMIT, ByteRead, Combination, Event, Plan};
 use lit_rel::laws::byte_reads_are_of_events;
 use lit_rel::{EventSet, Rows, peers_of};
 use std::marker::Model;
@@ -27,8 +26,6 @@ pub struct Problem<'p> {
     pub(crate) refused: Domains,
     /// The sequentially consistent writes that have the range of each event.
     pub(crate) peers: Rows,
-    /// The ranks of the candidates of each byte read.
-    pub(crate) ranks: [Ranks; BYTE_READ_LIMIT],
     /// The registers of an outcome, as agent and register.
     pub(crate) names: &'p [(u8, u8)],
 }
@@ -46,7 +43,7 @@ impl<'p> Model for Problem<'p> {
 
     ghost view = { λ p. p.combination };
 
-    ghost invariant = { λ p. IsProblem p.combination p.candidates p.refused p.peers p.ranks p.names.now };
+    ghost invariant = { λ p. IsProblem p.combination p.candidates p.refused p.peers p.names.now };
 }
 
 impl<'p> Problem<'p> {
@@ -61,19 +58,16 @@ impl<'p> Problem<'p> {
         let peers = peers_of(combination.events());
         let mut candidates = [EventSet::new(); BYTE_READ_LIMIT];
         let mut refused = [EventSet::new(); BYTE_READ_LIMIT];
-        let mut ranks = [[0; EVENT_LIMIT]; BYTE_READ_LIMIT];
         for place in 0..combination.byte_reads().len() {
             let all = candidates_of(&combination, place);
             candidates[place] = all;
             refused[place] = refused_among(&combination, place, all);
-            ranks[place] = ranks_of(combination.candidates(place));
         }
         Problem {
             combination,
             candidates,
             refused,
             peers,
-            ranks,
             names: plan.names(),
         }
     }

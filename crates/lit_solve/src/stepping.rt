@@ -40,7 +40,7 @@ pub(crate) enum Step {
 
 impl Problem<'_> {
     /// What a frame says of a goal before the search branches.
-    fn prospect(&self, frame: &Frame, goal: Goal) -> Prospect
+    pub(crate) fn prospect(&self, frame: &Frame, goal: Goal) -> Prospect
         requires { IsSettled (box_of self.now frame.now) frame.now }
         ensures { IsProspect (box_of self.now frame.now) goal result }
     {

@@ -78,13 +78,12 @@ fn assert_all(
 fn assert_numbers(rt: &impl Abort, plan: &Plan<'_>, wanted: &[&[u8]]) {
     // For the prover: the plan has a combination 0.
     let _combinations = plan.combinations();
-    let problem = Problem::open(plan, 0);
-    let combination = problem.combination();
+    let combination = plan.enter(0);
     assert_eq!(rt; combination.end(), wanted.len() as u64);
     for n in combination.first()..combination.end() {
         let sources = combination.sources(n);
         assert_eq!(rt; sources.as_slice(), wanted[n as usize], "choice {n}");
-        assert_eq!(rt; number_of(&problem, sources.as_slice()), n);
+        assert_eq!(rt; number_of(&combination, sources.as_slice()), n);
     }
 }
 

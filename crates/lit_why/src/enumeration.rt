@@ -46,9 +46,10 @@ fn attempt_of(problem: &Problem<'_>, sources: &[u8]) -> Attempt
     ensures on { IsOn problem.now.0 result.choice problem.now.1 sources.now }
     ensures many { HasSoMany problem.now.0 result.choice result.choices }
 {
+    let combination = problem.combination();
     Attempt {
-        choice: number_of(problem, sources),
-        choices: count_same_values(problem.combination(), sources),
+        choice: number_of(combination, sources),
+        choices: count_same_values(combination, sources),
     }
 }
 

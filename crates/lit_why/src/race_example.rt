@@ -34,7 +34,7 @@ fn first_race_on(plan: &Plan<'_>, combination: usize) -> Option<RaceExample>
     let Some(least) = least(&problem, &domains, Goal::Race) else {
         return None;
     };
-    let choice = number_of(problem, least.sources.as_slice());
+    let choice = number_of(problem.combination(), least.sources.as_slice());
     Some(RaceExample { choice, least })
 }
 

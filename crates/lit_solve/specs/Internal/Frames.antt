@@ -2,8 +2,8 @@
 use Rattle.std.specs.Prelude.{◌≡◌, ◌↔◌, ℕ, ◌<◌, ◌≤◌, List, [], Some, length, slice_get, slice_index_or}
 use Rattle.lit_read.specs.Syntax.{IsLitmus, Litmus}
 use Rattle.lit_paths.specs.declared.event.Event.{Event}
-use Rattle.lit_paths.specs.ByteReads.{byte_read_at, byte_reads, IsCandidate}
-use Rattle.lit_paths.specs.Choice.{candidates_of, combinations_of}
+use Rattle.lit_paths.specs.ByteReads.{byte_reads, IsCandidate}
+use Rattle.lit_paths.specs.Choice.{combinations_of}
 use Rattle.lit_paths.specs.declared.limits.TheConstants.{NAME_LIMIT}
 use Rattle.lit_paths.specs.Event.{event_at}
 use Rattle.lit_paths.specs.Outcome.{names_of}
@@ -63,21 +63,14 @@ AreRefused c domains =
     (k r b w : ℕ) → slice_get (byte_reads (events_on c)) k ≡ Some (r, b)
     → HasEvent (slice_index_or domains k no_events) w ↔ (IsCandidate (events_on c) r b w × IsRefusedOn c r b w)
 
--- the place of each candidate of a byte read in the list of them, by its event number
-abbrev pub AreRanks : List Event → List (List ℕ) → Type 0
-AreRanks events ranks =
-    (k i w : ℕ) → k < length (byte_reads events) → slice_get (candidates_of events (byte_read_at events k)) i ≡ Some w
-    → slice_index_or (slice_index_or ranks k []) w 0 ≡ i
-
 -- what a `Problem` saves of its combination
-pub record IsProblem (c : Litmus × ℕ) (candidates refused : List EventSet) (peers : Rows) (ranks : List (List ℕ)) (names : List (ℕ × ℕ)) : Type 0 where
+pub record IsProblem (c : Litmus × ℕ) (candidates refused : List EventSet) (peers : Rows) (names : List (ℕ × ℕ)) : Type 0 where
   pub litmus : IsLitmus c.0
   pub known : c.1 < length (combinations_of c.0)
   pub sound : AreEventsIn c.0.bytes (events_on c)
   pub all : AreCandidates (events_on c) candidates
   pub by_guards : AreRefused c refused
   pub same_range : ArePeers (events_on c) peers
-  pub ranked : AreRanks (events_on c) ranks
   pub named : names ≡ names_of c.0
   pub few_names : length names ≤ NAME_LIMIT
 

@@ -1,5 +1,7 @@
-use Rattle.lit_search.proofs.Words.{arith, box_with, HasNoneBefore, subst, ℕ}
+use Rattle.std.proofs.Common.{ℕ, subst, arith}
+use Rattle.lit_solve.specs.Box.{box_with}
 use Rattle.lit_solve.proofs.CompletionLemmas.{sourced}
+use Rattle.lit_search.specs.Internal.Boxed.{HasNoneBefore}
 use Rattle.lit_search.proofs.BoxedLemmas.{first_found, none_at_all, none_more, of_none}
 use Rattle.lit_search.proofs.searching.first_on.Goals as goal
 
@@ -10,16 +12,17 @@ pub number_of-requires : goal.number_of-requires
 number_of-requires c =
     let least = c.in-Some.ensures in
     let box = box_with c.args.problem.now c.put.new.domains in
-    rw (c.as_slice.ensures.value, ← least.same) (sourced box least.execution least.solves.completes)
+    rw (c.combination.ensures, c.as_slice.ensures.value, ← least.same) (sourced box least.execution least.solves.completes)
 
 pub returns-in-Some : goal.returns-in-Some
 returns-in-Some c =
+    let same = c.combination.ensures in
     let n = c.number_of.result in
     first_found c.laws_below.ensures c.args.problem.now c.args.from c.args.to c.boxes_of-boxes.result c.boxes_of-boxes.ensures
     c.loop-i.i (omega (arith, c.loop-i-test.true, c.len-i-end.ensures)) c.put.new.domains c.put.ensures.exact c.args.class
     n c.in-Some.least.sources.items c.in-Some.least.order.items c.loop-i.invariant c.in-Some.ensures
-    c.number_of.ensures.low c.number_of.ensures.high
-    (rw c.as_slice.ensures.value at c.number_of.ensures.has)
+    (rw same at c.number_of.ensures.low) (rw same at c.number_of.ensures.high)
+    (rw (same, c.as_slice.ensures.value) at c.number_of.ensures.has)
 
 pub loop-i-preserved : goal.loop-i-preserved
 loop-i-preserved c =

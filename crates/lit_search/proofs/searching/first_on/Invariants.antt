@@ -1,4 +1,4 @@
-use Rattle.lit_search.proofs.Words.{HasNoneBefore}
+use Rattle.lit_search.specs.Internal.Boxed.{HasNoneBefore}
 use Rattle.lit_search.proofs.searching.first_on.Given as goal
 
 abbrev pub invariant-loop-i : goal.invariant-loop-i

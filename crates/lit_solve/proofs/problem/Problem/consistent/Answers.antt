@@ -1,6 +1,9 @@
-use Rattle.lit_solve.proofs.Words.{◌<◌, arith, box_with, byte_read_at, byte_reads, common_steps, events_on, HasEvent, HasSource, inl, inr}
-use Rattle.lit_solve.proofs.Words.{IsProblem, IsPrunable, length, length-set, Litmus, subst, ℕ, ◌∙◌}
+use Rattle.lit_solve.proofs.Words.{◌<◌, arith, byte_read_at, byte_reads, common_steps, HasEvent, inl, inr, length, length-set, Litmus}
+use Rattle.lit_solve.proofs.Words.{subst, ℕ, ◌∙◌}
 use Rattle.lit_rel.proofs.SetLemmas.{event_or_not}
+use Rattle.lit_solve.specs.Box.{HasSource, box_with, events_on}
+use Rattle.lit_solve.specs.Prunable.{IsPrunable}
+use Rattle.lit_solve.specs.Internal.Frames.{IsProblem}
 use Rattle.lit_solve.proofs.DomainLemmas.{pruned_at, pruned_is_box, prunes, prunes_on}
 use Rattle.lit_solve.proofs.PruningLemmas.{read_here}
 use Rattle.lit_solve.proofs.problem.Problem.consistent.Goals as goal
@@ -16,8 +19,8 @@ loop-place-preserved c =
     let box = box_with c.args.self.now c.loop-place.left in
     let was = c.loop-place.invariant in
     let less = c.difference.result in
-    let is : IsProblem c.args.self.now c.self.inside.candidates c.self.inside.refused c.self.inside.peers c.self.inside.ranks c.self.inside.names.now =
-    subst (λ (p : Litmus × ℕ). IsProblem p c.self.inside.candidates c.self.inside.refused c.self.inside.peers c.self.inside.ranks c.self.inside.names.now) c.self.view_is c.self.invariant in
+    let is : IsProblem c.args.self.now c.self.inside.candidates c.self.inside.refused c.self.inside.peers c.self.inside.names.now =
+    subst (λ (p : Litmus × ℕ). IsProblem p c.self.inside.candidates c.self.inside.refused c.self.inside.peers c.self.inside.names.now) c.self.view_is c.self.invariant in
     let room : place < length box.domains = omega (arith, was.len, c.reads-place-end.ensures.few, c.loop-place-test.true) in
     let inside : place < length (byte_reads events) = omega (arith, c.reads-place-end.ensures.value, c.loop-place-test.true) in
     let read = byte_read_at events place in

@@ -1,6 +1,8 @@
-use Rattle.lit_solve.proofs.Words.{ap, arith, byte_read_at, byte_reads, common_steps, events_on, false≢true, HasEvent, Holds, IsCandidate}
-use Rattle.lit_solve.proofs.Words.{IsCoherentRead, IsProblem, IsTrue, Litmus, slice_get, Some, subst, sym, ℕ, ◌↔◌, ◌∙◌, ◌≡◌}
+use Rattle.lit_solve.proofs.Words.{ap, arith, byte_read_at, byte_reads, common_steps, false≢true, HasEvent, Holds, IsCandidate}
+use Rattle.lit_solve.proofs.Words.{IsCoherentRead, IsTrue, Litmus, slice_get, Some, subst, sym, ℕ, ◌↔◌, ◌∙◌, ◌≡◌}
 use Rattle.std.specs.Prelude.{Bool, true, false, not}
+use Rattle.lit_solve.specs.Box.{events_on}
+use Rattle.lit_solve.specs.Internal.Frames.{IsProblem}
 use Rattle.lit_solve.proofs.PruningLemmas.{coherent_if_none, none_if_coherent}
 use Rattle.lit_solve.proofs.problem.Problem.is_coherent.Goals as goal
 
@@ -10,8 +12,8 @@ returns-then-not-holds c =
     let order = c.args.frame.now.happens_before in
     let read = c.from-read.result in
     let byte = c.byte_read.result.byte in
-    let is : IsProblem c.args.self.now c.self.inside.candidates c.self.inside.refused c.self.inside.peers c.self.inside.ranks c.self.inside.names.now =
-    subst (λ (p : Litmus × ℕ). IsProblem p c.self.inside.candidates c.self.inside.refused c.self.inside.peers c.self.inside.ranks c.self.inside.names.now) c.self.view_is c.self.invariant in
+    let is : IsProblem c.args.self.now c.self.inside.candidates c.self.inside.refused c.self.inside.peers c.self.inside.names.now =
+    subst (λ (p : Litmus × ℕ). IsProblem p c.self.inside.candidates c.self.inside.refused c.self.inside.peers c.self.inside.names.now) c.self.view_is c.self.invariant in
     let at : slice_get (byte_reads events) c.args.place ≡ Some (read, byte) = c.byte_read.ensures.at
     ∙ ap (λ (r : ℕ). Some (r, byte)) (sym c.from-read.ensures) in
     let both : (v : ℕ) → HasEvent c.intersection.result v

@@ -1,16 +1,15 @@
-use Rattle.lit_solve.proofs.Words.{◌<◌, [], byte_read_at, BYTE_READ_LIMIT, byte_reads, candidates_of, events_on, HasEvent, IsCandidate}
-use Rattle.lit_solve.proofs.Words.{IsRefusedOn, length, no_events, slice_get, slice_index_or, Some, ℕ, ◌↔◌, ◌≡◌}
+use Rattle.lit_solve.proofs.Words.{◌<◌, BYTE_READ_LIMIT, byte_reads, HasEvent, IsCandidate, length, no_events, slice_get, slice_index_or}
+use Rattle.lit_solve.proofs.Words.{Some, ℕ, ◌↔◌, ◌≡◌}
+use Rattle.lit_solve.specs.Box.{events_on}
+use Rattle.lit_solve.specs.Prunable.{IsRefusedOn}
 use Rattle.lit_solve.proofs.problem.Problem.open.Given as goal
 
 abbrev pub invariant-loop-place : goal.invariant-loop-place
 invariant-loop-place l = record {
   len : length l.candidates ≡ BYTE_READ_LIMIT;
-  ranks_len : length l.ranks ≡ BYTE_READ_LIMIT;
   refused_len : length l.refused ≡ BYTE_READ_LIMIT;
   all : (k r b w : ℕ) → k < l.place → slice_get (byte_reads (events_on l.combination)) k ≡ Some (r, b)
       → HasEvent (slice_index_or l.candidates k no_events) w ↔ IsCandidate (events_on l.combination) r b w;
   refused : (k r b w : ℕ) → k < l.place → slice_get (byte_reads (events_on l.combination)) k ≡ Some (r, b)
       → HasEvent (slice_index_or l.refused k no_events) w ↔ (IsCandidate (events_on l.combination) r b w × IsRefusedOn l.combination r b w);
-  ranks : (k i w : ℕ) → k < l.place → slice_get (candidates_of (events_on l.combination) (byte_read_at (events_on l.combination) k)) i ≡ Some w
-      → slice_index_or (slice_index_or l.ranks k []) w 0 ≡ i;
 }
