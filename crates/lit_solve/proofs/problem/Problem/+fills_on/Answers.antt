@@ -13,9 +13,6 @@ returns-then-not-is_of t c =
     c.args.taken.bytes c.requires.room.place none in
     (λ h. end.1 (c.are_guards_true.ensures.0 h), λ h. c.are_guards_true.ensures.1 (end.0 h))
 
-pub fills_on-requires : goal.fills_on-requires
-fills_on-requires t c = grind (arith, common_steps, c.if-not-is_of.ensures.of)
-
 pub take-requires-clause-source : goal.take-requires-clause-source
 take-requires-clause-source t c =
     let events = events_on c.args.self.now in
