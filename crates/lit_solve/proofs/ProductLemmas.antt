@@ -1,9 +1,9 @@
 -- Outcomes as a product: an observed read given one of its values, and what becomes of outcomes, of the other reads and of values.
 use Rattle.lit_solve.proofs.Words.{◌+◌, ◌<◌, [], AddsEntries, ap, AreOpenReads, AreValuesBeside, arith, Box, box_events, box_with}
 use Rattle.lit_solve.proofs.Words.{byte_reads, cases_eq, Entry, Event, EventSet, Execution, execution_outcome, Filling, FillsRead, get_or}
-use Rattle.lit_solve.proofs.Words.{get_or-map, GivesReads, HasEachOutcome, HasEvent, HasLeastOrderIn, HasOutcome, inl, inr, IsCompletion}
+use Rattle.lit_solve.proofs.Words.{get_or-map, HasEachOutcome, HasEvent, HasOutcome, inl, inr, IsCompletion}
 use Rattle.lit_solve.proofs.Words.{IsIndependent, IsLeastEntry, IsLeastFilling, IsListed, IsNotGreaterOn, IsOpenRead, IsValueBeside, Laws}
-use Rattle.lit_solve.proofs.Words.{length, Less, LieOn, List, map, names_of, nat_cmp, None, none-some, observed_read, observed_value}
+use Rattle.lit_solve.proofs.Words.{length, Less, List, map, names_of, nat_cmp, None, none-some, observed_read, observed_value}
 use Rattle.lit_solve.proofs.Words.{Observes, OpenRead, Option, part_with, refl, same_number_lists, same_Some, slice_cmp, slice_get}
 use Rattle.lit_solve.proofs.Words.{slice_get-get_or, slice_get_within, Some, subst, suc, sym, value_of, zero, ℕ, ◌↔◌, ◌∙◌, ◌∷◌, ◌≡◌, ◌≢◌}
 use Rattle.lit_solve.proofs.Words.{◌≤◌, ◌⊎◌}
@@ -13,7 +13,6 @@ use Rattle.lit_solve.proofs.CompletionLemmas.{sourced}
 use Rattle.lit_solve.proofs.EntryLemmas.{adds_out, adds_stays}
 use Rattle.lit_solve.proofs.FillLemmas.{sources_lie}
 use Rattle.lit_solve.proofs.GivenReadLemmas.{IsGiving, completes_out, least_out, moved_base, moved_to, outcome_found, own_same}
-use Rattle.lit_solve.proofs.LeafLemmas.{IsFilledReadByRead}
 use Rattle.lit_solve.proofs.ObservationLemmas.{length_outcome, observed_in, outcome_is}
 use Rattle.lit_solve.proofs.ReadValuesLemmas.{fills_own, least_not_greater}
 use Rattle.lit_solve.proofs.TogetherLemmas.{AgreeOn, value_agrees}

@@ -1,4 +1,4 @@
-use Rattle.lit_solve.proofs.Words.{◌<◌, AddsFillings, ap, box_with, events_on, Filling, HasEvent, HasValue, List, no_events, refl, size_of}
+use Rattle.lit_solve.proofs.Words.{◌<◌, AddsFillings, ap, box_with, events_on, Filling, HasValue, List, no_events, refl, size_of}
 use Rattle.lit_solve.proofs.Words.{slice_index_or, subst, sym, value_of, ℕ}
 use Rattle.lit_solve.proofs.FillLemmas.{sources_lie}
 use Rattle.lit_solve.proofs.ObservedLemmas.{IsSeenBy, all_seen_by, same_stores_among, seen_more, some_differ}

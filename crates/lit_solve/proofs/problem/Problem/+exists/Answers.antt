@@ -1,4 +1,4 @@
-use Rattle.lit_solve.proofs.Words.{◌<◌, arith, box_of, Execution, HasEvent, IsSolution, size_of, subst, sym, TakesFrom, ℕ}
+use Rattle.lit_solve.proofs.Words.{◌<◌, arith, box_of, Execution, IsSolution, size_of, subst, TakesFrom, ℕ}
 use Rattle.lit_solve.proofs.FrameLemmas.{not_true}
 use Rattle.lit_solve.proofs.PruningLemmas.{source_known}
 use Rattle.lit_solve.proofs.SearchingLemmas.{left_less, left_over, not_all, solution_in, solution_out, takes_some}

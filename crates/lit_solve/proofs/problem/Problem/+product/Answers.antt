@@ -1,5 +1,5 @@
-use Rattle.lit_solve.proofs.Words.{◌<◌, [], ap, AreOpenReads, AreValuesBeside, arith, box_with, ChangesListed, Filling, get_or}
-use Rattle.lit_solve.proofs.Words.{HasEvent, inr, length, IsOpenRead, List, OpenRead, refl, slice_get, slice_get-get_or, Some, subst, sym, ℕ, ◌↔◌, ◌∙◌}
+use Rattle.lit_solve.proofs.Words.{◌<◌, [], ap, AreOpenReads, AreValuesBeside, arith, box_with, ChangesListed, Filling}
+use Rattle.lit_solve.proofs.Words.{HasEvent, inr, length, IsOpenRead, List, OpenRead, refl, slice_get-get_or, Some, subst, sym, ℕ, ◌↔◌, ◌∙◌}
 use Rattle.lit_solve.proofs.Words.{◌∷◌, ◌≡◌}
 use Rattle.lit_solve.proofs.EntryLemmas.{adds_more, adds_none}
 use Rattle.lit_solve.proofs.GivenReadLemmas.{IsGiving, given_independent, given_order}

@@ -1,4 +1,4 @@
-use Rattle.lit_solve.proofs.Words.{◌<◌, ap, arith, box_with, CanFill, common_steps, events_on, length, not, refl, subst, ℕ}
+use Rattle.lit_solve.proofs.Words.{◌<◌, ap, arith, box_with, CanFill, events_on, length, not, refl, subst, ℕ}
 use Rattle.lit_solve.proofs.DomainLemmas.{pruned_at, pruned_is_box, none_at, none_empty_at, size_less}
 use Rattle.lit_solve.proofs.FrameLemmas.{not_true}
 use Rattle.lit_solve.proofs.IndependentLemmas.{independent_part, order_of_part}

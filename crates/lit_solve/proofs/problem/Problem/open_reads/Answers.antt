@@ -1,5 +1,5 @@
 use Rattle.lit_solve.proofs.Words.{◌+◌, ◌<◌, ap, AreOpenReads, arith, box_with, get_or, inl, inr, IsListed, IsValueBeside, length, List}
-use Rattle.lit_solve.proofs.Words.{Litmus, names_of, None, Observes, OpenRead, Option, refl, Some, subst, sym, ℕ, ◌∙◌, ◌≡◌, ◌≢◌}
+use Rattle.lit_solve.proofs.Words.{Litmus, names_of, None, OpenRead, Option, refl, Some, subst, sym, ℕ, ◌∙◌, ◌≡◌, ◌≢◌}
 use Rattle.lit_solve.proofs.FillLemmas.{sources_lie}
 use Rattle.lit_solve.proofs.OpenReadLemmas.{register_reads, values_more}
 use Rattle.lit_solve.proofs.ProductLemmas.{outcome_at, outcome_unobserved}

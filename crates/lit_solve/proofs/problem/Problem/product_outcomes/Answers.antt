@@ -1,9 +1,9 @@
-use Rattle.lit_solve.proofs.Words.{◌<◌, [], ap, AreOpenReads, AreValuesBeside, arith, Box, box_events, box_with, byte_reads}
-use Rattle.lit_solve.proofs.Words.{Execution, FillsRead, IsListed, length, List}
-use Rattle.lit_solve.proofs.Words.{OpenRead, refl, subst, sym, ℕ, ◌∙◌, ◌∷◌, ◌≡◌}
+use Rattle.lit_solve.proofs.Words.{◌<◌, AreOpenReads, AreValuesBeside, box_events, box_with, byte_reads}
+use Rattle.lit_solve.proofs.Words.{FillsRead, IsListed, length, List}
+use Rattle.lit_solve.proofs.Words.{OpenRead, subst, sym, ℕ, ◌≡◌}
 use Rattle.std.proofs.lemmas.Result.{on_ok_weaker}
 use Rattle.lit_solve.proofs.CompletionLemmas.{sourced}
-use Rattle.lit_solve.proofs.GivenReadLemmas.{IsGiving, given_independent, given_order}
+use Rattle.lit_solve.proofs.GivenReadLemmas.{given_independent, given_order}
 use Rattle.lit_solve.proofs.ProductLemmas.{IsGivingBeside, entries_beside, outcomes_beside, reads_beside, values_beside_in}
 use Rattle.lit_solve.proofs.ReadValuesLemmas.{fills_own}
 use Rattle.lit_solve.proofs.problem.Problem.product_outcomes.Goals as goal
