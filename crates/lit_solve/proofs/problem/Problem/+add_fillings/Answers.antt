@@ -24,14 +24,14 @@ returns-in-One-clause-whole t c x is =
     (value_of (events_on c.args.self.now) x.sources c.args.read) c.in_ok-push-in-One.ensures.items
     (sym (c.in-One.ensures x.sources (sources_lie box x is)))
 
-pub storing_same-group-requires-clause-source : goal.storing_same-group-requires-clause-source
-storing_same-group-requires-clause-source t c =
-    source_known (box_with c.args.self.now c.args.domains.now) c.requires.independent.is_box c.in-Open.place c.in-Some.source c.in-Open.ensures.0
-    (c.loop-source.invariant.within c.in-Some.source c.in-Some.ensures.there)
-
-pub storing_same-group-requires-clause-known : goal.storing_same-group-requires-clause-known
-storing_same-group-requires-clause-known t c w there =
-    source_known (box_with c.args.self.now c.args.domains.now) c.requires.independent.is_box c.in-Open.place w c.in-Open.ensures.0 there
+pub storing_same-group-requires : goal.storing_same-group-requires
+storing_same-group-requires t c =
+    let known = λ (w : ℕ). source_known (box_with c.args.self.now c.args.domains.now) c.requires.independent.is_box c.in-Open.place w c.in-Open.ensures.0 in
+    record {
+      place = c.in-Open.ensures.0;
+      source = known c.in-Some.source (c.loop-source.invariant.within c.in-Some.source c.in-Some.ensures.there);
+      known = known;
+    }
 
 pub add_fillings-requires : goal.add_fillings-requires
 add_fillings-requires t c =

@@ -14,15 +14,15 @@ loop-source-init g t c = record {
   seen = λ x is. inr (λ w source. (c.sources_left-all.ensures w).1 (is.within c.in-Some.place w source));
 }
 
-pub storing_same-group-requires-clause-source : goal.storing_same-group-requires-clause-source
-storing_same-group-requires-clause-source g t c =
-    source_known (box_of c.args.self.now c.args.frame.now) c.requires.settled.exact.contained.is_box c.in-Some.place c.in-Some-split_first.source c.in-Some.ensures.observed.0
-    (c.loop-source.invariant.within c.in-Some-split_first.source c.in-Some-split_first.ensures.there)
-
-pub storing_same-group-requires-clause-known : goal.storing_same-group-requires-clause-known
-storing_same-group-requires-clause-known g t c w there =
-    source_known (box_of c.args.self.now c.args.frame.now) c.requires.settled.exact.contained.is_box c.in-Some.place w c.in-Some.ensures.observed.0
-    ((c.sources_left-all.ensures w).0 there)
+pub storing_same-group-requires : goal.storing_same-group-requires
+storing_same-group-requires g t c =
+    let box = box_of c.args.self.now c.args.frame.now in
+    let known = λ (w : ℕ). source_known box c.requires.settled.exact.contained.is_box c.in-Some.place w c.in-Some.ensures.observed.0 in
+    record {
+      place = c.in-Some.ensures.observed.0;
+      source = known c.in-Some-split_first.source (c.loop-source.invariant.within c.in-Some-split_first.source c.in-Some-split_first.ensures.there);
+      known = λ w there. known w ((c.sources_left-all.ensures w).0 there);
+    }
 
 pub outcomes-requires : goal.outcomes-requires
 outcomes-requires g t c κs within =
