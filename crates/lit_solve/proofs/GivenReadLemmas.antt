@@ -16,13 +16,26 @@ use Rattle.lit_solve.proofs.LexLemmas.{not_less_on}
 use Rattle.lit_solve.proofs.PruningLemmas.{read_here}
 use Rattle.lit_solve.proofs.TogetherLemmas.{AgreeOn, joined, joined_base, joined_fill, joined_lie, joined_own, on_read}
 
-module _ (box : Box) (of_events : AreOfEvents (box_events box)) (given : EventSet) (sources : List ℕ)
-    (fills : (r : ℕ) → HasEvent given r → FillsRead box r sources) where
+-- some reads of a box with independent reads given sources that fill them
+pub record IsGiving (box : Box) (given : EventSet) (sources : List ℕ) (domains : List EventSet) : Type 0 where
+  pub laws : Laws
+  pub law : (b : Box) → IsFilledReadByRead b
+  pub is : IsIndependent box
+  pub fills : (r : ℕ) → HasEvent given r → FillsRead box r sources
+  pub gives : GivesReads box given sources (box_with (box.test, box.combination) domains)
+
+module _ {box : Box} {given : EventSet} {sources : List ℕ} {domains : List EventSet} (g : IsGiving box given sources domains) where
   abbrev events : List Event
   events = box_events box
 
+  abbrev of_events : AreOfEvents (box_events box)
+  of_events = g.laws.of_events (box_events box)
+
+  abbrev new : Box
+  new = box_with (box.test, box.combination) domains
+
   pub own_lie : (r : ℕ) → HasEvent given r → LieOn box r sources
-  own_lie r is_given = (fills r is_given).lie
+  own_lie r is_given = (g.fills r is_given).lie
 
   -- ---- the given reads with these sources, and the others with their own
   module _ (base : List ℕ) (lie : AreSourcesIn box base) where
@@ -45,165 +58,159 @@ module _ (box : Box) (of_events : AreOfEvents (box_events box)) (given : EventSe
 
     pub moved_fill : ((r : ℕ) → r < length events → IsFilled box r base) → (r : ℕ) → r < length events → IsFilled box r moved
     moved_fill filled =
-        joined_fill box of_events (HasEvent given) (event_or_not given) sources base own_lie base_lie (λ r is. (fills r is).filled)
+        joined_fill box of_events (HasEvent given) (event_or_not given) sources base own_lie base_lie (λ r is. (g.fills r is).filled)
         (λ r known other. filled r known)
 
     -- ---- in the box within
-    module _ (domains : List EventSet) (gives : GivesReads box given sources (box_with (box.test, box.combination) domains)) where
-      pub moved_in : AreSourcesIn (box_with (box.test, box.combination) domains) moved
-      moved_in = record { sourced = moved_lie.sourced; within = lies }
-        where
-          lies : (k w : ℕ) → slice_get moved k ≡ Some w → HasSource (box_with (box.test, box.combination) domains) k w
-          lies k w at = elim (event_or_not given (byte_read_at events k).0) [
-            | inl there ↦
-                (let own : slice_get sources k ≡ Some w = sym (moved_own (byte_read_at events k).0 there k (byte_read_at events k).1 read) ∙ at in
-                subst (λ (v : ℕ). HasSource (box_with (box.test, box.combination) domains) k v) (get_or_from_slice_get sources k w 0 own)
-                (gives.own k (byte_read_at events k).0 (byte_read_at events k).1 read there).there)
-            | inr other ↦ gives.others k (byte_read_at events k).0 (byte_read_at events k).1 w read other (moved_lie.within k w at)
-          ]
-            where
-              inside : k < length (byte_reads events)
-              inside = omega (arith, moved_lie.sourced.one_each, slice_get_within moved k w at)
+    pub moved_in : AreSourcesIn new moved
+    moved_in = record { sourced = moved_lie.sourced; within = lies }
+      where
+        lies : (k w : ℕ) → slice_get moved k ≡ Some w → HasSource new k w
+        lies k w at = elim (event_or_not given (byte_read_at events k).0) [
+          | inl there ↦
+              (let own : slice_get sources k ≡ Some w = sym (moved_own (byte_read_at events k).0 there k (byte_read_at events k).1 read) ∙ at in
+              subst (λ (v : ℕ). HasSource new k v) (get_or_from_slice_get sources k w 0 own)
+              (g.gives.own k (byte_read_at events k).0 (byte_read_at events k).1 read there).there)
+          | inr other ↦ g.gives.others k (byte_read_at events k).0 (byte_read_at events k).1 w read other (moved_lie.within k w at)
+        ]
+          where
+            inside : k < length (byte_reads events)
+            inside = omega (arith, moved_lie.sourced.one_each, slice_get_within moved k w at)
 
-              read : slice_get (byte_reads events) k ≡ Some ((byte_read_at events k).0, (byte_read_at events k).1)
-              read = read_here events k inside
+            read : slice_get (byte_reads events) k ≡ Some ((byte_read_at events k).0, (byte_read_at events k).1)
+            read = read_here events k inside
 
   -- ---- the box within
-  module _ (is : IsIndependent box) (domains : List EventSet) (gives : GivesReads box given sources (box_with (box.test, box.combination) domains)) where
-    abbrev new : Box
-    new = box_with (box.test, box.combination) domains
+  some_each : ¬ HasEmptyDomain new
+  some_each (k, inside, none) = elim (event_or_not given (byte_read_at events k).0) [
+    | inl there ↦ none (get_or sources k 0) (g.gives.own k (byte_read_at events k).0 (byte_read_at events k).1 (read_here events k inside) there).there
+    | inr other ↦ g.is.some (
+      k,
+      inside,
+      λ w there. none w (g.gives.others k (byte_read_at events k).0 (byte_read_at events k).1 w (read_here events k inside) other there),
+    )
+  ]
 
-    some_each : ¬ HasEmptyDomain new
-    some_each (k, inside, none) = elim (event_or_not given (byte_read_at events k).0) [
-      | inl there ↦ none (get_or sources k 0) (gives.own k (byte_read_at events k).0 (byte_read_at events k).1 (read_here events k inside) there).there
-      | inr other ↦ is.some (
-        k,
-        inside,
-        λ w there. none w (gives.others k (byte_read_at events k).0 (byte_read_at events k).1 w (read_here events k inside) other there),
-      )
-    ]
+  all_fills : FillsAll new
+  all_fills = record {
+    sources = moved g.is.filled.sources g.is.filled.lie;
+    lie = moved_in g.is.filled.sources g.is.filled.lie;
+    each = λ r known.
+        let filled = moved_fill g.is.filled.sources g.is.filled.lie g.is.filled.each r known in
+        record { tear_free = filled.tear_free; guards = filled.guards };
+  }
 
-    all_fills : FillsAll new
-    all_fills = record {
-      sources = moved is.filled.sources is.filled.lie;
-      lie = moved_in is.filled.sources is.filled.lie domains gives;
-      each = λ r known.
-          let filled = moved_fill is.filled.sources is.filled.lie is.filled.each r known in
-          record { tear_free = filled.tear_free; guards = filled.guards };
-    }
+  pub given_independent : IsIndependent new
+  given_independent = independent_within box g.is domains g.gives.within some_each all_fills
 
-    pub given_independent : IsIndependent new
-    given_independent = independent_within box is domains gives.within some_each all_fills
+  pub given_order : (order : List ℕ) → HasLeastOrderIn box order → HasLeastOrderIn new order
+  given_order = order_within box g.is domains g.gives.within some_each all_fills
 
-    pub given_order : (order : List ℕ) → HasLeastOrderIn box order → HasLeastOrderIn new order
-    given_order = order_within box is domains gives.within some_each all_fills
+  -- ---- completions
+  module _ (y : Execution) (completes : IsCompletion box y) where
+    abbrev pub moved_from : List ℕ
+    moved_from = moved y.sources (sources_lie box y completes)
 
-    -- ---- completions
-    module _ (laws : Laws) (law : (b : Box) → IsFilledReadByRead b) where
-      module _ (y : Execution) (completes : IsCompletion box y) where
-        abbrev pub moved_from : List ℕ
-        moved_from = moved y.sources (sources_lie box y completes)
+    -- a completion of the box, with these sources for the given reads
+    pub moved_to : (x : Execution) × IsCompletion new x × (x.sources ≡ moved_from)
+    moved_to =
+        completes_with new given_independent (g.law new) moved_from (moved_in y.sources (sources_lie box y completes))
+        (λ r known.
+        let filled = moved_fill y.sources (sources_lie box y completes) (λ q below. filled_by box y completes g.laws g.is.is_box q) r known in
+        record { tear_free = filled.tear_free; guards = filled.guards })
 
-        -- a completion of the box, with these sources for the given reads
-        pub moved_to : (x : Execution) × IsCompletion new x × (x.sources ≡ moved_from)
-        moved_to =
-            completes_with new given_independent (law new) moved_from (moved_in y.sources (sources_lie box y completes) domains gives)
-            (λ r known.
-            let filled = moved_fill y.sources (sources_lie box y completes) (λ q below. filled_by box y completes laws is.is_box q) r known in
-            record { tear_free = filled.tear_free; guards = filled.guards })
+  -- a completion of the box within is one of the box, and has these sources for the given reads
+  pub completes_out : (x : Execution) → IsCompletion new x → IsCompletion box x
+  completes_out x completes = record {
+    valid = completes.valid;
+    on_paths = completes.on_paths;
+    within = λ k w at. g.gives.within.domains k w (completes.within k w at);
+  }
 
-      -- a completion of the box within is one of the box, and has these sources for the given reads
-      pub completes_out : (x : Execution) → IsCompletion new x → IsCompletion box x
-      completes_out x completes = record {
-        valid = completes.valid;
-        on_paths = completes.on_paths;
-        within = λ k w at. gives.within.domains k w (completes.within k w at);
-      }
+  pub own_same : (x : Execution) → IsCompletion new x → (k r b : ℕ) → slice_get (byte_reads events) k ≡ Some (r, b) → HasEvent given r
+      → get_or x.sources k 0 ≡ get_or sources k 0
+  own_same x completes k r b at is_given =
+      let long = (sourced box x (completes_out x completes)).one_each in
+      let inside : k < length x.sources = omega (arith, long, slice_get_within (byte_reads events) k (r, b) at) in
+      (g.gives.own k r b at is_given).alone (get_or x.sources k 0)
+      (completes.within k (get_or x.sources k 0) (slice_get-get_or x.sources k 0 inside))
 
-      pub own_same : (x : Execution) → IsCompletion new x → (k r b : ℕ) → slice_get (byte_reads events) k ≡ Some (r, b) → HasEvent given r
-          → get_or x.sources k 0 ≡ get_or sources k 0
-      own_same x completes k r b at is_given =
-          let long = (sourced box x (completes_out x completes)).one_each in
-          let inside : k < length x.sources = omega (arith, long, slice_get_within (byte_reads events) k (r, b) at) in
-          (gives.own k r b at is_given).alone (get_or x.sources k 0)
-          (completes.within k (get_or x.sources k 0) (slice_get-get_or x.sources k 0 inside))
-
-      -- the completions that have an outcome are no less than the least of them in the box within
-      pub least_out : (entry : Entry) → IsLeastEntry new entry
-          → ((y : Execution) (completes : IsCompletion box y) → execution_outcome box.test y ≡ entry.outcome
-          → ((r : ℕ) → HasEvent given r → IsNotGreaterOn events r sources y.sources)
-          × (execution_outcome box.test (moved_to y completes).0 ≡ entry.outcome))
-          → IsLeastEntry box entry
-      least_out entry least fits = record {
-        execution = least.execution;
-        completes = completes_out least.execution least.completes;
-        outcome = least.outcome;
-        from = least.from;
-        to = least.to;
-        chosen = least.chosen;
-        least = not_less;
-        ordered = least.ordered;
-      }
+  -- the completions that have an outcome are no less than the least of them in the box within
+  pub least_out : (entry : Entry) → IsLeastEntry new entry
+      → ((y : Execution) (completes : IsCompletion box y) → execution_outcome box.test y ≡ entry.outcome
+      → ((r : ℕ) → HasEvent given r → IsNotGreaterOn events r sources y.sources)
+      × (execution_outcome box.test (moved_to y completes).0 ≡ entry.outcome))
+      → IsLeastEntry box entry
+  least_out entry least fits = record {
+    execution = least.execution;
+    completes = completes_out least.execution least.completes;
+    outcome = least.outcome;
+    from = least.from;
+    to = least.to;
+    chosen = least.chosen;
+    least = not_less;
+    ordered = least.ordered;
+  }
+    where
+      not_less : (y : Execution) → IsCompletion box y → execution_outcome box.test y ≡ entry.outcome
+          → slice_cmp nat_cmp y.sources least.execution.sources ≢ Less
+      not_less y completes its = by (moved_to y completes) (fits y completes its)
         where
-          not_less : (y : Execution) → IsCompletion box y → execution_outcome box.test y ≡ entry.outcome
+          long_y : length y.sources ≡ length (byte_reads events)
+          long_y = (sourced box y completes).one_each
+
+          is_given : (k : ℕ) → HasEvent given (byte_read_at events k).0 ⊎ ¬ HasEvent given (byte_read_at events k).0
+          is_given k = event_or_not given (byte_read_at events k).0
+
+          here : (k : ℕ) → k < length y.sources → slice_get (byte_reads events) k ≡ Some ((byte_read_at events k).0, (byte_read_at events k).1)
+          here k below = read_here events k (omega (arith, below, long_y))
+
+          by : (z : (x : Execution) × IsCompletion new x × (x.sources ≡ moved_from y completes))
+              → ((r : ℕ) → HasEvent given r → IsNotGreaterOn events r sources y.sources) × (execution_outcome box.test z.0 ≡ entry.outcome)
               → slice_cmp nat_cmp y.sources least.execution.sources ≢ Less
-          not_less y completes its = by (moved_to y completes) (fits y completes its)
+          by z fit =
+              not_less_on (λ k. HasEvent given (byte_read_at events k).0) is_given least.execution.sources y.sources z.0.sources
+              (long_of least.execution least.completes ∙ sym long_y) (long_of z.0 z.1 ∙ sym long_y)
+              (λ k below there.
+              own_same z.0 z.1 k (byte_read_at events k).0 (byte_read_at events k).1 (here k below) there
+              ∙ sym (own_same least.execution least.completes k (byte_read_at events k).0 (byte_read_at events k).1 (here k below) there))
+              (λ k below other. other_same k below other)
+              (λ k below there before. not_greater k below there before)
+              (least.least z.0 z.1 fit.1)
             where
-              long_y : length y.sources ≡ length (byte_reads events)
-              long_y = (sourced box y completes).one_each
+              long_of : (x : Execution) → IsCompletion new x → length x.sources ≡ length (byte_reads events)
+              long_of x is_x = (sourced box x (completes_out x is_x)).one_each
 
-              is_given : (k : ℕ) → HasEvent given (byte_read_at events k).0 ⊎ ¬ HasEvent given (byte_read_at events k).0
-              is_given k = event_or_not given (byte_read_at events k).0
+              other_same : (k : ℕ) → k < length y.sources → ¬ HasEvent given (byte_read_at events k).0 → get_or z.0.sources k 0 ≡ get_or y.sources k 0
+              other_same k below other =
+                  let agree : slice_get z.0.sources k ≡ slice_get y.sources k =
+                  ap (λ (s : List ℕ). slice_get s k) z.2
+                  ∙ moved_base y.sources (sources_lie box y completes) (byte_read_at events k).0 other k (byte_read_at events k).1 (here k below) in
+                  get_or_from_slice_get z.0.sources k (get_or y.sources k 0) 0 (agree ∙ slice_get-get_or y.sources k 0 below)
 
-              here : (k : ℕ) → k < length y.sources → slice_get (byte_reads events) k ≡ Some ((byte_read_at events k).0, (byte_read_at events k).1)
-              here k below = read_here events k (omega (arith, below, long_y))
-
-              by : (z : (x : Execution) × IsCompletion new x × (x.sources ≡ moved_from y completes))
-                  → ((r : ℕ) → HasEvent given r → IsNotGreaterOn events r sources y.sources) × (execution_outcome box.test z.0 ≡ entry.outcome)
-                  → slice_cmp nat_cmp y.sources least.execution.sources ≢ Less
-              by z fit =
-                  not_less_on (λ k. HasEvent given (byte_read_at events k).0) is_given least.execution.sources y.sources z.0.sources
-                  (long_of least.execution least.completes ∙ sym long_y) (long_of z.0 z.1 ∙ sym long_y)
-                  (λ k below there.
-                  own_same z.0 z.1 k (byte_read_at events k).0 (byte_read_at events k).1 (here k below) there
-                  ∙ sym (own_same least.execution least.completes k (byte_read_at events k).0 (byte_read_at events k).1 (here k below) there))
-                  (λ k below other. other_same k below other)
-                  (λ k below there before. not_greater k below there before)
-                  (least.least z.0 z.1 fit.1)
+              not_greater : (k : ℕ) → k < length y.sources → HasEvent given (byte_read_at events k).0
+                  → ((j : ℕ) → j < k → HasEvent given (byte_read_at events j).0 → get_or y.sources j 0 ≡ get_or least.execution.sources j 0)
+                  → get_or least.execution.sources k 0 ≤ get_or y.sources k 0
+              not_greater k below there before =
+                  let own = own_same least.execution least.completes k (byte_read_at events k).0 (byte_read_at events k).1 (here k below) there in
+                  let less = fit.0 (byte_read_at events k).0 there k (byte_read_at events k).1 (here k below) earlier in
+                  omega (arith, own, less)
                 where
-                  long_of : (x : Execution) → IsCompletion new x → length x.sources ≡ length (byte_reads events)
-                  long_of x is_x = (sourced box x (completes_out x is_x)).one_each
+                  earlier : (j d : ℕ) → j < k → slice_get (byte_reads events) j ≡ Some ((byte_read_at events k).0, d)
+                      → get_or y.sources j 0 ≡ get_or sources j 0
+                  earlier j d less at =
+                      let is_its : (byte_read_at events j) ≡ ((byte_read_at events k).0, d) =
+                      get_or_from_slice_get (byte_reads events) j ((byte_read_at events k).0, d) (0, 0) at in
+                      let is_there : HasEvent given (byte_read_at events j).0 =
+                      subst (λ (p : ℕ × ℕ). HasEvent given p.0) (sym is_its) there in
+                      before j less is_there
+                      ∙ own_same least.execution least.completes j (byte_read_at events k).0 d at there
 
-                  other_same : (k : ℕ) → k < length y.sources → ¬ HasEvent given (byte_read_at events k).0 → get_or z.0.sources k 0 ≡ get_or y.sources k 0
-                  other_same k below other =
-                      let agree : slice_get z.0.sources k ≡ slice_get y.sources k =
-                      ap (λ (s : List ℕ). slice_get s k) z.2
-                      ∙ moved_base y.sources (sources_lie box y completes) (byte_read_at events k).0 other k (byte_read_at events k).1 (here k below) in
-                      get_or_from_slice_get z.0.sources k (get_or y.sources k 0) 0 (agree ∙ slice_get-get_or y.sources k 0 below)
-
-                  not_greater : (k : ℕ) → k < length y.sources → HasEvent given (byte_read_at events k).0
-                      → ((j : ℕ) → j < k → HasEvent given (byte_read_at events j).0 → get_or y.sources j 0 ≡ get_or least.execution.sources j 0)
-                      → get_or least.execution.sources k 0 ≤ get_or y.sources k 0
-                  not_greater k below there before =
-                      let own = own_same least.execution least.completes k (byte_read_at events k).0 (byte_read_at events k).1 (here k below) there in
-                      let less = fit.0 (byte_read_at events k).0 there k (byte_read_at events k).1 (here k below) earlier in
-                      omega (arith, own, less)
-                    where
-                      earlier : (j d : ℕ) → j < k → slice_get (byte_reads events) j ≡ Some ((byte_read_at events k).0, d)
-                          → get_or y.sources j 0 ≡ get_or sources j 0
-                      earlier j d less at =
-                          let is_its : (byte_read_at events j) ≡ ((byte_read_at events k).0, d) =
-                          get_or_from_slice_get (byte_reads events) j ((byte_read_at events k).0, d) (0, 0) at in
-                          let is_there : HasEvent given (byte_read_at events j).0 =
-                          subst (λ (p : ℕ × ℕ). HasEvent given p.0) (sym is_its) there in
-                          before j less is_there
-                          ∙ own_same least.execution least.completes j (byte_read_at events k).0 d at there
-
-      -- an outcome found in the box within
-      pub outcome_found : (entries : List Entry) → HasEachOutcome new entries → (y : Execution) (completes : IsCompletion box y)
-          → execution_outcome box.test (moved_to y completes).0 ≡ execution_outcome box.test y → HasOutcome entries (execution_outcome box.test y)
-      outcome_found entries whole y completes same =
-          subst (HasOutcome entries) same (whole (moved_to y completes).0 (moved_to y completes).1)
+  -- an outcome found in the box within
+  pub outcome_found : (entries : List Entry) → HasEachOutcome new entries → (y : Execution) (completes : IsCompletion box y)
+      → execution_outcome box.test (moved_to y completes).0 ≡ execution_outcome box.test y → HasOutcome entries (execution_outcome box.test y)
+  outcome_found entries whole y completes same =
+      subst (HasOutcome entries) same (whole (moved_to y completes).0 (moved_to y completes).1)
 
 -- ---- giving one byte read after the other
 -- the byte reads of given reads before a place have these sources, and no other domain has changed

@@ -1,4 +1,6 @@
 -- Solutions of a box and of its branches.
+use Rattle.lit_solve.proofs.Words.{EventSet, IsSplit, subst, sym}
+use Rattle.lit_rel.proofs.SetLemmas.{split_less_yet}
 use Rattle.lit_solve.proofs.Words.{◌<◌, arith, Box, box_events, Branch, byte_reads, EventSet, Execution, get_or, Goal, GoesWith, HasEvent}
 use Rattle.lit_solve.proofs.Words.{HasSource, IsBranch, IsCut, IsSolution, IsWithin, length, same_Some, slice_get, slice_get-get_or, Some}
 use Rattle.lit_solve.proofs.Words.{TakesFrom, ℕ, ◌↔◌, ◌≡◌}
@@ -34,3 +36,10 @@ pub takes_some : (box : Box) (goal : Goal) (k : ℕ) → k < length (byte_reads 
 takes_some box goal k inside x is =
     let here : k < length x.sources = omega (arith, (sourced box x is.completes).one_each, inside) in
     (get_or x.sources k 0, slice_get-get_or x.sources k 0 here)
+
+-- what is left of a set without a group of which it has an event is less
+pub left_less : (left : EventSet) (source : ℕ) (others group rest : EventSet) → IsSplit left source others
+    → ((e : ℕ) → HasEvent rest e ↔ (HasEvent left e × ¬ HasEvent group e)) → HasEvent group source → rest.bits < left.bits
+left_less left source others group rest split kept there = split_less_yet left source others rest split (λ e here.
+    let old = (kept e).0 here in
+    (split.rest e).1 (old.0, λ same. old.1 (subst (λ (v : ℕ). HasEvent group v) (sym same) there)))

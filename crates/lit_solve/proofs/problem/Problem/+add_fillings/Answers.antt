@@ -1,9 +1,9 @@
-use Rattle.lit_solve.proofs.Words.{◌<◌, AddsFillings, ap, box_with, events_on, Filling, HasEvent, HasValue, List, no_events, refl, size_of}
+use Rattle.lit_solve.proofs.Words.{◌<◌, AddsFillings, ap, box_with, events_on, Filling, HasValue, List, no_events, refl, size_of}
 use Rattle.lit_solve.proofs.Words.{slice_index_or, subst, sym, value_of, ℕ}
-use Rattle.lit_rel.proofs.SetLemmas.{split_less_yet}
 use Rattle.lit_solve.proofs.FillLemmas.{sources_lie}
 use Rattle.lit_solve.proofs.ObservedLemmas.{IsSeenBy, all_seen_by, same_stores_among, seen_more, some_differ}
 use Rattle.lit_solve.proofs.PruningLemmas.{source_known}
+use Rattle.lit_solve.proofs.SearchingLemmas.{left_less}
 use Rattle.lit_solve.proofs.ReadValuesLemmas.{adds_more_fillings, adds_one_filling, fillings_out, one_filling, value_of_last, values_more}
 use Rattle.lit_solve.proofs.problem.Problem.+add_fillings.Goals as goal
 use Rattle.lit_solve.proofs.problem.Problem.+add_fillings.Goals.{then-cut_independent+in_ok-add_fillings, else-cut_independent}
@@ -24,14 +24,14 @@ returns-in-One-clause-whole t c x is =
     (value_of (events_on c.args.self.now) x.sources c.args.read) c.in_ok-push-in-One.ensures.items
     (sym (c.in-One.ensures x.sources (sources_lie box x is)))
 
-pub storing_same-group-requires-clause-source : goal.storing_same-group-requires-clause-source
-storing_same-group-requires-clause-source t c =
-    source_known (box_with c.args.self.now c.args.domains.now) c.requires.independent.is_box c.in-Open.place c.in-Some.source c.in-Open.ensures.0
-    (c.loop-source.invariant.within c.in-Some.source c.in-Some.ensures.there)
-
-pub storing_same-group-requires-clause-known : goal.storing_same-group-requires-clause-known
-storing_same-group-requires-clause-known t c w there =
-    source_known (box_with c.args.self.now c.args.domains.now) c.requires.independent.is_box c.in-Open.place w c.in-Open.ensures.0 there
+pub storing_same-group-requires : goal.storing_same-group-requires
+storing_same-group-requires t c =
+    let known = λ (w : ℕ). source_known (box_with c.args.self.now c.args.domains.now) c.requires.independent.is_box c.in-Open.place w c.in-Open.ensures.0 in
+    record {
+      place = c.in-Open.ensures.0;
+      source = known c.in-Some.source (c.loop-source.invariant.within c.in-Some.source c.in-Some.ensures.there);
+      known = known;
+    }
 
 pub add_fillings-requires : goal.add_fillings-requires
 add_fillings-requires t c =
@@ -60,15 +60,9 @@ returns-in_err-add_fillings-clause-added t c =
 
 pub loop-source-smaller : goal.loop-source-smaller
 loop-source-smaller t c =
-    split_less_yet c.loop-source.left c.in-Some.source c.in-Some._others c.difference-left.result c.in-Some.ensures
-    (λ e there.
-    let left = (c.difference-left.ensures e).0 there in
-    (c.in-Some.ensures.rest e).1 (
-      left.0,
-      λ same. left.1 (subst (λ (v : ℕ). HasEvent c.storing_same-group.result v) (sym same)
-          ((c.storing_same-group.ensures c.in-Some.source).1
-          (c.loop-source.invariant.within c.in-Some.source c.in-Some.ensures.there, refl))),
-    ))
+    left_less c.loop-source.left c.in-Some.source c.in-Some._others c.storing_same-group.result c.difference-left.result c.in-Some.ensures
+    c.difference-left.ensures
+    ((c.storing_same-group.ensures c.in-Some.source).1 (c.loop-source.invariant.within c.in-Some.source c.in-Some.ensures.there, refl))
 
 pub loop-source-preserved : goal.loop-source-preserved
 loop-source-preserved t c =

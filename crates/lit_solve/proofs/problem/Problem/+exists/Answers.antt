@@ -1,8 +1,7 @@
-use Rattle.lit_solve.proofs.Words.{◌<◌, arith, box_of, Execution, HasEvent, IsSolution, size_of, subst, sym, TakesFrom, ℕ}
-use Rattle.lit_rel.proofs.SetLemmas.{split_less_yet}
+use Rattle.lit_solve.proofs.Words.{◌<◌, arith, box_of, Execution, IsSolution, size_of, subst, TakesFrom, ℕ}
 use Rattle.lit_solve.proofs.FrameLemmas.{not_true}
 use Rattle.lit_solve.proofs.PruningLemmas.{source_known}
-use Rattle.lit_solve.proofs.SearchingLemmas.{left_over, not_all, solution_in, solution_out, takes_some}
+use Rattle.lit_solve.proofs.SearchingLemmas.{left_less, left_over, not_all, solution_in, solution_out, takes_some}
 use Rattle.lit_solve.proofs.problem.Problem.+exists.Goals as goal
 use Rattle.lit_solve.proofs.problem.Problem.+exists.Goals.{else-cut-via-then-cut+else-exists, else-cut-via-else-cut}
 
@@ -25,10 +24,8 @@ returns-then-exists t c = grind (arith, solution_out)
 
 pub loop-source-smaller : goal.loop-source-smaller
 loop-source-smaller t c =
-    split_less_yet c.loop-source.left c.in-Some.source c.in-Some._others c.difference-left.result c.in-Some.ensures
-    (λ e there.
-    let left = (c.difference-left.ensures e).0 there in
-    (c.in-Some.ensures.rest e).1 (left.0, λ same. left.1 (subst (λ (v : ℕ). HasEvent c.part-part.result v) (sym same) c.part-part.ensures.there)))
+    left_less c.loop-source.left c.in-Some.source c.in-Some._others c.part-part.result c.difference-left.result c.in-Some.ensures
+    c.difference-left.ensures c.part-part.ensures.there
 
 pub loop-source-preserved : goal.loop-source-preserved
 loop-source-preserved t c = record {

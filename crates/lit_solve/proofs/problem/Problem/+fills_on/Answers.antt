@@ -1,9 +1,11 @@
+use Rattle.lit_solve.proofs.Words.{◌<◌, length, ℕ}
 use Rattle.lit_solve.proofs.Words.{◌+◌, arith, box_with, byte_read_at, CanFillOn, CanFillWith, common_steps, events_on, false≢true}
 use Rattle.lit_solve.proofs.Words.{HasEvent, HasSource, refl}
 use Rattle.lit_rel.proofs.SetLemmas.{split_less, split_less_yet}
 use Rattle.lit_solve.proofs.FillingLemmas.{fill_with, filled_at_end, filled_with, dominated_in_vain, next_filled, next_filled_back}
 use Rattle.lit_solve.proofs.ReadByteLemmas.{none_later, read_there, vain_more}
 use Rattle.lit_solve.proofs.problem.Problem.+fills_on.Goals as goal
+use Rattle.lit_solve.proofs.problem.Problem.+fills_on.Goals.{At-loop-source}
 
 pub returns-then-not-is_of : goal.returns-then-not-is_of
 returns-then-not-is_of t c =
@@ -13,31 +15,24 @@ returns-then-not-is_of t c =
     c.args.taken.bytes c.requires.room.place none in
     (λ h. end.1 (c.are_guards_true.ensures.0 h), λ h. c.are_guards_true.ensures.1 (end.0 h))
 
-pub fills_on-requires : goal.fills_on-requires
-fills_on-requires t c = grind (arith, common_steps, c.if-not-is_of.ensures.of)
-
-pub take-requires-clause-source : goal.take-requires-clause-source
-take-requires-clause-source t c =
+-- a source of the byte read is an event
+source_known : (t : _) (c : At-loop-source t) (w : ℕ) → HasEvent c.loop-source.left w → w < length (events_on c.args.self.now)
+source_known t c w there =
     let events = events_on c.args.self.now in
     let is = c.if-not-is_of.ensures.of.0 refl in
-    (c.requires.is_box.candidates c.args.place c.args.read (byte_read_at events c.args.place).1 c.in-Some.source
-    (read_there events c.args.place c.args.read is.0 is.1)
-    (c.loop-source.invariant.left c.in-Some.source c.in-Some.ensures.there)).known
+    (c.requires.is_box.candidates c.args.place c.args.read (byte_read_at events c.args.place).1 w (read_there events c.args.place c.args.read is.0 is.1)
+    (c.loop-source.invariant.left w there)).known
+
+pub take-requires-clause-source : goal.take-requires-clause-source
+take-requires-clause-source t c = source_known t (goal.at.take-requires-clause-source t c).At-loop-source c.in-Some.source c.in-Some.ensures.there
 
 pub worth_trying-left-requires-clause-source : goal.worth_trying-left-requires-clause-source
 worth_trying-left-requires-clause-source t c =
-    let events = events_on c.args.self.now in
-    let is = c.if-not-is_of.ensures.of.0 refl in
-    (c.requires.is_box.candidates c.args.place c.args.read (byte_read_at events c.args.place).1 c.in-Some.source
-    (read_there events c.args.place c.args.read is.0 is.1)
-    (c.loop-source.invariant.left c.in-Some.source c.in-Some.ensures.there)).known
+    source_known t (goal.at.worth_trying-left-requires-clause-source t c).At-loop-source c.in-Some.source c.in-Some.ensures.there
 
 pub worth_trying-left-requires-clause-known : goal.worth_trying-left-requires-clause-known
 worth_trying-left-requires-clause-known t c v h =
-    let events = events_on c.args.self.now in
-    let is = c.if-not-is_of.ensures.of.0 refl in
-    (c.requires.is_box.candidates c.args.place c.args.read (byte_read_at events c.args.place).1 v (read_there events c.args.place c.args.read is.0 is.1)
-    (c.loop-source.invariant.left v ((c.in-Some.ensures.rest v).0 h).0)).known
+    source_known t (goal.at.worth_trying-left-requires-clause-known t c).At-loop-source v ((c.in-Some.ensures.rest v).0 h).0
 
 pub returns-then-fills_on : goal.returns-then-fills_on
 returns-then-fills_on t c =

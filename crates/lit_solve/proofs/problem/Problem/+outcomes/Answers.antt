@@ -1,8 +1,8 @@
-use Rattle.lit_solve.proofs.Words.{◌<◌, AddsEntries, ap, box_of, Entry, Execution, HasEvent, inr, IsCompletion, List, refl, size_of, subst}
+use Rattle.lit_solve.proofs.Words.{◌<◌, AddsEntries, ap, box_of, Entry, Execution, inr, IsCompletion, List, refl, size_of, subst}
 use Rattle.lit_solve.proofs.Words.{sym, TakesFrom, ℕ}
-use Rattle.lit_rel.proofs.SetLemmas.{split_less_yet}
 use Rattle.lit_solve.proofs.EntryLemmas.{adds_more, adds_none}
 use Rattle.lit_solve.proofs.PruningLemmas.{source_known}
+use Rattle.lit_solve.proofs.SearchingLemmas.{left_less}
 use Rattle.lit_solve.proofs.ObservedLemmas.{IsSeen, same_stores_among, all_seen, first_within, part_adds, seen_part, seen_past, some_differ}
 use Rattle.lit_solve.proofs.problem.Problem.+outcomes.Goals as goal
 use Rattle.lit_solve.proofs.problem.Problem.+outcomes.Goals.{then-cut+then-may_complete+in_ok-outcomes, else-cut, else-cut-via-then-cut+else-may_complete, else-cut-via-else-cut}
@@ -14,15 +14,15 @@ loop-source-init g t c = record {
   seen = λ x is. inr (λ w source. (c.sources_left-all.ensures w).1 (is.within c.in-Some.place w source));
 }
 
-pub storing_same-group-requires-clause-source : goal.storing_same-group-requires-clause-source
-storing_same-group-requires-clause-source g t c =
-    source_known (box_of c.args.self.now c.args.frame.now) c.requires.settled.exact.contained.is_box c.in-Some.place c.in-Some-split_first.source c.in-Some.ensures.observed.0
-    (c.loop-source.invariant.within c.in-Some-split_first.source c.in-Some-split_first.ensures.there)
-
-pub storing_same-group-requires-clause-known : goal.storing_same-group-requires-clause-known
-storing_same-group-requires-clause-known g t c w there =
-    source_known (box_of c.args.self.now c.args.frame.now) c.requires.settled.exact.contained.is_box c.in-Some.place w c.in-Some.ensures.observed.0
-    ((c.sources_left-all.ensures w).0 there)
+pub storing_same-group-requires : goal.storing_same-group-requires
+storing_same-group-requires g t c =
+    let box = box_of c.args.self.now c.args.frame.now in
+    let known = λ (w : ℕ). source_known box c.requires.settled.exact.contained.is_box c.in-Some.place w c.in-Some.ensures.observed.0 in
+    record {
+      place = c.in-Some.ensures.observed.0;
+      source = known c.in-Some-split_first.source (c.loop-source.invariant.within c.in-Some-split_first.source c.in-Some-split_first.ensures.there);
+      known = λ w there. known w ((c.sources_left-all.ensures w).0 there);
+    }
 
 pub outcomes-requires : goal.outcomes-requires
 outcomes-requires g t c κs within =
@@ -63,15 +63,10 @@ returns-in_err-outcomes-clause-added g t c =
 
 pub loop-source-smaller : goal.loop-source-smaller
 loop-source-smaller g t c =
-    split_less_yet c.loop-source.left c.in-Some-split_first.source c.in-Some-split_first._others c.difference-left.result c.in-Some-split_first.ensures
-    (λ e there.
-    let left = (c.difference-left.ensures e).0 there in
-    (c.in-Some-split_first.ensures.rest e).1 (
-      left.0,
-      λ same. left.1 (subst (λ (v : ℕ). HasEvent c.storing_same-group.result v) (sym same)
-          ((c.storing_same-group.ensures c.in-Some-split_first.source).1
-          ((c.sources_left-all.ensures c.in-Some-split_first.source).1 (c.loop-source.invariant.within c.in-Some-split_first.source c.in-Some-split_first.ensures.there), refl))),
-    ))
+    let source = c.in-Some-split_first.source in
+    left_less c.loop-source.left source c.in-Some-split_first._others c.storing_same-group.result c.difference-left.result
+    c.in-Some-split_first.ensures c.difference-left.ensures ((c.storing_same-group.ensures source).1
+    ((c.sources_left-all.ensures source).1 (c.loop-source.invariant.within source c.in-Some-split_first.ensures.there), refl))
 
 pub loop-source-preserved : goal.loop-source-preserved
 loop-source-preserved g t c =

@@ -1,4 +1,4 @@
-use Rattle.lit_solve.proofs.Words.{Any, arith, Box, box_with, EventSet, HasAlone, HasLeastOrderIn, IsIndependent, IsLowestAt, List, Litmus}
+use Rattle.lit_solve.proofs.Words.{Any, arith, Box, box_with, EventSet, HasLeastOrderIn, IsIndependent, IsLowestAt, List, Litmus}
 use Rattle.lit_solve.proofs.Words.{subst, sym, ℕ, ◌≡◌}
 use Rattle.lit_rel.proofs.SetLemmas.{split_less}
 use Rattle.lit_solve.proofs.DescendingLemmas.{cut_alone, lowest_at}
@@ -18,36 +18,23 @@ set_of-requires c =
     c.requires.place (c.loop-source.invariant.within c.in-Some-split_first.source c.in-Some-split_first.ensures.there) in
     omega arith
 
-pub cut_independent-requires-clause-independent : goal.cut_independent-requires-clause-independent
-cut_independent-requires-clause-independent c =
-    independent_still c.args.self.now c.loop-source.domains c.args.domains.now c.loop-source.invariant.same c.requires.independent
-
-pub returns-then-cut_independent-clause-order : goal.returns-then-cut_independent-clause-order
-returns-then-cut_independent-clause-order c order least =
-    c.cut_independent.ensures.order c.if-cut_independent.true order
-    (subst (λ (ds : List EventSet). HasLeastOrderIn (box_with c.args.self.now ds) order) (sym c.loop-source.invariant.same) least)
-
-pub returns-then-cut_independent-clause-alone : goal.returns-then-cut_independent-clause-alone
-returns-then-cut_independent-clause-alone c = (
-  c.in-Some-split_first.source,
-  cut_alone (box_with c.args.self.now c.loop-source.domains) (box_with c.args.self.now c.cut_independent.new.domains) c.args.place
-      c.in-Some-split_first.source c.set_of.result
-      (λ w. (c.set_of.ensures w).0)
-      (c.cut_independent.ensures.cut c.if-cut_independent.true) c.requires.place (c.cut_independent.ensures.independent c.if-cut_independent.true).some,
-)
-
-pub returns-then-cut_independent-clause-lowest : goal.returns-then-cut_independent-clause-lowest
-returns-then-cut_independent-clause-lowest c =
+pub returns-then-cut_independent : goal.returns-then-cut_independent
+returns-then-cut_independent c =
     let old : Box = box_with c.args.self.now c.loop-source.domains in
     let new : Box = box_with c.args.self.now c.cut_independent.new.domains in
     let source = c.in-Some-split_first.source in
     let cut = c.cut_independent.ensures.cut c.if-cut_independent.true in
-    let alone : HasAlone new c.args.place c.in-Some-split_first.source = cut_alone old new c.args.place source c.set_of.result (λ w.
-    (c.set_of.ensures w).0) cut c.requires.place
-    (c.cut_independent.ensures.independent c.if-cut_independent.true).some in
-    subst (λ (ds : List EventSet). IsLowestAt (box_with c.args.self.now ds) Any c.args.place new) c.loop-source.invariant.same
-    (lowest_at old new Any c.args.place c.requires.place c.loop-source.left c.in-Some-split_first.others c.set_of.result source
-    c.in-Some-split_first.ensures c.loop-source.invariant.taken c.set_of.ensures cut alone)
+    let independent = c.cut_independent.ensures.independent c.if-cut_independent.true in
+    let alone = cut_alone old new c.args.place source c.set_of.result (λ w. (c.set_of.ensures w).0) cut c.requires.place independent.some in
+    record {
+      independent = independent;
+      order = λ order least. c.cut_independent.ensures.order c.if-cut_independent.true order
+          (subst (λ (ds : List EventSet). HasLeastOrderIn (box_with c.args.self.now ds) order) (sym c.loop-source.invariant.same) least);
+      alone = (source, alone);
+      lowest = subst (λ (ds : List EventSet). IsLowestAt (box_with c.args.self.now ds) Any c.args.place new) c.loop-source.invariant.same
+          (lowest_at old new Any c.args.place c.requires.place c.loop-source.left c.in-Some-split_first.others c.set_of.result source
+          c.in-Some-split_first.ensures c.loop-source.invariant.taken c.set_of.ensures cut alone);
+    }
 
 pub loop-source-smaller : goal.loop-source-smaller
 loop-source-smaller c = split_less c.loop-source.left c.in-Some-split_first.source c.in-Some-split_first.others c.in-Some-split_first.ensures

@@ -26,32 +26,21 @@ loop-place-preserved c = record {
     below : c.loop-place.place < length (byte_reads (events_on c.args.self.now))
     below = omega (arith, c.loop-place-test.true, c.reads-place-end.ensures.value)
 
-pub returns-clause-completes : goal.returns-clause-completes
-returns-clause-completes c =
+pub returns : goal.returns
+returns c =
     let old = box_with c.args.self.now c.args.domains.now in
     let new = box_with c.args.self.now c.loop-place.down in
     let is = c.loop-place.invariant in
     let end : c.loop-place.place ≡ length (byte_reads (events_on c.args.self.now)) = omega (arith, c.loop-place-test.false, c.reads-place-end.ensures.value) in
-    completion_found old new Any is.lowest (subst (AreAloneBelow new) end is.alone) is.independent.is_box (c.leaves_have_one_order.ensures new)
-    (independent_solution new is.independent (c.leaves_are_filled_read_by_read.ensures new)) c.sources_of.result.items c.sources_of.ensures.one_each
-    c.sources_of.ensures.within
-
-pub returns-clause-least : goal.returns-clause-least
-returns-clause-least c x completes =
-    let old = box_with c.args.self.now c.args.domains.now in
-    let new = box_with c.args.self.now c.loop-place.down in
-    let is = c.loop-place.invariant in
-    let end : c.loop-place.place ≡ length (byte_reads (events_on c.args.self.now)) = omega (arith, c.loop-place-test.false, c.reads-place-end.ensures.value) in
-    not_less old new Any is.lowest (subst (AreAloneBelow new) end is.alone) is.independent.is_box (c.leaves_have_one_order.ensures new)
-    (independent_solution new is.independent (c.leaves_are_filled_read_by_read.ensures new)) c.sources_of.result.items c.sources_of.ensures.one_each
-    c.sources_of.ensures.within x (record { completes = completes; meets = tt })
-
-pub returns-clause-ordered : goal.returns-clause-ordered
-returns-clause-ordered c order least =
-    let old = box_with c.args.self.now c.args.domains.now in
-    let new = box_with c.args.self.now c.loop-place.down in
-    let is = c.loop-place.invariant in
-    let end : c.loop-place.place ≡ length (byte_reads (events_on c.args.self.now)) = omega (arith, c.loop-place-test.false, c.reads-place-end.ensures.value) in
-    least_found old new Any is.lowest (subst (AreAloneBelow new) end is.alone) is.independent.is_box (c.leaves_have_one_order.ensures new)
-    (independent_solution new is.independent (c.leaves_are_filled_read_by_read.ensures new)) c.sources_of.result.items c.sources_of.ensures.one_each
-    c.sources_of.ensures.within order (is.order order least)
+    let alone = subst (AreAloneBelow new) end is.alone in
+    let one_order = c.leaves_have_one_order.ensures new in
+    let found = independent_solution new is.independent (c.leaves_are_filled_read_by_read.ensures new) in
+    let sources = c.sources_of.result.items in
+    let long = c.sources_of.ensures.one_each in
+    let lies = c.sources_of.ensures.within in
+    record {
+      completes = completion_found old new Any is.lowest alone is.independent.is_box one_order found sources long lies;
+      least = λ x completes.
+          not_less old new Any is.lowest alone is.independent.is_box one_order found sources long lies x (record { completes = completes; meets = tt });
+      ordered = λ order least. least_found old new Any is.lowest alone is.independent.is_box one_order found sources long lies order (is.order order least);
+    }

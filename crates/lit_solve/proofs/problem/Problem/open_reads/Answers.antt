@@ -1,5 +1,5 @@
 use Rattle.lit_solve.proofs.Words.{◌+◌, ◌<◌, ap, AreOpenReads, arith, box_with, get_or, inl, inr, IsListed, IsValueBeside, length, List}
-use Rattle.lit_solve.proofs.Words.{Litmus, names_of, None, Observes, OpenRead, Option, refl, Some, subst, sym, ℕ, ◌∙◌, ◌≡◌, ◌≢◌}
+use Rattle.lit_solve.proofs.Words.{Litmus, names_of, None, OpenRead, Option, refl, Some, subst, sym, ℕ, ◌∙◌, ◌≡◌, ◌≢◌}
 use Rattle.lit_solve.proofs.FillLemmas.{sources_lie}
 use Rattle.lit_solve.proofs.OpenReadLemmas.{register_reads, values_more}
 use Rattle.lit_solve.proofs.ProductLemmas.{outcome_at, outcome_unobserved}
@@ -35,49 +35,30 @@ loop-i-preserved c =
     values_more box c.loop-i.reads.items now c.loop-i.values.items c.push.new.self.items c.match-observed_read.value i stays
     c.loop-i.invariant.count c.loop-i.invariant.each last c.push.ensures.items in
     let count : length c.push.new.self.items ≡ c.loop-i.i + 1 = omega (arith, c.push.ensures.len, c.loop-i.invariant.count) in
-    let goes : AreOpenReads box c.match-observed_read.reads.items
-    × ((j : ℕ) → j < c.loop-i.i + 1 → IsValueBeside box c.match-observed_read.reads.items j (get_or c.push.new.self.items j 0)) =
+    let Goes = λ (rs : List OpenRead). AreOpenReads box rs × ((j : ℕ) → j < i + 1 → IsValueBeside box rs j (get_or c.push.new.self.items j 0)) in
+    let goes = λ (now : List OpenRead) (its : Goes now) (same : c.match-observed_read.reads.items ≡ now). subst Goes (sym same) its in
+    let kept = λ (last : IsValueBeside box c.loop-i.reads.items i c.match-observed_read.value).
+    goes c.loop-i.reads.items (c.loop-i.invariant.reads, with_value c.loop-i.reads.items (λ r listed. listed) last) in
+    let all : Goes c.match-observed_read.reads.items =
     elim c.match-observed_read.branch [
-      | in-Some+then-not-is_listed+in-One w ↦
-          (let same : c.loop-i.reads.items ≡ c.match-observed_read.reads.items = sym (ap (λ v. v.items) w.reads-is) in
-          let observes : Observes c.args.self.now w.in-Some.read c.loop-i.i = record { inside = inside; reads = reads ∙ w.in-Some.is } in (
-            subst (AreOpenReads box) same c.loop-i.invariant.reads,
-            with_value c.match-observed_read.reads.items (λ r listed. subst (λ (rs : List OpenRead). IsListed rs r) same listed)
-                (inr (λ x is. outcome_at c.laws_below.ensures box c.requires.independent x is w.in-Some.read i observes
-                ∙ w.in-One.ensures x.sources (sources_lie box x is) ∙ sym w.value-is)),
-          ))
-      | in-Some+then-not-is_listed+in-Open+in_ok-list_read-in-Open w ↦
-          (let same : w.list_read.new.reads.items ≡ c.match-observed_read.reads.items = sym (ap (λ v. v.items) w.reads-is) in
-          let observes : Observes c.args.self.now w.in-Some.read c.loop-i.i = record { inside = inside; reads = reads ∙ w.in-Some.is } in (
-            subst (AreOpenReads box) same w.in_ok-list_read-in-Open.ensures.reads,
-            with_value c.match-observed_read.reads.items
-                (λ r listed. subst (λ (rs : List OpenRead). IsListed rs r) same (w.in_ok-list_read-in-Open.ensures.stays r listed))
-                (inl (
-                  w.in-Some.read,
-                  observes,
-                  subst (λ (rs : List OpenRead). IsListed rs w.in-Some.read) same w.in_ok-list_read-in-Open.ensures.listed,
-                )),
-          ))
-      | in-Some+else-not-is_listed w ↦
-          (let same : c.loop-i.reads.items ≡ c.match-observed_read.reads.items = sym (ap (λ v. v.items) w.reads-is) in
-          let observes : Observes c.args.self.now w.in-Some.read c.loop-i.i = record { inside = inside; reads = reads ∙ w.in-Some.is } in (
-            subst (AreOpenReads box) same c.loop-i.invariant.reads,
-            with_value c.match-observed_read.reads.items (λ r listed. subst (λ (rs : List OpenRead). IsListed rs r) same listed)
-                (inl (
-                  w.in-Some.read,
-                  observes,
-                  subst (λ (rs : List OpenRead). IsListed rs w.in-Some.read) (w.as_slice.ensures.value ∙ same)
-                      (w.is_listed.ensures.0 w.if-not-is_listed.false),
-                )),
-          ))
-      | in_default w ↦
-          (let same : c.loop-i.reads.items ≡ c.match-observed_read.reads.items = sym (ap (λ v. v.items) w.reads-is) in (
-            subst (AreOpenReads box) same c.loop-i.invariant.reads,
-            with_value c.match-observed_read.reads.items (λ r listed. subst (λ (rs : List OpenRead). IsListed rs r) same listed)
-                (inr (λ x is. outcome_unobserved c.laws_below.ensures box c.requires.independent x is i inside (reads ∙ none_is c.observed_read.result w.in_default.not-Some) ∙ sym w.value-is)),
-          ))
+      | in-Some+then-not-is_listed+in-One w ↦ kept (inr (λ x is.
+          outcome_at c.laws_below.ensures box c.requires.independent x is w.in-Some.read i (record { inside = inside; reads = reads ∙ w.in-Some.is })
+          ∙ w.in-One.ensures x.sources (sources_lie box x is) ∙ sym w.value-is)) (ap (λ v. v.items) w.reads-is)
+      | in-Some+then-not-is_listed+in-Open+in_ok-list_read-in-Open w ↦ goes w.list_read.new.reads.items (
+        w.in_ok-list_read-in-Open.ensures.reads,
+        with_value w.list_read.new.reads.items w.in_ok-list_read-in-Open.ensures.stays
+            (inl (w.in-Some.read, record { inside = inside; reads = reads ∙ w.in-Some.is }, w.in_ok-list_read-in-Open.ensures.listed)),
+      ) (ap (λ v. v.items) w.reads-is)
+      | in-Some+else-not-is_listed w ↦ kept (inl (
+        w.in-Some.read,
+        record { inside = inside; reads = reads ∙ w.in-Some.is },
+        subst (λ (rs : List OpenRead). IsListed rs w.in-Some.read) w.as_slice.ensures.value (w.is_listed.ensures.0 w.if-not-is_listed.false),
+      )) (ap (λ v. v.items) w.reads-is)
+      | in_default w ↦ kept (inr (λ x is.
+          outcome_unobserved c.laws_below.ensures box c.requires.independent x is i inside (reads ∙ none_is c.observed_read.result w.in_default.not-Some)
+          ∙ sym w.value-is)) (ap (λ v. v.items) w.reads-is)
     ] in
-    record { reads = goes.0; count = count; each = goes.1 }
+    record { reads = all.0; count = count; each = all.1 }
 
 pub returns-clause-values : goal.returns-clause-values
 returns-clause-values c =

@@ -10,6 +10,9 @@ loop-i-preserved c =
     let is = register_reads c.self.inside.combination c.self.inside.names.now c.args.self.now i c.observed_read.result c.self.invariant.named c.self.view_is c.observed_read.ensures.value in
     let inside : c.loop-i.i < length (names_of c.args.self.now.0) =
     omega (arith, c.loop-i-test.true, ap (λ (ns : List (ℕ × ℕ)). length ns) (c.self.invariant.named ∙ ap (λ (p : Litmus × ℕ). names_of p.0) c.self.view_is)) in
+    let kept = λ (items : c.match-observed_read.places.items ≡ c.loop-i.places.items) (other : ¬ Observes c.args.self.now c.args.read i).
+    subst (λ (ns : List ℕ). (j : ℕ) → ((k : ℕ) × (slice_get ns k ≡ Some j)) ↔ ((j < i + 1) × Observes c.args.self.now c.args.read j))
+    (sym items) (register_other c.args.self.now c.args.read i c.loop-i.places.items c.loop-i.invariant.are other) in
     elim c.match-observed_read.branch [
       | in-Some+then-observed-from w ↦
           (let items : c.match-observed_read.places.items ≡ c.loop-i.places.items ++ c.loop-i.i ∷ [] = ap (λ v. v.items) w.places-is ∙ w.push.ensures.items in
@@ -26,17 +29,14 @@ loop-i-preserved c =
           (let items : c.match-observed_read.places.items ≡ c.loop-i.places.items = ap (λ v. v.items) w.places-is in
           record {
             few = omega (arith, ap (λ (ns : List ℕ). length ns) items, c.loop-i.invariant.few);
-            are = subst (λ (ns : List ℕ). (j : ℕ) → ((k : ℕ) × (slice_get ns k ≡ Some j)) ↔ ((j < c.loop-i.i + 1) × Observes c.args.self.now c.args.read j))
-                (sym items) (register_other c.args.self.now c.args.read c.loop-i.i c.loop-i.places.items c.loop-i.invariant.are
-                (λ observes. w.if-observed-from.false (same_Some w.in-Some.observed c.args.read (sym w.in-Some.is ∙ sym is ∙ observes.reads) ∙ sym w.from.ensures)));
+            are = kept items (λ observes.
+                w.if-observed-from.false (same_Some w.in-Some.observed c.args.read (sym w.in-Some.is ∙ sym is ∙ observes.reads) ∙ sym w.from.ensures));
           })
       | in_default w ↦
           (let items : c.match-observed_read.places.items ≡ c.loop-i.places.items = ap (λ v. v.items) w.places-is in
           record {
             few = omega (arith, ap (λ (ns : List ℕ). length ns) items, c.loop-i.invariant.few);
-            are = subst (λ (ns : List ℕ). (j : ℕ) → ((k : ℕ) × (slice_get ns k ≡ Some j)) ↔ ((j < c.loop-i.i + 1) × Observes c.args.self.now c.args.read j))
-                (sym items) (register_other c.args.self.now c.args.read c.loop-i.i c.loop-i.places.items c.loop-i.invariant.are
-                (λ observes. w.in_default.not-Some c.args.read (sym is ∙ observes.reads)));
+            are = kept items (λ observes. w.in_default.not-Some c.args.read (sym is ∙ observes.reads));
           })
     ]
 

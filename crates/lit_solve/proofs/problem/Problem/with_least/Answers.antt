@@ -1,4 +1,4 @@
-use Rattle.lit_solve.proofs.Words.{arith, Box, box_of, Execution, HasAlone, HasEvent, IsSolution, slice_get, Some, sym, ℕ, ◌∙◌, ◌≡◌}
+use Rattle.lit_solve.proofs.Words.{arith, Box, box_of, Execution, HasEvent, IsSolution, slice_get, Some, sym, ℕ, ◌∙◌, ◌≡◌}
 use Rattle.lit_rel.proofs.SetLemmas.{split_less}
 use Rattle.lit_solve.proofs.DescendingLemmas.{cut_alone, lowest_at}
 use Rattle.lit_solve.proofs.FrameLemmas.{not_true}
@@ -22,16 +22,12 @@ returns-then-is_promising-clause-alone c = (
 )
 
 pub returns-then-is_promising-clause-lowest : goal.returns-then-is_promising-clause-lowest
+unfolding returns-then-is_promising-clause-alone
 returns-then-is_promising-clause-lowest c =
     let old : Box = box_of c.args.self.now c.args.frame.now in
     let new : Box = box_of c.args.self.now c.cut.new.frame in
-    let alone : HasAlone new c.args.place c.in-Some.source = cut_alone old new c.args.place c.in-Some.source c.set_of.result (λ w.
-    (c.set_of.ensures w).0)
-    (c.cut.ensures.cut c.if-cut.true) c.requires.place (c.cut.ensures.settled c.if-cut.true).exact.contained.some in
     lowest_at old new c.args.goal c.args.place c.requires.place c.loop-source.left c.in-Some.others c.set_of.result c.in-Some.source
-    c.in-Some.ensures
-    c.loop-source.invariant.taken
-    c.set_of.ensures (c.cut.ensures.cut c.if-cut.true) alone
+    c.in-Some.ensures c.loop-source.invariant.taken c.set_of.ensures (c.cut.ensures.cut c.if-cut.true) (returns-then-is_promising-clause-alone c).1
 
 pub loop-source-smaller : goal.loop-source-smaller
 loop-source-smaller c = split_less c.loop-source.left c.in-Some.source c.in-Some.others c.in-Some.ensures
