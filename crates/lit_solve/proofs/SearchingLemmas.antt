@@ -1,9 +1,8 @@
 -- Solutions of a box and of its branches.
-use Rattle.lit_solve.proofs.Words.{EventSet, IsSplit, subst, sym}
-use Rattle.lit_rel.proofs.SetLemmas.{split_less_yet}
 use Rattle.lit_solve.proofs.Words.{◌<◌, arith, Box, box_events, Branch, byte_reads, EventSet, Execution, get_or, Goal, GoesWith, HasEvent}
-use Rattle.lit_solve.proofs.Words.{HasSource, IsBranch, IsCut, IsSolution, IsWithin, length, same_Some, slice_get, slice_get-get_or, Some}
-use Rattle.lit_solve.proofs.Words.{TakesFrom, ℕ, ◌↔◌, ◌≡◌}
+use Rattle.lit_solve.proofs.Words.{HasSource, IsBranch, IsCut, IsSolution, IsSplit, IsWithin, length, same_Some, slice_get}
+use Rattle.lit_solve.proofs.Words.{slice_get-get_or, Some, subst, sym, TakesFrom, ℕ, ◌↔◌, ◌≡◌}
+use Rattle.lit_rel.proofs.SetLemmas.{split_less_yet}
 use Rattle.lit_rel.proofs.SetLemmas.{event_or_not}
 use Rattle.lit_solve.proofs.CompletionLemmas.{sourced}
 use Rattle.lit_solve.proofs.PruningLemmas.{read_here}

@@ -59,7 +59,7 @@ pub use Rattle.lit_solve.specs.Internal.Cut.{IsSide}
 pub use Rattle.lit_solve.specs.Internal.Descending.{AreAloneBelow, IsLowest, IsLowestAt, IsNotLeastAt}
 pub use Rattle.lit_solve.specs.Internal.Filling.{bytes_taken, CanFillOn, CanFillWith, FillsBytes, HasRoom, LieFrom, reads_on, TakesOn}
 pub use Rattle.lit_solve.specs.Internal.Filling.{TakesWhole, WholeWith, WouldNotTear}
-pub use Rattle.lit_solve.specs.Internal.Frames.{AreCoherentAt, AreRanks, box_of, IsContained, IsExact, IsForbiddenAt, IsProblem}
+pub use Rattle.lit_solve.specs.Internal.Frames.{AreCoherentAt, box_of, IsContained, IsExact, IsForbiddenAt, IsProblem}
 pub use Rattle.lit_solve.specs.Internal.Frames.{IsSynchronizedAt}
 pub use Rattle.lit_solve.specs.Internal.Independent.{FillsAll, FillsRead, GivesReads, HasLeastOrderIn, IsIndependent, IsLeastFilling}
 pub use Rattle.lit_solve.specs.Internal.Independent.{IsNotGreaterOn, LieOn}

@@ -1,5 +1,5 @@
-use Rattle.lit_solve.proofs.Words.{◌<◌, AddsEntries, ap, box_of, Entry, Execution, inr, IsCompletion, List, refl, size_of, subst}
-use Rattle.lit_solve.proofs.Words.{sym, TakesFrom, ℕ}
+use Rattle.lit_solve.proofs.Words.{◌<◌, AddsEntries, ap, box_of, Entry, Execution, inr, IsCompletion, List, refl, size_of, subst, sym}
+use Rattle.lit_solve.proofs.Words.{TakesFrom, ℕ}
 use Rattle.lit_solve.proofs.EntryLemmas.{adds_more, adds_none}
 use Rattle.lit_solve.proofs.PruningLemmas.{source_known}
 use Rattle.lit_solve.proofs.SearchingLemmas.{left_less}

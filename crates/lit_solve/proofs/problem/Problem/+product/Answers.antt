@@ -1,6 +1,5 @@
-use Rattle.lit_solve.proofs.Words.{◌<◌, [], ap, AreOpenReads, AreValuesBeside, arith, box_with, ChangesListed, Filling}
-use Rattle.lit_solve.proofs.Words.{HasEvent, inr, length, IsOpenRead, List, OpenRead, refl, slice_get-get_or, Some, subst, sym, ℕ, ◌↔◌, ◌∙◌}
-use Rattle.lit_solve.proofs.Words.{◌∷◌, ◌≡◌}
+use Rattle.lit_solve.proofs.Words.{◌<◌, [], ap, AreOpenReads, AreValuesBeside, arith, box_with, ChangesListed, Filling, HasEvent, inr}
+use Rattle.lit_solve.proofs.Words.{IsOpenRead, length, List, OpenRead, refl, slice_get-get_or, Some, subst, sym, ℕ, ◌↔◌, ◌∙◌, ◌∷◌, ◌≡◌}
 use Rattle.lit_solve.proofs.EntryLemmas.{adds_more, adds_none}
 use Rattle.lit_solve.proofs.GivenReadLemmas.{IsGiving, given_independent, given_order}
 use Rattle.lit_solve.proofs.OpenReadLemmas.{beside_changed, changes_first, changes_more, changes_none, changes_rest, value_from_first}

@@ -1,6 +1,4 @@
-use Rattle.lit_solve.proofs.Words.{BYTE_READ_LIMIT, length, ◌≡◌}
-use Rattle.lit_solve.specs.Box.{IsBox, box_with}
-use Rattle.lit_solve.specs.Internal.Pruning.{Prunes}
+use Rattle.lit_solve.proofs.Words.{box_with, BYTE_READ_LIMIT, IsBox, length, Prunes, ◌≡◌}
 use Rattle.lit_solve.proofs.problem.Problem.consistent.Given as goal
 
 abbrev pub invariant-loop-place : goal.invariant-loop-place

@@ -1,8 +1,6 @@
-use Rattle.lit_solve.proofs.Words.{ap, arith, byte_read_at, byte_reads, common_steps, false≢true, HasEvent, Holds, IsCandidate}
-use Rattle.lit_solve.proofs.Words.{IsCoherentRead, IsTrue, Litmus, slice_get, Some, subst, sym, ℕ, ◌↔◌, ◌∙◌, ◌≡◌}
+use Rattle.lit_solve.proofs.Words.{ap, arith, byte_read_at, byte_reads, common_steps, events_on, false≢true, HasEvent, Holds, IsCandidate}
+use Rattle.lit_solve.proofs.Words.{IsCoherentRead, IsProblem, IsTrue, Litmus, slice_get, Some, subst, sym, ℕ, ◌↔◌, ◌∙◌, ◌≡◌}
 use Rattle.std.specs.Prelude.{Bool, true, false, not}
-use Rattle.lit_solve.specs.Box.{events_on}
-use Rattle.lit_solve.specs.Internal.Frames.{IsProblem}
 use Rattle.lit_solve.proofs.PruningLemmas.{coherent_if_none, none_if_coherent}
 use Rattle.lit_solve.proofs.problem.Problem.is_coherent.Goals as goal
 

@@ -1,8 +1,6 @@
-use Rattle.lit_solve.proofs.Words.{◌<◌, ap, AreEventsIn, ArePeers, arith, BYTE_READ_LIMIT, byte_reads, combinations_of, Event, IsCandidate}
-use Rattle.lit_solve.proofs.Words.{IsLitmus, length, length-set, List, Litmus, names_of, slice_get, slice_get_within, Some, subst, sym, ℕ}
-use Rattle.lit_solve.proofs.Words.{◌∙◌, ◌≡◌, ◌≤◌}
-use Rattle.lit_solve.specs.Box.{events_on}
-use Rattle.lit_solve.specs.Prunable.{IsRefusedOn}
+use Rattle.lit_solve.proofs.Words.{◌<◌, ap, AreEventsIn, ArePeers, arith, BYTE_READ_LIMIT, byte_reads, combinations_of, Event, events_on}
+use Rattle.lit_solve.proofs.Words.{IsCandidate, IsLitmus, IsRefusedOn, length, length-set, List, Litmus, names_of, slice_get}
+use Rattle.lit_solve.proofs.Words.{slice_get_within, Some, subst, sym, ℕ, ◌∙◌, ◌≡◌, ◌≤◌}
 use Rattle.lit_solve.proofs.CandidateLemmas.{sets_more}
 use Rattle.lit_solve.proofs.PruningLemmas.{as_many}
 use Rattle.lit_solve.proofs.problem.Problem.open.Goals as goal

@@ -1,7 +1,5 @@
-use Rattle.lit_solve.proofs.Words.{◌<◌, BYTE_READ_LIMIT, byte_reads, HasEvent, IsCandidate, length, no_events, slice_get, slice_index_or}
-use Rattle.lit_solve.proofs.Words.{Some, ℕ, ◌↔◌, ◌≡◌}
-use Rattle.lit_solve.specs.Box.{events_on}
-use Rattle.lit_solve.specs.Prunable.{IsRefusedOn}
+use Rattle.lit_solve.proofs.Words.{◌<◌, BYTE_READ_LIMIT, byte_reads, events_on, HasEvent, IsCandidate, IsRefusedOn, length, no_events}
+use Rattle.lit_solve.proofs.Words.{slice_get, slice_index_or, Some, ℕ, ◌↔◌, ◌≡◌}
 use Rattle.lit_solve.proofs.problem.Problem.open.Given as goal
 
 abbrev pub invariant-loop-place : goal.invariant-loop-place

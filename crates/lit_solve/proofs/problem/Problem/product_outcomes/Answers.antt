@@ -1,5 +1,4 @@
-use Rattle.lit_solve.proofs.Words.{◌<◌, AreOpenReads, AreValuesBeside, box_events, box_with, byte_reads}
-use Rattle.lit_solve.proofs.Words.{FillsRead, IsListed, length, List}
+use Rattle.lit_solve.proofs.Words.{◌<◌, AreOpenReads, AreValuesBeside, box_events, box_with, byte_reads, FillsRead, IsListed, length, List}
 use Rattle.lit_solve.proofs.Words.{OpenRead, subst, sym, ℕ, ◌≡◌}
 use Rattle.std.proofs.lemmas.Result.{on_ok_weaker}
 use Rattle.lit_solve.proofs.CompletionLemmas.{sourced}

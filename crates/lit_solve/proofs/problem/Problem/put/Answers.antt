@@ -1,5 +1,4 @@
-use Rattle.lit_solve.proofs.Words.{AreSources, arith, common_steps, events_in, Litmus, subst, sym, ℕ, ◌∙◌}
-use Rattle.lit_solve.specs.Box.{box_events, box_with}
+use Rattle.lit_solve.proofs.Words.{AreSources, arith, box_events, box_with, common_steps, events_in, Litmus, subst, sym, ℕ, ◌∙◌}
 use Rattle.lit_solve.proofs.CompletionLemmas.{sourced}
 use Rattle.lit_solve.proofs.EntryLemmas.{adds_one, each_recorded, least_entry}
 use Rattle.lit_solve.proofs.problem.Problem.put.Goals as goal
