@@ -1,4 +1,4 @@
-use Rattle.lit_solve.proofs.Words.{◌<◌, [], ap, AreOpenReads, AreValuesBeside, arith, box_with, ChangesListed, Filling, HasEvent, inr}
+use Rattle.lit_solve.proofs.Words.{[], ap, AreOpenReads, AreValuesBeside, arith, box_with, ChangesListed, Filling, HasEvent, inr}
 use Rattle.lit_solve.proofs.Words.{IsOpenRead, length, List, OpenRead, refl, slice_get-get_or, Some, subst, sym, ℕ, ◌↔◌, ◌∙◌, ◌∷◌, ◌≡◌}
 use Rattle.lit_solve.proofs.EntryLemmas.{adds_more, adds_none}
 use Rattle.lit_solve.proofs.GivenReadLemmas.{IsGiving, given_independent, given_order}
@@ -86,9 +86,6 @@ set_values-requires g t c i j at =
     let first = open_first g t (goal.at.set_values-requires g t c).In-Some in
     omega (arith, ((first.registers j).0 (i, at)).inside, c.loop-i.invariant.values.long, c.requires.values.long)
 
-shorter : (reads rest : List OpenRead) (first : OpenRead) → reads ≡ first ∷ rest → length rest < length reads
-shorter reads rest first is = omega (arith, ap (λ (rs : List OpenRead). length rs) is)
-
 pub product-requires : goal.product-requires
 product-requires g t c κs within =
     let at = goal.at.product-requires g t c in
@@ -97,7 +94,7 @@ product-requires g t c κs within =
     let box = box_with c.args.self.now c.args.domains.now in
     let beside = subst (λ (rs : List OpenRead). AreValuesBeside box rs c.loop-i.values.items) c.in-Some.ensures.cases.0
     (beside_changed box c.args.reads.now c.args.values.now.items c.loop-i.values.items c.requires.values c.loop-i.invariant.values) in (
-      subst (λ (n : ℕ). length c.in-Some.rest.now < n) c.decreases (shorter c.args.reads.now c.in-Some.rest.now c.in-Some.first.now c.in-Some.ensures.cases.0),
+      omega (arith, c.decreases, ap (λ (rs : List OpenRead). length rs) c.in-Some.ensures.cases.0),
       (
         within.0,
         (

@@ -16,18 +16,16 @@ beside-requires g c = record {
       (c.in_ok-open_reads.ensures.reads.each here.place here.it here.is).known;
 }
 
-pub give-requires-clause-fills : goal.give-requires-clause-fills
-give-requires-clause-fills g c r there =
+pub give-requires : goal.give-requires
+give-requires g c =
     let box = box_with c.args.self.now c.args.domains.now in
     let some = c.least_filling-least.ensures.completes in
-    subst (FillsRead box r) some.2
-    (fills_own c.laws_below.ensures box c.requires.independent c.leaves_are_filled_read_by_read.ensures r some.0 some.1)
-
-pub give-requires-clause-long : goal.give-requires-clause-long
-give-requires-clause-long g c =
-    let box = box_with c.args.self.now c.args.domains.now in
-    let some = c.least_filling-least.ensures.completes in
-    subst (λ (s : List ℕ). length s ≡ length (byte_reads (box_events box))) some.2 (sourced box some.0 some.1).one_each
+    record {
+      independent = c.requires.independent;
+      fills = λ r there. subst (FillsRead box r) some.2
+          (fills_own c.laws_below.ensures box c.requires.independent c.leaves_are_filled_read_by_read.ensures r some.0 some.1);
+      long = subst (λ (s : List ℕ). length s ≡ length (byte_reads (box_events box))) some.2 (sourced box some.0 some.1).one_each;
+    }
 
 -- what the reads that are not listed are given
 beside_of : (g : _) (c : After-give g) → IsGivingBeside (box_with c.args.self.now c.args.domains.now) c.open_reads.new.reads.items
