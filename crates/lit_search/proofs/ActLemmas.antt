@@ -1,11 +1,10 @@
 -- What an access does, and the course of an agent from its turns: the steps that it walks, the `if`s before each access decided.
-use Rattle.lit_search.proofs.Words.{◌&&◌, ◌+◌, ◌++◌, ◌==◌, [], after_statement, AgreesWith, ap, append-nil, Bool, compare_exchange_event}
-use Rattle.lit_search.proofs.Words.{CompareExchange, CompareExchangeMet, composed, Contents, does_read, does_write, drop, End, Event}
-use Rattle.lit_search.proofs.Words.{Exchange, ExchangeMet, false, from_access, If, IfMet, if◌then◌else◌, inl, inr, is_access}
-use Rattle.lit_search.proofs.Words.{IsStatementWalk, IsWalk, joined_statements, List, Load, LoadMet, modify_event, no_event, None}
-use Rattle.lit_search.proofs.Words.{number_in, Option, read_event, refl, Some, Statement, Statements, Step, Store, StoreMet, subst, sym}
-use Rattle.lit_search.proofs.Words.{take, Then, true, with_number, write_event, ℕ, ◌∙◌, ◌∷◌, ◌≡◌}
-use Rattle.std.proofs.Common.{eq-eqb, append_assoc}
+use Rattle.lit_search.proofs.Words.{◌&&◌, ◌+◌, ◌++◌, ◌==◌, [], after_statement, AgreesWith, ap, append-nil, append_assoc, Bool}
+use Rattle.lit_search.proofs.Words.{compare_exchange_event, CompareExchange, CompareExchangeMet, composed, Contents, does_read, does_write}
+use Rattle.lit_search.proofs.Words.{drop, End, eq-eqb, Event, Exchange, ExchangeMet, false, from_access, If, IfMet, if◌then◌else◌, inl}
+use Rattle.lit_search.proofs.Words.{inr, is_access, IsStatementWalk, IsWalk, joined_statements, List, Load, LoadMet, modify_event}
+use Rattle.lit_search.proofs.Words.{no_event, None, number_in, Option, read_event, refl, Some, Statement, Statements, Step, Store}
+use Rattle.lit_search.proofs.Words.{StoreMet, subst, sym, take, Then, true, with_number, write_event, ℕ, ◌∙◌, ◌∷◌, ◌≡◌}
 use Rattle.lit_paths.specs.Path.{events_on}
 use Rattle.lit_search.proofs.NextAccess.{each_from}
 

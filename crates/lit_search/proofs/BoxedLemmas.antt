@@ -6,22 +6,18 @@ use Rattle.lit_search.proofs.Words.{execution_choice, execution_outcome, Gains, 
 use Rattle.lit_search.proofs.Words.{HasOutcome, HasSolution, HasSources, in_range, inl, inr, is_of_class, IsCompletion, IsFirstOf}
 use Rattle.lit_search.proofs.Words.{IsLeastEntry, IsLeastOf, IsLeastSolution, IsOfBox, IsOfCombination, IsOfFirst, IsTrue}
 use Rattle.lit_search.proofs.Words.{IsValidExecution, Laws, length, LiesIn, LiesInBox, List, Litmus, map, maps, never_both_less}
-use Rattle.lit_search.proofs.Words.{outcome_stays, Path, refl, run_path, same_Some, slice_get, slice_get_within, Some, sources_are}
+use Rattle.lit_search.proofs.Words.{outcome_stays, Path, refl, run_path, slice_get, slice_get_within, Some, sources_are}
 use Rattle.lit_search.proofs.Words.{sources_rise, subst, suc, sym, zero, ℕ, ◌↔◌, ◌∙◌, ◌∷◌, ◌≡◌, ◌≤◌, ◌⊎◌}
 use Rattle.lit_solve.specs.declared.goal.Goal.TheVariants.{OfClass, Race}
 use Rattle.lit_solve.specs.Box.{events_on}
 use Rattle.lit_search.proofs.MergedEntries.{cmp_same}
-use Rattle.lit_solve.proofs.RangeLemmas.{sourced}
+use Rattle.lit_solve.proofs.RangeLemmas.{one_sources, sourced}
 use Rattle.lit_search.proofs.GainLemmas.{gains_more, gains_none}
 use Rattle.lit_search.proofs.NumberSets.{before_end, not_below, within}
 
 -- an execution with a choice has the choice's sources
 has_its_sources : (t : Litmus) (n : ℕ) (x : Execution) → slice_get (choices_of t) n ≡ Some (execution_choice x) → HasSources t n x.sources
 has_its_sources t n x chosen = record { choice = execution_choice x; listed = chosen; same = refl }
-
-one_sources : (t : Litmus) (n : ℕ) (a b : List ℕ) → HasSources t n a → HasSources t n b → a ≡ b
-one_sources t n a b first second =
-    sym first.same ∙ ap (λ (ch : Choice). ch.sources) (same_Some first.choice second.choice (sym first.listed ∙ second.listed)) ∙ second.same
 
 -- an execution on a combination has the decisions of its paths
 its_decisions : (t : Litmus) (c : ℕ) (x : Execution) → map run_path x.runs ≡ combination_at t c

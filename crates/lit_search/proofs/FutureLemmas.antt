@@ -1,14 +1,12 @@
 -- The rest of an interleaving from a moment on: the accesses still to come, and each agent's steps.
-use Rattle.lit_search.proofs.Words.{◌+◌, ◌++◌, ◌<◌, ◌==◌, [], accesses, after_each, after_end, after_statement, after_turn, AgreesWith, ap}
-use Rattle.lit_search.proofs.Words.{append-nil, ap₂, arith, beginning, cases_eq, cases_lt, Contents, End, ending, Event, false, filter}
-use Rattle.lit_search.proofs.Words.{found_by, from_access, get_or-range_with_len, get_or-set_other, get_or-set_same, get_or_past}
-use Rattle.lit_search.proofs.Words.{if◌then◌else◌, inl, inr, is_access, IsWalk, left_behind, length, length-map, length-range_with_len}
-use Rattle.lit_search.proofs.Words.{length-slice_set, List, Litmus, made_at_end, made_by_each, made_in_turn, makers_of, map, Moment}
-use Rattle.lit_search.proofs.Words.{nat_tests, next_maker, Option, Progress, progress_of, range_more, range_with_len, refl, replicate}
-use Rattle.lit_search.proofs.Words.{slice_set, Some, Statement, Statements, Step, subst, suc, sym, Then, true, zero, zero-add, ℕ, ◌∙◌, ◌∷◌}
-use Rattle.lit_search.proofs.Words.{◌≡◌, ◌≢◌, ◌≤◌}
-use Rattle.std.proofs.Common.{append_assoc}
-use Rattle.std.specs.Prelude.{All}
+use Rattle.lit_search.proofs.Words.{◌+◌, ◌++◌, ◌<◌, ◌==◌, [], accesses, after_each, after_end, after_statement, after_turn, AgreesWith}
+use Rattle.lit_search.proofs.Words.{All, ap, append-nil, append_assoc, ap₂, arith, beginning, cases_eq, cases_lt, Contents, End, ending}
+use Rattle.lit_search.proofs.Words.{Event, false, filter, found_by, from_access, get_or-range_with_len, get_or-set_other, get_or-set_same}
+use Rattle.lit_search.proofs.Words.{get_or_past, if◌then◌else◌, inl, inr, is_access, IsWalk, left_behind, length, length-map}
+use Rattle.lit_search.proofs.Words.{length-range_with_len, length-slice_set, List, Litmus, made_at_end, made_by_each, made_in_turn}
+use Rattle.lit_search.proofs.Words.{makers_of, map, Moment, nat_tests, next_maker, Option, Progress, progress_of, range_more}
+use Rattle.lit_search.proofs.Words.{range_with_len, refl, replicate, slice_set, Some, Statement, Statements, Step, subst, suc, sym, Then}
+use Rattle.lit_search.proofs.Words.{true, zero, zero-add, ℕ, ◌∙◌, ◌∷◌, ◌≡◌, ◌≢◌, ◌≤◌}
 use Rattle.lit_paths.specs.Path.{events_on}
 use Rattle.lit_search.specs.Interleaving.{after}
 use Rattle.lit_search.proofs.ActLemmas.{act_agrees, act_block, act_events, act_found, act_owner, act_walked, event_made, found_before, found_in_turn, is_owned_by, same_agent, step_made, lead}

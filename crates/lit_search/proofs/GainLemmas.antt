@@ -1,9 +1,8 @@
 -- What is gained by one set of choices and then by another, and the reports that come of it.
-use Rattle.lit_search.proofs.Words.{◌++◌, ◌<◌, [], ap, append-nil, are_same, arith, Bool, cases_lt, Entry, false, false≢true, Gains}
-use Rattle.lit_search.proofs.Words.{GoesOn, HasEntry, HasOutcome, HasTaken, in_either, in_range, inl, inr, IsDistinct, IsReport, IsTrue}
-use Rattle.lit_search.proofs.Words.{length, List, Litmus, or_left, or_right, outcome_stays, refl, risen, slice_get, Some, subst, suc, sym}
-use Rattle.lit_search.proofs.Words.{take, take-append_seam, zero, ℕ, ◌↔◌, ◌∙◌, ◌∷◌, ◌≡◌, ◌≤◌, ◌⊎◌}
-use Rattle.std.proofs.Common.{append_assoc}
+use Rattle.lit_search.proofs.Words.{◌++◌, ◌<◌, [], ap, append-nil, append_assoc, are_same, arith, Bool, cases_lt, Entry, false, false≢true}
+use Rattle.lit_search.proofs.Words.{Gains, GoesOn, HasEntry, HasOutcome, HasTaken, in_either, in_range, inl, inr, IsDistinct, IsReport}
+use Rattle.lit_search.proofs.Words.{IsTrue, length, List, Litmus, or_left, or_right, outcome_stays, refl, risen, slice_get, Some, subst}
+use Rattle.lit_search.proofs.Words.{suc, sym, take, take-append_seam, zero, ℕ, ◌↔◌, ◌∙◌, ◌∷◌, ◌≡◌, ◌≤◌, ◌⊎◌}
 use Rattle.lit_search.proofs.NumberSets.{before_end, either_cases, not_below, within}
 use Rattle.lit_search.proofs.RisenEntries.{retained_from, retained_to, risen_from, risen_to, rises}
 

@@ -1,11 +1,10 @@
 -- Entries that rise by outcome: which stand in a list, how their examples compare, and two such lists merged.
-use Rattle.lit_search.proofs.Words.{◌++◌, [], all_weaker, AllByRecursion, ap, AreMerged, comparing, cond, Entry, exact_bytes, example_cmp}
-use Rattle.lit_search.proofs.Words.{false, HasEntry, HasInEither, heads_cmp, inl, inr, is_gt, IsFalse, IsStrictlySortedBy, IsTotalOrder}
-use Rattle.lit_search.proofs.Words.{length, lesser, List, map, match_ordering, merged, nat_cmp, nat_list_cmp_total, nil_from_length, None}
-use Rattle.lit_search.proofs.Words.{on, Option, option_map, option_to_list, Ordering, ordering_reverse, outcome_cmp, refl, rules}
-use Rattle.lit_search.proofs.Words.{same_Some, slice_cmp, slice_get, Some, subst, suc, sym, then_cmp, true, zero, ℕ, ◌∙◌, ◌∷◌, ◌≡◌, ◌≢◌}
-use Rattle.lit_search.proofs.Words.{◌⊎◌}
-use Rattle.std.specs.declared.cmp.Ordering.TheVariants.{Less, Equal, Greater}
+use Rattle.lit_search.proofs.Words.{◌++◌, [], all_weaker, AllByRecursion, ap, AreMerged, comparing, cond, Entry, Equal, exact_bytes}
+use Rattle.lit_search.proofs.Words.{example_cmp, false, Greater, HasEntry, HasInEither, heads_cmp, inl, inr, is_gt, IsFalse}
+use Rattle.lit_search.proofs.Words.{IsStrictlySortedBy, IsTotalOrder, length, Less, lesser, List, map, match_ordering, merged, nat_cmp}
+use Rattle.lit_search.proofs.Words.{nat_list_cmp_total, nil_from_length, None, on, Option, option_map, option_to_list, Ordering}
+use Rattle.lit_search.proofs.Words.{ordering_reverse, outcome_cmp, refl, rules, same_Some, slice_cmp, slice_get, Some, subst, suc, sym}
+use Rattle.lit_search.proofs.Words.{then_cmp, true, zero, ℕ, ◌∙◌, ◌∷◌, ◌≡◌, ◌≢◌, ◌⊎◌}
 
 -- entries with rising outcomes
 abbrev pub AreRising : List Entry → Type 0

@@ -1,13 +1,12 @@
 -- What accesses and turns preserve.
 use Rattle.lit_search.proofs.Words.{◌++◌, ◌==◌, [], after_each, after_end, after_statement, after_turn, Agent, ap, append-nil}
-use Rattle.lit_search.proofs.Words.{AreStatementsIn, arith, beginning, cases_lt, CompareExchange, compares, Contents, drop, drop_all, End}
-use Rattle.lit_search.proofs.Words.{Exchange, false, first_byte, found_by, from_access, get_or-map, get_or_past, If, if◌then◌else◌, inl}
-use Rattle.lit_search.proofs.Words.{inr, is_access, is_in_block, IsLitmus, IsStatementIn, IsTrue, left_behind, length, length-map}
-use Rattle.lit_search.proofs.Words.{length-paste, length-replicate, length-slice_set, List, Litmus, Load, map, Moment, number_in}
-use Rattle.lit_search.proofs.Words.{payload_of, Progress, progress_of, refl, REGISTERS, replicate, slice_index, slice_index_or, slice_set}
-use Rattle.lit_search.proofs.Words.{Statement, Statements, Store, subst, suc, sym, take, take_all, Then, true, Uint16, Uint32, Window}
-use Rattle.lit_search.proofs.Words.{window-in_block, window_size, with_number, zero, ℕ, ◌∙◌, ◌∷◌, ◌≡◌, ◌≤◌}
-use Rattle.std.proofs.Common.{append_assoc}
+use Rattle.lit_search.proofs.Words.{append_assoc, AreStatementsIn, arith, beginning, cases_lt, CompareExchange, compares, Contents, drop}
+use Rattle.lit_search.proofs.Words.{drop_all, End, Exchange, false, first_byte, found_by, from_access, get_or-map, get_or_past, If}
+use Rattle.lit_search.proofs.Words.{if◌then◌else◌, inl, inr, is_access, is_in_block, IsLitmus, IsStatementIn, IsTrue, left_behind, length}
+use Rattle.lit_search.proofs.Words.{length-map, length-paste, length-replicate, length-slice_set, List, Litmus, Load, map, Moment}
+use Rattle.lit_search.proofs.Words.{number_in, payload_of, Progress, progress_of, refl, REGISTERS, replicate, slice_index, slice_index_or}
+use Rattle.lit_search.proofs.Words.{slice_set, Statement, Statements, Store, subst, suc, sym, take, take_all, Then, true, Uint16, Uint32}
+use Rattle.lit_search.proofs.Words.{Window, window-in_block, window_size, with_number, zero, ℕ, ◌∙◌, ◌∷◌, ◌≡◌, ◌≤◌}
 use Rattle.lit_search.specs.Interleaving.{accessed, after}
 use Rattle.lit_search.proofs.NextAccess.{said_from}
 

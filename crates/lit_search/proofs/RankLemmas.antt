@@ -1,15 +1,13 @@
 -- Packed lists: where they differ, they compare as the lists do. And ranks of entries.
 use Rattle.lit_search.proofs.Words.{◌*◌, ◌+◌, ◌++◌, ◌-◌, ◌<◌, [], ◌^◌, All-map, All-push, ap, ap₂, AreRanks, arith, cases_lt, cases_order}
-use Rattle.lit_search.proofs.Words.{drop, drop_all, drop_more, Entry, entry_at, flat_map-append, get_or, get_or-append-add}
-use Rattle.lit_search.proofs.Words.{get_or_append_left, get_or_from_slice_get, get_or_past, heads_cmp, inl, inr, Inside, is_lt, IsPacked}
-use Rattle.lit_search.proofs.Words.{IsRank, IsRanked, IsSortedBy, joined_entries, length, length-map, List, lt-leb, lt-ltb, map}
-use Rattle.lit_search.proofs.Words.{map-append, merged, mul-le-mul_right, nat_cmp, nat_cmp_is, nat_list_cmp_total, None, none-some}
-use Rattle.lit_search.proofs.Words.{one-le-pow, option_map, Ordering, ordering_reverse, ordering_then, outcome_cmp, packed}
-use Rattle.lit_search.proofs.Words.{pow-le-pow_right, pow-suc, pow-succ', Rank, rank_cmp, ranked_entry, refl, Report, report_of, slice_cmp}
-use Rattle.lit_search.proofs.Words.{slice_get, slice_get-get_or, slice_get-map, slice_get_within, slice_index_or, Some, subst, suc}
-use Rattle.lit_search.proofs.Words.{suc-mul, sym, take, take-suc, zero, ℕ, ◌∙◌, ◌∷◌, ◌≡◌, ◌≢◌, ◌≤◌}
-use Rattle.std.specs.declared.cmp.Ordering.TheVariants.{Less, Equal, Greater}
-use Rattle.std.proofs.lemmas.List.{length-append}
+use Rattle.lit_search.proofs.Words.{drop, drop_all, drop_more, Entry, entry_at, Equal, flat_map-append, get_or, get_or-append-add}
+use Rattle.lit_search.proofs.Words.{get_or_append_left, get_or_from_slice_get, get_or_past, Greater, heads_cmp, inl, inr, Inside, is_lt}
+use Rattle.lit_search.proofs.Words.{IsPacked, IsRank, IsRanked, IsSortedBy, joined_entries, length, length-append, length-map, Less, List}
+use Rattle.lit_search.proofs.Words.{lt-leb, lt-ltb, map, map-append, merged, mul-le-mul_right, nat_cmp, nat_cmp_is, nat_list_cmp_total}
+use Rattle.lit_search.proofs.Words.{None, none-some, one-le-pow, option_map, Ordering, ordering_reverse, ordering_then, outcome_cmp}
+use Rattle.lit_search.proofs.Words.{packed, pow-le-pow_right, pow-suc, pow-succ', Rank, rank_cmp, ranked_entry, refl, Report, report_of}
+use Rattle.lit_search.proofs.Words.{slice_cmp, slice_get, slice_get-get_or, slice_get-map, slice_get_within, slice_index_or, Some, subst}
+use Rattle.lit_search.proofs.Words.{suc, suc-mul, sym, take, take-suc, zero, ℕ, ◌∙◌, ◌∷◌, ◌≡◌, ◌≢◌, ◌≤◌}
 
 -- ---- a value more in front
 pub packed-nil : (top n : ℕ) → packed top n [] ≡ 0

@@ -1,10 +1,9 @@
 -- Reports of sets of choices: of two sets, and that a set has one.
-use Rattle.lit_search.proofs.Words.{◌<◌, ap, ap₂, AreEntries, AreMerged, arith, Bool, cases_lt, choices_of, Entry, exact_bytes}
-use Rattle.lit_search.proofs.Words.{example_cmp, execution_choice, execution_events, false≢true, Gives, GivesRace, HasInEither}
+use Rattle.lit_search.proofs.Words.{◌<◌, ap, ap₂, AreEntries, AreMerged, arith, Bool, cases_lt, choices_of, Entry, Equal, exact_bytes}
+use Rattle.lit_search.proofs.Words.{example_cmp, execution_choice, execution_events, false≢true, Gives, GivesRace, Greater, HasInEither}
 use Rattle.lit_search.proofs.Words.{HasLeastOrder, in_either, inl, inr, is_gt, IsEntry, IsFalse, IsLeastMemoryOrder, IsMerge, IsReport}
-use Rattle.lit_search.proofs.Words.{IsTrue, length, List, Litmus, nat_cmp_is, or_left, or_right, refl, Report, slice_get_within, subst}
-use Rattle.lit_search.proofs.Words.{sym, true, ℕ, ◌∙◌, ◌≡◌, ◌≤◌, ◌⊎◌}
-use Rattle.std.specs.declared.cmp.Ordering.TheVariants.{Less, Equal, Greater}
+use Rattle.lit_search.proofs.Words.{IsTrue, length, Less, List, Litmus, nat_cmp_is, or_left, or_right, refl, Report, slice_get_within}
+use Rattle.lit_search.proofs.Words.{subst, sym, true, ℕ, ◌∙◌, ◌≡◌, ◌≤◌, ◌⊎◌}
 use Rattle.lit_search.proofs.NumberSets.{either_cases, same_test}
 use Rattle.lit_search.proofs.MergedEntries.{Stands, cmp, reversed, same_rising}
 

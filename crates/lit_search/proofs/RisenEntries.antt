@@ -1,12 +1,12 @@
 -- Entries in the order in which they were recorded: how they rise, and those of a map from outcomes to examples.
 use Rattle.lit_search.proofs.Words.{◌++◌, ◌<◌, [], AllByRecursion, ap, are_same, AreMerged, arith, Bool, cond, Contains-permutation, Entry}
-use Rattle.lit_search.proofs.Words.{false, get_or_from_slice_get, HasInEither, HasOutcome, inl, inr, insert_entry, is_eq, is_lt, is_some}
-use Rattle.lit_search.proofs.Words.{IsDistinct, IsDistinct-IsPermutation, IsPermutation, IsPermutation-sym, IsSortedBy, IsStrictlySortedBy}
-use Rattle.lit_search.proofs.Words.{IsTrue, keys_of, length, List, lookup, map, merged, nat_eq, nat_list_cmp_total, nat_list_eq_equiv}
-use Rattle.lit_search.proofs.Words.{Ordering, ordering_reverse, outcome_cmp, pointwise, ranks_by, refl, risen, same_Some, same_text}
-use Rattle.lit_search.proofs.Words.{slice_get, slice_get-get_or, slice_get-map-known, slice_get_within, slice_index_or, Some, sorted_far}
-use Rattle.lit_search.proofs.Words.{subst, suc, sym, texts_ties, true, unary_clauses, zero, ℕ, ◌↔◌, ◌∙◌, ◌∷◌, ◌≡◌, ◌≢◌, ◌⊎◌}
-use Rattle.std.specs.declared.cmp.Ordering.TheVariants.{Less, Equal, Greater}
+use Rattle.lit_search.proofs.Words.{Equal, false, get_or_from_slice_get, Greater, HasInEither, HasOutcome, inl, inr, insert_entry, is_eq}
+use Rattle.lit_search.proofs.Words.{is_lt, is_some, IsDistinct, IsDistinct-IsPermutation, IsPermutation, IsPermutation-sym, IsSortedBy}
+use Rattle.lit_search.proofs.Words.{IsStrictlySortedBy, IsTrue, keys_of, length, Less, List, lookup, map, merged, nat_eq}
+use Rattle.lit_search.proofs.Words.{nat_list_cmp_total, nat_list_eq_equiv, Ordering, ordering_reverse, outcome_cmp, pointwise, ranks_by}
+use Rattle.lit_search.proofs.Words.{refl, risen, same_Some, same_text, slice_get, slice_get-get_or, slice_get-map-known, slice_get_within}
+use Rattle.lit_search.proofs.Words.{slice_index_or, Some, sorted_far, subst, suc, sym, texts_ties, true, unary_clauses, zero, ℕ, ◌↔◌, ◌∙◌}
+use Rattle.lit_search.proofs.Words.{◌∷◌, ◌≡◌, ◌≢◌, ◌⊎◌}
 use Rattle.lit_search.proofs.MergedEntries.{AreMerged-merged, AreRising-merged, AreRising, Stands, all_from_each, all_stand, differs, first_stands, later_stands, once, same_rising, stands_cases, stands_in_none}
 
 flips : (a b : Entry) → are_same a b ≡ are_same b a

@@ -1,18 +1,16 @@
 -- The execution of an interleaving: the runs of its agents, and the last writers before each read. It is valid, and reported.
-use Rattle.lit_search.proofs.Words.{◌&&◌, ◌+◌, ◌++◌, ◌<◌, [], accesses_on, agent_of, AgreesWith, and_from, ap, ap₂, AreOfEvents, arith}
-use Rattle.lit_search.proofs.Words.{beginning, cases_lt, choices_of, decisions_on, does_read, End, ending, Event, event_at, events_of}
-use Rattle.lit_search.proofs.Words.{Execution, execution_choice, execution_events, execution_outcome, false, filter-append, flat_map}
-use Rattle.lit_search.proofs.Words.{get_or, get_or-map, get_or-map-range_with_len, get_or_from_slice_get, get_or_past, HasExecution}
-use Rattle.lit_search.proofs.Words.{HasValidChosenReads, if◌then◌else◌, in_range, inl, inr, interleaved, IsCandidateExecution, IsLitmus}
-use Rattle.lit_search.proofs.Words.{IsMemoryOrder, IsReport, IsReported, IsRun, IsSequential, IsValidExecution, IsWalk, Laws, le-leb}
-use Rattle.lit_search.proofs.Words.{length, length-map, length-map-range_with_len, List, Litmus, lt-ltb, makers_of, map, maps, nat_le}
-use Rattle.lit_search.proofs.Words.{nat_lt, no_run, None, Option, outcome_of, Path, Progress, progress_of, range_with_len}
-use Rattle.lit_search.proofs.Words.{read_numbers-accesses, read_numbers_from, refl, replicate, Report, Run, run_path, same_lists}
-use Rattle.lit_search.proofs.Words.{slice_get, slice_get-map-found, slice_get-map-known, slice_get_right, slice_get_within, Some, subst}
-use Rattle.lit_search.proofs.Words.{sym, take, take-append-le, take-map, take_all, taken_each, taken_together, true, value_of, ℕ, ◌∙◌, ◌∷◌}
-use Rattle.lit_search.proofs.Words.{◌≡◌, ◌≤◌}
-use Rattle.std.proofs.Common.{append_assoc, length-append}
-use Rattle.std.specs.Prelude.{All}
+use Rattle.lit_search.proofs.Words.{◌&&◌, ◌+◌, ◌++◌, ◌<◌, [], accesses_on, agent_of, AgreesWith, All, and_from, ap, append_assoc, ap₂}
+use Rattle.lit_search.proofs.Words.{AreOfEvents, arith, beginning, cases_lt, choices_of, decisions_on, does_read, End, ending, Event}
+use Rattle.lit_search.proofs.Words.{event_at, events_of, Execution, execution_choice, execution_events, execution_outcome, false}
+use Rattle.lit_search.proofs.Words.{filter-append, flat_map, get_or, get_or-map, get_or-map-range_with_len, get_or_from_slice_get}
+use Rattle.lit_search.proofs.Words.{get_or_past, HasExecution, HasValidChosenReads, if◌then◌else◌, in_range, inl, inr, interleaved}
+use Rattle.lit_search.proofs.Words.{IsCandidateExecution, IsLitmus, IsMemoryOrder, IsReport, IsReported, IsRun, IsSequential}
+use Rattle.lit_search.proofs.Words.{IsValidExecution, IsWalk, Laws, le-leb, length, length-append, length-map, length-map-range_with_len}
+use Rattle.lit_search.proofs.Words.{List, Litmus, lt-ltb, makers_of, map, maps, nat_le, nat_lt, no_run, None, Option, outcome_of, Path}
+use Rattle.lit_search.proofs.Words.{Progress, progress_of, range_with_len, read_numbers-accesses, read_numbers_from, refl, replicate}
+use Rattle.lit_search.proofs.Words.{Report, Run, run_path, same_lists, slice_get, slice_get-map-found, slice_get-map-known}
+use Rattle.lit_search.proofs.Words.{slice_get_right, slice_get_within, Some, subst, sym, take, take-append-le, take-map, take_all}
+use Rattle.lit_search.proofs.Words.{taken_each, taken_together, true, value_of, ℕ, ◌∙◌, ◌∷◌, ◌≡◌, ◌≤◌}
 use Rattle.lit_paths.specs.Path.{events_on}
 use Rattle.lit_search.proofs.ActLemmas.{after_event, found_at, found_in_turn, is_owned_by, same_agent}
 use Rattle.lit_search.proofs.FutureLemmas.{Future, ending_agents, no_progress, own_events, interleaving_future}

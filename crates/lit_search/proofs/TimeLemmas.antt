@@ -1,16 +1,15 @@
 -- The accesses that an agent makes on a walk, those of all agents in the order of time, and their numbers.
-use Rattle.lit_search.proofs.Words.{◌+◌, ◌++◌, ◌-◌, ◌<◌, [], ap, append-nil, ap₂, AreStatementsIn, arith, Bool, cases_lt, cases_order}
-use Rattle.lit_search.proofs.Words.{compare_exchange_event, CompareExchange, cond, End, Event, event_at, events_of, Exchange, false}
-use Rattle.lit_search.proofs.Words.{filter, flat_map, get_or, get_or-append-add, get_or-flat_map, get_or-map-range_with_len}
+use Rattle.lit_search.proofs.Words.{◌+◌, ◌++◌, ◌-◌, ◌<◌, [], ap, append-nil, append_assoc, ap₂, AreStatementsIn, arith, Bool, cases_lt}
+use Rattle.lit_search.proofs.Words.{cases_order, compare_exchange_event, CompareExchange, cond, End, Event, event_at, events_of, Exchange}
+use Rattle.lit_search.proofs.Words.{false, filter, flat_map, get_or, get_or-append-add, get_or-flat_map, get_or-map-range_with_len}
 use Rattle.lit_search.proofs.Words.{get_or-range_with_len, get_or_append_left, get_or_from_slice_get, If, init_event, init_events, inl}
 use Rattle.lit_search.proofs.Words.{inr, is_in_block, IsAgentOrdered, IsListOfAll, IsMadeBefore, IsStatementIn, IsStatementWalk, IsTrue}
-use Rattle.lit_search.proofs.Words.{IsWalk, length, length-flat_map-take, length-init_events, length-range_with_len, List, Load, map}
-use Rattle.lit_search.proofs.Words.{map-append, maps, modify_event, nat_tests, no_event, None, none-some, Option, order-other}
+use Rattle.lit_search.proofs.Words.{IsWalk, length, length-append, length-flat_map-take, length-init_events, length-range_with_len, List}
+use Rattle.lit_search.proofs.Words.{Load, map, map-append, maps, modify_event, nat_tests, no_event, None, none-some, Option, order-other}
 use Rattle.lit_search.proofs.Words.{range_with_len, read_event, refl, replicate, same_Some, slice_get, slice_get-get_or}
 use Rattle.lit_search.proofs.Words.{slice_get-map-found, slice_get-map-known, slice_get_left, slice_get_right, slice_get_within, Some}
 use Rattle.lit_search.proofs.Words.{StandsBefore, Statement, Statements, Step, Store, subst, suc, sym, take, Then, true, Window}
 use Rattle.lit_search.proofs.Words.{window-in_block, write_event, zero, ℕ, ◌∙◌, ◌∷◌, ◌≡◌, ◌≢◌, ◌≤◌, ◌⊎◌}
-use Rattle.std.proofs.Common.{append_assoc, length-append}
 use Rattle.lit_paths.specs.declared.event.Order3.TheVariants.{Init}
 use Rattle.lit_paths.specs.Path.{events_on}
 use Rattle.lit_search.proofs.MomentLemmas.{few_bytes}

@@ -10,9 +10,8 @@ pub use Rattle.lit_paths.proofs.Products.{slice_get-drop, slice_get_left, slice_
 pub use Rattle.lit_paths.proofs.Rising.{slice_get-map-found, slice_get-map-known}
 pub use Rattle.lit_paths.specs.ByteReads.{byte_reads, IsCandidate}
 pub use Rattle.lit_paths.specs.Choice.{AreSources, Choice, choices_of, events_of}
-pub use Rattle.lit_paths.specs.Event.{does_read, does_write, event_at, HasByte, init_event, init_events, no_event}
+pub use Rattle.lit_paths.specs.Event.{does_read, does_write, event_at, HasByte, init_event, init_events, no_event, payload_at}
 unfoldable pub use Rattle.lit_paths.specs.Event.{HasSameRange}
-pub use Rattle.lit_paths.specs.Event.{payload_at}
 pub use Rattle.lit_paths.specs.Execution.{Execution, execution_choice, execution_events, execution_outcome, IsCandidateExecution}
 pub use Rattle.lit_paths.specs.Outcome.{outcome_of}
 pub use Rattle.lit_paths.specs.Path.{compare_exchange_event, CompareExchangeMet, decisions_on, ExchangeMet, first_byte, IfMet}
@@ -78,9 +77,10 @@ pub use Rattle.lit_valid.specs.Gives.{Gives, GivesRace, HasLeastOrder}
 pub use Rattle.lit_valid.specs.Laws.{Laws}
 pub use Rattle.lit_valid.specs.ValidExecution.{HasValidChosenReads, IsValidExecution, read_numbers_from}
 pub use Rattle.lit_valid.specs.declared.class.Class.{Class}
-pub use Rattle.std.proofs.Common.{◌*◌, ◌+◌, ◌++◌, ◌-◌, ◌<◌, ◌==◌, [], ◌^◌, ap, append-nil, ap₂, arith, Bool, cond, drop, false, filter}
-pub use Rattle.std.proofs.Common.{flat_map, get_or, inl, inr, length, length-drop, List, map, None, Option, refl, rules, Some, subst, suc}
-pub use Rattle.std.proofs.Common.{sym, take, true, zero, zero-add, zip, ◌||◌, ℕ, ◌↔◌, ◌∙◌, ◌∷◌, ◌≡◌, ◌≢◌, ◌≤◌, ◌⊎◌}
+pub use Rattle.std.proofs.Common.{◌*◌, ◌+◌, ◌++◌, ◌-◌, ◌<◌, ◌==◌, [], ◌^◌, ap, append-nil, append_assoc, ap₂, arith, Bool, cond, drop}
+pub use Rattle.std.proofs.Common.{eq-eqb, false, filter, flat_map, get_or, inl, inr, length, length-append, length-drop, List, map, None}
+pub use Rattle.std.proofs.Common.{Option, refl, rules, Some, subst, suc, sym, take, true, zero, zero-add, zip, ◌||◌, ℕ, ◌↔◌, ◌∙◌, ◌∷◌, ◌≡◌}
+pub use Rattle.std.proofs.Common.{◌≢◌, ◌≤◌, ◌⊎◌}
 pub use Rattle.std.proofs.Math.Bool.{beq}
 pub use Rattle.std.proofs.Math.Nat.{le-mul_of_pos_right, mul-le-mul_right, one-le-pow, pow-le-pow_right, pow-suc, pow-succ', suc-mul}
 pub use Rattle.std.proofs.Math.Seq.{take-append_seam, take-suc}
@@ -118,8 +118,9 @@ unfoldable pub use Rattle.std.specs.List.Sorted.{IsStrictlySortedBy}
 pub use Rattle.std.specs.Map.{keys_of, lookup}
 pub use Rattle.std.specs.Option.{option_map, option_to_list}
 pub use Rattle.std.specs.Ordering.{is_eq, is_gt, is_lt, match_ordering, nat_cmp, on, ordering_reverse, ordering_then, then_cmp}
-pub use Rattle.std.specs.Prelude.{◌&&◌, if◌then◌else◌, is_some, IsFalse, IsTrue, nat_eq, nat_le, nat_lt, not, replicate, slice_get}
+pub use Rattle.std.specs.Prelude.{◌&&◌, All, if◌then◌else◌, is_some, IsFalse, IsTrue, nat_eq, nat_le, nat_lt, not, replicate, slice_get}
 pub use Rattle.std.specs.Prelude.{slice_index, slice_index_or, slice_set}
 pub use Rattle.std.specs.Vec.Iter.{into_iter_items}
 pub use Rattle.std.specs.declared.cmp.Ordering.{Ordering}
 pub use native.Mathlib.Numerals.{unary_clauses}
+pub use Rattle.std.specs.declared.cmp.Ordering.TheVariants.{Equal, Greater, Less}

@@ -1,16 +1,14 @@
 -- The last writer of each byte that is read, in the order of turns, and the block's bytes in the course of the turns.
-use Rattle.lit_search.proofs.Words.{◌&&◌, ◌+◌, ◌++◌, ◌-◌, ◌<◌, ◌==◌, [], and_from, and_parts, ap, AreOfEvents, AreSources, arith, Bool}
-use Rattle.lit_search.proofs.Words.{byte_reads, cases_lt, composed, does_read, does_write, drop, Event, event_at, false, false≢true}
-use Rattle.lit_search.proofs.Words.{filter, get_or-append_right, get_or-drop, get_or-map-range_with_len, get_or-replicate, get_or-take}
-use Rattle.lit_search.proofs.Words.{get_or_append_left, get_or_default, HasByte, if◌then◌else◌, inl, inr, IsCandidate, IsLastWrite}
-use Rattle.lit_search.proofs.Words.{IsSequential, IsTrue, le-leb, leb-true, length, length-drop, length-map, length-map-range_with_len}
-use Rattle.lit_search.proofs.Words.{length-paste, length-replicate, length-take, length-take-le, List, lt-leb, lt-ltb, ltb-true, map, maps}
-use Rattle.lit_search.proofs.Words.{nat_le, nat_lt, nat_tests, no_event, None, none-some, only_its, payload_at, range_with_len, refl}
-use Rattle.lit_search.proofs.Words.{replicate, same_lists, same_Some, slice_get, slice_get-drop, slice_get-get_or, slice_get-map-found}
-use Rattle.lit_search.proofs.Words.{slice_get_within, slice_index, Some, StandsBefore, subst, suc, sym, take, take_from, true, value_of}
-use Rattle.lit_search.proofs.Words.{zero, zip, ℕ, ◌∙◌, ◌∷◌, ◌≡◌, ◌≢◌, ◌≤◌, ◌⊎◌}
-use Rattle.std.proofs.Common.{append_assoc}
-use Rattle.std.proofs.lemmas.Bool.{eq-eqb}
+use Rattle.lit_search.proofs.Words.{◌&&◌, ◌+◌, ◌++◌, ◌-◌, ◌<◌, ◌==◌, [], and_from, and_parts, ap, append_assoc, AreOfEvents, AreSources}
+use Rattle.lit_search.proofs.Words.{arith, Bool, byte_reads, cases_lt, composed, does_read, does_write, drop, eq-eqb, Event, event_at}
+use Rattle.lit_search.proofs.Words.{false, false≢true, filter, get_or-append_right, get_or-drop, get_or-map-range_with_len}
+use Rattle.lit_search.proofs.Words.{get_or-replicate, get_or-take, get_or_append_left, get_or_default, HasByte, if◌then◌else◌, inl, inr}
+use Rattle.lit_search.proofs.Words.{IsCandidate, IsLastWrite, IsSequential, IsTrue, le-leb, leb-true, length, length-drop, length-map}
+use Rattle.lit_search.proofs.Words.{length-map-range_with_len, length-paste, length-replicate, length-take, length-take-le, List, lt-leb}
+use Rattle.lit_search.proofs.Words.{lt-ltb, ltb-true, map, maps, nat_le, nat_lt, nat_tests, no_event, None, none-some, only_its}
+use Rattle.lit_search.proofs.Words.{payload_at, range_with_len, refl, replicate, same_lists, same_Some, slice_get, slice_get-drop}
+use Rattle.lit_search.proofs.Words.{slice_get-get_or, slice_get-map-found, slice_get_within, slice_index, Some, StandsBefore, subst, suc}
+use Rattle.lit_search.proofs.Words.{sym, take, take_from, true, value_of, zero, zip, ℕ, ◌∙◌, ◌∷◌, ◌≡◌, ◌≢◌, ◌≤◌, ◌⊎◌}
 use Rattle.lit_search.proofs.SequentialLemmas.{not_itself}
 use Rattle.lit_search.proofs.TimeLemmas.{IsTimeline, act_earlier, act_place, complete, event_of, init_earlier, respects_agents, respects_making, order_in_turn, place_of, IsAct}
 use Rattle.lit_search.proofs.ActLemmas.{after_event, found_at}

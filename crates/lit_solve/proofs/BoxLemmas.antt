@@ -1,9 +1,7 @@
 -- What a box gives, and what becomes of it where domains shrink.
-use Rattle.lit_solve.proofs.Words.{ap, arith, Box, box_events, cases_eq, Event, events_in, Given, GivenIn, Grows, HappensBeforeBy}
-use Rattle.lit_solve.proofs.Words.{HappensBeforeIn, HasEmptyDomain, HasSource, IsForbiddenBy, IsForbiddenIn, IsForcedIn, IsWithin, List}
-use Rattle.lit_solve.proofs.Words.{Litmus, slice_get_within, subst, sym, ℕ, ◌∙◌, ◌≡◌, ◌⊎◌}
-use Rattle.lit_rel.proofs.GrowthLemmas.{Grows-from}
-use Rattle.lit_order.proofs.ForcingLemmas.{IsForced-grow}
+use Rattle.lit_solve.proofs.Words.{ap, arith, Box, box_events, cases_eq, Event, events_in, Given, GivenIn, Grows, Grows-from}
+use Rattle.lit_solve.proofs.Words.{HappensBeforeBy, HappensBeforeIn, HasEmptyDomain, HasSource, IsForbiddenBy, IsForbiddenIn}
+use Rattle.lit_solve.proofs.Words.{IsForced-grow, IsForcedIn, IsWithin, List, Litmus, slice_get_within, subst, sym, ℕ, ◌∙◌, ◌≡◌, ◌⊎◌}
 
 -- an event is in a domain or not
 pub has_source : (box : Box) (k w : ℕ) → HasSource box k w ⊎ ¬ HasSource box k w

@@ -1,18 +1,14 @@
 -- Completions of a box take what it gives, respect what it forces, and have no source that it prunes.
-use Rattle.lit_solve.proofs.Words.{◌<◌, [], ap, AreEventsIn, AreOfEvents, AreSources, arith, Box, box_events, byte_reads, Completes, Event}
-use Rattle.lit_solve.proofs.Words.{Execution, execution_events, get_or, Given, GivenIn, Grows, HappensBefore, HappensBeforeIn}
-use Rattle.lit_solve.proofs.Words.{HasCoherentReads, HasTearFreeReads, inl, inr, IsBox, IsBroken, IsCompletion, IsForbidden, IsForbiddenIn}
-use Rattle.lit_solve.proofs.Words.{IsForcedIn, IsGivenWhole, IsMemoryOrder, IsPrunable, IsRefuted, Laws, length, LiesIn, List, PartModel}
-use Rattle.lit_solve.proofs.Words.{ReadsByteFrom, ReadsWholeBy, RefusedBytesMakeFalse, slice_get, slice_get-get_or, slice_get_within, Some}
-use Rattle.lit_solve.proofs.Words.{StandsBefore, subst, sym, ℕ, ◌∙◌, ◌≡◌}
+use Rattle.lit_solve.proofs.Words.{◌<◌, [], ap, AreEventsIn, AreOfEvents, AreSources, arith, between_by, Box, box_events, byte_reads}
+use Rattle.lit_solve.proofs.Words.{coherent_read_by, Completes, Event, Execution, execution_events, get_or, Given, GivenIn, Grows}
+use Rattle.lit_solve.proofs.Words.{Grows-from, HappensBefore, HappensBeforeIn, HasCoherentReads, HasTearFreeReads, inl, inr, IsBox}
+use Rattle.lit_solve.proofs.Words.{IsBroken, IsCompletion, IsForbidden, IsForbiddenIn, IsForced-grow, IsForcedIn, IsGivenWhole}
+use Rattle.lit_solve.proofs.Words.{IsMemoryOrder, IsPrunable, IsRefuted, Laws, length, LiesIn, List, never_before_itself, not_broken}
+use Rattle.lit_solve.proofs.Words.{PartModel, ReadsByteFrom, ReadsWholeBy, RefusedBytesMakeFalse, respects_forced, slice_get}
+use Rattle.lit_solve.proofs.Words.{slice_get-get_or, slice_get_within, Some, StandsBefore, StandsBefore-through, subst, sym, triples_below}
+use Rattle.lit_solve.proofs.Words.{ℕ, ◌∙◌, ◌≡◌}
 use Rattle.std.proofs.Common.{append-nil}
-use Rattle.lit_rel.proofs.GrowthLemmas.{Grows-from}
-use Rattle.lit_rel.proofs.SameRelations.{between_by, coherent_read_by}
-use Rattle.lit_order.proofs.ForcedLemmas.{respects_forced}
-use Rattle.lit_order.proofs.ForcingLemmas.{IsForced-grow}
-use Rattle.lit_order.proofs.PartLemmas.{triples_below}
-use Rattle.lit_order.proofs.StandingLemmas.{StandsBefore-through, never_before_itself}
-use Rattle.lit_valid.proofs.CompletionLemmas.{its_events, not_broken}
+use Rattle.lit_valid.proofs.CompletionLemmas.{its_events}
 
 -- the box's combination with these sources
 abbrev pub part_of : Box → List ℕ → PartModel

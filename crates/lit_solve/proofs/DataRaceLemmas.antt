@@ -1,10 +1,8 @@
 -- Data races of completions, by what a box gives.
-use Rattle.lit_solve.proofs.Words.{ap, AreCoherentSources, AreSourcesIn, Box, box_events, byte_reads, Event, event_at, Execution}
-use Rattle.lit_solve.proofs.Words.{execution_events, HappensBefore, HappensBeforeIn, HasDataRace, HasSolution, inl, inr, IsBox}
-use Rattle.lit_solve.proofs.Words.{IsCompletion, IsFilled, IsLeaf, Laws, LieOn, List, Race, ReadsFrom, slice_get, Some, subst, sym}
-use Rattle.lit_solve.proofs.Words.{WriteOneByte, ℕ, ◌∙◌, ◌≡◌, ◌⊎◌}
-use Rattle.lit_rel.proofs.RaceLemmas.{HasDataRaceOf-wider}
-use Rattle.lit_solve.specs.DataRace.{CanFillFrom, CanRaceIn, HasSourceOf, MayRaceIn}
+use Rattle.lit_solve.proofs.Words.{ap, AreCoherentSources, AreSourcesIn, Box, box_events, byte_reads, CanFillFrom, CanRaceIn, Event}
+use Rattle.lit_solve.proofs.Words.{event_at, Execution, execution_events, HappensBefore, HappensBeforeIn, HasDataRace, HasDataRaceOf-wider}
+use Rattle.lit_solve.proofs.Words.{HasSolution, HasSourceOf, inl, inr, IsBox, IsCompletion, IsFilled, IsLeaf, Laws, LieOn, List, MayRaceIn}
+use Rattle.lit_solve.proofs.Words.{Race, ReadsFrom, slice_get, Some, subst, sym, WriteOneByte, ℕ, ◌∙◌, ◌≡◌, ◌⊎◌}
 use Rattle.lit_solve.proofs.CompletionLemmas.{events_same}
 use Rattle.lit_solve.proofs.FillLemmas.{before_back, completion_of_filled, filled_by, grows_in, no_cycle_given, order_given, sources_lie, unwritten_true}
 use Rattle.lit_solve.proofs.TogetherLemmas.{on_read, replaced, replaced_fill, replaced_lie, replaced_own}

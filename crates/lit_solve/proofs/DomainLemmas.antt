@@ -1,10 +1,9 @@
 -- A box with one domain pruned: it retains all completions.
-use Rattle.lit_solve.proofs.Words.{◌<◌, AreEventsIn, arith, Box, box_events, byte_read_at, byte_reads, cases_eq, EventSet, Execution}
-use Rattle.lit_solve.proofs.Words.{Frame, get_or, get_or-set_other, get_or-set_same, HasEmptyDomain, HasEvent, HasNoCompletion, HasSource}
-use Rattle.lit_solve.proofs.Words.{inl, inr, IsBox, IsCompletion, IsContained, IsPrunable, IsWithin, length, no_events, Prunes, refl}
-use Rattle.lit_solve.proofs.Words.{size_of, slice_get, slice_get-get_or, slice_index_or, slice_set, Some, subst, sum-map, sum_by-set, sym}
-use Rattle.lit_solve.proofs.Words.{ℕ, ◌≡◌, ◌≢◌}
-use Rattle.lit_rel.proofs.SetLemmas.{event_or_not, within_le}
+use Rattle.lit_solve.proofs.Words.{◌<◌, AreEventsIn, arith, Box, box_events, byte_read_at, byte_reads, cases_eq, event_or_not, EventSet}
+use Rattle.lit_solve.proofs.Words.{Execution, Frame, get_or, get_or-set_other, get_or-set_same, HasEmptyDomain, HasEvent, HasNoCompletion}
+use Rattle.lit_solve.proofs.Words.{HasSource, inl, inr, IsBox, IsCompletion, IsContained, IsPrunable, IsWithin, length, no_events, Prunes}
+use Rattle.lit_solve.proofs.Words.{refl, size_of, slice_get, slice_get-get_or, slice_index_or, slice_set, Some, subst, sum-map, sum_by-set}
+use Rattle.lit_solve.proofs.Words.{sym, within_le, ℕ, ◌≡◌, ◌≢◌}
 use Rattle.lit_solve.proofs.BoxLemmas.{before_grows, forced_grows}
 use Rattle.lit_solve.proofs.CompletionLemmas.{sourced}
 use Rattle.lit_solve.proofs.PruningLemmas.{read_here}

@@ -1,12 +1,6 @@
 -- Which sources can force anything, by the writes that have a range.
-use Rattle.lit_solve.proofs.Words.{◌<◌, arith, Event, event_at, EventSet, HasEffect, HasEvent, IsPeer, length, List, SeqCst, ℕ, ◌↔◌, ◌≡◌}
-use Rattle.lit_solve.proofs.Words.{◌⊎◌}
-use Rattle.lit_paths.specs.Event.{HasSameRange}
-use Rattle.lit_rel.proofs.ReadingLemmas.{write_known}
-
-same_range_back : (e d : Event) → HasSameRange e d → HasSameRange d e
-unfolding HasSameRange
-same_range_back e d same b = ((same b).1, (same b).0)
+use Rattle.lit_solve.proofs.Words.{◌<◌, arith, Event, event_at, EventSet, HasEffect, HasEvent, IsPeer, length, List, SeqCst}
+use Rattle.lit_solve.proofs.Words.{same_range_back, write_known, ℕ, ◌↔◌, ◌≡◌, ◌⊎◌}
 
 -- some event of range e that is no event of a set
 abbrev pub HasPeerBeside : List Event → ℕ → EventSet → Type 0

@@ -1,9 +1,8 @@
 -- Entries recorded one after another, of a box and of its parts.
 use Rattle.lit_solve.proofs.Words.{◌+◌, ◌++◌, ◌<◌, [], AddsEntries, Any, append-nil, append_assoc, AreNewEntries, arith, Box}
 use Rattle.lit_solve.proofs.Words.{choices_before, common_steps, Entry, Execution, execution_outcome, HasEachOutcome, HasOutcome}
-use Rattle.lit_solve.proofs.Words.{HasSources, IsCompletion, IsLeastEntry, IsLeastSolution, length, List, refl, subst, sym, ℕ, ◌∷◌, ◌≡◌}
-use Rattle.lit_solve.proofs.Words.{◌≤◌}
-use Rattle.lit_rel.proofs.PlaceLemmas.{place-left, place-middle}
+use Rattle.lit_solve.proofs.Words.{HasSources, IsCompletion, IsLeastEntry, IsLeastSolution, length, List, place-left, place-middle, refl}
+use Rattle.lit_solve.proofs.Words.{subst, sym, ℕ, ◌∷◌, ◌≡◌, ◌≤◌}
 
 -- ---- outcomes that have an entry
 pub outcome_stays : (old more : List Entry) (outcome : List ℕ) → HasOutcome old outcome → HasOutcome (old ++ more) outcome

@@ -1,17 +1,13 @@
 -- Leaves: any sources that lie in one have the relations of what it gives. So they are those of a completion exactly if they fill each
 -- read and there is an order of what is given.
-use Rattle.lit_solve.proofs.Words.{◌+◌, ◌<◌, AreCoherentSources, AreSourcesIn, arith, Box, box_events, byte_reads, CanSynchronize}
-use Rattle.lit_solve.proofs.Words.{does_write, Event, event_at, Execution, first_event, GivenIn, Grows, HappensBefore, HappensBeforeBy}
+use Rattle.lit_solve.proofs.Words.{◌+◌, ◌<◌, AreCoherentSources, AreSourcesIn, arith, between_by, Box, box_events, byte_reads}
+use Rattle.lit_solve.proofs.Words.{CanSynchronize, Chain-same, coherent_read_by, does_write, Event, event_at, example, example_paths}
+use Rattle.lit_solve.proofs.Words.{example_valid, Execution, first_event, GivenIn, Grows, Grows-from, HappensBefore, HappensBeforeBy}
 use Rattle.lit_solve.proofs.Words.{HappensBeforeIn, HasAlone, HasEffect, HasFalseGuardOn, HasOrder, HasSource, HasTearFreeReads, inl, inr}
 use Rattle.lit_solve.proofs.Words.{IsBox, IsBroken, IsCandidate, IsCompletion, IsFilled, IsForbidden, IsForbiddenBetween, IsForbiddenBy}
-use Rattle.lit_solve.proofs.Words.{IsForbiddenIn, IsIdle, IsLeaf, IsMemoryOrder, IsOnCombination, IsOrderOf, IsTrue, IsWalkIn, Laws}
-use Rattle.lit_solve.proofs.Words.{length, List, None, none-some, number_on, Option, ReadsByteFrom, refl, same_Some, slice_get_within}
-use Rattle.lit_solve.proofs.Words.{Some, StepBy, subst, sym, SynchronizesBy, walk_in, ℕ, ◌≡◌, ◌≢◌, ◌⊎◌}
-use Rattle.lit_rel.proofs.ChainLemmas.{Chain-same}
-use Rattle.lit_rel.proofs.GrowthLemmas.{Grows-from}
-use Rattle.lit_rel.proofs.SameRelations.{between_by, coherent_read_by}
-use Rattle.lit_order.proofs.SameOrders.{IsOrderOf-same}
-use Rattle.lit_valid.proofs.CompletionLemmas.{example, example_paths, example_valid}
+use Rattle.lit_solve.proofs.Words.{IsForbiddenIn, IsIdle, IsLeaf, IsMemoryOrder, IsOnCombination, IsOrderOf, IsOrderOf-same, IsTrue}
+use Rattle.lit_solve.proofs.Words.{IsWalkIn, Laws, length, List, None, none-some, number_on, Option, ReadsByteFrom, refl, same_Some}
+use Rattle.lit_solve.proofs.Words.{slice_get_within, Some, StepBy, subst, sym, SynchronizesBy, walk_in, ℕ, ◌≡◌, ◌≢◌, ◌⊎◌}
 use Rattle.lit_solve.proofs.CompletionLemmas.{all_given, events_same, order_here, part_of, sourced, takes_given, whole}
 
 -- ---- what has an effect

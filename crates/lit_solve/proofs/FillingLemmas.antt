@@ -3,9 +3,8 @@ use Rattle.lit_solve.proofs.Words.{◌*◌, ◌+◌, ◌-◌, ◌<◌, [], ◌^�
 use Rattle.lit_solve.proofs.Words.{CanFillWith, CanReadWhole, cases_eq, composed, drop, eq-eqb, Event, event_at, FillsBytes, get_or}
 use Rattle.lit_solve.proofs.Words.{HasEmptyDomain, HasEvent, HasFalseGuardOn, HasSource, inl, inr, IsBox, length, LieFrom, List, nat_tests}
 use Rattle.lit_solve.proofs.Words.{none-some, payload_at, pow_more, reads_on, ReadsByteFrom, ReadsWholeBy, refl, same_Some, slice_get}
-use Rattle.lit_solve.proofs.Words.{slice_get-get_or, slice_get_within, Some, subst, suc, sym, Taken, TakesOn, TakesWhole, value_of}
-use Rattle.lit_solve.proofs.Words.{WholeWith, WouldNotTear, zero, ℕ, ◌↔◌, ◌∙◌, ◌∷◌, ◌≡◌, ◌≢◌, ◌≤◌, ◌⊎◌}
-use Rattle.lit_paths.proofs.Products.{slice_get-drop}
+use Rattle.lit_solve.proofs.Words.{slice_get-drop, slice_get-get_or, slice_get_within, Some, subst, suc, sym, Taken, TakesOn, TakesWhole}
+use Rattle.lit_solve.proofs.Words.{value_of, WholeWith, WouldNotTear, zero, ℕ, ◌↔◌, ◌∙◌, ◌∷◌, ◌≡◌, ◌≢◌, ◌≤◌, ◌⊎◌}
 use Rattle.lit_solve.proofs.BoxLemmas.{has_source}
 use Rattle.lit_solve.proofs.ReadByteLemmas.{drop_at}
 

@@ -1,15 +1,11 @@
 -- How the relations of a frame come to be those of its box.
-use Rattle.lit_solve.proofs.Words.{◌+◌, ◌<◌, [], arith, Bool, Box, box_events, byte_reads, CanSynchronize, cases_lt, Chain, event_at}
-use Rattle.lit_solve.proofs.Words.{EventSet, false, Frame, Given, GivenIn, HappensBeforeIn, HasAlone, HasEvent, Holds, inl, inr, IsBox}
-use Rattle.lit_solve.proofs.Words.{IsContained, IsExact, IsForbiddenAt, IsForbiddenBetween, IsForbiddenIn, IsForced, IsForcedIn}
-use Rattle.lit_solve.proofs.Words.{IsSynchronizedAt, IsTransitive, IsTrue, length, List, rows_len, same_Some, slice_get, slice_get_within}
-use Rattle.lit_solve.proofs.Words.{Some, StepBy, subst, sym, Through, true, TwoWayRows, WithPair, ℕ, ◌↔◌, ◌∙◌, ◌∷◌, ◌≡◌, ◌⊎◌}
-use Rattle.lit_rel.proofs.ChainLemmas.{Chain-append}
-use Rattle.lit_rel.proofs.ReadingLemmas.{write_known}
-use Rattle.lit_rel.proofs.SameRelations.{between_by}
+use Rattle.lit_solve.proofs.Words.{◌+◌, ◌<◌, [], AreTriplesBelow, arith, between_by, Bool, Box, box_events, byte_reads, CanSynchronize}
+use Rattle.lit_solve.proofs.Words.{cases_lt, Chain, Chain-append, event_at, EventSet, false, Frame, Given, GivenIn, HappensBeforeIn}
+use Rattle.lit_solve.proofs.Words.{HasAlone, HasEvent, Holds, inl, inr, IsBox, IsContained, IsExact, IsForbiddenAt, IsForbiddenBetween}
+use Rattle.lit_solve.proofs.Words.{IsForbiddenIn, IsForced, IsForced-grow, IsForcedIn, IsSynchronizedAt, IsTransitive, IsTrue, length}
+use Rattle.lit_solve.proofs.Words.{List, rows_len, same_Some, slice_get, slice_get_within, Some, StepBy, subst, sym, Through, true}
+use Rattle.lit_solve.proofs.Words.{TwoWayRows, WithPair-within, WithPair, write_known, ℕ, ◌↔◌, ◌∙◌, ◌∷◌, ◌≡◌, ◌⊎◌}
 use Rattle.lit_rel.proofs.SourceLemmas.{read_known}
-use Rattle.lit_order.proofs.ForcedLemmas.{AreTriplesBelow}
-use Rattle.lit_order.proofs.ForcingLemmas.{IsForced-grow}
 
 -- a number below the next one is below, or the one itself
 pub below_or_last : (k n : ℕ) → k < n + 1 → (k < n) ⊎ (k ≡ n)
@@ -17,11 +13,6 @@ below_or_last k n below = elim (cases_lt k n) [ inl less ↦ inl less | inr most
 
 pub not_true : (b : Bool) → b ≡ false → ¬ IsTrue b
 not_true b is holds = absurd (let e : true ≡ false = sym holds ∙ is in cc)
-
--- what leads through a pair of a transitive relation is of that relation
-pub with_pair_within : (before more : ℕ → ℕ → Type 0) → IsTransitive more → ((x y : ℕ) → before x y → more x y) → (a d : ℕ) → more a d → (x y : ℕ)
-    → WithPair before a d x y → more x y
-with_pair_within before more through within a d pair x y h = grind arith
 
 pub before_through : (box : Box) → IsTransitive (HappensBeforeIn box)
 before_through box x y z p q = grind (arith, Chain-append)
@@ -71,10 +62,10 @@ contained_with box was now a d is pair before forced = record {
   unsourced = λ x y h. (before.pairs x y).1 (inl (is.unsourced x y h));
   both = λ x y h. (forced.pairs x y).1 (with_pair_more (Holds was.happens_before.rows) (Holds was.forced.rows) is.both a d x y ((before.pairs x y).0 h));
   before_in =
-      λ x y h. with_pair_within (Holds was.happens_before.rows) (HappensBeforeIn box) (before_through box) is.before_in a d pair x y
+      λ x y h. WithPair-within (Holds was.happens_before.rows) (HappensBeforeIn box) a d (before_through box) is.before_in pair x y
       ((before.pairs x y).0 h);
   forced_in =
-      λ x y h. with_pair_within (Holds was.forced.rows) (IsForcedIn box) (forced_through box) is.forced_in a d (Given pair) x y
+      λ x y h. WithPair-within (Holds was.forced.rows) (IsForcedIn box) a d (forced_through box) is.forced_in (Given pair) x y
       ((forced.pairs x y).0 h);
 }
 

@@ -1,12 +1,12 @@
 -- A box with independent reads, some of which are given sources that fill them: the completions of the box stay, but for the sources of
 -- these reads.
 use Rattle.lit_solve.proofs.Words.{◌+◌, ◌<◌, ap, AreOfEvents, AreSourcesIn, arith, Box, box_events, box_with, byte_read_at, byte_reads}
-use Rattle.lit_solve.proofs.Words.{cases_eq, cases_lt, Entry, Event, EventSet, Execution, execution_outcome, FillsAll, FillsRead, get_or}
-use Rattle.lit_solve.proofs.Words.{get_or_from_slice_get, GivesReads, HasAlone, HasEachOutcome, HasEmptyDomain, HasEvent, HasLeastOrderIn}
-use Rattle.lit_solve.proofs.Words.{HasOutcome, HasSource, inl, inr, IsCompletion, IsFilled, IsIndependent, IsLeastEntry, IsNotGreaterOn}
-use Rattle.lit_solve.proofs.Words.{Laws, length, Less, LieOn, List, nat_cmp, no_events, refl, slice_cmp, slice_get, slice_get-get_or}
-use Rattle.lit_solve.proofs.Words.{slice_get_within, slice_index_or, slice_set, Some, subst, sym, ℕ, ◌↔◌, ◌∙◌, ◌≡◌, ◌≢◌, ◌≤◌, ◌⊎◌}
-use Rattle.lit_rel.proofs.SetLemmas.{event_or_not}
+use Rattle.lit_solve.proofs.Words.{cases_eq, cases_lt, Entry, Event, event_or_not, EventSet, Execution, execution_outcome, FillsAll}
+use Rattle.lit_solve.proofs.Words.{FillsRead, get_or, get_or_from_slice_get, GivesReads, HasAlone, HasEachOutcome, HasEmptyDomain}
+use Rattle.lit_solve.proofs.Words.{HasEvent, HasLeastOrderIn, HasOutcome, HasSource, inl, inr, IsCompletion, IsFilled, IsIndependent}
+use Rattle.lit_solve.proofs.Words.{IsLeastEntry, IsNotGreaterOn, Laws, length, Less, LieOn, List, nat_cmp, no_events, refl, slice_cmp}
+use Rattle.lit_solve.proofs.Words.{slice_get, slice_get-get_or, slice_get_within, slice_index_or, slice_set, Some, subst, sym, ℕ, ◌↔◌, ◌∙◌}
+use Rattle.lit_solve.proofs.Words.{◌≡◌, ◌≢◌, ◌≤◌, ◌⊎◌}
 use Rattle.lit_solve.proofs.CompletionLemmas.{sourced}
 use Rattle.lit_solve.proofs.DomainLemmas.{domain_here, domain_other, pruned_at, source_here, source_other}
 use Rattle.lit_solve.proofs.FillLemmas.{filled_by, sources_lie}

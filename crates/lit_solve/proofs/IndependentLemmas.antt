@@ -1,12 +1,11 @@
 -- A box with independent reads and a box within it: as long as each read can still be filled, the relations stay the same, and its reads
 -- stay independent.
 use Rattle.lit_solve.proofs.Words.{◌<◌, Any, AreCoherentSources, AreOfEvents, AreSourcesIn, arith, Box, box_events, box_with, byte_read_at}
-use Rattle.lit_solve.proofs.Words.{byte_reads, CanFill, cases_eq, Event, EventSet, Execution, false≢true, FillsAll, HappensBeforeIn}
-use Rattle.lit_solve.proofs.Words.{HasEmptyDomain, HasEvent, HasLeastOrderIn, HasNoCompletion, HasSolution, HasSource, IfNone, IfSome, inl}
-use Rattle.lit_solve.proofs.Words.{inr, is_some, IsBox, IsCompletion, IsFilled, IsForbiddenIn, IsIndependent, IsLeaf, IsTrue, IsWithin}
-use Rattle.lit_solve.proofs.Words.{length, LieOn, List, None, Option, refl, rules, slice_get, Some, subst, sym, ℕ, ◌↔◌, ◌∙◌, ◌≡◌}
-use Rattle.lit_rel.proofs.SameRelations.{coherent_read_by}
-use Rattle.lit_order.proofs.SameOrders.{IsLeastOrderOf-same, IsOrderOf-same}
+use Rattle.lit_solve.proofs.Words.{byte_reads, CanFill, cases_eq, coherent_read_by, Event, EventSet, Execution, false≢true, FillsAll}
+use Rattle.lit_solve.proofs.Words.{HappensBeforeIn, HasEmptyDomain, HasEvent, HasLeastOrderIn, HasNoCompletion, HasSolution, HasSource}
+use Rattle.lit_solve.proofs.Words.{IfNone, IfSome, inl, inr, is_some, IsBox, IsCompletion, IsFilled, IsForbiddenIn, IsIndependent, IsLeaf}
+use Rattle.lit_solve.proofs.Words.{IsLeastOrderOf-same, IsOrderOf-same, IsTrue, IsWithin, length, LieOn, List, None, Option, refl, rules}
+use Rattle.lit_solve.proofs.Words.{slice_get, Some, subst, sym, ℕ, ◌↔◌, ◌∙◌, ◌≡◌}
 use Rattle.lit_solve.proofs.BoxLemmas.{before_grows, forbidden_grows}
 use Rattle.lit_solve.proofs.DescendingLemmas.{alone_stays}
 use Rattle.lit_solve.proofs.DomainLemmas.{pruned_at, pruned_within, none_empty_at, source_other}

@@ -1,9 +1,8 @@
 -- Leaves: when a settled frame in which no open byte read can force anything has a completion.
-use Rattle.lit_solve.proofs.Words.{◌<◌, Any, AreCoherentSources, AreSourcesIn, Box, box_events, CanFill, Execution, Frame, Given}
-use Rattle.lit_solve.proofs.Words.{HappensBeforeIn, HasFalseGuardOn, HasLeastOrderIn, HasNoCompletion, HasOrder, HasSolution, Holds}
-use Rattle.lit_solve.proofs.Words.{IfNone, IfSome, IsBox, IsCompletion, IsFilled, IsForbiddenIn, IsIndependent, IsLeaf, IsOrderOf}
+use Rattle.lit_solve.proofs.Words.{◌<◌, Any, AreCoherentSources, AreSourcesIn, Box, box_events, CanFill, coherent_read_by, Execution}
+use Rattle.lit_solve.proofs.Words.{Frame, Given, HappensBeforeIn, HasFalseGuardOn, HasLeastOrderIn, HasNoCompletion, HasOrder, HasSolution}
+use Rattle.lit_solve.proofs.Words.{Holds, IfNone, IfSome, IsBox, IsCompletion, IsFilled, IsForbiddenIn, IsIndependent, IsLeaf, IsOrderOf}
 use Rattle.lit_solve.proofs.Words.{IsSettled, length, List, None, Option, refl, Some, ℕ, ◌↔◌, ◌≡◌}
-use Rattle.lit_rel.proofs.SameRelations.{coherent_read_by}
 use Rattle.lit_solve.proofs.FillLemmas.{sources_lie}
 
 -- what sources have to be so that they are a completion's

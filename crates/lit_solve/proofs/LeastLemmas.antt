@@ -2,9 +2,8 @@
 use Rattle.lit_solve.proofs.Words.{◌++◌, ◌<◌, [], AreAloneBelow, arith, Box, box_events, byte_reads, Event, Execution, execution_events}
 use Rattle.lit_solve.proofs.Words.{get_or, Goal, HappensBeforeIn, HasSolution, HasSource, inl, IsBox, IsCompletion, IsForbiddenIn, IsLeaf}
 use Rattle.lit_solve.proofs.Words.{IsLeastMemoryOrder, IsLeastOrderOf, IsLeastSolution, IsLowest, IsMemoryOrder, IsOrderOf, IsSolution}
-use Rattle.lit_solve.proofs.Words.{length, Less, LiesIn, List, MatchOption, nat_cmp, Option, Prunes, same_number_lists, slice_cmp}
-use Rattle.lit_solve.proofs.Words.{slice_get-get_or, subst, sym, ℕ, ◌↔◌, ◌∙◌, ◌∷◌, ◌≡◌, ◌≢◌}
-use Rattle.lit_rel.proofs.PlaceLemmas.{place-push}
+use Rattle.lit_solve.proofs.Words.{length, Less, LiesIn, List, MatchOption, nat_cmp, Option, place-push, Prunes, same_number_lists}
+use Rattle.lit_solve.proofs.Words.{slice_cmp, slice_get-get_or, subst, sym, ℕ, ◌↔◌, ◌∙◌, ◌∷◌, ◌≡◌, ◌≢◌}
 use Rattle.lit_solve.proofs.BoxLemmas.{same_events}
 use Rattle.lit_solve.proofs.CompletionLemmas.{events_same, sourced}
 use Rattle.lit_solve.proofs.FillLemmas.{sources_lie}

@@ -1,11 +1,7 @@
 -- Lists of numbers in their order: the first place where they differ decides.
 use Rattle.lit_solve.proofs.Words.{◌<◌, [], ap, ap₂, arith, cases_eq, cases_lt, cases_order, Equal, get_or, Greater, inl, inr, IsGreaterAt}
-use Rattle.lit_solve.proofs.Words.{le-ltb, length, Less, List, nat_cmp, ne_eqb, Ordering, ordering_then, slice_cmp, suc, sym, zero, ℕ, ◌∙◌}
-use Rattle.lit_solve.proofs.Words.{◌∷◌, ◌≡◌, ◌≢◌, ◌≤◌, ◌⊎◌, ⊎_elim}
-use Rattle.lit_paths.proofs.Rising.{nat_cmp-less, nat_cmp-same}
-
-nat_cmp-greater : (a b : ℕ) → b < a → nat_cmp a b ≡ Greater
-nat_cmp-greater a b h = grind (arith, le-ltb, ne_eqb)
+use Rattle.lit_solve.proofs.Words.{le-ltb, length, Less, List, nat_cmp, nat_cmp-less, nat_cmp-same, ne_eqb, Ordering, ordering_then}
+use Rattle.lit_solve.proofs.Words.{slice_cmp, suc, sym, zero, ℕ, ◌∙◌, ◌∷◌, ◌≡◌, ◌≢◌, ◌≤◌, ◌⊎◌, ⊎_elim}
 
 pub less_from_place : (a b : List ℕ) (place : ℕ) → length a ≡ length b → place < length a → IsGreaterAt a place b → slice_cmp nat_cmp a b ≡ Less
 less_from_place [] b place long within is = absurd (omega (arith, within))
@@ -38,7 +34,7 @@ place_of_less (x ∷ xs) (y ∷ ys) long less =
     (λ apart. ⊎_elim
     (λ below. (0, omega arith, record { same = λ k inside. absurd (omega (arith, inside)); greater = λ _. below }))
     (λ over.
-    let first : nat_cmp x y ≡ Greater = nat_cmp-greater x y over in
+    let first : nat_cmp x y ≡ Greater = grind (arith, le-ltb, ne_eqb) in
     let clash : Greater ≡ Less = sym (ap (λ (o : Ordering). ordering_then o (slice_cmp nat_cmp xs ys)) first) ∙ less in
     cc)
     apart)

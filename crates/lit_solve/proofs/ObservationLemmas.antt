@@ -1,13 +1,10 @@
 -- Observed values: the value of a read from bytes that are decided one after the other, and the outcomes of the parts of a box.
 use Rattle.lit_solve.proofs.Words.{◌*◌, ◌+◌, ◌++◌, ◌<◌, [], ◌^◌, ap, ap₂, AreSourcesIn, arith, Box, box_events, byte_read_at, byte_reads}
 use Rattle.lit_solve.proofs.Words.{bytes_taken, composed, drop, Event, Execution, execution_outcome, get_or, get_or-map, HasSource, IsBox}
-use Rattle.lit_solve.proofs.Words.{IsCompletion, IsValueObserved, IsValueOf, Laws, length, length-map, List, map, names_of, observed_read}
-use Rattle.lit_solve.proofs.Words.{observed_value, part_with, reads_on, refl, slice_get, slice_get-get_or, Some, stored_for, suc, sym}
-use Rattle.lit_solve.proofs.Words.{take, take_all, take_more, Taken, value_of, zero, ℕ, ◌∙◌, ◌∷◌, ◌≡◌, ◌≢◌, ◌≤◌}
-use Rattle.lit_paths.proofs.OutcomeRegisterSteps.{names_from-within}
-use Rattle.lit_paths.proofs.Products.{slice_get-drop}
-use Rattle.lit_valid.proofs.CompletionLemmas.{its_outcome}
-use Rattle.lit_solve.specs.declared.observation.ReadValue.{ReadValue}
+use Rattle.lit_solve.proofs.Words.{IsCompletion, IsValueObserved, IsValueOf, its_outcome, Laws, length, length-map, List, map}
+use Rattle.lit_solve.proofs.Words.{names_from-within, names_of, observed_read, observed_value, part_with, reads_on, ReadValue, refl}
+use Rattle.lit_solve.proofs.Words.{slice_get, slice_get-drop, slice_get-get_or, Some, stored_for, suc, sym, take, take_all, take_more}
+use Rattle.lit_solve.proofs.Words.{Taken, value_of, zero, ℕ, ◌∙◌, ◌∷◌, ◌≡◌, ◌≢◌, ◌≤◌}
 use Rattle.lit_solve.specs.declared.observation.ReadValue.TheVariants.{One}
 use Rattle.lit_solve.proofs.CompletionLemmas.{completes, part_of}
 use Rattle.lit_solve.proofs.FillLemmas.{sources_lie}

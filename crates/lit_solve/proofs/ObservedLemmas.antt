@@ -1,12 +1,11 @@
 -- Completions with the same outcome take sources that store the same byte for an observed byte read. So the least completion with an
 -- outcome in a part of a box, by that byte, is the least in the box.
 use Rattle.lit_solve.proofs.Words.{◌<◌, AddsEntries, Any, ap, AreEventsIn, AreFirstValues, arith, Box, box_events, box_with, Branch}
-use Rattle.lit_solve.proofs.Words.{byte_read_at, byte_reads, cases_eq, Entry, eq-eqb, Event, EventSet, Execution, execution_outcome}
-use Rattle.lit_solve.proofs.Words.{false≢true, HasEachOutcome, HasEvent, HasOutcome, HasSource, inl, inr, IsBox, IsCompletion, IsCut}
-use Rattle.lit_solve.proofs.Words.{IsLeastEntry, IsObservedAt, IsUndecidedAt, IsWithin, Laws, length, List, names_of, observed_value}
-use Rattle.lit_solve.proofs.Words.{Prunes, refl, same_Some, slice_get, Some, stored_for, subst, sym, TakesFrom, true, value_in, value_of}
-use Rattle.lit_solve.proofs.Words.{zip, ℕ, ◌↔◌, ◌∙◌, ◌≡◌, ◌⊎◌}
-use Rattle.lit_rel.proofs.SetLemmas.{event_or_not}
+use Rattle.lit_solve.proofs.Words.{byte_read_at, byte_reads, cases_eq, Entry, eq-eqb, Event, event_or_not, EventSet, Execution}
+use Rattle.lit_solve.proofs.Words.{execution_outcome, false≢true, HasEachOutcome, HasEvent, HasOutcome, HasSource, inl, inr, IsBox}
+use Rattle.lit_solve.proofs.Words.{IsCompletion, IsCut, IsLeastEntry, IsObservedAt, IsUndecidedAt, IsWithin, Laws, length, List, names_of}
+use Rattle.lit_solve.proofs.Words.{observed_value, Prunes, refl, same_Some, slice_get, Some, stored_for, subst, sym, TakesFrom, true}
+use Rattle.lit_solve.proofs.Words.{value_in, value_of, zip, ℕ, ◌↔◌, ◌∙◌, ◌≡◌, ◌⊎◌}
 use Rattle.lit_solve.proofs.CompletionLemmas.{part_of}
 use Rattle.lit_solve.proofs.ReadValueLemmas.{byte_for, other_number}
 use Rattle.lit_solve.proofs.EntryLemmas.{adds_more, adds_out, adds_stays}

@@ -2,9 +2,8 @@
 use Rattle.lit_solve.proofs.Words.{◌+◌, ◌++◌, ◌<◌, [], ap, AreOpenReads, AreValuesBeside, arith, Box, cases_eq, ChangesListed, EventSet}
 use Rattle.lit_solve.proofs.Words.{Filling, get_or, get_or-set_other, get_or-set_same, get_or_from_slice_get, HasEvent, HasValue, inl, inr}
 use Rattle.lit_solve.proofs.Words.{IsListed, IsOpenRead, IsValueBeside, length, List, Litmus, names_of, none-some, observed_read, Observes}
-use Rattle.lit_solve.proofs.Words.{OpenRead, Option, refl, same_Some, slice_get, slice_get-get_or, slice_set, Some, subst, suc, sym, zero}
-use Rattle.lit_solve.proofs.Words.{ℕ, ◌↔◌, ◌∙◌, ◌∷◌, ◌≡◌, ◌≢◌, ◌≤◌, ◌⊎◌}
-use Rattle.lit_rel.proofs.PlaceLemmas.{place-left, place-middle, place-push}
+use Rattle.lit_solve.proofs.Words.{OpenRead, Option, place-left, place-middle, place-push, refl, same_Some, slice_get, slice_get-get_or}
+use Rattle.lit_solve.proofs.Words.{slice_set, Some, subst, suc, sym, zero, ℕ, ◌↔◌, ◌∙◌, ◌∷◌, ◌≡◌, ◌≢◌, ◌≤◌, ◌⊎◌}
 
 -- ---- members of a list
 pub member_or_not : (xs : List ℕ) (x : ℕ) → ((i : ℕ) × (slice_get xs i ≡ Some x)) ⊎ ¬ ((i : ℕ) × (slice_get xs i ≡ Some x))

@@ -1,12 +1,9 @@
 -- Frames before any propagation, and boxes with a cut domain.
-use Rattle.lit_solve.proofs.Words.{◌<◌, [], arith, Box, box_events, byte_reads, cases_eq, common_steps, EventSet, Execution, Frame, Given}
-use Rattle.lit_solve.proofs.Words.{GivenIn, HappensBefore, HappensBeforeIn, HasAlone, HasEffect, HasEmptyDomain, HasEvent, HasSource}
-use Rattle.lit_solve.proofs.Words.{Holds, inl, inr, IsBox, IsCandidate, IsCompletion, IsContained, IsCut, IsForbiddenIn, IsForcedIn}
-use Rattle.lit_solve.proofs.Words.{IsSettled, IsTransitive, length, Prunes, ReadsByteFrom, rows_len, slice_get, Some, subst, TakesFrom}
-use Rattle.lit_solve.proofs.Words.{TwoWayRows, ℕ, ◌↔◌, ◌≡◌, ◌⊎◌}
-use Rattle.lit_rel.proofs.ChainLemmas.{Chain-append}
-use Rattle.lit_rel.proofs.GrowthLemmas.{Grows-from}
-use Rattle.lit_order.proofs.ForcingLemmas.{IsForced-grow}
+use Rattle.lit_solve.proofs.Words.{◌<◌, [], arith, Box, box_events, byte_reads, cases_eq, Chain-append, common_steps, EventSet, Execution}
+use Rattle.lit_solve.proofs.Words.{Frame, Given, GivenIn, Grows-from, HappensBefore, HappensBeforeIn, HasAlone, HasEffect, HasEmptyDomain}
+use Rattle.lit_solve.proofs.Words.{HasEvent, HasSource, Holds, inl, inr, IsBox, IsCandidate, IsCompletion, IsContained, IsCut}
+use Rattle.lit_solve.proofs.Words.{IsForbiddenIn, IsForced-grow, IsForcedIn, IsSettled, IsTransitive, length, Prunes, ReadsByteFrom}
+use Rattle.lit_solve.proofs.Words.{rows_len, slice_get, Some, subst, TakesFrom, TwoWayRows, ℕ, ◌↔◌, ◌≡◌, ◌⊎◌}
 use Rattle.lit_solve.proofs.DomainLemmas.{completion_at, domain_here, frame_at, pruned_at, pruned_contained, pruned_is_box, pruned_within, source_other}
 use Rattle.lit_solve.proofs.FillLemmas.{before_added, forbidden_added}
 

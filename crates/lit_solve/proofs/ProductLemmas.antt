@@ -1,13 +1,11 @@
 -- Outcomes as a product: an observed read given one of its values, and what becomes of outcomes, of the other reads and of values.
 use Rattle.lit_solve.proofs.Words.{◌+◌, ◌<◌, [], AddsEntries, ap, AreOpenReads, AreValuesBeside, arith, Box, box_events, box_with}
-use Rattle.lit_solve.proofs.Words.{byte_reads, cases_eq, Entry, Event, EventSet, Execution, execution_outcome, Filling, FillsRead, get_or}
-use Rattle.lit_solve.proofs.Words.{get_or-map, HasEachOutcome, HasEvent, HasOutcome, inl, inr, IsCompletion, IsIndependent, IsLeastEntry}
-use Rattle.lit_solve.proofs.Words.{IsLeastFilling, IsListed, IsNotGreaterOn, IsOpenRead, IsValueBeside, Laws, length, Less, List, map}
-use Rattle.lit_solve.proofs.Words.{names_of, nat_cmp, None, none-some, observed_read, observed_value, Observes, OpenRead, Option}
-use Rattle.lit_solve.proofs.Words.{part_with, refl, same_number_lists, same_Some, slice_cmp, slice_get, slice_get-get_or, slice_get_within}
-use Rattle.lit_solve.proofs.Words.{Some, subst, suc, sym, value_of, zero, ℕ, ◌↔◌, ◌∙◌, ◌∷◌, ◌≡◌, ◌≢◌, ◌≤◌, ◌⊎◌}
-use mathlib.Core.Path.{fun_ext}
-use Rattle.lit_rel.proofs.SetLemmas.{event_or_not}
+use Rattle.lit_solve.proofs.Words.{byte_reads, cases_eq, Entry, Event, event_or_not, EventSet, Execution, execution_outcome, Filling}
+use Rattle.lit_solve.proofs.Words.{FillsRead, fun_ext, get_or, get_or-map, HasEachOutcome, HasEvent, HasOutcome, inl, inr, IsCompletion}
+use Rattle.lit_solve.proofs.Words.{IsIndependent, IsLeastEntry, IsLeastFilling, IsListed, IsNotGreaterOn, IsOpenRead, IsValueBeside, Laws}
+use Rattle.lit_solve.proofs.Words.{length, Less, List, map, names_of, nat_cmp, None, none-some, observed_read, observed_value, Observes}
+use Rattle.lit_solve.proofs.Words.{OpenRead, Option, part_with, refl, same_number_lists, same_Some, slice_cmp, slice_get, slice_get-get_or}
+use Rattle.lit_solve.proofs.Words.{slice_get_within, Some, subst, suc, sym, value_of, zero, ℕ, ◌↔◌, ◌∙◌, ◌∷◌, ◌≡◌, ◌≢◌, ◌≤◌, ◌⊎◌}
 use Rattle.lit_solve.proofs.CompletionLemmas.{sourced}
 use Rattle.lit_solve.proofs.EntryLemmas.{adds_out, adds_stays}
 use Rattle.lit_solve.proofs.FillLemmas.{sources_lie}

@@ -1,13 +1,11 @@
 -- What the checks of pruning find, and what becomes of a box with a pruned domain.
-use Rattle.lit_solve.proofs.Words.{◌+◌, ◌<◌, ◌^◌, AreOfEvents, arith, bit_at, bit_at_above, Bool, Box, box_events, byte_read_at}
-use Rattle.lit_solve.proofs.Words.{byte_reads, ByteRead, CanReadWhole, CanSynchronize, cases_eq, cases_lt, Event, event_at, EventSet}
-use Rattle.lit_solve.proofs.Words.{false, false≢true, Frame, get_or, get_or_from_slice_get, GivenIn, HappensBeforeIn, HasEvent, HasSource}
-use Rattle.lit_solve.proofs.Words.{Holds, inl, inr, IsBox, IsCandidate, IsCoherentRead, IsContained, IsForbiddenBetween, IsPrunable}
-use Rattle.lit_solve.proofs.Words.{IsTrue, length, length-map, List, map, not, pair_of, ReadsWholeBy, refl, Rows, rows_len, slice_get}
-use Rattle.lit_solve.proofs.Words.{slice_get-get_or, Some, subst, suc, sym, true, two-pow-succ, zero, ℕ, ◌↔◌, ◌≡◌, ◌≢◌, ◌⊎◌}
-use Rattle.lit_paths.proofs.Rising.{slice_get-map-found}
-use Rattle.lit_rel.proofs.SameRelations.{between_by, coherent_read_by}
-use Rattle.lit_rel.proofs.SetLemmas.{event_or_not}
+use Rattle.lit_solve.proofs.Words.{◌+◌, ◌<◌, ◌^◌, AreOfEvents, arith, between_by, bit_at, bit_at_above, Bool, Box, box_events}
+use Rattle.lit_solve.proofs.Words.{byte_read_at, byte_reads, ByteRead, CanReadWhole, CanSynchronize, cases_eq, cases_lt, coherent_read_by}
+use Rattle.lit_solve.proofs.Words.{Event, event_at, event_or_not, EventSet, false, false≢true, Frame, get_or, get_or_from_slice_get}
+use Rattle.lit_solve.proofs.Words.{GivenIn, HappensBeforeIn, HasEvent, HasSource, Holds, inl, inr, IsBox, IsCandidate, IsCoherentRead}
+use Rattle.lit_solve.proofs.Words.{IsContained, IsForbiddenBetween, IsPrunable, IsTrue, length, length-map, List, map, not, pair_of}
+use Rattle.lit_solve.proofs.Words.{ReadsWholeBy, refl, Rows, rows_len, slice_get, slice_get-get_or, slice_get-map-found, Some, subst, suc}
+use Rattle.lit_solve.proofs.Words.{sym, true, two-pow-succ, zero, ℕ, ◌↔◌, ◌≡◌, ◌≢◌, ◌⊎◌}
 
 -- ---- sets
 below_power : (n : ℕ) → n < 2 ^ n

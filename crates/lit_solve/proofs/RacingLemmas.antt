@@ -1,11 +1,10 @@
 -- Possible data races of a frame, byte read by byte read; and a read filled with one source of a byte.
 use Rattle.lit_solve.proofs.Words.{◌<◌, ap, AreSourcesIn, arith, Bool, Box, box_events, byte_read_at, byte_reads, ByteRead, CanFill}
-use Rattle.lit_solve.proofs.Words.{CanFillAt, cases_eq, Event, EventSet, false, Frame, get_or, get_or-set_other, HappensBeforeIn}
-use Rattle.lit_solve.proofs.Words.{HasApartPair, HasDataRaceOf, HasEvent, HasSource, Holds, inl, inr, IsExact, IsFilled, length, List}
-use Rattle.lit_solve.proofs.Words.{MayHave, pair_of, RacesAt, RacesIn, refl, same_Some, slice_get, slice_get-get_or, slice_get_within}
-use Rattle.lit_solve.proofs.Words.{Some, subst, sym, true, WritesWith, ℕ, ◌↔◌, ◌∙◌, ◌≡◌, ◌⊎◌}
-use Rattle.lit_rel.proofs.RaceLemmas.{HasDataRaceOf-iff, HasDataRaceOf-wider}
-use Rattle.lit_solve.specs.DataRace.{CanFillFrom, CanRaceIn, HasSourceOf, MayRaceIn}
+use Rattle.lit_solve.proofs.Words.{CanFillAt, CanFillFrom, CanRaceIn, cases_eq, Event, EventSet, false, Frame, get_or, get_or-set_other}
+use Rattle.lit_solve.proofs.Words.{HappensBeforeIn, HasApartPair, HasDataRaceOf, HasDataRaceOf-iff, HasDataRaceOf-wider, HasEvent}
+use Rattle.lit_solve.proofs.Words.{HasSource, HasSourceOf, Holds, inl, inr, IsExact, IsFilled, length, List, MayHave, MayRaceIn, pair_of}
+use Rattle.lit_solve.proofs.Words.{RacesAt, RacesIn, refl, same_Some, slice_get, slice_get-get_or, slice_get_within, Some, subst, sym}
+use Rattle.lit_solve.proofs.Words.{true, WritesWith, ℕ, ◌↔◌, ◌∙◌, ◌≡◌, ◌⊎◌}
 use Rattle.lit_solve.proofs.DomainLemmas.{domain_here, pruned_at, pruned_within}
 use Rattle.lit_solve.proofs.PruningLemmas.{read_here, read_there}
 

@@ -1,13 +1,11 @@
 -- The choices of a range on a combination are those of its boxes.
-use Rattle.lit_solve.proofs.Words.{◌+◌, ◌-◌, ◌<◌, ap, AreSources, arith, boxes_events, boxes_len, BoxesModel, byte_read_at, byte_reads}
-use Rattle.lit_solve.proofs.Words.{cases_lt, cases_order, Choice, choices_before, choices_of, combinations_of, CutsRange, events_in}
-use Rattle.lit_solve.proofs.Words.{HasSources, IfSome, IsAbove, IsBelow, IsGreaterAt, IsHighEnd, IsLowEnd, IsOfCombination, IsRangeCut}
-use Rattle.lit_solve.proofs.Words.{length, Less, LiesInBox, List, ListsChoices, Litmus, nat_cmp, None, Option, parting_in, refl, same_Some}
-use Rattle.lit_solve.proofs.Words.{slice_cmp, slice_get-get_or, slice_get_within, slice_index, Some, subst, sym, ℕ, ◌↔◌, ◌∙◌, ◌≡◌, ◌≤◌}
-use Rattle.lit_solve.proofs.Words.{⊎_elim}
+use Rattle.lit_solve.proofs.Words.{◌+◌, ◌-◌, ◌<◌, ap, AreSources, arith, before_all, boxes_events, boxes_len, BoxesModel, byte_read_at}
+use Rattle.lit_solve.proofs.Words.{byte_reads, cases_lt, cases_order, Choice, choices_before, choices_of, combinations_of, CutsRange}
+use Rattle.lit_solve.proofs.Words.{events_in, HasSources, IfSome, IsAbove, IsBelow, IsGreaterAt, IsHighEnd, IsLowEnd, IsOfCombination}
+use Rattle.lit_solve.proofs.Words.{IsRangeCut, length, Less, LiesInBox, List, ListsChoices, Litmus, nat_cmp, nat_cmp-same, None, Option}
+use Rattle.lit_solve.proofs.Words.{parting_in, refl, same_Some, slice_cmp, slice_cmp-same, slice_get-get_or, slice_get_within, slice_index}
+use Rattle.lit_solve.proofs.Words.{Some, subst, sym, ℕ, ◌↔◌, ◌∙◌, ◌≡◌, ◌≤◌, ⊎_elim}
 use Rattle.std.proofs.Common.{slice_get}
-use Rattle.lit_paths.proofs.Rising.{nat_cmp-same, slice_cmp-same}
-use Rattle.lit_paths.proofs.Totals.{before_all}
 use Rattle.lit_solve.proofs.CutLemmas.{IsBetween, IsInCut, between, few_boxes, found, rises}
 use Rattle.lit_solve.proofs.LexLemmas.{less_from_place, place_of_less}
 
@@ -23,7 +21,7 @@ module _ (t : Litmus) (c n : ℕ) (a : List ℕ) (of : IsOfCombination t n c) (h
   pub sourced : AreSources (events_in t c) a
   sourced = subst (λ (ws : List ℕ). AreSources (events_in t c) ws) sources_are of.sourced
 
-one_sources : (t : Litmus) (n : ℕ) (a b : List ℕ) → HasSources t n a → HasSources t n b → a ≡ b
+pub one_sources : (t : Litmus) (n : ℕ) (a b : List ℕ) → HasSources t n a → HasSources t n b → a ≡ b
 one_sources t n a b first second = grind (arith, same_Some)
 
 -- ---- two choices on a combination

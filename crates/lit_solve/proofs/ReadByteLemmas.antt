@@ -1,13 +1,11 @@
 -- The byte reads of one read, room for them in a number, and the events of a set, one after the other.
 use Rattle.lit_solve.proofs.Words.{◌*◌, ◌+◌, ◌<◌, ◌==◌, [], ◌^◌, ap, AreFirstReads, arith, byte_read_at, byte_reads, cases_eq, cond, drop}
-use Rattle.lit_solve.proofs.Words.{drop-map, drop_more, eq-eqb, Event, event_at, EventSet, false, filter, get_or_from_slice_get, HasEvent}
-use Rattle.lit_solve.proofs.Words.{HasRoom, IsSplit, length, length-map, List, map, mul-le-mul_left, payload_at, pow-le-pow_right}
-use Rattle.lit_solve.proofs.Words.{pow_more, read_of, reads_on, refl, slice_get, slice_get_within, Some, SourcedByte, suc, sym, take_all}
-use Rattle.lit_solve.proofs.Words.{Taken, true, ℕ, ◌↔◌, ◌∙◌, ◌∷◌, ◌≡◌, ◌≢◌, ◌≤◌, ◌⊎◌}
-use Rattle.lit_paths.proofs.Rising.{slice_get-map-found}
-use Rattle.lit_rel.proofs.ByteReadLemmas.{reads_rise}
-use Rattle.lit_rel.proofs.SetLemmas.{event_or_not}
-use Rattle.lit_rel.proofs.ValueLemmas.{length-stored, sourced, stored}
+use Rattle.lit_solve.proofs.Words.{drop-map, drop_more, eq-eqb, Event, event_at, event_or_not, EventSet, false, filter}
+use Rattle.lit_solve.proofs.Words.{get_or_from_slice_get, HasEvent, HasRoom, IsSplit, length, length-map, length-stored, List, map}
+use Rattle.lit_solve.proofs.Words.{mul-le-mul_left, payload_at, pow-le-pow_right, pow_more, read_of, reads_on, reads_rise, refl, slice_get}
+use Rattle.lit_solve.proofs.Words.{slice_get-map-found, slice_get_within, Some, SourcedByte, stored, suc, sym, take_all, Taken, true, ℕ}
+use Rattle.lit_solve.proofs.Words.{◌↔◌, ◌∙◌, ◌∷◌, ◌≡◌, ◌≢◌, ◌≤◌, ◌⊎◌}
+use Rattle.lit_rel.proofs.ValueLemmas.{sourced}
 use Rattle.lit_solve.proofs.PruningLemmas.{read_here}
 
 pub drop_at : {X : Type 0} (xs : List X) (k : ℕ) (x : X) → slice_get xs k ≡ Some x → drop k xs ≡ x ∷ drop (k + 1) xs

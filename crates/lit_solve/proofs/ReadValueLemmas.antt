@@ -1,14 +1,12 @@
 -- The value of a read, and whether it is a given number, by the domains of a box: three-valued logic.
 use Rattle.lit_solve.proofs.Words.{◌*◌, ◌+◌, ◌-◌, ◌<◌, ◌==◌, [], ◌^◌, ap, ap₂, AreEventsIn, AreSourcesIn, arith, Bool, Box, box_events}
 use Rattle.lit_solve.proofs.Words.{byte_read_at, byte_reads, cases_eq, cases_lt, common_steps, composed, cond, Decided, does_read, eq-eqb}
-use Rattle.lit_solve.proofs.Words.{Event, event_at, false, false≢true, filter, get_or, get_or_from_slice_get, get_or_past, HasSource}
-use Rattle.lit_solve.proofs.Words.{if◌then◌else◌, inl, inr, IsByteDecided, IsReadDecided, IsUndecidedAt, length, length-map}
-use Rattle.lit_solve.proofs.Words.{length-map-range_with_len, List, map, nat_tests, ne_eqb, no_event, None, payload_at, payload_of}
-use Rattle.lit_solve.proofs.Words.{range_with_len, refl, same_Some, slice_get, slice_get-get_or, slice_get_within, slice_index, Some}
-use Rattle.lit_solve.proofs.Words.{stored_for, subst, suc, sym, to_le_bytes, true, value_of, w32, ℕ, ◌∙◌, ◌∷◌, ◌≡◌, ◌≢◌, ◌≤◌, ◌⊎◌}
+use Rattle.lit_solve.proofs.Words.{Event, event_at, false, false_of, false≢true, filter, get_or, get_or_from_slice_get, get_or_past}
+use Rattle.lit_solve.proofs.Words.{HasSource, if◌then◌else◌, inl, inr, IsByteDecided, IsReadDecided, IsUndecidedAt, length, length-map}
+use Rattle.lit_solve.proofs.Words.{length-map-range_with_len, List, map, nat_tests, ne_eqb, no_event, None, only, only_its, payload_at}
+use Rattle.lit_solve.proofs.Words.{payload_of, range_with_len, refl, same_Some, slice_get, slice_get-get_or, slice_get_within, slice_index}
+use Rattle.lit_solve.proofs.Words.{Some, stored_for, subst, suc, sym, to_le_bytes, true, value_of, w32, ℕ, ◌∙◌, ◌∷◌, ◌≡◌, ◌≢◌, ◌≤◌, ◌⊎◌}
 use Rattle.std.proofs.Common.{zip}
-use Rattle.lit_rel.proofs.OwnByteLemmas.{only, only_its}
-use Rattle.lit_rel.proofs.GuardedByteLemmas.{false_of}
 use Rattle.lit_solve.specs.declared.condition_values.Decided.TheVariants.{Known, Undecided}
 
 -- two sources that store different bytes

@@ -3,9 +3,8 @@ use Rattle.lit_solve.proofs.Words.{◌++◌, ◌<◌, [], AddsFillings, ap, appe
 use Rattle.lit_solve.proofs.Words.{box_events, box_with, byte_read_at, byte_reads, cases_eq, cases_lt, Event, EventSet, Execution, Filling}
 use Rattle.lit_solve.proofs.Words.{FillsRead, get_or, get_or_from_slice_get, HasEvent, HasSource, HasValue, HaveEachValue, inl, inr}
 use Rattle.lit_solve.proofs.Words.{IsCompletion, IsCut, IsFilled, IsIndependent, IsLeastFilling, IsNotGreaterOn, Laws, length, Less, List}
-use Rattle.lit_solve.proofs.Words.{nat_cmp, slice_cmp, slice_get, slice_get-get_or, slice_get_within, Some, stored_for, subst, suc, sym}
-use Rattle.lit_solve.proofs.Words.{TakesFrom, value_of, zero, ℕ, ◌↔◌, ◌∙◌, ◌∷◌, ◌≡◌, ◌≢◌}
-use Rattle.lit_rel.proofs.PlaceLemmas.{place-left, place-middle}
+use Rattle.lit_solve.proofs.Words.{nat_cmp, place-left, place-middle, slice_cmp, slice_get, slice_get-get_or, slice_get_within, Some}
+use Rattle.lit_solve.proofs.Words.{stored_for, subst, suc, sym, TakesFrom, value_of, zero, ℕ, ◌↔◌, ◌∙◌, ◌∷◌, ◌≡◌, ◌≢◌}
 use Rattle.lit_solve.proofs.CompletionLemmas.{sourced}
 use Rattle.lit_solve.proofs.FillLemmas.{filled_by, sources_lie}
 use Rattle.lit_solve.proofs.IndependentLemmas.{completes_with}

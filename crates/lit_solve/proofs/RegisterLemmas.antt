@@ -1,24 +1,19 @@
 -- A register's value in an outcome is the value of the read that it observes at the end of its agent's path.
 use Rattle.lit_solve.proofs.Words.{◌&&◌, ◌+◌, ◌++◌, ◌<◌, ◌==◌, [], accesses_of, Agent, agent_of, ap, ap₂, arith, Bool, Box, cases_eq}
-use Rattle.lit_solve.proofs.Words.{cases_lt, CompareExchange, cond, Decided, does_read, End, eq-eqb, Event, event_at, events_in, Exchange}
-use Rattle.lit_solve.proofs.Words.{Execution, execution_outcome, false, false≢true, filter, first_event, get_or-map-range_with_len}
-use Rattle.lit_solve.proofs.Words.{get_or_past, If, if◌then◌else◌, inl, inr, Is, IsBox, IsCompletion, IsDecided, IsOutcomeProspect}
-use Rattle.lit_solve.proofs.Words.{IsProspect, IsReadAt, IsReadDecided, IsStatementWalk, IsTrue, IsWalk, IsWalkIn, last_read}
-use Rattle.lit_solve.proofs.Words.{last_read_from, Laws, length, length-map, length-map-range_with_len, List, list_any, list_any-append}
-use Rattle.lit_solve.proofs.Words.{Litmus, Load, map, names_from, names_in, names_of, nat_tests, ne_eqb, None, none-some, number_on}
-use Rattle.lit_solve.proofs.Words.{observed_read, observed_value, OfClass, Option, option_or, or_parts, outcome_by, path_in, path_on}
-use Rattle.lit_solve.proofs.Words.{range_with_len, reads_into, refl, REGISTERS, same_Some, slice_get, slice_get-get_or, slice_index_or}
-use Rattle.lit_solve.proofs.Words.{Some, Statement, statement_writes, Statements, Step, Store, subst, suc, sym, Then, true, value_in}
-use Rattle.lit_solve.proofs.Words.{walk_in, writes, zero, ◌||◌, ℕ, ◌∙◌, ◌∷◌, ◌≡◌, ◌≢◌, ◌≤◌, ◌⊎◌}
+use Rattle.lit_solve.proofs.Words.{cases_lt, Class, CompareExchange, cond, Decided, does_read, End, eq-eqb, Event, event_at, events_in}
+use Rattle.lit_solve.proofs.Words.{Exchange, Execution, execution_outcome, false, false≢true, filter, first_event}
+use Rattle.lit_solve.proofs.Words.{get_or-map-range_with_len, get_or_past, If, if◌then◌else◌, inl, inr, Is, is_of_class, IsBox}
+use Rattle.lit_solve.proofs.Words.{IsCompletion, IsDecided, IsOutcomeProspect, IsProspect, IsReadAt, IsReadDecided, IsStatementWalk}
+use Rattle.lit_solve.proofs.Words.{IsTrue, IsWalk, IsWalkIn, its_outcome, last_read, last_read_from, Laws, length, length-map}
+use Rattle.lit_solve.proofs.Words.{length-map-range_with_len, List, list_any, list_any-append, Litmus, Load, map, names_from}
+use Rattle.lit_solve.proofs.Words.{names_from-within, names_in, names_of, nat_tests, ne_eqb, None, none-some, number_on, observed_read}
+use Rattle.lit_solve.proofs.Words.{observed_value, OfClass, Option, option_or, or_parts, outcome_by, path_in, path_on, product-known}
+use Rattle.lit_solve.proofs.Words.{Prospect, range_with_len, reads_into, refl, REGISTERS, same_Some, slice_get, slice_get-get_or}
+use Rattle.lit_solve.proofs.Words.{slice_index_or, Some, Statement, statement_writes, Statements, Step, Store, subst, suc, sym, Then, true}
+use Rattle.lit_solve.proofs.Words.{value_in, walk_in, writes, zero, ◌||◌, ℕ, ◌∙◌, ◌∷◌, ◌≡◌, ◌≢◌, ◌≤◌, ◌⊎◌}
 use Rattle.std.proofs.Common.{zip}
-use Rattle.lit_paths.proofs.OutcomeRegisterSteps.{names_from-within}
-use Rattle.lit_paths.proofs.Products.{product-known}
-use Rattle.lit_valid.proofs.CompletionLemmas.{its_outcome}
 use Rattle.lit_solve.specs.declared.condition_values.Decided.TheVariants.{Known, Undecided}
-use Rattle.lit_valid.specs.declared.class.Class.{Class}
-use Rattle.lit_valid.specs.Class.{is_of_class}
-use Rattle.lit_solve.specs.declared.prospect.Prospect.{Prospect}
-use Rattle.lit_solve.specs.declared.prospect.Prospect.TheVariants.{Each, Nothing, Open}
+use Rattle.lit_solve.specs.declared.goal.Prospect.TheVariants.{Each, Nothing, Open}
 use Rattle.lit_solve.proofs.CompletionLemmas.{completes, part_of}
 use Rattle.lit_solve.proofs.FillLemmas.{sources_lie}
 

@@ -1,9 +1,7 @@
 -- Solutions of a box and of its branches.
-use Rattle.lit_solve.proofs.Words.{◌<◌, arith, Box, box_events, Branch, byte_reads, EventSet, Execution, get_or, Goal, GoesWith, HasEvent}
-use Rattle.lit_solve.proofs.Words.{HasSource, IsBranch, IsCut, IsSolution, IsSplit, IsWithin, length, same_Some, slice_get}
-use Rattle.lit_solve.proofs.Words.{slice_get-get_or, Some, subst, sym, TakesFrom, ℕ, ◌↔◌, ◌≡◌}
-use Rattle.lit_rel.proofs.SetLemmas.{split_less_yet}
-use Rattle.lit_rel.proofs.SetLemmas.{event_or_not}
+use Rattle.lit_solve.proofs.Words.{◌<◌, arith, Box, box_events, Branch, byte_reads, event_or_not, EventSet, Execution, get_or, Goal}
+use Rattle.lit_solve.proofs.Words.{GoesWith, HasEvent, HasSource, IsBranch, IsCut, IsSolution, IsSplit, IsWithin, length, same_Some}
+use Rattle.lit_solve.proofs.Words.{slice_get, slice_get-get_or, Some, split_less_yet, subst, sym, TakesFrom, ℕ, ◌↔◌, ◌≡◌}
 use Rattle.lit_solve.proofs.CompletionLemmas.{sourced}
 use Rattle.lit_solve.proofs.PruningLemmas.{read_here}
 

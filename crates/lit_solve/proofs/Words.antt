@@ -1,23 +1,23 @@
 -- The words that the proofs of this crate speak in, of the library, of the crates below and of its own specs: passed on to all of them.
 pub use Rattle.lit_order.specs.Forcing.{Given, IsForced, Through}
 pub use Rattle.lit_order.specs.MemoryOrder.{HasOrder, IsLeastMemoryOrder, IsLeastOrderOf, IsMemoryOrder, IsOrderOf, StandsBefore}
-pub use Rattle.lit_paths.specs.ByteReads.{IsCandidate, byte_read_at, byte_reads, pair_of}
-pub use Rattle.lit_paths.specs.Choice.{AreSources, Choice, ListsChoices, candidates_of, choices_of, combinations_of}
+pub use Rattle.lit_paths.specs.ByteReads.{byte_read_at, byte_reads, IsCandidate, pair_of}
+pub use Rattle.lit_paths.specs.Choice.{AreSources, candidates_of, Choice, choices_of, combinations_of, ListsChoices}
 pub use Rattle.lit_paths.specs.Event.{does_read, does_write, event_at, no_event, payload_at}
 pub use Rattle.lit_paths.specs.Execution.{Execution, execution_events, execution_outcome}
-pub use Rattle.lit_paths.specs.Numbers.{AreNumbered, IsBegunBy, NumbersChoices, length_product, ways_from}
+pub use Rattle.lit_paths.specs.Numbers.{AreNumbered, IsBegunBy, length_product, NumbersChoices, ways_from}
 pub use Rattle.lit_paths.specs.Outcome.{holds, names_from, names_in, names_of, value_in}
-pub use Rattle.lit_paths.specs.Path.{IsStatementWalk, IsWalk, Step, path_on, payload_of}
-pub use Rattle.lit_paths.specs.PathModel.{IsReadAt, accesses_of, last_read, last_read_from, reads_into}
-pub use Rattle.lit_paths.specs.Plan.{AreEventsIn, HasSources, IsOfCombination, IsWalkIn, ListsCandidates, choices_before, events_in}
-pub use Rattle.lit_paths.specs.Plan.{first_event, path_in, walk_in}
+pub use Rattle.lit_paths.specs.Path.{IsStatementWalk, IsWalk, path_on, payload_of, Step}
+pub use Rattle.lit_paths.specs.PathModel.{accesses_of, IsReadAt, last_read, last_read_from, reads_into}
+pub use Rattle.lit_paths.specs.Plan.{AreEventsIn, choices_before, events_in, first_event, HasSources, IsOfCombination, IsWalkIn}
+pub use Rattle.lit_paths.specs.Plan.{ListsCandidates, path_in, walk_in}
 pub use Rattle.lit_paths.specs.declared.byte_reads.ByteRead.{ByteRead}
 pub use Rattle.lit_paths.specs.declared.event.Event.{Event}
 pub use Rattle.lit_paths.specs.declared.event.Order3.TheVariants.{SeqCst}
 pub use Rattle.lit_paths.specs.declared.limits.TheConstants.{BYTE_READ_LIMIT, EVENT_LIMIT}
 pub use Rattle.lit_read.specs.Litmus.{condition_of}
-pub use Rattle.lit_read.specs.Syntax.{Agent, CompareExchange, Condition, End, Exchange, If, Is, IsLitmus, Litmus, Load, Statement}
-pub use Rattle.lit_read.specs.Syntax.{Statements, Store, Then, agent_of, statement_writes, writes}
+pub use Rattle.lit_read.specs.Syntax.{Agent, agent_of, CompareExchange, Condition, End, Exchange, If, Is, IsLitmus, Litmus, Load}
+pub use Rattle.lit_read.specs.Syntax.{Statement, statement_writes, Statements, Store, Then, writes}
 pub use Rattle.lit_read.specs.declared.limits.TheConstants.{REGISTERS}
 pub use Rattle.lit_read.specs.declared.syntax.Cond.{Cond}
 pub use Rattle.lit_rel.specs.Between.{Forbids}
@@ -33,8 +33,8 @@ pub use Rattle.lit_rel.specs.Internal.Given.{AreFirstReads, read_of}
 pub use Rattle.lit_rel.specs.Part.{PartModel}
 pub use Rattle.lit_rel.specs.Peers.{ArePeers, IsPeer}
 pub use Rattle.lit_rel.specs.Racing.{AreApart, HasApartPair, WritesWith}
-pub use Rattle.lit_rel.specs.ReadsFrom.{ReadsByteFrom, ReadsFrom, composed, value_of}
-pub use Rattle.lit_rel.specs.Rows.{Holds, IsTransitive, WithPair, rows_len}
+pub use Rattle.lit_rel.specs.ReadsFrom.{composed, ReadsByteFrom, ReadsFrom, value_of}
+pub use Rattle.lit_rel.specs.Rows.{Holds, IsTransitive, rows_len, WithPair}
 pub use Rattle.lit_rel.specs.SynchronizesWith.{CanSynchronize, SynchronizesBy}
 pub use Rattle.lit_rel.specs.TearFree.{CanReadWhole, HasTearFreeReads, ReadsWholeBy}
 pub use Rattle.lit_rel.specs.GuardedBytes.{RefusedBytesMakeFalse}
@@ -59,8 +59,7 @@ pub use Rattle.lit_solve.specs.Internal.Cut.{IsSide}
 pub use Rattle.lit_solve.specs.Internal.Descending.{AreAloneBelow, IsLowest, IsLowestAt, IsNotLeastAt}
 pub use Rattle.lit_solve.specs.Internal.Filling.{bytes_taken, CanFillOn, CanFillWith, FillsBytes, HasRoom, LieFrom, reads_on, TakesOn}
 pub use Rattle.lit_solve.specs.Internal.Filling.{TakesWhole, WholeWith, WouldNotTear}
-pub use Rattle.lit_solve.specs.Internal.Frames.{AreCoherentAt, box_of, IsContained, IsExact, IsForbiddenAt, IsProblem}
-pub use Rattle.lit_solve.specs.Internal.Frames.{IsSynchronizedAt}
+pub use Rattle.lit_solve.specs.Internal.Frames.{AreCoherentAt, box_of, IsContained, IsExact, IsForbiddenAt, IsProblem, IsSynchronizedAt}
 pub use Rattle.lit_solve.specs.Internal.Independent.{FillsAll, FillsRead, GivesReads, HasLeastOrderIn, IsIndependent, IsLeastFilling}
 pub use Rattle.lit_solve.specs.Internal.Independent.{IsNotGreaterOn, LieOn}
 pub use Rattle.lit_solve.specs.Internal.Leaves.{CanFillAt, MayHave, RacesAt, RacesIn}
@@ -83,16 +82,51 @@ pub use Rattle.lit_solve.specs.declared.goal.Goal.TheVariants.{Any, OfClass, Rac
 pub use Rattle.lit_solve.specs.declared.product.OpenRead.{OpenRead}
 pub use Rattle.lit_solve.specs.declared.read_values.Filling.{Filling}
 pub use Rattle.lit_solve.specs.declared.stepping.Branch.{Branch}
-pub use Rattle.std.proofs.Common.{Bool, Global, List, None, Option, Some, Vec, [], ap, ap₂, arith, below_more, cond, drop, eq-eqb, false}
-pub use Rattle.std.proofs.Common.{filter, get_or, inl, inr, length, length-append, length-set, map, not, refl, rules, set, subst, suc, sym}
-pub use Rattle.std.proofs.Common.{take, true, zero, ℕ, ⊎_elim, ◌&&◌, ◌*◌, ◌++◌, ◌+◌, ◌-◌, ◌<◌, ◌==◌, ◌^◌, ◌||◌, ◌↔◌, ◌∙◌, ◌∷◌, ◌≡◌, ◌≢◌}
-pub use Rattle.std.proofs.Common.{◌≤◌, ◌⊎◌}
+pub use Rattle.lit_order.proofs.ForcedLemmas.{AreTriplesBelow, respects_forced}
+pub use Rattle.lit_order.proofs.ForcingLemmas.{IsForced-grow}
+pub use Rattle.lit_order.proofs.GrownLemmas.{least_of_forced, none_of_forced}
+pub use Rattle.lit_order.proofs.PartLemmas.{triples_below}
+pub use Rattle.lit_order.proofs.SameOrders.{IsLeastOrderOf-same, IsOrderOf-same}
+pub use Rattle.lit_order.proofs.StandingLemmas.{never_before_itself, StandsBefore-through}
+pub use Rattle.lit_paths.proofs.Conditions.{holds-All, holds-Any, member_holds}
+pub use Rattle.lit_paths.proofs.OutcomeRegisterSteps.{names_from-within}
+pub use Rattle.lit_paths.proofs.Products.{product-known, slice_get-drop}
+pub use Rattle.lit_paths.proofs.Rising.{nat_cmp-less, nat_cmp-same, slice_cmp-same, slice_get-map-found}
+pub use Rattle.lit_paths.proofs.Totals.{before_all}
+unfoldable pub use Rattle.lit_paths.specs.Event.{HasSameRange}
+pub use Rattle.lit_rel.proofs.ByteReadLemmas.{reads_rise}
+pub use Rattle.lit_rel.proofs.ChainLemmas.{Chain-append, Chain-same}
+pub use Rattle.lit_rel.proofs.GrowthLemmas.{Grows-from}
+pub use Rattle.lit_rel.proofs.GuardedByteLemmas.{false_of}
+pub use Rattle.lit_rel.proofs.OwnByteLemmas.{only, only_its}
+pub use Rattle.lit_rel.proofs.PlaceLemmas.{place-left, place-middle, place-push, refill-set}
+pub use Rattle.lit_rel.proofs.RaceLemmas.{HasDataRaceOf-iff, HasDataRaceOf-wider, same_range_back}
+pub use Rattle.lit_rel.proofs.RowLemmas.{WithPair-within}
+pub use Rattle.lit_rel.proofs.ReadingLemmas.{write_known}
+pub use Rattle.lit_rel.proofs.SameRelations.{between_by, coherent_read_by}
+pub use Rattle.lit_rel.proofs.SetLemmas.{event_or_not, split_less, split_less_yet, within_le}
+pub use Rattle.lit_rel.proofs.ValueLemmas.{length-stored, stored}
+pub use Rattle.lit_solve.specs.DataRace.{CanFillFrom, CanRaceIn, HasSourceOf, MayRaceIn}
+pub use Rattle.lit_solve.specs.declared.observation.ReadValue.{ReadValue}
+pub use Rattle.lit_solve.specs.declared.goal.Prospect.{Prospect}
+pub use Rattle.lit_solve.specs.declared.pruning.Pruned.{Pruned}
+pub use Rattle.lit_valid.proofs.CompletionLemmas.{example, example_paths, example_valid, its_outcome, not_broken}
+pub use Rattle.lit_valid.specs.Class.{is_of_class}
+pub use Rattle.lit_valid.specs.declared.class.Class.{Class}
+pub use Rattle.std.proofs.lemmas.Result.{on_ok_weaker}
+pub use Rattle.std.specs.List.{list_all, list_any, range_with_len, refill, zip}
+pub use mathlib.Core.Path.{fun_ext}
+pub use Rattle.std.proofs.Common.{◌&&◌, ◌*◌, ◌+◌, ◌++◌, ◌-◌, ◌<◌, ◌==◌, [], ◌^◌, ap, ap₂, arith, below_more, Bool, cond, drop, eq-eqb}
+pub use Rattle.std.proofs.Common.{false, filter, get_or, Global, inl, inr, length, length-append, length-set, List, map, None, not, Option}
+pub use Rattle.std.proofs.Common.{refl, rules, set, Some, subst, suc, sym, take, true, Vec, zero, ◌||◌, ℕ, ◌↔◌, ◌∙◌, ◌∷◌, ◌≡◌, ◌≢◌, ◌≤◌}
+pub use Rattle.std.proofs.Common.{◌⊎◌, ⊎_elim}
 pub use Rattle.std.proofs.Math.Nat.{mul-le-mul_left, mul-le-mul_right, pow-le-pow_right, two-pow-succ}
 pub use Rattle.std.proofs.lemmas.Bool.{cases_eq, cases_lt, cases_order, false≢true, le-ltb, ne_eqb, or_parts}
 pub use Rattle.std.proofs.lemmas.Bool.Decides.{nat_tests}
 pub use Rattle.std.proofs.lemmas.Grind.{common_steps, pow_more, same_number_lists}
 pub use Rattle.std.proofs.lemmas.List.{append-nil, append_assoc, drop-map, drop_all, drop_more, get_or-map, get_or-set_other}
-pub use Rattle.std.proofs.lemmas.List.{get_or-set_same, get_or_past, length-map, length-take-le, length_push, take_all, take_more}
+pub use Rattle.std.proofs.lemmas.List.{get_or-set_same, get_or_past, length-map, length-take-le, length_push, nil_from_length, take_all}
+pub use Rattle.std.proofs.lemmas.List.{take_more}
 pub use Rattle.std.proofs.lemmas.List.Elements.{same_from_all_zip}
 pub use Rattle.std.proofs.lemmas.List.Folds.{list_all_at, list_any-append, list_any_at}
 pub use Rattle.std.proofs.lemmas.List.FromFn.{get_or-map-range_with_len, length-map-range_with_len}
@@ -101,10 +135,9 @@ pub use Rattle.std.proofs.lemmas.Nat.Bits.{bit_at_above}
 pub use Rattle.std.proofs.lemmas.Option.{get_or_from_slice_get, none-some, same_Some, slice_get-get_or, slice_get_within}
 pub use Rattle.std.specs.Cmp.Lexicographic.{slice_cmp}
 pub use Rattle.std.specs.Int.{bit_at, to_le_bytes, w32}
-pub use Rattle.std.specs.List.{list_all, list_any, range_with_len, zip}
 pub use Rattle.std.specs.Option.{is_some, option_or, unwrap_or}
 pub use Rattle.std.specs.Ordering.{nat_cmp, ordering_then}
-pub use Rattle.std.specs.Prelude.{IfNone, IfSome, IsTrue, MatchBool, MatchOption, if◌then◌else◌, slice_get, slice_index, slice_index_or}
+pub use Rattle.std.specs.Prelude.{IfNone, IfSome, if◌then◌else◌, IsTrue, MatchBool, MatchOption, slice_get, slice_index, slice_index_or}
 pub use Rattle.std.specs.Prelude.{slice_set}
 pub use Rattle.std.specs.declared.cmp.Ordering.{Ordering}
 pub use Rattle.std.specs.declared.cmp.Ordering.TheVariants.{Equal, Greater, Less}

@@ -9,8 +9,8 @@ use Rattle.lit_valid.specs.Class.{is_of_class}
 use Rattle.lit_valid.specs.PartOutcome.{part_outcome}
 use Rattle.lit_solve.specs.declared.observation.ReadValue.{ReadValue}
 use Rattle.lit_solve.specs.declared.observation.ReadValue.TheVariants.{One, Open as OpenAt}
-use Rattle.lit_solve.specs.declared.prospect.Prospect.{Prospect}
-use Rattle.lit_solve.specs.declared.prospect.Prospect.TheVariants.{Each, Nothing, Open}
+use Rattle.lit_solve.specs.declared.goal.Prospect.{Prospect}
+use Rattle.lit_solve.specs.declared.goal.Prospect.TheVariants.{Each, Nothing, Open}
 use Rattle.lit_solve.specs.Box.{Box, HasSource, box_events}
 use Rattle.lit_solve.specs.Fill.{AreSourcesIn}
 

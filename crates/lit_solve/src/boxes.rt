@@ -6,7 +6,6 @@
 //! earlier the box. In the same way each later place gives one box after it, as `high` up to that place and less there. The place behind
 //! the last gives `low` itself, and `high` itself.
 
-pub(crate) mod candidates;
 pub(crate) mod ends;
 
 ghost use Rattle.std.specs.Prelude.{◌≡◌, ◌↔◌, ℕ, ◌+◌, ◌<◌, ◌≤◌, IfSome, length};
@@ -18,9 +17,8 @@ ghost use Rattle.lit_rel.specs.EventSet.{HasEvent};
 ghost use Rattle.lit_solve.specs.Box.{IsBox, box_with};
 ghost use Rattle.lit_solve.specs.Boxes.{AreDomainsIn, CutsRange, IsAbove, IsBelow, IsInBox, boxes_events, boxes_len, parting_in};
 
-use crate::boxes::candidates::candidates_of;
 use crate::boxes::ends::End;
-use crate::domains::Domains;
+use crate::domains::{Domains, candidates_of};
 use crate::numbering::first_of;
 use lit_paths::laws::choices_are_listed;
 use lit_paths::{Combination, EVENT_LIMIT};

@@ -13,8 +13,8 @@ ghost use Rattle.lit_solve.specs.Internal.ConditionValues.{IsByteDecided, IsDeci
 
 use crate::domains::Domains;
 use crate::filling::storing;
+use crate::goal::Prospect;
 use crate::problem::Problem;
-use crate::prospect::Prospect;
 use lit_paths::event_at;
 use lit_read::{Cond, REGISTERS};
 use lit_rel::EventSet;

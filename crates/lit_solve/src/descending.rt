@@ -11,9 +11,8 @@ ghost use Rattle.lit_solve.specs.Internal.Settled.{IsSettled};
 
 use crate::domains::set_of;
 use crate::frame::Frame;
-use crate::goal::Goal;
+use crate::goal::{Goal, Prospect};
 use crate::problem::Problem;
-use crate::prospect::Prospect;
 
 impl Problem<'_> {
     /// Whether a frame may have a solution, as far as its domains show. If `sure`, whether it has one, by a search.

@@ -8,7 +8,7 @@ ghost use Rattle.lit_rel.specs.EventSet.{HasEvent};
 ghost use Rattle.lit_rel.specs.Peers.{ArePeers, IsPeer};
 ghost use Rattle.lit_solve.specs.Fill.{HasEffect};
 
-use crate::domains::{has_some, set_of};
+use crate::domains::set_of;
 use lit_paths::{Event, event_at};
 use lit_rel::{EventSet, Rows};
 
@@ -20,7 +20,7 @@ fn has_peer_beside(events: &[Event], peers: &Rows, event: usize, besides: EventS
     ensures { IsTrue result ↔ (((event_of events.now event).order ≡ SeqCst)
         × ((v : ℕ) × IsPeer events.now event v × ¬ HasEvent besides v)) }
 {
-    event_at(events, event).is_seq_cst() && has_some(peers.successors(event).difference(besides))
+    event_at(events, event).is_seq_cst() && !peers.successors(event).difference(besides).is_empty()
 }
 
 /// Whether a source can force anything if a read reads a byte from it. Both are event numbers. `peers` has the sequentially

@@ -11,7 +11,7 @@ ghost use Rattle.lit_solve.specs.Fill.{CanFill, IsLeaf};
 ghost use Rattle.lit_solve.specs.declared.goal.Goal.TheVariants.{Any};
 ghost use Rattle.lit_solve.specs.Internal.Frames.{IsContained, IsExact, box_of};
 ghost use Rattle.lit_solve.specs.Internal.Independent.{HasLeastOrderIn, IsIndependent};
-ghost use Rattle.lit_solve.specs.Internal.Leaves.{CanFillAt, MayHave, RacesAt, RacesIn};
+ghost use Rattle.lit_solve.specs.Internal.Leaves.{MayHave, RacesAt, RacesIn};
 ghost use Rattle.lit_solve.specs.Internal.Pruning.{HasNoCompletion};
 ghost use Rattle.lit_solve.specs.Internal.Settled.{IsSettled};
 

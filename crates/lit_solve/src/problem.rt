@@ -7,8 +7,7 @@ ghost use Rattle.lit_paths.specs.Plan.{AreEventsIn};
 ghost use Rattle.lit_paths.specs.declared.limits.TheConstants.{BYTE_READ_LIMIT};
 ghost use Rattle.lit_solve.specs.Box.{events_on};
 
-use crate::boxes::candidates::candidates_of;
-use crate::domains::Domains;
+use crate::domains::{Domains, candidates_of};
 use crate::node_consistency::refused_among;
 use lit_paths::{BYTE_READ_LIMIT, ByteRead, Combination, Event, Plan};
 use lit_rel::laws::byte_reads_are_of_events;

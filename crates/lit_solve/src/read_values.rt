@@ -1,6 +1,6 @@
 //! The values that a read can have in a box with independent reads, each with the least sources for it.
 
-ghost use Rattle.std.specs.Prelude.{ℕ, ◌<◌, OnOk, length};
+ghost use Rattle.std.specs.Prelude.{◌<◌, OnOk, length};
 ghost use Rattle.lit_solve.specs.Box.{box_with, events_on};
 ghost use Rattle.lit_solve.specs.Internal.Independent.{IsIndependent};
 ghost use Rattle.lit_solve.specs.Internal.ReadValues.{AddsFillings, HaveEachValue};

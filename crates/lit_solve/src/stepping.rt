@@ -11,10 +11,9 @@ ghost use Rattle.lit_solve.specs.Internal.Settled.{IsSettled};
 
 use crate::domains::set_of;
 use crate::frame::Frame;
-use crate::goal::Goal;
+use crate::goal::{Goal, Prospect};
 use crate::laws::boxes_bound_races;
 use crate::problem::Problem;
-use crate::prospect::Prospect;
 use lit_rel::EventSet;
 use lit_valid::laws::laws_below;
 

@@ -9,8 +9,8 @@ use Rattle.lit_paths.specs.Outcome.{holds, names_of}
 use Rattle.lit_rel.specs.ReadsFrom.{value_of}
 use Rattle.lit_solve.specs.declared.goal.Goal.{Goal}
 use Rattle.lit_solve.specs.declared.goal.Goal.TheVariants.{Any, OfClass, Race}
-use Rattle.lit_solve.specs.declared.prospect.Prospect.{Prospect}
-use Rattle.lit_solve.specs.declared.prospect.Prospect.TheVariants.{Each, Nothing, Open}
+use Rattle.lit_solve.specs.declared.goal.Prospect.{Prospect}
+use Rattle.lit_solve.specs.declared.goal.Prospect.TheVariants.{Each, Nothing, Open}
 use Rattle.lit_solve.specs.declared.condition_values.Decided.{Decided}
 use Rattle.lit_solve.specs.declared.condition_values.Decided.TheVariants.{Known, Undecided}
 use Rattle.lit_solve.specs.Box.{Box, HasSource, box_events}

@@ -1,5 +1,4 @@
-use Rattle.std.proofs.Common.{ℕ, subst, arith}
-use Rattle.lit_solve.specs.Box.{box_with}
+use Rattle.lit_search.proofs.Words.{arith, box_with, subst, ℕ}
 use Rattle.lit_solve.proofs.CompletionLemmas.{sourced}
 use Rattle.lit_search.specs.Internal.Boxed.{HasNoneBefore}
 use Rattle.lit_search.proofs.BoxedLemmas.{first_found, none_at_all, none_more, of_none}

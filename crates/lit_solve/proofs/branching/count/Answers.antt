@@ -1,4 +1,4 @@
-use Rattle.lit_rel.proofs.SetLemmas.{split_less}
+use Rattle.lit_solve.proofs.Words.{split_less}
 use Rattle.lit_solve.proofs.branching.count.Goals as goal
 
 pub loop-first-smaller : goal.loop-first-smaller

@@ -1,5 +1,4 @@
-use Rattle.lit_solve.proofs.Words.{arith}
-use Rattle.lit_rel.proofs.SetLemmas.{split_less}
+use Rattle.lit_solve.proofs.Words.{arith, split_less}
 use Rattle.lit_solve.proofs.ReadByteLemmas.{matching_more, matching_same}
 use Rattle.lit_solve.proofs.filling.storing.Goals as goal
 

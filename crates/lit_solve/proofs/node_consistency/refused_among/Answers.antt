@@ -1,6 +1,5 @@
-use Rattle.lit_solve.proofs.Words.{arith, byte_read_at, ByteRead, common_steps, events_on, false≢true, get_or, IsRefusedOn, subst, sym, ℕ}
-use Rattle.lit_solve.proofs.Words.{◌∙◌}
-use Rattle.lit_rel.proofs.SetLemmas.{split_less}
+use Rattle.lit_solve.proofs.Words.{arith, byte_read_at, ByteRead, common_steps, events_on, false≢true, get_or, IsRefusedOn, split_less}
+use Rattle.lit_solve.proofs.Words.{subst, sym, ℕ, ◌∙◌}
 use Rattle.lit_solve.proofs.PruningLemmas.{read_known, read_listed, read_there}
 use Rattle.lit_solve.proofs.ReadByteLemmas.{matching_more, matching_same}
 use Rattle.lit_solve.proofs.node_consistency.refused_among.Goals as goal

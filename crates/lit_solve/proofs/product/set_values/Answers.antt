@@ -1,7 +1,5 @@
-use Rattle.lit_solve.proofs.Words.{◌+◌, ◌<◌, ap, arith, get_or, length, length-set, List, slice_get, slice_get-get_or, slice_get_within}
-use Rattle.lit_solve.proofs.Words.{slice_set, Some, subst, sym, ℕ, ◌∙◌, ◌≡◌}
-use Rattle.lit_rel.proofs.PlaceLemmas.{refill-set}
-use Rattle.std.specs.List.{refill}
+use Rattle.lit_solve.proofs.Words.{◌+◌, ◌<◌, ap, arith, get_or, length, length-set, List, refill, refill-set, slice_get, slice_get-get_or}
+use Rattle.lit_solve.proofs.Words.{slice_get_within, slice_set, Some, subst, sym, ℕ, ◌∙◌, ◌≡◌}
 use Rattle.lit_solve.proofs.OpenReadLemmas.{IsSetSoFar, others_more, own_more}
 use Rattle.lit_solve.proofs.product.set_values.Goals as goal
 

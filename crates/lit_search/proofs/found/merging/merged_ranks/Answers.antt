@@ -1,6 +1,5 @@
-use Rattle.lit_search.proofs.Words.{◌++◌, [], All-push, ap, AreRanks, Entry, IsRank, joined_entries, List, map, map-append, merged, Rank}
-use Rattle.lit_search.proofs.Words.{ranked_entry, subst, sym, ◌∙◌, ◌∷◌, ◌≡◌}
-use Rattle.std.proofs.lemmas.List.{append_assoc}
+use Rattle.lit_search.proofs.Words.{◌++◌, [], All-push, ap, append_assoc, AreRanks, Entry, IsRank, joined_entries, List, map, map-append}
+use Rattle.lit_search.proofs.Words.{merged, Rank, ranked_entry, subst, sym, ◌∙◌, ◌∷◌, ◌≡◌}
 use Rattle.lit_search.proofs.found.merging.merged_ranks.Goals as goal
 
 pub loop-rank-preserved : goal.loop-rank-preserved

@@ -1,6 +1,5 @@
-use Rattle.lit_search.proofs.Words.{◌+◌, ◌++◌, ◌<◌, [], ◌^◌, ap, arith, into_iter_items, List, map, Rank, subst, suc, sym, ◌∙◌, ◌∷◌, ◌≡◌}
-use Rattle.std.specs.List.{All}
-use Rattle.std.proofs.lemmas.List.{append_assoc}
+use Rattle.lit_search.proofs.Words.{◌+◌, ◌++◌, ◌<◌, [], ◌^◌, All, ap, append_assoc, arith, into_iter_items, List, map, Rank, subst, suc}
+use Rattle.lit_search.proofs.Words.{sym, ◌∙◌, ◌∷◌, ◌≡◌}
 use Rattle.lit_search.proofs.RankLemmas.{moved}
 use Rattle.lit_search.proofs.found.ranking.all_behind.Goals as goal
 

@@ -1,5 +1,4 @@
-use Rattle.lit_search.proofs.Words.{◌+◌, ◌++◌, ◌<◌, ◌^◌, into_iter_items, map, ◌≡◌}
-use Rattle.std.specs.List.{All}
+use Rattle.lit_search.proofs.Words.{◌+◌, ◌++◌, ◌<◌, ◌^◌, All, into_iter_items, map, ◌≡◌}
 use Rattle.lit_search.proofs.RankLemmas.{moved}
 use Rattle.lit_search.proofs.found.ranking.all_behind.Given as goal
 

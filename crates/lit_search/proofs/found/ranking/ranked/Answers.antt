@@ -1,7 +1,7 @@
 use Rattle.lit_search.proofs.Words.{◌++◌, [], All-permutation, always_returns_same, ap, arith, Entry, IsPermutation, IsPermutation-map}
-use Rattle.lit_search.proofs.Words.{IsRank, joined_entries, length, List, map, nat_list_cmp_total, Rank, rank_key, ranked_entry, ranks_by}
-use Rattle.lit_search.proofs.Words.{rules, shown_entry, slice_get, slice_get_within, subst, sym, take_all, ◌∙◌, ◌∷◌, ◌≡◌}
-use Rattle.std.proofs.lemmas.List.{length-append}
+use Rattle.lit_search.proofs.Words.{IsRank, joined_entries, length, length-append, List, map, nat_list_cmp_total, Rank, rank_key}
+use Rattle.lit_search.proofs.Words.{ranked_entry, ranks_by, rules, shown_entry, slice_get, slice_get_within, subst, sym, take_all, ◌∙◌}
+use Rattle.lit_search.proofs.Words.{◌∷◌, ◌≡◌}
 use Rattle.lit_search.proofs.RisenEntries.{sorted_risen}
 use Rattle.lit_search.proofs.RankLemmas.{one_more_each, one_more_rank, past, sorted_by_outcome}
 use Rattle.lit_search.proofs.found.ranking.ranked.Goals as goal

@@ -1,5 +1,4 @@
-use Rattle.lit_solve.proofs.Words.{arith, common_steps}
-use Rattle.lit_paths.proofs.Conditions.{member_holds, holds-All, holds-Any}
+use Rattle.lit_solve.proofs.Words.{arith, common_steps, holds-All, holds-Any, member_holds}
 use Rattle.lit_solve.proofs.ConditionLemmas.{met_by_one, unmet_by_one, values_of}
 use Rattle.lit_solve.proofs.problem.Problem.+decide.Goals as goal
 

@@ -1,6 +1,5 @@
 use Rattle.lit_solve.proofs.Words.{◌+◌, ◌<◌, box_with, byte_read_at, CanFillOn, CanFillWith, events_on, false≢true, HasEvent, HasSource}
-use Rattle.lit_solve.proofs.Words.{length, refl, ℕ}
-use Rattle.lit_rel.proofs.SetLemmas.{split_less, split_less_yet}
+use Rattle.lit_solve.proofs.Words.{length, refl, split_less, split_less_yet, ℕ}
 use Rattle.lit_solve.proofs.FillingLemmas.{fill_with, filled_at_end, filled_with, dominated_in_vain, next_filled, next_filled_back}
 use Rattle.lit_solve.proofs.ReadByteLemmas.{none_later, read_there, vain_more}
 use Rattle.lit_solve.proofs.problem.Problem.+fills_on.Goals as goal

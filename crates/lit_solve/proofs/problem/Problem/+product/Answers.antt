@@ -1,5 +1,5 @@
-use Rattle.lit_solve.proofs.Words.{[], ap, AreOpenReads, AreValuesBeside, arith, box_with, ChangesListed, Filling, HasEvent, inr}
-use Rattle.lit_solve.proofs.Words.{IsOpenRead, length, List, OpenRead, refl, slice_get-get_or, Some, subst, sym, ℕ, ◌↔◌, ◌∙◌, ◌∷◌, ◌≡◌}
+use Rattle.lit_solve.proofs.Words.{ap, AreOpenReads, AreValuesBeside, arith, box_with, ChangesListed, Filling, HasEvent, inr}
+use Rattle.lit_solve.proofs.Words.{IsOpenRead, length, List, nil_from_length, OpenRead, refl, slice_get-get_or, Some, subst, sym, ℕ, ◌↔◌, ◌∙◌, ◌∷◌, ◌≡◌}
 use Rattle.lit_solve.proofs.EntryLemmas.{adds_more, adds_none}
 use Rattle.lit_solve.proofs.GivenReadLemmas.{IsGiving, given_independent, given_order}
 use Rattle.lit_solve.proofs.OpenReadLemmas.{beside_changed, changes_first, changes_more, changes_none, changes_rest, value_from_first}
@@ -7,15 +7,10 @@ use Rattle.lit_solve.proofs.ProductLemmas.{IsGivingFirst, all_values_seen, fills
 use Rattle.lit_solve.proofs.problem.Problem.+product.Goals as goal
 use Rattle.lit_solve.proofs.problem.Problem.+product.Goals.{After-give, After-index-filling, After-product, In-Some}
 
--- no read is left where the list has no first
-none_left : (reads : List OpenRead) → length reads ≡ 0 → reads ≡ []
-none_left [] none = refl
-none_left (it ∷ reads) none = absurd (omega (arith, none))
-
 pub record_independent-requires-clause-same : goal.record_independent-requires-clause-same
 record_independent-requires-clause-same g t c x is =
     let box = box_with c.args.self.now c.args.domains.now in
-    let none = none_left c.args.reads.now c.in_default.ensures.cases in
+    let none = nil_from_length c.args.reads.now c.in_default.ensures.cases in
     outcome_beside c.laws_below.ensures box c.requires.independent c.args.values.now.items
     (subst (λ (rs : List OpenRead). AreValuesBeside box rs c.args.values.now.items) none c.requires.values) x is ∙ sym c.as_slice.ensures.value
 

@@ -1,5 +1,4 @@
-use Rattle.lit_solve.proofs.Words.{arith, box_with, common_steps, eq-eqb, refl, sym, ◌∙◌}
-use Rattle.lit_rel.proofs.SetLemmas.{event_or_not}
+use Rattle.lit_solve.proofs.Words.{arith, box_with, common_steps, eq-eqb, event_or_not, refl, sym, ◌∙◌}
 use Rattle.lit_solve.proofs.ReadValueLemmas.{undecided_by}
 use Rattle.lit_solve.proofs.problem.Problem.byte_is.Goals as goal
 

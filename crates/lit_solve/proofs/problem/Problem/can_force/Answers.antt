@@ -1,5 +1,4 @@
-use Rattle.lit_solve.proofs.Words.{arith, box_of, cases_eq, inr}
-use Rattle.lit_rel.proofs.SetLemmas.{split_less}
+use Rattle.lit_solve.proofs.Words.{arith, box_of, cases_eq, inr, split_less}
 use Rattle.lit_solve.proofs.BranchingLemmas.{idle_at}
 use Rattle.lit_solve.proofs.FrameLemmas.{not_true}
 use Rattle.lit_solve.proofs.PruningLemmas.{source_known}

@@ -1,6 +1,5 @@
-use Rattle.lit_solve.proofs.Words.{◌<◌, arith, box_with, byte_read_at, byte_reads, common_steps, events_on, HasEvent, HasSource, inl, inr}
-use Rattle.lit_solve.proofs.Words.{IsProblem, IsPrunable, length, length-set, Litmus, subst, ℕ, ◌∙◌}
-use Rattle.lit_rel.proofs.SetLemmas.{event_or_not}
+use Rattle.lit_solve.proofs.Words.{◌<◌, arith, box_with, byte_read_at, byte_reads, common_steps, event_or_not, events_on, HasEvent}
+use Rattle.lit_solve.proofs.Words.{HasSource, inl, inr, IsProblem, IsPrunable, length, length-set, Litmus, subst, ℕ, ◌∙◌}
 use Rattle.lit_solve.proofs.DomainLemmas.{pruned_at, pruned_is_box, prunes, prunes_on}
 use Rattle.lit_solve.proofs.PruningLemmas.{read_here}
 use Rattle.lit_solve.proofs.problem.Problem.consistent.Goals as goal

@@ -37,8 +37,7 @@ pub returns-then-not-propagate-clause-none : goal.returns-then-not-propagate-cla
 returns-then-not-propagate-clause-none c _ x is takes =
     let box = box_of c.args.self.now c.args.frame.now in
     let left = c.intersection-left in
-    let room : c.args.place < length box.domains = omega arith in
-    c.propagate.ensures.none c.if-not-propagate.true x (completion_taken box c.args.place c.args.set left.result room left.ensures x is takes)
+    c.propagate.ensures.none c.if-not-propagate.true x (completion_taken box c.args.place c.args.set left.result (omega arith) left.ensures x is takes)
 
 -- the frame is settled once more, propagated or not
 record IsResettled (old : Box) (place : ℕ) (set : EventSet) (size : ℕ) (new : Box) (frame : Frame) : Type 0 where
@@ -66,11 +65,10 @@ again c =
           }
       | else-forces-via-else-forces w ↦
           let some = (some_exactly left.result c.is_empty.result c.is_empty.ensures).0 (ap not c.if-is_empty.false) in
-          let same = pruned_at box place left.result in
           subst Resettled (sym w.frame-is) record {
             settled = settled_still box c.args.frame.now c.requires.settled place left.result room (left_within box place c.args.set left.result room left.ensures) some
                 (c.forces.ensures w.if-forces.false);
-            cut = on same record { within = record { test = refl; combination = refl; domains = λ k v there. there }; retained = λ x is. is };
+            cut = on (pruned_at box place left.result) record { within = record { test = refl; combination = refl; domains = λ k v there. there }; retained = λ x is. is };
             small = omega arith;
           }
     ]

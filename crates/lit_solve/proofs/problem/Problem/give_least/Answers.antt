@@ -1,6 +1,5 @@
-use Rattle.lit_solve.proofs.Words.{Any, arith, Box, box_with, EventSet, HasLeastOrderIn, IsIndependent, IsLowestAt, List, Litmus, subst}
-use Rattle.lit_solve.proofs.Words.{sym, ℕ, ◌≡◌}
-use Rattle.lit_rel.proofs.SetLemmas.{split_less}
+use Rattle.lit_solve.proofs.Words.{Any, arith, Box, box_with, EventSet, HasLeastOrderIn, IsIndependent, IsLowestAt, List, Litmus}
+use Rattle.lit_solve.proofs.Words.{split_less, subst, sym, ℕ, ◌≡◌}
 use Rattle.lit_solve.proofs.DescendingLemmas.{cut_alone, lowest_at}
 use Rattle.lit_solve.proofs.IndependentLemmas.{independent_solution}
 use Rattle.lit_solve.proofs.PruningLemmas.{source_known}

@@ -1,5 +1,4 @@
-use Rattle.lit_solve.proofs.Words.{box_with, inl, inr, sym}
-use Rattle.lit_rel.proofs.SetLemmas.{event_or_not}
+use Rattle.lit_solve.proofs.Words.{box_with, event_or_not, inl, inr, sym}
 use Rattle.lit_solve.proofs.ReadValueLemmas.{undecided_by}
 use Rattle.lit_solve.proofs.PruningLemmas.{source_known}
 use Rattle.lit_solve.proofs.problem.Problem.has_other_byte.Goals as goal

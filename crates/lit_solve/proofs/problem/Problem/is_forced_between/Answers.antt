@@ -1,5 +1,4 @@
-use Rattle.lit_solve.proofs.Words.{arith, Event, events_on, false≢true, Holds, IsForbiddenBetween, List, subst, sym}
-use Rattle.lit_rel.proofs.ReadingLemmas.{write_known}
+use Rattle.lit_solve.proofs.Words.{arith, Event, events_on, false≢true, Holds, IsForbiddenBetween, List, subst, sym, write_known}
 use Rattle.lit_solve.proofs.PruningLemmas.{some_exactly}
 use Rattle.lit_solve.proofs.problem.Problem.is_forced_between.Goals as goal
 

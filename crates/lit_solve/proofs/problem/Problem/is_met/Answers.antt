@@ -1,5 +1,5 @@
-use Rattle.lit_solve.proofs.Words.{AreCoherentSources, box_events, box_of, Goal, HappensBeforeIn, HasSolution, Holds, IsTrue, subst, sym}
-use Rattle.lit_rel.proofs.SameRelations.{coherent_read_by}
+use Rattle.lit_solve.proofs.Words.{AreCoherentSources, box_events, box_of, coherent_read_by, Goal, HappensBeforeIn, HasSolution, Holds}
+use Rattle.lit_solve.proofs.Words.{IsTrue, subst, sym}
 use Rattle.lit_solve.proofs.problem.Problem.is_met.Goals as goal
 
 pub returns-then-has_completion : goal.returns-then-has_completion

@@ -1,5 +1,5 @@
-use Rattle.lit_solve.proofs.Words.{box_of, events_on, Forbids, HappensBeforeIn, Holds, IsForbiddenIn, length, rows_len}
-use Rattle.lit_order.proofs.GrownLemmas.{least_of_forced, none_of_forced}
+use Rattle.lit_solve.proofs.Words.{box_of, events_on, Forbids, HappensBeforeIn, Holds, IsForbiddenIn, least_of_forced, length}
+use Rattle.lit_solve.proofs.Words.{none_of_forced, rows_len}
 use Rattle.lit_solve.proofs.FrameLemmas.{triples_below_in}
 use Rattle.lit_solve.proofs.problem.Problem.least_order.Goals as goal
 

@@ -1,6 +1,5 @@
 use Rattle.lit_solve.proofs.Words.{◌<◌, AreOpenReads, AreValuesBeside, box_events, box_with, byte_reads, FillsRead, IsListed, length, List}
-use Rattle.lit_solve.proofs.Words.{OpenRead, subst, sym, ℕ, ◌≡◌}
-use Rattle.std.proofs.lemmas.Result.{on_ok_weaker}
+use Rattle.lit_solve.proofs.Words.{on_ok_weaker, OpenRead, subst, sym, ℕ, ◌≡◌}
 use Rattle.lit_solve.proofs.CompletionLemmas.{sourced}
 use Rattle.lit_solve.proofs.GivenReadLemmas.{given_independent, given_order}
 use Rattle.lit_solve.proofs.ProductLemmas.{IsGivingBeside, entries_beside, outcomes_beside, reads_beside, values_beside_in}

@@ -1,7 +1,6 @@
 use Rattle.lit_solve.proofs.Words.{◌<◌, ap, arith, box_of, byte_read_at, byte_reads, cases_eq, events_on, Frame, get_or_from_slice_get}
-use Rattle.lit_solve.proofs.Words.{HasSource, Holds, inl, inr, IsCoherentRead, length, refl, size_of, slice_get_within, subst, sym, ℕ, ◌∙◌}
-use Rattle.lit_solve.proofs.Words.{◌≡◌, ◌≢◌}
-use Rattle.lit_solve.specs.declared.pruning.Pruned.{Pruned}
+use Rattle.lit_solve.proofs.Words.{HasSource, Holds, inl, inr, IsCoherentRead, length, Pruned, refl, size_of, slice_get_within, subst, sym}
+use Rattle.lit_solve.proofs.Words.{ℕ, ◌∙◌, ◌≡◌, ◌≢◌}
 use Rattle.lit_solve.specs.declared.pruning.Pruned.TheVariants.{Empty, Less, Same}
 use Rattle.lit_solve.proofs.DomainLemmas.{prunes_on}
 use Rattle.lit_solve.proofs.problem.Problem.prune.Goals as goal

@@ -1,5 +1,4 @@
-use Rattle.lit_solve.proofs.Words.{arith, box_of, false≢true}
-use Rattle.lit_rel.proofs.SetLemmas.{split_less}
+use Rattle.lit_solve.proofs.Words.{arith, box_of, false≢true, split_less}
 use Rattle.lit_solve.proofs.PruningLemmas.{source_known}
 use Rattle.lit_solve.proofs.RacingLemmas.{may_have_source, read_number}
 use Rattle.lit_solve.proofs.ReadByteLemmas.{vain_more}

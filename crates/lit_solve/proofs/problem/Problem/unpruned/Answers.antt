@@ -1,6 +1,5 @@
 use Rattle.lit_solve.proofs.Words.{◌<◌, arith, box_of, byte_read_at, cases_eq, events_on, HasSource, Holds, inl, inr, IsCoherentRead}
-use Rattle.lit_solve.proofs.Words.{IsPrunable, length, subst, sym, ℕ}
-use Rattle.lit_rel.proofs.SetLemmas.{split_less}
+use Rattle.lit_solve.proofs.Words.{IsPrunable, length, split_less, subst, sym, ℕ}
 use Rattle.lit_solve.proofs.PruningLemmas.{source_known}
 use Rattle.lit_solve.proofs.problem.Problem.unpruned.Goals as goal
 

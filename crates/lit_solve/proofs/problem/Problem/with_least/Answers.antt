@@ -1,5 +1,4 @@
-use Rattle.lit_solve.proofs.Words.{arith, Box, box_of, Execution, HasEvent, IsSolution, slice_get, Some, sym, ℕ, ◌∙◌, ◌≡◌}
-use Rattle.lit_rel.proofs.SetLemmas.{split_less}
+use Rattle.lit_solve.proofs.Words.{arith, Box, box_of, Execution, HasEvent, IsSolution, slice_get, Some, split_less, sym, ℕ, ◌∙◌, ◌≡◌}
 use Rattle.lit_solve.proofs.DescendingLemmas.{cut_alone, lowest_at}
 use Rattle.lit_solve.proofs.FrameLemmas.{not_true}
 use Rattle.lit_solve.proofs.PruningLemmas.{source_known}

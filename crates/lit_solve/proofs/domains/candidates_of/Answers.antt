@@ -1,6 +1,6 @@
 use Rattle.lit_solve.proofs.Words.{ap, arith, byte_read_at, events_in, get_or, length, slice_get-get_or, Some, sym, ℕ, ◌∙◌}
 use Rattle.lit_solve.proofs.CandidateLemmas.{has_all, has_more}
-use Rattle.lit_solve.proofs.boxes.candidates.candidates_of.Goals as goal
+use Rattle.lit_solve.proofs.domains.candidates_of.Goals as goal
 
 pub with-candidates-requires : goal.with-candidates-requires
 with-candidates-requires c =
