@@ -8,7 +8,7 @@ use Rattle.lit_solve.proofs.Words.{subst, sym, ℕ, ◌∷◌, ◌≡◌, ◌≤
 pub outcome_stays : (old more : List Entry) (outcome : List ℕ) → HasOutcome old outcome → HasOutcome (old ++ more) outcome
 outcome_stays old more outcome has = grind (arith, place-left)
 
-outcome_of_last : (old : List Entry) (entry : Entry) → HasOutcome (old ++ entry ∷ []) entry.outcome
+pub outcome_of_last : (old : List Entry) (entry : Entry) → HasOutcome (old ++ entry ∷ []) entry.outcome
 outcome_of_last old entry = record { place = length old; entry = entry; is = place-middle old [] entry; same = refl }
 
 -- ---- lists that go on

@@ -1,9 +1,9 @@
 -- The least solution: if each domain has one source, these are the sources of each completion.
-use Rattle.lit_solve.proofs.Words.{◌++◌, ◌<◌, [], AreAloneBelow, arith, Box, box_events, byte_reads, Event, Execution, execution_events}
-use Rattle.lit_solve.proofs.Words.{get_or, Goal, HappensBeforeIn, HasSolution, HasSource, inl, IsBox, IsCompletion, IsForbiddenIn, IsLeaf}
-use Rattle.lit_solve.proofs.Words.{IsLeastMemoryOrder, IsLeastOrderOf, IsLeastSolution, IsLowest, IsMemoryOrder, IsOrderOf, IsSolution}
-use Rattle.lit_solve.proofs.Words.{length, Less, LiesIn, List, MatchOption, nat_cmp, Option, place-push, Prunes, same_number_lists}
-use Rattle.lit_solve.proofs.Words.{slice_cmp, slice_get-get_or, subst, sym, ℕ, ◌↔◌, ◌∙◌, ◌∷◌, ◌≡◌, ◌≢◌}
+use Rattle.lit_solve.proofs.Words.{[], ◌++◌, ◌<◌, ◌↔◌, ◌∙◌, ◌∷◌, ◌≡◌, ◌≢◌, AreAloneBelow, arith, Box, box_events, byte_reads, Event}
+use Rattle.lit_solve.proofs.Words.{Execution, execution_events, get_or, Goal, HappensBeforeIn, HasSolution, HasSource, inl, IsBox}
+use Rattle.lit_solve.proofs.Words.{IsCompletion, IsForbiddenIn, IsLeaf, IsLeastMemoryOrder, IsLeastOrderOf, IsLeastSolution, IsLowest}
+use Rattle.lit_solve.proofs.Words.{IsMemoryOrder, IsOrderOf, IsSolution, length, Less, LiesIn, List, MatchOption, nat_cmp, Option}
+use Rattle.lit_solve.proofs.Words.{place-push, Prunes, same_number_lists, slice_cmp, slice_get-get_or, subst, sym, ℕ}
 use Rattle.lit_solve.proofs.BoxLemmas.{same_events}
 use Rattle.lit_solve.proofs.CompletionLemmas.{events_same, sourced}
 use Rattle.lit_solve.proofs.FillLemmas.{sources_lie}
@@ -20,6 +20,17 @@ HasOneOrder box =
     (x : Execution) (order : List ℕ) → IsBox box → IsLeaf box → IsCompletion box x
     → IsMemoryOrder (execution_events box.test x) x.sources order ↔ IsOrderOf (length (box_events box)) (HappensBeforeIn box) (IsForbiddenIn box) order
 
+module _ (box : Box) (is_box : IsBox box) (leaf : IsLeaf box) (law : HasOneOrder box) (x : Execution) (is : IsCompletion box x) where
+  one_order : (order : List ℕ)
+      → IsMemoryOrder (box_events box) x.sources order ↔ IsOrderOf (length (box_events box)) (HappensBeforeIn box) (IsForbiddenIn box) order
+  one_order order =
+      subst (λ (es : List Event). IsMemoryOrder es x.sources order
+      ↔ IsOrderOf (length (box_events box)) (HappensBeforeIn box) (IsForbiddenIn box) order) (events_same box x is) (law x order is_box leaf is)
+
+  pub leaf_ordered : (order : List ℕ) → IsLeastOrderOf (length (box_events box)) (HappensBeforeIn box) (IsForbiddenIn box) order
+      → IsLeastMemoryOrder (box_events box) x.sources order
+  leaf_ordered order o = grind (arith, one_order)
+
 module _ (box : Box) (alone : AreAloneBelow box (length (byte_reads (box_events box)))) (sources : List ℕ) (long : length sources ≡ length (byte_reads (box_events box))) (lies : LiesIn box sources) where
   pub sources_same : (x : Execution) → IsCompletion box x → x.sources ≡ sources
   sources_same x is = same_number_lists x.sources sources (count ∙ sym long) same
@@ -34,19 +45,11 @@ module _ (box : Box) (alone : AreAloneBelow box (length (byte_reads (box_events 
           one.1.alone (get_or x.sources k 0) (is.within k (get_or x.sources k 0) (slice_get-get_or x.sources k 0 below))
           ∙ sym (one.1.alone (get_or sources k 0) (lies k (get_or sources k 0) (slice_get-get_or sources k 0 here)))
 
-  module _ (is_box : IsBox box) (law : HasOneOrder box) (x : Execution) (is : IsCompletion box x) where
-    one_order : (order : List ℕ)
-        → IsMemoryOrder (box_events box) sources order ↔ IsOrderOf (length (box_events box)) (HappensBeforeIn box) (IsForbiddenIn box) order
-    one_order order =
-        subst (λ (given : List ℕ). IsMemoryOrder (box_events box) given order
-        ↔ IsOrderOf (length (box_events box)) (HappensBeforeIn box) (IsForbiddenIn box) order) (sources_same x is)
-        (subst (λ (es : List Event). IsMemoryOrder es x.sources order
-        ↔ IsOrderOf (length (box_events box)) (HappensBeforeIn box) (IsForbiddenIn box) order) (events_same box x is)
-        (law x order is_box (λ k below. inl (alone k below)) is))
-
-    pub least_ordered : (order : List ℕ) → IsLeastOrderOf (length (box_events box)) (HappensBeforeIn box) (IsForbiddenIn box) order
-        → IsLeastMemoryOrder (box_events box) sources order
-    least_ordered order o = grind (arith, one_order)
+  pub least_ordered : IsBox box → HasOneOrder box → (x : Execution) → IsCompletion box x → (order : List ℕ)
+      → IsLeastOrderOf (length (box_events box)) (HappensBeforeIn box) (IsForbiddenIn box) order → IsLeastMemoryOrder (box_events box) sources order
+  least_ordered is_box law x is order o =
+      subst (λ (given : List ℕ). IsLeastMemoryOrder (box_events box) given order) (sources_same x is)
+      (leaf_ordered box is_box (λ k below. inl (alone k below)) law x is order o)
 
 -- it is the least of a box from which the descent leads to one where each domain has one source
 module _ (old new : Box) (goal : Goal) (lowest : IsLowest old goal new) (alone : AreAloneBelow new (length (byte_reads (box_events new)))) (is_box : IsBox new) (law : HasOneOrder new) (found : HasSolution new goal)

@@ -31,7 +31,6 @@ pub mod EntryLemmas
 pub mod ObservationLemmas
 pub mod ObservedLemmas
 pub mod IndependentLemmas
-pub mod GivenReadLemmas
 pub mod ReadValuesLemmas
 pub mod OpenReadLemmas
 pub mod ProductLemmas

@@ -1,9 +1,9 @@
 -- Lists of open reads, the registers that observe them, and values of outcomes.
-use Rattle.lit_solve.proofs.Words.{◌+◌, ◌++◌, ◌<◌, [], ap, AreOpenReads, AreValuesBeside, arith, Box, cases_eq, ChangesListed, EventSet}
-use Rattle.lit_solve.proofs.Words.{Filling, get_or, get_or-set_other, get_or-set_same, get_or_from_slice_get, HasEvent, HasValue, inl, inr}
-use Rattle.lit_solve.proofs.Words.{IsListed, IsOpenRead, IsValueBeside, length, List, Litmus, names_of, none-some, observed_read, Observes}
-use Rattle.lit_solve.proofs.Words.{OpenRead, Option, place-left, place-middle, place-push, refl, same_Some, slice_get, slice_get-get_or}
-use Rattle.lit_solve.proofs.Words.{slice_set, Some, subst, suc, sym, zero, ℕ, ◌↔◌, ◌∙◌, ◌∷◌, ◌≡◌, ◌≢◌, ◌≤◌, ◌⊎◌}
+use Rattle.lit_solve.proofs.Words.{[], ◌++◌, ◌+◌, ◌<◌, ◌↔◌, ◌∙◌, ◌∷◌, ◌≡◌, ◌≢◌, ◌≤◌, ◌⊎◌, ap, AreOpenReads, arith, Box, cases_eq}
+use Rattle.lit_solve.proofs.Words.{ChangesListed, Filling, get_or, get_or-set_other, get_or-set_same, get_or_from_slice_get, HasValue, inl}
+use Rattle.lit_solve.proofs.Words.{inr, IsListed, IsOpenRead, IsValueBeside, length, List, Litmus, names_of, none-some, observed_read}
+use Rattle.lit_solve.proofs.Words.{Observes, OpenRead, Option, place-left, place-middle, place-push, refl, same_Some, slice_get}
+use Rattle.lit_solve.proofs.Words.{slice_get-get_or, slice_set, Some, subst, suc, sym, zero, ℕ}
 
 -- ---- members of a list
 pub member_or_not : (xs : List ℕ) (x : ℕ) → ((i : ℕ) × (slice_get xs i ≡ Some x)) ⊎ ¬ ((i : ℕ) × (slice_get xs i ≡ Some x))
@@ -134,14 +134,6 @@ reads_rest box it reads are = record {
   apart = λ i j first second less at later. are.apart (suc i) (suc j) first second (omega (arith, less)) at later;
 }
 
--- the other reads stay open where some reads are given
-pub reads_stay : (old now : Box) (given : EventSet) (reads : List OpenRead) → ((it : OpenRead) → ¬ HasEvent given it.read → IsOpenRead old it → IsOpenRead now it)
-    → ((r : ℕ) → IsListed reads r → ¬ HasEvent given r) → AreOpenReads old reads → AreOpenReads now reads
-reads_stay old now given reads stays others are = record {
-  each = λ i it at. stays it (others it.read (record { place = i; it = it; is = at; same = refl })) (are.each i it at);
-  apart = are.apart;
-}
-
 -- ---- values that change
 pub changes_none : (c : Litmus × ℕ) (reads : List OpenRead) (values : List ℕ) → ChangesListed c reads values values
 changes_none c reads values = record { long = refl; each = λ j below. inr refl }
@@ -184,20 +176,6 @@ changes_rest c first rest old new changes = record {
     | inr same ↦ inr same
   ];
 }
-
-pub beside_changed : (box : Box) (reads : List OpenRead) (old new : List ℕ) → AreValuesBeside box reads old
-    → ChangesListed (box.test, box.combination) reads old new → AreValuesBeside box reads new
-beside_changed box reads old new beside changes = record {
-  long = changes.long ∙ beside.long;
-  each = λ j below. by j (beside.each j (omega (arith, below, changes.long))) (changes.each j (omega (arith, below, changes.long)));
-}
-  where
-    by : (j : ℕ) → IsValueBeside box reads j (get_or old j 0)
-        → ((r : ℕ) × Observes (box.test, box.combination) r j × IsListed reads r) ⊎ (get_or new j 0 ≡ get_or old j 0)
-        → IsValueBeside box reads j (get_or new j 0)
-    by j value (inl observed) = inl observed
-    by j (inl observed) (inr same) = inl observed
-    by j (inr each) (inr same) = inr (λ x completes. each x completes ∙ sym same)
 
 -- one value more
 pub values_more : (box : Box) (before now : List OpenRead) (values new : List ℕ) (value i : ℕ) → ((r : ℕ) → IsListed before r → IsListed now r)

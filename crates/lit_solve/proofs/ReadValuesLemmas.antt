@@ -1,10 +1,11 @@
 -- The values that a read can have in a box with independent reads, found by going through the bytes that its sources store.
-use Rattle.lit_solve.proofs.Words.{◌++◌, ◌<◌, [], AddsFillings, ap, append_assoc, AreEventsIn, AreFillings, AreSourcesIn, arith, Box}
-use Rattle.lit_solve.proofs.Words.{box_events, box_with, byte_read_at, byte_reads, cases_eq, cases_lt, Event, EventSet, Execution, Filling}
-use Rattle.lit_solve.proofs.Words.{FillsRead, get_or, get_or_from_slice_get, HasEvent, HasSource, HasValue, HaveEachValue, inl, inr}
-use Rattle.lit_solve.proofs.Words.{IsCompletion, IsCut, IsFilled, IsIndependent, IsLeastFilling, IsNotGreaterOn, Laws, length, Less, List}
-use Rattle.lit_solve.proofs.Words.{nat_cmp, place-left, place-middle, slice_cmp, slice_get, slice_get-get_or, slice_get_within, Some}
-use Rattle.lit_solve.proofs.Words.{stored_for, subst, suc, sym, TakesFrom, value_of, zero, ℕ, ◌↔◌, ◌∙◌, ◌∷◌, ◌≡◌, ◌≢◌}
+use Rattle.lit_solve.proofs.Words.{[], ◌++◌, ◌<◌, ◌↔◌, ◌∙◌, ◌∷◌, ◌≡◌, ◌≢◌, AddsFillings, ap, append_assoc, AreEventsIn, AreFillings}
+use Rattle.lit_solve.proofs.Words.{AreSourcesIn, arith, Box, box_events, box_with, byte_read_at, byte_reads, cases_eq, cases_lt, Event}
+use Rattle.lit_solve.proofs.Words.{EventSet, Execution, Filling, FillsRead, get_or, get_or_from_slice_get, HasEvent, HasSource, HasValue}
+use Rattle.lit_solve.proofs.Words.{HaveEachValue, inl, inr, IsCompletion, IsCut, IsFilled, IsFilling, IsIndependent, IsLeastFilling}
+use Rattle.lit_solve.proofs.Words.{IsNotGreaterOn, Laws, length, Less, List, nat_cmp, place-left, place-middle, slice_cmp, slice_get}
+use Rattle.lit_solve.proofs.Words.{slice_get-get_or, slice_get_within, Some, stored_for, subst, suc, sym, TakesFrom, value_of, zero}
+use Rattle.lit_solve.proofs.Words.{ℕ}
 use Rattle.lit_solve.proofs.CompletionLemmas.{sourced}
 use Rattle.lit_solve.proofs.FillLemmas.{filled_by, sources_lie}
 use Rattle.lit_solve.proofs.IndependentLemmas.{completes_with}
@@ -112,11 +113,11 @@ module _ (laws : Laws) (box : Box) (is : IsIndependent box) (law : (b : Box) →
       })
 
 -- ---- lists that go on
-one_is : (box : Box) (r : ℕ) (filling : Filling) → IsLeastFilling box r filling.value filling.sources.items → AreFillings box r (filling ∷ [])
+one_is : (box : Box) (r : ℕ) (filling : Filling) → IsFilling box r filling → AreFillings box r (filling ∷ [])
 one_is box r filling is i other at = grind arith
 
-pub adds_one_filling : (box : Box) (r : ℕ) (old new : List Filling) (filling : Filling) → IsLeastFilling box r filling.value filling.sources.items
-    → new ≡ old ++ filling ∷ [] → AddsFillings box r old new
+pub adds_one_filling : (box : Box) (r : ℕ) (old new : List Filling) (filling : Filling) → IsFilling box r filling → new ≡ old ++ filling ∷ []
+    → AddsFillings box r old new
 adds_one_filling box r old new filling is goes_on = record { added = filling ∷ []; goes_on = goes_on; each = one_is box r filling is }
 
 both_are : (box : Box) (r : ℕ) (first second : List Filling) → AreFillings box r first → AreFillings box r second → AreFillings box r (first ++ second)
@@ -202,7 +203,9 @@ module _ (laws : Laws) (box : Box) (is : IsIndependent box) (law : (b : Box) →
     fillings_out old new adds = record {
       added = adds.added;
       goes_on = adds.goes_on;
-      each = λ i filling at. filling_out filling.value filling.sources.items (adds.each i filling at);
+      each = λ i filling at.
+          let one = adds.each i filling at in
+          record { sources = one.sources; least = filling_out filling.value one.sources one.least; share = one.share };
     }
 
     -- one part more

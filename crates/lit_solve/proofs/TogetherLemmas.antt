@@ -1,8 +1,9 @@
 -- Sources put together: each byte read takes what a list of sources of its own read has there.
-use Rattle.lit_solve.proofs.Words.{◌+◌, ◌<◌, ◌==◌, [], ap, AreOfEvents, AreSources, AreSourcesIn, arith, Bool, Box, box_events}
-use Rattle.lit_solve.proofs.Words.{byte_read_at, byte_reads, CanFill, cases_eq, cases_lt, cond, Event, false, filter, get_or, inl, inr}
-use Rattle.lit_solve.proofs.Words.{IsFilled, length, LieOn, List, nat_tests, none-some, refl, same_Some, slice_get, slice_get-get_or}
-use Rattle.lit_solve.proofs.Words.{slice_get_within, Some, subst, suc, sym, value_of, zero, zip, ℕ, ◌∙◌, ◌∷◌, ◌≡◌, ◌≢◌, ◌≤◌, ◌⊎◌}
+use Rattle.lit_solve.proofs.Words.{[], ◌+◌, ◌<◌, ◌==◌, ◌∙◌, ◌∷◌, ◌≡◌, ◌≢◌, ◌≤◌, ◌⊎◌, ap, AreOfEvents, AreSources, AreSourcesIn, arith, Bool}
+use Rattle.lit_solve.proofs.Words.{Box, box_events, byte_read_at, byte_reads, CanFill, cases_eq, cases_lt, cond, Event, false, filter}
+use Rattle.lit_solve.proofs.Words.{get_or, get_or_from_slice_get, inl, inr, IsFilled, IsNotGreaterOn, length, LieOn, List, nat_tests}
+use Rattle.lit_solve.proofs.Words.{none-some, refl, same_Some, slice_get, slice_get-get_or, slice_get_within, Some, subst, suc, sym}
+use Rattle.lit_solve.proofs.Words.{value_of, zero, zip, ℕ}
 
 -- ---- a read goes by its own bytes alone
 -- the byte reads of one read, each with its source
@@ -38,6 +39,20 @@ pub value_agrees : (events : List Event) (r : ℕ) (sources others : List ℕ) �
     → AgreeOn events r sources others → value_of events sources r ≡ value_of events others r
 unfolding of_read
 value_agrees events r sources others sourced other_sourced agree = grind (arith, of_read-same)
+
+pub agree_or : (events : List Event) (r : ℕ) (sources others : List ℕ) → AreSources events others → AgreeOn events r sources others → (k b : ℕ)
+    → slice_get (byte_reads events) k ≡ Some (r, b) → get_or sources k 0 ≡ get_or others k 0
+agree_or events r sources others sourced agree k b at =
+    get_or_from_slice_get sources k (get_or others k 0) 0
+    (agree k b at ∙ slice_get-get_or others k 0 (omega (arith, sourced.one_each, slice_get_within (byte_reads events) k (r, b) at)))
+
+pub not_greater_same : (events : List Event) (r : ℕ) (sources others more : List ℕ)
+    → ((k b : ℕ) → slice_get (byte_reads events) k ≡ Some (r, b) → get_or sources k 0 ≡ get_or others k 0) → IsNotGreaterOn events r others more
+    → IsNotGreaterOn events r sources more
+not_greater_same events r sources others more same most k b at before =
+    let here = same k b at in
+    let less = most k b at (λ j d earlier there. before j d earlier there ∙ same j d there) in
+    omega (arith, here, less)
 
 -- what fills a read does so beside any sources of other reads
 pub fills_as_well : (box : Box) (r : ℕ) (sources others : List ℕ) → AreSources (box_events box) sources → AreSources (box_events box) others

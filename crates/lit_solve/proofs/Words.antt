@@ -14,7 +14,7 @@ pub use Rattle.lit_paths.specs.Plan.{ListsCandidates, path_in, walk_in}
 pub use Rattle.lit_paths.specs.declared.byte_reads.ByteRead.{ByteRead}
 pub use Rattle.lit_paths.specs.declared.event.Event.{Event}
 pub use Rattle.lit_paths.specs.declared.event.Order3.TheVariants.{SeqCst}
-pub use Rattle.lit_paths.specs.declared.limits.TheConstants.{BYTE_READ_LIMIT, EVENT_LIMIT}
+pub use Rattle.lit_paths.specs.declared.limits.TheConstants.{BYTE_READ_LIMIT, CHOICE_LIMIT, EVENT_LIMIT}
 pub use Rattle.lit_read.specs.Litmus.{condition_of}
 pub use Rattle.lit_read.specs.Syntax.{Agent, agent_of, CompareExchange, Condition, End, Exchange, If, Is, IsLitmus, Litmus, Load}
 pub use Rattle.lit_read.specs.Syntax.{Statement, statement_writes, Statements, Store, Then, writes}
@@ -60,14 +60,15 @@ pub use Rattle.lit_solve.specs.Internal.Descending.{AreAloneBelow, IsLowest, IsL
 pub use Rattle.lit_solve.specs.Internal.Filling.{bytes_taken, CanFillOn, CanFillWith, FillsBytes, HasRoom, LieFrom, reads_on, TakesOn}
 pub use Rattle.lit_solve.specs.Internal.Filling.{TakesWhole, WholeWith, WouldNotTear}
 pub use Rattle.lit_solve.specs.Internal.Frames.{AreCoherentAt, box_of, IsContained, IsExact, IsForbiddenAt, IsProblem, IsSynchronizedAt}
-pub use Rattle.lit_solve.specs.Internal.Independent.{FillsAll, FillsRead, GivesReads, HasLeastOrderIn, IsIndependent, IsLeastFilling}
+pub use Rattle.lit_solve.specs.Internal.Independent.{FillsAll, FillsRead, HasLeastOrderIn, IsIndependent, IsLeastFilling}
 pub use Rattle.lit_solve.specs.Internal.Independent.{IsNotGreaterOn, LieOn}
 pub use Rattle.lit_solve.specs.Internal.Leaves.{CanFillAt, MayHave, RacesAt, RacesIn}
 pub use Rattle.lit_solve.specs.Internal.Observation.{AreFirstValues, IsObservation, IsObservedAt, IsValueObserved, part_with}
-pub use Rattle.lit_solve.specs.Internal.Product.{AreOpenReads, AreValuesBeside, ChangesListed, IsListed, IsOpenRead, IsValueBeside}
-pub use Rattle.lit_solve.specs.Internal.Product.{Observes}
+pub use Rattle.lit_solve.specs.Internal.Numbering.{digit, digits_below, place_in, share_below}
+pub use Rattle.lit_solve.specs.Internal.Product.{AgreeBeside, AreDistinct, AreOpenReads, AreValuesBeside, ChangesListed, HasEachBeside}
+pub use Rattle.lit_solve.specs.Internal.Product.{IsChosen, IsListed, IsNumberBeside, IsOpenRead, IsValueBeside, Observes, shares_below}
 pub use Rattle.lit_solve.specs.Internal.Pruning.{HasNoCompletion, Prunes, size_of}
-pub use Rattle.lit_solve.specs.Internal.ReadValues.{AddsFillings, AreFillings, HasValue, HaveEachValue}
+pub use Rattle.lit_solve.specs.Internal.ReadValues.{AddsFillings, AreFillings, HasValue, HaveEachValue, IsFilling}
 pub use Rattle.lit_solve.specs.Internal.Searching.{GoesWith, IsBranch}
 pub use Rattle.lit_solve.specs.Internal.Settled.{IsCut, IsSettled, TakesFrom}
 pub use Rattle.lit_solve.specs.Internal.SoundRange.{IsSoundRange}
@@ -89,6 +90,7 @@ pub use Rattle.lit_order.proofs.PartLemmas.{triples_below}
 pub use Rattle.lit_order.proofs.SameOrders.{IsLeastOrderOf-same, IsOrderOf-same}
 pub use Rattle.lit_order.proofs.StandingLemmas.{never_before_itself, StandsBefore-through}
 pub use Rattle.lit_paths.proofs.Conditions.{holds-All, holds-Any, member_holds}
+pub use Rattle.lit_paths.proofs.PlanFacts.{lists-candidates}
 pub use Rattle.lit_paths.proofs.OutcomeRegisterSteps.{names_from-within}
 pub use Rattle.lit_paths.proofs.Products.{product-known, slice_get-drop}
 pub use Rattle.lit_paths.proofs.Rising.{nat_cmp-less, nat_cmp-same, slice_cmp-same, slice_get-map-found}

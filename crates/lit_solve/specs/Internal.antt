@@ -12,5 +12,6 @@ pub mod Cut
 pub mod SoundRange
 pub mod Observation
 pub mod Independent
+pub mod Numbering
 pub mod ReadValues
 pub mod Product

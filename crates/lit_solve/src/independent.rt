@@ -1,35 +1,30 @@
 //! Boxes with independent reads: no open byte read can force anything. So each read takes its sources by itself, all completions have the
 //! same least memory-order, and there is nothing to propagate.
 
-ghost use Rattle.std.specs.Prelude.{◌≡◌, ◌≢◌, ℕ, ◌<◌, IsFalse, IsTrue, List, OnOk, length};
+ghost use Rattle.std.specs.Prelude.{◌≡◌, ◌≢◌, ℕ, ◌<◌, IsFalse, IsTrue, List, length};
 ghost use Rattle.std.specs.Cmp.Lexicographic.{slice_cmp};
 ghost use Rattle.std.specs.Ordering.{nat_cmp};
 ghost use Rattle.std.specs.declared.cmp.Ordering.TheVariants.{Less};
 ghost use Rattle.lit_paths.specs.ByteReads.{byte_reads};
-ghost use Rattle.lit_paths.specs.Execution.{Execution, execution_outcome};
+ghost use Rattle.lit_paths.specs.Execution.{Execution};
 ghost use Rattle.lit_rel.specs.EventSet.{HasEvent};
 ghost use Rattle.lit_solve.specs.Box.{HasSource, box_with, events_on};
 ghost use Rattle.lit_solve.specs.Completion.{IsCompletion, IsLeastSolution};
 ghost use Rattle.lit_solve.specs.declared.goal.Goal.TheVariants.{Any};
 ghost use Rattle.lit_solve.specs.Given.{HasAlone};
 ghost use Rattle.lit_solve.specs.Internal.Descending.{IsLowestAt};
-ghost use Rattle.lit_solve.specs.Internal.Independent.{FillsRead, GivesReads, HasLeastOrderIn, IsIndependent};
+ghost use Rattle.lit_solve.specs.Internal.Independent.{HasLeastOrderIn, IsIndependent};
 ghost use Rattle.lit_solve.specs.Internal.Pruning.{size_of};
 ghost use Rattle.lit_solve.specs.Internal.Settled.{IsCut, TakesFrom};
-ghost use Rattle.lit_solve.specs.Outcomes.{AddsEntries, HasEachOutcome};
 
 use crate::domains::{Domains, only_one, set_of};
 use crate::laws::{
     completions_fill_each_read, leaves_are_filled_read_by_read, leaves_have_one_order,
 };
-use crate::least_search::Least;
 use crate::problem::Problem;
-use crate::table::OutcomeTable;
-use lit_order::Order;
 use lit_paths::Sources;
 use lit_rel::EventSet;
 use lit_valid::laws::laws_below;
-use std::alloc::AllocError;
 
 impl Problem<'_> {
     /// Restricts the domain of the byte read at a place to a set. Answers `false` if its read can't be filled then: no completion has a
@@ -103,43 +98,5 @@ impl Problem<'_> {
             self.give_least(&mut down, place);
         }
         self.sources_of(&down)
-    }
-
-    /// Records the one outcome of a box, if the table lacks it.
-    pub(crate) fn record_independent<T: OutcomeTable>(
-        &self,
-        domains: &Domains,
-        outcome: &[u32],
-        order: &Order,
-        table: &mut T,
-    ) -> Result<(), AllocError>
-        requires independent { IsIndependent (box_with self.now domains.now) }
-        requires order { HasLeastOrderIn (box_with self.now domains.now) order.now.items }
-        requires same { (x : Execution) → IsCompletion (box_with self.now domains.now) x → execution_outcome self.now.0 x ≡ outcome.now }
-        ensures added { AddsEntries (box_with self.now domains.now) (T.entries table.old) (T.entries table.new) }
-        ensures whole { OnOk result (HasEachOutcome (box_with self.now domains.now) (T.entries table.new)) }
-    {
-        if table.has(outcome) {
-            return Ok(());
-        }
-        let sources = self.least_filling(domains);
-        let order = order.clone()?;
-        self.put(domains, outcome, Least { sources, order }, table)
-    }
-
-    /// Gives the reads of a set these sources, which fill them.
-    pub(crate) fn give(&self, domains: &mut Domains, given: EventSet, sources: &Sources)
-        requires independent { IsIndependent (box_with self.now domains.old) }
-        requires fills { (r : ℕ) → HasEvent given r → FillsRead (box_with self.now domains.old) r sources.now.items }
-        requires long { length sources.now.items ≡ length (byte_reads (events_on self.now)) }
-        ensures gives { GivesReads (box_with self.now domains.old) given sources.now.items (box_with self.now domains.new) }
-    {
-        // For the prover: event numbers are small.
-        let _events = self.events();
-        for place in 0..self.reads() {
-            if given.contains(usize::from(self.byte_read(place).read)) {
-                domains[place] = set_of(usize::from(sources[place]));
-            }
-        }
     }
 }

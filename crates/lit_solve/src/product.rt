@@ -1,15 +1,17 @@
 //! The outcomes of a box with independent reads, as a product: each observed read has one of its values, whatever the others have.
 
 ghost use Rattle.std.specs.Prelude.{◌≡◌, ◌↔◌, ℕ, ◌<◌, IsTrue, OnOk, Some, [], length, slice_get, slice_index_or};
-ghost use Rattle.lit_rel.specs.EventSet.{HasEvent};
+ghost use Rattle.lit_valid.specs.Entry.{HasOutcome};
 ghost use Rattle.lit_solve.specs.Box.{box_with, events_on};
 ghost use Rattle.lit_solve.specs.Internal.Independent.{HasLeastOrderIn, IsIndependent};
-ghost use Rattle.lit_solve.specs.Internal.Product.{AreOpenReads, AreValuesBeside, ChangesListed, IsListed, Observes};
+ghost use Rattle.lit_solve.specs.Internal.Product.{AreOpenReads, AreValuesBeside, ChangesListed, HasEachBeside};
+ghost use Rattle.lit_solve.specs.Internal.Product.{IsChosen, IsListed, Observes};
 ghost use Rattle.lit_solve.specs.Outcomes.{AddsEntries, HasEachOutcome};
 
-use crate::domains::{Domains, set_of};
+use crate::domains::Domains;
 use crate::heartbeat::Heartbeat;
-use crate::laws::leaves_are_filled_read_by_read;
+use crate::laws::{leaves_are_filled_read_by_read, leaves_have_one_order};
+use crate::numbering::first_of;
 use crate::observation::{ReadValue, Values};
 use crate::problem::Problem;
 use crate::read_values::Filling;
@@ -17,7 +19,6 @@ use crate::table::OutcomeTable;
 use arrayvec::ArrayVec;
 use lit_order::Order;
 use lit_paths::NAME_LIMIT;
-use lit_rel::EventSet;
 use lit_valid::laws::laws_below;
 use std::alloc::{AllocError, Global};
 
@@ -49,7 +50,7 @@ fn set_values(values: &mut Values, registers: &Places, value: u32)
 }
 
 /// Whether a read is one of these.
-fn is_listed(reads: &[OpenRead], read: u8) -> bool
+pub(crate) fn is_listed(reads: &[OpenRead], read: u8) -> bool
     ensures { IsTrue result ↔ IsListed reads.now read }
 {
     for i in 0..reads.len() {
@@ -140,52 +141,66 @@ impl Problem<'_> {
         Ok(())
     }
 
-    /// All events but these reads.
-    fn beside(&self, reads: &[OpenRead]) -> EventSet
-        requires known { (r : ℕ) → IsListed reads.now r → r < length (events_on self.now) }
-        ensures { (e : ℕ) → HasEvent result e ↔ ((e < length (events_on self.now)) × ¬ IsListed reads.now e) }
+    /// Records the outcome with these values and its example, the choice of this number, if the table lacks the outcome.
+    fn record_chosen<T: OutcomeTable>(
+        &self,
+        _domains: &Domains,
+        outcome: &[u32],
+        number: u64,
+        order: &Order,
+        table: &mut T,
+    ) -> Result<(), AllocError>
+        requires independent { IsIndependent (box_with self.now _domains.now) }
+        requires chosen { IsChosen (box_with self.now _domains.now) [] outcome.now number }
+        requires order { HasLeastOrderIn (box_with self.now _domains.now) order.now.items }
+        ensures added { AddsEntries (box_with self.now _domains.now) (T.entries table.old) (T.entries table.new) }
+        ensures whole { OnOk result (HasOutcome (T.entries table.new) outcome.now) }
     {
-        let mut set = EventSet::below(self.events().len());
-        for i in 0..reads.len() {
-            set = set.difference(set_of(usize::from(reads[i].read)));
+        // For the prover: all completions have this order, and the number is that of a choice on the combination.
+        laws_below();
+        leaves_have_one_order();
+        let _first = first_of(&self.combination);
+        if table.has(outcome) {
+            return Ok(());
         }
-        set
+        let order = order.clone()?;
+        table.record(outcome, number, order)?;
+        Ok(())
     }
 
-    /// Records the outcomes of a box that the table lacks. `values` has those of registers that observe no
-    /// listed read; the others it overwrites.
+    /// Records the outcomes that the table lacks of the completions that have these values beside the listed reads. It overwrites the
+    /// values of registers that observe a listed read. `number` is that of the choice that each of these reads adds its share to.
     fn product<T: OutcomeTable, H: Heartbeat>(
         &self,
         domains: &Domains,
         reads: &[OpenRead],
         values: &mut Values,
+        number: u64,
         order: &Order,
         table: &mut T,
         heartbeat: &H,
     ) -> Result<(), AllocError>
         requires independent { IsIndependent (box_with self.now domains.now) }
         requires reads { AreOpenReads (box_with self.now domains.now) reads.now }
-        requires values { AreValuesBeside (box_with self.now domains.now) reads.now values.old.items }
+        requires chosen { IsChosen (box_with self.now domains.now) reads.now values.old.items number }
         requires order { HasLeastOrderIn (box_with self.now domains.now) order.now.items }
         ensures values { ChangesListed self.now reads.now values.old.items values.new.items }
         ensures added { AddsEntries (box_with self.now domains.now) (T.entries table.old) (T.entries table.new) }
-        ensures whole { OnOk result (HasEachOutcome (box_with self.now domains.now) (T.entries table.new)) }
+        ensures whole { OnOk result (HasEachBeside (box_with self.now domains.now) reads.now values.old.items (T.entries table.new)) }
     {
-        // For the prover: an execution's outcome follows from its sources, and a completion fills each read.
+        // For the prover: an execution's outcome follows from its sources, a completion fills each read, and numbers are small.
         laws_below();
         leaves_are_filled_read_by_read();
-        let _events = self.events();
+        let _first = first_of(&self.combination);
         heartbeat.beat();
         let Some((first, rest)) = reads.split_first() else {
-            return self.record_independent(domains, values.as_slice(), order, table);
+            return self.record_chosen(domains, values.as_slice(), number, order, table);
         };
-        let given = set_of(usize::from(first.read));
         for i in 0..first.fillings.len() {
-            let filling = &first.fillings[i];
-            let mut part = *domains;
-            self.give(&mut part, given, &filling.sources);
+            let filling = first.fillings[i];
             set_values(values, &first.registers, filling.value);
-            self.product(&part, rest, values, order, table, heartbeat)?;
+            let next = number + filling.share;
+            self.product(domains, rest, values, next, order, table, heartbeat)?;
         }
         Ok(())
     }
@@ -208,21 +223,13 @@ impl Problem<'_> {
         // For the prover: an execution's outcome follows from its sources, and a completion fills each read.
         laws_below();
         leaves_are_filled_read_by_read();
-        let _events = self.events();
         let mut reads = Vec::new(alloc);
         let mut values = Values::new();
         self.open_reads(alloc, domains, &mut reads, &mut values)?;
-        // The reads that no outcome tells apart are filled once, not for each outcome.
-        let mut part = *domains;
+        let reads = reads.as_slice();
         let least = self.least_filling(domains);
-        self.give(&mut part, self.beside(reads.as_slice()), &least);
-        self.product(
-            &part,
-            reads.as_slice(),
-            &mut values,
-            order,
-            table,
-            heartbeat,
-        )
+        // The reads that no outcome tells apart add to the number once, not for each outcome.
+        let number = self.number_beside(least.as_slice(), reads);
+        self.product(domains, reads, &mut values, number, order, table, heartbeat)
     }
 }

@@ -9,15 +9,14 @@ use crate::domains::Domains;
 use crate::laws::leaves_are_filled_read_by_read;
 use crate::observation::ReadValue;
 use crate::problem::Problem;
-use lit_paths::Sources;
 use lit_valid::laws::laws_below;
 use std::alloc::AllocError;
 
-/// A value that a read can have, and sources of all byte reads, of which those of the read are the least that give it this value.
-#[derive(Drop)]
+/// A value that a read can have, and what the least sources that give it this value add to the number of a choice.
+#[derive(Clone, Copy, Debug, PartialEq, Eq)]
 pub(crate) struct Filling {
     pub(crate) value: u32,
-    pub(crate) sources: Sources,
+    pub(crate) share: u64,
 }
 
 impl Problem<'_> {
@@ -39,7 +38,8 @@ impl Problem<'_> {
         let place = match self.read_value(domains, read) {
             ReadValue::One(value) => {
                 let sources = self.least_filling(domains);
-                fillings.push(Filling { value, sources })?;
+                let share = self.share_of(sources.as_slice(), read);
+                fillings.push(Filling { value, share })?;
                 return Ok(());
             }
             ReadValue::Open(place) => place,

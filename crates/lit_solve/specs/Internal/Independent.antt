@@ -3,14 +3,12 @@ use Rattle.std.specs.Prelude.{◌≡◌, ℕ, ◌<◌, ◌≤◌, List, None, So
 use Rattle.lit_paths.specs.declared.event.Event.{Event}
 use Rattle.lit_paths.specs.ByteReads.{byte_reads}
 use Rattle.lit_paths.specs.Choice.{AreSources}
-use Rattle.lit_rel.specs.declared.event_set.EventSet.{EventSet}
-use Rattle.lit_rel.specs.EventSet.{HasEvent}
 use Rattle.lit_rel.specs.Broken.{HasFalseGuardOn}
 use Rattle.lit_rel.specs.ReadsFrom.{value_of}
 use Rattle.lit_order.specs.MemoryOrder.{HasOrder, IsLeastOrderOf}
-use Rattle.lit_solve.specs.Box.{Box, HasEmptyDomain, HasSource, IsBox, IsWithin, box_events}
+use Rattle.lit_solve.specs.Box.{Box, HasEmptyDomain, HasSource, IsBox, box_events}
 use Rattle.lit_solve.specs.Fill.{AreCoherentSources, AreSourcesIn, IsFilled, IsLeaf}
-use Rattle.lit_solve.specs.Given.{HappensBeforeIn, HasAlone, IsForbiddenIn}
+use Rattle.lit_solve.specs.Given.{HappensBeforeIn, IsForbiddenIn}
 
 -- sources that lie in the box and fill each read
 pub record FillsAll (box : Box) : Type 0 where
@@ -58,11 +56,3 @@ pub record IsLeastFilling (box : Box) (r value : ℕ) (sources : List ℕ) : Typ
   pub has : value_of (box_events box) sources r ≡ value
   pub least : (others : List ℕ) → FillsRead box r others → value_of (box_events box) others r ≡ value
       → IsNotGreaterOn (box_events box) r sources others
-
--- a box within another in which the reads of a set are given these sources, while the others keep their domains
-pub record GivesReads (old : Box) (given : EventSet) (sources : List ℕ) (new : Box) : Type 0 where
-  pub within : IsWithin new old
-  pub own : (k r b : ℕ) → slice_get (byte_reads (box_events old)) k ≡ Some (r, b) → HasEvent given r
-      → HasAlone new k (slice_index_or sources k 0)
-  pub others : (k r b w : ℕ) → slice_get (byte_reads (box_events old)) k ≡ Some (r, b) → ¬ HasEvent given r → HasSource old k w
-      → HasSource new k w

@@ -1,12 +1,18 @@
 -- Outcomes as a product: each observed read has one of its values, whatever the others have.
-use Rattle.std.specs.Prelude.{◌≡◌, ◌≢◌, ◌↔◌, ◌⊎◌, ℕ, ◌<◌, List, Some, length, slice_get, slice_index_or}
+use Rattle.std.specs.Prelude.{◌≡◌, ◌≢◌, ◌↔◌, ◌⊎◌, ℕ, ◌+◌, ◌<◌, List, [], ◌∷◌, Some, length, slice_get, slice_index_or}
 use Rattle.lit_read.specs.Syntax.{Litmus}
+use Rattle.lit_paths.specs.declared.event.Event.{Event}
+use Rattle.lit_paths.specs.ByteReads.{byte_reads}
 use Rattle.lit_paths.specs.Execution.{Execution, execution_outcome}
 use Rattle.lit_paths.specs.Outcome.{names_of}
+use Rattle.lit_paths.specs.Plan.{choices_before}
+use Rattle.lit_valid.specs.Entry.{Entry, HasOutcome}
 use Rattle.lit_valid.specs.PartOutcome.{observed_read}
 use Rattle.lit_solve.specs.declared.product.OpenRead.{OpenRead}
-use Rattle.lit_solve.specs.Box.{Box, box_events}
+use Rattle.lit_solve.specs.Box.{Box, box_events, events_on}
 use Rattle.lit_solve.specs.Completion.{IsCompletion}
+use Rattle.lit_solve.specs.Internal.Independent.{IsNotGreaterOn}
+use Rattle.lit_solve.specs.Internal.Numbering.{digits_below, share_below}
 use Rattle.lit_solve.specs.Internal.ReadValues.{AreFillings, HaveEachValue}
 
 -- the j-th register of an outcome observes read r
@@ -30,11 +36,15 @@ pub record IsListed (reads : List OpenRead) (r : ℕ) : Type 0 where
   pub is : slice_get reads place ≡ Some it
   pub same : it.read ≡ r
 
+-- no two are the same read
+abbrev pub AreDistinct : List OpenRead → Type 0
+AreDistinct reads =
+    (i j : ℕ) (first second : OpenRead) → i < j → slice_get reads i ≡ Some first → slice_get reads j ≡ Some second → first.read ≢ second.read
+
 -- each is an observed read of the box, and no two are the same read
 pub record AreOpenReads (box : Box) (reads : List OpenRead) : Type 0 where
   pub each : (i : ℕ) (it : OpenRead) → slice_get reads i ≡ Some it → IsOpenRead box it
-  pub apart : (i j : ℕ) (first second : OpenRead) → i < j → slice_get reads i ≡ Some first → slice_get reads j ≡ Some second
-      → first.read ≢ second.read
+  pub apart : AreDistinct reads
 
 -- the j-th register observes one of the reads, or each completion has this value for it
 abbrev pub IsValueBeside : Box → List OpenRead → (j value : ℕ) → Type 0
@@ -51,3 +61,39 @@ pub record AreValuesBeside (box : Box) (reads : List OpenRead) (values : List �
 pub record ChangesListed (c : Litmus × ℕ) (reads : List OpenRead) (old new : List ℕ) : Type 0 where
   pub long : length new ≡ length old
   pub each : (j : ℕ) → j < length old → ((r : ℕ) × Observes c r j × IsListed reads r) ⊎ (slice_index_or new j 0 ≡ slice_index_or old j 0)
+
+-- ---- sources chosen for the reads that are not listed
+-- these take the same sources
+abbrev pub AgreeBeside : List Event → List OpenRead → (sources others : List ℕ) → Type 0
+AgreeBeside events reads sources others =
+    (k r b : ℕ) → slice_get (byte_reads events) k ≡ Some (r, b) → ¬ IsListed reads r → slice_index_or others k 0 ≡ slice_index_or sources k 0
+
+-- the digits of the listed reads, added up over the first k byte reads
+abbrev pub shares_below : List Event → List OpenRead → List ℕ → (k : ℕ) → ℕ
+shares_below events [] sources k = 0
+shares_below events (it ∷ reads) sources k = share_below events it.read sources k + shares_below events reads sources k
+
+-- With the digits of the listed reads it is the number of the choice, whatever sources these take.
+abbrev pub IsNumberBeside : Litmus × ℕ → List OpenRead → List ℕ → ℕ → Type 0
+IsNumberBeside c reads sources number =
+    (others : List ℕ) → AgreeBeside (events_on c) reads sources others
+    → choices_before c.0 c.1 + digits_below (events_on c) others (length (byte_reads (events_on c)))
+    ≡ number + shares_below (events_on c) reads others (length (byte_reads (events_on c)))
+
+-- Some completion has these values beside the listed reads, and the number beside them. No completion with the same values of a read that
+-- is not listed has lesser sources for it.
+pub record IsChosen (box : Box) (reads : List OpenRead) (values : List ℕ) (number : ℕ) : Type 0 where
+  pub execution : Execution
+  pub completes : IsCompletion box execution
+  pub beside : ChangesListed (box.test, box.combination) reads values (execution_outcome box.test execution)
+  pub numbered : IsNumberBeside (box.test, box.combination) reads execution.sources number
+  pub least : (r : ℕ) → ¬ IsListed reads r → (x : Execution) → IsCompletion box x
+      → ((j : ℕ) → Observes (box.test, box.combination) r j
+      → slice_index_or (execution_outcome box.test x) j 0 ≡ slice_index_or (execution_outcome box.test execution) j 0)
+      → IsNotGreaterOn (box_events box) r execution.sources x.sources
+
+-- the outcome of each completion that has these values beside the listed reads has an entry
+abbrev pub HasEachBeside : Box → List OpenRead → List ℕ → List Entry → Type 0
+HasEachBeside box reads values entries =
+    (x : Execution) → IsCompletion box x → ChangesListed (box.test, box.combination) reads values (execution_outcome box.test x)
+    → HasOutcome entries (execution_outcome box.test x)

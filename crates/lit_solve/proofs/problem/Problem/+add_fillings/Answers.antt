@@ -1,5 +1,6 @@
-use Rattle.lit_solve.proofs.Words.{◌<◌, AddsFillings, ap, box_with, events_on, Filling, HasValue, List, no_events, refl, size_of}
-use Rattle.lit_solve.proofs.Words.{slice_index_or, subst, sym, value_of, ℕ}
+use Rattle.lit_solve.proofs.Words.{◌<◌, ◌∙◌, AddsFillings, ap, AreSources, box_with, events_on, Filling, HasValue, IsLeastFilling}
+use Rattle.lit_solve.proofs.Words.{List, no_events, refl, size_of, slice_index_or, subst, sym, value_of, ℕ}
+use Rattle.lit_solve.proofs.CompletionLemmas.{sourced}
 use Rattle.lit_solve.proofs.FillLemmas.{sources_lie}
 use Rattle.lit_solve.proofs.ObservedLemmas.{IsSeenBy, all_seen_by, same_stores_among, seen_more, some_differ}
 use Rattle.lit_solve.proofs.PruningLemmas.{source_known}
@@ -8,19 +9,29 @@ use Rattle.lit_solve.proofs.ReadValuesLemmas.{adds_more_fillings, adds_one_filli
 use Rattle.lit_solve.proofs.problem.Problem.+add_fillings.Goals as goal
 use Rattle.lit_solve.proofs.problem.Problem.+add_fillings.Goals.{then-cut_independent+in_ok-add_fillings, else-cut_independent}
 
+pub share_of-share-requires : goal.share_of-share-requires
+share_of-share-requires t c =
+    let some = c.least_filling-sources.ensures.completes in
+    subst (AreSources (events_on c.args.self.now)) (some.2 ∙ sym c.as_slice.ensures.value)
+    (sourced (box_with c.args.self.now c.args.domains.now) some.0 some.1)
+
 pub returns-in-One-clause-added : goal.returns-in-One-clause-added
 returns-in-One-clause-added t c =
     let box = box_with c.args.self.now c.args.domains.now in
-    adds_one_filling box c.args.read c.args.fillings.now.items c.push.new.self.items
-    (record { value = c.in-One.value; sources = c.least_filling-sources.result })
-    (one_filling c.laws_below.ensures box c.requires.independent c.leaves_are_filled_read_by_read.ensures c.args.read
-    c.least_filling-sources.result.items c.in-One.value c.least_filling-sources.ensures.completes c.least_filling-sources.ensures.least c.in-One.ensures)
-    c.in_ok-push-in-One.ensures.items
+    adds_one_filling box c.args.read c.args.fillings.now.items c.push.new.self.items (record { value = c.in-One.value; share = c.share_of-share.result })
+    (record {
+      sources = c.as_slice.result.now;
+      least = subst (IsLeastFilling box c.args.read c.in-One.value) (sym c.as_slice.ensures.value)
+          (one_filling c.laws_below.ensures box c.requires.independent c.leaves_are_filled_read_by_read.ensures c.args.read
+          c.least_filling-sources.result.items c.in-One.value c.least_filling-sources.ensures.completes c.least_filling-sources.ensures.least
+          c.in-One.ensures);
+      share = c.share_of-share.ensures;
+    }) c.in_ok-push-in-One.ensures.items
 
 pub returns-in-One-clause-whole : goal.returns-in-One-clause-whole
 returns-in-One-clause-whole t c x is =
     let box = box_with c.args.self.now c.args.domains.now in
-    value_of_last c.args.fillings.now.items c.push.new.self.items (record { value = c.in-One.value; sources = c.least_filling-sources.result })
+    value_of_last c.args.fillings.now.items c.push.new.self.items (record { value = c.in-One.value; share = c.share_of-share.result })
     (value_of (events_on c.args.self.now) x.sources c.args.read) c.in_ok-push-in-One.ensures.items
     (sym (c.in-One.ensures x.sources (sources_lie box x is)))
 
