@@ -3,10 +3,8 @@
 ghost use Rattle.std.specs.Prelude.{◌≡◌, ◌<◌, IfSome, IsFalse, OnOk, length};
 ghost use Rattle.lit_paths.specs.ByteReads.{byte_read_at, byte_reads};
 ghost use Rattle.lit_paths.specs.Execution.{Execution, execution_outcome};
-ghost use Rattle.lit_valid.specs.Entry.{HasOutcome};
-ghost use Rattle.lit_solve.specs.Box.{box_with, events_on};
-ghost use Rattle.lit_solve.specs.declared.goal.Goal.TheVariants.{Any};
-ghost use Rattle.lit_solve.specs.Completion.{IsCompletion, IsLeastSolution};
+ghost use Rattle.lit_solve.specs.Box.{events_on};
+ghost use Rattle.lit_solve.specs.Completion.{IsCompletion};
 ghost use Rattle.lit_solve.specs.Fill.{IsLeaf};
 ghost use Rattle.lit_solve.specs.Prospect.{IsUndecidedAt};
 ghost use Rattle.lit_solve.specs.Internal.Frames.{box_of};
@@ -15,11 +13,9 @@ ghost use Rattle.lit_solve.specs.Internal.Observation.{AreFirstValues, IsObserva
 ghost use Rattle.lit_solve.specs.Internal.Settled.{IsSettled};
 ghost use Rattle.lit_solve.specs.Outcomes.{AddsEntries, HasEachOutcome};
 
-use crate::domains::Domains;
 use crate::frame::Frame;
 use crate::goal::Goal;
 use crate::heartbeat::Heartbeat;
-use crate::least_search::Least;
 use crate::numbering::number_of;
 use crate::observation::Values;
 use crate::problem::Problem;
@@ -77,25 +73,6 @@ impl Problem<'_> {
         Some(self.forcing_observed(frame).unwrap_or(open))
     }
 
-    /// Records the one outcome of a box, which the table lacks, with the box's least completion.
-    pub(crate) fn put<T: OutcomeTable>(
-        &self,
-        _domains: &Domains,
-        outcome: &[u32],
-        least: Least,
-        table: &mut T,
-    ) -> Result<(), AllocError>
-        requires lacked { ¬ HasOutcome (T.entries table.old) outcome.now }
-        requires same { (x : Execution) → IsCompletion (box_with self.now _domains.now) x → execution_outcome self.now.0 x ≡ outcome.now }
-        requires least { IsLeastSolution (box_with self.now _domains.now) Any least.sources.items least.order.items }
-        ensures added { AddsEntries (box_with self.now _domains.now) (T.entries table.old) (T.entries table.new) }
-        ensures whole { OnOk result (HasEachOutcome (box_with self.now _domains.now) (T.entries table.new)) }
-    {
-        let choice = number_of(&self.combination, least.sources.as_slice());
-        table.record(outcome, choice, least.order)?;
-        Ok(())
-    }
-
     /// Records the one outcome of a frame, if the table lacks it and the frame has a completion. Where the search for one fails, it sets
     /// `doubt`.
     fn record<T: OutcomeTable>(
@@ -118,7 +95,9 @@ impl Problem<'_> {
             return Ok(());
         };
         *doubt = false;
-        self.put(&frame.domains, outcome, least, table)
+        let choice = number_of(&self.combination, least.sources.as_slice());
+        table.record(outcome, choice, least.order)?;
+        Ok(())
     }
 
     /// Records the outcomes of a leaf that the table lacks.
