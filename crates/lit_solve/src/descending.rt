@@ -1,6 +1,6 @@
 //! Greedy descent to the least solution: each byte read in turn takes its least source that is not refuted.
 
-ghost use Rattle.std.specs.Prelude.{ℕ, ◌<◌, IfNone, IfSome, IsTrue, length};
+ghost use Rattle.std.specs.Prelude.{ℕ, ◌<◌, IsFalse, IsTrue, length};
 ghost use Rattle.lit_paths.specs.ByteReads.{byte_reads};
 ghost use Rattle.lit_solve.specs.Completion.{HasSolution};
 ghost use Rattle.lit_solve.specs.Given.{HasAlone};
@@ -30,28 +30,29 @@ impl Problem<'_> {
         }
     }
 
-    /// The frame in which the byte read at a place has its least source that is not refuted, or, if `sure`, its least source with a
-    /// solution. `None` if there is no such source.
-    fn with_least(&self, frame: &Frame, goal: Goal, sure: bool, place: usize) -> Option<Frame>
+    /// Gives the byte read at a place its least source that is not refuted, or, if `sure`, its least source with a solution. Answers
+    /// whether there is such a source.
+    fn take_least(&self, frame: &mut Frame, goal: Goal, sure: bool, place: usize) -> bool
         requires place { place < length (byte_reads (events_on self.now)) }
-        requires settled { IsSettled (box_of self.now frame.now) frame.now }
-        ensures settled { IfSome result (λ next. IsSettled (box_of self.now next) next) }
-        ensures alone { IfSome result (λ next. (w : ℕ) × HasAlone (box_of self.now next) place w) }
-        ensures lowest { IfSome result (λ next. IsLowestAt (box_of self.now frame.now) goal place (box_of self.now next)) }
-        ensures sure { IfSome result (λ next. IsTrue sure → HasSolution (box_of self.now next) goal) }
-        ensures none { IfNone result (¬ HasSolution (box_of self.now frame.now) goal) }
+        requires settled { IsSettled (box_of self.now frame.old) frame.old }
+        ensures settled { IsTrue result → IsSettled (box_of self.now frame.new) frame.new }
+        ensures alone { IsTrue result → (w : ℕ) × HasAlone (box_of self.now frame.new) place w }
+        ensures lowest { IsTrue result → IsLowestAt (box_of self.now frame.old) goal place (box_of self.now frame.new) }
+        ensures sure { IsTrue result → IsTrue sure → HasSolution (box_of self.now frame.new) goal }
+        ensures none { IsFalse result → ¬ HasSolution (box_of self.now frame.old) goal }
     {
         // For the prover: a combination has few events.
         let _events = self.events();
-        let mut left = self.sources_left(frame, place);
+        let before = *frame;
+        let mut left = self.sources_left(&before, place);
         while let Some((source, others)) = left.split_first() {
-            let mut next = *frame;
-            if self.cut(&mut next, place, set_of(source)) && self.is_promising(&next, goal, sure) {
-                return Some(next);
+            if self.cut(frame, place, set_of(source)) && self.is_promising(&*frame, goal, sure) {
+                return true;
             }
+            *frame = before;
             left = others;
         }
-        None
+        false
     }
 
     /// Gives each byte read in turn its least source that is not refuted, or, if `sure`, its least source with a solution; the frame
@@ -69,9 +70,8 @@ impl Problem<'_> {
             if let Some(_source) = self.given(&*frame, place) {
                 continue;
             }
-            match self.with_least(&*frame, goal, sure, place) {
-                Some(next) => *frame = next,
-                None => return false,
+            if !self.take_least(frame, goal, sure, place) {
+                return false;
             }
         }
         true

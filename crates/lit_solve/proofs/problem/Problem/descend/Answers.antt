@@ -12,22 +12,22 @@ loop-place-preserved-in-Some c = record {
 
 pub loop-place-preserved : goal.loop-place-preserved
 loop-place-preserved c = record {
-  settled = c.in-Some-with_least.ensures.settled;
+  settled = (c.take_least.ensures.settled c.if-not-take_least.false);
   alone =
       alone_more now c.loop-place.place
-      (alone_below_stays now was c.loop-place.place c.in-Some-with_least.ensures.lowest.within c.in-Some-with_least.ensures.settled.exact.contained.some
-      (omega (arith, below)) c.loop-place.invariant.alone) c.in-Some-with_least.ensures.alone;
+      (alone_below_stays now was c.loop-place.place (c.take_least.ensures.lowest c.if-not-take_least.false).within (c.take_least.ensures.settled c.if-not-take_least.false).exact.contained.some
+      (omega (arith, below)) c.loop-place.invariant.alone) (c.take_least.ensures.alone c.if-not-take_least.false);
   lowest =
       lowest_on (box_of c.args.self.now c.args.frame.now) was now c.args.goal c.loop-place.place c.loop-place.invariant.lowest
-      c.in-Some-with_least.ensures.lowest c.loop-place.invariant.alone below;
-  sure = c.in-Some-with_least.ensures.sure;
+      (c.take_least.ensures.lowest c.if-not-take_least.false) c.loop-place.invariant.alone below;
+  sure = (c.take_least.ensures.sure c.if-not-take_least.false);
 }
   where
     was : Box
     was = box_of c.args.self.now c.loop-place.frame
 
     now : Box
-    now = box_of c.args.self.now c.in-Some-with_least.next
+    now = box_of c.args.self.now c.take_least.new.frame
 
     below : c.loop-place.place < length (byte_reads (events_on c.args.self.now))
     below = omega (arith, c.loop-place-test.true, c.reads-place-end.ensures.value)

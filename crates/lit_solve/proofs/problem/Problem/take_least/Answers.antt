@@ -1,0 +1,73 @@
+use Rattle.lit_solve.proofs.Words.{◌∙◌, ◌≡◌, arith, Box, box_of, Execution, false, Frame, HasAlone, HasEvent, IsCompletion, IsCut}
+use Rattle.lit_solve.proofs.Words.{IsSettled, IsSolution, refl, slice_get, Some, split_less, subst, sym, true, ℕ}
+use Rattle.lit_solve.proofs.DescendingLemmas.{cut_alone, lowest_at}
+use Rattle.lit_solve.proofs.FrameLemmas.{not_true}
+use Rattle.lit_solve.proofs.PruningLemmas.{source_known}
+use Rattle.lit_solve.proofs.SearchingLemmas.{solution_in, takes_some}
+use Rattle.lit_solve.proofs.problem.Problem.take_least.Goals as goal
+use Rattle.lit_solve.proofs.problem.Problem.take_least.Goals.{Then-cut, else-cut-via-then-cut+else-is_promising, else-cut-via-else-cut}
+
+pub set_of-requires : goal.set_of-requires
+set_of-requires c =
+    let known = source_known (box_of c.args.self.now c.args.frame.now) c.requires.settled.exact.contained.is_box c.args.place c.in-Some.source
+    c.requires.place (c.loop-source.invariant.within c.in-Some.source c.in-Some.ensures.there) in
+    omega arith
+
+pub cut-requires-clause-settled : goal.cut-requires-clause-settled
+cut-requires-clause-settled c = subst (λ (f : Frame). IsSettled (box_of c.args.self.now f) f) (sym c.loop-source.invariant.same) c.requires.settled
+
+-- the cut of the frame as it was
+cut_of : (c : Then-cut) → IsCut (box_of c.args.self.now c.args.frame.now) c.args.place c.set_of.result (box_of c.args.self.now c.cut.new.frame)
+cut_of c =
+    subst (λ (f : Frame). IsCut (box_of c.args.self.now f) c.args.place c.set_of.result (box_of c.args.self.now c.cut.new.frame))
+    c.loop-source.invariant.same (c.cut.ensures.cut c.if-cut.true)
+
+alone_of : (c : Then-cut) → HasAlone (box_of c.args.self.now c.cut.new.frame) c.args.place c.in-Some.source
+alone_of c =
+    cut_alone (box_of c.args.self.now c.args.frame.now) (box_of c.args.self.now c.cut.new.frame) c.args.place c.in-Some.source c.set_of.result
+    (λ w. (c.set_of.ensures w).0) (cut_of c) c.requires.place (c.cut.ensures.settled c.if-cut.true).exact.contained.some
+
+pub returns-then-is_promising-clause-alone : goal.returns-then-is_promising-clause-alone
+returns-then-is_promising-clause-alone c _ = (c.in-Some.source, alone_of (goal.at.returns-then-is_promising-clause-alone c).Then-cut)
+
+pub returns-then-is_promising-clause-lowest : goal.returns-then-is_promising-clause-lowest
+returns-then-is_promising-clause-lowest c _ =
+    let at = (goal.at.returns-then-is_promising-clause-lowest c).Then-cut in
+    lowest_at (box_of c.args.self.now c.args.frame.now) (box_of c.args.self.now c.cut.new.frame) c.args.goal c.args.place c.requires.place
+    c.loop-source.left c.in-Some.others c.set_of.result c.in-Some.source c.in-Some.ensures c.loop-source.invariant.taken c.set_of.ensures (cut_of at)
+    (alone_of at)
+
+pub loop-source-smaller : goal.loop-source-smaller
+loop-source-smaller c = split_less c.loop-source.left c.in-Some.source c.in-Some.others c.in-Some.ensures
+
+pub loop-source-preserved : goal.loop-source-preserved
+loop-source-preserved c = record {
+  same = refl;
+  within = λ w h. c.loop-source.invariant.within w ((c.in-Some.ensures.rest w).0 h).0;
+  taken = λ x is w at. (c.in-Some.ensures.rest w).1 (c.loop-source.invariant.taken x is w at, λ same. in_vain x is w at same);
+}
+  where
+    in_vain : (x : Execution) → IsSolution (box_of c.args.self.now c.args.frame.now) c.args.goal x → (w : ℕ)
+        → slice_get x.sources c.args.place ≡ Some w → w ≡ c.in-Some.source → ⊥
+    in_vain x is w at same =
+        let old : Box = box_of c.args.self.now c.args.frame.now in
+        let new : Box = box_of c.args.self.now c.cut.new.frame in
+        let takes : (v : ℕ) → slice_get x.sources c.args.place ≡ Some v → HasEvent c.set_of.result v = λ v at_too.
+        (c.set_of.ensures v).1 ((let e : Some v ≡ Some w = sym at_too ∙ at in let f : v ≡ w = cc in f) ∙ same) in
+        elim c.else-cut.branch [
+          | else-cut-via-then-cut+else-is_promising s ↦
+              s.is_promising.ensures.none (not_true s.is_promising.result s.if-is_promising.false) (
+                x,
+                solution_in old new c.args.goal c.args.place c.set_of.result
+                    (subst (λ (f : Frame). IsCut (box_of c.args.self.now f) c.args.place c.set_of.result new) c.loop-source.invariant.same
+                    (c.cut.ensures.cut s.if-cut.true)) x is takes,
+              )
+          | else-cut-via-else-cut s ↦
+              c.cut.ensures.none s.if-cut.false x
+              (subst (λ (f : Frame). IsCompletion (box_of c.args.self.now f) x) (sym c.loop-source.invariant.same) is.completes) takes
+        ]
+
+pub returns-clause-none : goal.returns-clause-none
+returns-clause-none c _ found =
+    let some = takes_some (box_of c.args.self.now c.args.frame.now) c.args.goal c.args.place c.requires.place found.0 found.1 in
+    c.in_default.ensures some.0 (c.loop-source.invariant.taken found.0 found.1 some.0 some.1)
