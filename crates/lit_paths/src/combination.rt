@@ -94,14 +94,28 @@ impl Formed {
     }
 }
 
-/// The candidate that a choice takes for a byte: the next digit of `left`, what is left of the choice's place on its combination after
-/// the digits before, in a mixed radix in which this digit has the weight `later`.
-fn candidate_at(candidates: &[u8], later: u64, left: u64) -> u8
-    requires later { 1 ≤ later }
-    requires within { left / later < length candidates.now }
-    ensures { slice_get candidates.now (left / later) ≡ Some result }
+/// A number divided by another, and the rest. It subtracts, since a division takes longer where a quotient is below the number of a
+/// byte read's candidates.
+fn divided(number: u64, by: u64) -> (u64, u64)
+    requires { 1 ≤ by }
+    ensures quotient { result.0 ≡ number / by }
+    ensures rest { result.1 ≡ number % by }
 {
-    candidates[(left / later) as usize]
+    let mut quotient = 0;
+    let mut rest = number;
+    'subtracting: while rest >= by {
+        rest -= by;
+        quotient += 1;
+    }
+    (quotient, rest)
+}
+
+/// The candidate that a choice takes for a byte, by its digit.
+fn candidate_at(candidates: &[u8], digit: u64) -> u8
+    requires { digit < length candidates.now }
+    ensures { slice_get candidates.now digit ≡ Some result }
+{
+    candidates[digit as usize]
 }
 
 /// One combination of paths: the path of each agent, all events, the byte reads with the candidates of each, and the
@@ -286,9 +300,9 @@ impl<'p> Combination<'p> {
         let mut sources = Sources::new();
         for i in 0..candidates.len() {
             let list = candidates[i].as_slice();
-            let weight = later[i];
-            sources.push(candidate_at(list, weight, left));
-            left %= weight;
+            let (digit, rest) = divided(left, later[i]);
+            sources.push(candidate_at(list, digit));
+            left = rest;
         }
         sources
     }
