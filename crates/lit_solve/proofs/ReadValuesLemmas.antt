@@ -1,11 +1,11 @@
 -- The values that a read can have in a box with independent reads, found by going through the bytes that its sources store.
-use Rattle.lit_solve.proofs.Words.{[], ◌++◌, ◌<◌, ◌↔◌, ◌∙◌, ◌∷◌, ◌≡◌, ◌≢◌, AddsFillings, ap, append_assoc, AreEventsIn, AreFillings}
-use Rattle.lit_solve.proofs.Words.{AreSourcesIn, arith, Box, box_events, box_with, byte_read_at, byte_reads, cases_eq, cases_lt, Event}
-use Rattle.lit_solve.proofs.Words.{EventSet, Execution, Filling, FillsRead, get_or, get_or_from_slice_get, HasEvent, HasSource, HasValue}
-use Rattle.lit_solve.proofs.Words.{HaveEachValue, inl, inr, IsCompletion, IsCut, IsFilled, IsFilling, IsIndependent, IsLeastFilling}
-use Rattle.lit_solve.proofs.Words.{IsNotGreaterOn, Laws, length, Less, List, nat_cmp, place-left, place-middle, slice_cmp, slice_get}
-use Rattle.lit_solve.proofs.Words.{slice_get-get_or, slice_get_within, Some, stored_for, subst, suc, sym, TakesFrom, value_of, zero}
-use Rattle.lit_solve.proofs.Words.{ℕ}
+use Rattle.lit_solve.proofs.Words.{[], ◌++◌, ◌<◌, ◌↔◌, ◌∙◌, ◌∷◌, ◌≡◌, ◌≢◌, AddsFillings, All-permutation, ap, append_assoc, AreEventsIn}
+use Rattle.lit_solve.proofs.Words.{AreFillings, AreSourcesIn, arith, Box, box_events, box_with, byte_read_at, byte_reads, cases_eq}
+use Rattle.lit_solve.proofs.Words.{cases_lt, Contains-permutation, Event, EventSet, Execution, Filling, FillsRead, get_or}
+use Rattle.lit_solve.proofs.Words.{get_or_from_slice_get, HasEvent, HasSource, HasValue, HaveEachValue, inl, inr, IsCompletion, IsCut}
+use Rattle.lit_solve.proofs.Words.{IsFilled, IsFilling, IsIndependent, IsLeastFilling, IsNotGreaterOn, IsPermutation, Laws, length, Less}
+use Rattle.lit_solve.proofs.Words.{List, nat_cmp, place-left, place-middle, slice_cmp, slice_get, slice_get-get_or, slice_get_within, Some}
+use Rattle.lit_solve.proofs.Words.{stored, stored_for, subst, suc, sym, TakesFrom, value_of, zero, ℕ}
 use Rattle.lit_solve.proofs.CompletionLemmas.{sourced}
 use Rattle.lit_solve.proofs.FillLemmas.{filled_by, sources_lie}
 use Rattle.lit_solve.proofs.IndependentLemmas.{completes_with}
@@ -142,6 +142,23 @@ value_goes_on box r old new value adds has = grind (arith, value_stays)
 pub value_of_last : (old new : List Filling) (filling : Filling) (value : ℕ) → new ≡ old ++ filling ∷ [] → filling.value ≡ value → HasValue new value
 value_of_last old new filling value is same =
     subst (λ (fs : List Filling). HasValue fs value) (sym is) (record { place = length old; filling = filling; is = place-middle old [] filling; same = same })
+
+-- ---- lists sorted
+pub fillings_sorted : (box : Box) (r : ℕ) (old new : List Filling) → IsPermutation old new → AreFillings box r old → AreFillings box r new
+fillings_sorted box r old new moved are i filling at =
+    let all = All-permutation (IsFilling box r) old new moved (λ k d below. are k (get_or old k d) (slice_get-get_or old k d below)) in
+    subst (IsFilling box r) (get_or_from_slice_get new i filling filling at) (all i filling (slice_get_within new i filling at))
+
+pub value_sorted : (old new : List Filling) (value : ℕ) → IsPermutation old new → HasValue old value → HasValue new value
+value_sorted old new value moved has =
+    let old_place = slice_get_within old has.place has.filling has.is in
+    let there = Contains-permutation old new has.filling moved (has.place, old_place, get_or_from_slice_get old has.place has.filling has.filling has.is) in
+    record {
+      place = there.0;
+      filling = has.filling;
+      is = slice_get-get_or new there.0 has.filling there.1 ∙ ap (λ (f : Filling). Some f) there.2;
+      same = has.same;
+    }
 
 -- ---- the part of a box by the sources of a byte read that store the same
 module _ (laws : Laws) (box : Box) (is : IsIndependent box) (law : (b : Box) → IsFilledReadByRead b) (sound : AreEventsIn box.test.bytes (box_events box)) (r k : ℕ)

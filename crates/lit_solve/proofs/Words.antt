@@ -117,6 +117,7 @@ pub use Rattle.lit_valid.specs.Class.{is_of_class}
 pub use Rattle.lit_valid.specs.declared.class.Class.{Class}
 pub use Rattle.std.proofs.lemmas.Result.{on_ok_weaker}
 pub use Rattle.std.specs.List.{list_all, list_any, range_with_len, refill, zip}
+pub use Rattle.std.specs.List.Sorted.{IsPermutation}
 pub use mathlib.Core.Path.{fun_ext}
 pub use Rattle.std.proofs.Common.{◌&&◌, ◌*◌, ◌+◌, ◌++◌, ◌-◌, ◌<◌, ◌==◌, [], ◌^◌, ap, ap₂, arith, below_more, Bool, cond, drop, eq-eqb}
 pub use Rattle.std.proofs.Common.{false, filter, get_or, Global, inl, inr, length, length-append, length-set, List, map, None, not, Option}
@@ -132,6 +133,7 @@ pub use Rattle.std.proofs.lemmas.List.{take_more}
 pub use Rattle.std.proofs.lemmas.List.Elements.{same_from_all_zip}
 pub use Rattle.std.proofs.lemmas.List.Folds.{list_all_at, list_any-append, list_any_at}
 pub use Rattle.std.proofs.lemmas.List.FromFn.{get_or-map-range_with_len, length-map-range_with_len}
+pub use Rattle.std.proofs.lemmas.List.Sorted.{All-permutation, Contains-permutation}
 pub use Rattle.std.proofs.lemmas.List.Sums.{sum-map, sum_by-set}
 pub use Rattle.std.proofs.lemmas.Nat.Bits.{bit_at_above}
 pub use Rattle.std.proofs.lemmas.Option.{get_or_from_slice_get, none-some, same_Some, slice_get-get_or, slice_get_within}
