@@ -59,15 +59,15 @@ again c =
       | else-forces-via-then-forces+else-not-propagate w ↦
           let done = w.if-not-propagate.false in
           subst Resettled (sym w.frame-is) record {
-            settled = record { exact = w.propagate.ensures.exact done; acyclic = w.propagate.ensures.acyclic done; coherent = w.propagate.ensures.coherent done };
+            settled = w.propagate.ensures.settled done;
             cut = on (box_of c.args.self.now w.propagate.new.frame) (w.propagate.ensures.prunes done);
             small = w.propagate.ensures.size done;
           }
       | else-forces-via-else-forces w ↦
           let some = (some_exactly left.result c.is_empty.result c.is_empty.ensures).0 (ap not c.if-is_empty.false) in
           subst Resettled (sym w.frame-is) record {
-            settled = settled_still box c.args.frame.now c.requires.settled place left.result room (left_within box place c.args.set left.result room left.ensures) some
-                (c.forces.ensures w.if-forces.false);
+            settled = settled_still box c.args.frame.now c.requires.settled.exact place left.result room (left_within box place c.args.set left.result room left.ensures)
+                some (c.forces.ensures w.if-forces.false) c.requires.settled;
             cut = on (pruned_at box place left.result) record { within = record { test = refl; combination = refl; domains = λ k v there. there }; retained = λ x is. is };
             small = omega arith;
           }
