@@ -1,13 +1,13 @@
 -- Frames before any propagation, and boxes with a cut domain.
-use Rattle.lit_solve.proofs.Words.{◌+◌, byte_read_at, get_or_from_slice_get, IsCoherentRead, IsExact, IsSettledBelow}
-use Rattle.lit_solve.proofs.FrameLemmas.{below_or_last}
-use Rattle.lit_solve.proofs.Words.{◌<◌, [], arith, Box, box_events, byte_reads, cases_eq, Chain-append, common_steps, EventSet, Execution}
-use Rattle.lit_solve.proofs.Words.{Frame, Given, GivenIn, Grows-from, HappensBefore, HappensBeforeIn, HasAlone, HasEffect, HasEmptyDomain}
-use Rattle.lit_solve.proofs.Words.{HasEvent, HasSource, Holds, inl, inr, IsBox, IsCandidate, IsCompletion, IsContained, IsCut}
-use Rattle.lit_solve.proofs.Words.{IsForbiddenIn, IsForced-grow, IsForcedIn, IsSettled, IsTransitive, length, Prunes, ReadsByteFrom}
-use Rattle.lit_solve.proofs.Words.{rows_len, slice_get, Some, subst, TakesFrom, TwoWayRows, ℕ, ◌↔◌, ◌≡◌, ◌⊎◌}
-use Rattle.lit_solve.proofs.DomainLemmas.{completion_at, domain_here, frame_at, pruned_at, pruned_contained, pruned_is_box, pruned_within, source_other}
+use Rattle.lit_solve.proofs.Words.{[], ◌+◌, ◌<◌, arith, Box, box_events, byte_read_at, byte_reads, cases_eq, Chain-append, common_steps}
+use Rattle.lit_solve.proofs.Words.{EventSet, Execution, Frame, get_or_from_slice_get, Given, GivenIn, Grows-from, HappensBefore}
+use Rattle.lit_solve.proofs.Words.{HappensBeforeIn, HasAlone, HasEffect, HasEmptyDomain, HasEvent, HasSource, Holds, inl, inr, IsBox}
+use Rattle.lit_solve.proofs.Words.{IsCandidate, IsCoherentRead, IsCompletion, IsContained, IsCut, IsExact, IsForbiddenIn, IsForced-grow}
+use Rattle.lit_solve.proofs.Words.{IsForcedIn, IsSettled, IsSettledBelow, IsTransitive, length, Prunes, ReadsByteFrom, rows_len, slice_get}
+use Rattle.lit_solve.proofs.Words.{Some, subst, TakesFrom, TwoWayRows, ℕ, ◌↔◌, ◌≡◌, ◌⊎◌}
+use Rattle.lit_solve.proofs.DomainLemmas.{completion_at, domain_here, frame_at, pruned_at, pruned_is_box, pruned_within, source_other}
 use Rattle.lit_solve.proofs.FillLemmas.{before_added, forbidden_added}
+use Rattle.lit_solve.proofs.FrameLemmas.{below_or_last}
 
 module _ (box : Box) (order : TwoWayRows) (len : rows_len order.rows ≡ length (box_events box)) (pairs : (e d : ℕ) → Holds order.rows e d ↔ HappensBefore (box_events box) [] e d) where
   no_byte : (r b w : ℕ) → ReadsByteFrom (box_events box) [] r b w → GivenIn box r b w
@@ -51,7 +51,7 @@ module _ (box : Box) (place : ℕ) (set left : EventSet) (room : place < length 
 
 -- ---- a restricted domain that gives no source with an effect: what is settled stays so
 module _ (box : Box) (frame : Frame) (exact : IsExact box frame) (place : ℕ) (left : EventSet) (room : place < length box.domains)
-    (within : (w : ℕ) → HasEvent left w → HasSource box place w) (some : (w : ℕ) × HasEvent left w)
+    (within : (w : ℕ) → HasEvent left w → HasSource box place w) (is : IsContained (pruned_at box place left) (frame_at frame place left))
     (idle : (r b w : ℕ) → slice_get (byte_reads (box_events box)) place ≡ Some (r, b) → HasAlone (pruned_at box place left) place w → ¬ HasEffect (box_events box) w r) where
   abbrev now : Box
   now = pruned_at box place left
@@ -83,7 +83,7 @@ module _ (box : Box) (frame : Frame) (exact : IsExact box frame) (place : ℕ) (
 
   exact_still : IsExact now (frame_at frame place left)
   exact_still = record {
-    contained = pruned_contained box place left room within frame exact.contained some;
+    contained = is;
     before = λ a d h. exact.before a d (before_back a d h);
     forced = λ a d h. exact.forced a d (forced_back a d h);
   }
@@ -104,8 +104,8 @@ module _ (box : Box) (frame : Frame) (exact : IsExact box frame) (place : ℕ) (
 
 -- settled at one place more, where each source is coherent
 pub settled_more : (box : Box) (frame : Frame) (place : ℕ) → IsSettledBelow box frame place
-    → ((w : ℕ) → HasSource box place w → IsCoherentRead (box_events box) (Holds frame.happens_before.rows) (byte_read_at (box_events box) place).0
-    (byte_read_at (box_events box) place).1 w)
+    → ((w : ℕ) → HasSource box place w → IsCoherentRead (box_events box) (Holds frame.happens_before.rows)
+    (byte_read_at (box_events box) place).0 (byte_read_at (box_events box) place).1 w)
     → IsSettledBelow box frame (place + 1)
 settled_more box frame place was here = record {
   exact = was.exact;

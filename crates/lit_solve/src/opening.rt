@@ -61,7 +61,7 @@ impl Problem<'_> {
         left
     }
 
-    /// The frame of a box, pruned and propagated until nothing changes. `None` if that refutes the box.
+    /// The frame of a box, pruned and propagated until nothing more is forced. `None` if that refutes the box.
     pub(crate) fn settle(&self, domains: &Domains) -> Option<Frame>
         requires { IsBox (box_with self.now domains.now) }
         ensures settled { IfSome result (λ frame. IsSettled (box_of self.now frame) frame) }

@@ -1,4 +1,4 @@
--- Settled frames: propagation has reached its fixed point.
+-- Settled frames: propagation has nothing more to force.
 use Rattle.std.specs.Prelude.{◌≡◌, ℕ, ◌<◌, Some, slice_get}
 use Rattle.lit_paths.specs.ByteReads.{byte_reads}
 use Rattle.lit_paths.specs.Execution.{Execution}

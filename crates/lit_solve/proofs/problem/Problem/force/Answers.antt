@@ -8,9 +8,10 @@ returns-clause-settled c done =
     let box = box_of c.args.self.now now in
     let forbidden = Forbids c.put_between.new.between in
     let is = c.synchronize.ensures in
+    let triples = c.put_between.ensures.triples in
     record {
-      exact = forced_exact box now _ is.contained is.exact forbidden c.put_between.ensures.triples refl c.force.ensures.len (c.force.ensures.pairs done);
-      acyclic = λ e f. c.force.ensures.cycle.1 (e, forced_whole box now now is.contained is.exact forbidden c.put_between.ensures.triples e e f) done;
+      exact = forced_exact box now _ is.contained is.exact forbidden triples refl c.force.ensures.len (c.force.ensures.pairs done);
+      acyclic = λ e f. c.force.ensures.cycle.1 (e, forced_whole box now now is.contained is.exact forbidden triples e e f) done;
       coherent = λ k r b w below at there. absurd (omega (arith, below));
     }
 

@@ -13,11 +13,7 @@ returns-clause-contained c =
     c.in-Some.source c.byte_read-read.ensures.at c.in-Some.ensures.0
     (c.can_synchronize.ensures.0 c.if-not-can_synchronize.false))
     (record { len = c.close_with.ensures.len; pairs = c.close_with.ensures.pairs; transitive = c.close_with.ensures.transitive })
-    (record {
-      len = c.close_with-2.ensures.len;
-      pairs = c.close_with-2.ensures.pairs;
-      transitive = c.close_with-2.ensures.transitive;
-    })
+    (record { len = c.close_with-2.ensures.len; pairs = c.close_with-2.ensures.pairs; transitive = c.close_with-2.ensures.transitive })
 
 pub returns-clause-there : goal.returns-clause-there
 returns-clause-there c =

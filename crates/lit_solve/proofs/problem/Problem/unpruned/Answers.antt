@@ -1,25 +1,24 @@
-use Rattle.lit_solve.proofs.Words.{◌<◌, arith, box_of, byte_read_at, cases_eq, events_on, HasSource, Holds, inl, inr, IsCoherentRead}
-use Rattle.lit_solve.proofs.Words.{IsPrunable, length, split_less, subst, sym, ℕ}
+use Rattle.lit_solve.proofs.Words.{arith, box_of, byte_read_at, cases_eq, events_on, HasSource, Holds, inl, inr, IsCoherentRead}
+use Rattle.lit_solve.proofs.Words.{IsPrunable, split_less, subst, sym, ℕ}
 use Rattle.lit_solve.proofs.PruningLemmas.{source_known}
 use Rattle.lit_solve.proofs.problem.Problem.unpruned.Goals as goal
 
 pub is_prunable-requires-clause-source : goal.is_prunable-requires-clause-source
 is_prunable-requires-clause-source c =
-    source_known (box_of c.args.self.now c.args.frame.now) c.requires.contained.is_box c.args.place c.in-Some-split_first.source c.requires.place
-    (c.loop-source.invariant.rest c.in-Some-split_first.source c.in-Some-split_first.ensures.there)
+    source_known (box_of c.args.self.now c.args.frame.now) c.requires.contained.is_box c.args.place c.in-Some-split_first.source
+    c.requires.place (c.loop-source.invariant.rest c.in-Some-split_first.source c.in-Some-split_first.ensures.there)
 
 pub with-left-requires : goal.with-left-requires
 with-left-requires c =
-    let known : c.in-Some-split_first.source < length (events_on c.args.self.now) =
-    source_known (box_of c.args.self.now c.args.frame.now) c.requires.contained.is_box c.args.place c.in-Some-split_first.source c.requires.place
-    (c.loop-source.invariant.rest c.in-Some-split_first.source c.in-Some-split_first.ensures.there) in
-    omega arith
+    let known = source_known (box_of c.args.self.now c.args.frame.now) c.requires.contained.is_box c.args.place c.in-Some-split_first.source
+    c.requires.place (c.loop-source.invariant.rest c.in-Some-split_first.source c.in-Some-split_first.ensures.there) in
+    omega (arith, known)
 
 pub loop-source-smaller-then-not-is_prunable : goal.loop-source-smaller-then-not-is_prunable
-loop-source-smaller-then-not-is_prunable c = split_less c.loop-source.rest c.in-Some-split_first.source c.in-Some-split_first.others c.in-Some-split_first.ensures
+loop-source-smaller-then-not-is_prunable c = let h = c.in-Some-split_first in split_less c.loop-source.rest h.source h.others h.ensures
 
 pub loop-source-smaller : goal.loop-source-smaller
-loop-source-smaller c = split_less c.loop-source.rest c.in-Some-split_first.source c.in-Some-split_first.others c.in-Some-split_first.ensures
+loop-source-smaller c = let h = c.in-Some-split_first in split_less c.loop-source.rest h.source h.others h.ensures
 
 pub loop-source-preserved-then-not-is_prunable : goal.loop-source-preserved-then-not-is_prunable
 loop-source-preserved-then-not-is_prunable c =
