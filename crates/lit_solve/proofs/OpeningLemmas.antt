@@ -1,11 +1,13 @@
 -- Frames before any propagation, and boxes with a cut domain.
-use Rattle.lit_solve.proofs.Words.{◌<◌, [], arith, Box, box_events, byte_reads, cases_eq, Chain-append, common_steps, EventSet, Execution}
-use Rattle.lit_solve.proofs.Words.{Frame, Given, GivenIn, Grows-from, HappensBefore, HappensBeforeIn, HasAlone, HasEffect, HasEmptyDomain}
-use Rattle.lit_solve.proofs.Words.{HasEvent, HasSource, Holds, inl, inr, IsBox, IsCandidate, IsCompletion, IsContained, IsCut}
-use Rattle.lit_solve.proofs.Words.{IsForbiddenIn, IsForced-grow, IsForcedIn, IsSettled, IsTransitive, length, Prunes, ReadsByteFrom}
-use Rattle.lit_solve.proofs.Words.{rows_len, slice_get, Some, subst, TakesFrom, TwoWayRows, ℕ, ◌↔◌, ◌≡◌, ◌⊎◌}
-use Rattle.lit_solve.proofs.DomainLemmas.{completion_at, domain_here, frame_at, pruned_at, pruned_contained, pruned_is_box, pruned_within, source_other}
+use Rattle.lit_solve.proofs.Words.{[], ◌+◌, ◌<◌, arith, Box, box_events, byte_read_at, byte_reads, cases_eq, Chain-append, common_steps}
+use Rattle.lit_solve.proofs.Words.{EventSet, Execution, Frame, get_or_from_slice_get, Given, GivenIn, Grows-from, HappensBefore}
+use Rattle.lit_solve.proofs.Words.{HappensBeforeIn, HasAlone, HasEffect, HasEmptyDomain, HasEvent, HasSource, Holds, inl, inr, IsBox}
+use Rattle.lit_solve.proofs.Words.{IsCandidate, IsCoherentRead, IsCompletion, IsContained, IsCut, IsExact, IsForbiddenIn, IsForced-grow}
+use Rattle.lit_solve.proofs.Words.{IsForcedIn, IsSettled, IsSettledBelow, IsTransitive, length, Prunes, ReadsByteFrom, rows_len, slice_get}
+use Rattle.lit_solve.proofs.Words.{Some, subst, TakesFrom, TwoWayRows, ℕ, ◌↔◌, ◌≡◌, ◌⊎◌}
+use Rattle.lit_solve.proofs.DomainLemmas.{completion_at, domain_here, frame_at, pruned_at, pruned_is_box, pruned_within, source_other}
 use Rattle.lit_solve.proofs.FillLemmas.{before_added, forbidden_added}
+use Rattle.lit_solve.proofs.FrameLemmas.{below_or_last}
 
 module _ (box : Box) (order : TwoWayRows) (len : rows_len order.rows ≡ length (box_events box)) (pairs : (e d : ℕ) → Holds order.rows e d ↔ HappensBefore (box_events box) [] e d) where
   no_byte : (r b w : ℕ) → ReadsByteFrom (box_events box) [] r b w → GivenIn box r b w
@@ -48,8 +50,8 @@ module _ (box : Box) (place : ℕ) (set left : EventSet) (room : place < length 
   cut_on now on = grind (arith, common_steps, completion_taken, domain_here, left_within, pruned_within)
 
 -- ---- a restricted domain that gives no source with an effect: what is settled stays so
-module _ (box : Box) (frame : Frame) (settled : IsSettled box frame) (place : ℕ) (left : EventSet) (room : place < length box.domains)
-    (within : (w : ℕ) → HasEvent left w → HasSource box place w) (some : (w : ℕ) × HasEvent left w)
+module _ (box : Box) (frame : Frame) (exact : IsExact box frame) (place : ℕ) (left : EventSet) (room : place < length box.domains)
+    (within : (w : ℕ) → HasEvent left w → HasSource box place w) (is : IsContained (pruned_at box place left) (frame_at frame place left))
     (idle : (r b w : ℕ) → slice_get (byte_reads (box_events box)) place ≡ Some (r, b) → HasAlone (pruned_at box place left) place w → ¬ HasEffect (box_events box) w r) where
   abbrev now : Box
   now = pruned_at box place left
@@ -69,7 +71,7 @@ module _ (box : Box) (frame : Frame) (settled : IsSettled box frame) (place : �
   ]
 
   candidate : (r b w : ℕ) → GivenIn now r b w → IsCandidate (box_events box) r b w
-  candidate r b w g = (pruned_is_box box place left room within settled.exact.contained.is_box).candidates g.place r b w g.is_read g.alone.there
+  candidate r b w g = (pruned_is_box box place left room within exact.contained.is_box).candidates g.place r b w g.is_read g.alone.there
 
   before_back : (a d : ℕ) → HappensBeforeIn now a d → HappensBeforeIn box a d
   before_back = before_added box (GivenIn now) candidate given_or_idle
@@ -79,13 +81,41 @@ module _ (box : Box) (frame : Frame) (settled : IsSettled box frame) (place : �
       IsForced-grow (HappensBeforeIn now) (HappensBeforeIn box) (IsForbiddenIn now) (IsForbiddenIn box) (λ a d h. Given (before_back a d h))
       (forbidden_added box (GivenIn now) candidate given_or_idle)
 
-  pub settled_still : IsSettled now (frame_at frame place left)
-  settled_still = record {
-    exact = record {
-      contained = pruned_contained box place left room within frame settled.exact.contained some;
-      before = λ a d h. settled.exact.before a d (before_back a d h);
-      forced = λ a d h. settled.exact.forced a d (forced_back a d h);
-    };
-    acyclic = λ e h. settled.acyclic e (forced_back e e h);
-    coherent = λ k r b w at there. settled.coherent k r b w at ((pruned_within box place left room within).domains k w there);
+  exact_still : IsExact now (frame_at frame place left)
+  exact_still = record {
+    contained = is;
+    before = λ a d h. exact.before a d (before_back a d h);
+    forced = λ a d h. exact.forced a d (forced_back a d h);
   }
+
+  pub settled_still : IsSettled box frame → IsSettled now (frame_at frame place left)
+  settled_still was = record {
+    exact = exact_still;
+    acyclic = λ e h. was.acyclic e (forced_back e e h);
+    coherent = λ k r b w at there. was.coherent k r b w at ((pruned_within box place left room within).domains k w there);
+  }
+
+  pub settled_below_still : (n : ℕ) → IsSettledBelow box frame n → IsSettledBelow now (frame_at frame place left) n
+  settled_below_still n was = record {
+    exact = exact_still;
+    acyclic = λ e h. was.acyclic e (forced_back e e h);
+    coherent = λ k r b w below at there. was.coherent k r b w below at ((pruned_within box place left room within).domains k w there);
+  }
+
+-- settled at one place more, where each source is coherent
+pub settled_more : (box : Box) (frame : Frame) (place : ℕ) → IsSettledBelow box frame place
+    → ((w : ℕ) → HasSource box place w → IsCoherentRead (box_events box) (Holds frame.happens_before.rows)
+    (byte_read_at (box_events box) place).0 (byte_read_at (box_events box) place).1 w)
+    → IsSettledBelow box frame (place + 1)
+settled_more box frame place was here = record {
+  exact = was.exact;
+  acyclic = was.acyclic;
+  coherent = λ k r b w below at there. elim (below_or_last k place below) [
+    | inl less ↦ was.coherent k r b w less at there
+    | inr is ↦
+        let reads = byte_reads (box_events box) in
+        let read = get_or_from_slice_get reads place (r, b) (0, 0) (subst (λ (j : ℕ). slice_get reads j ≡ Some (r, b)) is at) in
+        subst (λ (p : ℕ × ℕ). IsCoherentRead (box_events box) (Holds frame.happens_before.rows) p.0 p.1 w) read
+        (here w (subst (λ (j : ℕ). HasSource box j w) is there))
+  ];
+}

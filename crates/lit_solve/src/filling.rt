@@ -86,7 +86,7 @@ impl Problem<'_> {
     fn are_guards_true(&self, read: u8, value: u32) -> bool
         ensures { IsTrue result ↔ ¬ HasFalseGuardOn self.now.0 self.now.1 (Some read) value }
     {
-        !has_false_guard(&self.combination, Some(usize::from(read)), value)
+        !self.guarded || !has_false_guard(&self.combination, Some(usize::from(read)), value)
     }
 
     /// Whether a guard on a register that was not written is false.

@@ -1,6 +1,6 @@
 //! Forcing: the least relation that each memory-order of each completion respects, from the byte reads that have one source.
 
-ghost use Rattle.std.specs.Prelude.{◌≡◌, ◌⊎◌, ◌↔◌, ℕ, ◌+◌, ◌<◌, ◌≤◌, IsFalse, IsTrue, MatchOption, length};
+ghost use Rattle.std.specs.Prelude.{◌≡◌, ◌⊎◌, ◌↔◌, ℕ, ◌+◌, ◌<◌, ◌≤◌, IsFalse, IsTrue, MatchOption, Some, length, slice_get};
 ghost use Rattle.lit_paths.specs.ByteReads.{byte_reads};
 ghost use Rattle.lit_paths.specs.declared.limits.TheConstants.{BYTE_READ_LIMIT, EVENT_LIMIT};
 ghost use Rattle.lit_paths.specs.Event.{event_at as event_of};
@@ -10,9 +10,11 @@ ghost use Rattle.lit_rel.specs.Forbidden.{IsForbiddenBetween};
 ghost use Rattle.lit_rel.specs.Rows.{Holds};
 ghost use Rattle.lit_rel.specs.SynchronizesWith.{CanSynchronize};
 ghost use Rattle.lit_order.specs.Forcing.{HasForcedCycle};
-ghost use Rattle.lit_solve.specs.Given.{HappensBeforeIn, HasAlone, IsForbiddenIn, IsForcedIn};
+ghost use Rattle.lit_solve.specs.Fill.{HasEffect};
+ghost use Rattle.lit_solve.specs.Given.{HappensBeforeIn, HasAlone, IsForbiddenIn};
 ghost use Rattle.lit_solve.specs.Box.{events_on};
-ghost use Rattle.lit_solve.specs.Internal.Frames.{IsContained, IsExact, IsForbiddenAt, IsSynchronizedAt, box_of};
+ghost use Rattle.lit_solve.specs.Internal.Frames.{IsContained, IsForbiddenAt, IsSynchronizedAt, box_of};
+ghost use Rattle.lit_solve.specs.Internal.Settled.{IsSettledBelow};
 
 use crate::domains::only_one;
 use crate::frame::Frame;
@@ -38,8 +40,22 @@ impl Problem<'_> {
         }
     }
 
+    /// Whether the byte read at a place has one source left, and this can force something.
+    pub(crate) fn forces(&self, frame: &Frame, place: usize) -> bool
+        requires place { place < length (byte_reads (events_on self.now)) }
+        requires contained { IsContained (box_of self.now frame.now) frame.now }
+        ensures { IsFalse result → (r b w : ℕ) → slice_get (byte_reads (events_on self.now)) place ≡ Some (r, b)
+            → HasAlone (box_of self.now frame.now) place w → ¬ HasEffect (events_on self.now) w r }
+    {
+        let read = usize::from(self.byte_read(place).read);
+        match self.given(frame, place) {
+            Some(source) => self.has_effect(source, read),
+            None => false,
+        }
+    }
+
     /// Whether an event synchronizes with another that reads from it. Both are event numbers.
-    fn can_synchronize(&self, source: usize, read: usize) -> bool
+    pub(crate) fn can_synchronize(&self, source: usize, read: usize) -> bool
         requires source { source < length (events_on self.now) }
         requires read { read < length (events_on self.now) }
         ensures { IsTrue result ↔ CanSynchronize (event_of (events_on self.now) source) (event_of (events_on self.now) read) }
@@ -61,14 +77,15 @@ impl Problem<'_> {
         let Some(source) = self.given(&*frame, place) else {
             return;
         };
+        // To close a relation costs a pass over all rows: a pair that it has needs none.
+        if frame.happens_before.rows.holds(source, read) {
+            return;
+        }
         if !self.can_synchronize(source, read) {
             return;
         }
-        // To close a relation costs a pass over all rows: a pair that it has needs none.
-        if !frame.happens_before.rows.holds(source, read) {
-            frame.happens_before.close_with(source, read);
-            frame.forced.close_with(source, read);
-        }
+        frame.happens_before.close_with(source, read);
+        frame.forced.close_with(source, read);
     }
 
     /// Makes a frame's happens-before that of its box.
@@ -132,18 +149,16 @@ impl Problem<'_> {
         }
     }
 
-    /// Makes the relations of a frame those of its box. Answers `false` if what is forced has a cycle.
-    pub(crate) fn force(&self, frame: &mut Frame) -> bool
+    /// Makes the relations of a frame those of its box. Answers `false` if what is forced has a cycle. `between` is room for triples.
+    pub(crate) fn force(&self, frame: &mut Frame, between: &mut Between) -> bool
         requires contained { IsContained (box_of self.now frame.old) frame.old }
         ensures domains { frame.new.domains ≡ frame.old.domains }
-        ensures exact { IsTrue result → IsExact (box_of self.now frame.new) frame.new }
-        ensures acyclic { IsTrue result → (e : ℕ) → ¬ IsForcedIn (box_of self.now frame.new) e e }
+        ensures settled { IsTrue result → IsSettledBelow (box_of self.now frame.new) frame.new 0 }
         ensures cycle { IsFalse result → HasForcedCycle (HappensBeforeIn (box_of self.now frame.old))
             (IsForbiddenIn (box_of self.now frame.old)) }
     {
         self.synchronize(frame);
-        let mut between = Between::new(0);
-        self.put_between(&*frame, &mut between);
-        force(&mut frame.forced, &between)
+        self.put_between(&*frame, between);
+        force(&mut frame.forced, &*between)
     }
 }

@@ -1,13 +1,11 @@
 //! How a search gets frames: it opens one for a box, and cuts a domain of one at each branch.
 
-ghost use Rattle.std.specs.Prelude.{◌≡◌, ◌↔◌, ℕ, ◌<◌, IfNone, IfSome, IsFalse, IsTrue, Some, length, slice_get};
+ghost use Rattle.std.specs.Prelude.{◌≡◌, ◌↔◌, ℕ, ◌<◌, IfNone, IfSome, IsFalse, IsTrue, length};
 ghost use Rattle.lit_paths.specs.ByteReads.{byte_reads};
 ghost use Rattle.lit_paths.specs.Execution.{Execution};
 ghost use Rattle.lit_rel.specs.EventSet.{HasEvent};
 ghost use Rattle.lit_solve.specs.Box.{HasEmptyDomain, HasSource, IsBox, box_with, events_on};
 ghost use Rattle.lit_solve.specs.Completion.{IsCompletion};
-ghost use Rattle.lit_solve.specs.Fill.{HasEffect};
-ghost use Rattle.lit_solve.specs.Given.{HasAlone};
 ghost use Rattle.lit_solve.specs.Internal.Frames.{IsContained, box_of};
 ghost use Rattle.lit_solve.specs.Internal.Pruning.{HasNoCompletion, Prunes, size_of};
 ghost use Rattle.lit_solve.specs.Internal.Settled.{IsCut, IsSettled, TakesFrom};
@@ -63,7 +61,7 @@ impl Problem<'_> {
         left
     }
 
-    /// The frame of a box, pruned and propagated until nothing changes. `None` if that refutes the box.
+    /// The frame of a box, pruned and propagated until nothing more is forced. `None` if that refutes the box.
     pub(crate) fn settle(&self, domains: &Domains) -> Option<Frame>
         requires { IsBox (box_with self.now domains.now) }
         ensures settled { IfSome result (λ frame. IsSettled (box_of self.now frame) frame) }
@@ -95,20 +93,6 @@ impl Problem<'_> {
         // For the prover: the place is one of the array of domains.
         let _reads = self.reads();
         frame.domains[place]
-    }
-
-    /// Whether the byte read at a place has one source left, and this can force something.
-    fn forces(&self, frame: &Frame, place: usize) -> bool
-        requires place { place < length (byte_reads (events_on self.now)) }
-        requires contained { IsContained (box_of self.now frame.now) frame.now }
-        ensures { IsFalse result → (r b w : ℕ) → slice_get (byte_reads (events_on self.now)) place ≡ Some (r, b)
-            → HasAlone (box_of self.now frame.now) place w → ¬ HasEffect (events_on self.now) w r }
-    {
-        let read = usize::from(self.byte_read(place).read);
-        match self.given(frame, place) {
-            Some(source) => self.has_effect(source, read),
-            None => false,
-        }
     }
 
     /// Restricts the domain of the byte read at a place to a set, and propagates. Answers `false` if that shows that no completion has a

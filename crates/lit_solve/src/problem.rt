@@ -27,6 +27,8 @@ pub struct Problem<'p> {
     pub(crate) peers: Rows,
     /// The registers of an outcome, as agent and register.
     pub(crate) names: &'p [(u8, u8)],
+    /// Whether some path has a guard.
+    pub(crate) guarded: bool,
 }
 
 impl<'p> Model for Problem<'p> {
@@ -42,7 +44,7 @@ impl<'p> Model for Problem<'p> {
 
     ghost view = { λ p. p.combination };
 
-    ghost invariant = { λ p. IsProblem p.combination p.candidates p.refused p.peers p.names.now };
+    ghost invariant = { λ p. IsProblem p.combination p.candidates p.refused p.peers p.names.now p.guarded };
 }
 
 impl<'p> Problem<'p> {
@@ -62,12 +64,17 @@ impl<'p> Problem<'p> {
             candidates[place] = all;
             refused[place] = refused_among(&combination, place, all);
         }
+        let mut guarded = false;
+        for agent in 0..combination.test().agents() {
+            guarded |= !combination.path(agent).tests().is_empty();
+        }
         Problem {
             combination,
             candidates,
             refused,
             peers,
             names: plan.names(),
+            guarded,
         }
     }
 

@@ -1,6 +1,6 @@
 //! Pruning: sources that no completion has, by the relations of a frame, are removed from its domains.
 
-ghost use Rattle.std.specs.Prelude.{◌≡◌, ◌≢◌, ◌↔◌, ℕ, ◌<◌, IsFalse, IsTrue, length};
+ghost use Rattle.std.specs.Prelude.{◌≡◌, ◌≢◌, ◌↔◌, ℕ, ◌+◌, ◌<◌, ◌≤◌, IfNone, IfSome, IsFalse, IsTrue, length};
 ghost use Rattle.lit_paths.specs.ByteReads.{byte_read_at, byte_reads};
 ghost use Rattle.lit_paths.specs.Event.{event_at as event_of};
 ghost use Rattle.lit_rel.specs.Coherent.{IsCoherentRead};
@@ -12,26 +12,22 @@ ghost use Rattle.lit_rel.specs.TearFree.{CanReadWhole, ReadsWholeBy};
 ghost use Rattle.lit_solve.specs.Box.{HasSource, events_on};
 ghost use Rattle.lit_solve.specs.Given.{GivenIn, HasAlone};
 ghost use Rattle.lit_solve.specs.Prunable.{IsPrunable};
-ghost use Rattle.lit_solve.specs.Internal.Frames.{AreCoherentAt, IsContained, box_of};
+ghost use Rattle.lit_solve.specs.Internal.Frames.{IsContained, box_of};
 ghost use Rattle.lit_solve.specs.Internal.Pruning.{HasNoCompletion, Prunes, size_of};
-ghost use Rattle.lit_solve.specs.declared.pruning.Pruned.TheVariants.{Empty, Less, Same};
+ghost use Rattle.lit_solve.specs.Internal.Settled.{IsSettled, IsSettledBelow};
 
-use crate::domains::only_one;
+use crate::domains::set_of;
 use crate::frame::Frame;
 use crate::laws::completions_have_no_prunable_source;
 use crate::problem::Problem;
 use lit_paths::event_at;
-use lit_rel::{EventSet, can_read_whole, can_synchronize, others_between};
+use lit_rel::{EventSet, can_read_whole};
 
-/// What a pass of pruning did to the domains.
-#[derive(Clone, Copy, Debug, PartialEq, Eq)]
-pub(crate) enum Pruned {
-    /// It removed nothing.
-    Same,
-    /// It removed some sources, and no domain is empty.
-    Less,
-    /// A domain is empty.
-    Empty,
+/// What pruning did that left no domain empty.
+#[derive(Clone, Copy)]
+pub(crate) struct Pruned {
+    /// Whether it left some domain one source, and this can force something. If not, a frame's relations stay those of its box.
+    pub forces: bool,
 }
 
 impl Problem<'_> {
@@ -61,9 +57,7 @@ impl Problem<'_> {
         ensures { IsTrue result ↔ (CanSynchronize (event_of (events_on self.now) source)
             (event_of (events_on self.now) read) × Holds frame.now.forced.rows read source) }
     {
-        let events = self.events();
-        can_synchronize(event_at(events, source), event_at(events, read))
-            && frame.forced.rows.holds(read, source)
+        frame.forced.rows.holds(read, source) && self.can_synchronize(source, read)
     }
 
     /// Whether an event is forced between a source and a read though it may not stand there if the read has that source.
@@ -83,9 +77,7 @@ impl Problem<'_> {
         if between.is_empty() {
             return false;
         }
-        let events = self.events();
-        let (before, peers) = (&frame.happens_before, &self.peers);
-        let others = others_between(events, source as u8, read as u8, before, peers);
+        let others = self.others_between(frame, source, read);
         !others.intersection(between).is_empty()
     }
 
@@ -98,13 +90,11 @@ impl Problem<'_> {
     {
         let events = self.events();
         let read = usize::from(self.byte_read(place).read);
-        let Some(source) = only_one(frame.domains[place]) else {
-            return EventSet::new();
-        };
-        if can_read_whole(event_at(events, read), event_at(events, source)) {
-            EventSet::new().with(source)
-        } else {
-            EventSet::new()
+        match self.given(frame, place) {
+            Some(source) if can_read_whole(event_at(events, read), event_at(events, source)) => {
+                set_of(source)
+            }
+            _ => EventSet::new(),
         }
     }
 
@@ -177,6 +167,13 @@ impl Problem<'_> {
     {
         // For the prover: a set has room for each event of a combination.
         let _events = self.events();
+        // A given source is only asked for coherence. It can't be forced later than its read, nor an event that may not stand between
+        // the two be forced there, since what is forced has no cycle; and whether the read is torn, its filling tells.
+        if let Some(given) = self.given(frame, place) {
+            if self.is_coherent(frame, place, given) {
+                return frame.domains[place];
+            }
+        }
         let whole = self.whole_sources(frame, place);
         let mut left = EventSet::new();
         let mut rest = frame.domains[place];
@@ -189,54 +186,49 @@ impl Problem<'_> {
         left
     }
 
-    /// Prunes the domain of the byte read at a place. The frame's happens-before is acyclic.
-    fn prune_at(&self, frame: &mut Frame, place: usize) -> Pruned
+    /// Prunes the domain of the byte read at a place. `None` if that leaves none of its sources. The frame's happens-before is acyclic.
+    fn prune_at(&self, frame: &mut Frame, place: usize) -> Option<Pruned>
         requires place { place < length (byte_reads (events_on self.now)) }
         requires contained { IsContained (box_of self.now frame.old) frame.old }
         requires acyclic { (e : ℕ) → ¬ Holds frame.old.happens_before.rows e e }
         ensures before { frame.new.happens_before ≡ frame.old.happens_before }
-        ensures contained { result ≢ Empty → IsContained (box_of self.now frame.new) frame.new }
-        ensures prunes { result ≢ Empty → Prunes (box_of self.now frame.old) (box_of self.now frame.new) }
-        ensures same { result ≡ Same → frame.new ≡ frame.old }
-        ensures coherent { result ≡ Same → (w : ℕ) → HasSource (box_of self.now frame.old) place w
-            → IsCoherentRead (events_on self.now) (Holds frame.old.happens_before.rows)
-            (byte_read_at (events_on self.now) place).0 (byte_read_at (events_on self.now) place).1 w }
-        ensures less { result ≡ Less → size_of frame.new.domains < size_of frame.old.domains }
-        ensures empty { result ≡ Empty → HasNoCompletion (box_of self.now frame.old) }
+        ensures contained { IfSome result (λ _. IsContained (box_of self.now frame.new) frame.new) }
+        ensures prunes { IfSome result (λ _. Prunes (box_of self.now frame.old) (box_of self.now frame.new)) }
+        ensures settled { IfSome result (λ pruned. IsFalse pruned.forces → IsSettledBelow (box_of self.now frame.old) frame.old place
+            → IsSettledBelow (box_of self.now frame.new) frame.new (place + 1)) }
+        ensures less { IfSome result (λ pruned. IsTrue pruned.forces → size_of frame.new.domains < size_of frame.old.domains) }
+        ensures size { size_of frame.new.domains ≤ size_of frame.old.domains }
+        ensures none { IfNone result (HasNoCompletion (box_of self.now frame.old)) }
     {
         completions_have_no_prunable_source();
         // For the prover: the events lie in the test's block, as the law requires.
         let _events = self.events();
         let left = self.unpruned(&*frame, place);
         if left.is_empty() {
-            return Pruned::Empty;
+            return None;
         }
         if frame.domains[place].is_within(left) {
-            return Pruned::Same;
+            return Some(Pruned { forces: false });
         }
         frame.domains[place] = left;
-        Pruned::Less
+        let forces = self.forces(&*frame, place);
+        Some(Pruned { forces })
     }
 
-    /// Prunes each domain once. The frame's happens-before is acyclic.
-    pub(crate) fn prune(&self, frame: &mut Frame) -> Pruned
-        requires contained { IsContained (box_of self.now frame.old) frame.old }
-        requires acyclic { (e : ℕ) → ¬ Holds frame.old.happens_before.rows e e }
-        ensures contained { result ≢ Empty → IsContained (box_of self.now frame.new) frame.new }
-        ensures prunes { result ≢ Empty → Prunes (box_of self.now frame.old) (box_of self.now frame.new) }
-        ensures same { result ≡ Same → frame.new ≡ frame.old }
-        ensures coherent { result ≡ Same → AreCoherentAt (box_of self.now frame.old) frame.old }
-        ensures less { result ≡ Less → size_of frame.new.domains < size_of frame.old.domains }
-        ensures empty { result ≡ Empty → HasNoCompletion (box_of self.now frame.old) }
+    /// Prunes each domain once. `None` if that leaves a domain empty.
+    pub(crate) fn prune(&self, frame: &mut Frame) -> Option<Pruned>
+        requires { IsSettledBelow (box_of self.now frame.old) frame.old 0 }
+        ensures contained { IfSome result (λ _. IsContained (box_of self.now frame.new) frame.new) }
+        ensures prunes { IfSome result (λ _. Prunes (box_of self.now frame.old) (box_of self.now frame.new)) }
+        ensures settled { IfSome result (λ pruned. IsFalse pruned.forces → IsSettled (box_of self.now frame.new) frame.new) }
+        ensures less { IfSome result (λ pruned. IsTrue pruned.forces → size_of frame.new.domains < size_of frame.old.domains) }
+        ensures size { size_of frame.new.domains ≤ size_of frame.old.domains }
+        ensures none { IfNone result (HasNoCompletion (box_of self.now frame.old)) }
     {
-        let mut pruned = Pruned::Same;
+        let mut forces = false;
         for place in 0..self.reads() {
-            match self.prune_at(frame, place) {
-                Pruned::Same => {}
-                Pruned::Less => pruned = Pruned::Less,
-                Pruned::Empty => return Pruned::Empty,
-            }
+            forces |= self.prune_at(frame, place)?.forces;
         }
-        pruned
+        Some(Pruned { forces })
     }
 }

@@ -1,5 +1,5 @@
 -- Frames: the states of a backtracking search, boxes with the relations that follow from them.
-use Rattle.std.specs.Prelude.{◌≡◌, ◌↔◌, ℕ, ◌<◌, ◌≤◌, List, [], Some, length, slice_get, slice_index_or}
+use Rattle.std.specs.Prelude.{◌≡◌, ◌↔◌, ℕ, ◌<◌, ◌≤◌, Bool, IsFalse, List, Option, [], Some, length, slice_get, slice_index_or}
 use Rattle.lit_read.specs.Syntax.{IsLitmus, Litmus}
 use Rattle.lit_paths.specs.declared.event.Event.{Event}
 use Rattle.lit_paths.specs.ByteReads.{byte_reads, IsCandidate}
@@ -10,6 +10,7 @@ use Rattle.lit_paths.specs.Outcome.{names_of}
 use Rattle.lit_paths.specs.Plan.{AreEventsIn}
 use Rattle.lit_rel.specs.declared.event_set.EventSet.{EventSet}
 use Rattle.lit_rel.specs.EventSet.{HasEvent, no_events}
+use Rattle.lit_rel.specs.Broken.{HasFalseGuardOn}
 use Rattle.lit_rel.specs.Coherent.{IsCoherentRead}
 use Rattle.lit_rel.specs.Forbidden.{IsForbiddenBetween}
 use Rattle.lit_rel.specs.HappensBefore.{HappensBefore}
@@ -64,7 +65,8 @@ AreRefused c domains =
     → HasEvent (slice_index_or domains k no_events) w ↔ (IsCandidate (events_on c) r b w × IsRefusedOn c r b w)
 
 -- what a `Problem` saves of its combination
-pub record IsProblem (c : Litmus × ℕ) (candidates refused : List EventSet) (peers : Rows) (names : List (ℕ × ℕ)) : Type 0 where
+pub record IsProblem (c : Litmus × ℕ) (candidates refused : List EventSet) (peers : Rows) (names : List (ℕ × ℕ)) (guarded : Bool)
+    : Type 0 where
   pub litmus : IsLitmus c.0
   pub known : c.1 < length (combinations_of c.0)
   pub sound : AreEventsIn c.0.bytes (events_on c)
@@ -73,6 +75,7 @@ pub record IsProblem (c : Litmus × ℕ) (candidates refused : List EventSet) (p
   pub same_range : ArePeers (events_on c) peers
   pub named : names ≡ names_of c.0
   pub few_names : length names ≤ NAME_LIMIT
+  pub unguarded : IsFalse guarded → (asked : Option ℕ) (value : ℕ) → ¬ HasFalseGuardOn c.0 c.1 asked value
 
 -- if the k-th byte read has one source, and this synchronizes with the read, the source is before the read
 abbrev pub IsSynchronizedAt : Box → (ℕ → ℕ → Type 0) → ℕ → Type 0

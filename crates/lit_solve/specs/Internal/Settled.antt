@@ -1,10 +1,13 @@
--- Settled frames: propagation has reached its fixed point.
-use Rattle.std.specs.Prelude.{◌≡◌, ℕ, Some, slice_get}
+-- Settled frames: propagation has nothing more to force.
+use Rattle.std.specs.Prelude.{◌≡◌, ℕ, ◌<◌, Some, slice_get}
+use Rattle.lit_paths.specs.ByteReads.{byte_reads}
 use Rattle.lit_paths.specs.Execution.{Execution}
+use Rattle.lit_rel.specs.Coherent.{IsCoherentRead}
 use Rattle.lit_rel.specs.declared.event_set.EventSet.{EventSet}
 use Rattle.lit_rel.specs.EventSet.{HasEvent}
+use Rattle.lit_rel.specs.Rows.{Holds}
 use Rattle.lit_solve.specs.declared.frame.Frame.{Frame}
-use Rattle.lit_solve.specs.Box.{Box, HasSource, IsWithin}
+use Rattle.lit_solve.specs.Box.{Box, HasSource, IsWithin, box_events}
 use Rattle.lit_solve.specs.Completion.{IsCompletion}
 use Rattle.lit_solve.specs.Given.{IsForcedIn}
 use Rattle.lit_solve.specs.Internal.Frames.{AreCoherentAt, IsExact}
@@ -14,6 +17,13 @@ pub record IsSettled (box : Box) (frame : Frame) : Type 0 where
   pub exact : IsExact box frame
   pub acyclic : (e : ℕ) → ¬ IsForcedIn box e e
   pub coherent : AreCoherentAt box frame
+
+-- settled, but only the byte reads before the n-th are sure to be coherent with each source in their domains
+pub record IsSettledBelow (box : Box) (frame : Frame) (n : ℕ) : Type 0 where
+  pub exact : IsExact box frame
+  pub acyclic : (e : ℕ) → ¬ IsForcedIn box e e
+  pub coherent : (k r b w : ℕ) → k < n → slice_get (byte_reads (box_events box)) k ≡ Some (r, b) → HasSource box k w
+      → IsCoherentRead (box_events box) (Holds frame.happens_before.rows) r b w
 
 -- the execution has a source of a set for the k-th byte read
 abbrev pub TakesFrom : Execution → ℕ → EventSet → Type 0

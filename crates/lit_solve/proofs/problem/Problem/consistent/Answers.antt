@@ -15,8 +15,9 @@ loop-place-preserved c =
     let box = box_with c.args.self.now c.loop-place.left in
     let was = c.loop-place.invariant in
     let less = c.difference.result in
-    let is : IsProblem c.args.self.now c.self.inside.candidates c.self.inside.refused c.self.inside.peers c.self.inside.names.now =
-    subst (λ (p : Litmus × ℕ). IsProblem p c.self.inside.candidates c.self.inside.refused c.self.inside.peers c.self.inside.names.now) c.self.view_is c.self.invariant in
+    let p = c.self.inside in
+    let is : IsProblem c.args.self.now p.candidates p.refused p.peers p.names.now p.guarded =
+    subst (λ (q : Litmus × ℕ). IsProblem q p.candidates p.refused p.peers p.names.now p.guarded) c.self.view_is c.self.invariant in
     let room : place < length box.domains = omega (arith, was.len, c.reads-place-end.ensures.few, c.loop-place-test.true) in
     let inside : place < length (byte_reads events) = omega (arith, c.reads-place-end.ensures.value, c.loop-place-test.true) in
     let read = byte_read_at events place in

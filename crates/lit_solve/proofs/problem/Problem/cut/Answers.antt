@@ -1,43 +1,38 @@
-use Rattle.lit_solve.proofs.Words.{◌<◌, ap, arith, Box, box_of, EventSet, Frame, IsCut, IsSettled, length, not, refl, size_of, slice_set}
-use Rattle.lit_solve.proofs.Words.{subst, sym, ℕ, ◌≤◌}
-use Rattle.lit_solve.proofs.DomainLemmas.{pruned_at, pruned_contained, none_at, size_less}
+use Rattle.lit_solve.proofs.Words.{◌<◌, ap, arith, Box, box_of, EventSet, Frame, IsContained, IsCut, IsSettled, length, not, refl, size_of}
+use Rattle.lit_solve.proofs.Words.{slice_set, subst, sym, ℕ, ◌≤◌}
+use Rattle.lit_solve.proofs.DomainLemmas.{frame_at, pruned_at, pruned_contained, none_at, size_less}
 use Rattle.lit_solve.proofs.FrameLemmas.{not_true}
 use Rattle.lit_solve.proofs.PruningLemmas.{some_exactly}
-use Rattle.lit_solve.proofs.OpeningLemmas.{completion_taken, cut_on, left_within, settled_still, source_taken}
+use Rattle.lit_solve.proofs.OpeningLemmas.{completion_taken, cut_on, settled_still, source_taken}
 use Rattle.lit_solve.proofs.problem.Problem.cut.Goals as goal
 use Rattle.lit_solve.proofs.problem.Problem.cut.Goals.{else-forces-via-then-forces+else-not-propagate, else-forces-via-else-forces}
 
 pub returns-then-is_empty-clause-none : goal.returns-then-is_empty-clause-none
 returns-then-is_empty-clause-none c _ x is takes =
     let box = box_of c.args.self.now c.args.frame.now in
-    let room : c.args.place < length box.domains = omega arith in
-    none_at box c.args.place c.intersection-left.result room c.requires.place x is
-    (source_taken box c.args.place c.args.set c.intersection-left.result room c.intersection-left.ensures x is takes)
+    none_at box c.args.place c.intersection-left.result (omega arith) c.requires.place x is
+    (source_taken box c.args.place c.args.set c.intersection-left.result (omega arith) c.intersection-left.ensures x is takes)
     (c.is_empty.ensures.0 c.if-is_empty.true)
 
-pub forces-requires-clause-contained : goal.forces-requires-clause-contained
-forces-requires-clause-contained c =
+contained : (c : goal.Else-is_empty)
+    → IsContained (pruned_at (box_of c.args.self.now c.args.frame.now) c.args.place c.intersection-left.result)
+    (frame_at c.args.frame.now c.args.place c.intersection-left.result)
+contained c =
     let box = box_of c.args.self.now c.args.frame.now in
-    let room : c.args.place < length box.domains = omega arith in
     let some = (some_exactly c.intersection-left.result c.is_empty.result c.is_empty.ensures).0 (ap not c.if-is_empty.false) in
-    pruned_contained box c.args.place c.intersection-left.result room
-    (left_within box c.args.place c.args.set c.intersection-left.result room c.intersection-left.ensures) c.args.frame.now
-    c.requires.settled.exact.contained some
+    pruned_contained box c.args.place c.intersection-left.result (omega arith) (λ w there. ((c.intersection-left.ensures w).0 there).0)
+    c.args.frame.now c.requires.settled.exact.contained some
+
+pub forces-requires-clause-contained : goal.forces-requires-clause-contained
+forces-requires-clause-contained c = contained c
 
 pub propagate-requires : goal.propagate-requires
-propagate-requires c =
-    let box = box_of c.args.self.now c.args.frame.now in
-    let room : c.args.place < length box.domains = omega arith in
-    let some = (some_exactly c.intersection-left.result c.is_empty.result c.is_empty.ensures).0 (ap not c.if-is_empty.false) in
-    pruned_contained box c.args.place c.intersection-left.result room
-    (left_within box c.args.place c.args.set c.intersection-left.result room c.intersection-left.ensures) c.args.frame.now
-    c.requires.settled.exact.contained some
+propagate-requires c = contained c.before.before.before
 
 pub returns-then-not-propagate-clause-none : goal.returns-then-not-propagate-clause-none
 returns-then-not-propagate-clause-none c _ x is takes =
-    let box = box_of c.args.self.now c.args.frame.now in
-    let left = c.intersection-left in
-    c.propagate.ensures.none c.if-not-propagate.true x (completion_taken box c.args.place c.args.set left.result (omega arith) left.ensures x is takes)
+    c.propagate.ensures.none c.if-not-propagate.true x (completion_taken (box_of c.args.self.now c.args.frame.now) c.args.place c.args.set
+    c.intersection-left.result (omega arith) c.intersection-left.ensures x is takes)
 
 -- the frame is settled once more, propagated or not
 record IsResettled (old : Box) (place : ℕ) (set : EventSet) (size : ℕ) (new : Box) (frame : Frame) : Type 0 where
@@ -59,15 +54,14 @@ again c =
       | else-forces-via-then-forces+else-not-propagate w ↦
           let done = w.if-not-propagate.false in
           subst Resettled (sym w.frame-is) record {
-            settled = record { exact = w.propagate.ensures.exact done; acyclic = w.propagate.ensures.acyclic done; coherent = w.propagate.ensures.coherent done };
+            settled = w.propagate.ensures.settled done;
             cut = on (box_of c.args.self.now w.propagate.new.frame) (w.propagate.ensures.prunes done);
             small = w.propagate.ensures.size done;
           }
       | else-forces-via-else-forces w ↦
-          let some = (some_exactly left.result c.is_empty.result c.is_empty.ensures).0 (ap not c.if-is_empty.false) in
           subst Resettled (sym w.frame-is) record {
-            settled = settled_still box c.args.frame.now c.requires.settled place left.result room (left_within box place c.args.set left.result room left.ensures) some
-                (c.forces.ensures w.if-forces.false);
+            settled = settled_still box c.args.frame.now c.requires.settled.exact place left.result room (λ w h. ((left.ensures w).0 h).0)
+                (contained c.before.before) (c.forces.ensures w.if-forces.false) c.requires.settled;
             cut = on (pruned_at box place left.result) record { within = record { test = refl; combination = refl; domains = λ k v there. there }; retained = λ x is. is };
             small = omega arith;
           }
@@ -88,9 +82,7 @@ returns-clause-cut c _ = (again c.before).cut
 pub returns-clause-less : goal.returns-clause-less
 returns-clause-less c _ not_all =
     let box = box_of c.args.self.now c.args.frame.now in
-    let room : c.args.place < length box.domains = omega arith in
-    let less = size_less box c.args.place c.intersection-left.result room
-    (left_within box c.args.place c.args.set c.intersection-left.result room c.intersection-left.ensures)
+    let less = size_less box c.args.place c.intersection-left.result (omega arith) (λ w there. ((c.intersection-left.ensures w).0 there).0)
     (λ all. not_all (λ w there. ((c.intersection-left.ensures w).0 (all w there)).1)) in
     omega (arith, less, (again c.before).small)
 

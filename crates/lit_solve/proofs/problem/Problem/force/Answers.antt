@@ -1,20 +1,19 @@
-use Rattle.lit_solve.proofs.Words.{box_of, EventSet, Forbids, IsForcedIn, List, refl, subst, ℕ}
+use Rattle.lit_solve.proofs.Words.{arith, box_of, EventSet, Forbids, IsForcedIn, List, refl, subst, ℕ}
 use Rattle.lit_solve.proofs.FrameLemmas.{forced_exact, forced_sound, forced_whole, not_true}
 use Rattle.lit_solve.proofs.problem.Problem.force.Goals as goal
 
-pub returns-clause-exact : goal.returns-clause-exact
-returns-clause-exact c done =
-    forced_exact (box_of c.args.self.now c.synchronize.new.frame) c.synchronize.new.frame _ c.synchronize.ensures.contained
-    c.synchronize.ensures.exact (Forbids c.put_between.new.between) c.put_between.ensures.triples
-    refl c.force.ensures.len (c.force.ensures.pairs done)
-
-pub returns-clause-acyclic : goal.returns-clause-acyclic
-returns-clause-acyclic c done e f =
-    c.force.ensures.cycle.1 (
-      e,
-      forced_whole (box_of c.args.self.now c.synchronize.new.frame) c.synchronize.new.frame c.synchronize.new.frame c.synchronize.ensures.contained
-          c.synchronize.ensures.exact (Forbids c.put_between.new.between) c.put_between.ensures.triples e e f,
-    ) done
+pub returns-clause-settled : goal.returns-clause-settled
+returns-clause-settled c done =
+    let now = c.synchronize.new.frame in
+    let box = box_of c.args.self.now now in
+    let forbidden = Forbids c.put_between.new.between in
+    let is = c.synchronize.ensures in
+    let triples = c.put_between.ensures.triples in
+    record {
+      exact = forced_exact box now _ is.contained is.exact forbidden triples refl c.force.ensures.len (c.force.ensures.pairs done);
+      acyclic = λ e f. c.force.ensures.cycle.1 (e, forced_whole box now now is.contained is.exact forbidden triples e e f) done;
+      coherent = λ k r b w below at there. absurd (omega (arith, below));
+    }
 
 pub returns-clause-cycle : goal.returns-clause-cycle
 returns-clause-cycle c failed =

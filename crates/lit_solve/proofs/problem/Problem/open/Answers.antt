@@ -1,5 +1,6 @@
 use Rattle.lit_solve.proofs.Words.{◌<◌, ap, AreEventsIn, ArePeers, arith, BYTE_READ_LIMIT, byte_reads, combinations_of, Event, events_on}
-use Rattle.lit_solve.proofs.Words.{IsCandidate, IsLitmus, IsRefusedOn, length, length-set, List, Litmus, names_of, slice_get}
+use Rattle.lit_solve.proofs.Words.{below_more, common_steps, IsCandidate, IsLitmus, IsRefusedOn, length, length-set, List, Litmus}
+use Rattle.lit_solve.proofs.Words.{names_of, nat_tests, not, or_parts, path_in, slice_get}
 use Rattle.lit_solve.proofs.Words.{slice_get_within, Some, subst, sym, ℕ, ◌∙◌, ◌≡◌, ◌≤◌}
 use Rattle.lit_solve.proofs.CandidateLemmas.{sets_more}
 use Rattle.lit_solve.proofs.PruningLemmas.{as_many}
@@ -42,6 +43,14 @@ loop-place-preserved c =
           ));
     }
 
+pub loop-agent-preserved : goal.loop-agent-preserved
+loop-agent-preserved c none =
+    let parts = or_parts c.loop-agent.guarded (not c.is_empty.result) none in
+    let here : length (path_in c.enter-combination.result.0 c.enter-combination.result.1 c.loop-agent.agent).tests ≡ 0 =
+    grind (arith, common_steps, nat_tests, parts.1, c.is_empty.ensures, c.tests.ensures, c.path.ensures.exact) in
+    below_more (λ i. length (path_in c.enter-combination.result.0 c.enter-combination.result.1 i).tests ≡ 0) c.loop-agent.agent
+    (c.loop-agent.invariant parts.0) here
+
 pub invariant_of-result : goal.invariant_of-result
 invariant_of-result c =
     let events = events_on c.enter-combination.result in
@@ -58,4 +67,7 @@ invariant_of-result c =
       same_range = subst (λ (es : List Event). ArePeers es c.peers_of-peers.result) same c.peers_of-peers.ensures;
       named = c.names.ensures.value ∙ ap (λ (p : Litmus × ℕ). names_of p.0) (sym entered);
       few_names = c.names.ensures.few;
+      unguarded = λ none asked value bad.
+          let known : bad.agent < c.loop-agent.agent = omega (arith, ap (λ (t : Litmus). length t.agents) c.test.ensures) in
+          absurd (omega (arith, slice_get_within _ bad.place bad.test bad.at_place, c.loop-agent.invariant none bad.agent known));
     }

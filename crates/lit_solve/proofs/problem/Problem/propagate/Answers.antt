@@ -1,9 +1,5 @@
-use Rattle.lit_solve.proofs.Words.{AreCoherentAt, box_of, Frame, inl, refl, subst, sym}
+use Rattle.lit_solve.proofs.Words.{box_of, inl}
 use Rattle.lit_solve.proofs.problem.Problem.propagate.Goals as goal
-
-pub returns-in-Same-clause-coherent : goal.returns-in-Same-clause-coherent
-returns-in-Same-clause-coherent c done =
-    subst (λ (frame : Frame). AreCoherentAt (box_of c.args.self.now frame) frame) (sym (c.in-Same.ensures.same refl)) (c.in-Same.ensures.coherent refl)
 
 pub returns-clause-none : goal.returns-clause-none
 returns-clause-none c failed x is =

@@ -1,37 +1,61 @@
-use Rattle.lit_solve.proofs.Words.{◌<◌, ap, arith, box_of, false≢true, length, not, sym, ◌∙◌}
-use Rattle.lit_solve.proofs.DomainLemmas.{pruned_contained, prunes, none_if_empty, size_less}
+use Rattle.lit_solve.proofs.Words.{◌<◌, ap, arith, box_of, EventSet, false≢true, HasEvent, IsContained, length, not, size_of, slice_set}
+use Rattle.lit_solve.proofs.Words.{subst, sym, ◌∙◌}
+use Rattle.lit_solve.proofs.DomainLemmas.{domain_here, frame_at, pruned_at, pruned_contained, prunes, none_if_empty, size_less}
+use Rattle.lit_solve.proofs.OpeningLemmas.{settled_below_still, settled_more}
 use Rattle.lit_solve.proofs.PruningLemmas.{some_exactly}
 use Rattle.lit_solve.proofs.problem.Problem.prune_at.Goals as goal
 
-pub returns-then-is_empty-clause-empty : goal.returns-then-is_empty-clause-empty
-returns-then-is_empty-clause-empty c _ =
+pub returns-then-is_empty-clause-none : goal.returns-then-is_empty-clause-none
+returns-then-is_empty-clause-none c =
     let box = box_of c.args.self.now c.args.frame.now in
-    let room : c.args.place < length box.domains = omega arith in
-    none_if_empty box c.args.place c.unpruned-left.result room c.requires.contained.is_box c.events-events.ensures.sound
-    (c.completions_have_no_prunable_source.ensures box)
-    c.requires.place c.unpruned-left.ensures.prunable
+    none_if_empty box c.args.place c.unpruned-left.result (omega arith) c.requires.contained.is_box c.events-events.ensures.sound
+    (c.completions_have_no_prunable_source.ensures box) c.requires.place c.unpruned-left.ensures.prunable
     (c.is_empty.ensures.0 c.if-is_empty.true)
 
-pub returns-then-is_within-clause-coherent : goal.returns-then-is_within-clause-coherent
-returns-then-is_within-clause-coherent c _ w there = c.unpruned-left.ensures.coherent w (c.is_within.ensures.0 c.if-is_within.true w there)
+contained : (c : goal.Else-is_within)
+    → IsContained (pruned_at (box_of c.args.self.now c.args.frame.now) c.args.place c.unpruned-left.result)
+    (frame_at c.args.frame.now c.args.place c.unpruned-left.result)
+contained c =
+    let some = (some_exactly c.unpruned-left.result c.is_empty.result c.is_empty.ensures).0 (ap not c.if-is_empty.false) in
+    pruned_contained (box_of c.args.self.now c.args.frame.now) c.args.place c.unpruned-left.result (omega arith)
+    c.unpruned-left.ensures.within c.args.frame.now c.requires.contained some
+
+pub forces-forces-requires-clause-contained : goal.forces-forces-requires-clause-contained
+forces-forces-requires-clause-contained c = contained c
 
 pub returns-clause-contained : goal.returns-clause-contained
-returns-clause-contained c _ =
+returns-clause-contained c = contained c.before
+
+pub returns-then-is_within-clause-settled : goal.returns-then-is_within-clause-settled
+returns-then-is_within-clause-settled c _ was =
+    settled_more (box_of c.args.self.now c.args.frame.now) c.args.frame.now c.args.place was
+    (λ w there. c.unpruned-left.ensures.coherent w (c.is_within.ensures.0 c.if-is_within.true w there))
+
+pub returns-clause-settled : goal.returns-clause-settled
+returns-clause-settled c idle was =
     let box = box_of c.args.self.now c.args.frame.now in
-    let room : c.args.place < length box.domains = omega arith in
-    let some = (some_exactly c.unpruned-left.result c.is_empty.result c.is_empty.ensures).0 (ap not c.if-is_empty.false) in
-    pruned_contained box c.args.place c.unpruned-left.result room c.unpruned-left.ensures.within c.args.frame.now c.requires.contained some
+    let place = c.args.place in
+    let left = c.unpruned-left.result in
+    let room : place < length box.domains = omega arith in
+    settled_more (pruned_at box place left) (frame_at c.args.frame.now place left) place
+    (settled_below_still box c.args.frame.now was.exact place left room c.unpruned-left.ensures.within (contained c.before)
+    (c.forces-forces.ensures idle) place was)
+    (λ w there. c.unpruned-left.ensures.coherent w (subst (λ (set : EventSet). HasEvent set w) (domain_here box place left room) there))
 
 pub returns-clause-prunes : goal.returns-clause-prunes
-returns-clause-prunes c _ =
+returns-clause-prunes c =
     let box = box_of c.args.self.now c.args.frame.now in
-    let room : c.args.place < length box.domains = omega arith in
-    prunes box c.args.place c.unpruned-left.result room c.requires.contained.is_box c.events-events.ensures.sound
-    (c.completions_have_no_prunable_source.ensures box)
-    c.requires.place c.unpruned-left.ensures.prunable c.unpruned-left.ensures.within
+    prunes box c.args.place c.unpruned-left.result (omega arith) c.requires.contained.is_box c.events-events.ensures.sound
+    (c.completions_have_no_prunable_source.ensures box) c.requires.place c.unpruned-left.ensures.prunable c.unpruned-left.ensures.within
+
+smaller : (c : goal.Else-is_within)
+    → size_of (slice_set c.args.frame.now.domains c.args.place c.unpruned-left.result) < size_of c.args.frame.now.domains
+smaller c =
+    size_less (box_of c.args.self.now c.args.frame.now) c.args.place c.unpruned-left.result (omega arith) c.unpruned-left.ensures.within
+    (λ all. false≢true (sym c.if-is_within.false ∙ c.is_within.ensures.1 all))
 
 pub returns-clause-less : goal.returns-clause-less
-returns-clause-less c _ =
-    let box = box_of c.args.self.now c.args.frame.now in
-    let room : c.args.place < length box.domains = omega arith in
-    size_less box c.args.place c.unpruned-left.result room c.unpruned-left.ensures.within (λ all. false≢true (sym c.if-is_within.false ∙ c.is_within.ensures.1 all))
+returns-clause-less c _ = smaller c.before
+
+pub returns-clause-size : goal.returns-clause-size
+returns-clause-size c = omega (arith, smaller c.before)

@@ -16,17 +16,10 @@ returns-then-has_empty-clause-none c x is =
     (inr (inl (c.has_empty.ensures.0 c.if-has_empty.true))) (left.ensures.prunes.retained x is)
 
 pub can_fill_each-requires-clause-is_box : goal.can_fill_each-requires-clause-is_box
-can_fill_each-requires-clause-is_box c = (c.propagate.ensures.exact c.if-propagate.true).contained.is_box
+can_fill_each-requires-clause-is_box c = (c.propagate.ensures.settled c.if-propagate.true).exact.contained.is_box
 
 pub can_fill_each-requires-clause-some : goal.can_fill_each-requires-clause-some
-can_fill_each-requires-clause-some c = (c.propagate.ensures.exact c.if-propagate.true).contained.some
-
-pub returns-then-can_fill_each-clause-settled : goal.returns-then-can_fill_each-clause-settled
-returns-then-can_fill_each-clause-settled c = record {
-  exact = c.propagate.ensures.exact c.if-propagate.true;
-  acyclic = c.propagate.ensures.acyclic c.if-propagate.true;
-  coherent = c.propagate.ensures.coherent c.if-propagate.true;
-}
+can_fill_each-requires-clause-some c = (c.propagate.ensures.settled c.if-propagate.true).exact.contained.some
 
 pub returns-then-can_fill_each-clause-prunes : goal.returns-then-can_fill_each-clause-prunes
 returns-then-can_fill_each-clause-prunes c = grind (arith, common_steps, prunes_on, c.propagate.ensures.prunes)
@@ -39,7 +32,7 @@ returns-else-propagate-clause-none c x is =
     subst Completes (sym c.unsettled-frame.ensures.domains) (c.consistent-domains.ensures.prunes.retained x is) in
     elim c.else-propagate.branch [
       | else-propagate-via-then-propagate+else-can_fill_each w ↦
-          let is_box = (c.propagate.ensures.exact w.if-propagate.true).contained.is_box in
+          let is_box = (c.propagate.ensures.settled w.if-propagate.true).exact.contained.is_box in
           let retained = (c.propagate.ensures.prunes w.if-propagate.true).retained x begun in
           let fills = c.completions_fill_each_read.ensures (box_of c.args.self.now c.propagate.new.frame) x in
           not_true w.can_fill_each.result w.if-can_fill_each.false (w.can_fill_each.ensures.1 (λ r known. fills r is_box retained known))
