@@ -5,7 +5,7 @@ use Rattle.lit_solve.proofs.Words.{cases_lt, Contains-permutation, Event, EventS
 use Rattle.lit_solve.proofs.Words.{get_or_from_slice_get, HasEvent, HasSource, HasValue, HaveEachValue, inl, inr, IsCompletion, IsCut}
 use Rattle.lit_solve.proofs.Words.{IsFilled, IsFilling, IsIndependent, IsLeastFilling, IsNotGreaterOn, IsPermutation, Laws, length, Less}
 use Rattle.lit_solve.proofs.Words.{List, nat_cmp, place-left, place-middle, slice_cmp, slice_get, slice_get-get_or, slice_get_within, Some}
-use Rattle.lit_solve.proofs.Words.{stored, stored_for, subst, suc, sym, TakesFrom, value_of, zero, ℕ}
+use Rattle.lit_solve.proofs.Words.{stored_for, subst, suc, sym, TakesFrom, value_of, zero, ℕ}
 use Rattle.lit_solve.proofs.CompletionLemmas.{sourced}
 use Rattle.lit_solve.proofs.FillLemmas.{filled_by, sources_lie}
 use Rattle.lit_solve.proofs.IndependentLemmas.{completes_with}

@@ -1,4 +1,4 @@
-use Rattle.lit_solve.proofs.Words.{◌∙◌, AreSources, arith, box_events, box_with, common_steps, events_in, false, false≢true, HasOutcome}
+use Rattle.lit_solve.proofs.Words.{◌∙◌, AreSources, arith, box_events, box_with, common_steps, events_in, false≢true, HasOutcome}
 use Rattle.lit_solve.proofs.Words.{Litmus, subst, sym, ℕ}
 use Rattle.lit_solve.proofs.CompletionLemmas.{sourced}
 use Rattle.lit_solve.proofs.EntryLemmas.{adds_one, each_recorded, least_entry}

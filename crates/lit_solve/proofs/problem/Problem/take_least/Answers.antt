@@ -1,5 +1,5 @@
-use Rattle.lit_solve.proofs.Words.{◌∙◌, ◌≡◌, arith, Box, box_of, Execution, false, Frame, HasAlone, HasEvent, IsCompletion, IsCut}
-use Rattle.lit_solve.proofs.Words.{IsSettled, IsSolution, refl, slice_get, Some, split_less, subst, sym, true, ℕ}
+use Rattle.lit_solve.proofs.Words.{◌∙◌, ◌≡◌, arith, Box, box_of, Execution, Frame, HasAlone, HasEvent, IsCompletion, IsCut}
+use Rattle.lit_solve.proofs.Words.{IsSettled, IsSolution, refl, slice_get, Some, split_less, subst, sym, ℕ}
 use Rattle.lit_solve.proofs.DescendingLemmas.{cut_alone, lowest_at}
 use Rattle.lit_solve.proofs.FrameLemmas.{not_true}
 use Rattle.lit_solve.proofs.PruningLemmas.{source_known}
