@@ -97,7 +97,7 @@ impl Problem<'_> {
     {
         let mut fillings = Vec::new(alloc);
         self.add_fillings(domains, read, &mut fillings)?;
-        // Outcomes are then recorded in rising order, and to sort them takes little time.
+        // Outcomes are then recorded in rising order, and to sort them takes little time (decision 124).
         fillings.sort_unstable_by_key(|filling: &Filling| -> u32 { filling.value });
         let registers = self.registers_of(read);
         reads.push(OpenRead {

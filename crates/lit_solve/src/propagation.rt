@@ -12,7 +12,7 @@ use lit_rel::Between;
 
 impl Problem<'_> {
     /// Derives the relations of a frame from its domains, and prunes the domains by them, until that forces nothing more. Answers
-    /// `false` if that refutes the box.
+    /// `false` if that refutes the box (decision 123).
     pub(crate) fn propagate(&self, frame: &mut Frame) -> bool
         requires { IsContained (box_of self.now frame.old) frame.old }
         ensures prunes { IsTrue result → Prunes (box_of self.now frame.old) (box_of self.now frame.new) }
