@@ -8,7 +8,7 @@ ghost use Rattle.lit_rel.specs.Broken.{HasFalseGuardOn};
 ghost use Rattle.lit_rel.specs.EventSet.{HasEvent};
 ghost use Rattle.lit_solve.specs.Box.{HasEmptyDomain, IsBox, box_with, events_on};
 ghost use Rattle.lit_solve.specs.Fill.{CanFill};
-ghost use Rattle.lit_solve.specs.Internal.Filling.{CanFillOn, HasRoom, TakesOn, WholeWith, WouldNotTear};
+ghost use Rattle.lit_solve.specs.Internal.Filling.{CanFillOn, HasRoom, IsFirstPlace, TakesOn, WholeWith, WouldNotTear};
 
 use crate::domains::Domains;
 use crate::problem::Problem;
@@ -59,18 +59,14 @@ pub(crate) fn storing(events: &[Event], among: EventSet, byte: u8, stored: u8) -
 }
 
 impl Problem<'_> {
-    /// The place of the first byte read of this read or of a later one, or how many byte reads there are.
+    /// The place of the first byte read of a read or of a later one, or how many byte reads there are.
     pub(crate) fn first_place(&self, read: u8) -> usize
-        ensures within { result ≤ length (byte_reads (events_on self.now)) }
-        ensures before { (k q b : ℕ) → k < result → slice_get (byte_reads (events_on self.now)) k ≡ Some (q, b) → q < read }
-        ensures later { (k q b : ℕ) → result ≤ k → slice_get (byte_reads (events_on self.now)) k ≡ Some (q, b) → read ≤ q }
+        requires { read < length (events_on self.now) }
+        ensures { IsFirstPlace (events_on self.now) read result }
     {
-        for place in 0..self.reads() {
-            if self.byte_read(place).read >= read {
-                return place;
-            }
-        }
-        self.reads()
+        // For the prover: a combination has few events.
+        let _events = self.events();
+        usize::from(self.firsts[usize::from(read)])
     }
 
     /// Whether the byte read at a place, if there is one, is of this read.

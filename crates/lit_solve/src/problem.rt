@@ -6,13 +6,38 @@ ghost use Rattle.lit_paths.specs.Choice.{combinations_of};
 ghost use Rattle.lit_paths.specs.Plan.{AreEventsIn};
 ghost use Rattle.lit_paths.specs.declared.limits.TheConstants.{BYTE_READ_LIMIT};
 ghost use Rattle.lit_solve.specs.Box.{events_on};
+ghost use Rattle.lit_solve.specs.Internal.Filling.{AreFirstPlaces, IsFirstPlace};
 
 use crate::domains::{Domains, candidates_of};
 use crate::node_consistency::refused_among;
-use lit_paths::{BYTE_READ_LIMIT, ByteRead, Combination, Event, Plan};
+use lit_paths::{BYTE_READ_LIMIT, ByteRead, Combination, EVENT_LIMIT, Event, Plan};
 use lit_rel::laws::byte_reads_are_of_events;
 use lit_rel::{EventSet, Rows, peers_of};
 use std::marker::Model;
+
+/// Where the byte reads of an event or of a later one begin, or how many byte reads there are.
+fn first_place_of(combination: &Combination<'_>, event: usize) -> usize
+    ensures { IsFirstPlace (events_on combination.now) event result }
+{
+    let reads = combination.byte_reads();
+    for place in 0..reads.len() {
+        if usize::from(reads[place].read) >= event {
+            return place;
+        }
+    }
+    reads.len()
+}
+
+/// The same for each event.
+fn first_places(combination: &Combination<'_>) -> [u8; EVENT_LIMIT]
+    ensures { AreFirstPlaces (events_on combination.now) result }
+{
+    let mut places = [0; EVENT_LIMIT];
+    for event in 0..combination.events().len() {
+        places[event] = first_place_of(combination, event) as u8;
+    }
+    places
+}
 
 /// A combination of paths as a constraint satisfaction problem: its byte reads are the variables. A clause sees it as the test's value
 /// and the combination's number.
@@ -27,6 +52,8 @@ pub struct Problem<'p> {
     pub(crate) peers: Rows,
     /// The registers of an outcome, as agent and register.
     pub(crate) names: &'p [(u8, u8)],
+    /// Where the byte reads of each event begin.
+    pub(crate) firsts: [u8; EVENT_LIMIT],
     /// Whether some path has a guard.
     pub(crate) guarded: bool,
 }
@@ -44,7 +71,7 @@ impl<'p> Model for Problem<'p> {
 
     ghost view = { λ p. p.combination };
 
-    ghost invariant = { λ p. IsProblem p.combination p.candidates p.refused p.peers p.names.now p.guarded };
+    ghost invariant = { λ p. IsProblem p.combination p.candidates p.refused p.peers p.names.now p.firsts p.guarded };
 }
 
 impl<'p> Problem<'p> {
@@ -68,12 +95,14 @@ impl<'p> Problem<'p> {
         for agent in 0..combination.test().agents() {
             guarded |= !combination.path(agent).tests().is_empty();
         }
+        let firsts = first_places(&combination);
         Problem {
             combination,
             candidates,
             refused,
             peers,
             names: plan.names(),
+            firsts,
             guarded,
         }
     }

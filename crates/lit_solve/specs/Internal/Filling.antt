@@ -1,6 +1,6 @@
 -- Filling a read byte by byte: which sources its other bytes may have, beside those of its first bytes.
 use Rattle.std.specs.Prelude.{◌≡◌, ◌⊎◌, ◌↔◌, ℕ, ◌+◌, ◌*◌, ◌^◌, ◌<◌, ◌≤◌, ◌==◌, List}
-use Rattle.std.specs.Prelude.{Some, drop, filter, length, map, slice_get}
+use Rattle.std.specs.Prelude.{Some, drop, filter, length, map, slice_get, slice_index_or}
 use Rattle.std.specs.List.{zip}
 use Rattle.lit_paths.specs.declared.event.Event.{Event}
 use Rattle.lit_paths.specs.ByteReads.{byte_reads}
@@ -11,6 +11,16 @@ use Rattle.lit_rel.specs.ReadsFrom.{composed}
 use Rattle.lit_rel.specs.TearFree.{CanReadWhole}
 use Rattle.lit_solve.specs.declared.filling.Taken.{Taken}
 use Rattle.lit_solve.specs.Box.{Box, HasSource, box_events}
+
+-- the byte reads of events from this one on begin at the k-th, or there are no more than k
+pub record IsFirstPlace (events : List Event) (event k : ℕ) : Type 0 where
+  pub within : k ≤ length (byte_reads events)
+  pub before : (j r b : ℕ) → j < k → slice_get (byte_reads events) j ≡ Some (r, b) → r < event
+  pub later : (j r b : ℕ) → k ≤ j → slice_get (byte_reads events) j ≡ Some (r, b) → event ≤ r
+
+-- one for each event
+abbrev pub AreFirstPlaces : List Event → List ℕ → Type 0
+AreFirstPlaces events places = (event : ℕ) → event < length events → IsFirstPlace events event (slice_index_or places event 0)
 
 -- the byte reads from the k-th on
 abbrev pub reads_on : List Event → ℕ → List (ℕ × ℕ)

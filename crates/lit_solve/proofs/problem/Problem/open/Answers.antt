@@ -1,7 +1,7 @@
-use Rattle.lit_solve.proofs.Words.{◌<◌, ap, AreEventsIn, ArePeers, arith, BYTE_READ_LIMIT, byte_reads, combinations_of, Event, events_on}
-use Rattle.lit_solve.proofs.Words.{below_more, common_steps, IsCandidate, IsLitmus, IsRefusedOn, length, length-set, List, Litmus}
-use Rattle.lit_solve.proofs.Words.{names_of, nat_tests, not, or_parts, path_in, slice_get}
-use Rattle.lit_solve.proofs.Words.{slice_get_within, Some, subst, sym, ℕ, ◌∙◌, ◌≡◌, ◌≤◌}
+use Rattle.lit_solve.proofs.Words.{◌<◌, ◌∙◌, ◌≡◌, ◌≤◌, ap, AreEventsIn, ArePeers, arith, below_more, BYTE_READ_LIMIT, byte_reads}
+use Rattle.lit_solve.proofs.Words.{combinations_of, common_steps, Event, events_on, IsCandidate, IsLitmus, IsRefusedOn, length}
+use Rattle.lit_solve.proofs.Words.{length-set, List, Litmus, names_of, nat_tests, not, or_parts, path_in, slice_get, slice_get_within, Some}
+use Rattle.lit_solve.proofs.Words.{subst, sym, ℕ}
 use Rattle.lit_solve.proofs.CandidateLemmas.{sets_more}
 use Rattle.lit_solve.proofs.PruningLemmas.{as_many}
 use Rattle.lit_solve.proofs.problem.Problem.open.Goals as goal
@@ -67,6 +67,7 @@ invariant_of-result c =
       same_range = subst (λ (es : List Event). ArePeers es c.peers_of-peers.result) same c.peers_of-peers.ensures;
       named = c.names.ensures.value ∙ ap (λ (p : Litmus × ℕ). names_of p.0) (sym entered);
       few_names = c.names.ensures.few;
+      first_places = c.first_places-firsts.ensures;
       unguarded = λ none asked value bad.
           let known : bad.agent < c.loop-agent.agent = omega (arith, ap (λ (t : Litmus). length t.agents) c.test.ensures) in
           absurd (omega (arith, slice_get_within _ bad.place bad.test bad.at_place, c.loop-agent.invariant none bad.agent known));
