@@ -111,7 +111,6 @@ pub use Rattle.lit_rel.proofs.ValueLemmas.{length-stored, stored}
 pub use Rattle.lit_solve.specs.DataRace.{CanFillFrom, CanRaceIn, HasSourceOf, MayRaceIn}
 pub use Rattle.lit_solve.specs.declared.observation.ReadValue.{ReadValue}
 pub use Rattle.lit_solve.specs.declared.goal.Prospect.{Prospect}
-pub use Rattle.lit_solve.specs.declared.pruning.Pruned.{Pruned}
 pub use Rattle.lit_valid.proofs.CompletionLemmas.{example, example_paths, example_valid, its_outcome, not_broken}
 pub use Rattle.lit_valid.specs.Class.{is_of_class}
 pub use Rattle.lit_valid.specs.declared.class.Class.{Class}

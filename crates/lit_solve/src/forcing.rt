@@ -34,10 +34,8 @@ impl Problem<'_> {
         // For the prover: the source is an event of the combination, which has few.
         let _read = self.byte_read(place);
         let _events = self.events();
-        match only_one(frame.domains[place]) {
-            Some(source) => Some(source),
-            None => None,
-        }
+        let source = only_one(frame.domains[place])?;
+        Some(source)
     }
 
     /// Whether the byte read at a place has one source left, and this can force something.

@@ -23,9 +23,7 @@ impl Problem<'_> {
     {
         let mut between = Between::new(0);
         self.put_between(frame, &mut between);
-        match least_of(&frame.forced, &between) {
-            Some(order) => Some(order),
-            None => None,
-        }
+        let order = least_of(&frame.forced, &between)?;
+        Some(order)
     }
 }

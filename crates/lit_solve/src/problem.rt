@@ -6,7 +6,7 @@ ghost use Rattle.lit_paths.specs.Choice.{combinations_of};
 ghost use Rattle.lit_paths.specs.Plan.{AreEventsIn};
 ghost use Rattle.lit_paths.specs.declared.limits.TheConstants.{BYTE_READ_LIMIT};
 ghost use Rattle.lit_solve.specs.Box.{events_on};
-ghost use Rattle.lit_solve.specs.Internal.Filling.{AreFirstPlaces, IsFirstPlace};
+ghost use Rattle.lit_solve.specs.Internal.Filling.{IsFirstPlace};
 
 use crate::domains::{Domains, candidates_of};
 use crate::node_consistency::refused_among;
@@ -26,17 +26,6 @@ fn first_place_of(combination: &Combination<'_>, event: usize) -> usize
         }
     }
     reads.len()
-}
-
-/// The same for each event.
-fn first_places(combination: &Combination<'_>) -> [u8; EVENT_LIMIT]
-    ensures { AreFirstPlaces (events_on combination.now) result }
-{
-    let mut places = [0; EVENT_LIMIT];
-    for event in 0..combination.events().len() {
-        places[event] = first_place_of(combination, event) as u8;
-    }
-    places
 }
 
 /// A combination of paths as a constraint satisfaction problem: its byte reads are the variables. A clause sees it as the test's value
@@ -95,7 +84,10 @@ impl<'p> Problem<'p> {
         for agent in 0..combination.test().agents() {
             guarded |= !combination.path(agent).tests().is_empty();
         }
-        let firsts = first_places(&combination);
+        let mut firsts = [0; EVENT_LIMIT];
+        for event in 0..combination.events().len() {
+            firsts[event] = first_place_of(&combination, event) as u8;
+        }
         Problem {
             combination,
             candidates,

@@ -23,10 +23,10 @@ impl Problem<'_> {
         refuted_boxes_have_no_completion();
         let mut between = Between::new(0);
         'propagation: while self.force(frame, &mut between) {
-            let Some(pruned) = self.prune(frame) else {
+            let Some(forces) = self.prune(frame) else {
                 return false;
             };
-            if !pruned.forces {
+            if !forces {
                 return true;
             }
         }

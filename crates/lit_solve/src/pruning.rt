@@ -23,13 +23,6 @@ use crate::problem::Problem;
 use lit_paths::event_at;
 use lit_rel::{EventSet, can_read_whole};
 
-/// What pruning did that left no domain empty.
-#[derive(Clone, Copy)]
-pub(crate) struct Pruned {
-    /// Whether it left some domain one source, and this can force something. If not, a frame's relations stay those of its box.
-    pub forces: bool,
-}
-
 impl Problem<'_> {
     /// Whether the byte read at a place is coherent (29.7.2) with a source, by a frame's happens-before, which is acyclic.
     fn is_coherent(&self, frame: &Frame, place: usize, source: usize) -> bool
@@ -186,17 +179,18 @@ impl Problem<'_> {
         left
     }
 
-    /// Prunes the domain of the byte read at a place. `None` if that leaves none of its sources. The frame's happens-before is acyclic.
-    fn prune_at(&self, frame: &mut Frame, place: usize) -> Option<Pruned>
+    /// Prunes the domain of the byte read at a place. `None` if that leaves none of its sources; else whether it cut the domain to one
+    /// source that can force something. The frame's happens-before is acyclic.
+    fn prune_at(&self, frame: &mut Frame, place: usize) -> Option<bool>
         requires place { place < length (byte_reads (events_on self.now)) }
         requires contained { IsContained (box_of self.now frame.old) frame.old }
         requires acyclic { (e : ℕ) → ¬ Holds frame.old.happens_before.rows e e }
         ensures before { frame.new.happens_before ≡ frame.old.happens_before }
         ensures contained { IfSome result (λ _. IsContained (box_of self.now frame.new) frame.new) }
         ensures prunes { IfSome result (λ _. Prunes (box_of self.now frame.old) (box_of self.now frame.new)) }
-        ensures settled { IfSome result (λ pruned. IsFalse pruned.forces → IsSettledBelow (box_of self.now frame.old) frame.old place
+        ensures settled { IfSome result (λ forces. IsFalse forces → IsSettledBelow (box_of self.now frame.old) frame.old place
             → IsSettledBelow (box_of self.now frame.new) frame.new (place + 1)) }
-        ensures less { IfSome result (λ pruned. IsTrue pruned.forces → size_of frame.new.domains < size_of frame.old.domains) }
+        ensures less { IfSome result (λ forces. IsTrue forces → size_of frame.new.domains < size_of frame.old.domains) }
         ensures size { size_of frame.new.domains ≤ size_of frame.old.domains }
         ensures none { IfNone result (HasNoCompletion (box_of self.now frame.old)) }
     {
@@ -208,27 +202,27 @@ impl Problem<'_> {
             return None;
         }
         if frame.domains[place].is_within(left) {
-            return Some(Pruned { forces: false });
+            return Some(false);
         }
         frame.domains[place] = left;
         let forces = self.forces(&*frame, place);
-        Some(Pruned { forces })
+        Some(forces)
     }
 
-    /// Prunes each domain once. `None` if that leaves a domain empty.
-    pub(crate) fn prune(&self, frame: &mut Frame) -> Option<Pruned>
+    /// Prunes each domain once. `None` if that leaves a domain empty; else whether it cut one to a source that can force something.
+    pub(crate) fn prune(&self, frame: &mut Frame) -> Option<bool>
         requires { IsSettledBelow (box_of self.now frame.old) frame.old 0 }
         ensures contained { IfSome result (λ _. IsContained (box_of self.now frame.new) frame.new) }
         ensures prunes { IfSome result (λ _. Prunes (box_of self.now frame.old) (box_of self.now frame.new)) }
-        ensures settled { IfSome result (λ pruned. IsFalse pruned.forces → IsSettled (box_of self.now frame.new) frame.new) }
-        ensures less { IfSome result (λ pruned. IsTrue pruned.forces → size_of frame.new.domains < size_of frame.old.domains) }
+        ensures settled { IfSome result (λ forces. IsFalse forces → IsSettled (box_of self.now frame.new) frame.new) }
+        ensures less { IfSome result (λ forces. IsTrue forces → size_of frame.new.domains < size_of frame.old.domains) }
         ensures size { size_of frame.new.domains ≤ size_of frame.old.domains }
         ensures none { IfNone result (HasNoCompletion (box_of self.now frame.old)) }
     {
         let mut forces = false;
         for place in 0..self.reads() {
-            forces |= self.prune_at(frame, place)?.forces;
+            forces |= self.prune_at(frame, place)?;
         }
-        Some(Pruned { forces })
+        Some(forces)
     }
 }

@@ -1,6 +1,6 @@
-use Rattle.lit_solve.proofs.Words.{◌<◌, BYTE_READ_LIMIT, byte_reads, events_on, HasEvent, IsCandidate, IsRefusedOn, length, no_events}
+use Rattle.lit_solve.proofs.Words.{◌<◌, ◌↔◌, ◌≡◌, BYTE_READ_LIMIT, byte_reads, EVENT_LIMIT, events_on, get_or, HasEvent, IsCandidate}
+use Rattle.lit_solve.proofs.Words.{IsFirstPlace, IsRefusedOn, length, no_events, path_in, slice_get, slice_index_or, Some, ℕ}
 use Rattle.std.specs.Prelude.{IsFalse}
-use Rattle.lit_solve.proofs.Words.{path_in, slice_get, slice_index_or, Some, ℕ, ◌↔◌, ◌≡◌}
 use Rattle.lit_solve.proofs.problem.Problem.open.Given as goal
 
 abbrev pub invariant-loop-place : goal.invariant-loop-place
@@ -15,3 +15,9 @@ invariant-loop-place l = record {
 
 abbrev pub invariant-loop-agent : goal.invariant-loop-agent
 invariant-loop-agent l = IsFalse l.guarded → (i : ℕ) → i < l.agent → length (path_in l.combination.0 l.combination.1 i).tests ≡ 0
+
+abbrev pub invariant-loop-event : goal.invariant-loop-event
+invariant-loop-event l = record {
+  room : length l.firsts ≡ EVENT_LIMIT;
+  are : (event : ℕ) → event < l.event → IsFirstPlace (events_on l.combination) event (get_or l.firsts event 0);
+}

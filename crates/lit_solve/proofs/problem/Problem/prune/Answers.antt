@@ -13,7 +13,7 @@ pub loop-place-preserved : goal.loop-place-preserved
 loop-place-preserved c =
     let was = c.loop-place.invariant in
     let step = c.in_ok-forces.ensures in
-    let forces = c.in_ok-forces.field-0.forces in
+    let forces = c.in_ok-forces.field-0 in
     record {
       before = step.before ∙ was.before;
       contained = step.contained;
