@@ -1,3 +1,4 @@
+pub mod ChoiceNumbers
 pub mod Written
 pub mod Putting
 pub mod SourceLines

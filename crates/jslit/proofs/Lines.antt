@@ -26,6 +26,10 @@ short_name_is [] behind number d one small = absurd cc
 short_name_is (x ∷ []) behind number d one small = rw (decimal_digit number small) refl
 short_name_is (x ∷ y ∷ ys) behind number d one small = absurd (let e = one in cc)
 
+-- the name of an event that makes a byte, of one digit
+pub short_init_is : (byte : ℕ) → byte < 10 → codes " init[" ++ (48 + byte) ∷ codes "]" ≡ (codes " init[" ++ decimal byte) ++ codes "]"
+short_init_is byte small = rw (decimal_digit byte small) refl
+
 -- the name of an agent's access
 pub access_name : (t : Litmus) (e : Event) (agent : ℕ) (name bytes : List ℕ) → e.owner ≡ Some agent → name ≡ (agent_of t agent).name → bytes ≡ name
     → codes " " ++ bytes ++ codes "." ++ decimal e.place ≡ codes " " ++ event_name t e

@@ -1,4 +1,5 @@
 -- Notions of the contracts of private functions, and of how a fault of a lower crate becomes one of a run.
+pub mod ChoiceSources
 pub mod Faults
 pub mod Reading
 pub mod FirstEntry

@@ -1,6 +1,7 @@
 //! The output buffer of a report: text on its way to a writer.
 
 pub(crate) mod cached_text;
+pub(crate) mod choice_sources;
 pub(crate) mod digits;
 pub(crate) mod entry_cache;
 pub(crate) mod refusal_writer;
@@ -61,6 +62,14 @@ impl Buffer {
         ensures { HasPutOn W.contents output.old output.new self.old self.new (byte ∷ []) }
     {
         self.put(output, &[byte]);
+    }
+
+    /// Puts four bytes. They are joined to one number, since a processor is slow to read at once what it has stored byte by byte.
+    #[inline]
+    pub(crate) fn put_four<W: Write>(&mut self, output: &mut Counted<W>, bytes: [u8; 4])
+        ensures { HasPutOn W.contents output.old output.new self.old self.new bytes }
+    {
+        self.put(output, &u32::from_le_bytes(bytes).to_le_bytes());
     }
 
     /// Writes the waiting bytes, and then puts these. Bytes that the empty buffer has no room for go straight to the writer.

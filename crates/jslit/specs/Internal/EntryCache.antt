@@ -1,4 +1,4 @@
--- The cache of the text that an entry can share with the one before.
+-- The cache of what an entry can share with the one before.
 use Rattle.std.specs.Prelude.{ℕ, List, [], ◌∷◌, ◌++◌, codes, drop, length}
 use Rattle.std.specs.Fmt.{decimal}
 use Rattle.lit_read.specs.Syntax.{Litmus, agent_of}
@@ -11,6 +11,7 @@ use Rattle.jslit.specs.declared.buffer.entry_cache.CachedOrder.{CachedOrder}
 use Rattle.jslit.specs.ReportText.{line, names_text, registers_text}
 use Rattle.jslit.specs.Internal.CachedText.{HoldsText}
 use Rattle.jslit.specs.Internal.CachedLines.{HoldsLines}
+use Rattle.jslit.specs.Internal.ChoiceSources.{HoldsSources}
 
 -- a register of an outcome up to its value
 abbrev pub register_head : Litmus → ℕ × ℕ → List ℕ
@@ -44,8 +45,9 @@ HoldsOutcome t names cached = HoldsText cached.text (outcome_head t names cached
 abbrev pub HoldsOrder : Litmus → List Event → CachedOrder → Type 0
 HoldsOrder t events cached = HoldsText cached.text (order_line t events cached.order.now)
 
--- all cached texts are of this test, and of this combination of its paths
+-- the cached sources and texts are of this test, and of this combination of its paths
 pub record IsCacheOf (t : Litmus) (c : ℕ) (cache : EntryCache) : Type 0 where
+  pub sources : HoldsSources t c cache.sources
   pub outcome : HoldsOutcome t (names_of t) cache.outcome
   pub lines : HoldsLines t (events_in t c) cache.lines
   pub order : HoldsOrder t (events_in t c) cache.order

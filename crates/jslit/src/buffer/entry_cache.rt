@@ -12,6 +12,7 @@ ghost use Rattle.jslit.specs.Internal.Writing.{HasPutOn};
 
 use crate::buffer::Buffer;
 use crate::buffer::cached_text::CachedText;
+use crate::buffer::choice_sources::ChoiceSources;
 use crate::buffer::report_writer::{put_events, put_register_head, put_registers};
 use crate::buffer::source_lines::{CachedLines, put_lines};
 use crate::counted::Counted;
@@ -34,9 +35,10 @@ pub(crate) struct CachedOrder<'f> {
     text: CachedText,
 }
 
-/// The cached text that an entry can share with the one before.
+/// The sources and the text that an entry can share with the one before.
 #[derive(Drop)]
 pub(crate) struct EntryCache<'f> {
+    sources: ChoiceSources,
     outcome: CachedOutcome<'f>,
     lines: CachedLines,
     order: CachedOrder<'f>,
@@ -50,10 +52,12 @@ impl<'f> EntryCache<'f> {
     pub(crate) fn new() -> Self
         ensures { (t : Litmus) (c : ℕ) → IsCacheOf t c result }
     {
+        let sources = ChoiceSources::new();
         let outcome = CachedText::new();
         let lines = CachedLines::new();
         let order = CachedText::new();
         EntryCache {
+            sources,
             outcome: CachedOutcome {
                 values: &[],
                 text: outcome,
@@ -249,7 +253,7 @@ fn put_cached_order<'f, W: Write>(
     put_order(buffer, output, test, events, order);
 }
 
-/// Enters the combination of a choice, unless it is entered. It then drops the text cached of the other combination's events.
+/// Enters the combination of a choice, unless it is entered. It then drops what is cached of the other combination.
 fn enter_for<'p>(
     plan: &'p Plan<'p>,
     entered: &mut Combination<'p>,
@@ -268,6 +272,7 @@ fn enter_for<'p>(
         return;
     }
     plan.reenter(entered, plan.combination(choice));
+    cache.sources.forget();
     cache.lines.forget();
     cache.order.text.forget();
 }
@@ -297,8 +302,8 @@ pub(crate) fn put_entry<'p, 'f, W: Write>(
     combinations_are_listed();
     let test = plan.test();
     enter_for(plan, combination, choice, cache);
+    cache.sources.find(&*combination, choice);
     let events = combination.events();
-    let sources = combination.sources(choice);
     put_outcome(
         buffer,
         output,
@@ -312,7 +317,7 @@ pub(crate) fn put_entry<'p, 'f, W: Write>(
         output,
         test,
         events,
-        sources.as_slice(),
+        cache.sources.sources.as_slice(),
         &mut cache.lines,
     );
     put_cached_order(buffer, output, test, events, order, &mut cache.order);

@@ -27,19 +27,45 @@ use lit_read::Test;
 use lit_search::Found;
 use std::io::Write;
 
+/// Puts a blank and the name of an access, by its agent's name and its place. It is not inlined, so that `put_event` stays small.
+#[inline(never)]
+fn put_long_access<W: Write>(buffer: &mut Buffer, output: &mut Counted<W>, agent: &[u8], place: u8)
+    ensures { HasPutOn W.contents output.old output.new buffer.old buffer.new
+        (codes " " ++ agent.now ++ codes "." ++ decimal place) }
+{
+    buffer.put_byte(output, b' ');
+    buffer.put(output, agent);
+    buffer.put_byte(output, b'.');
+    buffer.put_number(output, place as u64);
+}
+
 /// Puts a blank and the name of an access, by its agent's name and its place. It puts a short name in one call.
 fn put_access<W: Write>(buffer: &mut Buffer, output: &mut Counted<W>, agent: &[u8], place: u8)
     ensures { HasPutOn W.contents output.old output.new buffer.old buffer.new
         (codes " " ++ agent.now ++ codes "." ++ decimal place) }
 {
     if agent.len() == 1 && place < 10 {
-        buffer.put(output, &[b' ', agent[0], b'.', b'0' + place]);
+        buffer.put_four(output, [b' ', agent[0], b'.', b'0' + place]);
         return;
     }
-    buffer.put_byte(output, b' ');
-    buffer.put(output, agent);
-    buffer.put_byte(output, b'.');
-    buffer.put_number(output, place as u64);
+    put_long_access(buffer, output, agent, place);
+}
+
+/// Puts a blank and the name of the event that makes a byte. It puts a short name in two calls, and is not inlined, as
+/// `put_long_access`.
+#[inline(never)]
+fn put_init<W: Write>(buffer: &mut Buffer, output: &mut Counted<W>, byte: u8)
+    ensures { HasPutOn W.contents output.old output.new buffer.old buffer.new
+        ((codes " init[" ++ decimal byte) ++ codes "]") }
+{
+    if byte < 10 {
+        buffer.put(output, b" ini");
+        buffer.put_four(output, [b't', b'[', b'0' + byte, b']']);
+        return;
+    }
+    buffer.put(output, b" init[");
+    buffer.put_number(output, byte as u64);
+    buffer.put_byte(output, b']');
 }
 
 /// Puts a blank and the name of an event: of a byte of the block, or of an agent's access.
@@ -54,9 +80,7 @@ pub(crate) fn put_event<W: Write>(
         (codes " " ++ event_name test.now event.now) }
 {
     let Some(agent) = event.owner else {
-        buffer.put(output, b" init[");
-        buffer.put_number(output, event.place as u64);
-        buffer.put_byte(output, b']');
+        put_init(buffer, output, event.place);
         return;
     };
     put_access(
@@ -169,7 +193,7 @@ pub(crate) fn put_sources<W: Write>(
     }
 }
 
-/// Puts a blank and the name of a register, by its agent's name and its number. It puts a short name in one call.
+/// Puts a blank and the name of a register, by its agent's name and its number. It puts a short name in two calls.
 fn put_register_name<W: Write>(
     buffer: &mut Buffer,
     output: &mut Counted<W>,
@@ -180,7 +204,8 @@ fn put_register_name<W: Write>(
         (codes " " ++ agent.now ++ codes ".r" ++ decimal register) }
 {
     if agent.len() == 1 && register < 10 {
-        buffer.put(output, &[b' ', agent[0], b'.', b'r', b'0' + register]);
+        buffer.put_four(output, [b' ', agent[0], b'.', b'r']);
+        buffer.put_byte(output, b'0' + register);
         return;
     }
     buffer.put_byte(output, b' ');
