@@ -304,14 +304,16 @@ fn put_race<W: Write>(buffer: &mut Buffer, output: &mut Counted<W>, race: bool)
     buffer.put_byte(output, b'\n');
 }
 
-/// The choice of the example with a place in a report, or 0 behind the last.
-fn choice_at(found: &Found, place: usize) -> u64
-    ensures { place < length found.now.entries → result ≡ (entry_at found.now place).choice }
+/// The choice and the order of the example with a place in a report, or none behind the last.
+fn example_at(found: &Found, place: usize) -> (u64, &[u8])
+    ensures { place < length found.now.entries
+        → (result.0 ≡ (entry_at found.now place).choice) × (result.1.now ≡ (entry_at found.now place).order) }
 {
     if place < found.len() {
-        found.example(place).choice
+        let example = found.example(place);
+        (example.choice, example.order.as_slice())
     } else {
-        0
+        (0, &[])
     }
 }
 
@@ -331,9 +333,9 @@ fn put_entries<W: Write>(
     let _some = plan.combinations();
     let mut combination = plan.enter(0);
     let mut cache = EntryCache::new();
-    let mut choice = choice_at(found, 0);
+    let (mut choice, mut order) = example_at(found, 0);
     for place in 0..found.len() {
-        let next = choice_at(found, place + 1);
+        let (next_choice, next_order) = example_at(found, place + 1);
         put_entry(
             buffer,
             output,
@@ -341,10 +343,11 @@ fn put_entries<W: Write>(
             &mut combination,
             found.outcome(place),
             choice,
-            found.example(place).order.as_slice(),
+            order,
             &mut cache,
         );
-        choice = next;
+        choice = next_choice;
+        order = next_order;
     }
 }
 

@@ -10,7 +10,7 @@ use Rattle.jslit.proofs.buffer.report_writer.put_entries.Given as goal
 abbrev pub invariant-loop-place : goal.invariant-loop-place
 invariant-loop-place g l = record {
   entered : l.combination.0 ≡ l.plan;
-  choice : l.place < length l.found.entries → l.choice ≡ (entry_at l.found l.place).choice;
+  example : l.place < length l.found.entries → (l.choice ≡ (entry_at l.found l.place).choice) × (l.order ≡ (entry_at l.found l.place).order);
   cache : IsCacheOf l.plan l.combination.1 l.cache;
   so_far : PutsOf (writing_of g.W.Write.contents l.fn.output l.fn.buffer) (writing_of g.W.Write.contents l.output l.buffer) (flat_map (entry_text l.plan) (drop l.place l.found.entries)) (flat_map (entry_text l.plan) l.found.entries);
 }
