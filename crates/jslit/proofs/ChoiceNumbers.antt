@@ -13,21 +13,13 @@ use Rattle.lit_paths.specs.ByteReads.{byte_reads, byte_read_at}
 use Rattle.lit_paths.specs.Choice.{AreSources, Choice, candidates_of, choices_of, combinations_of}
 use Rattle.lit_paths.specs.Numbers.{AreNumbered, IsBegunBy, NumbersChoices, length_product, ways_from}
 use Rattle.lit_paths.specs.Plan.{HasSources, IsOfCombination, choices_before, events_in}
-use Rattle.lit_paths.proofs.Totals.{before_all}
+use Rattle.lit_paths.proofs.ChoiceNumbers.{known_by_first, rest_none, ways_split}
 use Rattle.jslit.specs.declared.buffer.choice_sources.ChoiceSources.{ChoiceSources}
 use Rattle.jslit.specs.Internal.ChoiceSources.{HoldsSources}
-
--- a combination with a first choice is one of the test
-pub known_by_first : (t : Litmus) (c first : ℕ) → first ≡ choices_before t c → first < length (choices_of t) → c < length (combinations_of t)
-known_by_first t c first same known = grind (arith, before_all, cases_lt)
 
 pub numbers_by_first : (t : Litmus) (c first : ℕ) → ((u : Litmus) (d : ℕ) → d < length (combinations_of u) → NumbersChoices u d)
     → first ≡ choices_before t c → first < length (choices_of t) → NumbersChoices t c
 numbers_by_first t c first law same known = law t c (known_by_first t c first same known)
-
-ways_split : (events : List Event) (k : ℕ) → k < length (byte_reads events)
-    → ways_from events k ≡ length (candidates_of events (byte_read_at events k)) * ways_from events (k + 1)
-ways_split events k inside = ap (λ (rs : List (ℕ × ℕ)). length_product (map (candidates_of events) rs)) (drop_more (byte_reads events) k (0, 0) inside)
 
 -- each choice on the combination begins with no sources
 pub begun_none : (t : Litmus) (c n : ℕ) → NumbersChoices t c → choices_before t c ≤ n → n < choices_before t (c + 1) → IsBegunBy t c [] n
@@ -171,9 +163,6 @@ module _ (t : Litmus) (c : ℕ) (held more : ChoiceSources) (holds : HoldsSource
   }
 
 -- ---- a source for each byte read
-rest_none : (xs ys : List ℕ) → length xs ≡ length (xs ++ ys) → xs ++ ys ≡ xs
-rest_none xs ys long = grind (arith, common_steps)
-
 module _ (t : Litmus) (c n : ℕ) (sources : List ℕ) (of : IsOfCombination t n c) (is : IsBegunBy t c sources n)
     (whole : length sources ≡ length (byte_reads (events_in t c))) where
   same : is.choice ≡ of.choice

@@ -25,6 +25,7 @@ pub mod Totals
 pub mod WaySteps
 pub mod PlanFacts
 pub mod Entered
+pub mod ChoiceNumbers
 pub mod NumberLaws
 pub mod PlanBuilderSteps
 pub mod MakerSteps

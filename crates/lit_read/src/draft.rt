@@ -309,8 +309,41 @@ impl Draft {
         }
     }
 
+    #[tactic(auto, unfolding(crate::specs::Internal::State::if_step))]
+    fn begin_if(self, alloc: Global, reg: u8, equal: bool, value: u64) -> Result<Draft, ReadKind>
+        requires { IsState (state_view self) }
+        ensures { Returns state_view result (if_step (state_view self) reg equal value) }
+    {
+        match self {
+            Draft::Open(open) => Ok(Draft::Open(open.begin_if(alloc, reg, equal, value)?)),
+            _ => Err(ReadKind::Misplaced),
+        }
+    }
+
+    #[tactic(auto, unfolding(crate::specs::Internal::State::else_step))]
+    fn begin_else(self, alloc: Global) -> Result<Draft, ReadKind>
+        requires { IsState (state_view self) }
+        ensures { Returns state_view result (else_step (state_view self)) }
+    {
+        match self {
+            Draft::Open(open) => Ok(Draft::Open(open.begin_else(alloc)?)),
+            _ => Err(ReadKind::Misplaced),
+        }
+    }
+
+    #[tactic(auto, unfolding(crate::specs::Internal::State::end_step))]
+    fn end_if(self, alloc: Global) -> Result<Draft, ReadKind>
+        requires { IsState (state_view self) }
+        ensures { Returns state_view result (end_step (state_view self)) }
+    {
+        match self {
+            Draft::Open(open) => Ok(Draft::Open(open.end_if(alloc)?)),
+            _ => Err(ReadKind::Misplaced),
+        }
+    }
+
     /// What the lines so far and a line of this form say.
-    #[tactic(auto, unfolding(crate::specs::Internal::State::step, crate::specs::Internal::State::statement_step, crate::specs::Internal::State::if_step, crate::specs::Internal::State::else_step, crate::specs::Internal::State::end_step))]
+    #[tactic(auto, unfolding(crate::specs::Internal::State::step, crate::specs::Internal::State::statement_step))]
     fn add_form(self, alloc: Global, form: Form<'_>) -> Result<Draft, ReadKind>
         requires { IsState (state_view self) }
         ensures { Returns state_view result (step (state_view self) (form_view form.entry)) }
@@ -324,18 +357,9 @@ impl Draft {
                 Draft::Open(open) => Ok(Draft::Open(open.access(access)?)),
                 _ => Err(ReadKind::Misplaced),
             },
-            Form::If { reg, equal, value } => match self {
-                Draft::Open(open) => Ok(Draft::Open(open.begin_if(alloc, reg, equal, value)?)),
-                _ => Err(ReadKind::Misplaced),
-            },
-            Form::Else => match self {
-                Draft::Open(open) => Ok(Draft::Open(open.begin_else(alloc)?)),
-                _ => Err(ReadKind::Misplaced),
-            },
-            Form::End => match self {
-                Draft::Open(open) => Ok(Draft::Open(open.end_if(alloc)?)),
-                _ => Err(ReadKind::Misplaced),
-            },
+            Form::If { reg, equal, value } => self.begin_if(alloc, reg, equal, value),
+            Form::Else => self.begin_else(alloc),
+            Form::End => self.end_if(alloc),
         }
     }
 

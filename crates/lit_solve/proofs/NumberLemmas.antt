@@ -7,6 +7,7 @@ use Rattle.lit_solve.proofs.Words.{length-take-le, length_product, length_push, 
 use Rattle.lit_solve.proofs.Words.{nat_tests, none-some, NumbersChoices, OpenRead, place_in, refl, same_Some, share_below, shares_below}
 use Rattle.lit_solve.proofs.Words.{slice_get-get_or, slice_get_within, Some, subst, suc, sym, take, take_all, take_more, ways_from, zero, ℕ}
 use Rattle.std.proofs.Common.{slice_get}
+use Rattle.lit_paths.proofs.ChoiceNumbers.{rest_none, ways_split}
 
 -- the choices on a combination that begin with these sources have the numbers from `low` on
 pub record BeginAt (t : Litmus) (c : ℕ) (given : List ℕ) (low : ℕ) : Type 0 where
@@ -14,15 +15,8 @@ pub record BeginAt (t : Litmus) (c : ℕ) (given : List ℕ) (low : ℕ) : Type 
   pub first : choices_before t c ≤ low
   pub end : low + ways_from (events_in t c) (length given) ≤ choices_before t (c + 1)
 
-ways_split : (events : List Event) (k : ℕ) → k < length (byte_reads events)
-    → ways_from events k ≡ length (candidates_of events (byte_read_at events k)) * ways_from events (k + 1)
-ways_split events k inside = ap (λ (rs : List (ℕ × ℕ)). length_product (map (candidates_of events) rs)) (drop_more (byte_reads events) k (0, 0) inside)
-
 ways_end : (events : List Event) (k : ℕ) → length (byte_reads events) ≤ k → ways_from events k ≡ 1
 ways_end events k past = ap (λ (rs : List (ℕ × ℕ)). length_product (map (candidates_of events) rs)) (drop_all k (byte_reads events) past)
-
-rest_none : (xs ys : List ℕ) → length xs ≡ length (xs ++ ys) → xs ++ ys ≡ xs
-rest_none xs ys long = grind (arith, common_steps)
 
 module _ (t : Litmus) (c : ℕ) (numbers : NumbersChoices t c) where
   pub begin_none : BeginAt t c [] (choices_before t c)

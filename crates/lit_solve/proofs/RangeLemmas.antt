@@ -9,10 +9,6 @@ use Rattle.std.proofs.Common.{slice_get}
 use Rattle.lit_solve.proofs.CutLemmas.{IsBetween, IsInCut, between, few_boxes, found, rises}
 use Rattle.lit_solve.proofs.LexLemmas.{less_from_place, place_of_less}
 
--- a combination with a first choice is one of the test
-pub known_by_first : (t : Litmus) (c first : ℕ) → first ≡ choices_before t c → first < length (choices_of t) → c < length (combinations_of t)
-known_by_first t c first same known = grind (arith, before_all, cases_lt)
-
 -- ---- the sources of a choice
 module _ (t : Litmus) (c n : ℕ) (a : List ℕ) (of : IsOfCombination t n c) (has : HasSources t n a) where
   pub sources_are : of.choice.sources ≡ a

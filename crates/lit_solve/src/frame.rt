@@ -3,8 +3,8 @@
 use crate::domains::Domains;
 use lit_rel::TwoWayRows;
 
-/// A box with the relations that follow from it. To descend, the search copies a frame and prunes the copy; to backtrack, it drops the
-/// copy (decision 24).
+/// A box with the relations that follow from it. To descend, the search copies the frame and prunes it; to backtrack, it goes on from
+/// the copy (decision 24).
 #[derive(Clone, Copy)]
 pub(crate) struct Frame {
     /// happens-before (ECMA-262, 2024, 29.6.6) of the byte reads that have one source.

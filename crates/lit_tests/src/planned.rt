@@ -10,17 +10,17 @@ use std::process::Abort;
 use std::test::Fail;
 
 /// The test that a text spells.
-pub fn test_of(alloc: Global, text: &[u8]) -> Result<Test, Fail> {
+pub(crate) fn test_of(alloc: Global, text: &[u8]) -> Result<Test, Fail> {
     Ok(read(alloc, text)?)
 }
 
 /// The plan of a test.
-pub fn plan_of<'t>(alloc: Global, test: &'t Test) -> Result<Plan<'t>, Fail> {
+pub(crate) fn plan_of<'t>(alloc: Global, test: &'t Test) -> Result<Plan<'t>, Fail> {
     Ok(plan(alloc, test)?)
 }
 
 /// A combination by its number, which the plan has to have.
-pub fn entered<'p>(rt: &impl Abort, plan: &'p Plan<'_>, number: usize) -> Combination<'p> {
+pub(crate) fn entered<'p>(rt: &impl Abort, plan: &'p Plan<'_>, number: usize) -> Combination<'p> {
     assert!(rt; number < plan.combinations());
     plan.enter(number)
 }

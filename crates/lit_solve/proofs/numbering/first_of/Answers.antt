@@ -1,4 +1,4 @@
-use Rattle.lit_solve.proofs.RangeLemmas.{known_by_first}
+use Rattle.lit_paths.proofs.ChoiceNumbers.{known_by_first}
 use Rattle.lit_solve.proofs.numbering.first_of.Goals as goal
 
 pub returns-clause-known : goal.returns-clause-known

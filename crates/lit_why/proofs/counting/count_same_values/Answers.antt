@@ -9,7 +9,7 @@ use Rattle.lit_paths.specs.Numbers.{ways_from}
 use Rattle.lit_paths.specs.declared.limits.TheConstants.{CHOICE_LIMIT}
 use Rattle.lit_solve.specs.Box.{events_on}
 use Rattle.lit_solve.proofs.PruningLemmas.{read_here, read_listed, read_there}
-use Rattle.lit_solve.proofs.RangeLemmas.{known_by_first}
+use Rattle.lit_paths.proofs.ChoiceNumbers.{known_by_first}
 use Rattle.lit_why.proofs.WaysLemmas.{ways_all, ways_end, ways_on, ways_small, ways_step}
 use Rattle.lit_why.proofs.counting.count_same_values.Goals.{After-count_storing-count}
 use Rattle.lit_why.proofs.counting.count_same_values.Goals as goal

@@ -3,7 +3,8 @@ use Rattle.std.proofs.lemmas.List.{length-map, length-take-le}
 use Rattle.lit_paths.specs.ByteReads.{byte_reads, pair_of}
 use Rattle.lit_paths.specs.Numbers.{IsBegunBy}
 use Rattle.lit_paths.specs.Plan.{IsOfCombination, events_in}
-use Rattle.jslit.proofs.ChoiceNumbers.{holds_first, known_by_first, whole_has, whole_sourced}
+use Rattle.lit_paths.proofs.ChoiceNumbers.{known_by_first}
+use Rattle.jslit.proofs.ChoiceNumbers.{holds_first, whole_has, whole_sourced}
 use Rattle.jslit.proofs.buffer.choice_sources.ChoiceSources.find.Goals as goal
 use Rattle.jslit.proofs.buffer.choice_sources.ChoiceSources.find.Goals.{After-loop-place}
 
