@@ -57,7 +57,7 @@ pub use Rattle.lit_solve.specs.Internal.ConditionValues.{IsByteDecided, IsDecide
 pub use Rattle.lit_solve.specs.Internal.Cut.{AreEndSources, AreShared, end_sources, IsGreaterAt, IsHighEnd, IsLowEnd, IsRangeCut, IsSame}
 pub use Rattle.lit_solve.specs.Internal.Cut.{IsSide}
 pub use Rattle.lit_solve.specs.Internal.Descending.{AreAloneBelow, IsLowest, IsLowestAt, IsNotLeastAt}
-pub use Rattle.lit_solve.specs.Internal.Filling.{AreFirstPlaces, bytes_taken, CanFillOn, CanFillWith, FillsBytes, HasRoom, IsFirstPlace, LieFrom, reads_on, TakesOn}
+pub use Rattle.lit_solve.specs.Internal.Filling.{bytes_taken, CanFillOn, CanFillWith, FillsBytes, HasRoom, IsFirstPlace, LieFrom, reads_on, TakesOn}
 pub use Rattle.lit_solve.specs.Internal.Filling.{TakesWhole, WholeWith, WouldNotTear}
 pub use Rattle.lit_solve.specs.Internal.Frames.{AreCoherentAt, box_of, IsContained, IsExact, IsForbiddenAt, IsProblem, IsSynchronizedAt}
 pub use Rattle.lit_solve.specs.Internal.Independent.{FillsAll, FillsRead, HasLeastOrderIn, IsIndependent, IsLeastFilling}

@@ -61,12 +61,14 @@ pub(crate) fn storing(events: &[Event], among: EventSet, byte: u8, stored: u8) -
 impl Problem<'_> {
     /// The place of the first byte read of a read or of a later one, or how many byte reads there are.
     pub(crate) fn first_place(&self, read: u8) -> usize
-        requires { read < length (events_on self.now) }
         ensures { IsFirstPlace (events_on self.now) read result }
     {
-        // For the prover: a combination has few events.
-        let _events = self.events();
-        usize::from(self.firsts[usize::from(read)])
+        for place in 0..self.reads() {
+            if self.byte_read(place).read >= read {
+                return place;
+            }
+        }
+        self.reads()
     }
 
     /// Whether the byte read at a place, if there is one, is of this read.

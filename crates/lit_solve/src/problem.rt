@@ -6,27 +6,13 @@ ghost use Rattle.lit_paths.specs.Choice.{combinations_of};
 ghost use Rattle.lit_paths.specs.Plan.{AreEventsIn};
 ghost use Rattle.lit_paths.specs.declared.limits.TheConstants.{BYTE_READ_LIMIT};
 ghost use Rattle.lit_solve.specs.Box.{events_on};
-ghost use Rattle.lit_solve.specs.Internal.Filling.{IsFirstPlace};
 
 use crate::domains::{Domains, candidates_of};
 use crate::node_consistency::refused_among;
-use lit_paths::{BYTE_READ_LIMIT, ByteRead, Combination, EVENT_LIMIT, Event, Plan};
+use lit_paths::{BYTE_READ_LIMIT, ByteRead, Combination, Event, Plan};
 use lit_rel::laws::byte_reads_are_of_events;
 use lit_rel::{EventSet, Rows, peers_of};
 use std::marker::Model;
-
-/// Where the byte reads of an event or of a later one begin, or how many byte reads there are.
-fn first_place_of(combination: &Combination<'_>, event: usize) -> usize
-    ensures { IsFirstPlace (events_on combination.now) event result }
-{
-    let reads = combination.byte_reads();
-    for place in 0..reads.len() {
-        if usize::from(reads[place].read) >= event {
-            return place;
-        }
-    }
-    reads.len()
-}
 
 /// A combination of paths as a constraint satisfaction problem: its byte reads are the variables. A clause sees it as the test's value
 /// and the combination's number.
@@ -41,8 +27,6 @@ pub struct Problem<'p> {
     pub(crate) peers: Rows,
     /// The registers of an outcome, as agent and register.
     pub(crate) names: &'p [(u8, u8)],
-    /// Where the byte reads of each event begin.
-    pub(crate) firsts: [u8; EVENT_LIMIT],
     /// Whether some path has a guard.
     pub(crate) guarded: bool,
 }
@@ -60,7 +44,7 @@ impl<'p> Model for Problem<'p> {
 
     ghost view = { λ p. p.combination };
 
-    ghost invariant = { λ p. IsProblem p.combination p.candidates p.refused p.peers p.names.now p.firsts p.guarded };
+    ghost invariant = { λ p. IsProblem p.combination p.candidates p.refused p.peers p.names.now p.guarded };
 }
 
 impl<'p> Problem<'p> {
@@ -84,17 +68,12 @@ impl<'p> Problem<'p> {
         for agent in 0..combination.test().agents() {
             guarded |= !combination.path(agent).tests().is_empty();
         }
-        let mut firsts = [0; EVENT_LIMIT];
-        for event in 0..combination.events().len() {
-            firsts[event] = first_place_of(&combination, event) as u8;
-        }
         Problem {
             combination,
             candidates,
             refused,
             peers,
             names: plan.names(),
-            firsts,
             guarded,
         }
     }

@@ -18,10 +18,6 @@ pub record IsFirstPlace (events : List Event) (event k : ℕ) : Type 0 where
   pub before : (j r b : ℕ) → j < k → slice_get (byte_reads events) j ≡ Some (r, b) → r < event
   pub later : (j r b : ℕ) → k ≤ j → slice_get (byte_reads events) j ≡ Some (r, b) → event ≤ r
 
--- one for each event
-abbrev pub AreFirstPlaces : List Event → List ℕ → Type 0
-AreFirstPlaces events places = (event : ℕ) → event < length events → IsFirstPlace events event (slice_index_or places event 0)
-
 -- the byte reads from the k-th on
 abbrev pub reads_on : List Event → ℕ → List (ℕ × ℕ)
 reads_on events k = drop k (byte_reads events)

@@ -20,7 +20,6 @@ use Rattle.lit_rel.specs.Rows.{Holds, IsTransitive, rows_len}
 use Rattle.lit_rel.specs.SynchronizesWith.{CanSynchronize}
 use Rattle.lit_solve.specs.declared.frame.Frame.{Frame}
 use Rattle.lit_solve.specs.Box.{Box, HasEmptyDomain, HasSource, IsBox, box_events, box_with, events_on}
-use Rattle.lit_solve.specs.Internal.Filling.{AreFirstPlaces}
 use Rattle.lit_solve.specs.Given.{HappensBeforeIn, HasAlone, IsForcedIn}
 use Rattle.lit_solve.specs.Prunable.{IsRefusedOn}
 
@@ -66,7 +65,7 @@ AreRefused c domains =
     → HasEvent (slice_index_or domains k no_events) w ↔ (IsCandidate (events_on c) r b w × IsRefusedOn c r b w)
 
 -- what a `Problem` saves of its combination
-pub record IsProblem (c : Litmus × ℕ) (candidates refused : List EventSet) (peers : Rows) (names : List (ℕ × ℕ)) (firsts : List ℕ)
+pub record IsProblem (c : Litmus × ℕ) (candidates refused : List EventSet) (peers : Rows) (names : List (ℕ × ℕ))
     (guarded : Bool) : Type 0 where
   pub litmus : IsLitmus c.0
   pub known : c.1 < length (combinations_of c.0)
@@ -76,7 +75,6 @@ pub record IsProblem (c : Litmus × ℕ) (candidates refused : List EventSet) (p
   pub same_range : ArePeers (events_on c) peers
   pub named : names ≡ names_of c.0
   pub few_names : length names ≤ NAME_LIMIT
-  pub first_places : AreFirstPlaces (events_on c) firsts
   pub unguarded : IsFalse guarded → (asked : Option ℕ) (value : ℕ) → ¬ HasFalseGuardOn c.0 c.1 asked value
 
 -- if the k-th byte read has one source, and this synchronizes with the read, the source is before the read

@@ -16,8 +16,8 @@ loop-place-preserved c =
     let was = c.loop-place.invariant in
     let less = c.difference.result in
     let p = c.self.inside in
-    let is : IsProblem c.args.self.now p.candidates p.refused p.peers p.names.now p.firsts p.guarded =
-    subst (λ (q : Litmus × ℕ). IsProblem q p.candidates p.refused p.peers p.names.now p.firsts p.guarded) c.self.view_is c.self.invariant in
+    let is : IsProblem c.args.self.now p.candidates p.refused p.peers p.names.now p.guarded =
+    subst (λ (q : Litmus × ℕ). IsProblem q p.candidates p.refused p.peers p.names.now p.guarded) c.self.view_is c.self.invariant in
     let room : place < length box.domains = omega (arith, was.len, c.reads-place-end.ensures.few, c.loop-place-test.true) in
     let inside : place < length (byte_reads events) = omega (arith, c.reads-place-end.ensures.value, c.loop-place-test.true) in
     let read = byte_read_at events place in

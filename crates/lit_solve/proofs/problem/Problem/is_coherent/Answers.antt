@@ -11,8 +11,8 @@ returns-then-not-holds c =
     let read = c.from-read.result in
     let byte = c.byte_read.result.byte in
     let p = c.self.inside in
-    let is : IsProblem c.args.self.now p.candidates p.refused p.peers p.names.now p.firsts p.guarded =
-    subst (λ (q : Litmus × ℕ). IsProblem q p.candidates p.refused p.peers p.names.now p.firsts p.guarded) c.self.view_is c.self.invariant in
+    let is : IsProblem c.args.self.now p.candidates p.refused p.peers p.names.now p.guarded =
+    subst (λ (q : Litmus × ℕ). IsProblem q p.candidates p.refused p.peers p.names.now p.guarded) c.self.view_is c.self.invariant in
     let at : slice_get (byte_reads events) c.args.place ≡ Some (read, byte) = c.byte_read.ensures.at
     ∙ ap (λ (r : ℕ). Some (r, byte)) (sym c.from-read.ensures) in
     let both : (v : ℕ) → HasEvent c.intersection.result v

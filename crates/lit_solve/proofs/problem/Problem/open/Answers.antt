@@ -67,7 +67,6 @@ invariant_of-result c =
       same_range = subst (λ (es : List Event). ArePeers es c.peers_of-peers.result) same c.peers_of-peers.ensures;
       named = c.names.ensures.value ∙ ap (λ (p : Litmus × ℕ). names_of p.0) (sym entered);
       few_names = c.names.ensures.few;
-      first_places = λ event known. c.loop-event.invariant.are event (omega (arith, known, ap (λ (es : List Event). length es) c.events-event-end.ensures.value, c.loop-event-test.false));
       unguarded = λ none asked value bad.
           let known : bad.agent < c.loop-agent.agent = omega (arith, ap (λ (t : Litmus). length t.agents) c.test.ensures) in
           absurd (omega (arith, slice_get_within _ bad.place bad.test bad.at_place, c.loop-agent.invariant none bad.agent known));

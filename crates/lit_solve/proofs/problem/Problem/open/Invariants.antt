@@ -15,9 +15,3 @@ invariant-loop-place l = record {
 
 abbrev pub invariant-loop-agent : goal.invariant-loop-agent
 invariant-loop-agent l = IsFalse l.guarded → (i : ℕ) → i < l.agent → length (path_in l.combination.0 l.combination.1 i).tests ≡ 0
-
-abbrev pub invariant-loop-event : goal.invariant-loop-event
-invariant-loop-event l = record {
-  room : length l.firsts ≡ EVENT_LIMIT;
-  are : (event : ℕ) → event < l.event → IsFirstPlace (events_on l.combination) event (get_or l.firsts event 0);
-}
