@@ -1,17 +1,15 @@
 -- The numbers of the choices that begin with given sources, and the sources that a choice adds to them.
-use Rattle.std.proofs.Common.{◌≡◌, ◌⊎◌, inl, inr, ℕ, ◌+◌, ◌-◌, ◌*◌, ◌<◌, ◌≤◌, List, [], ◌∷◌, ◌++◌, length, map, take, get_or, None, Some, sym, ap, ap₂, subst, ◌∙◌, arith}
+use Rattle.std.proofs.Common.{◌≡◌, ◌⊎◌, inl, inr, ℕ, ◌+◌, ◌-◌, ◌*◌, ◌<◌, ◌≤◌, List, [], ◌∷◌, ◌++◌, length, take, get_or, None, Some, sym, ap, ap₂, subst, ◌∙◌, arith}
 use Rattle.std.specs.Prelude.{slice_get}
 use Rattle.std.proofs.Math.Nat.{lt_of_mul-lt-mul_right}
 use Rattle.std.proofs.Math.Seq.{get_or-append_seam}
 use Rattle.std.proofs.lemmas.Bool.{cases_lt}
-use Rattle.std.proofs.lemmas.Grind.{common_steps}
-use Rattle.std.proofs.lemmas.List.{drop_more, get_or-take, get_or_append_left, length-take-le, length_push, nil_from_length, take-append-le, take-take, take_all}
+use Rattle.std.proofs.lemmas.List.{get_or-take, get_or_append_left, length-take-le, length_push, nil_from_length, take-append-le, take-take, take_all}
 use Rattle.std.proofs.lemmas.Option.{get_or_from_slice_get, none-some, same_Some, slice_get-get_or, slice_get_within}
 use Rattle.lit_read.specs.Syntax.{Litmus}
-use Rattle.lit_paths.specs.declared.event.Event.{Event}
 use Rattle.lit_paths.specs.ByteReads.{byte_reads, byte_read_at}
 use Rattle.lit_paths.specs.Choice.{AreSources, Choice, candidates_of, choices_of, combinations_of}
-use Rattle.lit_paths.specs.Numbers.{AreNumbered, IsBegunBy, NumbersChoices, length_product, ways_from}
+use Rattle.lit_paths.specs.Numbers.{AreNumbered, IsBegunBy, NumbersChoices, ways_from}
 use Rattle.lit_paths.specs.Plan.{HasSources, IsOfCombination, choices_before, events_in}
 use Rattle.lit_paths.proofs.ChoiceNumbers.{known_by_first, rest_none, ways_split}
 use Rattle.jslit.specs.declared.buffer.choice_sources.ChoiceSources.{ChoiceSources}

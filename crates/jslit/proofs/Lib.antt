@@ -7,6 +7,7 @@ pub mod Registers
 pub mod ChosenEvents
 pub mod EntryFacts
 pub mod Lines
+pub mod Pages
 pub mod Judging
 pub mod Refusals
 pub mod Completeness

@@ -63,15 +63,6 @@ names_more t events numbers i d none lt known =
 pub names_end : (t : Litmus) (events : List Event) (numbers : List ℕ) (i : ℕ) → length numbers ≤ i → names_text t events (drop i numbers) ≡ []
 names_end t events numbers i le = ap (names_text t events) (drop_all i numbers le)
 
--- entries, one after the other
-pub entries_more : (t : Litmus) (report : Report) (i : ℕ) (entry : Entry) → i < length report.entries → entry ≡ entry_at report i
-    → flat_map (entry_text t) (drop i report.entries) ≡ entry_text t entry ++ flat_map (entry_text t) (drop (i + 1) report.entries)
-entries_more t report i entry lt is =
-    ap (flat_map (entry_text t)) (drop_more report.entries i _ lt) ∙ ap (λ (e : Entry). entry_text t e ++ flat_map (entry_text t) (drop (i + 1) report.entries)) (sym is)
-
-pub entries_end : (t : Litmus) (report : Report) (i : ℕ) → length report.entries ≤ i → flat_map (entry_text t) (drop i report.entries) ≡ []
-entries_end t report i le = ap (flat_map (entry_text t)) (drop_all i report.entries le)
-
 -- an outcome from its first values, the next register and its value
 pub outcome_is : (t : Litmus) (names : List (ℕ × ℕ)) (values : List ℕ) (n : ℕ) → length values ≡ length names → n ≤ length values → length values ≤ n + 1
     → (outcome_head t names (take n values) ++ first_value (drop n values)) ++ codes "\n" ≡ line (outcome_text t names values)

@@ -10,6 +10,7 @@ pub mod CachedText
 pub mod CachedLines
 pub mod EntryCache
 pub mod Writing
+pub mod Pages
 pub mod Command
 pub mod Saying
 pub mod Scheduling

@@ -4,6 +4,7 @@ pub(crate) mod cached_text;
 pub(crate) mod choice_sources;
 pub(crate) mod digits;
 pub(crate) mod entry_cache;
+pub(crate) mod pages;
 pub(crate) mod refusal_writer;
 pub(crate) mod report_writer;
 pub(crate) mod source_lines;

@@ -19,13 +19,16 @@ ghost use Rattle.jslit.specs.Internal.Writing.{HasPutOn};
 
 use crate::buffer::Buffer;
 use crate::buffer::entry_cache::{EntryCache, put_entry};
+use crate::buffer::pages::{Page, put_pages};
 use crate::counted::Counted;
 use crate::fault::RunFault;
 use crate::verdict::Verdict;
 use lit_paths::{Event, Kind, Plan};
 use lit_read::Test;
 use lit_search::Found;
+use std::alloc::Global;
 use std::io::Write;
+use std::thread::Threads;
 
 /// Puts a blank and the name of an access, by its agent's name and its place. It is not inlined, so that `put_event` stays small.
 #[inline(never)]
@@ -304,60 +307,17 @@ fn put_race<W: Write>(buffer: &mut Buffer, output: &mut Counted<W>, race: bool)
     buffer.put_byte(output, b'\n');
 }
 
-/// The choice and the order of the example with a place in a report, or none behind the last.
-fn example_at(found: &Found, place: usize) -> (u64, &[u8])
-    ensures { place < length found.now.entries
-        → (result.0 ≡ (entry_at found.now place).choice) × (result.1.now ≡ (entry_at found.now place).order) }
-{
-    if place < found.len() {
-        let example = found.example(place);
-        (example.choice, example.order.as_slice())
-    } else {
-        (0, &[])
-    }
-}
-
-/// Puts an outcome and its example for each entry of a report. Examples are scattered in memory, so the loop reads from the next example
-/// before it puts the current entry: a prefetch.
-fn put_entries<W: Write>(
-    buffer: &mut Buffer,
-    output: &mut Counted<W>,
-    plan: &Plan<'_>,
-    found: &Found,
-)
-    requires report { IsReport plan.now (in_range 0 (length (choices_of plan.now))) found.now }
-    ensures { HasPutOn W.contents output.old output.new buffer.old buffer.new
-        (flat_map (entry_text plan.now) found.now.entries) }
-{
-    // Tells the prover that there is a combination to enter.
-    let _some = plan.combinations();
-    let mut combination = plan.enter(0);
-    let mut cache = EntryCache::new();
-    let (mut choice, mut order) = example_at(found, 0);
-    for place in 0..found.len() {
-        let (next_choice, next_order) = example_at(found, place + 1);
-        put_entry(
-            buffer,
-            output,
-            &*plan,
-            &mut combination,
-            found.outcome(place),
-            choice,
-            order,
-            &mut cache,
-        );
-        choice = next_choice;
-        order = next_order;
-    }
-}
-
-/// Writes a test's report. Takes no memory. Its buffers are large, so the function is not inlined into its caller's frame.
+/// Writes a test's report, its entries page by page if there are pages. Its buffers are large, so the function is not inlined into its
+/// caller's frame.
 #[inline(never)]
-pub(crate) fn write_report<W: Write>(
+pub(crate) fn write_report<T: Threads + Sync, W: Write>(
+    rt: &T,
+    alloc: Global,
     output: &mut Counted<W>,
     plan: &Plan<'_>,
     found: &Found,
     verdict: Verdict,
+    pages: &mut [Page],
 ) -> Result<(), RunFault>
     requires report { IsReport plan.now (in_range 0 (length (choices_of plan.now))) found.now }
     ensures written { OnOk result
@@ -371,7 +331,7 @@ pub(crate) fn write_report<W: Write>(
 {
     let mut buffer = Buffer::new();
     put_head(&mut buffer, output, plan.test());
-    put_entries(&mut buffer, output, plan, found);
+    put_pages(rt, alloc, &mut buffer, output, plan, found, pages);
     buffer.put(output, b"outcomes ");
     buffer.put_number(output, found.len() as u64);
     buffer.put_byte(output, b'\n');

@@ -8,6 +8,7 @@ ghost use Rattle.jslit.specs.Answer.{IsFaultOn, HasReported, HasBegun};
 ghost use Rattle.jslit.specs.Counted.{device_of, failures_of, one_more};
 ghost use Rattle.jslit.specs.Internal.Answering.{HasWritten, HasWrittenSome, IsFirstFound, IsOfWriting, IsOfTextOrWriting};
 
+use crate::buffer::pages::pages_for;
 use crate::buffer::report_writer::{write_quick_report, write_report};
 use crate::counted::Counted;
 use crate::engine::Options;
@@ -61,7 +62,8 @@ fn report<T: Threads + Sync, W: Write, G: Watch>(
     let verdict = verdict_on(plan, &found);
     // The law says that the report has the outcome of each valid execution.
     reports_are_complete();
-    write_report(output, plan, &found, verdict)
+    let mut pages = pages_for(alloc, found.len(), options.workers)?;
+    write_report(rt, alloc, output, plan, &found, verdict, &mut pages)
 }
 
 /// The report of the first choice of a class alone, which has the choice's outcome and order (decision 64). The class is there for the
