@@ -19,8 +19,8 @@ use std::io::Write;
 use std::thread::{Threads, join_mut};
 use std::{io, mem};
 
-/// How many entries a page has: enough to be worth a thread.
-const PAGE_LIMIT: usize = 1_024;
+/// How many entries a page has: so many that a thread for them is worth its start.
+const PAGE_LIMIT: usize = 16_384;
 
 /// Memory as a writer. A write fails where there is no memory for its bytes.
 #[derive(Drop)]

@@ -3,15 +3,14 @@
 ghost use Rattle.std.specs.Prelude.{◌≡◌, ℕ, ◌+◌, ◌<◌, ◌≤◌, true, ◌++◌, All, IfSome, OnOk, OnErr, IfErr, length, codes};
 ghost use Rattle.std.specs.Fmt.{decimal};
 ghost use Rattle.std.specs.Io.KnownBytes.{Appends};
-ghost use Rattle.std.specs.List.{flat_map};
 ghost use Rattle.lit_paths.specs.Event.{does_read};
 ghost use Rattle.lit_paths.specs.Choice.{choices_of};
 ghost use Rattle.lit_paths.specs.ByteReads.{byte_reads};
-ghost use Rattle.lit_search.specs.Report.{IsReport, entry_at, in_range};
+ghost use Rattle.lit_search.specs.Report.{IsReport, in_range};
 ghost use Rattle.jslit.specs.Counted.{device_of, failures_of, one_more};
 ghost use Rattle.jslit.specs.Devices.{AppendsBeginning};
 ghost use Rattle.jslit.specs.ReportText.{line, verdict_text, event_name, names_text, source_line, register_text, registers_text};
-ghost use Rattle.jslit.specs.ReportText.{entry_text, class_text, report_text, quick_text, yes_or_no};
+ghost use Rattle.jslit.specs.ReportText.{class_text, report_text, quick_text, yes_or_no};
 ghost use Rattle.jslit.specs.Internal.FirstEntry.{IsOnlyEntry, entry_of_option};
 ghost use Rattle.jslit.specs.Internal.EntryCache.{register_head};
 ghost use Rattle.jslit.specs.Internal.ReadLine.{source_head, read_line, rest_after, lines_from};
