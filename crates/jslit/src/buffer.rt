@@ -3,7 +3,9 @@
 pub(crate) mod cached_text;
 pub(crate) mod choice_sources;
 pub(crate) mod digits;
+pub(crate) mod entries;
 pub(crate) mod entry_cache;
+pub(crate) mod memory;
 pub(crate) mod pages;
 pub(crate) mod refusal_writer;
 pub(crate) mod report_writer;

@@ -1,7 +1,7 @@
 -- The number of the choice on a combination that has given sources: the digits of its byte reads, added up.
 use Rattle.lit_solve.proofs.Words.{[], ◌*◌, ◌++◌, ◌+◌, ◌<◌, ◌==◌, ◌∙◌, ◌∷◌, ◌≡◌, ◌≢◌, ◌≤◌, ◌⊎◌, AgreeBeside, ap, ap₂, AreDistinct}
 use Rattle.lit_solve.proofs.Words.{AreNumbered, AreSources, arith, byte_read_at, byte_reads, candidates_of, cases_eq, Choice}
-use Rattle.lit_solve.proofs.Words.{choices_before, common_steps, digit, digits_below, drop_all, drop_more, Event, events_in, events_on}
+use Rattle.lit_solve.proofs.Words.{choices_before, digit, digits_below, drop_all, Event, events_in, events_on}
 use Rattle.lit_solve.proofs.Words.{get_or, HasSources, if◌then◌else◌, inl, inr, IsBegunBy, IsListed, IsOfCombination, length}
 use Rattle.lit_solve.proofs.Words.{length-take-le, length_product, length_push, List, lists-candidates, Litmus, map, mul-le-mul_right}
 use Rattle.lit_solve.proofs.Words.{nat_tests, none-some, NumbersChoices, OpenRead, place_in, refl, same_Some, share_below, shares_below}

@@ -1,6 +1,6 @@
 -- The choices of a range on a combination are those of its boxes.
-use Rattle.lit_solve.proofs.Words.{◌+◌, ◌-◌, ◌<◌, ap, AreSources, arith, before_all, boxes_events, boxes_len, BoxesModel, byte_read_at}
-use Rattle.lit_solve.proofs.Words.{byte_reads, cases_lt, cases_order, Choice, choices_before, choices_of, combinations_of, CutsRange}
+use Rattle.lit_solve.proofs.Words.{◌+◌, ◌-◌, ◌<◌, ap, AreSources, arith, boxes_events, boxes_len, BoxesModel, byte_read_at}
+use Rattle.lit_solve.proofs.Words.{byte_reads, cases_lt, cases_order, Choice, choices_before, CutsRange}
 use Rattle.lit_solve.proofs.Words.{events_in, HasSources, IfSome, IsAbove, IsBelow, IsGreaterAt, IsHighEnd, IsLowEnd, IsOfCombination}
 use Rattle.lit_solve.proofs.Words.{IsRangeCut, length, Less, LiesInBox, List, ListsChoices, Litmus, nat_cmp, nat_cmp-same, None, Option}
 use Rattle.lit_solve.proofs.Words.{parting_in, refl, same_Some, slice_cmp, slice_cmp-same, slice_get-get_or, slice_get_within, slice_index}

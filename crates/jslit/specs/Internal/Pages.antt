@@ -1,5 +1,5 @@
 -- Pages: parts of the list of entries, which workers print side by side.
-use Rattle.std.specs.Prelude.{◌≡◌, ◌≤◌, ◌-◌, true, List, ℕ, length, take, drop}
+use Rattle.std.specs.Prelude.{◌≡◌, ◌-◌, true, List, ℕ, take, drop}
 use Rattle.std.specs.List.{flat_map}
 use Rattle.lit_read.specs.Syntax.{Litmus}
 use Rattle.lit_search.specs.Report.{Report}
@@ -10,7 +10,6 @@ use Rattle.jslit.specs.ReportText.{entry_text}
 abbrev pub page_text : Litmus → Report → ℕ → ℕ → List ℕ
 page_text t report first end = flat_map (entry_text t) (take (end - first) (drop first report.entries))
 
--- a page is of entries of the report, and if it is printed, it has their text
-pub record IsPage (t : Litmus) (report : Report) (page : Page) : Type 0 where
-  pub known : page.end ≤ length report.entries
-  pub text : page.is_printed ≡ true → page.text.items ≡ page_text t report page.first page.end
+-- a page that is printed has the text of its entries
+abbrev pub IsPage : Litmus → Report → Page → Type 0
+IsPage t report page = page.is_printed ≡ true → page.text.items ≡ page_text t report page.first page.end

@@ -1,47 +1,27 @@
 //! The entries of a report, printed by several workers: each prints a page at a time, and the pages are put in their order.
 
-ghost use Rattle.std.specs.Prelude.{◌≡◌, ◌<◌, ◌≤◌, All, length};
+ghost use Rattle.std.specs.Prelude.{◌<◌, ◌≤◌, All, length};
 ghost use Rattle.std.specs.List.{flat_map};
 ghost use Rattle.std.specs.Thread.{IsSync};
 ghost use Rattle.lit_paths.specs.Choice.{choices_of};
-ghost use Rattle.lit_search.specs.Report.{IsReport, entry_at, in_range};
+ghost use Rattle.lit_search.specs.Report.{IsReport, in_range};
 ghost use Rattle.jslit.specs.ReportText.{entry_text};
 ghost use Rattle.jslit.specs.Internal.Pages.{IsPage, page_text};
 ghost use Rattle.jslit.specs.Internal.Writing.{HasPutOn};
 
 use crate::buffer::Buffer;
-use crate::buffer::entry_cache::{EntryCache, put_entry};
+use crate::buffer::entries::put_entries;
+use crate::buffer::memory::Memory;
 use crate::counted::Counted;
 use lit_paths::Plan;
 use lit_search::Found;
 use std::alloc::{AllocError, Global};
 use std::io::Write;
+use std::mem;
 use std::thread::{Threads, join_mut};
-use std::{io, mem};
 
 /// How many entries a page has: so many that a thread for them is worth its start.
 const PAGE_LIMIT: usize = 16_384;
-
-/// Memory as a writer. A write fails where there is no memory for its bytes.
-#[derive(Drop)]
-pub(crate) struct Memory {
-    bytes: Vec<u8>,
-}
-
-impl Write for Memory {
-    ghost use Rattle.std.specs.Prelude.{Some};
-
-    ghost contents = { λ m. Some m.bytes.items };
-
-    fn write(&mut self, buf: &[u8]) -> io::Result<usize> {
-        self.bytes.extend_from_slice(buf)?;
-        Ok(buf.len())
-    }
-
-    fn flush(&mut self) -> io::Result<()> {
-        Ok(())
-    }
-}
 
 /// A page: the text of the entries from one place up to another.
 #[derive(Drop)]
@@ -53,15 +33,24 @@ pub(crate) struct Page {
     is_printed: bool,
 }
 
-/// The empty pages for a report with so many entries: one for each worker, or none where a page alone would hold the report.
+/// How many pages so many entries need, 1 at the least.
+fn pages_of(entries: usize) -> usize
+    ensures { 0 < result }
+{
+    entries.div_ceil(PAGE_LIMIT).max(1)
+}
+
+/// The empty pages for a report with so many entries: none where a page would hold the report or a worker is alone, else one for
+/// each worker, but no more than the report needs.
 pub(crate) fn pages_for(
     alloc: Global,
     entries: usize,
     workers: usize,
 ) -> Result<Vec<Page>, AllocError> {
     let mut pages = Vec::new(alloc);
-    if workers > 1 && entries > PAGE_LIMIT {
-        for _worker in 0..workers {
+    let count = workers.min(pages_of(entries));
+    if count > 1 {
+        for _page in 0..count {
             pages.push(Page {
                 first: 0,
                 end: 0,
@@ -71,56 +60,6 @@ pub(crate) fn pages_for(
         }
     }
     Ok(pages)
-}
-
-/// The choice and the order of the example with a place in a report, or none behind the last.
-fn example_at(found: &Found, place: usize) -> (u64, &[u8])
-    ensures { place < length found.now.entries
-        → (result.0 ≡ (entry_at found.now place).choice) × (result.1.now ≡ (entry_at found.now place).order) }
-{
-    if place < found.len() {
-        let example = found.example(place);
-        (example.choice, example.order.as_slice())
-    } else {
-        (0, &[])
-    }
-}
-
-/// Puts an outcome and its example for each entry from one place up to another. Examples are scattered in memory, so the loop reads from
-/// the next example before it puts the current entry: a prefetch.
-fn put_entries<W: Write>(
-    buffer: &mut Buffer,
-    output: &mut Counted<W>,
-    plan: &Plan<'_>,
-    found: &Found,
-    first: usize,
-    end: usize,
-)
-    requires report { IsReport plan.now (in_range 0 (length (choices_of plan.now))) found.now }
-    requires known { end ≤ length found.now.entries }
-    ensures { HasPutOn W.contents output.old output.new buffer.old buffer.new
-        (page_text plan.now found.now first end) }
-{
-    // Tells the prover that there is a combination to enter.
-    let _some = plan.combinations();
-    let mut combination = plan.enter(0);
-    let mut cache = EntryCache::new();
-    let (mut choice, mut order) = example_at(found, first);
-    for place in first..end {
-        let (next_choice, next_order) = example_at(found, place + 1);
-        put_entry(
-            buffer,
-            output,
-            &*plan,
-            &mut combination,
-            found.outcome(place),
-            choice,
-            order,
-            &mut cache,
-        );
-        choice = next_choice;
-        order = next_order;
-    }
 }
 
 /// Prints a page from an entry on.
@@ -248,7 +187,10 @@ pub(crate) fn put_pages<T: Threads + Sync, W: Write>(
     }
     let mut place = 0;
     while place < found.len() {
-        print_pages(rt, &alloc, plan, found, &place, pages);
-        place = put_printed(buffer, output, plan, found, pages, place);
+        // The last round may need fewer pages, and so fewer threads.
+        let count = pages.len().min(pages_of(found.len() - place));
+        let round = &mut pages[..count];
+        print_pages(rt, &alloc, plan, found, &place, round);
+        place = put_printed(buffer, output, plan, found, round, place);
     }
 }

@@ -1,6 +1,6 @@
 -- Filling a read byte by byte: which sources its other bytes may have, beside those of its first bytes.
 use Rattle.std.specs.Prelude.{◌≡◌, ◌⊎◌, ◌↔◌, ℕ, ◌+◌, ◌*◌, ◌^◌, ◌<◌, ◌≤◌, ◌==◌, List}
-use Rattle.std.specs.Prelude.{Some, drop, filter, length, map, slice_get, slice_index_or}
+use Rattle.std.specs.Prelude.{Some, drop, filter, length, map, slice_get}
 use Rattle.std.specs.List.{zip}
 use Rattle.lit_paths.specs.declared.event.Event.{Event}
 use Rattle.lit_paths.specs.ByteReads.{byte_reads}

@@ -1,4 +1,7 @@
-use Rattle.std.proofs.Common.{sym, arith}
+use Rattle.std.proofs.Common.{◌<◌, List, length, take, sym, arith}
+use Rattle.std.proofs.lemmas.Grind.{common_steps}
+use Rattle.std.proofs.lemmas.List.{length-take}
+use Rattle.jslit.specs.declared.buffer.pages.Page.{Page}
 use Rattle.jslit.proofs.Pages.{page_none, page_whole, pages_joined}
 use Rattle.jslit.proofs.Putting.{HasPut-is, HasPut-nothing, HasPut-then}
 use Rattle.jslit.proofs.buffer.pages.put_pages.Goals as goal
@@ -11,6 +14,14 @@ loop-place-init g c = record {
   known = omega arith;
   so_far = HasPut-is _ _ _ _ (HasPut-nothing _) (sym (page_none c.args.plan.now c.args.found.now 0 0 (omega arith)));
 }
+
+pub print_pages-requires-clause-some : goal.print_pages-requires-clause-some
+print_pages-requires-clause-some g c κs within =
+    grind (arith, common_steps, length-take, c.pages_of.ensures, c.min-count.ensures, c.loop-place.auto.pages, c.is_empty.ensures, c.if-is_empty.false)
+
+pub put_printed-place-requires-clause-some : goal.put_printed-place-requires-clause-some
+put_printed-place-requires-clause-some g c =
+    grind (arith, common_steps, length-take, c.print_pages.auto.pages, c.pages_of.ensures, c.min-count.ensures, c.loop-place.auto.pages, c.is_empty.ensures, c.if-is_empty.false)
 
 pub loop-place-preserved : goal.loop-place-preserved
 loop-place-preserved g c =

@@ -1,4 +1,4 @@
-use Rattle.lit_solve.proofs.Words.{◌∙◌, ◌≡◌, ap, arith, byte_reads, cases_eq, events_on, inl, inr}
+use Rattle.lit_solve.proofs.Words.{◌∙◌, ap, arith, byte_reads, cases_eq, events_on, inl, inr}
 use Rattle.lit_solve.proofs.Words.{same_Some, slice_get, slice_get_within, sym, ℕ}
 use Rattle.lit_solve.proofs.ReadByteLemmas.{rise}
 use Rattle.lit_solve.proofs.problem.Problem.first_place.Goals as goal

@@ -1,5 +1,5 @@
-use Rattle.lit_solve.proofs.Words.{◌<◌, ◌↔◌, ◌≡◌, BYTE_READ_LIMIT, byte_reads, EVENT_LIMIT, events_on, get_or, HasEvent, IsCandidate}
-use Rattle.lit_solve.proofs.Words.{IsFirstPlace, IsRefusedOn, length, no_events, path_in, slice_get, slice_index_or, Some, ℕ}
+use Rattle.lit_solve.proofs.Words.{◌<◌, ◌↔◌, ◌≡◌, BYTE_READ_LIMIT, byte_reads, events_on, HasEvent, IsCandidate}
+use Rattle.lit_solve.proofs.Words.{IsRefusedOn, length, no_events, path_in, slice_get, slice_index_or, Some, ℕ}
 use Rattle.std.specs.Prelude.{IsFalse}
 use Rattle.lit_solve.proofs.problem.Problem.open.Given as goal
 

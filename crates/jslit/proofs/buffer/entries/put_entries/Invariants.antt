@@ -4,7 +4,7 @@ use Rattle.jslit.specs.Internal.Pages.{page_text}
 use Rattle.jslit.specs.Internal.EntryCache.{IsCacheOf}
 use Rattle.jslit.specs.Internal.Writing.{writing_of}
 use Rattle.jslit.proofs.Putting.{PutsOf}
-use Rattle.jslit.proofs.buffer.pages.put_entries.Given as goal
+use Rattle.jslit.proofs.buffer.entries.put_entries.Given as goal
 
 abbrev pub invariant-loop-place : goal.invariant-loop-place
 invariant-loop-place g l = record {
