@@ -109,11 +109,23 @@ class Browser:
             time.sleep(0.02)
 
     def click(self, selector):
-        """Presses the mouse in the middle of the element."""
-        place = self.value(f"(() => {{ const e = document.querySelector({json.dumps(selector)}); e.scrollIntoView({{block: 'center'}});"
-                           "const b = e.getBoundingClientRect(); return [b.x + b.width / 2, b.y + b.height / 2]; })()")
-        for kind in ("mousePressed", "mouseReleased"):
-            self.ask("Input.dispatchMouseEvent", type=kind, x=place[0], y=place[1], button="left", clickCount=1)
+        """Presses the mouse in the middle of the element, and again where an answer that came in between has moved it away."""
+        element = f"document.querySelector({json.dumps(selector)})"
+        end = time.monotonic() + SECONDS
+        while time.monotonic() < end:
+            place = self.value(f"(() => {{ const e = {element}; e.scrollIntoView({{block: 'center'}}); const b = e.getBoundingClientRect();"
+                               "const told = document.documentElement.dataset; told.clicked = 'no';"
+                               "e.addEventListener('click', () => { told.clicked = 'yes'; }, {capture: true, once: true});"
+                               "return [b.x + b.width / 2, b.y + b.height / 2]; })()")
+            for kind in ("mousePressed", "mouseReleased"):
+                self.ask("Input.dispatchMouseEvent", type=kind, x=place[0], y=place[1], button="left", clickCount=1)
+            try:
+                missed = self.value("document.documentElement.dataset.clicked") == "no"
+            except RuntimeError:
+                missed = False  # a page that is being left
+            if not missed:
+                return
+        raise TimeoutError(f"never clicked: {selector}")
 
     def key(self, key, control=False):
         given = {"key": key, "windowsVirtualKeyCode": KEYS[key], "modifiers": 2 if control else 0}

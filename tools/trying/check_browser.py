@@ -181,6 +181,7 @@ def turns(page):
     page.click("#turns button")
     assert "run the test" in page.said("#turns")
     page.click("#clear")
+    page.until("document.querySelector('#turns').innerText.includes('No turns')")
     page.run()
     for agent, schedule, values in (("A", "A", "A.r0=0 B.r0=1"), ("B", "A,B", "A.r0=1 B.r0=1")):
         page.click(f"[data-agent={agent}]")

@@ -3,7 +3,7 @@
 set -eu
 top=$(cd "$(dirname "${BASH_SOURCE[0]}")/../.." && pwd)
 program=$(realpath "${1:-$top/jslit}")
-command -v node >/dev/null || { apt-get update && apt-get install -y --no-install-recommends nodejs; } >&2
+"$top/tools/need" node=nodejs
 "$program" <"$top/litmus/still.lit" >/dev/null || { echo "$program doesn't run" >&2; exit 1; }
 work=$(mktemp -d)
 trap 'rm -rf "$work"' EXIT
