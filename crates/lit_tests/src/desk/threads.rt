@@ -1,37 +1,64 @@
 //! Callers on threads of their own.
 
-ghost use Rattle.std.specs.Prelude.{◌≡◌, ◌≤◌, All, IfOk};
+ghost use Rattle.std.specs.Prelude.{◌≡◌, ◌<◌, ◌≤◌, All, IfOk};
 ghost use Rattle.std.specs.Thread.{IsSync};
 ghost use Rattle.lit_desk.specs.Desk.{IsPlaceOf};
 
 use lit_desk::{Class2, Desk, MOST_SEATS, Place};
 use std::alloc::{AllocError, Global};
+use std::mem;
 use std::test::Fail;
 use std::thread::{Threads, join_mut};
 
 const PIECES: usize = 1000;
 
-/// A place, and what its caller recorded: the numbers drawn, and what each look gave in each class.
+/// What a caller recorded: the numbers drawn, and what each look gave in each class.
 #[derive(Drop)]
-struct Caller {
-    place: Place,
+struct Record {
     drawn: Vec<u64>,
     met: Vec<u64>,
     unmet: Vec<u64>,
 }
 
-impl Caller {
-    fn new(alloc: Global, place: Place) -> Result<Caller, AllocError>
-        ensures { IfOk result (λ c. c.place ≡ place) }
-    {
-        Ok(Caller {
-            place,
+impl Record {
+    fn new(alloc: Global) -> Result<Record, AllocError> {
+        Ok(Record {
             drawn: Vec::with_capacity(alloc, PIECES)?,
             met: Vec::with_capacity(alloc, PIECES)?,
             unmet: Vec::with_capacity(alloc, PIECES)?,
         })
     }
 
+    /// Whether each number drawn is above the one before.
+    fn is_ascending(&self) -> bool {
+        self.drawn.windows(2).all(|pair| pair[0] < pair[1])
+    }
+
+    /// Whether no look gave less than these.
+    fn sees_no_less(&self, met: u64, unmet: u64) -> bool {
+        self.met.iter().all(|number| *number >= met)
+            && self.unmet.iter().all(|number| *number >= unmet)
+    }
+
+    fn add(&mut self, number: u64, met: Option<u64>, unmet: Option<u64>) {
+        let _ = self.drawn.push(number);
+        if let Some(least) = met {
+            let _ = self.met.push(least);
+        }
+        if let Some(least) = unmet {
+            let _ = self.unmet.push(least);
+        }
+    }
+}
+
+/// A place, and what its caller recorded.
+#[derive(Drop)]
+struct Caller {
+    place: Place,
+    record: Record,
+}
+
+impl Caller {
     /// Draws until none is left, tells some of the numbers drawn, and looks after each draw.
     fn work(&mut self, desk: &Desk)
         requires pieces { desk.now.pieces ≤ PIECES }
@@ -42,20 +69,25 @@ impl Caller {
             let Some(number) = desk.draw(&mut self.place) else {
                 break;
             };
-            let _ = self.drawn.push(number);
-            if number > 500 && number % 7 == 0 {
-                desk.tell(&mut self.place, Class2::Met, number);
-            }
-            if number > 990 {
-                desk.tell(&mut self.place, Class2::Unmet, number);
-            }
-            if let Some(least) = desk.look(&mut self.place, Class2::Met) {
-                let _ = self.met.push(least);
-            }
-            if let Some(least) = desk.look(&mut self.place, Class2::Unmet) {
-                let _ = self.unmet.push(least);
-            }
+            tell(desk, &mut self.place, number);
+            let met = desk.look(&mut self.place, Class2::Met);
+            let unmet = desk.look(&mut self.place, Class2::Unmet);
+            self.record.add(number, met, unmet);
         }
+    }
+}
+
+/// Tells a number that was drawn, if it is one of those that count.
+fn tell(desk: &Desk, place: &mut Place, number: u64)
+    requires place { IsPlaceOf desk.now place.old }
+    requires number { number < PIECES }
+    ensures { IsPlaceOf desk.now place.new }
+{
+    if number > 500 && number % 7 == 0 {
+        desk.tell(place, Class2::Met, number);
+    }
+    if number > 990 {
+        desk.tell(place, Class2::Unmet, number);
     }
 }
 
@@ -85,19 +117,23 @@ fn work_all<R: Threads + Sync>(rt: &R, desk: &Desk, callers: &mut [Caller])
     );
 }
 
+/// Strikes a number off, or says that it is none of them or has been struck off.
+fn strike(struck: &mut [bool], number: u64) -> bool {
+    let Some(slot) = usize::try_from(number).ok().and_then(|n| struck.get_mut(n)) else {
+        return false;
+    };
+    !mem::replace(slot, true)
+}
+
 /// Whether each number from 0 on, as many as are wanted, stands once in what the callers drew.
 fn drew_each_once(callers: &[Caller], pieces: usize) -> bool {
-    let mut drawn = [false; PIECES];
+    let mut struck = [false; PIECES];
     let mut count = 0usize;
     for caller in callers {
-        for number in caller.drawn.iter() {
-            let Some(slot) = usize::try_from(*number).ok().and_then(|n| drawn.get_mut(n)) else {
-                return false;
-            };
-            if *slot {
+        for number in caller.record.drawn.iter() {
+            if !strike(&mut struck, *number) {
                 return false;
             }
-            *slot = true;
             count = count.wrapping_add(1);
         }
     }
@@ -114,7 +150,8 @@ fn callers_at(
 {
     let mut callers = Vec::with_capacity(alloc, places.len())?;
     while let Some(place) = places.pop() {
-        callers.push(Caller::new(alloc, place)?)?;
+        let record = Record::new(alloc)?;
+        callers.push(Caller { place, record })?;
     }
     Ok(callers)
 }
@@ -129,13 +166,7 @@ fn places_of(
 {
     let mut places = Vec::with_capacity(alloc, callers.len())?;
     while let Some(caller) = callers.pop() {
-        let Caller {
-            place,
-            drawn: _,
-            met: _,
-            unmet: _,
-        } = caller;
-        places.push(place)?;
+        places.push(caller.place)?;
     }
     Ok(places)
 }
@@ -147,11 +178,12 @@ fn callers_draw_each_number_once(rt: HostRuntime) -> Result<(), Fail> {
     work_all(&rt, &desk, &mut callers);
     assert!(rt; callers.len() == MOST_SEATS);
     assert!(rt; drew_each_once(&callers, PIECES));
-    for caller in callers.iter() {
-        assert!(rt; caller.drawn.windows(2).all(|pair| pair[0] < pair[1]));
-        assert!(rt; caller.met.iter().all(|number| *number >= 504));
-        assert!(rt; caller.unmet.iter().all(|number| *number >= 991));
-    }
+    assert!(rt; callers.iter().all(|caller| caller.record.is_ascending()));
+    assert!(rt;
+        callers
+            .iter()
+            .all(|caller| caller.record.sees_no_less(504, 991))
+    );
     let places = places_of(rt.alloc(), &desk, callers)?;
     assert!(rt; places.len() == MOST_SEATS);
     let totals = desk.close(places);
