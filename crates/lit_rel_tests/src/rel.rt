@@ -13,11 +13,31 @@ ghost use Rattle.lit_paths.specs.Plan.{choices_before};
 ghost use Rattle.lit_rel.specs.Part.{IsComplete, with_sources};
 
 use lit_paths::{Plan, plan};
-use lit_read::read;
+use lit_read::{Test, read};
 use lit_rel::{Between, Part, Rows};
 use std::alloc::AllocGlobal;
 use std::process::Abort;
-use std::test::Fail;
+
+/// The test that a text spells.
+pub(super) fn test_of(rt: &(impl Abort + AllocGlobal), text: &str) -> Test {
+    read(rt.alloc(), text.as_bytes()).expect(rt, "a test")
+}
+
+/// The plan of a test.
+pub(super) fn plan_of<'t>(rt: &(impl Abort + AllocGlobal), test: &'t Test) -> Plan<'t> {
+    plan(rt.alloc(), test).expect(rt, "a plan")
+}
+
+/// Asserts that a plan has this number of choices.
+fn has_choices(rt: &impl Abort, plan: &Plan<'_>, wanted: u64) {
+    assert_eq!(rt; plan.total(), wanted);
+}
+
+/// A combination's part with no sources yet.
+fn part_with_none<'p>(rt: &impl Abort, plan: &'p Plan<'p>, combination: usize) -> Part<'p> {
+    assert!(rt; combination < plan.combinations());
+    Part::open(plan, combination)
+}
 
 /// The part with all sources of a choice, which is one of a combination's.
 pub(super) fn part_of<'p>(plan: &'p Plan<'p>, combination: usize, choice: u64) -> Part<'p>
@@ -47,21 +67,21 @@ fn give(rt: &impl Abort, part: &mut Part<'_>, source: u8)
     part.push(source);
 }
 
+/// Gives the next byte reads these sources.
+fn give_all(rt: &impl Abort, part: &mut Part<'_>, sources: &[u8]) {
+    for source in sources {
+        give(rt, part, *source);
+    }
+}
+
 /// Whether the first combination of a test, with these sources for its first byte reads, is broken, and the triples that
 /// it forbids.
-fn of_sources(
-    rt: &(impl Abort + AllocGlobal),
-    text: &str,
-    sources: &[u8],
-) -> Result<(bool, Between), Fail> {
-    let test = read(rt.alloc(), text.as_bytes())?;
-    let plan = plan(rt.alloc(), &test)?;
-    assert!(rt; plan.combinations() > 0);
-    let mut part = Part::open(&plan, 0);
-    for source in sources {
-        give(rt, &mut part, *source);
-    }
-    Ok((part.broken(), part.between()))
+fn of_sources(rt: &(impl Abort + AllocGlobal), text: &str, sources: &[u8]) -> (bool, Between) {
+    let test = test_of(rt, text);
+    let plan = plan_of(rt, &test);
+    let mut part = part_with_none(rt, &plan, 0);
+    give_all(rt, &mut part, sources);
+    (part.broken(), part.between())
 }
 
 /// The rows hold of these pairs and of no other.

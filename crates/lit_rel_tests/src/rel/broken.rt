@@ -1,11 +1,9 @@
 //! What breaks a part.
 
-use super::{give, of_sources};
-use lit_paths::plan;
-use lit_read::read;
+use super::{give, of_sources, part_with_none, plan_of, test_of};
 use lit_rel::Part;
 use lit_texts::{LOAD_BUFFERING, LOAD_BUFFERING_ATOMIC, MESSAGE_PASSING, TYPED_READ};
-use std::test::Fail;
+use std::process::Abort;
 
 const UNWRITTEN: &str = "test unwritten
 bytes 1
@@ -42,34 +40,33 @@ U8[0] = 1
 check A.r0 == 1
 ";
 
+fn assert_breaks(rt: &impl Abort, part: &mut Part<'_>) {
+    assert!(rt; !part.broken());
+    give(rt, part, 0);
+    assert!(rt; part.broken());
+    part.pop();
+    give(rt, part, 5);
+    assert!(rt; !part.broken());
+    give(rt, part, 3);
+    assert!(rt; part.broken());
+    part.pop();
+    assert!(rt; !part.broken());
+}
+
 #[test]
-fn a_test_or_a_cycle_breaks(rt: HostRuntime) -> Result<(), Fail> {
-    let test = read(rt.alloc(), LOAD_BUFFERING_ATOMIC.as_bytes())?;
-    let plan = plan(rt.alloc(), &test)?;
-    assert!(rt; plan.combinations() > 0);
-    let mut part = Part::open(&plan, 0);
-    assert!(rt; !part.broken());
-    give(&rt, &mut part, 0);
-    assert!(rt; part.broken());
-    part.pop();
-    give(&rt, &mut part, 5);
-    assert!(rt; !part.broken());
-    give(&rt, &mut part, 3);
-    assert!(rt; part.broken());
-    part.pop();
-    assert!(rt; !part.broken());
-    Ok(())
+fn a_test_or_a_cycle_breaks(rt: HostRuntime) {
+    let test = test_of(&rt, LOAD_BUFFERING_ATOMIC);
+    let plan = plan_of(&rt, &test);
+    assert_breaks(&rt, &mut part_with_none(&rt, &plan, 0));
 }
 
 /// Combination 0 is the then-part, whose guard asks that a register that holds 0 be 1.
 #[test]
-fn an_unwritten_register_breaks_at_once(rt: HostRuntime) -> Result<(), Fail> {
-    let test = read(rt.alloc(), UNWRITTEN.as_bytes())?;
-    let plan = plan(rt.alloc(), &test)?;
-    assert_eq!(rt; plan.combinations(), 2);
-    assert!(rt; Part::open(&plan, 0).broken());
-    assert!(rt; !Part::open(&plan, 1).broken());
-    Ok(())
+fn an_unwritten_register_breaks_at_once(rt: HostRuntime) {
+    let test = test_of(&rt, UNWRITTEN);
+    let plan = plan_of(&rt, &test);
+    assert!(rt; part_with_none(&rt, &plan, 0).broken());
+    assert!(rt; !part_with_none(&rt, &plan, 1).broken());
 }
 
 /// Texts with sources for the first byte reads of their first combination, and whether these break it.
@@ -96,10 +93,9 @@ const BREAKS: [(&str, &[u8], bool); 11] = [
 ];
 
 #[test]
-fn sources_break_a_part_or_do_not(rt: HostRuntime) -> Result<(), Fail> {
+fn sources_break_a_part_or_do_not(rt: HostRuntime) {
     for (text, sources, breaks) in BREAKS {
-        let (broken, _) = of_sources(&rt, text, sources)?;
+        let (broken, _) = of_sources(&rt, text, sources);
         assert_eq!(rt; broken, breaks, "of {} sources", sources.len());
     }
-    Ok(())
 }

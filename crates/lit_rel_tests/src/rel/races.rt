@@ -1,16 +1,12 @@
 //! Data races of the sources given.
 
-use super::give;
-use lit_paths::plan;
-use lit_read::read;
-use lit_rel::Part;
+use super::{give_all, part_with_none, plan_of, test_of};
 use lit_texts::{
     EQUAL_STORES, INDEPENDENT_READS_PLAIN, MESSAGE_PASSING, OWN_STORE, STORE_BUFFERING,
     STORE_BUFFERING_MIXED, STORE_BUFFERING_PLAIN, SWAPS, TYPED_READ,
 };
 use std::alloc::AllocGlobal;
 use std::process::Abort;
-use std::test::Fail;
 
 const MASK: &str = "test mask
 bytes 1
@@ -40,15 +36,12 @@ check A.r0 == 0
 ";
 
 /// Whether the first combination of a test, with these sources for its first byte reads, has a data race.
-fn has_race(rt: &(impl Abort + AllocGlobal), text: &str, sources: &[u8]) -> Result<bool, Fail> {
-    let test = read(rt.alloc(), text.as_bytes())?;
-    let plan = plan(rt.alloc(), &test)?;
-    assert!(rt; plan.combinations() > 0);
-    let mut part = Part::open(&plan, 0);
-    for source in sources {
-        give(rt, &mut part, *source);
-    }
-    Ok(part.race())
+fn has_race(rt: &(impl Abort + AllocGlobal), text: &str, sources: &[u8]) -> bool {
+    let test = test_of(rt, text);
+    let plan = plan_of(rt, &test);
+    let mut part = part_with_none(rt, &plan, 0);
+    give_all(rt, &mut part, sources);
+    part.race()
 }
 
 /// Texts with sources for the first byte reads of their only combination, and whether these give a data race.
@@ -103,10 +96,9 @@ const RACES: [(&str, &[u8], bool); 35] = [
 ];
 
 #[test]
-fn sources_give_a_race_or_do_not(rt: HostRuntime) -> Result<(), Fail> {
+fn sources_give_a_race_or_do_not(rt: HostRuntime) {
     for (text, sources, race) in RACES {
-        let found = has_race(&rt, text, sources)?;
+        let found = has_race(&rt, text, sources);
         assert_eq!(rt; found, race, "of {} sources in {text}", sources.len());
     }
-    Ok(())
 }
