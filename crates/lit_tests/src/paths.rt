@@ -1,9 +1,10 @@
 //! `lit_paths`: the paths, events, byte reads and choices of a test.
 
-use crate::planned::{entered, plan_of, test_of};
-use lit_paths::{ByteRead, Combination, Event, Kind, Order3, Plan, PlanFault};
+use crate::planned::{entered, has_combinations, plan_of, test_of};
+use lit_paths::{ByteRead, Combination, Event, Events, Kind, Order3, Plan, PlanFault};
 use lit_texts::STORE_BUFFERING;
 use numbers::has_choices;
+use std::alloc::AllocGlobal;
 use std::process::Abort;
 use std::test::Fail;
 
@@ -27,14 +28,17 @@ fn are_store_buffering(rt: &impl Abort, events: &[Event]) {
     assert!(rt; load.kind.does_read() && !load.kind.does_write());
 }
 
+/// The events of the first combination.
+fn first_events(rt: &impl Abort, plan: &Plan<'_>) -> Events {
+    assert!(rt; plan.combinations() > 0);
+    plan.events(0)
+}
+
 #[test]
-fn store_buffering_events(rt: HostRuntime) -> Result<(), Fail> {
-    let test = test_of(rt.alloc(), STORE_BUFFERING.as_bytes())?;
-    let plan = plan_of(rt.alloc(), &test)?;
-    assert_eq!(rt; plan.combinations(), 1);
-    let events = plan.events(0);
-    are_store_buffering(&rt, &events);
-    Ok(())
+fn store_buffering_events(rt: HostRuntime) {
+    let test = test_of(&rt, STORE_BUFFERING.as_bytes());
+    let plan = plan_of(&rt, &test);
+    are_store_buffering(&rt, &first_events(&rt, &plan));
 }
 
 /// Asserts that a choice of a combination has these sources.
@@ -44,18 +48,22 @@ fn has_sources(rt: &impl Abort, combination: &Combination<'_>, choice: u64, want
     assert_eq!(rt; sources.as_slice(), wanted);
 }
 
-#[test]
-fn store_buffering_combination(rt: HostRuntime) -> Result<(), Fail> {
-    let test = test_of(rt.alloc(), STORE_BUFFERING.as_bytes())?;
-    let plan = plan_of(rt.alloc(), &test)?;
-    assert_eq!(rt; plan.combinations(), 1);
-    let combination = entered(&rt, &plan, 0);
+/// Asserts that a combination has six events, and that its byte reads are those of store buffering.
+fn reads_both(rt: &impl Abort, combination: &Combination<'_>) {
     assert_eq!(rt; combination.events().len(), 6);
     let reads = [ByteRead { read: 3, byte: 1 }, ByteRead { read: 5, byte: 0 }];
     assert!(rt; combination.byte_reads() == reads.as_slice());
+}
+
+#[test]
+fn store_buffering_combination(rt: HostRuntime) {
+    let test = test_of(&rt, STORE_BUFFERING.as_bytes());
+    let plan = plan_of(&rt, &test);
+    has_combinations(&rt, &plan, 1);
+    let combination = entered(&rt, &plan, 0);
+    reads_both(&rt, &combination);
     has_choices(&rt, &combination, 0, 4);
     has_sources(&rt, &combination, 1, &[1, 2]);
-    Ok(())
 }
 
 /// Asserts that the first byte that event 3 reads in the first combination has these candidates.
@@ -68,11 +76,10 @@ fn has_candidates(rt: &impl Abort, plan: &Plan<'_>, wanted: &[u8]) {
 }
 
 #[test]
-fn store_buffering_candidates(rt: HostRuntime) -> Result<(), Fail> {
-    let test = test_of(rt.alloc(), STORE_BUFFERING.as_bytes())?;
-    let plan = plan_of(rt.alloc(), &test)?;
+fn store_buffering_candidates(rt: HostRuntime) {
+    let test = test_of(&rt, STORE_BUFFERING.as_bytes());
+    let plan = plan_of(&rt, &test);
     has_candidates(&rt, &plan, &[1, 4]);
-    Ok(())
 }
 
 /// Asserts that the condition is about the first register of both agents, and asks that both be 0.
@@ -85,22 +92,21 @@ fn asks_for_zeros(rt: &impl Abort, plan: &Plan<'_>) {
 }
 
 #[test]
-fn store_buffering_condition(rt: HostRuntime) -> Result<(), Fail> {
-    let test = test_of(rt.alloc(), STORE_BUFFERING.as_bytes())?;
-    let plan = plan_of(rt.alloc(), &test)?;
+fn store_buffering_condition(rt: HostRuntime) {
+    let test = test_of(&rt, STORE_BUFFERING.as_bytes());
+    let plan = plan_of(&rt, &test);
     asks_for_zeros(&rt, &plan);
+}
+
+fn has_name(rt: &(impl Abort + AllocGlobal), fault: PlanFault, name: &str) -> Result<(), Fail> {
+    assert_eq!(rt; fault.to_string(rt.alloc())?.as_str(), name);
     Ok(())
 }
 
 #[test]
 fn faults_have_names(rt: HostRuntime) -> Result<(), Fail> {
-    let events = PlanFault::TooManyEvents.to_string(rt.alloc())?;
-    let paths = PlanFault::TooManyPaths.to_string(rt.alloc())?;
-    let choices = PlanFault::TooManyChoices.to_string(rt.alloc())?;
-    let memory = PlanFault::OutOfMemory.to_string(rt.alloc())?;
-    assert_eq!(rt; events.as_str(), "14 too_many_events");
-    assert_eq!(rt; paths.as_str(), "13 too_many_paths");
-    assert_eq!(rt; choices.as_str(), "15 too_many_choices");
-    assert_eq!(rt; memory.as_str(), "out_of_memory");
-    Ok(())
+    has_name(&rt, PlanFault::TooManyEvents, "14 too_many_events")?;
+    has_name(&rt, PlanFault::TooManyPaths, "13 too_many_paths")?;
+    has_name(&rt, PlanFault::TooManyChoices, "15 too_many_choices")?;
+    has_name(&rt, PlanFault::OutOfMemory, "out_of_memory")
 }

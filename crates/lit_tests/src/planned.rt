@@ -5,18 +5,27 @@
 
 use lit_paths::{Combination, Plan, plan};
 use lit_read::{Test, read};
-use std::alloc::Global;
+use std::alloc::AllocGlobal;
 use std::process::Abort;
-use std::test::Fail;
 
 /// The test that a text spells.
-pub(crate) fn test_of(alloc: Global, text: &[u8]) -> Result<Test, Fail> {
-    Ok(read(alloc, text)?)
+pub(crate) fn test_of(rt: &(impl Abort + AllocGlobal), text: &[u8]) -> Test {
+    read(rt.alloc(), text).expect(rt, "a test")
 }
 
 /// The plan of a test.
-pub(crate) fn plan_of<'t>(alloc: Global, test: &'t Test) -> Result<Plan<'t>, Fail> {
-    Ok(plan(alloc, test)?)
+pub(crate) fn plan_of<'t>(rt: &(impl Abort + AllocGlobal), test: &'t Test) -> Plan<'t> {
+    plan(rt.alloc(), test).expect(rt, "a plan")
+}
+
+/// Asserts that a plan has this number of combinations.
+pub(crate) fn has_combinations(rt: &impl Abort, plan: &Plan<'_>, wanted: usize) {
+    assert_eq!(rt; plan.combinations(), wanted);
+}
+
+/// Asserts that a plan has this number of choices.
+pub(crate) fn has_total(rt: &impl Abort, plan: &Plan<'_>, wanted: u64) {
+    assert_eq!(rt; plan.total(), wanted);
 }
 
 /// A combination by its number, which the plan has to have.

@@ -1,42 +1,40 @@
 //! The choices of a test, by their numbers.
 
-use crate::planned::{plan_of, test_of};
+use crate::planned::{has_total, plan_of, test_of};
+use lit_paths::Plan;
 use lit_texts::{BOTH_EXCHANGE_FOR_ONE, LOAD_BUFFERING, STORE_BUFFERING, TYPED_READ};
 use std::alloc::AllocGlobal;
 use std::process::Abort;
-use std::test::Fail;
 
 /// A choice by its number, the combination that it is of, and its sources.
 type Expected = (u64, usize, &'static [u8]);
 
+/// Asserts that a choice is of this combination, and has these sources.
+fn assert_choice(rt: &impl Abort, plan: &Plan<'_>, number: u64, combination: usize, wanted: &[u8]) {
+    assert!(rt; number < plan.total());
+    assert_eq!(rt; plan.combination(number), combination);
+    assert!(rt; plan.sources(number).as_slice() == wanted);
+}
+
 /// Asserts that a test has this number of choices, and these among them.
-fn assert_choices(
-    rt: &(impl Abort + AllocGlobal),
-    text: &str,
-    total: u64,
-    rows: &[Expected],
-) -> Result<(), Fail> {
-    let test = test_of(rt.alloc(), text.as_bytes())?;
-    let plan = plan_of(rt.alloc(), &test)?;
-    assert_eq!(rt; plan.total(), total);
+fn assert_choices(rt: &(impl Abort + AllocGlobal), text: &str, total: u64, rows: &[Expected]) {
+    let test = test_of(rt, text.as_bytes());
+    let plan = plan_of(rt, &test);
+    has_total(rt, &plan, total);
     for (number, combination, wanted) in rows {
-        assert!(rt; *number < total);
-        let sources = plan.sources(*number);
-        assert_eq!(rt; plan.combination(*number), *combination);
-        assert!(rt; sources.as_slice() == *wanted);
+        assert_choice(rt, &plan, *number, *combination, wanted);
     }
-    Ok(())
 }
 
 #[test]
-fn choices_of_one_combination(rt: HostRuntime) -> Result<(), Fail> {
+fn choices_of_one_combination(rt: HostRuntime) {
     let rows: [Expected; 4] = [
         (0, 0, &[1, 0]),
         (1, 0, &[1, 2]),
         (2, 0, &[4, 0]),
         (3, 0, &[4, 2]),
     ];
-    assert_choices(&rt, STORE_BUFFERING, 4, &rows)?;
+    assert_choices(&rt, STORE_BUFFERING, 4, &rows);
     let rows: [Expected; 5] = [
         (0, 0, &[0, 1]),
         (2, 0, &[0, 3]),
@@ -48,15 +46,15 @@ fn choices_of_one_combination(rt: HostRuntime) -> Result<(), Fail> {
 }
 
 #[test]
-fn choices_of_several_combinations(rt: HostRuntime) -> Result<(), Fail> {
+fn choices_of_several_combinations(rt: HostRuntime) {
     let rows: [Expected; 2] = [(3, 0, &[5, 3]), (8, 3, &[0, 1])];
-    assert_choices(&rt, LOAD_BUFFERING, 9, &rows)?;
+    assert_choices(&rt, LOAD_BUFFERING, 9, &rows);
     let rows: [Expected; 2] = [(5, 1, &[0, 1]), (7, 2, &[2, 0])];
     assert_choices(&rt, BOTH_EXCHANGE_FOR_ONE, 9, &rows)
 }
 
 #[test]
-fn many_choices(rt: HostRuntime) -> Result<(), Fail> {
+fn many_choices(rt: HostRuntime) {
     let text = "test many
 bytes 1
 agent A

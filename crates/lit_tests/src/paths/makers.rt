@@ -6,7 +6,6 @@ use lit_paths::Combination;
 use lit_texts::STORE_BUFFERING;
 use std::alloc::AllocGlobal;
 use std::process::Abort;
-use std::test::Fail;
 
 /// Asserts that these statements make the events of an agent.
 fn makes(rt: &impl Abort, combination: &Combination<'_>, agent: usize, statements: &[usize]) {
@@ -22,29 +21,28 @@ fn are_made(
     combination: usize,
     agent: usize,
     statements: &[usize],
-) -> Result<(), Fail> {
-    let test = test_of(rt.alloc(), text.as_bytes())?;
-    let plan = plan_of(rt.alloc(), &test)?;
+) {
+    let test = test_of(rt, text.as_bytes());
+    let plan = plan_of(rt, &test);
     makes(rt, &entered(rt, &plan, combination), agent, statements);
-    Ok(())
 }
 
 #[test]
-fn statements_without_branch(rt: HostRuntime) -> Result<(), Fail> {
+fn statements_without_branch(rt: HostRuntime) {
     are_made(&rt, STORE_BUFFERING, 0, 1, &[0, 1])
 }
 
 #[test]
-fn statements_of_then_parts(rt: HostRuntime) -> Result<(), Fail> {
-    are_made(&rt, NESTED, 0, 0, &[0, 2, 7])?;
-    are_made(&rt, NESTED, 1, 0, &[0, 2, 4, 7])?;
-    are_made(&rt, NESTED, 3, 0, &[0, 2, 7])?;
+fn statements_of_then_parts(rt: HostRuntime) {
+    are_made(&rt, NESTED, 0, 0, &[0, 2, 7]);
+    are_made(&rt, NESTED, 1, 0, &[0, 2, 4, 7]);
+    are_made(&rt, NESTED, 3, 0, &[0, 2, 7]);
     are_made(&rt, NESTED, 4, 0, &[0, 2, 4, 7])
 }
 
 #[test]
-fn statements_of_else_parts(rt: HostRuntime) -> Result<(), Fail> {
-    are_made(&rt, NESTED, 2, 0, &[0, 5, 6, 7])?;
-    are_made(&rt, NESTED, 5, 0, &[0, 5, 6, 7])?;
+fn statements_of_else_parts(rt: HostRuntime) {
+    are_made(&rt, NESTED, 2, 0, &[0, 5, 6, 7]);
+    are_made(&rt, NESTED, 5, 0, &[0, 5, 6, 7]);
     are_made(&rt, NESTED, 5, 1, &[0])
 }

@@ -1,11 +1,10 @@
 //! The candidates of each byte read, and the numbers of the choices that they and a combination lead to.
 
-use crate::planned::{entered, plan_of, test_of};
+use crate::planned::{entered, has_combinations, plan_of, test_of};
 use lit_paths::{Combination, Plan};
 use lit_texts::{BOTH_EXCHANGE_FOR_ONE, LOAD_BUFFERING, TYPED_READ};
 use std::alloc::AllocGlobal;
 use std::process::Abort;
-use std::test::Fail;
 
 /// The byte read of a combination at a place: its candidates, and how many choices each of them leads to.
 type Expected = (usize, usize, &'static [u8], u64);
@@ -29,15 +28,14 @@ fn assert_reads(
     text: &str,
     combinations: usize,
     rows: &[Expected],
-) -> Result<(), Fail> {
-    let test = test_of(rt.alloc(), text.as_bytes())?;
-    let plan = plan_of(rt.alloc(), &test)?;
-    assert_eq!(rt; plan.combinations(), combinations);
+) {
+    let test = test_of(rt, text.as_bytes());
+    let plan = plan_of(rt, &test);
+    has_combinations(rt, &plan, combinations);
     for (number, place, candidates, ways) in rows {
         let combination = entered(rt, &plan, *number);
         assert_read(rt, &combination, *place, candidates, *ways);
     }
-    Ok(())
 }
 
 const LOAD_BUFFERING_READS: [Expected; 8] = [
@@ -63,9 +61,9 @@ const EXCHANGES_READS: [Expected; 8] = [
 ];
 
 #[test]
-fn candidates_with_their_choices(rt: HostRuntime) -> Result<(), Fail> {
-    assert_reads(&rt, LOAD_BUFFERING, 4, &LOAD_BUFFERING_READS)?;
-    assert_reads(&rt, BOTH_EXCHANGE_FOR_ONE, 4, &EXCHANGES_READS)?;
+fn candidates_with_their_choices(rt: HostRuntime) {
+    assert_reads(&rt, LOAD_BUFFERING, 4, &LOAD_BUFFERING_READS);
+    assert_reads(&rt, BOTH_EXCHANGE_FOR_ONE, 4, &EXCHANGES_READS);
     let typed: [Expected; 2] = [(0, 0, &[0, 2, 3], 3), (0, 1, &[1, 2, 3], 1)];
     assert_reads(&rt, TYPED_READ, 1, &typed)
 }
@@ -74,6 +72,12 @@ fn candidates_with_their_choices(rt: HostRuntime) -> Result<(), Fail> {
 pub(super) fn has_choices(rt: &impl Abort, combination: &Combination<'_>, first: u64, end: u64) {
     assert_eq!(rt; combination.first(), first);
     assert_eq!(rt; combination.end(), end);
+}
+
+/// Asserts that a combination has this number of events, and of byte reads.
+fn has_sizes(rt: &impl Abort, combination: &Combination<'_>, events: usize, reads: usize) {
+    assert_eq!(rt; combination.events().len(), events);
+    assert_eq!(rt; combination.byte_reads().len(), reads);
 }
 
 /// Puts a combination, by its number, in the place of another.
@@ -88,28 +92,25 @@ fn replace<'p>(
 }
 
 #[test]
-fn load_buffering_combinations(rt: HostRuntime) -> Result<(), Fail> {
-    let test = test_of(rt.alloc(), LOAD_BUFFERING.as_bytes())?;
-    let plan = plan_of(rt.alloc(), &test)?;
-    assert_eq!(rt; plan.combinations(), 4);
+fn load_buffering_combinations(rt: HostRuntime) {
+    let test = test_of(&rt, LOAD_BUFFERING.as_bytes());
+    let plan = plan_of(&rt, &test);
+    has_combinations(&rt, &plan, 4);
     for (c, ends) in [(0, 4), (4, 6), (6, 8), (8, 9)].iter().enumerate() {
         has_choices(&rt, &entered(&rt, &plan, c), ends.0, ends.1);
     }
-    Ok(())
 }
 
 #[test]
-fn one_combination_in_place_of_another(rt: HostRuntime) -> Result<(), Fail> {
-    let test = test_of(rt.alloc(), LOAD_BUFFERING.as_bytes())?;
-    let plan = plan_of(rt.alloc(), &test)?;
-    assert_eq!(rt; plan.combinations(), 4);
+fn one_combination_in_place_of_another(rt: HostRuntime) {
+    let test = test_of(&rt, LOAD_BUFFERING.as_bytes());
+    let plan = plan_of(&rt, &test);
+    has_combinations(&rt, &plan, 4);
     let mut combination = entered(&rt, &plan, 3);
     replace(&rt, &plan, &mut combination, 0);
-    assert_eq!(rt; combination.events().len(), 6);
-    assert_eq!(rt; combination.byte_reads().len(), 2);
+    has_sizes(&rt, &combination, 6, 2);
     has_choices(&rt, &combination, 0, 4);
     replace(&rt, &plan, &mut combination, 3);
-    assert_eq!(rt; combination.events().len(), 4);
+    has_sizes(&rt, &combination, 4, 2);
     has_choices(&rt, &combination, 8, 9);
-    Ok(())
 }

@@ -1,6 +1,6 @@
 //! Tests that a plan refuses, and tests at the limits.
 
-use crate::planned::test_of;
+use crate::planned::{has_combinations, has_total, test_of};
 use lit_paths::{ACCESS_LIMIT, CHOICE_LIMIT, COMBINATION_LIMIT, PlanFault, plan};
 use std::alloc::{AllocError, AllocGlobal, Global};
 use std::process::Abort;
@@ -28,17 +28,16 @@ fn assert_planned(
     rt: &(impl Abort + AllocGlobal),
     text: &[u8],
     wanted: Result<(usize, u64), PlanFault>,
-) -> Result<(), Fail> {
-    let test = test_of(rt.alloc(), text)?;
+) {
+    let test = test_of(rt, text);
     match (plan(rt.alloc(), &test), wanted) {
         (Ok(plan), Ok((combinations, total))) => {
-            assert_eq!(rt; plan.combinations(), combinations);
-            assert_eq!(rt; plan.total(), total);
+            has_combinations(rt, &plan, combinations);
+            has_total(rt, &plan, total);
         }
         (Err(fault), Err(wanted)) => assert!(rt; fault == wanted),
         _ => panic!(rt; "a plan or a fault"),
     }
-    Ok(())
 }
 
 /// Each read of the four bytes has four candidates a byte, so 2^8 sources.
@@ -56,12 +55,12 @@ agent B
     let (line, check) = (b"r0 = U32[0]\n", b"check B.r0 == 0\n");
     let reads = CHOICE_LIMIT.trailing_zeros() as usize / 8;
     let fewer = repeated(alloc, head, reads.saturating_sub(1), line, check)?;
-    assert_planned(&rt, &fewer, Ok((1, CHOICE_LIMIT / 256)))?;
+    assert_planned(&rt, &fewer, Ok((1, CHOICE_LIMIT / 256)));
     let most = repeated(alloc, head, reads, line, check)?;
-    assert_planned(&rt, &most, Ok((1, CHOICE_LIMIT)))?;
+    assert_planned(&rt, &most, Ok((1, CHOICE_LIMIT)));
     for count in [reads + 1, reads + 3] {
         let more = repeated(alloc, head, count, line, check)?;
-        assert_planned(&rt, &more, Err(PlanFault::TooManyChoices))?;
+        assert_planned(&rt, &more, Err(PlanFault::TooManyChoices));
     }
     Ok(())
 }
@@ -81,10 +80,10 @@ r0 = U8[0]
         &rt,
         &most,
         Ok((COMBINATION_LIMIT, COMBINATION_LIMIT as u64)),
-    )?;
+    );
     for count in [branches + 1, 64] {
         let more = repeated(alloc, head, count, line, check)?;
-        assert_planned(&rt, &more, Err(PlanFault::TooManyPaths))?;
+        assert_planned(&rt, &more, Err(PlanFault::TooManyPaths));
     }
     Ok(())
 }
@@ -99,11 +98,11 @@ agent A
     let (line, check) = (b"r0 = U8[0]\n", b"check A.r0 == 0\n");
     for count in [ACCESS_LIMIT - 1, ACCESS_LIMIT] {
         let few = repeated(alloc, head, count, line, check)?;
-        assert_planned(&rt, &few, Ok((1, 1)))?;
+        assert_planned(&rt, &few, Ok((1, 1)));
     }
     for count in [ACCESS_LIMIT + 1, 4_000] {
         let more = repeated(alloc, head, count, line, check)?;
-        assert_planned(&rt, &more, Err(PlanFault::TooManyEvents))?;
+        assert_planned(&rt, &more, Err(PlanFault::TooManyEvents));
     }
     Ok(())
 }
@@ -122,8 +121,9 @@ r0 = U8[0]
     let branches = COMBINATION_LIMIT.trailing_zeros() as usize + 1;
     let ifs = repeated(alloc, start, branches, b"if r0 == 0 {\n}\n", b"")?;
     let events = repeated(alloc, &ifs, ACCESS_LIMIT, line, check)?;
-    assert_planned(&rt, &events, Err(PlanFault::TooManyEvents))?;
+    assert_planned(&rt, &events, Err(PlanFault::TooManyEvents));
     let stores = repeated(alloc, &ifs, 3, b"U32[0] = 1\n", b"")?;
     let choices = repeated(alloc, &stores, 7, line, check)?;
-    assert_planned(&rt, &choices, Err(PlanFault::TooManyPaths))
+    assert_planned(&rt, &choices, Err(PlanFault::TooManyPaths));
+    Ok(())
 }
