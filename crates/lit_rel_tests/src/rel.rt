@@ -33,6 +33,11 @@ fn has_choices(rt: &impl Abort, plan: &Plan<'_>, wanted: u64) {
     assert_eq!(rt; plan.total(), wanted);
 }
 
+/// Asserts that a plan has this number of combinations.
+fn has_combinations(rt: &impl Abort, plan: &Plan<'_>, wanted: usize) {
+    assert_eq!(rt; plan.combinations(), wanted);
+}
+
 /// A combination's part with no sources yet.
 fn part_with_none<'p>(rt: &impl Abort, plan: &'p Plan<'p>, combination: usize) -> Part<'p> {
     assert!(rt; combination < plan.combinations());

@@ -1,6 +1,6 @@
 //! What breaks a part.
 
-use super::{give, of_sources, part_with_none, plan_of, test_of};
+use super::{give, has_combinations, of_sources, part_with_none, plan_of, test_of};
 use lit_rel::Part;
 use lit_texts::{LOAD_BUFFERING, LOAD_BUFFERING_ATOMIC, MESSAGE_PASSING, TYPED_READ};
 use std::process::Abort;
@@ -65,6 +65,7 @@ fn a_test_or_a_cycle_breaks(rt: HostRuntime) {
 fn an_unwritten_register_breaks_at_once(rt: HostRuntime) {
     let test = test_of(&rt, UNWRITTEN);
     let plan = plan_of(&rt, &test);
+    has_combinations(&rt, &plan, 2);
     assert!(rt; part_with_none(&rt, &plan, 0).broken());
     assert!(rt; !part_with_none(&rt, &plan, 1).broken());
 }

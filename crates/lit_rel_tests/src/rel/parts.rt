@@ -11,15 +11,17 @@ use lit_texts::{
 };
 use std::process::Abort;
 
-/// A choice forbids these triples and no other.
+/// A choice, of this number of events, forbids these triples and no other.
 fn assert_forbids<'p>(
     rt: &impl Abort,
     plan: &'p Plan<'p>,
     choice: u64,
+    events: usize,
     wanted: &[(usize, usize, usize)],
 ) {
     assert!(rt; choice < plan.total());
     let between = part_of(plan, plan.combination(choice), choice).between();
+    assert_eq!(rt; between.len(), events);
     assert_triples(rt, &between, wanted);
 }
 
@@ -28,7 +30,7 @@ fn store_buffering_forbids_these_triples(rt: HostRuntime) {
     let test = test_of(&rt, STORE_BUFFERING);
     let plan = plan_of(&rt, &test);
     has_choices(&rt, &plan, 4);
-    assert_forbids(&rt, &plan, 0, &[(1, 3, 4), (0, 5, 2)]);
+    assert_forbids(&rt, &plan, 0, 6, &[(1, 3, 4), (0, 5, 2)]);
 }
 
 /// In a choice these pairs read from one another, and these synchronize.
@@ -120,7 +122,7 @@ fn mixed_sizes_never_synchronize_nor_forbid(rt: HostRuntime) {
     has_choices(&rt, &plan, 4);
     all_synchronize(&rt, &plan, &[]);
     for choice in 0..4 {
-        assert_forbids(&rt, &plan, choice, &[]);
+        assert_forbids(&rt, &plan, choice, 8, &[]);
     }
 }
 
